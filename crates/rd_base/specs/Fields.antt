@@ -1,0 +1,59 @@
+-- The fields that layouts are made of.
+use Rattle.std.specs.Prelude.{◌≡◌, ℕ, zero, suc, ◌/◌, ◌%◌, ◌⊎◌, ◌==◌, min, nat_lt, All, ◌<◌, List, [], ◌∷◌, ◌++◌, take_while}
+use Rattle.rd_base.specs.declared.bad.Why.TheVariants.{Length}
+use Rattle.rd_base.specs.Layout.{Layout, one_byte, two_bytes, four_bytes, eight_bytes, done, number, byte_run, bytes_left, test, within, ◌>>=◌, ◌>>◌}
+
+abbrev pub number8 : Layout ℕ
+number8 = number one_byte
+
+abbrev pub number16 : Layout ℕ
+number16 = number two_bytes
+
+abbrev pub number32 : Layout ℕ
+number32 = number four_bytes
+
+abbrev pub number64 : Layout ℕ
+number64 = number eight_bytes
+
+-- that many bytes, any, which say nothing
+abbrev pub pad : ℕ → Layout (Unit {0})
+pad count = byte_run count >> done tt
+
+-- the same, any number of which may be missing where the bytes end
+abbrev pub missing_pad : ℕ → Layout (Unit {0})
+missing_pad count = do
+  left ← bytes_left
+  pad (min count left)
+
+-- so many records, one behind another
+abbrev pub times : {A : Type 0} → ℕ → Layout A → Layout (List A)
+times zero l = done []
+times (suc count) l = do
+  first ← l
+  others ← times count l
+  done (first ∷ others)
+
+-- a length in bytes of UTF-16 units, which is even
+abbrev pub length_of_units : Layout ℕ
+length_of_units = do
+  count ← number32
+  test (count % 2 == 0) 4 Length
+  done count
+
+-- UTF-16 units of that many bytes
+abbrev pub text : ℕ → Layout (List ℕ)
+text count = within count (times (count / 2) number16)
+
+-- the units before the first zero, or all
+abbrev pub before_zero : List ℕ → List ℕ
+before_zero units = take_while (λ u. nat_lt 0 u) units
+
+-- a path of that many bytes: what stands from a zero unit on says nothing
+abbrev pub path : ℕ → Layout (List ℕ)
+path count = do
+  units ← text count
+  done (before_zero units)
+
+-- the units of a path: without zero, and behind them nothing, or a zero and any others
+abbrev pub AreUnitsOf : List ℕ → List ℕ → Type 0
+AreUnitsOf path units = All (λ u. 0 < u) path × ((units ≡ path) ⊎ ((others : List ℕ) × (units ≡ path ++ 0 ∷ others)))

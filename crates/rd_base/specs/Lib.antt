@@ -1,0 +1,6 @@
+pub mod Faults
+pub mod Position
+pub mod History
+pub mod Layout
+pub mod Fields
+pub mod Reading

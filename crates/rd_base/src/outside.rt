@@ -1,0 +1,45 @@
+//! Where bytes come from and go to.
+
+ghost use Rattle.std.specs.Prelude.{ℕ, List, Option, length};
+ghost use Rattle.std.specs.Io.KnownBytes.{ReadConsumes, WriteAppends};
+ghost use Rattle.std.specs.Io.{ReadsAtMost, WritesAtMost};
+ghost use Rattle.rd_base.specs.Faults.{Counted, StuckOnlyOnFault};
+
+use thiserror::Error;
+
+/// A read or a write failed. The count of faults of its source or sink rose in that call.
+#[derive(Clone, Copy, Debug, PartialEq, Eq, Error)]
+#[error("a read or a write failed")]
+pub struct Failed;
+
+/// Where bytes come from.
+pub trait Source {
+    /// The bytes left, where it can tell.
+    ghost left: { Self → Option (List ℕ) };
+
+    /// How many faults it had. The count never falls.
+    ghost faults: { Self → ℕ };
+
+    /// Reads at most `into.len()` bytes into the front of `into`, and answers how many. An answer of 0 for a piece
+    /// that isn't empty is the end of input.
+    fn read(&mut self, into: &mut [u8]) -> Result<usize, Failed>
+        ensures bound { ReadsAtMost result into.new }
+        ensures bytes { ReadConsumes (left self.old) (left self.new) result into.new }
+        ensures counted { Counted result (faults self.old) (faults self.new) };
+}
+
+/// Where bytes go to.
+pub trait Sink {
+    /// The bytes held, where it can tell.
+    ghost held: { Self → Option (List ℕ) };
+
+    /// How many faults it had. The count never falls.
+    ghost faults: { Self → ℕ };
+
+    /// Takes a prefix of the piece, and answers how long it is. An answer of 0 for a piece that isn't empty is a fault.
+    fn write(&mut self, piece: &[u8]) -> Result<usize, Failed>
+        ensures bound { WritesAtMost result piece.now }
+        ensures bytes { WriteAppends (held self.old) (held self.new) result piece.now }
+        ensures counted { Counted result (faults self.old) (faults self.new) }
+        ensures stuck { StuckOnlyOnFault result (length piece.now) (faults self.old) (faults self.new) };
+}

@@ -1,0 +1,70 @@
+-- Carrier frames (MS-RDPBCGR 2.2.6.1) as byte lists, and the messages that they carry.
+use Rattle.std.specs.Prelude.{ℕ, ◌≡◌, ◌≤◌, ◌<◌, ◌+◌, ◌==◌, Bool, false, not, List, [], ◌∷◌, ◌++◌, length, take, drop, bit_and}
+use Rattle.std.specs.List.{concat, flat_map}
+use Rattle.std.specs.Int.{w32, from_le_bytes}
+
+-- a frame's size field, which counts all that stands behind these four bytes
+unfoldable pub size_of : List ℕ → ℕ
+size_of frame = from_le_bytes w32 (take 4 frame)
+
+-- a frame's length field, the bytes of its whole message
+unfoldable pub length_of : List ℕ → ℕ
+length_of frame = from_le_bytes w32 (take 4 (drop 4 frame))
+
+-- a frame's flags
+unfoldable pub flags_of : List ℕ → ℕ
+flags_of frame = from_le_bytes w32 (take 4 (drop 8 frame))
+
+-- a frame's data
+abbrev pub data_of : List ℕ → List ℕ
+data_of frame = drop 12 frame
+
+-- a frame has the flag of a message's first frame, of its last frame, of compressed data
+abbrev pub is_first : List ℕ → Bool
+is_first frame = not (bit_and (flags_of frame) 0x1 == 0)
+
+abbrev pub is_last : List ℕ → Bool
+is_last frame = not (bit_and (flags_of frame) 0x2 == 0)
+
+abbrev pub is_compressed : List ℕ → Bool
+is_compressed frame = not (bit_and (flags_of frame) 0x200000 == 0)
+
+-- a frame of a message of n bytes, `before` of which stand in the frames before it: it alone is the first where these
+-- are none, and it alone is the last where its data are the rest of the message
+pub record IsFrame (n before : ℕ) (frame : List ℕ) : Type 0 where
+  pub size : length frame ≡ size_of frame + 4
+  pub some : 1 ≤ length (data_of frame)
+  pub most : length (data_of frame) ≤ 16384
+  pub plain : is_compressed frame ≡ false
+  pub whole : length_of frame ≡ n
+  pub within : before + length (data_of frame) ≤ n
+  pub first : is_first frame ≡ (before == 0)
+  pub last : is_last frame ≡ (before + length (data_of frame) == n)
+
+-- frames of a message of n bytes, one behind another, `before` of which stand in the frames before them
+abbrev pub AreFrames : ℕ → ℕ → List (List ℕ) → Type 0
+AreFrames n before [] = Unit {0}
+AreFrames n before (frame ∷ frames) = IsFrame n before frame × AreFrames n (before + length (data_of frame)) frames
+
+-- the bytes are frames that carry the whole message
+pub record One (message bytes : List ℕ) : Type 0 where
+  pub frames : List (List ℕ)
+  pub are : AreFrames (length message) 0 frames
+  pub joined : flat_map data_of frames ≡ message
+  pub bytes_are : concat frames ≡ bytes
+  pub some : 1 ≤ length message
+  pub most : length message ≤ 1052672
+
+-- the bytes carry the messages one behind another, and nothing else
+abbrev pub Carried : List (List ℕ) → List ℕ → Type 0
+Carried [] bytes = bytes ≡ []
+Carried (message ∷ messages) bytes = (front rest : List ℕ) × (bytes ≡ front ++ rest) × One message front × Carried messages rest
+
+-- the bytes are the frames so far of a message of n bytes that isn't complete, or nothing; `joined` are their data
+pub record Begun (n : ℕ) (joined bytes : List ℕ) : Type 0 where
+  pub frames : List (List ℕ)
+  pub are : AreFrames n 0 frames
+  pub joined_are : flat_map data_of frames ≡ joined
+  pub bytes_are : concat frames ≡ bytes
+  pub short : length joined < n
+  pub most : n ≤ 1052672

@@ -1,0 +1,230 @@
+//! How far a joiner has come in the frame under way.
+
+ghost use Rattle.std.specs.Prelude.{◌≡◌, ◌<◌, ◌≤◌, ◌+◌, ◌-◌, ◌%◌, ◌↔◌, ◌^◌, length, vec_len, IsTrue, IfOk, OnOk, OnErr, ◌≢◌, None};
+ghost use Rattle.std.specs.Prelude.{◌++◌, ◌∷◌, []};
+ghost use Rattle.rd_chunk.specs.Standing.{InRange, head_of};
+ghost use Rattle.rd_chunk.specs.Frames.{size_of, length_of, flags_of};
+ghost use Rattle.rd_chunk.specs.Faults.{size_fault, head_fault};
+
+use crate::fault::{ChunkBad, FeedNo};
+use crate::head::{HEAD_LEN, Head, RowFault, head_fault, size_fault};
+use std::alloc::AllocError;
+
+/// How many times the data bytes that are there a message's buffer may be reserved.
+const GROWTH: usize = 64;
+
+/// The frame under way, and what is known of its message. The message's data stand beside it, in a `Vec`.
+#[derive(Clone, Copy, Debug)]
+pub struct Progress {
+    /// The bytes of the head that are there, from the front.
+    pub head: [u8; 12],
+    /// How many they are: all twelve exactly while data are still to come.
+    pub have: usize,
+    /// The data bytes of the frame that are still to come.
+    pub left: usize,
+    /// The bytes of the whole message, once its first head is there.
+    pub length: usize,
+    /// How many bytes of the stream were taken, modulo 2^64.
+    pub taken: u64,
+}
+
+impl Progress {
+    /// Before the stream's first byte.
+    pub fn start() -> Progress
+        ensures { InRange result 0 }
+    {
+        Progress {
+            head: [0; 12],
+            have: 0,
+            left: 0,
+            length: 0,
+            taken: 0,
+        }
+    }
+
+    /// Whether the message is finished, with `joined` of its bytes there.
+    pub fn is_whole(self, joined: usize) -> bool {
+        self.left == 0 && joined != 0 && joined == self.length
+    }
+
+    /// One byte more of the head.
+    fn with_byte(self, byte: u8) -> Progress
+        requires { self.have < 12 }
+        ensures head { head_of result ≡ head_of self ++ byte ∷ [] }
+        ensures have { result.have ≡ self.have + 1 }
+        ensures count { length (head_of result) ≡ result.have }
+        ensures left { result.left ≡ self.left }
+        ensures length { result.length ≡ self.length }
+        ensures taken { result.taken ≡ (self.taken + 1) % 2 ^ 64 }
+    {
+        let mut next = self;
+        next.head[self.have] = byte;
+        next.have = self.have + 1;
+        next.taken = self.taken.wrapping_add(1);
+        next
+    }
+
+    /// The fields of a head that is all there; before that only those whose bytes are.
+    fn fields(self) -> Head
+        requires { self.have ≤ 12 }
+        ensures size { 4 ≤ self.have → result.size ≡ size_of (head_of self) }
+        ensures length { self.have ≡ 12 → result.length ≡ length_of (head_of self) }
+        ensures flags { self.have ≡ 12 → result.flags ≡ flags_of (head_of self) }
+    {
+        let h = self.head;
+        Head {
+            size: u32::from_le_bytes([h[0], h[1], h[2], h[3]]),
+            length: u32::from_le_bytes([h[4], h[5], h[6], h[7]]),
+            flags: u32::from_le_bytes([h[8], h[9], h[10], h[11]]),
+        }
+    }
+
+    /// The fault that the newest byte of the head brings, behind `joined` bytes of the message.
+    fn fault(self, joined: usize) -> Option<RowFault>
+        requires have { self.have ≤ 12 }
+        requires joined { joined ≤ 1052672 }
+        ensures size { self.have ≡ 4 → result ≡ size_fault (size_of (head_of self)) }
+        ensures head { self.have ≡ 12 → result ≡ head_fault self.length joined (head_of self) }
+        ensures other { self.have ≢ 4 → self.have ≢ 12 → result ≡ None }
+    {
+        let head = self.fields();
+        match self.have {
+            4 => size_fault(head.size),
+            12 => head_fault(head, joined, self.length),
+            _ => None,
+        }
+    }
+
+    /// The fault at its place in the stream; the frame under way began `have` bytes ago.
+    fn place(self, row: RowFault) -> ChunkBad
+        ensures at { (result.at + self.have) % 2 ^ 64 ≡ (self.taken + row.offset) % 2 ^ 64 }
+        ensures why { result.why ≡ row.why }
+    {
+        let frame = self.taken.wrapping_sub(self.have as u64);
+        ChunkBad {
+            at: frame.wrapping_add(row.offset),
+            why: row.why,
+        }
+    }
+
+    /// As it is, or with the data to come if the head is all there.
+    fn opened(self) -> Progress
+        requires { self.have ≤ 12 }
+        ensures head { head_of result ≡ head_of self }
+        ensures have { result.have ≡ self.have }
+        ensures taken { result.taken ≡ self.taken }
+        ensures early { self.have < 12 → result ≡ self }
+        ensures left { self.have ≡ 12 → result.left ≡ size_of (head_of self) - 8 }
+        ensures length { self.have ≡ 12 → result.length ≡ length_of (head_of self) }
+    {
+        if self.have < HEAD_LEN {
+            return self;
+        }
+        let head = self.fields();
+        let mut next = self;
+        next.left = head.data_len();
+        next.length = head.length as usize;
+        next
+    }
+
+    /// With `count` bytes of data taken; a frame that has all its data makes way for the next one.
+    fn with_data(self, count: usize) -> Progress
+        requires { count ≤ self.left }
+        ensures left { result.left ≡ self.left - count }
+        ensures head { result.left ≢ 0 → head_of result ≡ head_of self }
+        ensures next { result.left ≡ 0 → head_of result ≡ [] }
+        ensures in_frame { result.left ≢ 0 → result.have ≡ self.have }
+        ensures behind { result.left ≡ 0 → result.have ≡ 0 }
+        ensures length { result.length ≡ self.length }
+        ensures taken { result.taken ≡ (self.taken + count) % 2 ^ 64 }
+    {
+        let mut next = self;
+        next.left = self.left - count;
+        next.have = if next.left == 0 { 0 } else { self.have };
+        next.taken = self.taken.wrapping_add(count as u64);
+        next
+    }
+}
+
+/// Takes a byte into the head of the frame under way, behind `joined` bytes of its message.
+fn take_byte(progress: Progress, joined: usize, byte: u8) -> Result<Progress, ChunkBad>
+    requires in_range { InRange progress joined }
+    requires in_head { progress.left ≡ 0 }
+    ensures in_range { IfOk result (λ next. InRange next joined) }
+{
+    let next = progress.with_byte(byte);
+    match next.fault(joined) {
+        Some(row) => Err(next.place(row)),
+        None => Ok(next.opened()),
+    }
+}
+
+/// Takes as much of the frame's data as `piece` has. Answers the bytes taken.
+fn take_data(
+    progress: Progress,
+    message: &mut Vec<u8>,
+    piece: &[u8],
+) -> Result<(Progress, usize), AllocError>
+    requires in_range { InRange progress (vec_len message.old) }
+    requires in_data { 0 < progress.left }
+    requires piece { 0 < length piece.now }
+    ensures count { IfOk result (λ y. (0 < y.1) × (y.1 ≤ length piece.now)) }
+    ensures in_range { IfOk result (λ y. InRange y.0 (vec_len message.new)) }
+{
+    let count = progress.left.min(piece.len());
+    append(message, &piece[..count], progress.length)?;
+    Ok((progress.with_data(count), count))
+}
+
+/// Takes some of `piece` into the frame under way: a byte of its head, or as much of its data as is there. Answers
+/// the bytes taken.
+fn step(progress: &mut Progress, message: &mut Vec<u8>, piece: &[u8]) -> Result<usize, FeedNo>
+    requires piece { 0 < length piece.now }
+    requires in_range { InRange progress.old (vec_len message.old) }
+    ensures count { IfOk result (λ n. (0 < n) × (n ≤ length piece.now)) }
+    ensures in_range { OnOk result (InRange progress.new (vec_len message.new)) }
+{
+    if progress.left > 0 {
+        let (next, count) = take_data(*progress, message, piece)?;
+        *progress = next;
+        return Ok(count);
+    }
+    match take_byte(*progress, message.len(), piece[0]) {
+        Ok(next) => {
+            *progress = next;
+            Ok(1)
+        }
+        Err(bad) => Err(FeedNo::Bad(bad)),
+    }
+}
+
+/// Appends data to a message that will have `whole` bytes in all.
+fn append(message: &mut Vec<u8>, bytes: &[u8], whole: usize) -> Result<(), AllocError>
+    requires { vec_len message.old + length bytes.now ≤ 1052672 }
+    ensures ok { OnOk result (message.new.items ≡ message.old.items ++ bytes.now) }
+    ensures err { OnErr result (message.new.items ≡ message.old.items) }
+{
+    let there = message.len() + bytes.len();
+    if message.capacity() < there {
+        let room = there.saturating_mul(GROWTH).min(whole).max(there);
+        message.reserve_exact(room - message.len())?;
+    }
+    message.extend_from_slice(bytes)
+}
+
+/// Takes bytes of `piece` up to the end of the message under way. Answers how many.
+pub fn take_in(
+    progress: &mut Progress,
+    message: &mut Vec<u8>,
+    piece: &[u8],
+) -> Result<usize, FeedNo>
+    requires { InRange progress.old (vec_len message.old) }
+    ensures count { IfOk result (λ n. n ≤ length piece.now) }
+    ensures in_range { OnOk result (InRange progress.new (vec_len message.new)) }
+{
+    let mut at = 0;
+    while at < piece.len() && !progress.is_whole(message.len()) {
+        at += step(progress, message, &piece[at..])?;
+    }
+    Ok(at)
+}

@@ -1,0 +1,52 @@
+//! What a request was answered.
+
+ghost use Rattle.std.specs.Prelude.{◌≡◌};
+
+use rd_base::{Bytes, ReadNo, Status};
+use rd_irp::{Body, Kind, read_body, write_body};
+use std::alloc::{AllocError, Global};
+use std::marker::Model;
+
+/// The answer to a request, as its completion said it.
+#[derive(Debug, Drop)]
+pub struct Answer {
+    kind: Kind,
+    status: Status,
+    body: Body,
+}
+
+impl Model for Answer {
+    ghost use Rattle.rd_irp.specs.Fits.{BodyFits};
+    ghost use Rattle.rd_cli.specs.Asked.{Answered};
+
+    ghost Value = { Answered };
+
+    ghost view = { λ a. record { kind = a.kind; status = a.status; body = a.body } };
+
+    ghost invariant = { λ a. BodyFits a.kind a.status a.body };
+}
+
+impl Answer {
+    /// Reads the answer from a status and the bytes behind a completion's head.
+    pub fn read(alloc: Global, kind: Kind, status: Status, bytes: &[u8]) -> Result<Self, ReadNo> {
+        let (body, _) = read_body(alloc, kind, status, bytes)?;
+        Ok(Answer { kind, status, body })
+    }
+
+    pub fn status(&self) -> Status
+        ensures { result ≡ self.now.status }
+    {
+        self.status
+    }
+
+    pub fn body(&self) -> &Body
+        ensures { result.now ≡ self.now.body }
+    {
+        &self.body
+    }
+
+    /// The body as this program writes it.
+    pub fn body_bytes(&self, alloc: Global) -> Result<Bytes, AllocError> {
+        write_body(alloc, self.kind, &self.body)
+    }
+}

@@ -1,0 +1,94 @@
+//! A script, and the first line outside the grammar.
+
+use crate::ask::Ask;
+use crate::grammar::{Line, line_of};
+use crate::stop::Stop;
+use rd_base::{Bytes, Units};
+use rd_drive::{AddNo, MemoryDrive};
+use std::alloc::{AllocError, Global};
+
+/// The most lines of a script.
+const MAX_LINES: usize = 1000;
+
+/// The most bytes of a script.
+pub const MAX_BYTES: usize = 65_536;
+
+/// What a script says.
+#[derive(Drop)]
+pub enum Script {
+    Empty,
+    /// The drive of device 1 at its opening, and what one application asks of it.
+    Drive { drive: MemoryDrive, asks: Vec<Ask> },
+}
+
+/// Reads a script. The first line that is outside the grammar, or past a limit, is `Stop::Line`.
+pub fn read_script(alloc: Global, bytes: &[u8]) -> Result<Script, Stop> {
+    let mut script = Script::Empty;
+    let mut end = 0usize;
+    for (index, piece) in bytes.split_inclusive(|byte| *byte == b'\n').enumerate() {
+        end = end.saturating_add(piece.len());
+        let fits = index < MAX_LINES && end <= MAX_BYTES;
+        if !fits || !script.read_line(alloc, without_line_feed(piece))? {
+            let number = u32::try_from(index).unwrap_or(u32::MAX).saturating_add(1);
+            return Err(Stop::Line(number));
+        }
+    }
+    Ok(script)
+}
+
+fn without_line_feed(piece: &[u8]) -> &[u8] {
+    match piece {
+        [text @ .., b'\n'] => text,
+        text => text,
+    }
+}
+
+impl Script {
+    /// Adds a line, or skips it where it is empty or a remark, and answers whether it may stand here.
+    fn read_line(&mut self, alloc: Global, text: &[u8]) -> Result<bool, AllocError> {
+        if matches!(text, [] | [b'#', ..]) {
+            return Ok(true);
+        }
+        match line_of(alloc, text)? {
+            Some(Line::Drive { label }) => self.add_drive(alloc, label),
+            Some(Line::File { path, bytes }) => self.add_file(&path, bytes),
+            Some(Line::Ask(ask)) => self.add_ask(ask),
+            None => Ok(false),
+        }
+    }
+
+    /// The drive comes first, and once.
+    fn add_drive(&mut self, alloc: Global, label: Units) -> Result<bool, AllocError> {
+        if matches!(self, Script::Drive { .. }) {
+            return Ok(false);
+        }
+        *self = Script::Drive {
+            drive: MemoryDrive::new(alloc, label)?,
+            asks: Vec::new(alloc),
+        };
+        Ok(true)
+    }
+
+    /// Files come behind the drive and before all that is asked, each path once.
+    fn add_file(&mut self, path: &Units, bytes: Bytes) -> Result<bool, AllocError> {
+        let Script::Drive { drive, asks } = self else {
+            return Ok(false);
+        };
+        if !asks.is_empty() {
+            return Ok(false);
+        }
+        match drive.add_file(path, bytes) {
+            Ok(()) => Ok(true),
+            Err(AddNo::Memory) => Err(AllocError),
+            Err(_) => Ok(false),
+        }
+    }
+
+    fn add_ask(&mut self, ask: Ask) -> Result<bool, AllocError> {
+        let Script::Drive { asks, .. } = self else {
+            return Ok(false);
+        };
+        asks.push(ask)?;
+        Ok(true)
+    }
+}

@@ -1,0 +1,67 @@
+//! What ends a run before its report.
+
+ghost use Rattle.std.specs.Prelude.{◌≡◌};
+ghost use Rattle.rd_cli.specs.declared.stop.Stop.TheVariants as stop;
+
+use rd_base::ReadNo;
+use rd_chunk::FeedNo;
+use std::alloc::{AllocError, AllocFailed};
+
+#[derive(Debug, Drop)]
+pub enum Stop {
+    /// The words are no command.
+    Words,
+    /// This line of the script, counted from 1, is the first outside the grammar.
+    Line(u32),
+    /// The input failed.
+    Input,
+    /// The output or the recording failed.
+    Output,
+    Memory,
+}
+
+impl Stop {
+    /// The exit status.
+    pub fn status(&self) -> u8 {
+        match self {
+            Stop::Words | Stop::Line(_) => 1,
+            Stop::Input => 2,
+            Stop::Output => 3,
+            Stop::Memory => 6,
+        }
+    }
+}
+
+impl From<AllocError> for Stop {
+    ghost from_gives = { λ _ e. e ≡ stop.Memory };
+
+    fn from(_error: AllocError) -> Stop {
+        Stop::Memory
+    }
+}
+
+impl<T: Drop> From<AllocFailed<T>> for Stop {
+    ghost from_gives = { λ _ e. e ≡ stop.Memory };
+
+    fn from(_error: AllocFailed<T>) -> Stop {
+        Stop::Memory
+    }
+}
+
+/// What this program wrote itself reads again, so only memory can be missing.
+impl From<ReadNo> for Stop {
+    ghost from_gives = { λ _ e. e ≡ stop.Memory };
+
+    fn from(_error: ReadNo) -> Stop {
+        Stop::Memory
+    }
+}
+
+/// The frames that this program wrote itself have no fault, so only memory can be missing.
+impl From<FeedNo> for Stop {
+    ghost from_gives = { λ _ e. e ≡ stop.Memory };
+
+    fn from(_error: FeedNo) -> Stop {
+        Stop::Memory
+    }
+}

@@ -1,0 +1,75 @@
+//! The top call.
+
+use crate::report::report;
+use crate::script::{MAX_BYTES, read_script};
+use crate::session::run_script;
+use crate::stop::Stop;
+use crate::transfer::{read_all, write_all};
+use rd_base::{Books, Sink, Source};
+use std::alloc::{AllocError, Global};
+
+/// Runs a command and answers the exit status.
+///
+/// `words` are the command's words without the program's name. The one command so far is `both`: it reads a script from
+/// `input` to its end, runs it, writes a recording of all frames to `wire` as they are sent, and then the report to
+/// `output`. `books` is to be empty, and holds the journal of each device at the end.
+///
+/// | status | comes where |
+/// |---|---|
+/// | 0 | the script was run to its end |
+/// | 1 | the words are no command (`bad words` on `output`), or a line of the script is outside the grammar (`line N words`) |
+/// | 2 | a read of the input failed |
+/// | 3 | a write to the output or the wire failed |
+/// | 6 | memory ran out |
+pub fn run<S: Source, K: Sink, R: Sink>(
+    alloc: Global,
+    words: &[String],
+    input: &mut S,
+    output: &mut K,
+    wire: &mut R,
+    books: &mut Books,
+) -> u8 {
+    match both(alloc, words, input, output, wire, books) {
+        Ok(()) => 0,
+        Err(stop) => last_line(alloc, output, stop),
+    }
+}
+
+fn both<S: Source, K: Sink, R: Sink>(
+    alloc: Global,
+    words: &[String],
+    input: &mut S,
+    output: &mut K,
+    wire: &mut R,
+    books: &mut Books,
+) -> Result<(), Stop> {
+    match words {
+        [word] if word.as_str() == "both" => {}
+        _ => return Err(Stop::Words),
+    }
+    let text = read_all(alloc, input, MAX_BYTES)?;
+    let script = read_script(alloc, text.as_slice())?;
+    let outcomes = run_script(alloc, script, wire, books)?;
+    let report = report(alloc, outcomes.as_slice(), books)?;
+    write_all(output, report.as_bytes()).map_err(|_| Stop::Output)
+}
+
+/// Says what ended the run, where that has a line, and answers the status. A failure to say it changes nothing.
+fn last_line<K: Sink>(alloc: Global, output: &mut K, stop: Stop) -> u8 {
+    match line_of(alloc, &stop) {
+        Ok(line) => {
+            let _ = write_all(output, line.as_bytes());
+            stop.status()
+        }
+        Err(_) => Stop::Memory.status(),
+    }
+}
+
+/// The last line on the output, if any.
+fn line_of(alloc: Global, stop: &Stop) -> Result<String, AllocError> {
+    match stop {
+        Stop::Words => String::from_str(alloc, "bad words\n"),
+        Stop::Line(number) => format!(in alloc; "line {number} words\n"),
+        Stop::Input | Stop::Output | Stop::Memory => Ok(String::new(alloc)),
+    }
+}

@@ -1,0 +1,194 @@
+//! The first form of the memory drive: files in its root, opened for reading.
+
+ghost use Rattle.std.specs.Prelude.{◌≡◌, []};
+ghost use Rattle.rd_irp.specs.Fits.{BodyFits, IsSendable};
+ghost use Rattle.rd_irp.specs.declared.completion.Kind.TheVariants as Kind;
+
+use crate::device::Device;
+use crate::path::is_plain_path;
+use crate::plan::{MAX_READ, Plan};
+use rd_base::{Bytes, Status, Units};
+use rd_irp::{Body, Op, Reply};
+use std::alloc::{AllocError, Global};
+use std::collections::BTreeMap;
+use thiserror::Error;
+
+/// The most handles of a drive.
+pub const MAX_HANDLES: usize = 4096;
+
+/// The most nodes of a drive, its root counted.
+pub const MAX_NODES: usize = 65_536;
+
+/// One past the last file id.
+const FILE_IDS_END: u64 = 1 << 32;
+
+/// Why a file could not be added.
+#[derive(Clone, Copy, Debug, PartialEq, Eq, Error)]
+pub enum AddNo {
+    #[error("the folder isn't there")]
+    PathNotFound,
+    #[error("the path is taken")]
+    Collision,
+    #[error("the drive has its most nodes")]
+    Full,
+    #[error("out of memory")]
+    Memory,
+}
+
+/// A drive in memory.
+#[derive(Drop)]
+pub struct MemoryDrive {
+    label: Units,
+    files: BTreeMap<Vec<u16>, Bytes>,
+    /// The path of each open file, by file id.
+    handles: BTreeMap<u32, Vec<u16>>,
+    next: u64,
+}
+
+impl MemoryDrive {
+    /// An empty drive with a volume label of at most 32 units.
+    pub fn new(alloc: Global, label: Units) -> Result<Self, AllocError> {
+        Ok(MemoryDrive {
+            label,
+            files: BTreeMap::new(alloc),
+            handles: BTreeMap::new(alloc),
+            next: 1,
+        })
+    }
+
+    /// Adds a file to the root. A refusal changes nothing.
+    pub fn add_file(&mut self, path: &Units, bytes: Bytes) -> Result<(), AddNo> {
+        if !is_plain_path(path.as_slice()) {
+            return Err(AddNo::PathNotFound);
+        }
+        if self.files.contains_key(path.as_slice()) {
+            return Err(AddNo::Collision);
+        }
+        if self.files.len() + 1 >= MAX_NODES {
+            return Err(AddNo::Full);
+        }
+        let path = path.copy().map_err(|_| AddNo::Memory)?;
+        match self.files.insert(path.into_vec(), bytes) {
+            Ok(_) => Ok(()),
+            Err(_) => Err(AddNo::Memory),
+        }
+    }
+
+    /// Opens the file at a path, which becomes the handle's. It is answered the next file id, never used before.
+    fn open(&mut self, path: Units) -> Reply
+        ensures fits { BodyFits Kind.Create result.status result.body }
+        ensures sendable { IsSendable result.body }
+    {
+        if self.handles.len() >= MAX_HANDLES || self.next >= FILE_IDS_END {
+            return fault(Status::TOO_MANY_OPENED_FILES);
+        }
+        if !self.files.contains_key(path.as_slice()) {
+            return fault(Status::OBJECT_NAME_NOT_FOUND);
+        }
+        let file = self.next as u32;
+        if self.handles.insert(file, path.into_vec()).is_err() {
+            return fault(Status::NO_MEMORY);
+        }
+        self.next += 1;
+        success(Body::Created {
+            file,
+            information: OPENED,
+        })
+    }
+
+    fn close(&mut self, file: u32) -> Reply
+        ensures fits { BodyFits Kind.Close result.status result.body }
+        ensures sendable { IsSendable result.body }
+    {
+        match self.handles.remove(&file) {
+            Some(_) => success(Body::Closed),
+            None => fault(Status::INVALID_HANDLE),
+        }
+    }
+
+    /// Reads into the room that was found for the bytes.
+    fn read(&self, file: u32, offset: u64, length: u32, mut room: Vec<u8>) -> Reply
+        requires { room.items ≡ [] }
+        ensures fits { BodyFits Kind.Buffer result.status result.body }
+        ensures sendable { IsSendable result.body }
+    {
+        let Some(path) = self.handles.get(&file) else {
+            return fault(Status::INVALID_HANDLE);
+        };
+        let bytes = match self.files.get(path.as_slice()) {
+            Some(bytes) => bytes.as_slice(),
+            None => &[],
+        };
+        if length == 0 {
+            return success(Body::Buffer(Bytes::of(room)));
+        }
+        if offset >= bytes.len() as u64 {
+            return fault(Status::END_OF_FILE);
+        }
+        let rest = &bytes[offset as usize..];
+        let count = rest.len().min(length.min(MAX_READ) as usize);
+        match room.extend_from_slice(&rest[..count]) {
+            Ok(()) => success(Body::Buffer(Bytes::of(room))),
+            Err(_) => fault(Status::NO_MEMORY),
+        }
+    }
+}
+
+/// The Information of a `Create` that opened what was there (MS-RDPEFS 2.2.1.5.1).
+const OPENED: u8 = 1;
+
+/// What a `Create` asks for where this form of the drive serves it: to open for reading what is there, shared by all.
+const SERVED_ACCESS: u32 = 0x8000_0000;
+
+const SERVED_SHARE: u32 = 7;
+
+const SERVED_DISPOSITION: u32 = 1;
+
+const SERVED_OPTIONS: u32 = 0;
+
+impl Device for MemoryDrive {
+    fn apply(&mut self, plan: Plan, _moment: u64) -> Reply {
+        if plan.starved() {
+            return fault(Status::NO_MEMORY);
+        }
+        let (job, room) = plan.into_parts();
+        match job.op {
+            Op::Malformed { .. } => fault(Status::INVALID_PARAMETER),
+            Op::Create {
+                access: SERVED_ACCESS,
+                share: SERVED_SHARE,
+                disposition: SERVED_DISPOSITION,
+                options: SERVED_OPTIONS,
+                path,
+                ..
+            } if is_plain_path(path.as_slice()) => self.open(path),
+            Op::Create { .. } | Op::Unknown { .. } => fault(Status::NOT_SUPPORTED),
+            Op::Close => self.close(job.file),
+            Op::Read { offset, length } => self.read(job.file, offset, length, room),
+        }
+    }
+
+    fn cut(&mut self) {
+        self.handles.clear();
+    }
+}
+
+fn success(body: Body) -> Reply
+    ensures status { result.status.0 ≡ 0 }
+    ensures body { result.body ≡ body }
+{
+    Reply {
+        status: Status::SUCCESS,
+        body,
+    }
+}
+
+fn fault(status: Status) -> Reply
+    ensures status { result.status ≡ status }
+    ensures body { result.body ≡ Body.Fault }
+{
+    Reply {
+        status,
+        body: Body::Fault,
+    }
+}

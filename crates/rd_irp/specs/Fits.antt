@@ -1,0 +1,86 @@
+-- What may be written.
+use Rattle.std.specs.Prelude.{◌≡◌, ℕ, ◌+◌, ◌*◌, ◌<◌, ◌≤◌, ◌^◌, ◌≢◌, ◌==◌, if◌then◌else◌, length, All, MatchBool}
+use Rattle.rd_base.specs.declared.status.Status.{Status}
+use Rattle.rd_irp.specs.declared.op.Op.{Op}
+use Rattle.rd_irp.specs.declared.op.Op.TheVariants as op
+use Rattle.rd_irp.specs.declared.completion.Kind.{Kind}
+use Rattle.rd_irp.specs.declared.completion.Kind.TheVariants as kind
+use Rattle.rd_irp.specs.declared.completion.Body.{Body}
+use Rattle.rd_irp.specs.declared.completion.Body.TheVariants as body
+use Rattle.rd_irp.specs.declared.completion.Reply.{Reply}
+
+-- A request with this operation can be sent: its path has at most 4,096 units and none is zero.
+abbrev pub Fits : Op → Type 0
+Fits (op.Create access allocation attributes share disposition options path) = (length path ≤ 4096) × All (λ unit. unit ≢ 0) path
+Fits op.Close = Unit {0}
+Fits (op.Read offset len) = Unit {0}
+Fits (op.Unknown major minor) = ⊥
+Fits (op.Malformed major minor bad) = ⊥
+
+-- the layout of the completion that answers an operation; a malformed one has that of its function
+abbrev pub reply_kind : Op → Kind
+reply_kind (op.Create access allocation attributes share disposition options path) = kind.Create
+reply_kind op.Close = kind.Close
+reply_kind (op.Read offset len) = kind.Buffer
+reply_kind (op.Unknown major minor) = kind.Buffer
+reply_kind (op.Malformed major minor bad) = if major == 0 then kind.Create else (if major == 2 then kind.Close else kind.Buffer)
+
+-- a byte field that its length field can count
+abbrev pub IsCountable : Body → Type 0
+IsCountable (body.Created file information) = Unit {0}
+IsCountable body.Closed = Unit {0}
+IsCountable (body.Count count) = Unit {0}
+IsCountable (body.Buffer bytes) = length bytes < 2 ^ 32
+IsCountable body.Locked = Unit {0}
+IsCountable body.Fault = Unit {0}
+
+-- the body of a success of each layout
+abbrev pub IsOfKind : Kind → Body → Type 0
+IsOfKind kind.Create (body.Created file information) = Unit {0}
+IsOfKind kind.Close body.Closed = Unit {0}
+IsOfKind kind.Count (body.Count count) = Unit {0}
+IsOfKind kind.Buffer (body.Buffer bytes) = Unit {0}
+IsOfKind kind.Lock body.Locked = Unit {0}
+IsOfKind k b = ⊥
+
+-- A completion of this layout and status has such a body: a success the one of its layout, everything else a fault.
+abbrev pub BodyFits : Kind → Status → Body → Type 0
+BodyFits k status b = MatchBool (status.0 == 0) (IsOfKind k b) (b ≡ body.Fault) × IsCountable b
+
+-- a body that leaves a completion within the limit of a message: its buffer has at most 1,048,576 bytes
+abbrev pub IsSendable : Body → Type 0
+IsSendable (body.Created file information) = Unit {0}
+IsSendable body.Closed = Unit {0}
+IsSendable (body.Count count) = Unit {0}
+IsSendable (body.Buffer bytes) = length bytes ≤ 1048576
+IsSendable body.Locked = Unit {0}
+IsSendable body.Fault = Unit {0}
+
+-- a reply that may answer the operation, and that can be sent
+abbrev pub Answers : Op → Reply → Type 0
+Answers op reply = BodyFits (reply_kind op) reply.status reply.body × IsSendable reply.body
+
+-- the zeros beside a status other than success: as many as a success of the layout has bytes without its buffer
+abbrev pub fault_length : Kind → ℕ
+fault_length kind.Create = 5
+fault_length kind.Close = 4
+fault_length kind.Count = 5
+fault_length kind.Buffer = 4
+fault_length kind.Lock = 5
+
+-- how many bytes a body is written in
+abbrev pub body_length : Kind → Body → ℕ
+body_length k (body.Created file information) = 5
+body_length k body.Closed = 4
+body_length k (body.Count count) = 5
+body_length k (body.Buffer bytes) = 4 + length bytes
+body_length k body.Locked = 5
+body_length k body.Fault = fault_length k
+
+-- how many bytes the body of an operation that fits is written in
+abbrev pub op_length : Op → ℕ
+op_length (op.Create access allocation attributes share disposition options path) = 34 + 2 * length path
+op_length op.Close = 32
+op_length (op.Read offset len) = 32
+op_length (op.Unknown major minor) = 0
+op_length (op.Malformed major minor bad) = 0

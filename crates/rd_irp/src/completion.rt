@@ -1,0 +1,210 @@
+//! Completions (MS-RDPEFS 2.2.1.5).
+
+ghost use Rattle.std.specs.Prelude.{◌≡◌, ◌+◌, length, IfOk, OnOk, vec_len};
+ghost use Rattle.rd_irp.specs.Fits.{BodyFits, IsCountable, IsOfKind, body_length, fault_length, reply_kind};
+
+use crate::head::{IO_COMPLETION, put_header, read_header, tail_len};
+use crate::op::Op;
+use rd_base::{Bad, Bytes, Cursor, ReadNo, Status};
+use std::alloc::{AllocError, Global};
+
+/// The bytes of a completion's head; its body stands behind them.
+pub const COMPLETION_HEAD_LEN: usize = 16;
+
+/// Which layout the body of a completion has.
+#[derive(Clone, Copy, Debug, PartialEq, Eq)]
+pub enum Kind {
+    /// A file id and an information byte (MS-RDPEFS 2.2.1.5.1).
+    Create,
+    /// Padding alone (2.2.1.5.2).
+    Close,
+    /// A count of bytes (2.2.1.5.4).
+    Count,
+    /// A count and that many bytes (2.2.1.5.3).
+    Buffer,
+    /// Padding alone (2.2.3.4.12).
+    Lock,
+}
+
+/// What a completion says beside its status.
+#[derive(Debug, Drop)]
+pub enum Body {
+    Created { file: u32, information: u8 },
+    Closed,
+    Count(u32),
+    Buffer(Bytes),
+    Locked,
+    /// The body of every status other than success.
+    Fault,
+}
+
+/// The answer to a request.
+#[derive(Debug, Drop)]
+pub struct Reply {
+    pub status: Status,
+    pub body: Body,
+}
+
+/// The head of a completion, which says whose answer it is.
+#[derive(Clone, Copy, Debug, PartialEq, Eq)]
+pub struct Head {
+    pub device: u32,
+    /// The completion id of the request.
+    pub completion: u32,
+    pub status: Status,
+}
+
+/// The layout of the completion of a request with this operation. A `Malformed` request has that of its function.
+pub fn kind_of(op: &Op) -> Kind
+    ensures { result ≡ reply_kind op.now }
+{
+    match op {
+        Op::Create { .. } => Kind::Create,
+        Op::Close => Kind::Close,
+        Op::Read { .. } | Op::Unknown { .. } => Kind::Buffer,
+        Op::Malformed { major, .. } => match major {
+            0 => Kind::Create,
+            2 => Kind::Close,
+            _ => Kind::Buffer,
+        },
+    }
+}
+
+/// Reads the head of a completion, its first 16 bytes.
+pub fn read_head(bytes: &[u8]) -> Result<Head, Bad> {
+    let mut cursor = Cursor::new(bytes);
+    read_header(&mut cursor, IO_COMPLETION)?;
+    let device = cursor.u32()?;
+    let completion = cursor.u32()?;
+    let status = Status(cursor.u32()?);
+    Ok(Head {
+        device,
+        completion,
+        status,
+    })
+}
+
+/// Reads the bytes behind a completion's head, and counts the ignored ones. Padding may be missing at the end.
+pub fn read_body(
+    alloc: Global,
+    kind: Kind,
+    status: Status,
+    bytes: &[u8],
+) -> Result<(Body, u32), ReadNo>
+    ensures fits { IfOk result (λ read. BodyFits kind status read.0) }
+{
+    if status.0 != 0 {
+        return Ok((Body::Fault, tail_len(bytes)));
+    }
+    let mut cursor = Cursor::new(bytes);
+    let body = read_success(alloc, kind, &mut cursor)?;
+    let rest = cursor.rest();
+    let padding = success_padding(kind).min(rest.len());
+    Ok((body, tail_len(&rest[padding..])))
+}
+
+/// Reads the body of a success up to its padding.
+fn read_success(alloc: Global, kind: Kind, cursor: &mut Cursor<'_>) -> Result<Body, ReadNo>
+    ensures { IfOk result (λ body. IsOfKind kind body × IsCountable body) }
+{
+    match kind {
+        Kind::Create => {
+            let file = cursor.u32()?;
+            let information = cursor.u8()?;
+            Ok(Body::Created { file, information })
+        }
+        Kind::Close => Ok(Body::Closed),
+        Kind::Count => Ok(Body::Count(cursor.u32()?)),
+        Kind::Buffer => {
+            let count = cursor.u32()?;
+            let field = cursor.take(count)?;
+            Ok(Body::Buffer(Bytes::of(Vec::from_slice(alloc, field)?)))
+        }
+        Kind::Lock => Ok(Body::Locked),
+    }
+}
+
+/// The padding at the end of the body of a success.
+fn success_padding(kind: Kind) -> usize {
+    match kind {
+        Kind::Create | Kind::Buffer => 0,
+        Kind::Close => 4,
+        Kind::Count => 1,
+        Kind::Lock => 5,
+    }
+}
+
+/// Writes a completion whose body fits the kind and the status.
+pub fn write_completion(
+    alloc: Global,
+    kind: Kind,
+    head: &Head,
+    body: &Body,
+) -> Result<Bytes, AllocError>
+    requires { BodyFits kind head.now.status body.now }
+    ensures length { IfOk result (λ message. length message ≡ 16 + body_length kind body.now) }
+{
+    let mut out = Vec::with_capacity(alloc, COMPLETION_HEAD_LEN + body_len(kind, body))?;
+    put_header(&mut out, IO_COMPLETION)?;
+    out.extend_from_slice(&head.device.to_le_bytes())?;
+    out.extend_from_slice(&head.completion.to_le_bytes())?;
+    out.extend_from_slice(&head.status.0.to_le_bytes())?;
+    put_body(&mut out, kind, body)?;
+    Ok(Bytes::of(out))
+}
+
+/// Writes the body of a completion alone, as it stands behind the head.
+pub fn write_body(alloc: Global, kind: Kind, body: &Body) -> Result<Bytes, AllocError>
+    requires { IsCountable body.now }
+{
+    let mut out = Vec::with_capacity(alloc, body_len(kind, body))?;
+    put_body(&mut out, kind, body)?;
+    Ok(Bytes::of(out))
+}
+
+/// How many bytes a body is written in.
+fn body_len(kind: Kind, body: &Body) -> usize
+    requires { IsCountable body.now }
+    ensures { result ≡ body_length kind body.now }
+{
+    match body {
+        Body::Created { .. } | Body::Count(_) | Body::Locked => 5,
+        Body::Closed => 4,
+        Body::Buffer(bytes) => 4 + bytes.as_slice().len(),
+        Body::Fault => fault_padding(kind).len(),
+    }
+}
+
+/// Beside a status other than success stand zeros, as many as a success of the kind has bytes without its buffer.
+fn fault_padding(kind: Kind) -> &'static [u8]
+    ensures { length result.now ≡ fault_length kind }
+{
+    match kind {
+        Kind::Close | Kind::Buffer => &[0; 4],
+        Kind::Create | Kind::Count | Kind::Lock => &[0; 5],
+    }
+}
+
+fn put_body(out: &mut Vec<u8>, kind: Kind, body: &Body) -> Result<(), AllocError>
+    requires { IsCountable body.now }
+    ensures { OnOk result (vec_len out.new ≡ vec_len out.old + body_length kind body.now) }
+{
+    match body {
+        Body::Created { file, information } => {
+            out.extend_from_slice(&file.to_le_bytes())?;
+            out.extend_from_slice(&information.to_le_bytes())
+        }
+        Body::Closed => out.extend_from_slice(&[0; 4]),
+        Body::Count(count) => {
+            out.extend_from_slice(&count.to_le_bytes())?;
+            out.extend_from_slice(&[0; 1])
+        }
+        Body::Buffer(bytes) => {
+            let bytes = bytes.as_slice();
+            out.extend_from_slice(&(bytes.len() as u32).to_le_bytes())?;
+            out.extend_from_slice(bytes)
+        }
+        Body::Locked => out.extend_from_slice(&[0; 5]),
+        Body::Fault => out.extend_from_slice(fault_padding(kind)),
+    }
+}

@@ -1,0 +1,23 @@
+//! Requests and completions (MS-RDPEFS 2.2.1.4, 2.2.1.5 and 2.2.3.4) as values and as bytes.
+//!
+//! It stands on `rd_base`. The layers above use one contract of it for each message: bytes are a value with a count of
+//! ignored bytes behind it, or have a first fault. A request whose head reads is always a value: where its body has a
+//! fault, the operation is `Malformed` and carries that fault, so that it can be answered.
+//!
+//! Cost: a message is written into one buffer of its exact size, and a path or a byte field is copied once.
+#![tactic(auto)]
+
+mod completion;
+mod head;
+mod op;
+mod request;
+
+pub use completion::{
+    Body, COMPLETION_HEAD_LEN, Head, Kind, Reply, kind_of, read_body, read_head, write_body,
+    write_completion,
+};
+pub use op::{MAX_PATH, Op};
+pub use request::{Request, fits, read_request, write_request};
+
+#[cfg(test)]
+mod tests;

@@ -1,0 +1,225 @@
+//! Requests (MS-RDPEFS 2.2.1.4).
+
+ghost use Rattle.std.specs.Prelude.{◌≡◌, ◌+◌, ◌*◌, ◌≤◌, ◌↔◌, IsTrue, IfOk, OnOk, length, vec_len};
+ghost use Rattle.rd_irp.specs.Fits.{Fits, op_length};
+
+use crate::head::{IO_REQUEST, put_header, read_header, tail_len};
+use crate::op::{MAX_PATH, Op};
+use rd_base::{Bad, Bytes, Cursor, ReadNo, Units, Why};
+use std::alloc::{AllocError, Global};
+
+const CREATE: u32 = 0;
+
+const CLOSE: u32 = 2;
+
+const READ: u32 = 3;
+
+/// The bytes of a request's head.
+const HEAD_LEN: usize = 24;
+
+/// The bytes of a `Create` body in front of its path.
+const CREATE_LEN: usize = 32;
+
+/// The pad of a `Close` body.
+const CLOSE_PAD: [u8; 32] = [0; 32];
+
+/// The pad behind the fields of a `Read` body.
+const READ_PAD: [u8; 20] = [0; 20];
+
+/// A request of the host for a device.
+#[derive(Debug, Drop)]
+pub struct Request {
+    pub device: u32,
+    /// The file id that a `Create` gave; of a `Create` itself it means nothing.
+    pub file: u32,
+    pub completion: u32,
+    pub op: Op,
+}
+
+/// Whether a request with this operation can be sent.
+pub fn fits(op: &Op) -> bool
+    ensures { IsTrue result ↔ Fits op.now }
+{
+    match op {
+        Op::Create { path, .. } => {
+            let units = path.as_slice();
+            units.len() <= MAX_PATH && units.iter().all(|unit| *unit != 0)
+        }
+        Op::Close | Op::Read { .. } => true,
+        Op::Unknown { .. } | Op::Malformed { .. } => false,
+    }
+}
+
+/// Reads a request, and counts the ignored bytes behind it. A fault in its head is `Bad`, at its place in the message.
+/// A fault in its body makes it `Malformed`; then all bytes behind the head are ignored.
+pub fn read_request(alloc: Global, bytes: &[u8]) -> Result<(Request, u32), ReadNo> {
+    let mut cursor = Cursor::new(bytes);
+    read_header(&mut cursor, IO_REQUEST)?;
+    let device = cursor.u32()?;
+    let file = cursor.u32()?;
+    let completion = cursor.u32()?;
+    let major = cursor.u32()?;
+    let minor = cursor.u32()?;
+    let behind_head = tail_len(cursor.rest());
+    let (op, tail) = match read_op(alloc, major, minor, &mut cursor) {
+        Ok(op) => (op, tail_len(cursor.rest())),
+        Err(ReadNo::Bad(bad)) => (Op::Malformed { major, minor, bad }, behind_head),
+        Err(ReadNo::Memory) => return Err(ReadNo::Memory),
+    };
+    let request = Request {
+        device,
+        file,
+        completion,
+        op,
+    };
+    Ok((request, tail))
+}
+
+/// Reads the body of a request with this function.
+fn read_op(alloc: Global, major: u32, minor: u32, cursor: &mut Cursor<'_>) -> Result<Op, ReadNo> {
+    match major {
+        CREATE => read_create(alloc, cursor),
+        CLOSE => {
+            cursor.take(CLOSE_PAD.len() as u32)?;
+            Ok(Op::Close)
+        }
+        READ => {
+            let length = cursor.u32()?;
+            let offset = cursor.u64()?;
+            cursor.take(READ_PAD.len() as u32)?;
+            Ok(Op::Read { offset, length })
+        }
+        _ => Ok(Op::Unknown { major, minor }),
+    }
+}
+
+fn read_create(alloc: Global, cursor: &mut Cursor<'_>) -> Result<Op, ReadNo> {
+    let access = cursor.u32()?;
+    let allocation = cursor.u64()?;
+    let attributes = cursor.u32()?;
+    let share = cursor.u32()?;
+    let disposition = cursor.u32()?;
+    let options = cursor.u32()?;
+    let path = read_path(alloc, cursor)?;
+    Ok(Op::Create {
+        access,
+        allocation,
+        attributes,
+        share,
+        disposition,
+        options,
+        path,
+    })
+}
+
+/// Reads a length in bytes and that many bytes of units. The path ends before its first zero unit.
+fn read_path(alloc: Global, cursor: &mut Cursor<'_>) -> Result<Units, ReadNo> {
+    let at = cursor.place();
+    let count = cursor.u32()?;
+    if count % 2 != 0 {
+        return Err(ReadNo::Bad(Bad {
+            at,
+            why: Why::Length,
+        }));
+    }
+    let field = cursor.take(count)?;
+    let mut units = Vec::with_capacity(alloc, field.len() / 2)?;
+    for pair in field.chunks_exact(2) {
+        let unit = u16::from_le_bytes([pair[0], pair[1]]);
+        if unit == 0 {
+            break;
+        }
+        units.push(unit)?;
+    }
+    Ok(Units::of(units))
+}
+
+/// Writes a request whose operation fits.
+pub fn write_request(alloc: Global, request: &Request) -> Result<Bytes, AllocError>
+    requires { Fits request.now.op }
+    ensures length { IfOk result (λ message. length message ≡ 24 + op_length request.now.op) }
+{
+    let mut out = Vec::with_capacity(alloc, HEAD_LEN + body_len(&request.op))?;
+    put_header(&mut out, IO_REQUEST)?;
+    out.extend_from_slice(&request.device.to_le_bytes())?;
+    out.extend_from_slice(&request.file.to_le_bytes())?;
+    out.extend_from_slice(&request.completion.to_le_bytes())?;
+    out.extend_from_slice(&major_of(&request.op).to_le_bytes())?;
+    out.extend_from_slice(&0u32.to_le_bytes())?;
+    put_op(&mut out, &request.op)?;
+    Ok(Bytes::of(out))
+}
+
+fn major_of(op: &Op) -> u32 {
+    match op {
+        Op::Create { .. } => CREATE,
+        Op::Close => CLOSE,
+        Op::Read { .. } => READ,
+        Op::Unknown { major, .. } | Op::Malformed { major, .. } => *major,
+    }
+}
+
+/// How many bytes the body of an operation that fits is written in.
+fn body_len(op: &Op) -> usize
+    requires { Fits op.now }
+    ensures { result ≡ op_length op.now }
+{
+    match op {
+        Op::Create { path, .. } => CREATE_LEN + path_len(path),
+        Op::Close => CLOSE_PAD.len(),
+        Op::Read { .. } => 12 + READ_PAD.len(),
+        Op::Unknown { .. } | Op::Malformed { .. } => unreachable!(),
+    }
+}
+
+/// The bytes of a path field: two for each unit, and two for the zero unit behind them.
+fn path_len(path: &Units) -> usize
+    requires { length path.now ≤ 4096 }
+    ensures { result ≡ 2 * length path.now + 2 }
+{
+    2 * path.as_slice().len() + 2
+}
+
+fn put_op(out: &mut Vec<u8>, op: &Op) -> Result<(), AllocError>
+    requires { Fits op.now }
+    ensures { OnOk result (vec_len out.new ≡ vec_len out.old + op_length op.now) }
+{
+    match op {
+        Op::Create {
+            access,
+            allocation,
+            attributes,
+            share,
+            disposition,
+            options,
+            path,
+        } => {
+            out.extend_from_slice(&access.to_le_bytes())?;
+            out.extend_from_slice(&allocation.to_le_bytes())?;
+            out.extend_from_slice(&attributes.to_le_bytes())?;
+            out.extend_from_slice(&share.to_le_bytes())?;
+            out.extend_from_slice(&disposition.to_le_bytes())?;
+            out.extend_from_slice(&options.to_le_bytes())?;
+            put_path(out, path)
+        }
+        Op::Close => out.extend_from_slice(&CLOSE_PAD),
+        Op::Read { offset, length } => {
+            out.extend_from_slice(&length.to_le_bytes())?;
+            out.extend_from_slice(&offset.to_le_bytes())?;
+            out.extend_from_slice(&READ_PAD)
+        }
+        Op::Unknown { .. } | Op::Malformed { .. } => unreachable!(),
+    }
+}
+
+/// Writes the length in bytes, the units, and one zero unit that the length counts.
+fn put_path(out: &mut Vec<u8>, path: &Units) -> Result<(), AllocError>
+    requires { length path.now ≤ 4096 }
+    ensures { OnOk result (vec_len out.new ≡ vec_len out.old + 6 + 2 * length path.now) }
+{
+    out.extend_from_slice(&(path_len(path) as u32).to_le_bytes())?;
+    for unit in path.as_slice() {
+        out.extend_from_slice(&unit.to_le_bytes())?;
+    }
+    out.extend_from_slice(&0u16.to_le_bytes())
+}
