@@ -1,2 +1,7 @@
 pub mod Numbers
-pub mod Laws
+pub mod Decided
+pub mod Times
+pub mod Units
+pub mod Writing
+pub mod UnitsWriting
+pub mod WorkedJournals

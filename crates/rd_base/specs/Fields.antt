@@ -1,17 +1,23 @@
 -- The fields that layouts are made of.
-use Rattle.std.specs.Prelude.{◌≡◌, ℕ, zero, suc, ◌/◌, ◌%◌, ◌⊎◌, ◌==◌, min, nat_lt, All, ◌<◌, List, [], ◌∷◌, ◌++◌, take_while}
+use Rattle.std.specs.Prelude.{◌≡◌, ℕ, zero, suc, ◌/◌, ◌%◌, ◌⊎◌, ◌==◌, min, not, All, ◌<◌, List, [], ◌∷◌, ◌++◌, take_while}
+use Rattle.std.specs.List.{flat_map}
+use Rattle.std.specs.Int.{w16, to_le_bytes, from_le_bytes}
 use Rattle.rd_base.specs.declared.bad.Why.TheVariants.{Length}
 use Rattle.rd_base.specs.Layout.{Layout, one_byte, two_bytes, four_bytes, eight_bytes, done, number, byte_run, bytes_left, test, within, ◌>>=◌, ◌>>◌}
 
+-- a number of 8 bits
 abbrev pub number8 : Layout ℕ
 number8 = number one_byte
 
+-- a number of 16 bits
 abbrev pub number16 : Layout ℕ
 number16 = number two_bytes
 
+-- a number of 32 bits
 abbrev pub number32 : Layout ℕ
 number32 = number four_bytes
 
+-- a number of 64 bits
 abbrev pub number64 : Layout ℕ
 number64 = number eight_bytes
 
@@ -44,9 +50,15 @@ length_of_units = do
 abbrev pub text : ℕ → Layout (List ℕ)
 text count = within count (times (count / 2) number16)
 
+-- the units of bytes, two each, the lower byte first
+abbrev pub units_of : List ℕ → List ℕ
+units_of [] = []
+units_of (a ∷ []) = []
+units_of (a ∷ b ∷ others) = from_le_bytes w16 (a ∷ b ∷ []) ∷ units_of others
+
 -- the units before the first zero, or all
 abbrev pub before_zero : List ℕ → List ℕ
-before_zero units = take_while (λ u. nat_lt 0 u) units
+before_zero units = take_while (λ u. not (u == 0)) units
 
 -- a path of that many bytes: what stands from a zero unit on says nothing
 abbrev pub path : ℕ → Layout (List ℕ)
@@ -57,3 +69,7 @@ path count = do
 -- the units of a path: without zero, and behind them nothing, or a zero and any others
 abbrev pub AreUnitsOf : List ℕ → List ℕ → Type 0
 AreUnitsOf path units = All (λ u. 0 < u) path × ((units ≡ path) ⊎ ((others : List ℕ) × (units ≡ path ++ 0 ∷ others)))
+
+-- the bytes of a path as it is written: its units, and a zero unit behind them
+abbrev pub path_bytes : List ℕ → List ℕ
+path_bytes path = flat_map (λ u. to_le_bytes w16 u) (path ++ 0 ∷ [])

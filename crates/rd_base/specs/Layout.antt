@@ -6,16 +6,18 @@ use Rattle.rd_base.specs.declared.bad.Why.{Why}
 use Rattle.rd_base.specs.declared.bad.Why.TheVariants.{Short}
 use Rattle.rd_base.specs.Position.{Position}
 
--- how many bytes a number has
+-- the sizes of numbers
 pub data Size : Type 0 where
   one_byte two_bytes four_bytes eight_bytes : Size
 
+-- how many bytes a number has, as the Rust type with that many
 abbrev pub width_of : Size → Width
 width_of one_byte = w8
 width_of two_bytes = w16
 width_of four_bytes = w32
 width_of eight_bytes = w64
 
+-- the same as a count
 abbrev pub size_of : Size → ℕ
 size_of s = byte_len (width_of s)
 
@@ -37,7 +39,7 @@ pub data Layout : Type 0 → Type 1 where
   -- a layout, and then the layout that its value chooses
   ◌>>=◌ : {A B : Type 0} → Layout A → (A → Layout B) → Layout B
 
--- These bytes spell the value, where those bytes stand behind them.
+-- Exactly these bytes spell the value, where those bytes stand behind them. What stands behind matters to `bytes_left` alone.
 abbrev pub IsSpelled : {A : Type 0} → Layout A → A → List ℕ → List ℕ → Type 0
 IsSpelled (done x) a field behind = (a ≡ x) × (field ≡ [])
 IsSpelled (number s) n field behind = (field ≡ to_le_bytes (width_of s) n) × (n < 2 ^ (8 * size_of s))
@@ -63,6 +65,7 @@ past n p = record { at = p.at + n; left = drop n p.left }
 abbrev pub field_of : {A : Type 0} → ℕ → Position → Result A Bad → Result A Bad
 field_of n p value = if nat_lt (length p.left) n then Err (fault p.at Short) else value
 
+-- the next step, unless this one met a fault
 abbrev pub and_then : {A B : Type 0} → Result A Bad → (A → Result B Bad) → Result B Bad
 and_then (Ok a) f = f a
 and_then (Err e) f = Err e
@@ -84,6 +87,10 @@ FirstFaultFrom at l bytes bad = met l (record { at = at; left = bytes }) ≡ Err
 -- The first field in the order of the layout that can't be met: its place, and why.
 abbrev pub FirstFault : {A : Type 0} → Layout A → List ℕ → Bad → Type 0
 FirstFault l bytes bad = FirstFaultFrom 0 l bytes bad
+
+-- The bytes spell the first layout's value, and the second layout, which that value chooses, has this first fault behind it.
+abbrev pub FaultBehind : {A B : Type 0} → Layout A → (A → Layout B) → A → Bad → ℕ → List ℕ → Type 0
+FaultBehind l next a bad tail all = (field : List ℕ) × (behind : List ℕ) × (all ≡ field ++ behind) × (length behind ≡ tail) × IsSpelled l a field behind × FirstFaultFrom (length field) (next a) behind bad
 
 -- Some value is spelled, with some tail.
 abbrev pub HasValue : {A : Type 0} → Layout A → List ℕ → Type 0

@@ -4,3 +4,4 @@ pub mod History
 pub mod Layout
 pub mod Fields
 pub mod Reading
+pub mod Lawful

@@ -1,9 +1,11 @@
 -- What a joiner keeps, and the bytes that it stands for.
-use Rattle.std.specs.Prelude.{ℕ, ◌≡◌, ◌≤◌, ◌<◌, ◌+◌, ◌%◌, ◌^◌, ◌==◌, ◌&&◌, nat_lt, not, if◌then◌else◌, List, [], ◌++◌, length, take, Option, Some, None, is_some}
+use Rattle.std.specs.Prelude.{ℕ, ◌≡◌, ◌≤◌, ◌<◌, ◌+◌, ◌%◌, ◌^◌, ◌==◌, ◌&&◌, nat_lt, not, if◌then◌else◌, Bool, List, [], ◌++◌, length, take, Option, Some, None, is_some}
 use Rattle.std.specs.List.{concat, flat_map}
 use Rattle.rd_chunk.specs.declared.fault.ChunkBad.{ChunkBad}
+use Rattle.rd_chunk.specs.declared.fault.FeedNo.{FeedNo}
+use Rattle.rd_chunk.specs.declared.fault.FeedNo.TheVariants.{Bad, Memory}
 use Rattle.rd_chunk.specs.Frames.{size_of, length_of, data_of, AreFrames}
-use Rattle.rd_chunk.specs.Faults.{size_fault, IsPart}
+use Rattle.rd_chunk.specs.Faults.{size_fault, IsPart, ChunkFault}
 use Rattle.rd_chunk.specs.declared.progress.Progress.{Progress}
 
 -- the bytes of a head that are there
@@ -41,13 +43,33 @@ pub record StandsFor (held : Held) (before : ℕ) (bytes : List ℕ) : Type 0 wh
   pub taken_are : held.taken ≡ (before + length bytes) % 2 ^ 64
   pub no_fault : held.fault ≡ None
 
--- the message that is complete, if one is
+-- a message of so many bytes is complete: it has some, no more data of its last frame are to come, and all are there
+abbrev pub is_complete : (left joined whole : ℕ) → Bool
+is_complete left joined whole = (left == 0) && nat_lt 0 joined && (joined == whole)
+
+-- the message that is complete and waits, if one does
 abbrev pub waiting : Held → Option (List ℕ)
-waiting held = if not (is_some held.fault) && (held.left == 0) && nat_lt 0 (length held.joined) && (length held.joined == held.whole) then Some held.joined else None
+waiting held = if not (is_some held.fault) && is_complete held.left (length held.joined) held.whole then Some held.joined else None
+
+-- whatever list the one stands for, the other stands for that list and these bytes
+abbrev pub Takes : Held → Held → List ℕ → Type 0
+Takes old new more = (before : ℕ) (bytes : List ℕ) → StandsFor old before bytes → StandsFor new before (bytes ++ more)
+
+-- whatever list the joiner stands for, that list and these bytes are a chunk fault, which is the answered one: its place
+-- is counted from the stream's first byte, modulo 2^64
+abbrev pub Faults : Held → List ℕ → ChunkBad → Type 0
+Faults held more bad = (before : ℕ) (bytes : List ℕ) → StandsFor held before bytes →
+    (place : ℕ) × ChunkFault (bytes ++ more) place bad.why × (bad.at ≡ (before + place) % 2 ^ 64)
+
+-- a fact for an answered fault
+abbrev pub IfBad : FeedNo → (ChunkBad → Type 0) → Type 0
+IfBad (Bad bad) P = P bad
+IfBad Memory P = Unit {0}
 
 -- the numbers that a joiner keeps beside `joined` bytes of a message are in their ranges
 pub record InRange (p : Progress) (joined : ℕ) : Type 0 where
   pub head : p.have ≤ 12
+  pub count : length (head_of p) ≡ p.have
   pub to_come : p.have ≡ 12 → 0 < p.left
   pub size : 4 ≤ p.have → size_fault (size_of (head_of p)) ≡ None
   pub room : joined + p.left ≤ 1052672

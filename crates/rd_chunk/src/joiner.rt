@@ -1,6 +1,7 @@
 //! Messages out of a stream of carrier frames.
 
-ghost use Rattle.std.specs.Prelude.{◌≡◌, ◌≤◌, length, IfOk};
+ghost use Rattle.std.specs.Prelude.{◌≡◌, ◌<◌, ◌≤◌, ◌+◌, ◌%◌, ◌^◌, ◌↔◌, ◌⊎◌, ℕ, List, [], length, take, false, Some, Err, IsTrue, IsSome, IfNone, OnSome, IfOk, IfErr, OnErr};
+ghost use Rattle.rd_chunk.specs.Standing.{StandsFor, Takes, Faults, IfBad, waiting};
 
 use crate::fault::{ChunkBad, FeedNo};
 use crate::progress::{Progress, take_in};
@@ -30,7 +31,9 @@ impl Model for Joiner {
 
 impl Joiner {
     /// Before the first byte of a stream. The message's buffer comes from `alloc`.
-    pub fn new(alloc: Global) -> Joiner {
+    pub fn new(alloc: Global) -> Joiner
+        ensures { StandsFor result 0 [] }
+    {
         Joiner {
             message: Vec::new(alloc),
             progress: Progress::start(),
@@ -41,7 +44,23 @@ impl Joiner {
     /// Takes bytes up to the end of the message under way, and answers how many. While a finished message waits it
     /// takes none. A fault stays: each later call answers it again. Want of memory changes nothing.
     pub fn feed(&mut self, piece: &[u8]) -> Result<usize, FeedNo>
-        ensures { IfOk result (λ n. n ≤ length piece.now) }
+        // What is taken is the front of the piece, and the joiner then stands for that too.
+        ensures count { IfOk result (λ n. n ≤ length piece.now) }
+        ensures takes { IfOk result (λ n. Takes self.old self.new (take n piece.now)) }
+        ensures counts { IfOk result (λ n. self.new.taken ≡ (self.old.taken + n) % 2 ^ 64) }
+
+        // Bytes stay only behind the end of a message, and none are taken only where there are none or one waits.
+        ensures all { IfOk result (λ n. n < length piece.now → IsSome (waiting self.new)) }
+        ensures none { IfOk result (λ n. (n ≡ 0) ↔ ((piece.now ≡ []) ⊎ IsSome (waiting self.old))) }
+
+        // A fault is the first one of the stream, which the piece brings, and it stays.
+        ensures fault { IfErr result (λ no. IfBad no (λ bad. (count : ℕ) × (count ≤ length piece.now) × Faults self.old (take count piece.now) bad)) }
+        ensures failed { (bad : ChunkBad) → (self.new.fault ≡ Some bad) ↔ (result ≡ Err (FeedNo.Bad bad)) }
+        ensures stays { (bad : ChunkBad) → self.old.fault ≡ Some bad → (result ≡ Err (FeedNo.Bad bad)) × (self.new ≡ self.old) }
+        ensures err { OnErr result (self.new ≡ record self.old { fault = self.new.fault }) }
+        ensures memory { result ≡ Err FeedNo.Memory → self.new ≡ self.old }
+
+        ensures held { length self.new.joined + length self.new.head ≤ 1052684 }
     {
         if let Some(bad) = self.bad {
             return Err(FeedNo::Bad(bad));
@@ -60,7 +79,12 @@ impl Joiner {
     }
 
     /// The finished message, if one waits. Its bytes are moved, and no memory is taken.
-    pub fn take(&mut self) -> Option<Bytes> {
+    pub fn take(&mut self) -> Option<Bytes>
+        ensures message { result ≡ waiting self.old }
+        ensures next { OnSome result ((before : ℕ) (bytes : List ℕ) → StandsFor self.old before bytes → StandsFor self.new (before + length bytes) []) }
+        ensures none { IfNone result (self.new ≡ self.old) }
+        ensures taken { self.new.taken ≡ self.old.taken }
+    {
         if self.bad.is_some() || !self.progress.is_whole(self.message.len()) {
             return None;
         }
@@ -70,12 +94,18 @@ impl Joiner {
     }
 
     /// Whether no frame and no message is begun: the place where a stream may end.
-    pub fn between(&self) -> bool {
-        self.bad.is_none() && self.progress.have == 0 && self.message.is_empty()
+    pub fn between(&self) -> bool
+        ensures stands { (before : ℕ) (bytes : List ℕ) → StandsFor self.now before bytes → IsTrue result ↔ (bytes ≡ []) }
+        ensures failed { IsSome self.now.fault → result ≡ false }
+    {
+        self.bad.is_none() && self.message.len() + self.progress.have == 0
     }
 
     /// The bytes that `feed` took since `new`, modulo 2^64.
-    pub fn taken(&self) -> u64 {
+    pub fn taken(&self) -> u64
+        ensures value { result ≡ self.now.taken }
+        ensures stands { (before : ℕ) (bytes : List ℕ) → StandsFor self.now before bytes → result ≡ (before + length bytes) % 2 ^ 64 }
+    {
         self.progress.taken
     }
 }

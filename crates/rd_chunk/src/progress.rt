@@ -1,8 +1,8 @@
 //! How far a joiner has come in the frame under way.
 
-ghost use Rattle.std.specs.Prelude.{◌≡◌, ◌<◌, ◌≤◌, ◌+◌, ◌-◌, ◌%◌, ◌↔◌, ◌^◌, length, vec_len, IsTrue, IfOk, OnOk, OnErr, ◌≢◌, None};
+ghost use Rattle.std.specs.Prelude.{◌≡◌, ◌<◌, ◌≤◌, ◌+◌, ◌-◌, ◌%◌, ◌↔◌, ◌^◌, length, vec_len, IsTrue, IfOk, IfErr, OnOk, OnErr, ◌≢◌, None, ◌⊎◌, false, true, take, List, ℕ};
 ghost use Rattle.std.specs.Prelude.{◌++◌, ◌∷◌, []};
-ghost use Rattle.rd_chunk.specs.Standing.{InRange, head_of};
+ghost use Rattle.rd_chunk.specs.Standing.{InRange, head_of, held_of, is_complete, Takes, Faults, IfBad};
 ghost use Rattle.rd_chunk.specs.Frames.{size_of, length_of, flags_of};
 ghost use Rattle.rd_chunk.specs.Faults.{size_fault, head_fault};
 
@@ -31,7 +31,11 @@ pub struct Progress {
 impl Progress {
     /// Before the stream's first byte.
     pub fn start() -> Progress
-        ensures { InRange result 0 }
+        ensures in_range { InRange result 0 }
+        ensures have { result.have ≡ 0 }
+        ensures left { result.left ≡ 0 }
+        ensures length { result.length ≡ 0 }
+        ensures taken { result.taken ≡ 0 }
     {
         Progress {
             head: [0; 12],
@@ -43,7 +47,9 @@ impl Progress {
     }
 
     /// Whether the message is finished, with `joined` of its bytes there.
-    pub fn is_whole(self, joined: usize) -> bool {
+    pub fn is_whole(self, joined: usize) -> bool
+        ensures { result ≡ is_complete self.left joined self.length }
+    {
         self.left == 0 && joined != 0 && joined == self.length
     }
 
@@ -98,6 +104,7 @@ impl Progress {
     /// The fault at its place in the stream; the frame under way began `have` bytes ago.
     fn place(self, row: RowFault) -> ChunkBad
         ensures at { (result.at + self.have) % 2 ^ 64 ≡ (self.taken + row.offset) % 2 ^ 64 }
+        ensures fits { result.at < 2 ^ 64 }
         ensures why { result.why ≡ row.why }
     {
         let frame = self.taken.wrapping_sub(self.have as u64);
@@ -151,6 +158,11 @@ fn take_byte(progress: Progress, joined: usize, byte: u8) -> Result<Progress, Ch
     requires in_range { InRange progress joined }
     requires in_head { progress.left ≡ 0 }
     ensures in_range { IfOk result (λ next. InRange next joined) }
+    ensures counts { IfOk result (λ next. next.taken ≡ (progress.taken + 1) % 2 ^ 64) }
+    ensures takes { IfOk result (λ next. (items : List ℕ) → length items ≡ joined → is_complete progress.left joined progress.length ≡ false →
+        Takes (held_of progress items None) (held_of next items None) (byte ∷ [])) }
+    ensures fault { IfErr result (λ bad. (items : List ℕ) → length items ≡ joined → is_complete progress.left joined progress.length ≡ false →
+        Faults (held_of progress items None) (byte ∷ []) bad) }
 {
     let next = progress.with_byte(byte);
     match next.fault(joined) {
@@ -170,6 +182,10 @@ fn take_data(
     requires piece { 0 < length piece.now }
     ensures count { IfOk result (λ y. (0 < y.1) × (y.1 ≤ length piece.now)) }
     ensures in_range { IfOk result (λ y. InRange y.0 (vec_len message.new)) }
+    ensures counts { IfOk result (λ y. y.0.taken ≡ (progress.taken + y.1) % 2 ^ 64) }
+    ensures takes { IfOk result (λ y. Takes (held_of progress message.old.items None) (held_of y.0 message.new.items None) (take y.1 piece.now)) }
+    ensures message { IfOk result (λ y. message.new.items ≡ message.old.items ++ take y.1 piece.now) }
+    ensures err { OnErr result (message.new.items ≡ message.old.items) }
 {
     let count = progress.left.min(piece.len());
     append(message, &piece[..count], progress.length)?;
@@ -181,8 +197,13 @@ fn take_data(
 fn step(progress: &mut Progress, message: &mut Vec<u8>, piece: &[u8]) -> Result<usize, FeedNo>
     requires piece { 0 < length piece.now }
     requires in_range { InRange progress.old (vec_len message.old) }
+    requires lacking { is_complete progress.old.left (vec_len message.old) progress.old.length ≡ false }
     ensures count { IfOk result (λ n. (0 < n) × (n ≤ length piece.now)) }
     ensures in_range { OnOk result (InRange progress.new (vec_len message.new)) }
+    ensures counts { IfOk result (λ n. progress.new.taken ≡ (progress.old.taken + n) % 2 ^ 64) }
+    ensures takes { IfOk result (λ n. Takes (held_of progress.old message.old.items None) (held_of progress.new message.new.items None) (take n piece.now)) }
+    ensures fault { IfErr result (λ no. IfBad no (Faults (held_of progress.old message.old.items None) (take 1 piece.now))) }
+    ensures message { (more : List ℕ) × (message.new.items ≡ message.old.items ++ more) }
 {
     if progress.left > 0 {
         let (next, count) = take_data(*progress, message, piece)?;
@@ -221,6 +242,13 @@ pub fn take_in(
     requires { InRange progress.old (vec_len message.old) }
     ensures count { IfOk result (λ n. n ≤ length piece.now) }
     ensures in_range { OnOk result (InRange progress.new (vec_len message.new)) }
+    ensures counts { IfOk result (λ n. progress.new.taken ≡ (progress.old.taken + n) % 2 ^ 64) }
+    ensures takes { IfOk result (λ n. Takes (held_of progress.old message.old.items None) (held_of progress.new message.new.items None) (take n piece.now)) }
+    // Bytes stay behind only where the message is complete.
+    ensures all { IfOk result (λ n. n < length piece.now → is_complete progress.new.left (vec_len message.new) progress.new.length ≡ true) }
+    ensures none { IfOk result (λ n. (n ≡ 0) ↔ ((piece.now ≡ []) ⊎ (is_complete progress.old.left (vec_len message.old) progress.old.length ≡ true))) }
+    ensures fault { IfErr result (λ no. IfBad no (λ bad. (count : ℕ) × (count ≤ length piece.now) × Faults (held_of progress.old message.old.items None) (take count piece.now) bad)) }
+    ensures message { (more : List ℕ) × (message.new.items ≡ message.old.items ++ more) }
 {
     let mut at = 0;
     while at < piece.len() && !progress.is_whole(message.len()) {

@@ -1,3 +1,7 @@
+//! The byte rows of the public standard and of worked examples.
+
+ghost use Rattle.std.specs.Prelude.{◌<◌};
+
 use super::*;
 use rd_base::Bytes;
 use std::alloc::Global;

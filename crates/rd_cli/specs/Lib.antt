@@ -1,1 +1,7 @@
 pub mod Asked
+pub mod Grammar
+pub mod Outcomes
+pub mod Recording
+pub mod Report
+pub mod Told
+pub mod Headline

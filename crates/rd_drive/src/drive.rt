@@ -1,6 +1,11 @@
 //! The first form of the memory drive: files in its root, opened for reading.
 
-ghost use Rattle.std.specs.Prelude.{◌≡◌, []};
+ghost use Rattle.std.specs.Prelude.{◌≡◌, [], IfOk};
+ghost use Rattle.rd_drive.specs.AddsFile.{AddsFile};
+ghost use Rattle.rd_drive.specs.DriveState.{empty_drive};
+ghost use Rattle.rd_drive.specs.DriveStep.{drive_step, drive_cut, open_file, close_file, read_file, bytes_of};
+ghost use Rattle.rd_drive.specs.Statuses.{done};
+ghost use Rattle.rd_drive.specs.Starved.{Gives, is_starved, unless_starved};
 ghost use Rattle.rd_irp.specs.Fits.{BodyFits, IsSendable};
 ghost use Rattle.rd_irp.specs.declared.completion.Kind.TheVariants as Kind;
 
@@ -11,6 +16,7 @@ use rd_base::{Bytes, Status, Units};
 use rd_irp::{Body, Op, Reply};
 use std::alloc::{AllocError, Global};
 use std::collections::BTreeMap;
+use std::marker::Model;
 use thiserror::Error;
 
 /// The most handles of a drive.
@@ -45,9 +51,22 @@ pub struct MemoryDrive {
     next: u64,
 }
 
+impl Model for MemoryDrive {
+    ghost use Rattle.std.specs.Prelude.{map};
+    ghost use Rattle.rd_drive.specs.DriveState.{DriveState};
+
+    ghost Value = { DriveState };
+
+    ghost use Rattle.rd_drive.specs.Seen.{node_entry, handle_entry};
+
+    ghost view = { λ d. record { label = d.label; nodes = map node_entry d.files.entries; handles = map handle_entry d.handles.entries; next = d.next } };
+}
+
 impl MemoryDrive {
     /// An empty drive with a volume label of at most 32 units.
-    pub fn new(alloc: Global, label: Units) -> Result<Self, AllocError> {
+    pub fn new(alloc: Global, label: Units) -> Result<Self, AllocError>
+        ensures { IfOk result (λ drive. drive ≡ empty_drive label) }
+    {
         Ok(MemoryDrive {
             label,
             files: BTreeMap::new(alloc),
@@ -57,7 +76,9 @@ impl MemoryDrive {
     }
 
     /// Adds a file to the root. A refusal changes nothing.
-    pub fn add_file(&mut self, path: &Units, bytes: Bytes) -> Result<(), AddNo> {
+    pub fn add_file(&mut self, path: &Units, bytes: Bytes) -> Result<(), AddNo>
+        ensures { AddsFile self.old path.now bytes result self.new }
+    {
         if !is_plain_path(path.as_slice()) {
             return Err(AddNo::PathNotFound);
         }
@@ -67,7 +88,9 @@ impl MemoryDrive {
         if self.files.len() + 1 >= MAX_NODES {
             return Err(AddNo::Full);
         }
-        let path = path.copy().map_err(|_| AddNo::Memory)?;
+        let Ok(path) = path.copy() else {
+            return Err(AddNo::Memory);
+        };
         match self.files.insert(path.into_vec(), bytes) {
             Ok(_) => Ok(()),
             Err(_) => Err(AddNo::Memory),
@@ -77,6 +100,7 @@ impl MemoryDrive {
     /// Opens the file at a path, which becomes the handle's. It is answered the next file id, never used before.
     fn open(&mut self, path: Units) -> Reply
         ensures fits { BodyFits Kind.Create result.status result.body }
+        ensures opened { Gives (unless_starved self.old (is_starved result) (open_file self.old path)) self.new result }
         ensures sendable { IsSendable result.body }
     {
         if self.handles.len() >= MAX_HANDLES || self.next >= FILE_IDS_END {
@@ -98,6 +122,7 @@ impl MemoryDrive {
 
     fn close(&mut self, file: u32) -> Reply
         ensures fits { BodyFits Kind.Close result.status result.body }
+        ensures closed { Gives (close_file self.old file) self.new result }
         ensures sendable { IsSendable result.body }
     {
         match self.handles.remove(&file) {
@@ -106,19 +131,27 @@ impl MemoryDrive {
         }
     }
 
+    /// The bytes of the file at a path, and none where it isn't there.
+    fn bytes_at(&self, path: &[u16]) -> &[u8]
+        ensures { result.now ≡ bytes_of self.now (record { path = path.now }) }
+    {
+        match self.files.get(path) {
+            Some(bytes) => bytes.as_slice(),
+            None => &[],
+        }
+    }
+
     /// Reads into the room that was found for the bytes.
     fn read(&self, file: u32, offset: u64, length: u32, mut room: Vec<u8>) -> Reply
         requires { room.items ≡ [] }
         ensures fits { BodyFits Kind.Buffer result.status result.body }
+        ensures read { Gives (unless_starved self.now (is_starved result) (read_file self.now file offset length)) self.now result }
         ensures sendable { IsSendable result.body }
     {
         let Some(path) = self.handles.get(&file) else {
             return fault(Status::INVALID_HANDLE);
         };
-        let bytes = match self.files.get(path.as_slice()) {
-            Some(bytes) => bytes.as_slice(),
-            None => &[],
-        };
+        let bytes = self.bytes_at(path.as_slice());
         if length == 0 {
             return success(Body::Buffer(Bytes::of(room)));
         }
@@ -147,6 +180,10 @@ const SERVED_DISPOSITION: u32 = 1;
 const SERVED_OPTIONS: u32 = 0;
 
 impl Device for MemoryDrive {
+    ghost step = { drive_step };
+
+    ghost cut_state = { drive_cut };
+
     fn apply(&mut self, plan: Plan, _moment: u64) -> Reply {
         if plan.starved() {
             return fault(Status::NO_MEMORY);
@@ -174,8 +211,7 @@ impl Device for MemoryDrive {
 }
 
 fn success(body: Body) -> Reply
-    ensures status { result.status.0 ≡ 0 }
-    ensures body { result.body ≡ body }
+    ensures reply { result ≡ record { status = done; body = body } }
 {
     Reply {
         status: Status::SUCCESS,
@@ -184,8 +220,7 @@ fn success(body: Body) -> Reply
 }
 
 fn fault(status: Status) -> Reply
-    ensures status { result.status ≡ status }
-    ensures body { result.body ≡ Body.Fault }
+    ensures reply { result ≡ record { status = status; body = Body.Fault } }
 {
     Reply {
         status,

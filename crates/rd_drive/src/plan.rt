@@ -35,9 +35,10 @@ impl Model for Plan {
 
     ghost view = { λ p. record { job = p.job; starved = p.starved } };
 
-    ghost use Rattle.std.specs.Prelude.{◌≡◌, []};
+    ghost use Rattle.std.specs.Prelude.{◌≡◌, ◌≢◌, [], IsTrue};
+    ghost use Rattle.rd_irp.specs.declared.op.Op.TheVariants.{Close};
 
-    ghost invariant = { λ p. p.room.items ≡ [] };
+    ghost invariant = { λ p. (p.room.items ≡ []) × (IsTrue p.starved → p.job.op ≢ Close) };
 }
 
 /// Finds the memory for a job. Where there is none the plan is starved; that of a `Close` never is.
@@ -78,7 +79,8 @@ impl Plan {
 
     /// Whether no memory was found for it.
     pub fn starved(&self) -> bool
-        ensures { result ≡ self.now.starved }
+        ensures starved { result ≡ self.now.starved }
+        ensures close { self.now.job.op ≡ Op.Close → IsFalse result }
     {
         self.starved
     }

@@ -1,1 +1,7 @@
 pub mod Fits
+pub mod Header
+pub mod Op
+pub mod Request
+pub mod Completion
+pub mod Reading
+pub mod Written

@@ -1,6 +1,10 @@
 //! Completions (MS-RDPEFS 2.2.1.5).
 
-ghost use Rattle.std.specs.Prelude.{◌≡◌, ◌+◌, length, IfOk, OnOk, vec_len};
+ghost use Rattle.std.specs.Prelude.{◌≡◌, ◌+◌, ◌-◌, ◌≤◌, length, IfOk, IfErr, OnOk, vec_len};
+ghost use Rattle.rd_base.specs.Fields.{missing_pad};
+ghost use Rattle.rd_base.specs.Reading.{Reads, ReadsInto};
+ghost use Rattle.rd_irp.specs.Completion.{completion_head, success_body, completion_body, SpellsHead, FirstFaultOfHead, SpellsBody, FirstFaultOfBody};
+ghost use Rattle.rd_irp.specs.Reading.{WithTail, ForBad};
 ghost use Rattle.rd_irp.specs.Fits.{BodyFits, IsCountable, IsOfKind, body_length, fault_length, reply_kind};
 
 use crate::head::{IO_COMPLETION, put_header, read_header, tail_len};
@@ -71,9 +75,20 @@ pub fn kind_of(op: &Op) -> Kind
 }
 
 /// Reads the head of a completion, its first 16 bytes.
-pub fn read_head(bytes: &[u8]) -> Result<Head, Bad> {
+pub fn read_head(bytes: &[u8]) -> Result<Head, Bad>
+    ensures spelled { IfOk result (λ head. SpellsHead head (length bytes.now - 16) bytes.now) }
+    ensures refused { IfErr result (FirstFaultOfHead bytes.now) }
+    ensures enough { OnOk result (16 ≤ length bytes.now) }
+{
     let mut cursor = Cursor::new(bytes);
-    read_header(&mut cursor, IO_COMPLETION)?;
+    head_of(&mut cursor)
+}
+
+#[tactic(auto, unfolding(crate::specs::Completion::completion_head))]
+fn head_of(cursor: &mut Cursor<'_>) -> Result<Head, Bad>
+    ensures { Reads (λ head. head) completion_head cursor.old cursor.new result }
+{
+    read_header(cursor, IO_COMPLETION)?;
     let device = cursor.u32()?;
     let completion = cursor.u32()?;
     let status = Status(cursor.u32()?);
@@ -92,20 +107,35 @@ pub fn read_body(
     bytes: &[u8],
 ) -> Result<(Body, u32), ReadNo>
     ensures fits { IfOk result (λ read. BodyFits kind status read.0) }
+    ensures spelled { IfOk result (λ read. WithTail read.1 (λ tail. SpellsBody kind status read.0 tail bytes.now)) }
+    ensures refused { IfErr result (ForBad (FirstFaultOfBody kind status bytes.now)) }
 {
-    if status.0 != 0 {
-        return Ok((Body::Fault, tail_len(bytes)));
-    }
     let mut cursor = Cursor::new(bytes);
-    let body = read_success(alloc, kind, &mut cursor)?;
-    let rest = cursor.rest();
-    let padding = success_padding(kind).min(rest.len());
-    Ok((body, tail_len(&rest[padding..])))
+    let body = body_of(alloc, kind, status, &mut cursor)?;
+    Ok((body, tail_len(cursor.rest())))
 }
 
-/// Reads the body of a success up to its padding.
-fn read_success(alloc: Global, kind: Kind, cursor: &mut Cursor<'_>) -> Result<Body, ReadNo>
-    ensures { IfOk result (λ body. IsOfKind kind body × IsCountable body) }
+/// Of a status other than success nothing is read.
+#[tactic(auto, unfolding(crate::specs::Completion::completion_body))]
+fn body_of(
+    alloc: Global,
+    kind: Kind,
+    status: Status,
+    cursor: &mut Cursor<'_>,
+) -> Result<Body, ReadNo>
+    ensures read { ReadsInto (λ body. body) (completion_body kind status) cursor.old cursor.new result }
+    ensures fits { IfOk result (λ body. BodyFits kind status body) }
+{
+    if status.0 != 0 {
+        return Ok(Body::Fault);
+    }
+    success_of(alloc, kind, cursor)
+}
+
+#[tactic(auto, unfolding(crate::specs::Completion::success_body))]
+fn success_of(alloc: Global, kind: Kind, cursor: &mut Cursor<'_>) -> Result<Body, ReadNo>
+    ensures read { ReadsInto (λ body. body) (success_body kind) cursor.old cursor.new result }
+    ensures fits { IfOk result (λ body. IsOfKind kind body × IsCountable body) }
 {
     match kind {
         Kind::Create => {
@@ -113,25 +143,34 @@ fn read_success(alloc: Global, kind: Kind, cursor: &mut Cursor<'_>) -> Result<Bo
             let information = cursor.u8()?;
             Ok(Body::Created { file, information })
         }
-        Kind::Close => Ok(Body::Closed),
-        Kind::Count => Ok(Body::Count(cursor.u32()?)),
+        Kind::Close => {
+            skip_pad(cursor, 4)?;
+            Ok(Body::Closed)
+        }
+        Kind::Count => {
+            let count = cursor.u32()?;
+            skip_pad(cursor, 1)?;
+            Ok(Body::Count(count))
+        }
         Kind::Buffer => {
             let count = cursor.u32()?;
             let field = cursor.take(count)?;
             Ok(Body::Buffer(Bytes::of(Vec::from_slice(alloc, field)?)))
         }
-        Kind::Lock => Ok(Body::Locked),
+        Kind::Lock => {
+            skip_pad(cursor, 5)?;
+            Ok(Body::Locked)
+        }
     }
 }
 
-/// The padding at the end of the body of a success.
-fn success_padding(kind: Kind) -> usize {
-    match kind {
-        Kind::Create | Kind::Buffer => 0,
-        Kind::Close => 4,
-        Kind::Count => 1,
-        Kind::Lock => 5,
-    }
+/// Skips padding, of which any number of bytes may be missing at the end.
+fn skip_pad(cursor: &mut Cursor<'_>, count: u32) -> Result<(), Bad>
+    ensures { Reads (λ u. u) (missing_pad count) cursor.old cursor.new result }
+{
+    let present = cursor.rest().len().min(count as usize);
+    cursor.take(present as u32)?;
+    Ok(())
 }
 
 /// Writes a completion whose body fits the kind and the status.

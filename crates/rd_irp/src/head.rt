@@ -1,6 +1,8 @@
 //! The header in front of every message (MS-RDPEFS 2.2.1.1).
 
-ghost use Rattle.std.specs.Prelude.{◌≡◌, ◌+◌, OnOk, vec_len};
+ghost use Rattle.std.specs.Prelude.{◌≡◌, ◌+◌, ◌-◌, ◌^◌, OnOk, length, min, vec_len};
+ghost use Rattle.rd_base.specs.Reading.{Reads};
+ghost use Rattle.rd_irp.specs.Header.{header};
 
 use rd_base::{Bad, Cursor, Why};
 use std::alloc::AllocError;
@@ -18,7 +20,10 @@ pub const IO_REQUEST: u16 = 0x4952;
 pub const IO_COMPLETION: u16 = 0x4943;
 
 /// Reads a header, which must be that of this packet of the core component.
-pub fn read_header(cursor: &mut Cursor<'_>, packet: u16) -> Result<(), Bad> {
+#[tactic(auto, unfolding(crate::specs::Header::header))]
+pub fn read_header(cursor: &mut Cursor<'_>, packet: u16) -> Result<(), Bad>
+    ensures { Reads (λ u. u) (header packet) cursor.old cursor.new result }
+{
     let at = cursor.place();
     let component = cursor.u16()?;
     if component != CORE && component != PRINTING {
@@ -45,6 +50,8 @@ pub fn put_header(out: &mut Vec<u8>, packet: u16) -> Result<(), AllocError>
 }
 
 /// The count of the bytes behind the last named field; 2^32 - 1 where it is more.
-pub fn tail_len(rest: &[u8]) -> u32 {
+pub fn tail_len(rest: &[u8]) -> u32
+    ensures { result ≡ min (length rest.now) (2 ^ 32 - 1) }
+{
     u32::try_from(rest.len()).unwrap_or(u32::MAX)
 }

@@ -9,6 +9,7 @@
 
 mod completion;
 mod head;
+mod laws;
 mod op;
 mod request;
 
@@ -16,6 +17,7 @@ pub use completion::{
     Body, COMPLETION_HEAD_LEN, Head, Kind, Reply, kind_of, read_body, read_head, write_body,
     write_completion,
 };
+pub use laws::{completion_body_is_decided, completion_head_is_decided, request_is_decided};
 pub use op::{MAX_PATH, Op};
 pub use request::{Request, fits, read_request, write_request};
 

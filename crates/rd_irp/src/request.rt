@@ -1,6 +1,11 @@
 //! Requests (MS-RDPEFS 2.2.1.4).
 
-ghost use Rattle.std.specs.Prelude.{◌≡◌, ◌+◌, ◌*◌, ◌≤◌, ◌↔◌, IsTrue, IfOk, OnOk, length, vec_len};
+ghost use Rattle.std.specs.Prelude.{◌≡◌, ◌+◌, ◌*◌, ◌≤◌, ◌↔◌, IsTrue, IfOk, IfErr, OnOk, length, vec_len};
+ghost use Rattle.rd_base.specs.Fields.{length_of_units, path, units_of, before_zero};
+ghost use Rattle.rd_base.specs.Reading.{Reads, ReadsInto};
+ghost use Rattle.rd_irp.specs.Op.{create_body, op_body};
+ghost use Rattle.rd_irp.specs.Request.{request_head, SpellsRequest, FirstFaultOfRequest};
+ghost use Rattle.rd_irp.specs.Reading.{WithTail, ForBad};
 ghost use Rattle.rd_irp.specs.Fits.{Fits, op_length};
 
 use crate::head::{IO_REQUEST, put_header, read_header, tail_len};
@@ -36,6 +41,16 @@ pub struct Request {
     pub op: Op,
 }
 
+/// What the first 24 bytes of a request say.
+#[derive(Clone, Copy, Debug, PartialEq, Eq)]
+struct RequestHead {
+    device: u32,
+    file: u32,
+    completion: u32,
+    major: u32,
+    minor: u32,
+}
+
 /// Whether a request with this operation can be sent.
 pub fn fits(op: &Op) -> bool
     ensures { IsTrue result ↔ Fits op.now }
@@ -52,15 +67,20 @@ pub fn fits(op: &Op) -> bool
 
 /// Reads a request, and counts the ignored bytes behind it. A fault in its head is `Bad`, at its place in the message.
 /// A fault in its body makes it `Malformed`; then all bytes behind the head are ignored.
-pub fn read_request(alloc: Global, bytes: &[u8]) -> Result<(Request, u32), ReadNo> {
+pub fn read_request(alloc: Global, bytes: &[u8]) -> Result<(Request, u32), ReadNo>
+    ensures spelled { IfOk result (λ read. WithTail read.1 (λ tail. SpellsRequest read.0 tail bytes.now)) }
+    ensures refused { IfErr result (ForBad (FirstFaultOfRequest bytes.now)) }
+{
     let mut cursor = Cursor::new(bytes);
-    read_header(&mut cursor, IO_REQUEST)?;
-    let device = cursor.u32()?;
-    let file = cursor.u32()?;
-    let completion = cursor.u32()?;
-    let major = cursor.u32()?;
-    let minor = cursor.u32()?;
+    let head = head_of(&mut cursor)?;
     let behind_head = tail_len(cursor.rest());
+    let RequestHead {
+        device,
+        file,
+        completion,
+        major,
+        minor,
+    } = head;
     let (op, tail) = match read_op(alloc, major, minor, &mut cursor) {
         Ok(op) => (op, tail_len(cursor.rest())),
         Err(ReadNo::Bad(bad)) => (Op::Malformed { major, minor, bad }, behind_head),
@@ -75,8 +95,30 @@ pub fn read_request(alloc: Global, bytes: &[u8]) -> Result<(Request, u32), ReadN
     Ok((request, tail))
 }
 
+#[tactic(auto, unfolding(crate::specs::Request::request_head))]
+fn head_of(cursor: &mut Cursor<'_>) -> Result<RequestHead, Bad>
+    ensures { Reads (λ head. head) request_head cursor.old cursor.new result }
+{
+    read_header(cursor, IO_REQUEST)?;
+    let device = cursor.u32()?;
+    let file = cursor.u32()?;
+    let completion = cursor.u32()?;
+    let major = cursor.u32()?;
+    let minor = cursor.u32()?;
+    Ok(RequestHead {
+        device,
+        file,
+        completion,
+        major,
+        minor,
+    })
+}
+
 /// Reads the body of a request with this function.
-fn read_op(alloc: Global, major: u32, minor: u32, cursor: &mut Cursor<'_>) -> Result<Op, ReadNo> {
+#[tactic(auto, unfolding(crate::specs::Op::op_body, crate::specs::Op::close_body, crate::specs::Op::read_body))]
+fn read_op(alloc: Global, major: u32, minor: u32, cursor: &mut Cursor<'_>) -> Result<Op, ReadNo>
+    ensures { ReadsInto (λ op. op) (op_body major minor) cursor.old cursor.new result }
+{
     match major {
         CREATE => read_create(alloc, cursor),
         CLOSE => {
@@ -93,14 +135,18 @@ fn read_op(alloc: Global, major: u32, minor: u32, cursor: &mut Cursor<'_>) -> Re
     }
 }
 
-fn read_create(alloc: Global, cursor: &mut Cursor<'_>) -> Result<Op, ReadNo> {
+#[tactic(auto, unfolding(crate::specs::Op::create_body))]
+fn read_create(alloc: Global, cursor: &mut Cursor<'_>) -> Result<Op, ReadNo>
+    ensures { ReadsInto (λ op. op) create_body cursor.old cursor.new result }
+{
     let access = cursor.u32()?;
     let allocation = cursor.u64()?;
     let attributes = cursor.u32()?;
     let share = cursor.u32()?;
     let disposition = cursor.u32()?;
     let options = cursor.u32()?;
-    let path = read_path(alloc, cursor)?;
+    let count = read_path_length(cursor)?;
+    let path = read_path(alloc, cursor, count)?;
     Ok(Op::Create {
         access,
         allocation,
@@ -112,24 +158,43 @@ fn read_create(alloc: Global, cursor: &mut Cursor<'_>) -> Result<Op, ReadNo> {
     })
 }
 
-/// Reads a length in bytes and that many bytes of units. The path ends before its first zero unit.
-fn read_path(alloc: Global, cursor: &mut Cursor<'_>) -> Result<Units, ReadNo> {
+/// Reads the length of a path in bytes, which is even.
+fn read_path_length(cursor: &mut Cursor<'_>) -> Result<u32, Bad>
+    ensures { Reads (λ count. count) length_of_units cursor.old cursor.new result }
+{
     let at = cursor.place();
     let count = cursor.u32()?;
     if count % 2 != 0 {
-        return Err(ReadNo::Bad(Bad {
+        return Err(Bad {
             at,
             why: Why::Length,
-        }));
+        });
     }
+    Ok(count)
+}
+
+/// Reads a path of that many bytes.
+#[tactic(auto, using(crate::proofs::Paths::path_faulty))]
+fn read_path(alloc: Global, cursor: &mut Cursor<'_>, count: u32) -> Result<Units, ReadNo>
+    ensures { ReadsInto (λ units. units) (path count) cursor.old cursor.new result }
+{
     let field = cursor.take(count)?;
+    Ok(units_before_zero(alloc, field)?)
+}
+
+/// The units of these bytes up to the first zero unit.
+fn units_before_zero(alloc: Global, field: &[u8]) -> Result<Units, AllocError>
+    ensures { IfOk result (λ units. units ≡ before_zero (units_of field.now)) }
+{
     let mut units = Vec::with_capacity(alloc, field.len() / 2)?;
-    for pair in field.chunks_exact(2) {
-        let unit = u16::from_le_bytes([pair[0], pair[1]]);
+    let mut left = field;
+    while let [low, high, behind @ ..] = left {
+        let unit = u16::from_le_bytes([*low, *high]);
         if unit == 0 {
             break;
         }
         units.push(unit)?;
+        left = behind;
     }
     Ok(Units::of(units))
 }

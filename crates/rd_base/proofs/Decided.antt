@@ -6,8 +6,7 @@ use Rattle.std.proofs.lemmas.List.{take_at, drop_at, take-append-drop, length-ap
 use Rattle.rd_base.specs.declared.bad.Bad.{Bad}
 use Rattle.rd_base.specs.declared.bad.Why.TheVariants.{Short}
 use Rattle.rd_base.specs.Position.{Position}
-use Rattle.rd_base.specs.Reading.{Reads, Decodes}
-use Rattle.rd_base.specs.Layout.{AreBytes, width_of, size_of, Layout, done, number, byte_run, bytes_left, test, within, ◌>>=◌, IsSpelled, Spells, HasValue, HasFault, IsDecided, fault, past, field_of, and_then, met}
+use Rattle.rd_base.specs.Layout.{AreBytes, width_of, size_of, Layout, done, number, byte_run, bytes_left, test, within, ◌>>=◌, IsSpelled, Spells, HasValue, HasFault, FirstFault, FaultBehind, IsDecided, fault, past, field_of, and_then, met}
 use Rattle.rd_base.proofs.Numbers.{are_bytes, IsBytes, IsBytes-take, IsBytes-drop, number_back, number_again, number_below, length-number}
 
 -- what was met from a position on
@@ -37,7 +36,7 @@ field_ok n p r y e = go (ltb (length p.left) n) refl e
     go true is e = absurd cc
     go false is e = (ltb-false _ _ is, e)
 
-field_enough : {A : Type 0} (n : ℕ) (p : Position) (r : Result A Bad) → n ≤ length p.left → field_of n p r ≡ r
+pub field_enough : {A : Type 0} (n : ℕ) (p : Position) (r : Result A Bad) → n ≤ length p.left → field_of n p r ≡ r
 field_enough n p r le = let e : ltb (length p.left) n ≡ false = le-ltb _ _ le in rw e refl
 
 test_ok : {A : Type 0} (b : Bool) (d : Bad) (x y : A) → cond b (Ok x) (Err d) ≡ Ok y → (b ≡ true) × (x ≡ y)
@@ -169,7 +168,22 @@ decided at l all fits = record { one_of = one_of l at all fits; not_both = not_b
 pub slice_decided : {A : Type 0} (at : ℕ) (l : Layout A) (all : List ℕ) → ((i : ℕ) → Fits w8 (get_or all i 0)) → IsDecided at l all
 slice_decided at l all fits = decided at l all (are_bytes all fits)
 
--- a reader of all bytes answers what they spell, or their first fault
-pub decodes : {X A : Type 0} (view : X → A) (l : Layout A) (all : List ℕ) (q : Position) (r : Result X Bad) → ((i : ℕ) → Fits w8 (get_or all i 0)) → Reads view l (record { at = 0; left = all }) q r → Decodes (λ x. (view x, length q.left)) l all r
-decodes view l all q (Ok x) fits e = spells l 0 all (view x) q (are_bytes all fits) e
-decodes view l all q (Err bad) fits e = e
+-- what a reader that began at the first byte has read is spelled, and what it left is the tail
+pub reader_spells : {A : Type 0} (l : Layout A) (all : List ℕ) (start : Position) (a : A) (q : Position) (tail : ℕ) → ((i : ℕ) → Fits w8 (get_or all i 0)) → start ≡ record { at = 0; left = all } → met l start ≡ Ok (a, q) → tail ≡ length q.left → Spells l a tail all
+reader_spells l all start a q tail fits begun e is =
+    rw is (spells l 0 all a q (are_bytes all fits) (ap (met l) (sym begun) ∙ e))
+
+-- a fault of two layouts is one of the first, or one of the second behind the first's value
+pub fault_behind : {A B : Type 0} (l : Layout A) (next : A → Layout B) (all : List ℕ) (start : Position) (a : A) (q : Position) (bad : Bad) (tail : ℕ) → ((i : ℕ) → Fits w8 (get_or all i 0)) → start ≡ record { at = 0; left = all } → met l start ≡ Ok (a, q) → met (next a) q ≡ Err bad → tail ≡ length q.left → FaultBehind l next a bad tail all
+fault_behind l next all start a q bad tail fits begun e faulty is =
+    let t = found l (record { at = 0; left = all }) a q (record { below = are_bytes all fits }) (ap (met l) (sym begun) ∙ e) in
+    let there : q.at ≡ length t.field = omega (arith, t.place) in
+    let same : met (next a) (record { at = length t.field; left = q.left }) ≡ Err bad = ap (λ (at : ℕ). met (next a) (record { at = at; left = q.left })) (sym there) ∙ faulty in
+    (t.field, q.left, t.parts, sym is, t.spelled, same)
+
+-- and the other way: such bytes have that first fault by the two layouts in one
+pub fault_of_both : {A B : Type 0} (l : Layout A) (next : A → Layout B) (all : List ℕ) (a : A) (bad : Bad) (tail : ℕ) → FaultBehind l next a bad tail all → FirstFault (l >>= next) all bad
+fault_of_both l next all a bad tail f =
+    let first = again l 0 a f.0 f.1 f.4 in
+    let there : 0 + length f.0 ≡ length f.0 = omega arith in
+    rw (f.2, first, there) f.5

@@ -1,0 +1,5 @@
+pub mod Worked
+pub mod Maps
+pub mod Adding
+pub mod Laws
+pub mod Growing

@@ -1,0 +1,4 @@
+pub mod OneOf
+pub mod Heads
+pub mod Paths
+pub mod Worked

@@ -1,0 +1,5 @@
+use Rattle.rd_irp.proofs.Paths.{path_met}
+use Rattle.rd_irp.proofs.request.read_path.Goals as goal
+
+pub returns : goal.returns
+returns c = path_met _ _ _ _ _ c.in_ok-field.ensures.read c.in_ok-units_before_zero.ensures

@@ -1,0 +1,62 @@
+-- Which bytes spell a completion: its head and its body (MS-RDPEFS 2.2.1.5).
+use Rattle.std.specs.Prelude.{ℕ, List, ◌==◌}
+use Rattle.rd_base.specs.declared.bad.Bad.{Bad}
+use Rattle.rd_base.specs.declared.status.Status.{Status}
+use Rattle.rd_base.specs.Layout.{Layout, done, byte_run, ◌>>=◌, ◌>>◌, choose, Spells, FirstFault}
+use Rattle.rd_base.specs.Fields.{number8, number32, missing_pad}
+use Rattle.rd_irp.specs.declared.completion.Head.{Head}
+use Rattle.rd_irp.specs.declared.completion.Kind.{Kind}
+use Rattle.rd_irp.specs.declared.completion.Kind.TheVariants as kind
+use Rattle.rd_irp.specs.declared.completion.Body.{Body}
+use Rattle.rd_irp.specs.declared.completion.Body.TheVariants.{Created, Closed, Count, Buffer, Locked, Fault}
+use Rattle.rd_irp.specs.Header.{header}
+
+-- DR_DEVICE_IOCOMPLETION, the first 16 bytes of every completion
+unfoldable pub completion_head : Layout Head
+completion_head = do
+  header 0x4943
+  device ← number32
+  completion ← number32
+  status ← number32
+  done (record { device = device; completion = completion; status = record { 0 = status } })
+
+-- What stands behind the head of a success (2.2.1.5.1 to 2.2.1.5.4, 2.2.3.4.12). A pad may be cut where the bytes end.
+unfoldable pub success_body : Kind → Layout Body
+success_body kind.Create = do
+  file ← number32
+  information ← number8
+  done (Created file information)
+success_body kind.Close = do
+  missing_pad 4
+  done Closed
+success_body kind.Count = do
+  count ← number32
+  missing_pad 1
+  done (Count count)
+success_body kind.Buffer = do
+  count ← number32
+  bytes ← byte_run count
+  done (Buffer bytes)
+success_body kind.Lock = do
+  missing_pad 5
+  done Locked
+
+-- What stands behind the head. Beside a status other than success no byte means anything.
+unfoldable pub completion_body : Kind → Status → Layout Body
+completion_body k status = choose (status.0 == 0) (success_body k) (done Fault)
+
+-- The bytes behind the head of a completion of this kind and status are this body, and then so many further bytes.
+abbrev pub SpellsBody : Kind → Status → Body → ℕ → List ℕ → Type 0
+SpellsBody k status body tail bytes = Spells (completion_body k status) body tail bytes
+
+-- the first fault of bytes that are no such body
+abbrev pub FirstFaultOfBody : Kind → Status → List ℕ → Bad → Type 0
+FirstFaultOfBody k status bytes bad = FirstFault (completion_body k status) bytes bad
+
+-- The bytes are this head of a completion, and then so many further bytes.
+abbrev pub SpellsHead : Head → ℕ → List ℕ → Type 0
+SpellsHead head tail bytes = Spells completion_head head tail bytes
+
+-- the first fault of bytes that are no such head
+abbrev pub FirstFaultOfHead : List ℕ → Bad → Type 0
+FirstFaultOfHead bytes bad = FirstFault completion_head bytes bad

@@ -1,0 +1,21 @@
+-- What readers of messages answer, and the law that makes it one answer.
+use Rattle.std.specs.Prelude.{◌≡◌, ℕ, ◌-◌, ◌^◌, ◌⊎◌, min, List}
+use Rattle.rd_base.specs.declared.bad.Bad.{Bad}
+use Rattle.rd_base.specs.declared.bad.ReadNo.{ReadNo}
+use Rattle.rd_base.specs.declared.bad.ReadNo.TheVariants as no
+
+-- it holds of a tail that is answered as this count: 2^32 - 1 stands for every longer one
+abbrev pub WithTail : ℕ → (ℕ → Type 0) → Type 0
+WithTail count P = (tail : ℕ) × (count ≡ min tail (2 ^ 32 - 1)) × P tail
+
+-- it holds of the fault, unless memory ran out
+abbrev pub ForBad : (Bad → Type 0) → ReadNo → Type 0
+ForBad P (no.Bad bad) = P bad
+ForBad P no.Memory = Unit {0}
+
+-- The law of a message: bytes spell a value with a tail or have a first fault, never both, no two values and no two faults.
+pub record IsOneOf {A : Type 0} (Spelled : A → ℕ → List ℕ → Type 0) (Faulty : List ℕ → Bad → Type 0) (bytes : List ℕ) : Type 0 where
+  pub one_of : ((a : A) × (tail : ℕ) × Spelled a tail bytes) ⊎ ((bad : Bad) × Faulty bytes bad)
+  pub not_both : (a : A) (tail : ℕ) (bad : Bad) → Spelled a tail bytes → Faulty bytes bad → ⊥
+  pub one_value : (a b : A) (m n : ℕ) → Spelled a m bytes → Spelled b n bytes → (a ≡ b) × (m ≡ n)
+  pub one_fault : (bad other : Bad) → Faulty bytes bad → Faulty bytes other → bad ≡ other

@@ -1,0 +1,48 @@
+-- Which bytes spell a request (MS-RDPEFS 2.2.1.4).
+use Rattle.std.specs.Prelude.{ℕ, List}
+use Rattle.rd_base.specs.declared.bad.Bad.{Bad}
+use Rattle.rd_base.specs.Layout.{Layout, done, ◌>>=◌, ◌>>◌, Spells, FirstFault, FaultBehind}
+use Rattle.rd_base.specs.Fields.{number32}
+use Rattle.rd_irp.specs.declared.op.Op.{Op}
+use Rattle.rd_irp.specs.declared.op.Op.TheVariants.{Malformed}
+use Rattle.rd_irp.specs.declared.request.Request.{Request}
+use Rattle.rd_irp.specs.declared.request.RequestHead.{RequestHead}
+use Rattle.rd_irp.specs.Header.{header}
+use Rattle.rd_irp.specs.Op.{op_body}
+
+-- DR_DEVICE_IOREQUEST, the first 24 bytes of every request
+unfoldable pub request_head : Layout RequestHead
+request_head = do
+  header 0x4952
+  device ← number32
+  file ← number32
+  completion ← number32
+  major ← number32
+  minor ← number32
+  done (record { device = device; file = file; completion = completion; major = major; minor = minor })
+
+-- what stands behind such a head
+abbrev pub body_behind : RequestHead → Layout Op
+body_behind head = op_body head.major head.minor
+
+-- a request whose head and body can be read
+unfoldable pub whole_request : Layout Request
+whole_request = do
+  head ← request_head
+  op ← body_behind head
+  done (record { device = head.device; file = head.file; completion = head.completion; op = op })
+
+-- The bytes are this request with this operation, and then so many further bytes.
+-- A malformed one is a head that can be read and, where the body has a fault, the first one; all bytes behind the head are further ones.
+abbrev pub SpellsWith : Op → Request → ℕ → List ℕ → Type 0
+SpellsWith (Malformed major minor bad) r tail bytes =
+    FaultBehind request_head body_behind (record { device = r.device; file = r.file; completion = r.completion; major = major; minor = minor }) bad tail bytes
+SpellsWith _ r tail bytes = Spells whole_request r tail bytes
+
+-- The bytes are this request, and then so many further bytes.
+abbrev pub SpellsRequest : Request → ℕ → List ℕ → Type 0
+SpellsRequest r tail bytes = SpellsWith r.op r tail bytes
+
+-- The first fault of bytes that are no request: their head has it.
+abbrev pub FirstFaultOfRequest : List ℕ → Bad → Type 0
+FirstFaultOfRequest bytes bad = FirstFault request_head bytes bad

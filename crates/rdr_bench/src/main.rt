@@ -1,0 +1,77 @@
+//! How fast messages go through carrier frames, beside a plain copy of the same bytes in the same run.
+//!
+//! Without words it takes one message of each size through frames and says so. With a number of megabytes it takes that
+//! many through for each size and prints the speeds.
+#![tactic(auto)]
+
+use anyhow::{Context, Result, ensure};
+use rd_base::Bytes;
+use rd_chunk::{Joiner, MAX_MESSAGE, split};
+use std::alloc::Global;
+use std::env;
+use std::time::{Duration, Instant};
+
+/// The sizes of the messages, in bytes: a small request, a read of 4 KiB, of 64 KiB, and the largest.
+const SIZES: [usize; 4] = [64, 4096, 65_536, MAX_MESSAGE];
+
+const MEGABYTE: u64 = 1_000_000;
+
+fn main(rt: HostRuntime) -> Result<()> {
+    let megabytes = match env::args(&rt)?.nth(1) {
+        Some(word) => word.parse::<u32>().context("the number of megabytes")?,
+        None => 0,
+    };
+    for size in SIZES {
+        let message = vec![in rt.alloc(); 0x5a; size]?;
+        let joined = through_frames(rt.alloc(), message.as_slice())?;
+        ensure!(
+            joined.as_slice() == message.as_slice(),
+            "{size} bytes came out otherwise"
+        );
+        if megabytes == 0 {
+            println!(rt; "{size} bytes through frames")?;
+        } else {
+            let rounds = u64::from(megabytes) * MEGABYTE / (size as u64).max(1) + 1;
+            measure(&rt, message.as_slice(), rounds)?;
+        }
+    }
+    Ok(())
+}
+
+/// Prints how fast so many rounds of a message go through frames, and through plain copies.
+fn measure(rt: &HostRuntime, message: &[u8], rounds: u64) -> Result<()> {
+    let started = Instant::now(rt)?;
+    for _ in 0..rounds {
+        Vec::from_slice(rt.alloc(), message)?;
+    }
+    let copied = started.elapsed(rt)?;
+    let started = Instant::now(rt)?;
+    for _ in 0..rounds {
+        through_frames(rt.alloc(), message)?;
+    }
+    let carried = started.elapsed(rt)?;
+    let size = message.len();
+    let copies = speed(size, rounds, copied);
+    let frames = speed(size, rounds, carried);
+    println!(rt; "{size} bytes: copied {copies} MB/s, through frames {frames} MB/s")?;
+    Ok(())
+}
+
+/// Megabytes a second.
+fn speed(size: usize, rounds: u64, time: Duration) -> u128 {
+    let bytes = size as u128 * u128::from(rounds);
+    bytes / time.as_micros().max(1)
+}
+
+/// Cuts a message into frames and joins them again.
+fn through_frames(alloc: Global, message: &[u8]) -> Result<Bytes> {
+    ensure!(
+        (1..=MAX_MESSAGE).contains(&message.len()),
+        "no message has {} bytes",
+        message.len()
+    );
+    let frames = split(alloc, message)?;
+    let mut joiner = Joiner::new(alloc);
+    joiner.feed(frames.as_slice())?;
+    joiner.take().context("the frames carry a message")
+}
