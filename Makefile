@@ -11,5 +11,5 @@ demo: build ## runs an example script and shows its report
 test: ## the gate: every proof from nothing, the edits that must fail, the tests, the programs
 	rt ci
 
-bench: build ## what is measured, and how: bench/README.md
+bench: ## what is measured, and how: bench/README.md
 	bench/run

@@ -46,11 +46,11 @@ length_of_units = do
   test (count % 2 == 0) 4 Length
   done count
 
--- UTF-16 units of that many bytes
+-- UTF-16 units of that many bytes; of an odd count the last byte says nothing
 abbrev pub text : ℕ → Layout (List ℕ)
 text count = within count (times (count / 2) number16)
 
--- the units of bytes, two each, the lower byte first
+-- the units of bytes, two each, the lower byte first; an odd byte at the end says nothing
 abbrev pub units_of : List ℕ → List ℕ
 units_of [] = []
 units_of (a ∷ []) = []

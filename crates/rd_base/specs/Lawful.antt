@@ -102,3 +102,8 @@ pub record IsLawful (journal : List Item) : Type 0 where
   pub drop_forgets : EachAfter NamesRemembered journal
   -- at each cut, and at the end
   pub few_unsent : EachAfter CutsFewUnsent journal × FewUnsent journal
+
+-- No request waits inside a device for its end: that comes with requests that wait.
+abbrev pub IsUnparked : Item → Type 0
+IsUnparked (Ran key moment starved parked) = parked ≡ false
+IsUnparked _ = Unit {0}

@@ -32,7 +32,7 @@ pub data Layout : Type 0 → Type 1 where
   byte_run : ℕ → Layout (List ℕ)
   -- no bytes, and how many there are from here on
   bytes_left : Layout ℕ
-  -- no bytes: the test has to hold, else the fault stands that many bytes before here
+  -- no bytes: the test has to hold, else the fault stands that many bytes before here, or at 0 where fewer are before it
   test : Bool → ℕ → Why → Layout (Unit {0})
   -- that many bytes, which begin as a layout says; what it leaves of them may be any
   within : {A : Type 0} → ℕ → Layout A → Layout A
@@ -49,7 +49,7 @@ IsSpelled (test holds back why) u field behind = IsTrue holds × (field ≡ [])
 IsSpelled (within count l) a field behind = (used : List ℕ) × (spare : List ℕ) × (field ≡ used ++ spare) × (length field ≡ count) × IsSpelled l a used spare
 IsSpelled (◌>>=◌ {A = A} l next) b field behind = (a : A) × (first : List ℕ) × (second : List ℕ) × (field ≡ first ++ second) × IsSpelled l a first (second ++ behind) × IsSpelled (next a) b second behind
 
--- The bytes are the value's fields, pads being any bytes, and then so many further bytes.
+-- The bytes begin with a spelling of the value, and so many more stand behind it.
 abbrev pub Spells : {A : Type 0} → Layout A → A → ℕ → List ℕ → Type 0
 Spells l a tail bytes = (field : List ℕ) × (behind : List ℕ) × (bytes ≡ field ++ behind) × (length behind ≡ tail) × IsSpelled l a field behind
 
@@ -84,7 +84,7 @@ met (l >>= next) p = and_then (met l p) (λ x. met (next x.0) x.1)
 abbrev pub FirstFaultFrom : {A : Type 0} → ℕ → Layout A → List ℕ → Bad → Type 0
 FirstFaultFrom at l bytes bad = met l (record { at = at; left = bytes }) ≡ Err bad
 
--- The first field in the order of the layout that can't be met: its place, and why.
+-- From left to right this is what goes wrong first: where, counted from the first byte, and why.
 abbrev pub FirstFault : {A : Type 0} → Layout A → List ℕ → Bad → Type 0
 FirstFault l bytes bad = FirstFaultFrom 0 l bytes bad
 

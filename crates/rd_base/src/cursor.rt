@@ -8,8 +8,8 @@ ghost use Rattle.rd_base.specs.Reading.{Reads};
 use crate::bad::{Bad, Why};
 use std::marker::Model;
 
-/// Reads little-endian fields from the front of a message. A field that needs more bytes than are left is `Short`
-/// at its place, and the cursor stays where it was.
+/// Reads little-endian fields from the front of a message. Where too few bytes are left for a field, the fault is `Short`
+/// at the field's place and the cursor doesn't move.
 #[derive(Debug, Drop)]
 pub struct Cursor<'a> {
     whole: usize,

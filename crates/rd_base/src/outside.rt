@@ -3,7 +3,7 @@
 ghost use Rattle.std.specs.Prelude.{ℕ, List, Option, length};
 ghost use Rattle.std.specs.Io.KnownBytes.{ReadConsumes, WriteAppends};
 ghost use Rattle.std.specs.Io.{ReadsAtMost, WritesAtMost};
-ghost use Rattle.rd_base.specs.Faults.{Counted, StuckOnlyOnFault};
+ghost use Rattle.rd_base.specs.Faults.{CountsFaults, StuckOnlyOnFault};
 
 use thiserror::Error;
 
@@ -25,7 +25,7 @@ pub trait Source {
     fn read(&mut self, into: &mut [u8]) -> Result<usize, Failed>
         ensures bound { ReadsAtMost result into.new }
         ensures bytes { ReadConsumes (left self.old) (left self.new) result into.new }
-        ensures counted { Counted result (faults self.old) (faults self.new) };
+        ensures counted { CountsFaults result (faults self.old) (faults self.new) };
 }
 
 /// Where bytes go to.
@@ -40,6 +40,6 @@ pub trait Sink {
     fn write(&mut self, piece: &[u8]) -> Result<usize, Failed>
         ensures bound { WritesAtMost result piece.now }
         ensures bytes { WriteAppends (held self.old) (held self.new) result piece.now }
-        ensures counted { Counted result (faults self.old) (faults self.new) }
+        ensures counted { CountsFaults result (faults self.old) (faults self.new) }
         ensures stuck { StuckOnlyOnFault result (length piece.now) (faults self.old) (faults self.new) };
 }

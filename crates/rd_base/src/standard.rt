@@ -2,7 +2,7 @@
 
 ghost use Rattle.std.specs.Prelude.{length};
 ghost use Rattle.std.specs.Io.{WritesAtMost};
-ghost use Rattle.rd_base.specs.Faults.{Counted, StuckOnlyOnFault};
+ghost use Rattle.rd_base.specs.Faults.{CountsFaults, StuckOnlyOnFault};
 
 use crate::outside::{Failed, Sink, Source};
 use std::fs;
@@ -109,7 +109,7 @@ impl<R: Files> Sink for FileSink<'_, R> {
 /// Writes a prefix of the piece, and counts a fault where that fails or takes nothing of a piece that isn't empty.
 fn write_counted<W: Write>(writer: &mut W, piece: &[u8], faults: &mut u64) -> Result<usize, Failed>
     ensures bound { WritesAtMost result piece.now }
-    ensures counted { Counted result faults.old faults.new }
+    ensures counted { CountsFaults result faults.old faults.new }
     ensures stuck { StuckOnlyOnFault result (length piece.now) faults.old faults.new }
 {
     let written = writer.write(piece);

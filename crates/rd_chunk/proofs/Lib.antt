@@ -2,3 +2,11 @@ pub mod Heads
 pub mod Steps
 pub mod Stands
 pub mod Starts
+pub mod Unique
+pub mod Streams
+pub mod Wholes
+pub mod Exists
+pub mod Joins
+pub mod Carriers
+pub mod Places
+pub mod Rows

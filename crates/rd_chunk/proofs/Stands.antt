@@ -1,12 +1,12 @@
 -- What a joiner stands for after one step.
-use Rattle.std.proofs.Common.{◌≡◌, ◌≢◌, ◌≤◌, ◌<◌, ℕ, ◌+◌, ◌-◌, ◌%◌, ◌^◌, arith, sym, ◌∙◌, ap, subst, length, ◌++◌, ◌∷◌, [], inl, inr, None, Some, length-append, length-drop, append_assoc, refl, List, take, drop, Option, suc, zero}
+use Rattle.std.proofs.Common.{◌≡◌, ◌≢◌, ◌≤◌, ◌<◌, ℕ, ◌+◌, ◌-◌, ◌%◌, ◌^◌, arith, sym, ◌∙◌, ap, subst, length, ◌++◌, ◌∷◌, [], inl, inr, None, length-append, length-drop, append_assoc, refl, List}
 use Rattle.std.specs.Prelude.{◌==◌, not, bit_and}
 use Rattle.std.specs.List.{concat, flat_map}
-use Rattle.std.proofs.lemmas.List.{append-nil, take_all, drop_all, take-append-le, drop-append-le, nil_from_length}
+use Rattle.std.proofs.lemmas.List.{append-nil, take_all, drop_all, take-append-le, drop-append-le}
 use Rattle.std.proofs.lemmas.List.Concat.{flat_map-append}
 use Rattle.std.proofs.lemmas.Bool.{cases_lt, cases_eq}
 use Rattle.rd_chunk.specs.declared.head.RowFault.{RowFault}
-use Rattle.rd_chunk.specs.Frames.{size_of, length_of, flags_of, data_of, is_first, is_last, is_compressed, IsFrame, AreFrames, Begun}
+use Rattle.rd_chunk.specs.Frames.{size_of, length_of, flags_of, data_of, IsFrame, AreFrames}
 use Rattle.rd_chunk.specs.Faults.{size_fault, fields_fault, head_fault, HasFault, IsPart, ChunkFault}
 use Rattle.rd_chunk.specs.Standing.{Held, StandsFor}
 use Rattle.rd_chunk.proofs.Heads.{size_of-append, length_of-append, flags_of-append, good_size, IsGood, good_from_none, none_from_good}
@@ -212,7 +212,7 @@ module _ (h h' : Held) (before : ℕ) (bytes d : List ℕ) (s : StandsFor h befo
   frame_is z =
       let data_len : length (data_of (s.part ++ d)) ≡ size_of s.part - 8 = omega (arith, length-drop 12 (s.part ++ d), longer, s.still long_part) in
       record {
-        size = omega (arith, longer, size_same, s.still long_part);
+        size = omega (arith, data_len, size_same, sized);
         some = omega (arith, data_len, sized);
         most = omega (arith, data_len, sized);
         plain = ap (λ (k : ℕ). not (bit_and k 0x200000 == 0)) flags_same ∙ good_part.plain;

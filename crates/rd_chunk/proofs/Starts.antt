@@ -1,8 +1,8 @@
 -- Joiners at the start of a message.
-use Rattle.std.proofs.Common.{◌≡◌, ◌≤◌, ◌<◌, ℕ, ◌+◌, ◌%◌, ◌^◌, arith, sym, ◌∙◌, ap, length, ◌++◌, ◌∷◌, [], None, length-append, length-take, refl, List, take, drop, add-zero, true}
+use Rattle.std.proofs.Common.{◌≡◌, ◌≤◌, ◌<◌, ℕ, ◌+◌, ◌%◌, ◌^◌, arith, sym, ◌∙◌, ap, length, ◌++◌, ◌∷◌, [], None, length-append, length-drop, length-take, refl, List, take, true}
 use Rattle.std.specs.List.{concat, flat_map}
-use Rattle.std.proofs.lemmas.List.{nil_from_length, append-nil}
-use Rattle.rd_chunk.specs.Frames.{data_of, size_of, IsFrame, AreFrames}
+use Rattle.std.proofs.lemmas.List.{nil_from_length}
+use Rattle.rd_chunk.specs.Frames.{data_of, AreFrames}
 use Rattle.rd_chunk.specs.Standing.{Held, StandsFor, is_complete}
 use Rattle.rd_chunk.proofs.Stands.{no_part, frames-nil, joined_whole}
 use Rattle.std.proofs.lemmas.Bool.Decides.{nat_tests}
@@ -28,7 +28,7 @@ fresh held before joined head left most taken fault = record {
 -- frames are never empty
 frames-empty : (n before : ℕ) (xs : List (List ℕ)) → AreFrames n before xs → length (concat xs) ≡ 0 → xs ≡ []
 frames-empty n before [] h e = refl
-frames-empty n before (x ∷ xs) h e = absurd (omega (arith, h.0.size, length-append x (concat xs)))
+frames-empty n before (x ∷ xs) h e = absurd (omega (arith, h.0.some, length-drop 12 x, length-append x (concat xs)))
 
 -- a joiner with nothing of a frame and no data stands for nothing
 pub nothing_came : (held : Held) (before : ℕ) (bytes : List ℕ) → StandsFor held before bytes → length held.joined + length held.head ≡ 0 → bytes ≡ []

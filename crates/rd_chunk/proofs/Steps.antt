@@ -1,5 +1,5 @@
 -- One step of a joiner.
-use Rattle.std.proofs.Common.{◌≡◌, ◌≢◌, ◌≤◌, ◌<◌, ℕ, ◌+◌, ◌-◌, arith, sym, ◌∙◌, ap, length, ◌++◌, ◌∷◌, [], vec_len, inl, inr, None, length-append, refl, List}
+use Rattle.std.proofs.Common.{◌≡◌, ◌≢◌, ◌≤◌, ◌<◌, ℕ, ◌+◌, ◌-◌, arith, sym, ◌∙◌, ap, length, ◌++◌, ◌∷◌, [], inl, inr, None, length-append, refl, List}
 use Rattle.std.proofs.lemmas.Bool.{cases_lt, cases_eq}
 use Rattle.std.proofs.Common.{subst, Bool, true, not, take, get_or, Option, Some, ◌%◌, ◌^◌, false, ◌⊎◌}
 use Rattle.std.specs.List.{concat}
@@ -12,7 +12,8 @@ use Rattle.rd_chunk.specs.declared.fault.ChunkWhy.{ChunkWhy}
 use Rattle.rd_chunk.specs.declared.fault.FeedNo.{FeedNo}
 use Rattle.rd_chunk.specs.declared.fault.FeedNo.TheVariants.{Bad, Memory}
 use Rattle.rd_chunk.specs.declared.progress.Progress.{Progress}
-use Rattle.rd_chunk.specs.Standing.{InRange, head_of, held_of, is_complete, Takes, Faults, Held, StandsFor, IfBad}
+use Rattle.rd_chunk.specs.Standing.{is_complete, Takes, BringsFault, Held, StandsFor, IfBad}
+use Rattle.rd_chunk.specs.Kept.{InRange, head_of, held_of}
 use Rattle.rd_chunk.specs.Frames.{size_of, length_of, flags_of}
 use Rattle.rd_chunk.specs.Faults.{size_fault, head_fault, HasFault, ChunkFault}
 use Rattle.rd_chunk.proofs.Heads.{size_of-append, good_size, good_from_none}
@@ -107,7 +108,7 @@ module _ (p next : Progress) (items : List ℕ) (joined b : ℕ)
       ];
     })
 
-    pub byte_faulty : Faults (held_of p items None) (b ∷ []) bad
+    pub byte_faulty : BringsFault (held_of p items None) (b ∷ []) bad
     byte_faulty before bytes s =
         let short : length s.part < 12 = short_part (held_of p items None) before bytes s in_head in
         let part_len : length (head_of p) ≡ length s.part = ap length (s.head_is ∙ take_all 12 s.part (omega arith)) in
@@ -137,7 +138,7 @@ takes_then old mid new piece at n first then before bytes s =
     subst (λ (r : List ℕ). StandsFor new before r) (append_assoc bytes (take at piece) (take n (take (length piece - at) (drop at piece))) ∙ ap (λ (r : List ℕ). bytes ++ (take at piece ++ take n r)) (take_rest piece at) ∙ ap (λ (r : List ℕ). bytes ++ r) (take_join at n piece))
     (then before (bytes ++ take at piece) (first before bytes s))
 
-pub faults_then : (old mid : Held) (piece : List ℕ) (at n : ℕ) (bad : ChunkBad) → Takes old mid (take at piece) → Faults mid (take n (take (length piece - at) (drop at piece))) bad → Faults old (take (at + n) piece) bad
+pub faults_then : (old mid : Held) (piece : List ℕ) (at n : ℕ) (bad : ChunkBad) → Takes old mid (take at piece) → BringsFault mid (take n (take (length piece - at) (drop at piece))) bad → BringsFault old (take (at + n) piece) bad
 faults_then old mid piece at n bad first fault before bytes s =
     let found = fault before (bytes ++ take at piece) (first before bytes s) in
     (found.0, subst (λ (r : List ℕ). ChunkFault r found.0 bad.why) (append_assoc bytes (take at piece) (take n (take (length piece - at) (drop at piece))) ∙ ap (λ (r : List ℕ). bytes ++ (take at piece ++ take n r)) (take_rest piece at) ∙ ap (λ (r : List ℕ). bytes ++ r) (take_join at n piece)) found.1, found.2)

@@ -29,10 +29,10 @@ is_last frame = not (bit_and (flags_of frame) 0x2 == 0)
 abbrev pub is_compressed : List ℕ → Bool
 is_compressed frame = not (bit_and (flags_of frame) 0x200000 == 0)
 
--- a frame of a message of n bytes, `before` of which stand in the frames before it: it alone is the first where these
--- are none, and it alone is the last where its data are the rest of the message
+-- a frame of a message of n bytes, `before` of which stand in the frames before it: it has the first one's flag exactly
+-- where that is none of them, and the last one's exactly where its data are the rest
 pub record IsFrame (n before : ℕ) (frame : List ℕ) : Type 0 where
-  pub size : length frame ≡ size_of frame + 4
+  pub size : size_of frame ≡ length (data_of frame) + 8
   pub some : 1 ≤ length (data_of frame)
   pub most : length (data_of frame) ≤ 16384
   pub plain : is_compressed frame ≡ false

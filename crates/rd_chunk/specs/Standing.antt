@@ -1,16 +1,11 @@
--- What a joiner keeps, and the bytes that it stands for.
+-- What is seen of a joiner, and the bytes that it stands for.
 use Rattle.std.specs.Prelude.{ℕ, ◌≡◌, ◌≤◌, ◌<◌, ◌+◌, ◌%◌, ◌^◌, ◌==◌, ◌&&◌, nat_lt, not, if◌then◌else◌, Bool, List, [], ◌++◌, length, take, Option, Some, None, is_some}
 use Rattle.std.specs.List.{concat, flat_map}
 use Rattle.rd_chunk.specs.declared.fault.ChunkBad.{ChunkBad}
 use Rattle.rd_chunk.specs.declared.fault.FeedNo.{FeedNo}
 use Rattle.rd_chunk.specs.declared.fault.FeedNo.TheVariants.{Bad, Memory}
-use Rattle.rd_chunk.specs.Frames.{size_of, length_of, data_of, AreFrames}
-use Rattle.rd_chunk.specs.Faults.{size_fault, IsPart, ChunkFault}
-use Rattle.rd_chunk.specs.declared.progress.Progress.{Progress}
-
--- the bytes of a head that are there
-abbrev pub head_of : Progress → List ℕ
-head_of p = take p.have p.head
+use Rattle.rd_chunk.specs.Frames.{size_of, length_of, data_of, AreFrames, Carried}
+use Rattle.rd_chunk.specs.Faults.{IsPart, ChunkFault}
 
 -- what is seen of a joiner: the data that are there of the message under way, the bytes that are there of a head, the
 -- data bytes of that frame still to come, the bytes of the whole message, those taken from the stream, and its fault
@@ -21,9 +16,6 @@ pub record Held : Type 0 where
   pub whole : ℕ
   pub taken : ℕ
   pub fault : Option ChunkBad
-
-abbrev pub held_of : Progress → List ℕ → Option ChunkBad → Held
-held_of p joined fault = record { joined = joined; head = head_of p; left = p.left; whole = p.length; taken = p.taken; fault = fault }
 
 -- a joiner that is seen so stands for these bytes, and took `before` bytes ahead of them: they are whole frames of one
 -- message, and then a part of a further frame, which has begun only where the message isn't complete
@@ -57,19 +49,20 @@ Takes old new more = (before : ℕ) (bytes : List ℕ) → StandsFor old before 
 
 -- whatever list the joiner stands for, that list and these bytes are a chunk fault, which is the answered one: its place
 -- is counted from the stream's first byte, modulo 2^64
-abbrev pub Faults : Held → List ℕ → ChunkBad → Type 0
-Faults held more bad = (before : ℕ) (bytes : List ℕ) → StandsFor held before bytes →
+abbrev pub BringsFault : Held → List ℕ → ChunkBad → Type 0
+BringsFault held more bad = (before : ℕ) (bytes : List ℕ) → StandsFor held before bytes →
     (place : ℕ) × ChunkFault (bytes ++ more) place bad.why × (bad.at ≡ (before + place) % 2 ^ 64)
+
+-- a joiner that is seen so has given these messages of a stream that came as these bytes, and stands for the rest
+pub record HasJoined (held : Held) (messages : List (List ℕ)) (bytes : List ℕ) : Type 0 where
+  pub whole : List ℕ
+  pub rest : List ℕ
+  pub are_whole : Carried messages whole
+  pub bytes_are : bytes ≡ whole ++ rest
+  pub stands : StandsFor held (length whole) rest
+  pub none_waits : waiting held ≡ None
 
 -- a fact for an answered fault
 abbrev pub IfBad : FeedNo → (ChunkBad → Type 0) → Type 0
 IfBad (Bad bad) P = P bad
 IfBad Memory P = Unit {0}
-
--- the numbers that a joiner keeps beside `joined` bytes of a message are in their ranges
-pub record InRange (p : Progress) (joined : ℕ) : Type 0 where
-  pub head : p.have ≤ 12
-  pub count : length (head_of p) ≡ p.have
-  pub to_come : p.have ≡ 12 → 0 < p.left
-  pub size : 4 ≤ p.have → size_fault (size_of (head_of p)) ≡ None
-  pub room : joined + p.left ≤ 1052672

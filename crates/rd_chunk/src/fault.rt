@@ -2,7 +2,7 @@
 
 ghost use Rattle.std.specs.Prelude.{◌≡◌};
 
-use std::alloc::AllocError;
+use std::alloc::{AllocError, AllocFailed};
 use thiserror::Error;
 
 /// What is wrong with a frame (MS-RDPBCGR 2.2.6.1).
@@ -53,6 +53,16 @@ impl From<AllocError> for FeedNo {
     ghost from_gives = { λ _ e. e ≡ no.Memory };
 
     fn from(_error: AllocError) -> FeedNo {
+        FeedNo::Memory
+    }
+}
+
+impl<T: Drop> From<AllocFailed<T>> for FeedNo {
+    ghost use Rattle.rd_chunk.specs.declared.fault.FeedNo.TheVariants as no;
+
+    ghost from_gives = { λ _ e. e ≡ no.Memory };
+
+    fn from(_error: AllocFailed<T>) -> FeedNo {
         FeedNo::Memory
     }
 }

@@ -64,7 +64,7 @@ pub fn size_fault(size: u32) -> Option<RowFault>
             why: ChunkWhy::Empty,
         });
     }
-    if size < 9 || size > 16_392 {
+    if size < 9 || size as usize > MAX_CHUNK + 8 {
         return Some(RowFault {
             offset: 0,
             why: ChunkWhy::Size,

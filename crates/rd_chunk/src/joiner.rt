@@ -1,7 +1,8 @@
 //! Messages out of a stream of carrier frames.
 
-ghost use Rattle.std.specs.Prelude.{◌≡◌, ◌<◌, ◌≤◌, ◌+◌, ◌%◌, ◌^◌, ◌↔◌, ◌⊎◌, ℕ, List, [], length, take, false, Some, Err, IsTrue, IsSome, IfNone, OnSome, IfOk, IfErr, OnErr};
-ghost use Rattle.rd_chunk.specs.Standing.{StandsFor, Takes, Faults, IfBad, waiting};
+ghost use Rattle.std.specs.Prelude.{◌≡◌, ◌<◌, ◌≤◌, ◌+◌, ◌%◌, ◌^◌, ◌↔◌, ◌⊎◌, ℕ, List, [], length, take, false, None, Some, Ok, Err, IsTrue, IsSome, IfNone, OnSome, IfOk, IfErr, OnErr};
+ghost use Rattle.rd_chunk.specs.Frames.{One};
+ghost use Rattle.rd_chunk.specs.Standing.{StandsFor, Takes, BringsFault, IfBad, waiting};
 
 use crate::fault::{ChunkBad, FeedNo};
 use crate::progress::{Progress, take_in};
@@ -19,7 +20,8 @@ pub struct Joiner {
 }
 
 impl Model for Joiner {
-    ghost use Rattle.rd_chunk.specs.Standing.{Held, held_of, InRange};
+    ghost use Rattle.rd_chunk.specs.Standing.{Held};
+    ghost use Rattle.rd_chunk.specs.Kept.{held_of, InRange};
     ghost use Rattle.std.specs.Prelude.{vec_len};
 
     ghost Value = { Held };
@@ -32,7 +34,8 @@ impl Model for Joiner {
 impl Joiner {
     /// Before the first byte of a stream. The message's buffer comes from `alloc`.
     pub fn new(alloc: Global) -> Joiner
-        ensures { StandsFor result 0 [] }
+        ensures stands { StandsFor result 0 [] }
+        ensures none_waits { waiting result ≡ None }
     {
         Joiner {
             message: Vec::new(alloc),
@@ -51,15 +54,22 @@ impl Joiner {
 
         // Bytes stay only behind the end of a message, and none are taken only where there are none or one waits.
         ensures all { IfOk result (λ n. n < length piece.now → IsSome (waiting self.new)) }
-        ensures none { IfOk result (λ n. (n ≡ 0) ↔ ((piece.now ≡ []) ⊎ IsSome (waiting self.old))) }
+        ensures idle { self.old.fault ≡ None → (piece.now ≡ []) ⊎ IsSome (waiting self.old) →
+            result ≡ Ok 0 }
+        ensures none { IfOk result (λ n. (n ≡ 0) ↔
+            ((piece.now ≡ []) ⊎ IsSome (waiting self.old))) }
 
         // A fault is the first one of the stream, which the piece brings, and it stays.
-        ensures fault { IfErr result (λ no. IfBad no (λ bad. (count : ℕ) × (count ≤ length piece.now) × Faults self.old (take count piece.now) bad)) }
-        ensures failed { (bad : ChunkBad) → (self.new.fault ≡ Some bad) ↔ (result ≡ Err (FeedNo.Bad bad)) }
-        ensures stays { (bad : ChunkBad) → self.old.fault ≡ Some bad → (result ≡ Err (FeedNo.Bad bad)) × (self.new ≡ self.old) }
+        ensures fault { IfErr result (λ no. IfBad no (λ bad.
+            (count : ℕ) × (count ≤ length piece.now) × BringsFault self.old (take count piece.now) bad)) }
+        ensures failed { (bad : ChunkBad) →
+            (self.new.fault ≡ Some bad) ↔ (result ≡ Err (FeedNo.Bad bad)) }
+        ensures stays { (bad : ChunkBad) → self.old.fault ≡ Some bad →
+            (result ≡ Err (FeedNo.Bad bad)) × (self.new ≡ self.old) }
         ensures err { OnErr result (self.new ≡ record self.old { fault = self.new.fault }) }
         ensures memory { result ≡ Err FeedNo.Memory → self.new ≡ self.old }
 
+        // A message, and the twelve bytes of a head.
         ensures held { length self.new.joined + length self.new.head ≤ 1052684 }
     {
         if let Some(bad) = self.bad {
@@ -81,21 +91,25 @@ impl Joiner {
     /// The finished message, if one waits. Its bytes are moved, and no memory is taken.
     pub fn take(&mut self) -> Option<Bytes>
         ensures message { result ≡ waiting self.old }
-        ensures next { OnSome result ((before : ℕ) (bytes : List ℕ) → StandsFor self.old before bytes → StandsFor self.new (before + length bytes) []) }
+        ensures whole { (before : ℕ) (bytes message : List ℕ) → StandsFor self.old before bytes →
+            (result ≡ Some message) ↔ One message bytes }
+        ensures next { OnSome result ((before : ℕ) (bytes : List ℕ) →
+            StandsFor self.old before bytes → StandsFor self.new (before + length bytes) []) }
         ensures none { IfNone result (self.new ≡ self.old) }
+        ensures gone { waiting self.new ≡ None }
         ensures taken { self.new.taken ≡ self.old.taken }
     {
         if self.bad.is_some() || !self.progress.is_whole(self.message.len()) {
             return None;
         }
         let empty = Vec::new(*self.message.allocator());
-        self.progress.length = 0;
         Some(Items::of(mem::replace(&mut self.message, empty)))
     }
 
     /// Whether no frame and no message is begun: the place where a stream may end.
     pub fn between(&self) -> bool
-        ensures stands { (before : ℕ) (bytes : List ℕ) → StandsFor self.now before bytes → IsTrue result ↔ (bytes ≡ []) }
+        ensures stands { (before : ℕ) (bytes : List ℕ) → StandsFor self.now before bytes →
+            IsTrue result ↔ (bytes ≡ []) }
         ensures failed { IsSome self.now.fault → result ≡ false }
     {
         self.bad.is_none() && self.message.len() + self.progress.have == 0
@@ -104,7 +118,8 @@ impl Joiner {
     /// The bytes that `feed` took since `new`, modulo 2^64.
     pub fn taken(&self) -> u64
         ensures value { result ≡ self.now.taken }
-        ensures stands { (before : ℕ) (bytes : List ℕ) → StandsFor self.now before bytes → result ≡ (before + length bytes) % 2 ^ 64 }
+        ensures stands { (before : ℕ) (bytes : List ℕ) → StandsFor self.now before bytes →
+            result ≡ (before + length bytes) % 2 ^ 64 }
     {
         self.progress.taken
     }

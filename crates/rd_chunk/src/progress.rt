@@ -1,8 +1,9 @@
 //! How far a joiner has come in the frame under way.
 
-ghost use Rattle.std.specs.Prelude.{◌≡◌, ◌<◌, ◌≤◌, ◌+◌, ◌-◌, ◌%◌, ◌↔◌, ◌^◌, length, vec_len, IsTrue, IfOk, IfErr, OnOk, OnErr, ◌≢◌, None, ◌⊎◌, false, true, take, List, ℕ};
+ghost use Rattle.std.specs.Prelude.{◌≡◌, ◌<◌, ◌≤◌, ◌+◌, ◌-◌, ◌*◌, ◌%◌, ◌↔◌, ◌^◌, length, max, vec_len, vec_capacity, IsTrue, IfOk, IfErr, OnOk, OnErr, ◌≢◌, None, Ok, ◌⊎◌, false, true, take, List, ℕ};
 ghost use Rattle.std.specs.Prelude.{◌++◌, ◌∷◌, []};
-ghost use Rattle.rd_chunk.specs.Standing.{InRange, head_of, held_of, is_complete, Takes, Faults, IfBad};
+ghost use Rattle.rd_chunk.specs.Standing.{Takes, BringsFault, IfBad};
+ghost use Rattle.rd_chunk.specs.Kept.{InRange, head_of, is_done, seen};
 ghost use Rattle.rd_chunk.specs.Frames.{size_of, length_of, flags_of};
 ghost use Rattle.rd_chunk.specs.Faults.{size_fault, head_fault};
 
@@ -22,7 +23,7 @@ pub struct Progress {
     pub have: usize,
     /// The data bytes of the frame that are still to come.
     pub left: usize,
-    /// The bytes of the whole message, once its first head is there.
+    /// The bytes of the whole message, once its first head is there; before that it says nothing.
     pub length: usize,
     /// How many bytes of the stream were taken, modulo 2^64.
     pub taken: u64,
@@ -48,7 +49,7 @@ impl Progress {
 
     /// Whether the message is finished, with `joined` of its bytes there.
     pub fn is_whole(self, joined: usize) -> bool
-        ensures { result ≡ is_complete self.left joined self.length }
+        ensures { result ≡ is_done self joined }
     {
         self.left == 0 && joined != 0 && joined == self.length
     }
@@ -93,10 +94,9 @@ impl Progress {
         ensures head { self.have ≡ 12 → result ≡ head_fault self.length joined (head_of self) }
         ensures other { self.have ≢ 4 → self.have ≢ 12 → result ≡ None }
     {
-        let head = self.fields();
         match self.have {
-            4 => size_fault(head.size),
-            12 => head_fault(head, joined, self.length),
+            4 => size_fault(self.fields().size),
+            12 => head_fault(self.fields(), joined, self.length),
             _ => None,
         }
     }
@@ -159,10 +159,10 @@ fn take_byte(progress: Progress, joined: usize, byte: u8) -> Result<Progress, Ch
     requires in_head { progress.left ≡ 0 }
     ensures in_range { IfOk result (λ next. InRange next joined) }
     ensures counts { IfOk result (λ next. next.taken ≡ (progress.taken + 1) % 2 ^ 64) }
-    ensures takes { IfOk result (λ next. (items : List ℕ) → length items ≡ joined → is_complete progress.left joined progress.length ≡ false →
-        Takes (held_of progress items None) (held_of next items None) (byte ∷ [])) }
-    ensures fault { IfErr result (λ bad. (items : List ℕ) → length items ≡ joined → is_complete progress.left joined progress.length ≡ false →
-        Faults (held_of progress items None) (byte ∷ []) bad) }
+    ensures takes { IfOk result (λ next. (items : List ℕ) → length items ≡ joined →
+        is_done progress joined ≡ false → Takes (seen progress items) (seen next items) (byte ∷ [])) }
+    ensures fault { IfErr result (λ bad. (items : List ℕ) → length items ≡ joined →
+        is_done progress joined ≡ false → BringsFault (seen progress items) (byte ∷ []) bad) }
 {
     let next = progress.with_byte(byte);
     match next.fault(joined) {
@@ -183,8 +183,10 @@ fn take_data(
     ensures count { IfOk result (λ y. (0 < y.1) × (y.1 ≤ length piece.now)) }
     ensures in_range { IfOk result (λ y. InRange y.0 (vec_len message.new)) }
     ensures counts { IfOk result (λ y. y.0.taken ≡ (progress.taken + y.1) % 2 ^ 64) }
-    ensures takes { IfOk result (λ y. Takes (held_of progress message.old.items None) (held_of y.0 message.new.items None) (take y.1 piece.now)) }
-    ensures message { IfOk result (λ y. message.new.items ≡ message.old.items ++ take y.1 piece.now) }
+    ensures takes { IfOk result (λ y.
+        Takes (seen progress message.old.items) (seen y.0 message.new.items) (take y.1 piece.now)) }
+    ensures message { IfOk result (λ y.
+        message.new.items ≡ message.old.items ++ take y.1 piece.now) }
     ensures err { OnErr result (message.new.items ≡ message.old.items) }
 {
     let count = progress.left.min(piece.len());
@@ -197,12 +199,15 @@ fn take_data(
 fn step(progress: &mut Progress, message: &mut Vec<u8>, piece: &[u8]) -> Result<usize, FeedNo>
     requires piece { 0 < length piece.now }
     requires in_range { InRange progress.old (vec_len message.old) }
-    requires lacking { is_complete progress.old.left (vec_len message.old) progress.old.length ≡ false }
+    requires lacking { is_done progress.old (vec_len message.old) ≡ false }
     ensures count { IfOk result (λ n. (0 < n) × (n ≤ length piece.now)) }
     ensures in_range { OnOk result (InRange progress.new (vec_len message.new)) }
-    ensures counts { IfOk result (λ n. progress.new.taken ≡ (progress.old.taken + n) % 2 ^ 64) }
-    ensures takes { IfOk result (λ n. Takes (held_of progress.old message.old.items None) (held_of progress.new message.new.items None) (take n piece.now)) }
-    ensures fault { IfErr result (λ no. IfBad no (Faults (held_of progress.old message.old.items None) (take 1 piece.now))) }
+    ensures counts { IfOk result (λ n.
+        progress.new.taken ≡ (progress.old.taken + n) % 2 ^ 64) }
+    ensures takes { IfOk result (λ n.
+        Takes (seen progress.old message.old.items) (seen progress.new message.new.items) (take n piece.now)) }
+    ensures fault { IfErr result (λ no.
+        IfBad no (BringsFault (seen progress.old message.old.items) (take 1 piece.now))) }
     ensures message { (more : List ℕ) × (message.new.items ≡ message.old.items ++ more) }
 {
     if progress.left > 0 {
@@ -225,12 +230,26 @@ fn append(message: &mut Vec<u8>, bytes: &[u8], whole: usize) -> Result<(), Alloc
     ensures ok { OnOk result (message.new.items ≡ message.old.items ++ bytes.now) }
     ensures err { OnErr result (message.new.items ≡ message.old.items) }
 {
-    let there = message.len() + bytes.len();
-    if message.capacity() < there {
-        let room = there.saturating_mul(GROWTH).min(whole).max(there);
-        message.reserve_exact(room - message.len())?;
-    }
+    make_room(message, bytes.len(), whole)?;
     message.extend_from_slice(bytes)
+}
+
+/// Reserves room for `more` bytes of a message that will have `whole` bytes in all: for all of it, but for no more than
+/// 64 times the bytes that have come.
+fn make_room(message: &mut Vec<u8>, more: usize, whole: usize) -> Result<(), AllocError>
+    requires { vec_len message.old + more ≤ 1052672 }
+    ensures items { message.new.items ≡ message.old.items }
+    ensures len { vec_len message.new ≡ vec_len message.old }
+    ensures room { OnOk result (vec_len message.old + more ≤ vec_capacity message.new) }
+    ensures paid { vec_capacity message.new ≤
+        max (vec_capacity message.old) (64 * (vec_len message.old + more)) }
+{
+    let there = message.len() + more;
+    if message.capacity() >= there {
+        return Ok(());
+    }
+    let room = (there * GROWTH).min(whole).max(there);
+    message.reserve_exact(room - message.len())
 }
 
 /// Takes bytes of `piece` up to the end of the message under way. Answers how many.
@@ -242,12 +261,19 @@ pub fn take_in(
     requires { InRange progress.old (vec_len message.old) }
     ensures count { IfOk result (λ n. n ≤ length piece.now) }
     ensures in_range { OnOk result (InRange progress.new (vec_len message.new)) }
-    ensures counts { IfOk result (λ n. progress.new.taken ≡ (progress.old.taken + n) % 2 ^ 64) }
-    ensures takes { IfOk result (λ n. Takes (held_of progress.old message.old.items None) (held_of progress.new message.new.items None) (take n piece.now)) }
+    ensures counts { IfOk result (λ n.
+        progress.new.taken ≡ (progress.old.taken + n) % 2 ^ 64) }
+    ensures takes { IfOk result (λ n.
+        Takes (seen progress.old message.old.items) (seen progress.new message.new.items) (take n piece.now)) }
     // Bytes stay behind only where the message is complete.
-    ensures all { IfOk result (λ n. n < length piece.now → is_complete progress.new.left (vec_len message.new) progress.new.length ≡ true) }
-    ensures none { IfOk result (λ n. (n ≡ 0) ↔ ((piece.now ≡ []) ⊎ (is_complete progress.old.left (vec_len message.old) progress.old.length ≡ true))) }
-    ensures fault { IfErr result (λ no. IfBad no (λ bad. (count : ℕ) × (count ≤ length piece.now) × Faults (held_of progress.old message.old.items None) (take count piece.now) bad)) }
+    ensures all { IfOk result (λ n. n < length piece.now →
+        is_done progress.new (vec_len message.new) ≡ true) }
+    ensures idle { (piece.now ≡ []) ⊎ (is_done progress.old (vec_len message.old) ≡ true) →
+        result ≡ Ok 0 }
+    ensures none { IfOk result (λ n. (n ≡ 0) ↔
+        ((piece.now ≡ []) ⊎ (is_done progress.old (vec_len message.old) ≡ true))) }
+    ensures fault { IfErr result (λ no. IfBad no (λ bad. (count : ℕ) × (count ≤ length piece.now) ×
+        BringsFault (seen progress.old message.old.items) (take count piece.now) bad)) }
     ensures message { (more : List ℕ) × (message.new.items ≡ message.old.items ++ more) }
 {
     let mut at = 0;

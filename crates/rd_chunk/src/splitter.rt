@@ -1,6 +1,8 @@
 //! A message into carrier frames.
 
-ghost use Rattle.std.specs.Prelude.{◌≡◌, ◌≤◌, length};
+ghost use Rattle.std.specs.Prelude.{◌≡◌, ◌<◌, ◌≤◌, ◌+◌, ◌*◌, ◌++◌, length, IfOk, OnOk};
+ghost use Rattle.rd_chunk.specs.Carrier.{carrier_of, carrier_frame, carrier_data, carrier_flags};
+ghost use Rattle.rd_chunk.specs.Frames.{One};
 
 use crate::head::{CHUNK_LEN, FIRST, HEAD_LEN, LAST};
 use rd_base::{Bytes, Items};
@@ -10,25 +12,50 @@ use std::alloc::{AllocError, Global};
 pub fn split(alloc: Global, message: &[u8]) -> Result<Bytes, AllocError>
     requires some { 1 ≤ length message.now }
     requires most { length message.now ≤ 1052672 }
+    ensures stream { IfOk result (λ stream. stream ≡ carrier_of message.now) }
+    ensures one { IfOk result (λ stream. One message.now stream) }
 {
     let frames = message.len().div_ceil(CHUNK_LEN);
     let mut stream = Vec::with_capacity(alloc, message.len() + frames * HEAD_LEN)?;
     for k in 0..frames {
-        push_frame(&mut stream, message, k * CHUNK_LEN)?;
+        push_frame(&mut stream, message, k)?;
     }
     Ok(Items::of(stream))
 }
 
-/// Appends the frame of the message's data from `from` on.
-fn push_frame(stream: &mut Vec<u8>, message: &[u8], from: usize) -> Result<(), AllocError>
-    requires from { from ≤ length message.now }
+/// Appends frame `k`, counted from 0.
+#[tactic(auto, unfolding(crate::specs::Carrier::carrier_frame))]
+fn push_frame(stream: &mut Vec<u8>, message: &[u8], k: usize) -> Result<(), AllocError>
+    requires place { 1600 * k < length message.now }
     requires most { length message.now ≤ 1052672 }
+    ensures { OnOk result (stream.new.items ≡ stream.old.items ++ carrier_frame message.now k) }
 {
-    let end = message.len().min(from + CHUNK_LEN);
-    let first = if from == 0 { FIRST } else { 0 };
-    let last = if end == message.len() { LAST } else { 0 };
-    stream.extend_from_slice(&((end - from + 8) as u32).to_le_bytes())?;
+    let bytes = data_at(message, k);
+    stream.extend_from_slice(&(bytes.len() as u32 + 8).to_le_bytes())?;
     stream.extend_from_slice(&(message.len() as u32).to_le_bytes())?;
-    stream.extend_from_slice(&(first | last).to_le_bytes())?;
-    stream.extend_from_slice(&message[from..end])
+    stream.extend_from_slice(&flags_at(message.len(), k).to_le_bytes())?;
+    stream.extend_from_slice(bytes)
+}
+
+/// The data of frame `k`.
+fn data_at(message: &[u8], k: usize) -> &[u8]
+    requires place { 1600 * k < length message.now }
+    requires most { length message.now ≤ 1052672 }
+    ensures value { result.now ≡ carrier_data message.now k }
+    ensures most { length result.now ≤ 1600 }
+{
+    let from = k * CHUNK_LEN;
+    let end = message.len().min(from + CHUNK_LEN);
+    &message[from..end]
+}
+
+/// The flags of frame `k` of a message of so many bytes.
+fn flags_at(bytes: usize, k: usize) -> u32
+    requires place { 1600 * k < bytes }
+    requires most { bytes ≤ 1052672 }
+    ensures { result ≡ carrier_flags bytes k }
+{
+    let first = if k == 0 { FIRST } else { 0 };
+    let last = if (k + 1) * CHUNK_LEN < bytes { 0 } else { LAST };
+    first | last
 }

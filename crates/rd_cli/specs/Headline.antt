@@ -5,7 +5,7 @@ use Rattle.std.specs.List.{AllZip}
 use Rattle.rd_base.specs.declared.journal.Key.{Key}
 use Rattle.rd_base.specs.declared.journal.Item.{Item}
 use Rattle.rd_base.specs.declared.journal.Item.TheVariants.{Ran}
-use Rattle.rd_base.specs.Lawful.{IsLawful, named_key}
+use Rattle.rd_base.specs.Lawful.{IsLawful, IsUnparked, named_key}
 use Rattle.rd_irp.specs.declared.completion.Reply.{Reply}
 use Rattle.rd_irp.specs.declared.request.Request.{Request}
 use Rattle.rd_irp.specs.Fits.{reply_kind}
@@ -17,7 +17,7 @@ use Rattle.rd_cli.specs.declared.recording.End.TheVariants.{Host, Client}
 use Rattle.rd_cli.specs.declared.session.Outcome.{Outcome}
 use Rattle.rd_cli.specs.Grammar.{Said, IsScript}
 use Rattle.rd_cli.specs.Outcomes.{AreOutcomes}
-use Rattle.rd_cli.specs.Recording.{Passed, IsRecordingOf}
+use Rattle.rd_cli.specs.Recording.{Passed, recording_of_channel}
 use Rattle.rd_cli.specs.Told.{Told, Counted, InOrder, Completes}
 use Rattle.rd_cli.specs.Report.{report_of}
 
@@ -59,6 +59,7 @@ pub record IsSession (said : Said) (messages : List (List ℕ)) (asked : List Re
   pub on_wire : All (λ item. IfSome (named_key item) (λ key. (key.channel ≡ 1) × (key.index < length asked))) journal
   pub still_clock : All (RunsAt 0) journal
   pub closes_fed : All (StarvesNoClose requests) journal
+  pub unparked : All IsUnparked journal
   -- what the client tells is what that history answered: each request's own completion, once
   pub told : Told requests (replies_in said requests journal) journal completions
   pub counted : Counted requests (replies_in said requests journal) journal (first_keys (length asked)) completions
@@ -79,7 +80,7 @@ pub record IsRun (text wire output : List ℕ) (books : List (ℕ × List Item))
   pub journal : List Item
   pub outcomes : List Outcome
   pub script : IsScript text said
-  pub wire_is : IsRecordingOf (in_turn (zip messages completions)) wire
+  pub wire_is : wire ≡ recording_of_channel (in_turn (zip messages completions))
   pub asked_are : AllZip (λ request message. SpellsRequest request 0 message) asked messages
   pub session : IsSession said messages asked completions journal outcomes
   pub books_are : MatchOption said.label (books ≡ []) (λ label. books ≡ (1, journal) ∷ [])

@@ -1,4 +1,5 @@
 pub mod Asked
+pub mod Causes
 pub mod Grammar
 pub mod Outcomes
 pub mod Recording

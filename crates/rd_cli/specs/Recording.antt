@@ -1,7 +1,8 @@
 -- Recordings: what stands in one, and which messages passed.
-use Rattle.std.specs.Prelude.{◌≡◌, ℕ, Bool, true, false, List, [], ◌∷◌, ◌++◌, length, map, codes}
-use Rattle.std.specs.List.{concat, flat_map}
-use Rattle.rd_chunk.specs.Frames.{AreFrames, One}
+use Rattle.std.specs.Prelude.{ℕ, Bool, true, false, List, [], ◌∷◌, ◌++◌, length, map, codes}
+use Rattle.std.specs.List.{flat_map}
+use Rattle.std.specs.Int.{div_ceil}
+use Rattle.rd_chunk.specs.Carrier.{carrier_frames}
 use Rattle.rd_cli.specs.declared.recording.End.{End}
 use Rattle.rd_cli.specs.declared.recording.End.TheVariants.{Host, Client}
 
@@ -29,24 +30,14 @@ recording_of entries = codes "RDRREC01" ++ flat_map entry_bytes entries
 abbrev pub Passed : Type 0
 Passed = End × List ℕ
 
--- the entries of one message: the frames in which this project carries it, one behind another
-pub record AreEntriesOf (passed : Passed) (entries : List Entry) : Type 0 where
-  pub frames : List (List ℕ)
-  pub are : AreFrames (length passed.1) 0 frames
-  pub carried : One passed.1 (concat frames)
-  pub entries_are : entries ≡ map (λ frame. sends passed.0 frame) frames
+-- the entries of a message: the frames in which this project carries it, one behind another
+abbrev pub entries_of : Passed → List Entry
+entries_of passed =
+    map (λ frame. sends passed.0 frame) (carrier_frames passed.1 (div_ceil (length passed.1) 1600))
 
--- the entries of messages, each message's together, in order
-abbrev pub AreEntries : List Passed → List Entry → Type 0
-AreEntries [] entries = entries ≡ []
-AreEntries (first ∷ others) entries =
-    (front : List Entry) × (behind : List Entry) × (entries ≡ front ++ behind) × AreEntriesOf first front × AreEntries others behind
-
--- the bytes record one channel, begun and not ended, on which these messages passed
-pub record IsRecordingOf (passed : List Passed) (bytes : List ℕ) : Type 0 where
-  pub entries : List Entry
-  pub are : AreEntries passed entries
-  pub bytes_are : bytes ≡ recording_of (begins ∷ entries)
+-- the recording of one channel, begun and not ended, on which these messages passed
+abbrev pub recording_of_channel : List Passed → List ℕ
+recording_of_channel passed = recording_of (begins ∷ flat_map entries_of passed)
 
 -- whether the host, or the client, sent it
 abbrev pub is_host : Passed → Bool

@@ -1,5 +1,7 @@
 //! The recording of a session: every frame of both directions as it is sent.
 
+ghost use Rattle.rd_cli.specs.Causes.{Writes};
+
 use crate::stop::Stop;
 use crate::transfer::write_all;
 use rd_base::Sink;
@@ -27,12 +29,16 @@ impl End {
 }
 
 /// Writes the magic and the begin of a channel.
-pub fn begin<R: Sink>(wire: &mut R) -> Result<(), Stop> {
+pub fn begin<R: Sink>(wire: &mut R) -> Result<(), Stop>
+    ensures { Writes result (R.faults wire.old) (R.faults wire.new) }
+{
     write_all(wire, OPENING).map_err(|_| Stop::Output)
 }
 
 /// Writes the frames of one message, each behind the mark of its sender.
-pub fn record<R: Sink>(alloc: Global, wire: &mut R, end: End, frames: &[u8]) -> Result<(), Stop> {
+pub fn record<R: Sink>(alloc: Global, wire: &mut R, end: End, frames: &[u8]) -> Result<(), Stop>
+    ensures { Writes result (R.faults wire.old) (R.faults wire.new) }
+{
     let mut entries = Vec::new(alloc);
     for frame in frames.chunks(HEAD_LEN + CHUNK_LEN) {
         entries.push(end.mark())?;

@@ -1,5 +1,8 @@
 //! A script, and the first line outside the grammar.
 
+ghost use Rattle.std.specs.Prelude.{IfErr};
+ghost use Rattle.rd_cli.specs.Causes.{Caused};
+
 use crate::ask::Ask;
 use crate::grammar::{Line, line_of};
 use crate::stop::Stop;
@@ -22,7 +25,9 @@ pub enum Script {
 }
 
 /// Reads a script. The first line that is outside the grammar, or past a limit, is `Stop::Line`.
-pub fn read_script(alloc: Global, bytes: &[u8]) -> Result<Script, Stop> {
+pub fn read_script(alloc: Global, bytes: &[u8]) -> Result<Script, Stop>
+    ensures { IfErr result (λ stop. Caused stop ⊥ ⊥) }
+{
     let mut script = Script::Empty;
     let mut end = 0usize;
     for (index, piece) in bytes.split_inclusive(|byte| *byte == b'\n').enumerate() {

@@ -1,6 +1,7 @@
 //! One application, one channel and one drive, a request after the other.
 
-ghost use Rattle.std.specs.Prelude.{◌≤◌, length, IfOk};
+ghost use Rattle.std.specs.Prelude.{◌≡◌, ◌≤◌, [], length, IfOk, IsOkUnless};
+ghost use Rattle.rd_cli.specs.Causes.{Writes};
 
 use crate::answer::Answer;
 use crate::ask::Ask;
@@ -44,7 +45,10 @@ pub fn run_script<R: Sink>(
     script: Script,
     wire: &mut R,
     books: &mut Books,
-) -> Result<Vec<Outcome>, Stop> {
+) -> Result<Vec<Outcome>, Stop>
+    requires { books.old ≡ [] }
+    ensures { Writes result (R.faults wire.old) (R.faults wire.new) }
+{
     begin(wire)?;
     let mut outcomes = Vec::new(alloc);
     if let Script::Drive { drive, asks } = script {
@@ -65,7 +69,9 @@ fn serve<R: Sink>(
     client: &mut Client,
     wire: &mut R,
     ask: Ask,
-) -> Result<Outcome, Stop> {
+) -> Result<Outcome, Stop>
+    ensures { Writes result (R.faults wire.old) (R.faults wire.new) }
+{
     let (handle, op) = ask.into_parts();
     let Some(file) = host.file_of(&handle, &op) else {
         return Ok(Outcome::NoHandle);
@@ -114,17 +120,22 @@ impl Host {
     }
 
     /// Joins the frames of a completion of this kind and reads it.
-    fn hear(&mut self, alloc: Global, kind: Kind, frames: &[u8]) -> Result<Answer, Stop> {
+    fn hear(&mut self, alloc: Global, kind: Kind, frames: &[u8]) -> Result<Answer, Stop>
+        ensures { IsOkUnless result Stop.Memory }
+    {
         let message = join(&mut self.joiner, frames)?;
         let bytes = message.as_slice();
-        let (Ok(head), Some(behind)) = (read_head(bytes), bytes.get(COMPLETION_HEAD_LEN..)) else {
+        let Ok(head) = read_head(bytes) else {
             return Err(Stop::Memory);
         };
+        let behind = &bytes[COMPLETION_HEAD_LEN..];
         Ok(Answer::read(alloc, kind, head.status, behind)?)
     }
 
     /// Lets a handle hold the file that an open gave, or nothing where it failed.
-    fn hold(&mut self, handle: String, body: &Body) -> Result<(), Stop> {
+    fn hold(&mut self, handle: String, body: &Body) -> Result<(), Stop>
+        ensures { IsOkUnless result Stop.Memory }
+    {
         match body {
             Body::Created { file, .. } => {
                 self.files.insert(handle, *file)?;
@@ -161,6 +172,7 @@ impl Client {
     fn hear(&mut self, alloc: Global, frames: &[u8]) -> Result<Bytes, Stop>
         ensures some { IfOk result (λ completion. 1 ≤ length completion) }
         ensures most { IfOk result (λ completion. length completion ≤ 1052672) }
+        ensures memory { IsOkUnless result Stop.Memory }
     {
         let message = join(&mut self.joiner, frames)?;
         let (request, _) = read_request(alloc, message.as_slice())?;
@@ -197,7 +209,9 @@ impl Client {
 }
 
 /// The message that these frames carry.
-fn join(joiner: &mut Joiner, frames: &[u8]) -> Result<Bytes, Stop> {
+fn join(joiner: &mut Joiner, frames: &[u8]) -> Result<Bytes, Stop>
+    ensures { IsOkUnless result Stop.Memory }
+{
     joiner.feed(frames)?;
     joiner.take().ok_or(Stop::Memory)
 }

@@ -21,8 +21,13 @@ pub enum Stop {
 }
 
 impl Stop {
+    ghost use Rattle.std.specs.Prelude.{◌≡◌};
+    ghost use Rattle.rd_cli.specs.Causes.{status_of};
+
     /// The exit status.
-    pub fn status(&self) -> u8 {
+    pub fn status(&self) -> u8
+        ensures { result ≡ status_of self.now }
+    {
         match self {
             Stop::Words | Stop::Line(_) => 1,
             Stop::Input => 2,

@@ -1,5 +1,9 @@
 //! The top call.
 
+ghost use Rattle.std.specs.Prelude.{◌≡◌, ◌≤◌, ◌⊎◌, ◌↔◌, [], codes, IsTrue, map, string_bytes, IfErr, IsErrOf};
+ghost use Rattle.rd_base.specs.Faults.{Rose};
+ghost use Rattle.rd_cli.specs.Causes.{AreBoth, Caused, status_of};
+
 use crate::report::report;
 use crate::script::{MAX_BYTES, read_script};
 use crate::session::run_script;
@@ -28,7 +32,17 @@ pub fn run<S: Source, K: Sink, R: Sink>(
     output: &mut K,
     wire: &mut R,
     books: &mut Books,
-) -> u8 {
+) -> u8
+    requires { books.old ≡ [] }
+
+    // The causes of the statuses.
+    ensures known { (result ≡ 0) ⊎ ((result ≡ 1) ⊎ ((result ≡ 2) ⊎ ((result ≡ 3) ⊎ (result ≡ 6)))) }
+    ensures words { ¬ (AreBoth (map string_bytes words.now)) → (result ≡ 1) ⊎ (result ≡ 6) }
+    ensures input { result ≡ 2 → Rose (S.faults input.old) (S.faults input.new) }
+    ensures output { result ≡ 3 → Rose (K.faults output.old) (K.faults output.new) ⊎ Rose (R.faults wire.old) (R.faults wire.new) }
+
+    ensures counted { (S.faults input.old ≤ S.faults input.new) × (K.faults output.old ≤ K.faults output.new) × (R.faults wire.old ≤ R.faults wire.new) }
+{
     match both(alloc, words, input, output, wire, books) {
         Ok(()) => 0,
         Err(stop) => last_line(alloc, output, stop),
@@ -42,10 +56,15 @@ fn both<S: Source, K: Sink, R: Sink>(
     output: &mut K,
     wire: &mut R,
     books: &mut Books,
-) -> Result<(), Stop> {
-    match words {
-        [word] if word.as_str() == "both" => {}
-        _ => return Err(Stop::Words),
+) -> Result<(), Stop>
+    requires { books.old ≡ [] }
+    ensures words { ¬ (AreBoth (map string_bytes words.now)) → IsErrOf result Stop.Words }
+    ensures cause { IfErr result (λ stop. Caused stop (Rose (S.faults input.old) (S.faults input.new))
+        (Rose (K.faults output.old) (K.faults output.new) ⊎ Rose (R.faults wire.old) (R.faults wire.new))) }
+    ensures counted { (S.faults input.old ≤ S.faults input.new) × (K.faults output.old ≤ K.faults output.new) × (R.faults wire.old ≤ R.faults wire.new) }
+{
+    if !are_both(words) {
+        return Err(Stop::Words);
     }
     let text = read_all(alloc, input, MAX_BYTES)?;
     let script = read_script(alloc, text.as_slice())?;
@@ -54,8 +73,27 @@ fn both<S: Source, K: Sink, R: Sink>(
     write_all(output, report.as_bytes()).map_err(|_| Stop::Output)
 }
 
+/// Whether the words are the one command that there is.
+fn are_both(words: &[String]) -> bool
+    ensures { IsTrue result ↔ AreBoth (map string_bytes words.now) }
+{
+    match words {
+        [word] => is_both(word),
+        _ => false,
+    }
+}
+
+fn is_both(word: &String) -> bool
+    ensures { IsTrue result ↔ (string_bytes word.now ≡ codes "both") }
+{
+    word.as_str() == "both"
+}
+
 /// Says what ended the run, where that has a line, and answers the status. A failure to say it changes nothing.
-fn last_line<K: Sink>(alloc: Global, output: &mut K, stop: Stop) -> u8 {
+fn last_line<K: Sink>(alloc: Global, output: &mut K, stop: Stop) -> u8
+    ensures status { (result ≡ status_of stop) ⊎ (result ≡ 6) }
+    ensures counted { K.faults output.old ≤ K.faults output.new }
+{
     match line_of(alloc, &stop) {
         Ok(line) => {
             let _ = write_all(output, line.as_bytes());

@@ -10,7 +10,7 @@ use Rattle.std.specs.declared.cmp.Ordering.{Ordering}
 abbrev pub Path : Type 0
 Path = List ℕ
 
--- the order of paths: by the first unit in which they differ
+-- the order of paths: by the first unit in which they differ, and a beginning of a path before the path
 abbrev pub path_cmp : Path → Path → Ordering
 path_cmp = slice_cmp nat_cmp
 
@@ -44,7 +44,7 @@ handle_at s file = lookup (is_at (nat_cmp file)) s.handles
 abbrev pub empty_drive : List ℕ → DriveState
 empty_drive label = record { label = label; nodes = []; handles = []; next = 1 }
 
--- the same drive with a file at a path where nothing stood
+-- the same drive with a file at a path; what stood there before is gone
 abbrev pub with_file : DriveState → Path × List ℕ → DriveState
 with_file s file = record s { nodes = insert_entry path_cmp s.nodes file.0 (record { bytes = file.1 }) }
 

@@ -8,7 +8,7 @@ use Rattle.rd_drive.specs.Statuses.{no_memory}
 abbrev pub starved_reply : Reply
 starved_reply = record { status = no_memory; body = Fault }
 
--- whether a reply is the one for want of memory
+-- whether a reply has the status for want of memory
 abbrev pub is_starved : Reply → Bool
 is_starved reply = reply.status.0 == no_memory.0
 

@@ -31,7 +31,8 @@ const FILE_IDS_END: u64 = 1 << 32;
 /// Why a file could not be added.
 #[derive(Clone, Copy, Debug, PartialEq, Eq, Error)]
 pub enum AddNo {
-    #[error("the folder isn't there")]
+    /// The path isn't a plain one: this form of the drive has no other places for files.
+    #[error("the drive has no such place")]
     PathNotFound,
     #[error("the path is taken")]
     Collision,

@@ -1,6 +1,6 @@
 -- That bytes are one message or have one first fault.
 use Rattle.std.proofs.Common.{Fits, ◌≡◌, ℕ, ◌+◌, Bool, true, false, List, length, get_or, Result, Ok, Err, refl, arith, sym, ap, subst, ◌∙◌, ◌⊎◌, inl, inr}
-use Rattle.std.specs.Prelude.{◌==◌}
+use Rattle.std.specs.Prelude.{◌==◌, ◌-◌, ◌^◌, min}
 use Rattle.std.specs.Int.{w8}
 use Rattle.rd_base.specs.declared.bad.Bad.{Bad}
 use Rattle.rd_base.specs.declared.bad.ReadNo.{ReadNo}
@@ -10,7 +10,7 @@ use Rattle.rd_base.specs.Reading.{ReadsInto}
 use Rattle.rd_base.specs.Layout.{Layout, done, ◌>>=◌, choose, Spells, FirstFault, and_then, met}
 use Rattle.rd_base.proofs.Numbers.{are_bytes}
 use Rattle.rd_base.proofs.Decided.{decided, spells, meets, again, reader_spells, fault_behind}
-use Rattle.rd_irp.specs.Reading.{IsOneOf}
+use Rattle.rd_irp.specs.Reading.{IsOneOf, WithTail}
 use Rattle.rd_irp.specs.declared.op.Op.{Op}
 use Rattle.rd_irp.specs.declared.op.Op.TheVariants.{Create, Close, Read, Unknown, Malformed}
 use Rattle.rd_irp.specs.declared.request.Request.{Request}
@@ -34,6 +34,18 @@ layout_one_of l bytes fits =
       one_value = d.one_value;
       one_fault = λ bad other e o. err_is _ bad other e o;
     }
+
+-- bytes spell one value of a layout
+pub layout_one_value : {A : Type 0} (l : Layout A) (a b : A) (m n : ℕ) (bytes : List ℕ) → Spells l a m bytes → Spells l b n bytes → (a ≡ b) × (m ≡ n)
+layout_one_value {A = A} l a b m n bytes s t =
+    let x = meets l 0 bytes a m s in
+    let y = meets l 0 bytes b n t in
+    let same : ◌≡◌ {A = A × Position} (a, x.0) (b, y.0) = of_is (met l (record { at = 0; left = bytes })) (a, x.0) (b, y.0) x.1 y.1 in
+    (ap (λ (z : A × Position). z.0) same, sym x.2 ∙ ap (λ (z : A × Position). length z.1.left) same ∙ y.2)
+
+-- bytes that spell a value have no fault
+pub layout_not_both : {A : Type 0} (l : Layout A) (a : A) (tail : ℕ) (bad : Bad) (bytes : List ℕ) → Spells l a tail bytes → FirstFault l bytes bad → ⊥
+layout_not_both l a tail bad bytes s f = let m = meets l 0 bytes a tail s in let e = m.1 in let d = f in cc
 
 -- the value that was chosen behind another
 then_ok : {A B : Type 0} (r : Result A Bad) (f : A → Result B Bad) (y : B) → and_then r f ≡ Ok y → (x : A) × (r ≡ Ok x) × (f x ≡ Ok y)
@@ -162,16 +174,30 @@ answer_or_fault bytes fits = go_head (met request_head (front bytes)) refl
     go_head (Ok x) e = go_body x.0 x.1 e (met (body_behind x.0) x.1) refl
     go_head (Err bad) e = inr (bad, e)
 
+-- bytes spell one request
+pub request_one_value : (r s : Request) (m n : ℕ) (bytes : List ℕ) → SpellsRequest r m bytes → SpellsRequest s n bytes → (r ≡ s) × (m ≡ n)
+request_one_value r s m n bytes x y =
+    let same : ◌≡◌ {A = Request × ℕ} (r, m) (s, n) = of_is (answer bytes) (r, m) (s, n) (request_answer r m bytes x) (request_answer s n bytes y) in
+    (ap (λ (z : Request × ℕ). z.0) same, ap (λ (z : Request × ℕ). z.1) same)
+
+-- bytes that spell a request have no fault
+pub request_not_both : (r : Request) (tail : ℕ) (bad : Bad) (bytes : List ℕ) → SpellsRequest r tail bytes → FirstFaultOfRequest bytes bad → ⊥
+request_not_both r tail bad bytes s f = let e = request_answer r tail bytes s in let d = fault_answer bytes bad f in cc
+
 -- the law of requests
 pub request_one_of : (bytes : List ℕ) → ((i : ℕ) → Fits w8 (get_or bytes i 0)) → IsOneOf SpellsRequest FirstFaultOfRequest bytes
 request_one_of bytes fits = record {
   one_of = answer_or_fault bytes fits;
-  not_both = λ r tail bad s f. let e = request_answer r tail bytes s in let d = fault_answer bytes bad f in cc;
-  one_value = λ r s m n x y.
-      let same : ◌≡◌ {A = Request × ℕ} (r, m) (s, n) = of_is (answer bytes) (r, m) (s, n) (request_answer r m bytes x) (request_answer s n bytes y) in
-      (ap (λ (z : Request × ℕ). z.0) same, ap (λ (z : Request × ℕ). z.1) same);
+  not_both = λ r tail bad s f. request_not_both r tail bad bytes s f;
+  one_value = λ r s m n x y. request_one_value r s m n bytes x y;
   one_fault = λ bad other e o. err_is _ bad other e o;
 }
+
+-- what is read of bytes that spell a request is that request
+pub read_back : (r s : Request) (tail count : ℕ) (bytes : List ℕ) → SpellsRequest r tail bytes → WithTail count (λ n. SpellsRequest s n bytes) → (s ≡ r) × (count ≡ min tail (2 ^ 32 - 1))
+read_back r s tail count bytes x y =
+    let same = request_one_value s r y.0 tail bytes y.2 x in
+    (same.0, y.1 ∙ ap (λ (n : ℕ). min n (2 ^ 32 - 1)) same.1)
 
 -- what a reader has read, head and body
 pub read_whole : (bytes : List ℕ) (start p q : Position) (h : RequestHead) (o : Op) (tail : ℕ) → ((i : ℕ) → Fits w8 (get_or bytes i 0)) → start ≡ front bytes → met request_head start ≡ Ok (h, p) → met (body_behind h) p ≡ Ok (o, q) → tail ≡ length q.left → SpellsRequest (request_with h o) tail bytes

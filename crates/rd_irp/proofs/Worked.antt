@@ -17,6 +17,7 @@ use Rattle.rd_irp.specs.declared.completion.Body.TheVariants as body
 use Rattle.rd_irp.specs.Header.{header}
 use Rattle.rd_irp.specs.Op.{op_body, create_body, read_body}
 use Rattle.rd_irp.specs.Request.{request_head, body_behind, whole_request, SpellsRequest, FirstFaultOfRequest}
+use Rattle.rd_irp.specs.Written.{request_bytes, completion_bytes, body_bytes}
 use Rattle.rd_irp.specs.Completion.{completion_head, success_body, completion_body, SpellsHead, SpellsBody, FirstFaultOfBody}
 
 -- whether all are bytes
@@ -77,6 +78,9 @@ create_request = record {
 pub create_spelled : SpellsRequest create_request 0 create_message
 unfolding whole_request request_head header op_body create_body
 create_spelled = met_is_spelled whole_request create_message create_request 70 0 refl refl refl
+
+pub create_written : request_bytes create_request ≡ create_message
+create_written = refl
 
 -- A path that is longer than its message is short where its units begin: it isn't cut.
 abbrev pub long_path : List ℕ
@@ -146,6 +150,9 @@ pub refused_body : SpellsBody kind.Buffer invalid_parameter body.Fault 4 (drop 1
 unfolding completion_body
 refused_body = met_is_spelled (completion_body kind.Buffer invalid_parameter) (drop 16 refused_read) _ 0 4 refl refl refl
 
+pub refused_written : completion_bytes kind.Buffer (record { device = 1; completion = 0; status = invalid_parameter }) body.Fault ≡ refused_read
+refused_written = refl
+
 abbrev pub success : Status
 success = record { 0 = 0 }
 
@@ -161,7 +168,17 @@ pub buffer_body : SpellsBody kind.Buffer success (body.Buffer hello) 0 (5 ∷ 0 
 unfolding completion_body success_body
 buffer_body = met_is_spelled (completion_body kind.Buffer success) (5 ∷ 0 ∷ 0 ∷ 0 ∷ hello) _ 9 0 refl refl refl
 
--- the bytes that a buffer doesn't count are further ones
+-- as they are written
+pub created_written : body_bytes kind.Create (body.Created 1 1) ≡ 1 ∷ 0 ∷ 0 ∷ 0 ∷ 1 ∷ []
+created_written = refl
+
+pub buffer_written : body_bytes kind.Buffer (body.Buffer hello) ≡ 5 ∷ 0 ∷ 0 ∷ 0 ∷ hello
+buffer_written = refl
+
+pub close_written : body_bytes kind.Close body.Closed ≡ 0 ∷ 0 ∷ 0 ∷ 0 ∷ []
+close_written = refl
+
+-- the bytes that a buffer doesn't count stand behind it
 pub longer_buffer : SpellsBody kind.Buffer success (body.Buffer (0x61 ∷ [])) 1 (1 ∷ 0 ∷ 0 ∷ 0 ∷ 0x61 ∷ 0x62 ∷ [])
 unfolding completion_body success_body
 longer_buffer = met_is_spelled (completion_body kind.Buffer success) (1 ∷ 0 ∷ 0 ∷ 0 ∷ 0x61 ∷ 0x62 ∷ []) _ 5 1 refl refl refl

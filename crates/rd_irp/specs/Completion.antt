@@ -20,7 +20,7 @@ completion_head = do
   status ← number32
   done (record { device = device; completion = completion; status = record { 0 = status } })
 
--- What stands behind the head of a success (2.2.1.5.1 to 2.2.1.5.4, 2.2.3.4.12). A pad may be cut where the bytes end.
+-- What stands behind the head of a success (2.2.1.5.1 to 2.2.1.5.4, 2.2.3.4.12). Where the bytes end inside padding, what is there suffices.
 unfoldable pub success_body : Kind → Layout Body
 success_body kind.Create = do
   file ← number32
@@ -45,18 +45,18 @@ success_body kind.Lock = do
 unfoldable pub completion_body : Kind → Status → Layout Body
 completion_body k status = choose (status.0 == 0) (success_body k) (done Fault)
 
--- The bytes behind the head of a completion of this kind and status are this body, and then so many further bytes.
+-- Behind the head of a completion of this kind and status, the bytes begin with a spelling of this body, and so many more stand behind it.
 abbrev pub SpellsBody : Kind → Status → Body → ℕ → List ℕ → Type 0
 SpellsBody k status body tail bytes = Spells (completion_body k status) body tail bytes
 
--- the first fault of bytes that are no such body
+-- what goes wrong first in bytes that are no such body
 abbrev pub FirstFaultOfBody : Kind → Status → List ℕ → Bad → Type 0
 FirstFaultOfBody k status bytes bad = FirstFault (completion_body k status) bytes bad
 
--- The bytes are this head of a completion, and then so many further bytes.
+-- The bytes begin with a spelling of this head of a completion, and so many more stand behind it.
 abbrev pub SpellsHead : Head → ℕ → List ℕ → Type 0
 SpellsHead head tail bytes = Spells completion_head head tail bytes
 
--- the first fault of bytes that are no such head
+-- what goes wrong first in bytes that are no such head
 abbrev pub FirstFaultOfHead : List ℕ → Bad → Type 0
 FirstFaultOfHead bytes bad = FirstFault completion_head bytes bad

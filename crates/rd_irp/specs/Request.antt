@@ -32,17 +32,18 @@ whole_request = do
   op ← body_behind head
   done (record { device = head.device; file = head.file; completion = head.completion; op = op })
 
--- The bytes are this request with this operation, and then so many further bytes.
--- A malformed one is a head that can be read and, where the body has a fault, the first one; all bytes behind the head are further ones.
+-- The bytes begin with a spelling of this request, whose operation is the first argument, and so many more stand behind it.
+-- A malformed request is spelled by its head alone: its operation names what first goes wrong in the body, by its place in the whole
+-- message, and all bytes behind the head count as more.
 abbrev pub SpellsWith : Op → Request → ℕ → List ℕ → Type 0
 SpellsWith (Malformed major minor bad) r tail bytes =
     FaultBehind request_head body_behind (record { device = r.device; file = r.file; completion = r.completion; major = major; minor = minor }) bad tail bytes
 SpellsWith _ r tail bytes = Spells whole_request r tail bytes
 
--- The bytes are this request, and then so many further bytes.
+-- The bytes begin with a spelling of this request, and so many more stand behind it.
 abbrev pub SpellsRequest : Request → ℕ → List ℕ → Type 0
 SpellsRequest r tail bytes = SpellsWith r.op r tail bytes
 
--- The first fault of bytes that are no request: their head has it.
+-- What goes wrong first in bytes that are no request: their head can't be read.
 abbrev pub FirstFaultOfRequest : List ℕ → Bad → Type 0
 FirstFaultOfRequest bytes bad = FirstFault request_head bytes bad

@@ -61,7 +61,7 @@ body_bytes kind body.Fault = replicate (fault_length kind) 0
 abbrev pub completion_bytes : Kind → Head → Body → List ℕ
 completion_bytes kind head body = head_bytes head ++ body_bytes kind body
 
--- The bytes behind the last named field of a body that is written: none but the zeros of a fault.
+-- how many bytes of a written body say nothing: the zeros of a fault
 abbrev pub body_tail : Kind → Body → ℕ
 body_tail kind body.Fault = fault_length kind
 body_tail kind _ = 0
@@ -69,7 +69,8 @@ body_tail kind _ = 0
 -- the numbers of an operation are in the ranges of their fields
 abbrev pub IsOpInRange : Op → Type 0
 IsOpInRange (Create access allocation attributes share disposition options path) =
-    (access < 2 ^ 32) × (allocation < 2 ^ 64) × (attributes < 2 ^ 32) × (share < 2 ^ 32) × (disposition < 2 ^ 32) × (options < 2 ^ 32) × All (λ unit. unit < 2 ^ 16) path
+    (access < 2 ^ 32) × (allocation < 2 ^ 64) × (attributes < 2 ^ 32) × (share < 2 ^ 32)
+    × (disposition < 2 ^ 32) × (options < 2 ^ 32) × All (λ unit. unit < 2 ^ 16) path
 IsOpInRange Close = Unit {0}
 IsOpInRange (Read offset len) = (offset < 2 ^ 64) × (len < 2 ^ 32)
 IsOpInRange (Unknown major minor) = Unit {0}

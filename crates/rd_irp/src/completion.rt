@@ -1,10 +1,12 @@
 //! Completions (MS-RDPEFS 2.2.1.5).
 
-ghost use Rattle.std.specs.Prelude.{◌≡◌, ◌+◌, ◌-◌, ◌≤◌, length, IfOk, IfErr, OnOk, vec_len};
+ghost use Rattle.std.specs.Prelude.{◌≡◌, ◌+◌, ◌-◌, ◌≤◌, ◌++◌, drop, length, replicate, IfOk, IfErr, OnOk, vec_len};
 ghost use Rattle.rd_base.specs.Fields.{missing_pad};
 ghost use Rattle.rd_base.specs.Reading.{Reads, ReadsInto};
 ghost use Rattle.rd_irp.specs.Completion.{completion_head, success_body, completion_body, SpellsHead, FirstFaultOfHead, SpellsBody, FirstFaultOfBody};
 ghost use Rattle.rd_irp.specs.Reading.{WithTail, ForBad};
+ghost use Rattle.rd_irp.specs.Written.{completion_bytes, body_bytes, body_tail, IsBodyInRange};
+ghost use Rattle.rd_base.specs.declared.status.Status.{Status};
 ghost use Rattle.rd_irp.specs.Fits.{BodyFits, IsCountable, IsOfKind, body_length, fault_length, reply_kind};
 
 use crate::head::{IO_COMPLETION, put_header, read_header, tail_len};
@@ -107,7 +109,8 @@ pub fn read_body(
     bytes: &[u8],
 ) -> Result<(Body, u32), ReadNo>
     ensures fits { IfOk result (λ read. BodyFits kind status read.0) }
-    ensures spelled { IfOk result (λ read. WithTail read.1 (λ tail. SpellsBody kind status read.0 tail bytes.now)) }
+    ensures spelled { IfOk result (λ read.
+        WithTail read.1 (λ tail. SpellsBody kind status read.0 tail bytes.now)) }
     ensures refused { IfErr result (ForBad (FirstFaultOfBody kind status bytes.now)) }
 {
     let mut cursor = Cursor::new(bytes);
@@ -164,7 +167,7 @@ fn success_of(alloc: Global, kind: Kind, cursor: &mut Cursor<'_>) -> Result<Body
     }
 }
 
-/// Skips padding, of which any number of bytes may be missing at the end.
+/// Skips as much of the padding as is there.
 fn skip_pad(cursor: &mut Cursor<'_>, count: u32) -> Result<(), Bad>
     ensures { Reads (λ u. u) (missing_pad count) cursor.old cursor.new result }
 {
@@ -181,6 +184,10 @@ pub fn write_completion(
     body: &Body,
 ) -> Result<Bytes, AllocError>
     requires { BodyFits kind head.now.status body.now }
+    ensures head { IfOk result (SpellsHead head.now (body_length kind body.now)) }
+    ensures body { IfOk result (λ message.
+        SpellsBody kind head.now.status body.now (body_tail kind body.now) (drop 16 message)) }
+    ensures written { IfOk result (λ message. message ≡ completion_bytes kind head.now body.now) }
     ensures length { IfOk result (λ message. length message ≡ 16 + body_length kind body.now) }
 {
     let mut out = Vec::with_capacity(alloc, COMPLETION_HEAD_LEN + body_len(kind, body))?;
@@ -195,6 +202,10 @@ pub fn write_completion(
 /// Writes the body of a completion alone, as it stands behind the head.
 pub fn write_body(alloc: Global, kind: Kind, body: &Body) -> Result<Bytes, AllocError>
     requires { IsCountable body.now }
+    ensures spelled { IfOk result (λ bytes.
+        (status : Status) → BodyFits kind status body.now
+        → SpellsBody kind status body.now (body_tail kind body.now) bytes) }
+    ensures written { IfOk result (λ bytes. bytes ≡ body_bytes kind body.now) }
 {
     let mut out = Vec::with_capacity(alloc, body_len(kind, body))?;
     put_body(&mut out, kind, body)?;
@@ -216,7 +227,8 @@ fn body_len(kind: Kind, body: &Body) -> usize
 
 /// Beside a status other than success stand zeros, as many as a success of the kind has bytes without its buffer.
 fn fault_padding(kind: Kind) -> &'static [u8]
-    ensures { length result.now ≡ fault_length kind }
+    ensures zeros { result.now ≡ replicate (fault_length kind) 0 }
+    ensures length { length result.now ≡ fault_length kind }
 {
     match kind {
         Kind::Close | Kind::Buffer => &[0; 4],
@@ -226,7 +238,9 @@ fn fault_padding(kind: Kind) -> &'static [u8]
 
 fn put_body(out: &mut Vec<u8>, kind: Kind, body: &Body) -> Result<(), AllocError>
     requires { IsCountable body.now }
-    ensures { OnOk result (vec_len out.new ≡ vec_len out.old + body_length kind body.now) }
+    ensures bytes { OnOk result (out.new.items ≡ out.old.items ++ body_bytes kind body.now) }
+    ensures length { OnOk result (vec_len out.new ≡ vec_len out.old + body_length kind body.now) }
+    ensures in_range { OnOk result (IsBodyInRange body.now) }
 {
     match body {
         Body::Created { file, information } => {

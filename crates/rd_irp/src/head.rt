@@ -1,8 +1,9 @@
 //! The header in front of every message (MS-RDPEFS 2.2.1.1).
 
-ghost use Rattle.std.specs.Prelude.{◌≡◌, ◌+◌, ◌-◌, ◌^◌, OnOk, length, min, vec_len};
+ghost use Rattle.std.specs.Prelude.{◌≡◌, ◌+◌, ◌-◌, ◌^◌, ◌++◌, OnOk, length, min, vec_len};
 ghost use Rattle.rd_base.specs.Reading.{Reads};
 ghost use Rattle.rd_irp.specs.Header.{header};
+ghost use Rattle.rd_irp.specs.Written.{header_bytes};
 
 use rd_base::{Bad, Cursor, Why};
 use std::alloc::AllocError;
@@ -43,7 +44,8 @@ pub fn read_header(cursor: &mut Cursor<'_>, packet: u16) -> Result<(), Bad>
 }
 
 pub fn put_header(out: &mut Vec<u8>, packet: u16) -> Result<(), AllocError>
-    ensures { OnOk result (vec_len out.new ≡ vec_len out.old + 4) }
+    ensures bytes { OnOk result (out.new.items ≡ out.old.items ++ header_bytes packet) }
+    ensures length { OnOk result (vec_len out.new ≡ vec_len out.old + 4) }
 {
     out.extend_from_slice(&CORE.to_le_bytes())?;
     out.extend_from_slice(&packet.to_le_bytes())

@@ -1,11 +1,13 @@
 //! Requests (MS-RDPEFS 2.2.1.4).
 
-ghost use Rattle.std.specs.Prelude.{◌≡◌, ◌+◌, ◌*◌, ◌≤◌, ◌↔◌, IsTrue, IfOk, IfErr, OnOk, length, vec_len};
-ghost use Rattle.rd_base.specs.Fields.{length_of_units, path, units_of, before_zero};
+ghost use Rattle.std.specs.Prelude.{◌≡◌, ◌+◌, ◌*◌, ◌^◌, ◌<◌, ◌≤◌, ◌↔◌, ◌++◌, All, IsTrue, IfOk, IfErr, OnOk, length, vec_len};
+ghost use Rattle.std.specs.Int.{w32, to_le_bytes};
+ghost use Rattle.rd_base.specs.Fields.{length_of_units, path, path_bytes, units_of, before_zero};
 ghost use Rattle.rd_base.specs.Reading.{Reads, ReadsInto};
 ghost use Rattle.rd_irp.specs.Op.{create_body, op_body};
 ghost use Rattle.rd_irp.specs.Request.{request_head, SpellsRequest, FirstFaultOfRequest};
 ghost use Rattle.rd_irp.specs.Reading.{WithTail, ForBad};
+ghost use Rattle.rd_irp.specs.Written.{request_bytes, major_of, op_bytes, IsOpInRange};
 ghost use Rattle.rd_irp.specs.Fits.{Fits, op_length};
 
 use crate::head::{IO_REQUEST, put_header, read_header, tail_len};
@@ -68,7 +70,8 @@ pub fn fits(op: &Op) -> bool
 /// Reads a request, and counts the ignored bytes behind it. A fault in its head is `Bad`, at its place in the message.
 /// A fault in its body makes it `Malformed`; then all bytes behind the head are ignored.
 pub fn read_request(alloc: Global, bytes: &[u8]) -> Result<(Request, u32), ReadNo>
-    ensures spelled { IfOk result (λ read. WithTail read.1 (λ tail. SpellsRequest read.0 tail bytes.now)) }
+    ensures spelled { IfOk result (λ read.
+        WithTail read.1 (λ tail. SpellsRequest read.0 tail bytes.now)) }
     ensures refused { IfErr result (ForBad (FirstFaultOfRequest bytes.now)) }
 {
     let mut cursor = Cursor::new(bytes);
@@ -202,6 +205,8 @@ fn units_before_zero(alloc: Global, field: &[u8]) -> Result<Units, AllocError>
 /// Writes a request whose operation fits.
 pub fn write_request(alloc: Global, request: &Request) -> Result<Bytes, AllocError>
     requires { Fits request.now.op }
+    ensures spelled { IfOk result (SpellsRequest request.now 0) }
+    ensures written { IfOk result (λ message. message ≡ request_bytes request.now) }
     ensures length { IfOk result (λ message. length message ≡ 24 + op_length request.now.op) }
 {
     let mut out = Vec::with_capacity(alloc, HEAD_LEN + body_len(&request.op))?;
@@ -215,7 +220,9 @@ pub fn write_request(alloc: Global, request: &Request) -> Result<Bytes, AllocErr
     Ok(Bytes::of(out))
 }
 
-fn major_of(op: &Op) -> u32 {
+fn major_of(op: &Op) -> u32
+    ensures { result ≡ major_of op.now }
+{
     match op {
         Op::Create { .. } => CREATE,
         Op::Close => CLOSE,
@@ -247,7 +254,9 @@ fn path_len(path: &Units) -> usize
 
 fn put_op(out: &mut Vec<u8>, op: &Op) -> Result<(), AllocError>
     requires { Fits op.now }
-    ensures { OnOk result (vec_len out.new ≡ vec_len out.old + op_length op.now) }
+    ensures bytes { OnOk result (out.new.items ≡ out.old.items ++ op_bytes op.now) }
+    ensures length { OnOk result (vec_len out.new ≡ vec_len out.old + op_length op.now) }
+    ensures in_range { OnOk result (IsOpInRange op.now) }
 {
     match op {
         Op::Create {
@@ -265,13 +274,15 @@ fn put_op(out: &mut Vec<u8>, op: &Op) -> Result<(), AllocError>
             out.extend_from_slice(&share.to_le_bytes())?;
             out.extend_from_slice(&disposition.to_le_bytes())?;
             out.extend_from_slice(&options.to_le_bytes())?;
-            put_path(out, path)
+            put_path(out, path)?;
+            Ok(())
         }
         Op::Close => out.extend_from_slice(&CLOSE_PAD),
         Op::Read { offset, length } => {
             out.extend_from_slice(&length.to_le_bytes())?;
             out.extend_from_slice(&offset.to_le_bytes())?;
-            out.extend_from_slice(&READ_PAD)
+            out.extend_from_slice(&READ_PAD)?;
+            Ok(())
         }
         Op::Unknown { .. } | Op::Malformed { .. } => unreachable!(),
     }
@@ -280,10 +291,14 @@ fn put_op(out: &mut Vec<u8>, op: &Op) -> Result<(), AllocError>
 /// Writes the length in bytes, the units, and one zero unit that the length counts.
 fn put_path(out: &mut Vec<u8>, path: &Units) -> Result<(), AllocError>
     requires { length path.now ≤ 4096 }
-    ensures { OnOk result (vec_len out.new ≡ vec_len out.old + 6 + 2 * length path.now) }
+    ensures bytes { OnOk result (out.new.items
+        ≡ out.old.items ++ to_le_bytes w32 (2 * length path.now + 2) ++ path_bytes path.now) }
+    ensures length { OnOk result (vec_len out.new ≡ vec_len out.old + 6 + 2 * length path.now) }
+    ensures in_range { OnOk result (All (λ unit. unit < 2 ^ 16) path.now) }
 {
     out.extend_from_slice(&(path_len(path) as u32).to_le_bytes())?;
-    for unit in path.as_slice() {
+    let units = path.as_slice();
+    for unit in units {
         out.extend_from_slice(&unit.to_le_bytes())?;
     }
     out.extend_from_slice(&0u16.to_le_bytes())

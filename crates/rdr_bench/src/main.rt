@@ -1,7 +1,7 @@
-//! How fast messages go through carrier frames, beside a plain copy of the same bytes in the same run.
+//! How fast message data go through `split` and through a joiner, beside a plain copy of the same bytes in the same run.
 //!
 //! Without words it takes one message of each size through frames and says so. With a number of megabytes it takes that
-//! many through for each size and prints the speeds.
+//! many of each size and prints the speeds.
 #![tactic(auto)]
 
 use anyhow::{Context, Result, ensure};
@@ -11,8 +11,11 @@ use std::alloc::Global;
 use std::env;
 use std::time::{Duration, Instant};
 
-/// The sizes of the messages, in bytes: a small request, a read of 4 KiB, of 64 KiB, and the largest.
+/// The sizes of the messages, in bytes: a request, a read of 4 KiB and of 64 KiB, and the largest.
 const SIZES: [usize; 4] = [64, 4096, 65_536, MAX_MESSAGE];
+
+/// The bytes that are fed at a time, as a socket might give them.
+const PIECE: usize = 16_384;
 
 const MEGABYTE: u64 = 1_000_000;
 
@@ -23,7 +26,8 @@ fn main(rt: HostRuntime) -> Result<()> {
     };
     for size in SIZES {
         let message = vec![in rt.alloc(); 0x5a; size]?;
-        let joined = through_frames(rt.alloc(), message.as_slice())?;
+        let frames = cut(rt.alloc(), message.as_slice())?;
+        let joined = join(rt.alloc(), frames.as_slice())?;
         ensure!(
             joined.as_slice() == message.as_slice(),
             "{size} bytes came out otherwise"
@@ -32,14 +36,14 @@ fn main(rt: HostRuntime) -> Result<()> {
             println!(rt; "{size} bytes through frames")?;
         } else {
             let rounds = u64::from(megabytes) * MEGABYTE / (size as u64).max(1) + 1;
-            measure(&rt, message.as_slice(), rounds)?;
+            measure(&rt, message.as_slice(), frames.as_slice(), rounds)?;
         }
     }
     Ok(())
 }
 
-/// Prints how fast so many rounds of a message go through frames, and through plain copies.
-fn measure(rt: &HostRuntime, message: &[u8], rounds: u64) -> Result<()> {
+/// Prints how fast so many rounds of a message are copied, cut into frames, and joined from them.
+fn measure(rt: &HostRuntime, message: &[u8], frames: &[u8], rounds: u64) -> Result<()> {
     let started = Instant::now(rt)?;
     for _ in 0..rounds {
         Vec::from_slice(rt.alloc(), message)?;
@@ -47,13 +51,19 @@ fn measure(rt: &HostRuntime, message: &[u8], rounds: u64) -> Result<()> {
     let copied = started.elapsed(rt)?;
     let started = Instant::now(rt)?;
     for _ in 0..rounds {
-        through_frames(rt.alloc(), message)?;
+        cut(rt.alloc(), message)?;
     }
-    let carried = started.elapsed(rt)?;
+    let split = started.elapsed(rt)?;
+    let started = Instant::now(rt)?;
+    for _ in 0..rounds {
+        join(rt.alloc(), frames)?;
+    }
+    let fed = started.elapsed(rt)?;
     let size = message.len();
-    let copies = speed(size, rounds, copied);
-    let frames = speed(size, rounds, carried);
-    println!(rt; "{size} bytes: copied {copies} MB/s, through frames {frames} MB/s")?;
+    let copied = speed(size, rounds, copied);
+    let split = speed(size, rounds, split);
+    let fed = speed(size, rounds, fed);
+    println!(rt; "{size} bytes: copy {copied} MB/s, split {split} MB/s, feed {fed} MB/s")?;
     Ok(())
 }
 
@@ -63,15 +73,21 @@ fn speed(size: usize, rounds: u64, time: Duration) -> u128 {
     bytes / time.as_micros().max(1)
 }
 
-/// Cuts a message into frames and joins them again.
-fn through_frames(alloc: Global, message: &[u8]) -> Result<Bytes> {
+/// Cuts a message into frames.
+fn cut(alloc: Global, message: &[u8]) -> Result<Bytes> {
     ensure!(
         (1..=MAX_MESSAGE).contains(&message.len()),
         "no message has {} bytes",
         message.len()
     );
-    let frames = split(alloc, message)?;
+    Ok(split(alloc, message)?)
+}
+
+/// Joins the frames of one message, a piece at a time.
+fn join(alloc: Global, frames: &[u8]) -> Result<Bytes> {
     let mut joiner = Joiner::new(alloc);
-    joiner.feed(frames.as_slice())?;
+    for piece in frames.chunks(PIECE) {
+        joiner.feed(piece)?;
+    }
     joiner.take().context("the frames carry a message")
 }

@@ -1,6 +1,6 @@
-use Rattle.std.proofs.Common.{◌≡◌, ◌≤◌, ℕ, ◌+◌, ◌++◌, ◌∷◌, [], arith, length, ap, length-append, sym, ◌∙◌, inl, inr, ◌⊎◌, ◌≢◌, Some, None}
+use Rattle.std.proofs.Common.{◌≡◌, ◌∷◌, [], arith, length, ap, length-append, sym, ◌∙◌, inl, inr, ◌⊎◌}
 use Rattle.std.proofs.lemmas.Bool.{cases_eq}
-use Rattle.rd_chunk.specs.Standing.{InRange, head_of}
+use Rattle.rd_chunk.specs.Kept.{head_of}
 use Rattle.rd_chunk.proofs.Steps.{byte_in_range, byte_takes, byte_faulty, not_both}
 use Rattle.rd_chunk.proofs.progress.take_byte.Goals as goal
 

@@ -1,9 +1,10 @@
-use Rattle.std.proofs.Common.{◌≡◌, ◌≤◌, ◌<◌, ℕ, ◌+◌, ◌++◌, List, take, drop, ap, refl, sym, ◌∙◌, arith, length, None, append_assoc, length-take, length-drop, ◌-◌, vec_len, ◌%◌, ◌^◌, add_assoc}
+use Rattle.std.proofs.Common.{◌≤◌, ℕ, ◌+◌, ◌++◌, List, take, drop, ap, ◌∙◌, arith, length, None, append_assoc, length-take, length-drop, ◌-◌, vec_len, ◌%◌, ◌^◌, add_assoc}
 use Rattle.rd_chunk.proofs.Stands.{count_on}
 use Rattle.std.proofs.lemmas.Result.{err_from_is_err_and}
 use Rattle.std.proofs.lemmas.Bool.{not_from_false}
 use Rattle.rd_chunk.proofs.Steps.{takes_then, faults_then, if_bad, not_complete}
-use Rattle.rd_chunk.specs.Standing.{held_of, Faults, IfBad, is_complete}
+use Rattle.rd_chunk.specs.Standing.{BringsFault, is_complete}
+use Rattle.rd_chunk.specs.Kept.{held_of}
 use Rattle.rd_chunk.specs.declared.progress.Progress.{Progress}
 use Rattle.rd_chunk.specs.declared.fault.ChunkBad.{ChunkBad}
 use Rattle.rd_chunk.proofs.progress.take_in.Goals as goal
@@ -12,8 +13,8 @@ pub returns-in_err-at-clause-fault : goal.returns-in_err-at-clause-fault
 returns-in_err-at-clause-fault c =
     let p = err_from_is_err_and c.from_residual.result c.from_residual.ensures.1 in
     let piece : List ℕ = c.args.piece.now in
-    rw (p.1, p.2) (if_bad c.in_err-at.field-0.0 (Faults (held_of c.loop-at.progress c.loop-at.message.items None) (take 1 (take (length c.args.piece.now - c.loop-at.at) (drop c.loop-at.at c.args.piece.now))))
-    (λ (bad : ChunkBad). (count : ℕ) × (count ≤ length c.args.piece.now) × Faults (held_of c.args.progress.now c.args.message.now.items None) (take count c.args.piece.now) bad)
+    rw (p.1, p.2) (if_bad c.in_err-at.field-0.0 (BringsFault (held_of c.loop-at.progress c.loop-at.message.items None) (take 1 (take (length c.args.piece.now - c.loop-at.at) (drop c.loop-at.at c.args.piece.now))))
+    (λ (bad : ChunkBad). (count : ℕ) × (count ≤ length c.args.piece.now) × BringsFault (held_of c.args.progress.now c.args.message.now.items None) (take count c.args.piece.now) bad)
     (λ bad h. (c.loop-at.at + 1, omega arith, faults_then (held_of c.args.progress.now c.args.message.now.items None) (held_of c.loop-at.progress c.loop-at.message.items None) c.args.piece.now c.loop-at.at 1 bad c.loop-at.invariant.takes h))
     c.in_err-at.ensures.fault)
 

@@ -1,5 +1,6 @@
 use Rattle.std.proofs.Common.{length, ◌-◌, ◌≤◌, ◌≡◌, ◌+◌, ◌%◌, ◌^◌, ◌++◌, take, vec_len, List, ℕ, None, true}
-use Rattle.rd_chunk.specs.Standing.{InRange, held_of, Takes, is_complete}
+use Rattle.rd_chunk.specs.Standing.{Takes, is_complete}
+use Rattle.rd_chunk.specs.Kept.{InRange, held_of}
 use Rattle.rd_chunk.proofs.progress.take_in.Given as goal
 
 abbrev pub invariant-loop-at : goal.invariant-loop-at

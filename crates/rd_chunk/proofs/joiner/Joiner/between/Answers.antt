@@ -1,7 +1,7 @@
-use Rattle.std.proofs.Common.{◌≡◌, ◌≤◌, ◌∙◌, ℕ, ◌+◌, arith, [], None, refl, ap, take, subst, sym, length, rules, List, true, IsTrue}
-use Rattle.std.specs.Prelude.{◌==◌}
+use Rattle.std.proofs.Common.{◌≡◌, ◌∙◌, ◌+◌, arith, subst, sym, length, rules}
 use Rattle.std.proofs.lemmas.Bool.{eqb-true, eq-eqb}
-use Rattle.rd_chunk.specs.Standing.{Held, StandsFor, held_of, head_of}
+use Rattle.rd_chunk.specs.Standing.{Held, StandsFor}
+use Rattle.rd_chunk.specs.Kept.{held_of, head_of}
 use Rattle.rd_chunk.proofs.Starts.{nothing_came, nothing_held}
 use Rattle.rd_chunk.proofs.joiner.Joiner.between.Goals as goal
 

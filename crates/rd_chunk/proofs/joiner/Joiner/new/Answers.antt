@@ -1,7 +1,7 @@
-use Rattle.std.proofs.Common.{◌≡◌, ◌≤◌, ℕ, arith, [], None, refl, ap, take}
+use Rattle.std.proofs.Common.{ℕ, arith, None, refl, ap, take}
 use Rattle.rd_chunk.proofs.Starts.{fresh}
-use Rattle.rd_chunk.specs.Standing.{held_of, head_of}
+use Rattle.rd_chunk.specs.Kept.{held_of}
 use Rattle.rd_chunk.proofs.joiner.Joiner.new.Goals as goal
 
-pub returns : goal.returns
-returns c = fresh (held_of c.start.result c.new.result.items None) 0 c.new.ensures.items (ap (λ (k : ℕ). take k c.start.result.head) c.start.ensures.have) c.start.ensures.left (omega (arith, c.start.ensures.length)) c.start.ensures.taken refl
+pub returns-clause-stands : goal.returns-clause-stands
+returns-clause-stands c = fresh (held_of c.start.result c.new.result.items None) 0 c.new.ensures.items (ap (λ (k : ℕ). take k c.start.result.head) c.start.ensures.have) c.start.ensures.left (omega (arith, c.start.ensures.length)) c.start.ensures.taken refl

@@ -1,0 +1,9 @@
+use Rattle.rd_chunk.proofs.Streams.{never_both}
+use Rattle.rd_chunk.proofs.Exists as exists
+use Rattle.rd_chunk.proofs.laws.faulty_or_sound.Goals as goal
+
+pub returns-clause-either : goal.returns-clause-either
+returns-clause-either c = exists.either
+
+pub returns-clause-never_both : goal.returns-clause-never_both
+returns-clause-never_both c = λ bytes messages. never_both messages bytes
