@@ -1,11 +1,12 @@
 //! What every layer shares: numbers and fields of a message, lists of bytes and units, status values, journals,
 //! and the outside of the program (sources of bytes and sinks of them, each with its count of faults).
 //!
-//! It stands on std alone. The layers above use two contracts of it: a field is its value or the fault at its
-//! place (`Cursor`), and a call on the outside fails only where a count of faults rose (`Source`, `Sink`).
+//! It stands on std alone. The layers above use two contracts of it: a cursor reads a field as its layout has it, or
+//! names the fault at its place (`Cursor`, with the vocabulary of layouts in `specs/`), and a call on the outside fails
+//! only where a count of faults rose (`Source`, `Sink`).
 //!
-//! Cost: reading a field copies nothing but the number itself; `Cursor::take` lends the bytes. A memory sink copies
-//! each byte once.
+//! Cost: reading a field copies nothing but the number itself; `Cursor::take` and `Cursor::part` lend the bytes. A memory
+//! sink copies each byte once.
 #![tactic(auto)]
 
 mod bad;

@@ -5,7 +5,7 @@ use Rattle.std.proofs.lemmas.Bool.{cases_eq, cases_Bool}
 use Rattle.rd_chunk.specs.declared.head.RowFault.{RowFault}
 use Rattle.rd_chunk.specs.declared.fault.ChunkWhy.{ChunkWhy}
 use Rattle.rd_chunk.specs.Frames.{size_of, length_of, Carried}
-use Rattle.rd_chunk.specs.Faults.{size_fault, head_fault, HasFault, ChunkFault}
+use Rattle.rd_chunk.specs.Faults.{size_fault, head_fault, ShowsFault, ChunkFault}
 use Rattle.rd_chunk.specs.Standing.{Held, StandsFor, is_complete}
 use Rattle.rd_chunk.specs.Streams.{HasChunkFault, IsStream}
 use Rattle.rd_chunk.proofs.Heads.{size_of-append}
@@ -59,9 +59,9 @@ module _ (held : Held) (before : ℕ) (bytes : List ℕ) (b : ℕ) (s : StandsFo
         let next : Held = record held { head = held.head ++ b ∷ []; taken = (held.taken + 1) % 2 ^ 64 } in
         inl (next, byte_stands held next before bytes b s left unfinished refl refl (λ _. (refl, left)) (λ e. absurd (omega (arith, e))) good (λ e. absurd (omega (arith, e))) refl s.no_fault)
 
-    faulty : (fault : RowFault) → HasFault held.whole (length held.joined) (held.head ++ b ∷ []) fault → Next before (bytes ++ b ∷ [])
+    faulty : (fault : RowFault) → ShowsFault held.whole (length held.joined) (held.head ++ b ∷ []) fault → Next before (bytes ++ b ∷ [])
     unfolding Next
-    faulty fault has = inr (_, _, byte_faults held before bytes b fault s left unfinished has)
+    faulty fault has = inr (_, _, (byte_faults held before bytes b fault s left unfinished has).0)
 
     at_12 : length (held.head ++ b ∷ []) ≡ 12 → Next before (bytes ++ b ∷ [])
     unfolding Next

@@ -49,7 +49,7 @@ joined_fault held ms bytes more rest bad j faults =
         place = length j.whole + found.0;
         why = bad.why;
         bytes_are = sym (append_assoc bytes more rest) ∙ ap (λ (r : List ℕ). r ++ more ++ rest) j.bytes_are ∙ ap (λ (r : List ℕ). r ++ rest) (append_assoc j.whole j.rest more);
-        fault = fault_behind ms j.whole (j.rest ++ more) found.0 bad.why j.are_whole found.1;
+        fault = fault_behind ms j.whole (j.rest ++ more) found.0 bad.why j.are_whole found.1.0;
       },
       refl,
       found.2,

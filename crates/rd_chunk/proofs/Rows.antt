@@ -3,7 +3,7 @@ use Rattle.std.proofs.Common.{◌≡◌, ℕ, ◌+◌, arith, ◌++◌, ◌∷�
 use Rattle.rd_chunk.specs.declared.fault.ChunkWhy.{ChunkWhy}
 use Rattle.rd_chunk.specs.declared.fault.ChunkWhy.TheVariants as why
 use Rattle.rd_chunk.specs.Frames.{size_of, length_of, flags_of, IsFrame, One, Begun}
-use Rattle.rd_chunk.specs.Faults.{fields_fault, HasFault, ChunkFault}
+use Rattle.rd_chunk.specs.Faults.{fields_fault, ShowsFault, ChunkFault}
 use Rattle.rd_chunk.specs.Carrier.{carrier_of, carrier_frame}
 use Rattle.rd_chunk.specs.Worked as worked
 
@@ -36,7 +36,7 @@ nothing : Begun 1 [] []
 nothing = record { frames = []; are = tt; joined_are = refl; bytes_are = refl; short = omega arith; most = omega arith }
 
 -- a fault of the first frame
-fresh : (head : List ℕ) (offset : ℕ) (why : ChunkWhy) → HasFault 1 0 head (record { offset = offset; why = why }) → ChunkFault head offset why
+fresh : (head : List ℕ) (offset : ℕ) (why : ChunkWhy) → ShowsFault 1 0 head (record { offset = offset; why = why }) → ChunkFault head offset why
 fresh head offset why has = record {
   messages = [];
   whole = [];
@@ -54,7 +54,7 @@ fresh head offset why has = record {
 }
 
 -- a fault of the second frame
-second : (head : List ℕ) (offset : ℕ) (why : ChunkWhy) → HasFault 2 1 head (record { offset = offset; why = why }) → ChunkFault (worked.opening ++ head) (13 + offset) why
+second : (head : List ℕ) (offset : ℕ) (why : ChunkWhy) → ShowsFault 2 1 head (record { offset = offset; why = why }) → ChunkFault (worked.opening ++ head) (13 + offset) why
 second head offset why has = record {
   messages = [];
   whole = [];

@@ -7,7 +7,7 @@ use Rattle.std.proofs.lemmas.List.Concat.{flat_map-append}
 use Rattle.std.proofs.lemmas.Bool.{cases_lt, cases_eq}
 use Rattle.rd_chunk.specs.declared.head.RowFault.{RowFault}
 use Rattle.rd_chunk.specs.Frames.{size_of, length_of, flags_of, data_of, IsFrame, AreFrames}
-use Rattle.rd_chunk.specs.Faults.{size_fault, fields_fault, head_fault, HasFault, IsPart, ChunkFault}
+use Rattle.rd_chunk.specs.Faults.{size_fault, fields_fault, head_fault, ShowsFault, IsPart, ChunkFault, FaultInMessage}
 use Rattle.rd_chunk.specs.Standing.{Held, StandsFor}
 use Rattle.rd_chunk.proofs.Heads.{size_of-append, length_of-append, flags_of-append, good_size, IsGood, good_from_none, none_from_good}
 
@@ -246,7 +246,7 @@ module _ (h h' : Held) (before : ℕ) (bytes d : List ℕ) (s : StandsFor h befo
   data_stands = elim (cases_eq h'.left 0) [ inl z ↦ ends z | inr ne ↦ goes_on ne ]
 
 -- where no message is under way its length says nothing
-pub fresh_fault : (n m : ℕ) (head : List ℕ) (fault : RowFault) → HasFault n 0 head fault → HasFault m 0 head fault
+pub fresh_fault : (n m : ℕ) (head : List ℕ) (fault : RowFault) → ShowsFault n 0 head fault → ShowsFault m 0 head fault
 fresh_fault n m head fault has = record {
   holds = elim has.holds [
     | inl four ↦ inl four
@@ -256,8 +256,8 @@ fresh_fault n m head fault has = record {
 
 -- a fault of the byte that comes next is one of the stream so far
 pub byte_faults : (h : Held) (before : ℕ) (bytes : List ℕ) (b : ℕ) (fault : RowFault) (s : StandsFor h before bytes) → h.left ≡ 0
-    → (0 < length h.joined → length h.joined ≢ h.whole) → HasFault h.whole (length h.joined) (h.head ++ b ∷ []) fault
-    → ChunkFault (bytes ++ b ∷ []) (length (concat s.frames) + fault.offset) fault.why
+    → (0 < length h.joined → length h.joined ≢ h.whole) → ShowsFault h.whole (length h.joined) (h.head ++ b ∷ []) fault
+    → FaultInMessage (bytes ++ b ∷ []) (length (concat s.frames) + fault.offset) fault.why
 byte_faults h before bytes b fault s left unfinished has =
     let short : length s.part < 12 = short_part h before bytes s left in
     let part_is : s.part ≡ h.head = sym (s.head_is ∙ take_all 12 s.part (omega arith)) in
@@ -266,37 +266,41 @@ byte_faults h before bytes b fault s left unfinished has =
     ap (λ (r : List ℕ). r ++ b ∷ []) s.bytes_are ∙ append_assoc (concat s.frames) s.part (b ∷ []) ∙ ap (λ (r : List ℕ). concat s.frames ++ (r ++ b ∷ [])) part_is in
     elim (cases_eq (length h.joined) 0) [
       | inl none ↦
-          let no_frames : s.frames ≡ [] = frames-nil h.whole 0 s.frames s.are (omega (arith, ap length joined_is)) in
-          record {
-            messages = [];
-            whole = [];
-            n = 1;
-            joined = [];
-            begun = concat s.frames;
-            head = h.head ++ b ∷ [];
-            fault = fault;
-            are_whole = refl;
-            are_begun = record { frames = []; are = tt; joined_are = refl; bytes_are = ap concat (sym no_frames); short = omega arith; most = omega arith };
-            bytes_are = bytes_on;
-            has = fresh_fault h.whole 1 (h.head ++ b ∷ []) fault (subst (λ (k : ℕ). HasFault h.whole k (h.head ++ b ∷ []) fault) none has);
-            place_is = omega arith;
-            why_is = refl;
-          }
+          let no_frames : s.frames ≡ [] = frames-nil h.whole 0 s.frames s.are (omega (arith, ap length joined_is)) in (
+            record {
+              messages = [];
+              whole = [];
+              n = 1;
+              joined = [];
+              begun = concat s.frames;
+              head = h.head ++ b ∷ [];
+              fault = fault;
+              are_whole = refl;
+              are_begun = record { frames = []; are = tt; joined_are = refl; bytes_are = ap concat (sym no_frames); short = omega arith; most = omega arith };
+              bytes_are = bytes_on;
+              has = fresh_fault h.whole 1 (h.head ++ b ∷ []) fault (subst (λ (k : ℕ). ShowsFault h.whole k (h.head ++ b ∷ []) fault) none has);
+              place_is = omega arith;
+              why_is = refl;
+            },
+            refl,
+          )
       | inr ne ↦
-          let within = frames-within h.whole 0 s.frames s.are (λ (e : s.frames ≡ []). ne (ap length joined_is ∙ ap (λ (r : List (List ℕ)). length (flat_map data_of r)) e)) in
-          record {
-            messages = [];
-            whole = [];
-            n = h.whole;
-            joined = h.joined;
-            begun = concat s.frames;
-            head = h.head ++ b ∷ [];
-            fault = fault;
-            are_whole = refl;
-            are_begun = record { frames = s.frames; are = s.are; joined_are = sym joined_is; bytes_are = refl; short = omega (arith, ap length joined_is, within, unfinished (omega (arith, ne))); most = s.most };
-            bytes_are = bytes_on;
-            has = has;
-            place_is = omega arith;
-            why_is = refl;
-          }
+          let within = frames-within h.whole 0 s.frames s.are (λ (e : s.frames ≡ []). ne (ap length joined_is ∙ ap (λ (r : List (List ℕ)). length (flat_map data_of r)) e)) in (
+            record {
+              messages = [];
+              whole = [];
+              n = h.whole;
+              joined = h.joined;
+              begun = concat s.frames;
+              head = h.head ++ b ∷ [];
+              fault = fault;
+              are_whole = refl;
+              are_begun = record { frames = s.frames; are = s.are; joined_are = sym joined_is; bytes_are = refl; short = omega (arith, ap length joined_is, within, unfinished (omega (arith, ne))); most = s.most };
+              bytes_are = bytes_on;
+              has = has;
+              place_is = omega arith;
+              why_is = refl;
+            },
+            refl,
+          )
     ]

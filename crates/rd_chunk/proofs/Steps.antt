@@ -15,7 +15,7 @@ use Rattle.rd_chunk.specs.declared.progress.Progress.{Progress}
 use Rattle.rd_chunk.specs.Standing.{is_complete, Takes, BringsFault, Held, StandsFor, IfBad}
 use Rattle.rd_chunk.specs.Kept.{InRange, head_of, held_of}
 use Rattle.rd_chunk.specs.Frames.{size_of, length_of, flags_of}
-use Rattle.rd_chunk.specs.Faults.{size_fault, head_fault, HasFault, ChunkFault}
+use Rattle.rd_chunk.specs.Faults.{size_fault, head_fault, ShowsFault, FaultInMessage}
 use Rattle.rd_chunk.proofs.Heads.{size_of-append, good_size, good_from_none}
 use Rattle.rd_chunk.proofs.Stands.{byte_stands, byte_faults, short_part}
 
@@ -95,8 +95,8 @@ module _ (p next : Progress) (items : List ℕ) (joined b : ℕ)
       (at_12 : next.have ≡ 12 → head_fault next.length joined (head_of next) ≡ Some row)
       (only : (next.have ≡ 4) ⊎ (next.have ≡ 12))
       (fits : bad.at < 2 ^ 64) (place : (bad.at + next.have) % 2 ^ 64 ≡ (next.taken + row.offset) % 2 ^ 64) (why : bad.why ≡ row.why) where
-    has : HasFault p.length (length items) (head_of p ++ b ∷ []) row
-    has = subst (λ (r : List ℕ). HasFault p.length (length items) r row) head (record {
+    has : ShowsFault p.length (length items) (head_of p ++ b ∷ []) row
+    has = subst (λ (r : List ℕ). ShowsFault p.length (length items) r row) head (record {
       holds = elim only [
         | inl four ↦ inl (count_next ∙ four, at_4 four)
         | inr twelve ↦ inr (
@@ -114,7 +114,7 @@ module _ (p next : Progress) (items : List ℕ) (joined b : ℕ)
         let part_len : length (head_of p) ≡ length s.part = ap length (s.head_is ∙ take_all 12 s.part (omega arith)) in
         let bytes_len : length bytes ≡ length (concat s.frames) + length s.part = ap length s.bytes_are ∙ length-append (concat s.frames) s.part in (
           length (concat s.frames) + row.offset,
-          subst (λ (w : ChunkWhy). ChunkFault (bytes ++ b ∷ []) (length (concat s.frames) + row.offset) w) (sym why)
+          subst (λ (w : ChunkWhy). FaultInMessage (bytes ++ b ∷ []) (length (concat s.frames) + row.offset) w) (sym why)
               (byte_faults (held_of p items None) before bytes b row s in_head unfinished has),
           place_at bad.at next.have next.taken row.offset p.taken before (length (concat s.frames)) (length s.part) (length bytes) fits place taken_next s.taken_are bytes_len (omega arith),
         )
@@ -141,7 +141,7 @@ takes_then old mid new piece at n first then before bytes s =
 pub faults_then : (old mid : Held) (piece : List ℕ) (at n : ℕ) (bad : ChunkBad) → Takes old mid (take at piece) → BringsFault mid (take n (take (length piece - at) (drop at piece))) bad → BringsFault old (take (at + n) piece) bad
 faults_then old mid piece at n bad first fault before bytes s =
     let found = fault before (bytes ++ take at piece) (first before bytes s) in
-    (found.0, subst (λ (r : List ℕ). ChunkFault r found.0 bad.why) (append_assoc bytes (take at piece) (take n (take (length piece - at) (drop at piece))) ∙ ap (λ (r : List ℕ). bytes ++ (take at piece ++ take n r)) (take_rest piece at) ∙ ap (λ (r : List ℕ). bytes ++ r) (take_join at n piece)) found.1, found.2)
+    (found.0, subst (λ (r : List ℕ). FaultInMessage r found.0 bad.why) (append_assoc bytes (take at piece) (take n (take (length piece - at) (drop at piece))) ∙ ap (λ (r : List ℕ). bytes ++ (take at piece ++ take n r)) (take_rest piece at) ∙ ap (λ (r : List ℕ). bytes ++ r) (take_join at n piece)) found.1, found.2)
 
 -- a weaker fact for an answered fault
 pub if_bad : (no : FeedNo) (P Q : ChunkBad → Type 0) → ((bad : ChunkBad) → P bad → Q bad) → IfBad no P → IfBad no Q

@@ -5,7 +5,7 @@ use Rattle.std.proofs.lemmas.List.{take_at}
 use Rattle.rd_chunk.specs.declared.head.RowFault.{RowFault}
 use Rattle.rd_chunk.specs.declared.fault.ChunkWhy.{ChunkWhy}
 use Rattle.rd_chunk.specs.Frames.{size_of, length_of, flags_of, data_of, AreFrames, One, Carried, Begun}
-use Rattle.rd_chunk.specs.Faults.{size_fault, head_fault, HasFault, IsPart, ChunkFault}
+use Rattle.rd_chunk.specs.Faults.{size_fault, head_fault, ShowsFault, IsPart, ChunkFault}
 use Rattle.rd_chunk.specs.Streams.{HasChunkFault, IsStream}
 use Rattle.rd_chunk.proofs.Heads.{size_of-append, length_of-append, flags_of-append}
 use Rattle.rd_chunk.proofs.Unique.{Blocked, unique, done_blocks, part_blocks, fault_blocks, fields_same, some_is_some}
@@ -76,14 +76,14 @@ stream_agrees (o ∷ ms) (p ∷ ns) a b n m j k c d x y ca cb bc bd bx by e =
     (all, ca.2 ∙ bytes ∙ sym cb.2, rest.2, rest.3, rest.4, rest.5)
 
 -- a fault's bytes are no frame, whatever follows
-pub blocked_fault : (n : ℕ) (j head rest : List ℕ) (fault : RowFault) → HasFault n (length j) head fault → Blocked n (length j) (head ++ rest)
+pub blocked_fault : (n : ℕ) (j head rest : List ℕ) (fault : RowFault) → ShowsFault n (length j) head fault → Blocked n (length j) (head ++ rest)
 blocked_fault n j head rest fault has = fault_blocks n (length j) (head ++ rest) head rest fault refl has
 
 some_agree : (a b : Option RowFault) (e f : RowFault) → a ≡ b → a ≡ Some e → b ≡ Some f → e ≡ f
 some_agree a b e f same p q = cc
 
 -- two heads that begin the same bytes have one fault
-pub heads_agree : (n m before : ℕ) (a b x y : List ℕ) (e f : RowFault) → (0 < before → n ≡ m) → HasFault n before a e → HasFault m before b f → a ++ x ≡ b ++ y → (a ≡ b) × (e ≡ f)
+pub heads_agree : (n m before : ℕ) (a b x y : List ℕ) (e f : RowFault) → (0 < before → n ≡ m) → ShowsFault n before a e → ShowsFault m before b f → a ++ x ≡ b ++ y → (a ≡ b) × (e ≡ f)
 heads_agree n m before a b x y e f same p q both = elim p.holds [
   | inl four ↦ elim q.holds [
     | inl four' ↦
@@ -100,7 +100,7 @@ heads_agree n m before a b x y e f same p q both = elim p.holds [
 ]
 
 -- a fault isn't a part in which no row holds
-pub fault_not_part : (n m before : ℕ) (a x part : List ℕ) (e : RowFault) → (0 < before → n ≡ m) → HasFault n before a e → IsPart m before part → a ++ x ≡ part → ⊥
+pub fault_not_part : (n m before : ℕ) (a x part : List ℕ) (e : RowFault) → (0 < before → n ≡ m) → ShowsFault n before a e → IsPart m before part → a ++ x ≡ part → ⊥
 fault_not_part n m before a x part e same p q both =
     let len : length part ≡ length a + length x = sym (ap length both) ∙ length-append a x in
     elim p.holds [
@@ -120,7 +120,7 @@ one_fault a b x y p q v w f g e =
     let same = stream_agrees f.messages g.messages f.whole g.whole f.n g.n f.joined g.joined f.begun g.begun (f.head ++ x) (g.head ++ y) f.are_whole g.are_whole f.are_begun g.are_begun
     (blocked_fault f.n f.joined f.head x f.fault f.has) (blocked_fault g.n g.joined g.head y g.fault g.has)
     (regroup f.whole f.begun f.head x ∙ sym (ap (λ (r : List ℕ). r ++ x) f.bytes_are) ∙ e ∙ ap (λ (r : List ℕ). r ++ y) g.bytes_are ∙ sym (regroup g.whole g.begun g.head y)) in
-    let has' : HasFault g.n (length f.joined) g.head g.fault = subst (λ (r : List ℕ). HasFault g.n (length r) g.head g.fault) (sym same.2) g.has in
+    let has' : ShowsFault g.n (length f.joined) g.head g.fault = subst (λ (r : List ℕ). ShowsFault g.n (length r) g.head g.fault) (sym same.2) g.has in
     let heads = heads_agree f.n g.n (length f.joined) f.head g.head x y f.fault g.fault same.5 f.has has' same.4 in
     let whole : f.whole ≡ g.whole = same.1 in
     let begun : f.begun ≡ g.begun = same.3 in

@@ -6,7 +6,7 @@ use Rattle.std.proofs.lemmas.List.{take_at, drop_at}
 use Rattle.std.proofs.lemmas.Bool.{cases_eq}
 use Rattle.rd_chunk.specs.declared.head.RowFault.{RowFault}
 use Rattle.rd_chunk.specs.Frames.{size_of, length_of, flags_of, data_of, IsFrame, AreFrames}
-use Rattle.rd_chunk.specs.Faults.{size_fault, fields_fault, head_fault, HasFault, IsPart}
+use Rattle.rd_chunk.specs.Faults.{size_fault, fields_fault, head_fault, ShowsFault, IsPart}
 use Rattle.rd_chunk.proofs.Heads.{size_of-append, length_of-append, flags_of-append, size_good, none_from_good}
 use Rattle.rd_chunk.proofs.Stands.{fresh_head}
 
@@ -53,7 +53,7 @@ fields_same n m before a b same size len flags =
       | inr ne ↦ ap (λ (k : ℕ). head_fault k before b) (same (omega arith))
     ]
 
-pub fault_blocks : (n before : ℕ) (bytes head tail : List ℕ) (fault : RowFault) → bytes ≡ head ++ tail → HasFault n before head fault → Blocked n before bytes
+pub fault_blocks : (n before : ℕ) (bytes head tail : List ℕ) (fault : RowFault) → bytes ≡ head ++ tail → ShowsFault n before head fault → Blocked n before bytes
 unfolding Blocked
 fault_blocks n before bytes head tail fault is has m frame rest most same f e =
     let len = frame_length m before frame f in

@@ -1,5 +1,5 @@
 -- What can be wrong with a stream of carrier frames, and where.
-use Rattle.std.specs.Prelude.{ℕ, ◌≡◌, ◌≤◌, ◌<◌, ◌+◌, ◌-◌, ◌==◌, not, ◌&&◌, ◌||◌, nat_lt, if◌then◌else◌, List, ◌++◌, length, bit_and, Option, Some, None, ◌⊎◌}
+use Rattle.std.specs.Prelude.{ℕ, ◌≡◌, ◌≤◌, ◌<◌, ◌+◌, ◌-◌, ◌==◌, not, ◌&&◌, ◌||◌, nat_lt, if◌then◌else◌, Bool, List, [], ◌∷◌, ◌++◌, length, bit_and, Option, Some, None, ◌⊎◌}
 use Rattle.rd_chunk.specs.Frames.{size_of, length_of, flags_of, Carried, Begun}
 use Rattle.rd_chunk.specs.declared.head.RowFault.{RowFault}
 use Rattle.rd_chunk.specs.declared.fault.ChunkWhy.{ChunkWhy}
@@ -13,6 +13,15 @@ row offset why = Some (record { offset = offset; why = why })
 abbrev pub size_fault : ℕ → Option RowFault
 size_fault size = if size == 8 then row 0 Empty else (if nat_lt size 9 || nat_lt 16392 size then row 0 Size else None)
 
+-- a row of the table: what it tests, how far behind the frame's first byte its fault stands, and the fault
+abbrev pub Row : Type 0
+Row = Bool × ℕ × ChunkWhy
+
+-- the first row whose test holds
+abbrev pub first_row : List Row → Option RowFault
+first_row [] = None
+first_row (r ∷ rows) = if r.0 then row r.1 r.2 else first_row rows
+
 -- the table of faults, second part: the first row that holds of a head with these fields, behind `before` data bytes of
 -- a message of n bytes; with no such bytes no message is under way, and n says nothing
 unfoldable pub fields_fault : (n before size len flags : ℕ) → Option RowFault
@@ -21,22 +30,24 @@ fields_fault n before size len flags =
     let begins = before == 0 in
     let first = not (bit_and flags 0x1 == 0) in
     let last = not (bit_and flags 0x2 == 0) in
-    if not (bit_and flags 0x200000 == 0) then row 8 Compressed
-    else (if begins && not first then row 8 NoFirst
-    else (if not begins && first then row 8 SecondFirst
-    else (if nat_lt 1052672 len then row 4 TooLong
-    else (if not begins && not (len == n) then row 4 LengthChanged
-    else (if nat_lt len reached then row 12 Overrun
-    else (if last && nat_lt reached len then row 8 LastEarly
-    else (if not last && (reached == len) then row 8 NotLast
-    else None)))))))
+    first_row (
+    (not (bit_and flags 0x200000 == 0), 8, Compressed)
+    ∷ (begins && not first, 8, NoFirst)
+    ∷ (not begins && first, 8, SecondFirst)
+    ∷ (nat_lt 1052672 len, 4, TooLong)
+    ∷ (not begins && not (len == n), 4, LengthChanged)
+    ∷ (nat_lt len reached, 12, Overrun)
+    ∷ (last && nat_lt reached len, 8, LastEarly)
+    ∷ (not last && (reached == len), 8, NotLast)
+    ∷ []
+    )
 
 -- the first row that holds of a frame whose 12 bytes of head are there
 abbrev pub head_fault : ℕ → ℕ → List ℕ → Option RowFault
 head_fault n before head = fields_fault n before (size_of head) (length_of head) (flags_of head)
 
 -- these bytes are as much of a frame as the first row that holds of it needs, 4 or 12
-pub record HasFault (n before : ℕ) (head : List ℕ) (fault : RowFault) : Type 0 where
+pub record ShowsFault (n before : ℕ) (head : List ℕ) (fault : RowFault) : Type 0 where
   pub holds : ((length head ≡ 4) × (size_fault (size_of head) ≡ Some fault))
       ⊎ ((length head ≡ 12) × (size_fault (size_of head) ≡ None) × (head_fault n before head ≡ Some fault))
 
@@ -59,6 +70,10 @@ pub record ChunkFault (bytes : List ℕ) (place : ℕ) (why : ChunkWhy) : Type 0
   pub are_whole : Carried messages whole
   pub are_begun : Begun n joined begun
   pub bytes_are : bytes ≡ whole ++ begun ++ head
-  pub has : HasFault n (length joined) head fault
+  pub has : ShowsFault n (length joined) head fault
   pub place_is : place ≡ length whole + length begun + fault.offset
   pub why_is : why ≡ fault.why
+
+-- the same, where no whole message stands in front of the fault
+abbrev pub FaultInMessage : List ℕ → ℕ → ChunkWhy → Type 0
+FaultInMessage bytes place why = (fault : ChunkFault bytes place why) × (fault.messages ≡ [])

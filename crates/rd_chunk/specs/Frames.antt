@@ -1,4 +1,5 @@
--- Carrier frames (MS-RDPBCGR 2.2.6.1) as byte lists, and the messages that they carry.
+-- Carrier frames as byte lists, and the messages that they carry. A frame is a size, which is this project's own, and a
+-- CHANNEL_PDU_HEADER with its data (MS-RDPBCGR 2.2.6.1.1).
 use Rattle.std.specs.Prelude.{ℕ, ◌≡◌, ◌≤◌, ◌<◌, ◌+◌, ◌==◌, Bool, false, not, List, [], ◌∷◌, ◌++◌, length, take, drop, bit_and}
 use Rattle.std.specs.List.{concat, flat_map}
 use Rattle.std.specs.Int.{w32, from_le_bytes}

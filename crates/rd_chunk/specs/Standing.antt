@@ -5,7 +5,7 @@ use Rattle.rd_chunk.specs.declared.fault.ChunkBad.{ChunkBad}
 use Rattle.rd_chunk.specs.declared.fault.FeedNo.{FeedNo}
 use Rattle.rd_chunk.specs.declared.fault.FeedNo.TheVariants.{Bad, Memory}
 use Rattle.rd_chunk.specs.Frames.{size_of, length_of, data_of, AreFrames, Carried}
-use Rattle.rd_chunk.specs.Faults.{IsPart, ChunkFault}
+use Rattle.rd_chunk.specs.Faults.{IsPart, FaultInMessage}
 
 -- what is seen of a joiner: the data that are there of the message under way, the bytes that are there of a head, the
 -- data bytes of that frame still to come, the bytes of the whole message, those taken from the stream, and its fault
@@ -47,11 +47,11 @@ waiting held = if not (is_some held.fault) && is_complete held.left (length held
 abbrev pub Takes : Held → Held → List ℕ → Type 0
 Takes old new more = (before : ℕ) (bytes : List ℕ) → StandsFor old before bytes → StandsFor new before (bytes ++ more)
 
--- whatever list the joiner stands for, that list and these bytes are a chunk fault, which is the answered one: its place
--- is counted from the stream's first byte, modulo 2^64
+-- whatever list the joiner stands for, that list and these bytes are a chunk fault with no whole message in front of it, and
+-- it is the answered one: its place is counted from the stream's first byte, modulo 2^64
 abbrev pub BringsFault : Held → List ℕ → ChunkBad → Type 0
 BringsFault held more bad = (before : ℕ) (bytes : List ℕ) → StandsFor held before bytes →
-    (place : ℕ) × ChunkFault (bytes ++ more) place bad.why × (bad.at ≡ (before + place) % 2 ^ 64)
+    (place : ℕ) × FaultInMessage (bytes ++ more) place bad.why × (bad.at ≡ (before + place) % 2 ^ 64)
 
 -- a joiner that is seen so has given these messages of a stream that came as these bytes, and stands for the rest
 pub record HasJoined (held : Held) (messages : List (List ℕ)) (bytes : List ℕ) : Type 0 where

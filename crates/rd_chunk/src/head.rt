@@ -1,5 +1,5 @@
-//! The head of a carrier frame (MS-RDPBCGR 2.2.6.1): its size less 4, the message's length and the flags, each a
-//! little-endian u32.
+//! The head of a carrier frame: the bytes behind its first four, and then the CHANNEL_PDU_HEADER (MS-RDPBCGR 2.2.6.1.1), the
+//! message's length and the flags; each a little-endian u32.
 
 ghost use Rattle.std.specs.Prelude.{◌≡◌, ◌≤◌, ◌-◌};
 ghost use Rattle.rd_chunk.specs.Faults.{fields_fault};
@@ -31,7 +31,7 @@ pub const PACKET_COMPRESSED: u32 = 0x20_0000;
 /// The fields of a frame's head.
 #[derive(Clone, Copy, Debug, PartialEq, Eq)]
 pub struct Head {
-    /// The bytes behind this field that aren't the length: 8 and the data.
+    /// The bytes behind this field: the 8 of the other two, and the data.
     pub size: u32,
     /// The bytes of the whole message.
     pub length: u32,

@@ -1,12 +1,13 @@
 -- Worked cases of the definitions, which the checker computes.
-use Rattle.std.proofs.Common.{◌≡◌, ◌≤◌, ◌⊎◌, [], ◌∷◌, ◌++◌, false, Some, None, refl, inl, lit≤, lit<}
+use Rattle.std.proofs.Common.{◌≡◌, ◌≤◌, ◌⊎◌, ℕ, List, [], ◌∷◌, ◌++◌, true, false, Some, None, refl, inl, lit≤, lit<}
 use Rattle.std.proofs.lemmas.List.Elements.{All-from_recursion}
-use Rattle.std.specs.Prelude.{codes}
+use Rattle.std.specs.Prelude.{codes, All}
 use Rattle.std.specs.Fmt.{digits}
 use Rattle.hex.specs.Hex.{encode_with}
 use Rattle.rd_base.specs.declared.status.Status.{Status}
 use Rattle.rd_base.specs.declared.journal.Key.{Key}
-use Rattle.rd_base.specs.declared.journal.Item.TheVariants.{Came, Ran, Sent}
+use Rattle.rd_base.specs.declared.journal.Item.TheVariants.{Came, Ran, Cancelled, Sent, Cut}
+use Rattle.rd_base.specs.declared.journal.Cause.TheVariants.{Removed}
 use Rattle.rd_irp.specs.declared.op.Op.{Op}
 use Rattle.rd_irp.specs.declared.op.Op.TheVariants as op
 use Rattle.rd_irp.specs.declared.completion.Kind.TheVariants as kind
@@ -20,6 +21,8 @@ use Rattle.rd_cli.specs.Grammar.{Said, IsTextOf, lines_of, text_of, hex_word, wi
 use Rattle.rd_cli.specs.Outcomes.{Ended, held_file, requests_of}
 use Rattle.rd_cli.specs.Recording.{recording_of, begins, sends}
 use Rattle.rd_cli.specs.Report.{report_of, status_digits}
+use Rattle.rd_cli.specs.Told.{names_pair, completes, is_request}
+use Rattle.rd_cli.specs.Headline.{IsUncut, key_at, first_keys, in_turn}
 
 -- an open of \a, a read of five bytes, a close, by the handle h
 open_a : Asked
@@ -107,3 +110,35 @@ no_request = refl
 -- A recording of one frame of the host.
 one_frame : recording_of (begins ∷ sends Host (1 ∷ 2 ∷ []) ∷ []) ≡ codes "RDRREC01" ++ 2 ∷ 0 ∷ 1 ∷ 2 ∷ []
 one_frame = refl
+
+-- A journal that cancels in place of running is no history of this form.
+cancelled : All IsUncut (Came (key_at 0) ∷ Cut Removed ∷ Cancelled (key_at 0) ∷ Sent (key_at 0) ∷ []) → ⊥
+cancelled h = h 1 (Cut Removed) (lit< tt)
+
+-- The keys of three requests.
+three_keys : first_keys 3 ≡ key_at 0 ∷ key_at 1 ∷ key_at 2 ∷ []
+three_keys = refl
+
+-- Requests and completions take turns.
+turns : in_turn ((1 ∷ [], 2 ∷ []) ∷ (3 ∷ [], 4 ∷ []) ∷ []) ≡ (Host, 1 ∷ []) ∷ (Client, 2 ∷ []) ∷ (Host, 3 ∷ []) ∷ (Client, 4 ∷ []) ∷ []
+turns = refl
+
+-- The completion of a Close of device 1 names that device and the completion id 0, and no other.
+close_completion : List ℕ
+close_completion = 0x72 ∷ 0x44 ∷ 0x43 ∷ 0x49 ∷ 1 ∷ 0 ∷ 0 ∷ 0 ∷ 0 ∷ 0 ∷ 0 ∷ 0 ∷ 0 ∷ 0 ∷ 0 ∷ 0 ∷ 0 ∷ 0 ∷ 0 ∷ 0 ∷ []
+
+names_its_pair : names_pair 1 0 close_completion ≡ true
+unfolding close_completion
+names_its_pair = refl
+
+names_no_other : names_pair 2 0 close_completion ≡ false
+unfolding close_completion
+names_no_other = refl
+
+is_its_completion : completes 1 (Client, close_completion) ≡ true
+unfolding close_completion
+is_its_completion = refl
+
+is_no_request : is_request (Host, close_completion) ≡ false
+unfolding close_completion
+is_no_request = refl

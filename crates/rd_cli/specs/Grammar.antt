@@ -9,11 +9,11 @@ use Rattle.rd_cli.specs.Asked.{Asked}
 use Rattle.rd_cli.specs.declared.grammar.Line.{Line}
 use Rattle.rd_cli.specs.declared.grammar.Line.TheVariants as line
 
--- 1 to 7 printable ASCII characters other than the space
+-- a name of a drive: up to seven visible ASCII characters, and at least one
 abbrev pub IsName : List ℕ → Type 0
 IsName word = (0 < length word) × (length word ≤ 7) × All (λ c. (0x21 ≤ c) × (c ≤ 0x7e)) word
 
--- 1 to 8 of the letters a to z and the digits
+-- a name of a handle: up to eight letters a to z or digits, and at least one
 abbrev pub IsHandleName : List ℕ → Type 0
 IsHandleName word = (0 < length word) × (length word ≤ 8) × All (λ c. ((0x61 ≤ c) × (c ≤ 0x7a)) ⊎ ((0x30 ≤ c) × (c ≤ 0x39))) word
 
@@ -36,7 +36,7 @@ IsAskOf (op.Malformed major minor bad) handle words = ⊥
 -- the words of a line: `drive 1 NAME`, `file 1 PATH HEX`, or `1` and what application 1 asks for
 abbrev pub AreWordsOf : Line → List (List ℕ) → Type 0
 AreWordsOf (line.Drive label) words = (words ≡ codes "drive" ∷ codes "1" ∷ label ∷ []) × IsName label
-AreWordsOf (line.File path bytes) words = (words ≡ codes "file" ∷ codes "1" ∷ path ∷ hex_word bytes ∷ []) × IsPlainPath path
+AreWordsOf (line.File path bytes) words = (words ≡ codes "file" ∷ codes "1" ∷ path ∷ hex_word bytes ∷ []) × IsPlainPath path × All (λ byte. byte < 256) bytes
 AreWordsOf (line.Ask asked) words =
     (asking : List (List ℕ)) × (words ≡ codes "1" ∷ asking) × IsHandleName asked.handle × IsAskOf asked.op asked.handle asking
 

@@ -1,10 +1,10 @@
 -- What holds of a run of `both` that ended with status 0: how its script, its recording, its journal and its report belong
 -- together. Nothing here knows how the program works.
-use Rattle.std.specs.Prelude.{◌≡◌, ℕ, zero, suc, ◌<◌, List, [], ◌∷◌, ◌++◌, length, zip, unwrap_or, Some, MatchOption, IfSome, All, slice_get}
+use Rattle.std.specs.Prelude.{◌≡◌, ℕ, zero, suc, ◌<◌, ◌≤◌, List, [], ◌∷◌, ◌++◌, length, map, zip, unwrap_or, Some, MatchOption, IfSome, All, slice_get}
 use Rattle.std.specs.List.{AllZip}
 use Rattle.rd_base.specs.declared.journal.Key.{Key}
 use Rattle.rd_base.specs.declared.journal.Item.{Item}
-use Rattle.rd_base.specs.declared.journal.Item.TheVariants.{Ran}
+use Rattle.rd_base.specs.declared.journal.Item.TheVariants.{Ran, Cut, Cancelled}
 use Rattle.rd_base.specs.Lawful.{IsLawful, IsUnparked, named_key}
 use Rattle.rd_irp.specs.declared.completion.Reply.{Reply}
 use Rattle.rd_irp.specs.declared.request.Request.{Request}
@@ -26,6 +26,10 @@ abbrev pub in_turn : List (List ℕ × List ℕ) → List Passed
 in_turn [] = []
 in_turn (pair ∷ pairs) = (Host, pair.0) ∷ (Client, pair.1) ∷ in_turn pairs
 
+-- a message that frames can carry
+abbrev pub IsMessage : List ℕ → Type 0
+IsMessage message = (1 ≤ length message) × (length message ≤ 1052672)
+
 -- the key of the request at a place of the one channel
 abbrev pub key_at : ℕ → Key
 key_at index = record { channel = 1; index = index }
@@ -40,6 +44,12 @@ abbrev pub RunsAt : ℕ → Item → Type 0
 RunsAt now (Ran key moment starved parked) = moment ≡ now
 RunsAt now _ = Unit {0}
 
+-- Nothing is removed and no channel ends, so nothing is cut or cancelled.
+abbrev pub IsUncut : Item → Type 0
+IsUncut (Cut cause) = ⊥
+IsUncut (Cancelled key) = ⊥
+IsUncut _ = Unit {0}
+
 -- the application hears this answer in the completion of its request
 abbrev pub Hears : Request × Answered → List ℕ → Type 0
 Hears heard message =
@@ -49,39 +59,47 @@ Hears heard message =
 abbrev pub replies_in : Said → (Key → Request) → List Item → List (Key × Reply)
 replies_in said requests journal = replies_of (opening (unwrap_or said.label []) said.files) requests journal
 
--- The session of one application and one drive. The messages that the host sent spell what was asked.
-pub record IsSession (said : Said) (messages : List (List ℕ)) (asked : List Request) (completions : List (List ℕ)) (journal : List Item) (outcomes : List Outcome) : Type 0 where
-  -- each key of the journal names a request on the wire; these are they
-  pub requests : Key → Request
-  pub named : (i : ℕ) (request : Request) → slice_get asked i ≡ Some request → requests (key_at i) ≡ request
-  -- one legal history of the drive
+-- the one legal history of the drive: each key that it names is a request on the wire, each run at the script's moment, and
+-- nothing else happened to the drive
+pub record IsHistory (requests : Key → Request) (asked : List Request) (journal : List Item) : Type 0 where
   pub lawful : IsLawful journal
   pub on_wire : All (λ item. IfSome (named_key item) (λ key. (key.channel ≡ 1) × (key.index < length asked))) journal
   pub still_clock : All (RunsAt 0) journal
   pub closes_fed : All (StarvesNoClose requests) journal
   pub unparked : All IsUnparked journal
+  pub uncut : All IsUncut journal
+
+-- The session of one application and one drive: these requests were asked for, and these completions came.
+pub record IsSession (said : Said) (asked : List Request) (passed : List Passed) (completions : List (List ℕ)) (journal : List Item) (outcomes : List Outcome) : Type 0 where
+  -- the request of each key
+  pub requests : Key → Request
+  pub named : (i : ℕ) (request : Request) → slice_get asked i ≡ Some request → requests (key_at i) ≡ request
+  pub history : IsHistory requests asked journal
   -- what the client tells is what that history answered: each request's own completion, once
-  pub told : Told requests (replies_in said requests journal) journal completions
+  pub told : Told 1 requests (replies_in said requests journal) journal completions
   pub counted : Counted requests (replies_in said requests journal) journal (first_keys (length asked)) completions
   pub completed : length completions ≡ length asked
-  pub in_order : InOrder (in_turn (zip messages completions)) journal
+  pub in_order : InOrder 1 1 passed journal
   -- each line of the application has its one outcome: the reply in its completion, or that its handle holds no file
   pub answers : List Answered
   pub outcomes_are : AreOutcomes said.asks outcomes asked answers
   pub heard : AllZip Hears (zip asked answers) completions
 
--- A run: the input's text is a script, the wire a recording of its requests and completions in turn, the books hold the
--- drive's journal, and the output is the report.
-pub record IsRun (text wire output : List ℕ) (books : List (ℕ × List Item)) : Type 0 where
+-- A run: the text is a script, the recording is of its requests and completions in turn, the books hold the drive's journal,
+-- and the printed text is the report.
+pub record IsRun (text recording printed : List ℕ) (books : List (ℕ × List Item)) : Type 0 where
   pub said : Said
+  pub passed : List Passed
   pub messages : List (List ℕ)
-  pub asked : List Request
   pub completions : List (List ℕ)
+  pub asked : List Request
   pub journal : List Item
-  pub outcomes : List Outcome
+  pub results : List Outcome
   pub script : IsScript text said
-  pub wire_is : wire ≡ recording_of_channel (in_turn (zip messages completions))
-  pub asked_are : AllZip (λ request message. SpellsRequest request 0 message) asked messages
-  pub session : IsSession said messages asked completions journal outcomes
-  pub books_are : MatchOption said.label (books ≡ []) (λ label. books ≡ (1, journal) ∷ [])
-  pub output_is : output ≡ report_of outcomes books
+  pub wire : recording ≡ recording_of_channel passed
+  pub fit : All (λ p. IsMessage p.1) passed
+  pub turns : passed ≡ in_turn (zip messages completions)
+  pub spelled : AllZip (λ request message. SpellsRequest request 0 message) asked messages
+  pub journals : MatchOption said.label (books ≡ []) (λ label. books ≡ (1, journal) ∷ [])
+  pub session : IsSession said asked passed completions journal results
+  pub output : printed ≡ report_of results books

@@ -98,12 +98,12 @@ fn ask_line(alloc: Global, handle: &str, op: Op) -> Result<Option<Line>, AllocEr
     Ok(Ask::of(String::from_str(alloc, handle)?, op).map(Line::Ask))
 }
 
-/// 1 to 7 printable ASCII characters other than the space.
+/// Up to seven visible ASCII characters, and at least one.
 fn is_name(word: &str) -> bool {
     matches!(word.len(), 1..=7) && word.bytes().all(|byte| matches!(byte, 0x21..=0x7e))
 }
 
-/// 1 to 8 of the letters `a` to `z` and the digits.
+/// Up to eight letters `a` to `z` or digits, and at least one.
 fn is_handle(word: &str) -> bool {
     matches!(word.len(), 1..=8)
         && word

@@ -10,7 +10,7 @@ use Rattle.rd_base.specs.Reading.{ReadsInto}
 use Rattle.rd_base.specs.Layout.{Layout, done, ◌>>=◌, choose, Spells, FirstFault, and_then, met}
 use Rattle.rd_base.proofs.Numbers.{are_bytes}
 use Rattle.rd_base.proofs.Decided.{decided, spells, meets, again, reader_spells, fault_behind}
-use Rattle.rd_irp.specs.Reading.{IsOneOf, WithTail}
+use Rattle.rd_base.specs.Reading.{IsOneOf, WithTail}
 use Rattle.rd_irp.specs.declared.op.Op.{Op}
 use Rattle.rd_irp.specs.declared.op.Op.TheVariants.{Create, Close, Read, Unknown, Malformed}
 use Rattle.rd_irp.specs.declared.request.Request.{Request}

@@ -3,5 +3,4 @@ pub mod Header
 pub mod Op
 pub mod Request
 pub mod Completion
-pub mod Reading
 pub mod Written

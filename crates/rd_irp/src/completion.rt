@@ -4,7 +4,7 @@ ghost use Rattle.std.specs.Prelude.{◌≡◌, ◌+◌, ◌-◌, ◌≤◌, ◌+
 ghost use Rattle.rd_base.specs.Fields.{missing_pad};
 ghost use Rattle.rd_base.specs.Reading.{Reads, ReadsInto};
 ghost use Rattle.rd_irp.specs.Completion.{completion_head, success_body, completion_body, SpellsHead, FirstFaultOfHead, SpellsBody, FirstFaultOfBody};
-ghost use Rattle.rd_irp.specs.Reading.{WithTail, ForBad};
+ghost use Rattle.rd_base.specs.Reading.{WithTail, ForBad};
 ghost use Rattle.rd_irp.specs.Written.{completion_bytes, body_bytes, body_tail, IsBodyInRange};
 ghost use Rattle.rd_base.specs.declared.status.Status.{Status};
 ghost use Rattle.rd_irp.specs.Fits.{BodyFits, IsCountable, IsOfKind, body_length, fault_length, reply_kind};

@@ -1,7 +1,7 @@
 //! Laws of the messages: bytes are one of them with one tail, or have one first fault, never both. Each is a function
 //! that does nothing: its contract is the law.
 
-ghost use Rattle.rd_irp.specs.Reading.{IsOneOf};
+ghost use Rattle.rd_base.specs.Reading.{IsOneOf};
 ghost use Rattle.rd_irp.specs.Request.{SpellsRequest, FirstFaultOfRequest};
 ghost use Rattle.rd_irp.specs.Completion.{SpellsHead, FirstFaultOfHead, SpellsBody, FirstFaultOfBody};
 

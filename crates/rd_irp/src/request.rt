@@ -6,7 +6,7 @@ ghost use Rattle.rd_base.specs.Fields.{length_of_units, path, path_bytes, units_
 ghost use Rattle.rd_base.specs.Reading.{Reads, ReadsInto};
 ghost use Rattle.rd_irp.specs.Op.{create_body, op_body};
 ghost use Rattle.rd_irp.specs.Request.{request_head, SpellsRequest, FirstFaultOfRequest};
-ghost use Rattle.rd_irp.specs.Reading.{WithTail, ForBad};
+ghost use Rattle.rd_base.specs.Reading.{WithTail, ForBad};
 ghost use Rattle.rd_irp.specs.Written.{request_bytes, major_of, op_bytes, IsOpInRange};
 ghost use Rattle.rd_irp.specs.Fits.{Fits, op_length};
 
