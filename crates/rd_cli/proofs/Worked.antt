@@ -4,21 +4,17 @@ use Rattle.std.proofs.lemmas.List.Elements.{All-from_recursion}
 use Rattle.std.specs.Prelude.{codes, All}
 use Rattle.std.specs.Fmt.{digits}
 use Rattle.hex.specs.Hex.{encode_with}
-use Rattle.rd_base.specs.declared.status.Status.{Status}
-use Rattle.rd_base.specs.declared.journal.Key.{Key}
 use Rattle.rd_base.specs.declared.journal.Item.TheVariants.{Came, Ran, Cancelled, Sent, Cut}
 use Rattle.rd_base.specs.declared.journal.Cause.TheVariants.{Removed}
-use Rattle.rd_irp.specs.declared.op.Op.{Op}
 use Rattle.rd_irp.specs.declared.op.Op.TheVariants as op
 use Rattle.rd_irp.specs.declared.completion.Kind.TheVariants as kind
 use Rattle.rd_irp.specs.declared.completion.Body.TheVariants as body
 use Rattle.rd_cli.specs.declared.grammar.Line.TheVariants as line
 use Rattle.rd_cli.specs.declared.recording.End.TheVariants.{Host, Client}
-use Rattle.rd_cli.specs.declared.session.Outcome.{Outcome}
 use Rattle.rd_cli.specs.declared.session.Outcome.TheVariants as outcome
 use Rattle.rd_cli.specs.Asked.{Asked, Answered}
-use Rattle.rd_cli.specs.Grammar.{Said, IsTextOf, lines_of, text_of, hex_word, with_line, nothing_said}
-use Rattle.rd_cli.specs.Outcomes.{Ended, held_file, requests_of}
+use Rattle.rd_cli.specs.Grammar.{IsTextOf, lines_of, text_of, hex_word}
+use Rattle.rd_cli.specs.Outcomes.{held_file, requests_of}
 use Rattle.rd_cli.specs.Recording.{recording_of, begins, sends}
 use Rattle.rd_cli.specs.Report.{report_of, status_digits}
 use Rattle.rd_cli.specs.Told.{names_pair, completes, is_request}

@@ -1,6 +1,6 @@
 -- What holds of a run of `both` that ended with status 0: how its script, its recording, its journal and its report belong
 -- together. Nothing here knows how the program works.
-use Rattle.std.specs.Prelude.{◌≡◌, ℕ, zero, suc, ◌<◌, ◌≤◌, List, [], ◌∷◌, ◌++◌, length, map, zip, unwrap_or, Some, MatchOption, IfSome, All, slice_get}
+use Rattle.std.specs.Prelude.{◌≡◌, ℕ, zero, suc, ◌<◌, ◌≤◌, List, [], ◌∷◌, ◌++◌, length, zip, unwrap_or, Some, MatchOption, IfSome, All, slice_get}
 use Rattle.std.specs.List.{AllZip}
 use Rattle.rd_base.specs.declared.journal.Key.{Key}
 use Rattle.rd_base.specs.declared.journal.Item.{Item}

@@ -6,3 +6,4 @@ pub mod Recording
 pub mod Report
 pub mod Told
 pub mod Headline
+pub mod Channel

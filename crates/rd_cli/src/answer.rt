@@ -1,6 +1,8 @@
 //! What a request was answered.
 
-ghost use Rattle.std.specs.Prelude.{◌≡◌};
+ghost use Rattle.std.specs.Prelude.{◌≡◌, ℕ, IfErr, IfOk};
+ghost use Rattle.rd_base.specs.Reading.{ForBad};
+ghost use Rattle.rd_irp.specs.Completion.{SpellsBody, FirstFaultOfBody};
 
 use rd_base::{Bytes, ReadNo, Status};
 use rd_irp::{Body, Kind, read_body, write_body};
@@ -28,7 +30,12 @@ impl Model for Answer {
 
 impl Answer {
     /// Reads the answer from a status and the bytes behind a completion's head.
-    pub fn read(alloc: Global, kind: Kind, status: Status, bytes: &[u8]) -> Result<Self, ReadNo> {
+    pub fn read(alloc: Global, kind: Kind, status: Status, bytes: &[u8]) -> Result<Self, ReadNo>
+        ensures kind { IfOk result (λ answer. answer.kind ≡ kind) }
+        ensures status { IfOk result (λ answer. answer.status ≡ status) }
+        ensures refused { IfErr result (ForBad (FirstFaultOfBody kind status bytes.now)) }
+        ensures body { IfOk result (λ answer. (tail : ℕ) × SpellsBody kind status answer.body tail bytes.now) }
+    {
         let (body, _) = read_body(alloc, kind, status, bytes)?;
         Ok(Answer { kind, status, body })
     }

@@ -1,21 +1,28 @@
 //! One application, one channel and one drive, a request after the other.
 
-ghost use Rattle.std.specs.Prelude.{◌≡◌, ◌≤◌, [], length, IfOk, IsOkUnless};
+ghost use Rattle.std.specs.Prelude.{◌≡◌, ◌≤◌, [], ℕ, List, length, false, IfNone, IfOk, IsOkUnless, OnOk};
+ghost use Rattle.rd_chunk.specs.Frames.{One};
+ghost use Rattle.rd_irp.specs.declared.request.Request.{Request};
+ghost use Rattle.rd_irp.specs.Fits.{Fits};
+ghost use Rattle.rd_irp.specs.Request.{SpellsRequest};
 ghost use Rattle.rd_cli.specs.Causes.{Writes};
+ghost use Rattle.rd_cli.specs.Channel.{IsIdle, CarriesOne, CarriesRequest, CarriesCompletion, Serves, HearsIn, Exchanges, EndsIn};
+ghost use Rattle.rd_cli.specs.Headline.{key_at};
+ghost use Rattle.rd_cli.specs.Outcomes.{opens};
 
 use crate::answer::Answer;
 use crate::ask::Ask;
 use crate::recording::{End, begin, record};
 use crate::script::Script;
 use crate::stop::Stop;
-use rd_base::{Books, Bytes, Item, Journal, Key, Sink, Status};
-use rd_chunk::{Joiner, split};
+use rd_base::{Books, Bytes, Item, Journal, Key, ReadNo, Sink, Status};
+use rd_chunk::{FeedNo, Joiner, split};
 use rd_drive::{Device, Job, MemoryDrive, prepare};
 use rd_irp::{
     Body, COMPLETION_HEAD_LEN, Head, Kind, Op, Request, kind_of, read_head, read_request,
     write_completion, write_request,
 };
-use std::alloc::Global;
+use std::alloc::{AllocError, Global};
 use std::collections::BTreeMap;
 
 /// The id of the one device.
@@ -70,29 +77,55 @@ fn serve<R: Sink>(
     wire: &mut R,
     ask: Ask,
 ) -> Result<Outcome, Stop>
-    ensures { Writes result (R.faults wire.old) (R.faults wire.new) }
+    requires host_idle { IsIdle host.old.joiner }
+    requires client_idle { IsIdle client.old.joiner }
+    ensures writes { Writes result (R.faults wire.old) (R.faults wire.new) }
+    ensures host_idle { OnOk result (IsIdle host.new.joiner) }
+    ensures client_idle { OnOk result (IsIdle client.new.joiner) }
+    ensures ended { IfOk result (λ outcome. EndsIn ask.op outcome (key_at client.old.asked)
+        client.old.drive client.new.drive client.old.journal.items client.new.journal.items) }
 {
     let (handle, op) = ask.into_parts();
     let Some(file) = host.file_of(&handle, &op) else {
         return Ok(Outcome::NoHandle);
     };
-    let kind = kind_of(&op);
     let request = Request {
         device: DEVICE,
         file,
         completion: COMPLETION,
         op,
     };
-    let asked = split(alloc, write_request(alloc, &request)?.as_slice())?;
+    let answer = exchange(alloc, host, client, wire, &request)?;
+    if matches!(request.op, Op::Create { .. }) {
+        host.hold(handle, answer.body())?;
+    }
+    Ok(Outcome::Done(answer))
+}
+
+/// Sends a request that can be sent, lets the client answer it, and hears the answer.
+fn exchange<R: Sink>(
+    alloc: Global,
+    host: &mut Host,
+    client: &mut Client,
+    wire: &mut R,
+    request: &Request,
+) -> Result<Answer, Stop>
+    requires fits { Fits request.now.op }
+    requires host_idle { IsIdle host.old.joiner }
+    requires client_idle { IsIdle client.old.joiner }
+    ensures writes { Writes result (R.faults wire.old) (R.faults wire.new) }
+    ensures host_idle { OnOk result (IsIdle host.new.joiner) }
+    ensures client_idle { OnOk result (IsIdle client.new.joiner) }
+    ensures exchanged { IfOk result (Exchanges request.now (key_at client.old.asked)
+        client.old.drive client.new.drive client.old.journal.items client.new.journal.items) }
+{
+    let message = write_request(alloc, request)?;
+    let asked = split(alloc, message.as_slice())?;
     record(alloc, wire, End::Host, asked.as_slice())?;
     let completion = client.hear(alloc, asked.as_slice())?;
     let answered = split(alloc, completion.as_slice())?;
     record(alloc, wire, End::Client, answered.as_slice())?;
-    let answer = host.hear(alloc, kind, answered.as_slice())?;
-    if matches!(kind, Kind::Create) {
-        host.hold(handle, answer.body())?;
-    }
-    Ok(Outcome::Done(answer))
+    host.hear(alloc, kind_of(&request.op), answered.as_slice())
 }
 
 /// The application's end of the channel.
@@ -104,7 +137,9 @@ struct Host {
 }
 
 impl Host {
-    fn new(alloc: Global) -> Self {
+    fn new(alloc: Global) -> Self
+        ensures { IsIdle result.joiner }
+    {
         Host {
             joiner: Joiner::new(alloc),
             files: BTreeMap::new(alloc),
@@ -112,7 +147,9 @@ impl Host {
     }
 
     /// The file that a request is to name: none of its own where it opens one, else the one that the handle holds.
-    fn file_of(&self, handle: &String, op: &Op) -> Option<u32> {
+    fn file_of(&self, handle: &String, op: &Op) -> Option<u32>
+        ensures { IfNone result (opens op.now ≡ false) }
+    {
         match op {
             Op::Create { .. } => Some(0),
             _ => self.files.get(handle.as_str()).copied(),
@@ -121,20 +158,29 @@ impl Host {
 
     /// Joins the frames of a completion of this kind and reads it.
     fn hear(&mut self, alloc: Global, kind: Kind, frames: &[u8]) -> Result<Answer, Stop>
-        ensures { IsOkUnless result Stop.Memory }
+        requires idle { IsIdle self.old.joiner }
+        requires carried { CarriesCompletion kind frames.now }
+        ensures memory { IsOkUnless result Stop.Memory }
+        ensures idle { OnOk result (IsIdle self.new.joiner) }
+        ensures heard { IfOk result (HearsIn kind frames.now) }
     {
         let message = join(&mut self.joiner, frames)?;
         let bytes = message.as_slice();
         let Ok(head) = read_head(bytes) else {
-            return Err(Stop::Memory);
+            unreachable!();
         };
         let behind = &bytes[COMPLETION_HEAD_LEN..];
-        Ok(Answer::read(alloc, kind, head.status, behind)?)
+        match Answer::read(alloc, kind, head.status, behind) {
+            Ok(answer) => Ok(answer),
+            Err(ReadNo::Memory) => Err(Stop::Memory),
+            Err(ReadNo::Bad(_)) => unreachable!(),
+        }
     }
 
     /// Lets a handle hold the file that an open gave, or nothing where it failed.
     fn hold(&mut self, handle: String, body: &Body) -> Result<(), Stop>
-        ensures { IsOkUnless result Stop.Memory }
+        ensures memory { IsOkUnless result Stop.Memory }
+        ensures joiner { self.new.joiner ≡ self.old.joiner }
     {
         match body {
             Body::Created { file, .. } => {
@@ -159,7 +205,11 @@ struct Client {
 }
 
 impl Client {
-    fn new(alloc: Global, drive: MemoryDrive) -> Self {
+    fn new(alloc: Global, drive: MemoryDrive) -> Self
+        ensures idle { IsIdle result.joiner }
+        ensures drive { result.drive ≡ drive }
+        ensures journal { result.journal.items ≡ [] }
+    {
         Client {
             joiner: Joiner::new(alloc),
             drive,
@@ -170,12 +220,32 @@ impl Client {
 
     /// Joins the frames of a request, runs it, and writes its completion, which is within the limit of a message.
     fn hear(&mut self, alloc: Global, frames: &[u8]) -> Result<Bytes, Stop>
+        requires idle { IsIdle self.old.joiner }
+        requires carried { CarriesRequest frames.now }
         ensures some { IfOk result (λ completion. 1 ≤ length completion) }
         ensures most { IfOk result (λ completion. length completion ≤ 1052672) }
         ensures memory { IsOkUnless result Stop.Memory }
+        ensures idle { OnOk result (IsIdle self.new.joiner) }
+        ensures served { IfOk result (λ completion. (message : List ℕ) × (request : Request) × (tail : ℕ) ×
+            One message frames.now × SpellsRequest request tail message ×
+            Serves request (key_at self.old.asked) self.old.drive self.new.drive self.old.journal.items self.new.journal.items completion) }
     {
         let message = join(&mut self.joiner, frames)?;
-        let (request, _) = read_request(alloc, message.as_slice())?;
+        let (request, _) = match read_request(alloc, message.as_slice()) {
+            Ok(read) => read,
+            Err(ReadNo::Memory) => return Err(Stop::Memory),
+            Err(ReadNo::Bad(_)) => unreachable!(),
+        };
+        Ok(self.serve(alloc, request)?)
+    }
+
+    /// Runs a request, stores that in the journal, and writes its completion.
+    fn serve(&mut self, alloc: Global, request: Request) -> Result<Bytes, AllocError>
+        ensures some { IfOk result (λ completion. 1 ≤ length completion) }
+        ensures most { IfOk result (λ completion. length completion ≤ 1052672) }
+        ensures joiner { self.new.joiner ≡ self.old.joiner }
+        ensures served { IfOk result (Serves request (key_at self.old.asked) self.old.drive self.new.drive self.old.journal.items self.new.journal.items) }
+    {
         self.journal.reserve(3)?;
         let key = Key {
             channel: CHANNEL,
@@ -208,10 +278,17 @@ impl Client {
     }
 }
 
-/// The message that these frames carry.
-fn join(joiner: &mut Joiner, frames: &[u8]) -> Result<Bytes, Stop>
-    ensures { IsOkUnless result Stop.Memory }
+/// The message that these frames carry, at a joiner between two messages.
+fn join(joiner: &mut Joiner, frames: &[u8]) -> Result<Bytes, AllocError>
+    requires idle { IsIdle joiner.old }
+    requires carried { CarriesOne frames.now }
+    ensures joined { IfOk result (λ message. One message frames.now) }
+    ensures idle { OnOk result (IsIdle joiner.new) }
 {
-    joiner.feed(frames)?;
-    joiner.take().ok_or(Stop::Memory)
+    match joiner.feed(frames) {
+        Ok(_) => {}
+        Err(FeedNo::Memory) => return Err(AllocError),
+        Err(FeedNo::Bad(_)) => unreachable!(),
+    }
+    Ok(joiner.take().unwrap())
 }

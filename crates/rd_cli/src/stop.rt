@@ -3,8 +3,6 @@
 ghost use Rattle.std.specs.Prelude.{◌≡◌};
 ghost use Rattle.rd_cli.specs.declared.stop.Stop.TheVariants as stop;
 
-use rd_base::ReadNo;
-use rd_chunk::FeedNo;
 use std::alloc::{AllocError, AllocFailed};
 
 #[derive(Debug, Drop)]
@@ -49,24 +47,6 @@ impl<T: Drop> From<AllocFailed<T>> for Stop {
     ghost from_gives = { λ _ e. e ≡ stop.Memory };
 
     fn from(_error: AllocFailed<T>) -> Stop {
-        Stop::Memory
-    }
-}
-
-/// What this program wrote itself reads again, so only memory can be missing.
-impl From<ReadNo> for Stop {
-    ghost from_gives = { λ _ e. e ≡ stop.Memory };
-
-    fn from(_error: ReadNo) -> Stop {
-        Stop::Memory
-    }
-}
-
-/// The frames that this program wrote itself have no fault, so only memory can be missing.
-impl From<FeedNo> for Stop {
-    ghost from_gives = { λ _ e. e ≡ stop.Memory };
-
-    fn from(_error: FeedNo) -> Stop {
         Stop::Memory
     }
 }

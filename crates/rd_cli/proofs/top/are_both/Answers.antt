@@ -1,5 +1,4 @@
 use Rattle.std.proofs.Common.{◌≡◌, ◌<◌, ◌≤◌, List, [], ◌∷◌, length, get_or, String, Global, ap, sym, arith}
-use Rattle.std.specs.Prelude.{codes, map, string_bytes}
 use Rattle.rd_cli.proofs.top.are_both.Goals as goal
 
 -- a list of one word
