@@ -35,14 +35,15 @@ CarriesOne frames = (message : List ℕ) × One message frames
 abbrev pub CarriesRequest : List ℕ → Type 0
 CarriesRequest frames = (message : List ℕ) × (request : Request) × One message frames × SpellsRequest request 0 message
 
--- the bytes are the frames of some completion of this kind
+-- the bytes are the frames of some completion of this kind; one with a status other than 0 is of every kind
 abbrev pub CarriesCompletion : Kind → List ℕ → Type 0
 CarriesCompletion kind frames =
     (message : List ℕ) × (head : Head) × (body : Body) × (behind : ℕ) × (tail : ℕ) × One message frames × SpellsHead head behind message ×
     SpellsBody kind head.status body tail (drop 16 message)
 
--- What came of a request: it ran once on the drive, at moment 0, its journal says so, and its completion is written with its own
--- device and completion id, its kind, and the drive's reply.
+-- What came of a request at the drive's end: it ran once, at moment 0, or met the row for want of memory, which a Close never
+-- does; the journal says so; and its completion is written with its own device and completion id, its kind, and the drive's
+-- reply. Any tail may follow.
 pub record Serves (request : Request) (key : Key) (drive left : DriveState) (journal stored : List Item) (completion : List ℕ) : Type 0 where
   pub reply : Reply
   pub ran : Gives (unless_starved drive (is_starved reply) (drive_step drive request.file request.op 0)) left reply
@@ -52,7 +53,8 @@ pub record Serves (request : Request) (key : Key) (drive left : DriveState) (jou
   pub tail : ℕ
   pub body : SpellsBody (reply_kind request.op) reply.status reply.body tail (drop 16 completion)
 
--- What an application hears in the frames of a completion of this kind.
+-- What an application hears in the frames of a completion of this kind: its status and body, whatever device and completion id
+-- it names. Any tail may follow.
 pub record HearsIn (kind : Kind) (frames : List ℕ) (answered : Answered) : Type 0 where
   pub message : List ℕ
   pub carried : One message frames
@@ -63,8 +65,9 @@ pub record HearsIn (kind : Kind) (frames : List ℕ) (answered : Answered) : Typ
   pub body : SpellsBody kind answered.status answered.body tail (drop 16 message)
   pub kind_is : answered.kind ≡ kind
 
--- What came of a request that went to the drive and back in frames: it ran once, at moment 0, its journal says so, and what was
--- heard is the drive's reply, in a completion of the request's kind.
+-- What came of a request from end to end: it ran once, at moment 0, or met the row for want of memory, which a Close never does;
+-- the journal says so; and the answer is the drive's reply, of the request's kind. Nothing here speaks of frames, nor of the
+-- request's device and completion id.
 pub record Exchanges (request : Request) (key : Key) (drive left : DriveState) (journal stored : List Item) (answered : Answered) : Type 0 where
   pub reply : Reply
   pub ran : Gives (unless_starved drive (is_starved reply) (drive_step drive request.file request.op 0)) left reply
@@ -72,8 +75,8 @@ pub record Exchanges (request : Request) (key : Key) (drive left : DriveState) (
   pub kept : stored ≡ journal ++ Came key ∷ Ran key 0 (is_starved reply) false ∷ Sent key ∷ []
   pub answer : answered ≡ record { kind = reply_kind request.op; status = reply.status; body = reply.body }
 
--- How a line that asks for an operation ends. Without a file nothing happened, and the line doesn't open one; otherwise a request
--- with that operation for some file of device 1 was exchanged, and the outcome is its answer.
+-- How a line that asks for an operation ended. Refused: the line is no open, and drive and journal are as before. Answered: a
+-- request with that operation, for some file, was exchanged, and this is its answer. Which lines are refused isn't said here.
 abbrev pub EndsIn : Op → Outcome → Key → DriveState → DriveState → List Item → List Item → Type 0
 EndsIn asked outcome.NoHandle key drive left journal stored = (opens asked ≡ false) × (left ≡ drive) × (stored ≡ journal)
 EndsIn asked (outcome.Done answered) key drive left journal stored =
