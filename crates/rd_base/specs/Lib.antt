@@ -5,3 +5,4 @@ pub mod Layout
 pub mod Fields
 pub mod Reading
 pub mod Lawful
+pub mod Digits

@@ -29,9 +29,6 @@ pub use journal::{Cause, Item, Journal, Key};
 pub use laws::{path_field_is_decided, units_have_one_path};
 pub use memory::{MemSink, MemSource, PlainSink, PlainSource};
 pub use moments::Moments;
-pub use outside::{Failed, Sink, Source};
+pub use outside::{Failed, Sink, Source, write_all};
 pub use standard::{FileSink, StdSink, StdSource};
 pub use status::Status;
-
-#[cfg(test)]
-mod tests;

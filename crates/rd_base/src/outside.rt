@@ -1,7 +1,7 @@
 //! Where bytes come from and go to.
 
-ghost use Rattle.std.specs.Prelude.{ℕ, List, Option, length};
-ghost use Rattle.std.specs.Io.KnownBytes.{ReadConsumes, WriteAppends};
+ghost use Rattle.std.specs.Prelude.{ℕ, List, Option, length, take, OnOk, OnErr};
+ghost use Rattle.std.specs.Io.KnownBytes.{Appends, ReadConsumes, WriteAppends};
 ghost use Rattle.std.specs.Io.{ReadsAtMost, WritesAtMost};
 ghost use Rattle.rd_base.specs.Faults.{CountsFaults, StuckOnlyOnFault};
 
@@ -42,4 +42,22 @@ pub trait Sink {
         ensures bytes { WriteAppends (held self.old) (held self.new) result piece.now }
         ensures counted { CountsFaults result (faults self.old) (faults self.new) }
         ensures stuck { StuckOnlyOnFault result (length piece.now) (faults self.old) (faults self.new) };
+}
+
+/// Writes all of the bytes, in as many pieces as the sink takes them in.
+pub fn write_all<K: Sink>(output: &mut K, bytes: &[u8]) -> Result<(), Failed>
+    ensures counted { CountsFaults result (K.faults output.old) (K.faults output.new) }
+    ensures written { OnOk result (Appends (K.held output.old) (K.held output.new) bytes.now) }
+    // A call that fails has written a front of them.
+    ensures front { OnErr result ((n : ℕ) × Appends (K.held output.old) (K.held output.new) (take n bytes.now)) }
+{
+    let mut rest = bytes;
+    while !rest.is_empty() {
+        let count = output.write(rest)?;
+        if count == 0 {
+            return Err(Failed);
+        }
+        rest = &rest[count..];
+    }
+    Ok(())
 }

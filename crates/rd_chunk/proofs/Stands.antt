@@ -7,7 +7,7 @@ use Rattle.std.proofs.lemmas.List.Concat.{flat_map-append}
 use Rattle.std.proofs.lemmas.Bool.{cases_lt, cases_eq}
 use Rattle.rd_chunk.specs.declared.head.RowFault.{RowFault}
 use Rattle.rd_chunk.specs.Frames.{size_of, length_of, flags_of, data_of, IsFrame, AreFrames}
-use Rattle.rd_chunk.specs.Faults.{size_fault, fields_fault, head_fault, ShowsFault, IsPart, ChunkFault, FaultInMessage}
+use Rattle.rd_chunk.specs.Faults.{size_fault, fields_fault, head_fault, ShowsFault, IsPart, FaultInMessage}
 use Rattle.rd_chunk.specs.Standing.{Held, StandsFor}
 use Rattle.rd_chunk.proofs.Heads.{size_of-append, length_of-append, flags_of-append, good_size, IsGood, good_from_none, none_from_good}
 

@@ -30,6 +30,3 @@ pub use laws::{
 };
 pub use pieces::join_pieces;
 pub use splitter::split;
-
-#[cfg(test)]
-mod tests;

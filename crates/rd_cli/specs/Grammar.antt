@@ -5,7 +5,7 @@ use Rattle.hex.specs.Hex.{encode_lower}
 use Rattle.rd_irp.specs.declared.op.Op.{Op}
 use Rattle.rd_irp.specs.declared.op.Op.TheVariants as op
 use Rattle.rd_drive.specs.PlainPath.{IsPlainPath}
-use Rattle.rd_cli.specs.Asked.{Asked}
+use Rattle.rd_session.specs.Asked.{Asked}
 use Rattle.rd_cli.specs.declared.grammar.Line.{Line}
 use Rattle.rd_cli.specs.declared.grammar.Line.TheVariants as line
 

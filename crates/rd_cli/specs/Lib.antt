@@ -1,9 +1,6 @@
-pub mod Asked
-pub mod Causes
+pub mod Words
 pub mod Grammar
-pub mod Outcomes
-pub mod Recording
+pub mod ReadScript
+pub mod Causes
 pub mod Report
-pub mod Told
 pub mod Headline
-pub mod Channel

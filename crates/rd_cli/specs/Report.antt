@@ -7,8 +7,8 @@ use Rattle.rd_base.specs.declared.journal.Item.{Item}
 use Rattle.rd_base.specs.declared.journal.Item.TheVariants as item
 use Rattle.rd_base.specs.declared.status.Status.{Status}
 use Rattle.rd_irp.specs.Written.{body_bytes}
-use Rattle.rd_cli.specs.declared.session.Outcome.{Outcome}
-use Rattle.rd_cli.specs.declared.session.Outcome.TheVariants as outcome
+use Rattle.rd_session.specs.declared.session.Outcome.{Outcome}
+use Rattle.rd_session.specs.declared.session.Outcome.TheVariants as outcome
 
 -- a status as eight lower-case digits, the highest first
 abbrev pub status_digits : Status → List ℕ

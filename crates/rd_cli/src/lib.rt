@@ -1,24 +1,17 @@
 //! The top call: what `rdr` does with its words, its input and its two outputs.
 //!
-//! It stands on all layers below. `run` reads a script whole, lets one application's requests go to the drive and their
-//! completions back through channel frames, records every frame, and reports what each request was answered.
+//! It stands on all layers below. `run` reads a script whole, runs the session of its application and its drive, whose every
+//! frame goes into a recording, and reports what each request was answered.
 //!
-//! Cost of one request: each of its two messages is written once, cut into frames once, recorded with one write, and
-//! joined once; the bytes of a read are copied out of the file once and out of the completion once.
+//! Cost: a script is read once, and each line of it is looked at once; the session's cost is `rd_session`'s; the report is put
+//! together in memory and written once.
 #![tactic(auto)]
 
-mod answer;
-mod ask;
 mod grammar;
-mod recording;
+mod input;
 mod report;
 mod script;
-mod session;
 mod stop;
 mod top;
-mod transfer;
 
 pub use top::run;
-
-#[cfg(test)]
-mod tests;

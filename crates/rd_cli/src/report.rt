@@ -1,11 +1,18 @@
 //! The report of a session.
 
-use crate::session::Outcome;
+ghost use Rattle.std.specs.Prelude.{◌≡◌, ◌++◌, ◌∷◌, [], codes, count_by, decimal, map, IfOk, OnOk};
+ghost use Rattle.std.specs.String.{string_bytes};
+ghost use Rattle.rd_cli.specs.Report.{ending, is_run, report_of};
+
 use rd_base::{Books, Item, Journal};
+use rd_session::Outcome;
 use std::alloc::{AllocError, Global};
 
 /// A line for each of the application's lines, and one for each device.
-pub fn report(alloc: Global, outcomes: &[Outcome], books: &Books) -> Result<String, AllocError> {
+pub fn report(alloc: Global, outcomes: &[Outcome], books: &Books) -> Result<String, AllocError>
+    ensures { IfOk result (λ text.
+        string_bytes text ≡ report_of outcomes.now (map (λ b. (b.0, b.1.items)) books.now)) }
+{
     let mut text = String::new(alloc);
     for (index, outcome) in outcomes.iter().enumerate() {
         put_outcome(alloc, &mut text, index as u64 + 1, outcome)?;
@@ -22,7 +29,10 @@ fn put_outcome(
     text: &mut String,
     number: u64,
     outcome: &Outcome,
-) -> Result<(), AllocError> {
+) -> Result<(), AllocError>
+    ensures { OnOk result (string_bytes text.new
+        ≡ string_bytes text.old ++ (codes "1." ++ decimal number ++ ending outcome.now ++ 0x0a ∷ [])) }
+{
     match outcome {
         Outcome::Done(answer) => {
             let status = answer.status();
@@ -34,7 +44,9 @@ fn put_outcome(
 }
 
 /// How many requests the device ran.
-fn runs_in(journal: &Journal) -> usize {
+fn runs_in(journal: &Journal) -> usize
+    ensures { result ≡ count_by is_run journal.now.items }
+{
     journal
         .items()
         .iter()

@@ -1,13 +1,17 @@
 //! A script, and the first line outside the grammar.
 
-ghost use Rattle.std.specs.Prelude.{IfErr};
+ghost use Rattle.std.specs.Prelude.{◌≡◌, ◌≢◌, ◌-◌, ◌↔◌, All, IfOk, IfErr, IsTrue, ⊤, length, take};
+ghost use Rattle.rd_drive.specs.PlainPath.{IsPlainPath};
 ghost use Rattle.rd_cli.specs.Causes.{Caused};
+ghost use Rattle.rd_cli.specs.Grammar.{IsFirstBad, IsScript, IsSkipped, Said, text_of};
+ghost use Rattle.rd_cli.specs.ReadScript.{HoldsSaid, IsLineStop, Reads, Takes};
+ghost use Rattle.rd_cli.specs.declared.grammar.Line.TheVariants as line;
 
-use crate::ask::Ask;
 use crate::grammar::{Line, line_of};
 use crate::stop::Stop;
 use rd_base::{Bytes, Units};
 use rd_drive::{AddNo, MemoryDrive};
+use rd_session::Ask;
 use std::alloc::{AllocError, Global};
 
 /// The most lines of a script.
@@ -26,7 +30,9 @@ pub enum Script {
 
 /// Reads a script. The first line that is outside the grammar, or past a limit, is `Stop::Line`.
 pub fn read_script(alloc: Global, bytes: &[u8]) -> Result<Script, Stop>
-    ensures { IfErr result (λ stop. Caused stop ⊥ ⊥) }
+    ensures cause { IfErr result (λ stop. Caused stop ⊤ ⊥ ⊥) }
+    ensures script { IfOk result (λ script. (said : Said) × IsScript bytes.now said × HoldsSaid said script) }
+    ensures bad { IfErr result (λ stop. IsLineStop stop (IsFirstBad bytes.now)) }
 {
     let mut script = Script::Empty;
     let mut end = 0usize;
@@ -41,17 +47,28 @@ pub fn read_script(alloc: Global, bytes: &[u8]) -> Result<Script, Stop>
     Ok(script)
 }
 
-fn without_line_feed(piece: &[u8]) -> &[u8] {
+fn without_line_feed(piece: &[u8]) -> &[u8]
+    ensures { All (λ byte. byte ≢ 0x0a) (take (length piece.now - 1) piece.now) → result.now ≡ text_of piece.now }
+{
     match piece {
         [text @ .., b'\n'] => text,
         text => text,
     }
 }
 
+/// Empty lines and remarks.
+fn is_skipped(text: &[u8]) -> bool
+    ensures { IsTrue result ↔ IsSkipped text.now }
+{
+    matches!(text, [] | [b'#', ..])
+}
+
 impl Script {
     /// Adds a line, or skips it where it is empty or a remark, and answers whether it may stand here.
-    fn read_line(&mut self, alloc: Global, text: &[u8]) -> Result<bool, AllocError> {
-        if matches!(text, [] | [b'#', ..]) {
+    fn read_line(&mut self, alloc: Global, text: &[u8]) -> Result<bool, AllocError>
+        ensures { IfOk result (λ fits. Reads self.old text.now fits self.new) }
+    {
+        if is_skipped(text) {
             return Ok(true);
         }
         match line_of(alloc, text)? {
@@ -63,7 +80,9 @@ impl Script {
     }
 
     /// The drive comes first, and once.
-    fn add_drive(&mut self, alloc: Global, label: Units) -> Result<bool, AllocError> {
+    fn add_drive(&mut self, alloc: Global, label: Units) -> Result<bool, AllocError>
+        ensures { IfOk result (λ fits. Takes self.old (line.Drive label) fits self.new) }
+    {
         if matches!(self, Script::Drive { .. }) {
             return Ok(false);
         }
@@ -75,7 +94,9 @@ impl Script {
     }
 
     /// Files come behind the drive and before all that is asked, each path once.
-    fn add_file(&mut self, path: &Units, bytes: Bytes) -> Result<bool, AllocError> {
+    fn add_file(&mut self, path: &Units, bytes: Bytes) -> Result<bool, AllocError>
+        ensures { IfOk result (λ fits. IsPlainPath path.now → Takes self.old (line.File path.now bytes) fits self.new) }
+    {
         let Script::Drive { drive, asks } = self else {
             return Ok(false);
         };
@@ -84,12 +105,16 @@ impl Script {
         }
         match drive.add_file(path, bytes) {
             Ok(()) => Ok(true),
-            Err(AddNo::Memory) => Err(AllocError),
-            Err(_) => Ok(false),
+            Err(cause) => match cause {
+                AddNo::Memory => Err(AllocError),
+                _ => Ok(false),
+            },
         }
     }
 
-    fn add_ask(&mut self, ask: Ask) -> Result<bool, AllocError> {
+    fn add_ask(&mut self, ask: Ask) -> Result<bool, AllocError>
+        ensures { IfOk result (λ fits. Takes self.old (line.Ask ask) fits self.new) }
+    {
         let Script::Drive { asks, .. } = self else {
             return Ok(false);
         };

@@ -3,6 +3,7 @@
 ghost use Rattle.std.specs.Prelude.{◌≡◌};
 ghost use Rattle.rd_cli.specs.declared.stop.Stop.TheVariants as stop;
 
+use rd_session::RunNo;
 use std::alloc::{AllocError, AllocFailed};
 
 #[derive(Debug, Drop)]
@@ -31,6 +32,19 @@ impl Stop {
             Stop::Input => 2,
             Stop::Output => 3,
             Stop::Memory => 6,
+        }
+    }
+}
+
+impl From<RunNo> for Stop {
+    ghost use Rattle.rd_cli.specs.Causes.{stop_of};
+
+    ghost from_gives = { λ no e. e ≡ stop_of no };
+
+    fn from(no: RunNo) -> Stop {
+        match no {
+            RunNo::Wire => Stop::Output,
+            RunNo::Memory => Stop::Memory,
         }
     }
 }

@@ -1,15 +1,19 @@
 //! The top call.
 
-ghost use Rattle.std.specs.Prelude.{◌≡◌, ◌≤◌, ◌⊎◌, ◌↔◌, [], codes, IsTrue, map, string_bytes, IfErr, IsErrOf};
+ghost use Rattle.std.specs.Prelude.{◌≡◌, ◌≢◌, ◌≤◌, ⊤, ◌⊎◌, ◌↔◌, [], codes, IsTrue, map, string_bytes, IfErr, IfOk, OnOk, IsErrOf};
 ghost use Rattle.rd_base.specs.Faults.{Rose};
-ghost use Rattle.rd_cli.specs.Causes.{AreBoth, Caused, status_of};
+ghost use Rattle.std.specs.Io.KnownBytes.{Appends};
+ghost use Rattle.rd_cli.specs.Causes.{AreBoth, Caused, IsRefusal, Refused, last_line, status_of};
+ghost use Rattle.rd_cli.specs.Grammar.{Said};
+ghost use Rattle.rd_cli.specs.Headline.{Ran, RanScript};
+ghost use Rattle.rd_cli.specs.ReadScript.{HoldsSaid};
 
+use crate::input::read_all;
 use crate::report::report;
-use crate::script::{MAX_BYTES, read_script};
-use crate::session::run_script;
+use crate::script::{MAX_BYTES, Script, read_script};
 use crate::stop::Stop;
-use crate::transfer::{read_all, write_all};
-use rd_base::{Books, Sink, Source};
+use rd_base::{Books, Sink, Source, write_all};
+use rd_session::{DEVICE, Outcome, Session, begin_recording, run_session};
 use std::alloc::{AllocError, Global};
 
 /// Runs a command and answers the exit status.
@@ -42,6 +46,13 @@ pub fn run<S: Source, K: Sink, R: Sink>(
     ensures output { result ≡ 3 → Rose (K.faults output.old) (K.faults output.new) ⊎ Rose (R.faults wire.old) (R.faults wire.new) }
 
     ensures counted { (S.faults input.old ≤ S.faults input.new) × (K.faults output.old ≤ K.faults output.new) × (R.faults wire.old ≤ R.faults wire.new) }
+
+    // Why a run is refused, and what the output then says.
+    ensures refused { result ≡ 1 → Refused (map string_bytes words.now) (S.left input.old) (S.left input.new)
+        (K.held output.old) (K.held output.new) (Rose (K.faults output.old) (K.faults output.new)) }
+
+    // A run to its end.
+    ensures ran { result ≡ 0 → Ran (S.left input.old) (S.left input.new) (R.held wire.old) (R.held wire.new) (K.held output.old) (K.held output.new) books.new }
 {
     match both(alloc, words, input, output, wire, books) {
         Ok(()) => 0,
@@ -59,9 +70,12 @@ fn both<S: Source, K: Sink, R: Sink>(
 ) -> Result<(), Stop>
     requires { books.old ≡ [] }
     ensures words { ¬ (AreBoth (map string_bytes words.now)) → IsErrOf result Stop.Words }
-    ensures cause { IfErr result (λ stop. Caused stop (Rose (S.faults input.old) (S.faults input.new))
+    ensures refused { IfErr result (λ stop. status_of stop ≡ 1 →
+        IsRefusal (map string_bytes words.now) (S.left input.old) (S.left input.new) stop × (K.held output.new ≡ K.held output.old)) }
+    ensures cause { IfErr result (λ stop. Caused stop ⊤ (Rose (S.faults input.old) (S.faults input.new))
         (Rose (K.faults output.old) (K.faults output.new) ⊎ Rose (R.faults wire.old) (R.faults wire.new))) }
     ensures counted { (S.faults input.old ≤ S.faults input.new) × (K.faults output.old ≤ K.faults output.new) × (R.faults wire.old ≤ R.faults wire.new) }
+    ensures ran { OnOk result (Ran (S.left input.old) (S.left input.new) (R.held wire.old) (R.held wire.new) (K.held output.old) (K.held output.new) books.new) }
 {
     if !are_both(words) {
         return Err(Stop::Words);
@@ -70,7 +84,34 @@ fn both<S: Source, K: Sink, R: Sink>(
     let script = read_script(alloc, text.as_slice())?;
     let outcomes = run_script(alloc, script, wire, books)?;
     let report = report(alloc, outcomes.as_slice(), books)?;
-    write_all(output, report.as_bytes()).map_err(|_| Stop::Output)
+    let Ok(()) = write_all(output, report.as_bytes()) else {
+        return Err(Stop::Output);
+    };
+    Ok(())
+}
+
+/// Runs a script. Each frame goes to the recording, and the drive's journal into the books.
+fn run_script<R: Sink>(
+    alloc: Global,
+    script: Script,
+    wire: &mut R,
+    books: &mut Books,
+) -> Result<Vec<Outcome>, Stop>
+    requires { books.old ≡ [] }
+    ensures counted { R.faults wire.old ≤ R.faults wire.new }
+    ensures cause { IfErr result (λ stop. Caused stop ⊥ ⊥ (Rose (R.faults wire.old) (R.faults wire.new))) }
+    ensures ran { IfOk result (λ outcomes. (said : Said) → HoldsSaid said script →
+        RanScript said outcomes.items (R.held wire.old) (R.held wire.new) books.new) }
+{
+    let Ok(()) = begin_recording(wire) else {
+        return Err(Stop::Output);
+    };
+    let Script::Drive { drive, asks } = script else {
+        return Ok(Vec::new(alloc));
+    };
+    let Session { outcomes, journal } = run_session(alloc, drive, asks, wire)?;
+    books.put(DEVICE, journal)?;
+    Ok(outcomes)
 }
 
 /// Whether the words are the one command that there is.
@@ -92,6 +133,7 @@ fn is_both(word: &String) -> bool
 /// Says what ended the run, where that has a line, and answers the status. A failure to say it changes nothing.
 fn last_line<K: Sink>(alloc: Global, output: &mut K, stop: Stop) -> u8
     ensures status { (result ≡ status_of stop) ⊎ (result ≡ 6) }
+    ensures said { result ≢ 6 → Rose (K.faults output.old) (K.faults output.new) ⊎ Appends (K.held output.old) (K.held output.new) (last_line stop) }
     ensures counted { K.faults output.old ≤ K.faults output.new }
 {
     match line_of(alloc, &stop) {
@@ -104,7 +146,9 @@ fn last_line<K: Sink>(alloc: Global, output: &mut K, stop: Stop) -> u8
 }
 
 /// The last line on the output, if any.
-fn line_of(alloc: Global, stop: &Stop) -> Result<String, AllocError> {
+fn line_of(alloc: Global, stop: &Stop) -> Result<String, AllocError>
+    ensures { IfOk result (λ text. string_bytes text ≡ last_line stop.now) }
+{
     match stop {
         Stop::Words => String::from_str(alloc, "bad words\n"),
         Stop::Line(number) => format!(in alloc; "line {number} words\n"),

@@ -16,6 +16,3 @@ pub use device::Device;
 pub use drive::{AddNo, MAX_HANDLES, MAX_NODES, MemoryDrive};
 pub use path::is_plain_path;
 pub use plan::{Job, MAX_READ, Plan, prepare};
-
-#[cfg(test)]
-mod tests;

@@ -20,6 +20,3 @@ pub use completion::{
 pub use laws::{completion_body_is_decided, completion_head_is_decided, request_is_decided};
 pub use op::{MAX_PATH, Op};
 pub use request::{Request, fits, read_request, write_request};
-
-#[cfg(test)]
-mod tests;

@@ -1,0 +1,96 @@
+-- A script that ran, from its session.
+use Rattle.std.proofs.Common.{◌≡◌, ◌≤◌, ℕ, List, [], ◌∷◌, ◌++◌, length, Bool, true, false, Option, Some, None, refl, sym, ap, subst, ◌∙◌, append_assoc, arith}
+use Rattle.std.specs.Prelude.{◌==◌, if◌then◌else◌, codes, unwrap_or, MatchOption, Result, Ok, Err, IfErr}
+use Rattle.std.specs.List.{concat, flat_map}
+use Rattle.std.specs.Ordering.{nat_cmp}
+use Rattle.std.specs.BTreeMap.{insert_entry}
+use Rattle.std.specs.Io.KnownBytes.{Appends, Consumes, IsAtEnd}
+use Rattle.std.proofs.KnownBytes.{Appends-trans}
+use Rattle.rd_base.specs.History.{History}
+use Rattle.rd_base.specs.declared.journal.Item.{Item}
+use Rattle.rd_drive.specs.DriveState.{DriveState, opening}
+use Rattle.rd_session.specs.declared.session.Outcome.{Outcome}
+use Rattle.rd_session.specs.Asked.{Asked}
+use Rattle.rd_session.specs.Recording.{Entry, begins, entry_bytes, recording_of}
+use Rattle.rd_session.specs.Session.{IsSession}
+use Rattle.rd_session.proofs.SoFar.{empty_session}
+use Rattle.rd_cli.specs.declared.stop.Stop.{Stop}
+use Rattle.rd_cli.specs.declared.stop.Stop.TheVariants as stop
+use Rattle.rd_cli.specs.Causes.{Caused, status_of}
+use Rattle.rd_cli.specs.Grammar.{IsScript, Said, lines_of, nothing_said, onto_first}
+use Rattle.rd_cli.specs.Headline.{IsScriptRun, Ran, RanScript, journals_in}
+use Rattle.rd_cli.specs.Report.{report_of}
+
+-- Without a drive nothing runs.
+pub empty_run : (said : Said) (outcomes : List Outcome) (held grown : Option (List ℕ)) (books : List (ℕ × History)) → said ≡ nothing_said → outcomes ≡ [] → books ≡ [] → Appends held grown (recording_of (begins ∷ []))
+    → RanScript said outcomes held grown books
+empty_run said outcomes held grown books nothing none no_books begun =
+    let run : IsScriptRun nothing_said [] (recording_of (begins ∷ [])) [] = record { journal = []; recorded = []; session = empty_session (opening [] []); wire = refl; journals = refl } in (
+      recording_of (begins ∷ []),
+      begun,
+      subst (λ (s : Said). IsScriptRun s outcomes (recording_of (begins ∷ [])) (journals_in books)) (sym nothing)
+          (subst (λ (os : List Outcome). IsScriptRun nothing_said os (recording_of (begins ∷ [])) (journals_in books)) (sym none)
+          (subst (λ (bs : List (ℕ × History)). IsScriptRun nothing_said [] (recording_of (begins ∷ [])) (journals_in bs)) (sym no_books) run)),
+    )
+
+-- the books with the one journal
+one_journal : (label : Option (List ℕ)) (name : List ℕ) (books journals : List (ℕ × List Item)) → label ≡ Some name → books ≡ journals → MatchOption label (books ≡ []) (λ l. books ≡ journals)
+one_journal None name books journals is same = absurd (cc)
+one_journal (Some l) name books journals is same = same
+
+-- With a drive its session runs.
+pub drive_run : (said : Said) (label : List ℕ) (drive : DriveState) (asks : List Asked) (outcomes : List Outcome) (journal : History) (held middle grown : Option (List ℕ)) (books : List (ℕ × History))
+    → said.label ≡ Some label → drive ≡ opening label said.files → asks ≡ said.asks → Appends held middle (recording_of (begins ∷ []))
+    → ((recorded : List Entry) × IsSession drive asks outcomes journal.items recorded × Appends middle grown (flat_map entry_bytes recorded)) → books ≡ insert_entry nat_cmp [] 1 journal
+    → RanScript said outcomes held grown books
+drive_run said label drive asks outcomes journal held middle grown books label_is drive_is asks_are begun (recorded, session, written) books_are =
+    let opened : opening (unwrap_or said.label []) said.files ≡ drive = ap (λ (l : Option (List ℕ)). opening (unwrap_or l []) said.files) label_is ∙ sym drive_is in
+    let whole : recording_of (begins ∷ []) ++ flat_map entry_bytes recorded ≡ recording_of (begins ∷ recorded) = append_assoc (codes "RDRREC01") (2 ∷ []) (flat_map entry_bytes recorded) in
+    let journals : journals_in books ≡ (1, journal.items) ∷ [] = ap (λ (bs : List (ℕ × History)). journals_in bs) books_are in (
+      recording_of (begins ∷ recorded),
+      subst (λ (bytes : List ℕ). Appends held grown bytes) whole (Appends-trans held middle grown (recording_of (begins ∷ [])) (flat_map entry_bytes recorded) begun written),
+      record {
+        journal = journal.items;
+        recorded = recorded;
+        session = subst (λ (s : DriveState). IsSession s said.asks outcomes journal.items recorded) (sym opened) (subst (λ (bs : List Asked). IsSession drive bs outcomes journal.items recorded) asks_are session);
+        wire = refl;
+        journals = one_journal said.label label (journals_in books) ((1, journal.items) ∷ []) label_is journals;
+      },
+    )
+
+-- ---- the lines of a text are the text
+concat-onto_first : (byte : ℕ) (pieces : List (List ℕ)) → concat (onto_first byte pieces) ≡ byte ∷ concat pieces
+concat-onto_first byte [] = refl
+concat-onto_first byte (piece ∷ pieces) = refl
+
+concat-next : (b : Bool) (byte : ℕ) (pieces : List (List ℕ)) (bytes : List ℕ) → concat pieces ≡ bytes → concat (if b then (byte ∷ []) ∷ pieces else onto_first byte pieces) ≡ byte ∷ bytes
+concat-next true byte pieces bytes same = ap (λ (l : List ℕ). byte ∷ l) same
+concat-next false byte pieces bytes same = concat-onto_first byte pieces ∙ ap (λ (l : List ℕ). byte ∷ l) same
+
+concat-lines : (text : List ℕ) → concat (lines_of text) ≡ text
+concat-lines [] = refl
+concat-lines (byte ∷ bytes) = concat-next (byte == 0x0a) byte (lines_of bytes) bytes (concat-lines bytes)
+
+-- a script is no longer than its limit
+pub script_short : (text : List ℕ) (said : Said) → IsScript text said → length text ≤ 65536
+script_short text said script = omega (arith, script.within.1, ap length (concat-lines text))
+
+-- A script that was read to the input's end, ran, and whose report was written.
+pub whole_run : (left rest held grown shown printed : Option (List ℕ)) (books : List (ℕ × History)) (text report : List ℕ) (said : Said) (outcomes : List Outcome)
+    → Consumes left rest text → (length text ≤ 65536 → IsAtEnd rest) → IsScript text said → RanScript said outcomes held grown books → Appends shown printed report → report ≡ report_of outcomes (journals_in books)
+    → Ran left rest held grown shown printed books
+whole_run left rest held grown shown printed books text report said outcomes read whole script (recording, written, ran) told output =
+    (text, recording, report, read, whole (script_short text said script), written, told, record { said = said; outcomes = outcomes; script = script; ran = ran; output = output })
+
+-- what stops a run for the input or the outputs refuses nothing
+pub not_refused : (s : Stop) (of_input of_output : Type 0) → Caused s ⊥ of_input of_output → status_of s ≡ 1 → ⊥
+not_refused stop.Words of_input of_output caused one = caused
+not_refused (stop.Line number) of_input of_output caused one = caused
+not_refused stop.Input of_input of_output caused one = absurd (cc)
+not_refused stop.Output of_input of_output caused one = absurd (cc)
+not_refused stop.Memory of_input of_output caused one = absurd (cc)
+
+-- so of an error that it gives anything holds that is owed to a refusal
+pub none_refused : {T : Type 0} (result : Result T Stop) (of_input of_output : Type 0) (P : Stop → Type 0) → IfErr result (λ s. Caused s ⊥ of_input of_output) → IfErr result (λ s. status_of s ≡ 1 → P s)
+none_refused (Ok x) of_input of_output P caused = tt
+none_refused (Err s) of_input of_output P caused = λ one. absurd (not_refused s of_input of_output caused one)

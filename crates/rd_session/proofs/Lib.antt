@@ -1,0 +1,10 @@
+pub mod Joined
+pub mod Ended
+pub mod Course
+pub mod Lawfulness
+pub mod Histories
+pub mod Named
+pub mod Orders
+pub mod SoFar
+pub mod Recorded
+pub mod Worked

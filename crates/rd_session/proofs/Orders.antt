@@ -1,0 +1,225 @@
+-- The orders in which the messages of a session's exchanges stand, and what each completes.
+use Rattle.std.proofs.Common.{◌≡◌, ℕ, suc, zero, ◌<◌, ◌≤◌, ◌+◌, ◌*◌, ◌^◌, Bool, true, false, cond, List, [], ◌∷◌, ◌++◌, length, take, refl, sym, ap, ◌∙◌, subst, inl, arith}
+use Rattle.std.specs.Prelude.{◌==◌, ◌&&◌, map, zip, filter, count_by, All, Contains}
+use Rattle.std.specs.List.{AllByRecursion, AllZip, flat_map}
+use Rattle.std.proofs.lemmas.List.{append_assoc, append-nil}
+use Rattle.std.proofs.lemmas.List.Elements.{All-from_recursion, recursion_from_All, All-contains_itself}
+use Rattle.std.proofs.lemmas.List.Sums.{sum_by-cons}
+use Rattle.std.proofs.lemmas.Slice.Eq.{bytes_eq-Decides}
+use Rattle.rd_base.specs.declared.journal.Key.{Key}
+use Rattle.rd_base.specs.declared.journal.Item.{Item}
+use Rattle.rd_irp.specs.declared.completion.Reply.{Reply}
+use Rattle.rd_irp.specs.declared.request.Request.{Request}
+use Rattle.rd_irp.specs.Request.{SpellsRequest}
+use Rattle.rd_irp.specs.Written.{header_bytes}
+use Rattle.rd_session.specs.declared.recording.End.TheVariants.{Host, Client}
+use Rattle.rd_chunk.specs.Carrier.{IsMessage}
+use Rattle.rd_session.specs.Channel.{Exchange, answer_in, recorded_in}
+use Rattle.rd_session.specs.Recording.{Entry, Passed, entries_of}
+use Rattle.rd_session.specs.Session.{Asks, key_at, in_turn, first_keys, Hears}
+use Rattle.rd_session.specs.Told.{Counted, InOrder, Completes, CompletesKey, RanAt, sent_keys, completes, is_request, has_pair, names_pair}
+use Rattle.rd_session.proofs.Course.{stored_from, keys_from, replies_from, NamesFrom, AreOwn}
+use Rattle.rd_session.proofs.Named.{request_begins, names_own}
+
+-- the requests, as they were sent
+abbrev pub sents : List Exchange → List (List ℕ)
+sents es = map (λ e. e.sent) es
+
+-- and their completions
+abbrev pub completions : List Exchange → List (List ℕ)
+completions es = map (λ e. e.completion) es
+
+-- ---- what passed
+joined : (a b c : List Entry) → (a ++ (b ++ [])) ++ c ≡ a ++ (b ++ c)
+joined a b c = ap (λ (x : List Entry). (a ++ x) ++ c) (append-nil b) ∙ append_assoc a b c
+
+-- the recording has the frames of each message
+pub wire : (es : List Exchange) → flat_map recorded_in es ≡ flat_map entries_of (in_turn (zip (sents es) (completions es)))
+wire [] = refl
+wire (e ∷ es) =
+    joined (entries_of (Host, e.sent)) (entries_of (Client, e.completion)) (flat_map recorded_in es)
+    ∙ ap (λ (x : List Entry). entries_of (Host, e.sent) ++ (entries_of (Client, e.completion) ++ x)) (wire es)
+
+fit_each : (es : List Exchange) → AreOwn es → AllByRecursion (λ p. IsMessage p.1) (in_turn (zip (sents es) (completions es)))
+fit_each [] own = tt
+fit_each (e ∷ es) own = (own.0.0.sent_fits, (own.0.0.completion_fits, fit_each es own.1))
+
+-- frames can carry each message
+pub fit : (es : List Exchange) → AreOwn es → All (λ p. IsMessage p.1) (in_turn (zip (sents es) (completions es)))
+fit es own = All-from_recursion (λ (p : Passed). IsMessage p.1) _ (fit_each es own)
+
+-- each request is spelled
+pub spelled : (es : List Exchange) → AreOwn es → AllZip Asks (map (λ e. e.request) es) (sents es)
+spelled [] own = tt
+spelled (e ∷ es) own = ((own.0.0.spelled, own.0.0.sent_bytes), spelled es own.1)
+
+-- each answer is heard in its completion
+pub heard : (es : List Exchange) → AreOwn es → AllZip Hears (zip (map (λ e. e.request) es) (map answer_in es)) (completions es)
+heard [] own = tt
+heard (e ∷ es) own = ((refl, own.0.0.completes, own.0.0.completion_bytes), heard es own.1)
+
+-- ---- the keys
+-- the keys whose completions were handed out
+pub keys_sent : (n : ℕ) (es : List Exchange) → sent_keys 1 (stored_from n es) ≡ keys_from n es
+keys_sent n [] = refl
+keys_sent n (e ∷ es) = ap (λ (ks : List Key). key_at n ∷ ks) (keys_sent (suc n) es)
+
+-- the first keys, and those behind them
+keys_first : (n : ℕ) (es : List Exchange) (m : ℕ) → m ≡ n + length es → first_keys m ≡ first_keys n ++ keys_from n es
+keys_first n [] m is = let same : m ≡ n = omega (arith, is) in ap first_keys same ∙ sym (append-nil (first_keys n))
+keys_first n (e ∷ es) m is =
+    keys_first (suc n) es m (omega (arith, is)) ∙ append_assoc (first_keys n) (key_at n ∷ []) (keys_from (suc n) es)
+
+-- they are those of the exchanges
+pub first_are : (es : List Exchange) → first_keys (length es) ≡ keys_from 0 es
+first_are es = keys_first 0 es (length es) (omega arith)
+
+-- the index of one of the first keys
+index_below : (m n : ℕ) (es : List Exchange) (k : Key) → Contains (take m (keys_from n es)) k → k.index < n + m
+index_below zero n es k c = absurd (omega (arith, c.1))
+index_below (suc m) n [] k c = absurd (omega (arith, c.1))
+index_below (suc m) n (e ∷ es) k (zero, lt, is) = let same : n ≡ k.index = ap (λ (x : Key). x.index) is in omega (arith, same)
+index_below (suc m) n (e ∷ es) k (suc i, lt, is) =
+    let below : k.index < suc n + m = index_below m (suc n) es k (i, omega (arith, lt), is) in
+    omega (arith, below)
+
+-- the place of a key's run
+ran_place : (n : ℕ) (es : List Exchange) (i : ℕ) (k : Key) → RanAt (stored_from n es) i k → i + 3 * n ≡ 3 * k.index + 1
+ran_place n [] i k r = absurd cc
+ran_place n (e ∷ es) zero k r = absurd cc
+ran_place n (e ∷ es) (suc zero) k r =
+    let ran = r.3 in
+    let same : key_at n ≡ k = cc in
+    let index : n ≡ k.index = ap (λ (x : Key). x.index) same in
+    omega (arith, index)
+ran_place n (e ∷ es) (suc (suc zero)) k r = absurd cc
+ran_place n (e ∷ es) (suc (suc (suc i))) k r =
+    let there : i + 3 * suc n ≡ 3 * k.index + 1 = ran_place (suc n) es i k r in
+    omega (arith, there)
+
+-- ---- the order
+-- one more in front of a count
+counts : {X : Type 0} (p : X → Bool) (x : X) (xs : List X) → count_by p (x ∷ xs) ≡ cond (p x) 1 0 + count_by p xs
+counts p x xs = sum_by-cons (λ y. cond (p y) 1 0) x xs
+
+-- a message that spells a request counts as one
+spells_counts : (r : Request) (tail : ℕ) (message : List ℕ) → SpellsRequest r tail message → is_request (Host, message) ≡ true
+spells_counts r tail message s =
+    let b = request_begins r tail message s in
+    (bytes_eq-Decides (take 4 message) (header_bytes 0x4952)).1 (ap (λ (x : List ℕ). take 4 x) b.1)
+
+at_most_one : (b : Bool) → cond b 1 0 ≤ 1
+at_most_one true = omega arith
+at_most_one false = omega arith
+
+-- a request, and one that completes at most one, in front of others
+two_more : (x y : Passed) (before : List Passed) → completes 1 x ≡ false → is_request x ≡ true → count_by (completes 1) before ≤ count_by is_request before
+    → count_by (completes 1) (x ∷ y ∷ before) ≤ count_by is_request (x ∷ y ∷ before)
+two_more x y before silent asks most =
+    let none : ◌≡◌ {A = ℕ} (cond (completes 1 x) 1 0) 0 = ap (λ (b : Bool). cond b 1 0) silent in
+    let one : ◌≡◌ {A = ℕ} (cond (is_request x) 1 0) 1 = ap (λ (b : Bool). cond b 1 0) asks in
+    omega (
+      arith,
+      none,
+      one,
+      most,
+      at_most_one (completes 1 y),
+      counts (completes 1) x (y ∷ before),
+      counts (completes 1) y before,
+      counts is_request x (y ∷ before),
+      counts is_request y before,
+    )
+
+-- no front has more completions than requests
+fronts : (es : List Exchange) → AreOwn es → (before behind : List Passed) → in_turn (zip (sents es) (completions es)) ≡ before ++ behind → count_by (completes 1) before ≤ count_by is_request before
+fronts es own [] behind is = omega arith
+fronts [] own (x ∷ xs) behind is = absurd cc
+fronts (e ∷ es) own (x ∷ []) behind is =
+    let first : (Host, e.sent) ≡ x = cc in
+    rw (← first) (omega arith)
+fronts (e ∷ es) own (x ∷ y ∷ before) behind is =
+    let first : (Host, e.sent) ≡ x = cc in
+    let rest : in_turn (zip (sents es) (completions es)) ≡ before ++ behind = cc in
+    let silent : completes 1 x ≡ false = ap (completes 1) (sym first) in
+    let asks : is_request x ≡ true = ap is_request (sym first) ∙ spells_counts e.request 0 e.sent own.0.0.spelled in
+    two_more x y before silent asks (fronts es own.1 before behind rest)
+
+-- What was completed ran before what was asked behind it.
+pub in_order : (es : List Exchange) → AreOwn es → InOrder 1 1 (in_turn (zip (sents es) (completions es))) (stored_from 0 es)
+in_order es own before behind k l is completed channel asked i j ran_i ran_j =
+    let among : Contains (take (count_by (completes 1) before) (keys_from 0 es)) k =
+    subst (λ (ks : List Key). Contains (take (count_by (completes 1) before) ks) k) (keys_sent 0 es) completed in
+    let below : k.index < 0 + count_by (completes 1) before = index_below (count_by (completes 1) before) 0 es k among in
+    let most : count_by (completes 1) before ≤ count_by is_request before = fronts es own before behind is in
+    let at_k : i + 3 * 0 ≡ 3 * k.index + 1 = ran_place 0 es i k ran_i in
+    let at_l : j + 3 * 0 ≡ 3 * l.index + 1 = ran_place 0 es j l ran_j in
+    omega (arith, below, most, asked, at_k, at_l)
+
+-- ---- the pairs
+-- a test that gives one answer at each keeps all or none
+filter_same : {X : Type 0} (test : X → Bool) (b : Bool) (xs : List X) → AllByRecursion (λ x. test x ≡ b) xs → filter test xs ≡ cond b xs []
+filter_same test true [] same = refl
+filter_same test false [] same = refl
+filter_same test true (x ∷ xs) same = rw same.0 (ap (λ ys. x ∷ ys) (filter_same test true xs same.1))
+filter_same test false (x ∷ xs) same = rw same.0 (filter_same test false xs same.1)
+
+-- whether a pair is that of this session
+abbrev is_own_pair : ℕ → ℕ → Bool
+is_own_pair device completion = 1 == device && 0 == completion
+
+keys_pair : (requests : Key → Request) (device completion n : ℕ) (es : List Exchange) → AreOwn es → NamesFrom requests n es
+    → AllByRecursion (λ key. has_pair device completion (requests key) ≡ is_own_pair device completion) (keys_from n es)
+keys_pair requests device completion n [] own named = tt
+keys_pair requests device completion n (e ∷ es) own named = (
+  ap (has_pair device completion) named.0 ∙ ap (λ (m : ℕ). m == device && e.request.completion == completion) own.0.1 ∙ ap (λ (m : ℕ). 1 == device && m == completion) own.0.2,
+  keys_pair requests device completion (suc n) es own.1 named.1,
+)
+
+names_itself : (r : Request) (reply : Reply) (device completion : ℕ) (message : List ℕ) → r.device ≡ 1 → r.completion ≡ 0 → device < 2 ^ 32 → completion < 2 ^ 32 → Completes r reply message
+    → names_pair device completion message ≡ is_own_pair device completion
+names_itself r reply device completion message one none fits_device fits_completion done =
+    names_own _ _ device completion message (omega (arith, one)) (omega (arith, none)) fits_device fits_completion done.head
+    ∙ ap (λ (m : ℕ). m == device && r.completion == completion) one ∙ ap (λ (m : ℕ). 1 == device && m == completion) none
+
+messages_pair : (device completion : ℕ) (es : List Exchange) → device < 2 ^ 32 → completion < 2 ^ 32 → AreOwn es
+    → AllByRecursion (λ message. names_pair device completion message ≡ is_own_pair device completion) (completions es)
+messages_pair device completion [] fits_device fits_completion own = tt
+messages_pair device completion (e ∷ es) fits_device fits_completion own = (
+  names_itself e.request e.reply device completion e.completion own.0.1 own.0.2 fits_device fits_completion own.0.0.completes,
+  messages_pair device completion es fits_device fits_completion own.1,
+)
+
+-- each completion answers its key
+each_answers : (requests : Key → Request) (replies : List (Key × Reply)) (journal : List Item) (n : ℕ) (es : List Exchange) → AreOwn es → NamesFrom requests n es
+    → AllByRecursion (Contains replies) (replies_from n es) → AllZip (CompletesKey requests replies journal) (keys_from n es) (completions es)
+each_answers requests replies journal n [] own named among = tt
+each_answers requests replies journal n (e ∷ es) own named among = (
+  (e.reply, inl among.0, subst (λ (r : Request). Completes r e.reply e.completion) (sym named.0) own.0.0.completes),
+  each_answers requests replies journal (suc n) es own.1 named.1 among.1,
+)
+
+-- two lists place by place, of which the second leaves nothing of the first
+all_told : {A B : Type 0} (R : A → B → Type 0) (xs : List A) (ys : List B) → AllZip R xs ys → (length ys ≤ length xs) × AllZip R (take (length ys) xs) ys
+all_told R [] [] h = (omega arith, tt)
+all_told R [] (y ∷ ys) h = absurd h
+all_told R (x ∷ xs) [] h = absurd h
+all_told R (x ∷ xs) (y ∷ ys) h = let others = all_told R xs ys h.1 in let le : length ys ≤ length xs = others.0 in (omega (arith, le), (h.0, others.1))
+
+-- the same, of all or of none
+told_of : {A B : Type 0} (R : A → B → Type 0) (b : Bool) (xs asked : List A) (ys told : List B) → AllZip R xs ys → asked ≡ cond b xs [] → told ≡ cond b ys []
+    → (length told ≤ length asked) × AllZip R (take (length told) asked) told
+told_of R true xs asked ys told h asked_is told_is = rw (asked_is, told_is) (all_told R xs ys h)
+told_of R false xs asked ys told h asked_is told_is = rw (asked_is, told_is) (omega arith, tt)
+
+-- Of each pair, the completions answer the requests in turn.
+pub counted : (requests : Key → Request) (es : List Exchange) → AreOwn es → NamesFrom requests 0 es
+    → Counted requests (replies_from 0 es) (stored_from 0 es) (first_keys (length es)) (completions es)
+counted requests es own named device completion fits_device fits_completion =
+    let each : AllZip (CompletesKey requests (replies_from 0 es) (stored_from 0 es)) (keys_from 0 es) (completions es) =
+    each_answers requests (replies_from 0 es) (stored_from 0 es) 0 es own named (recursion_from_All (Contains (replies_from 0 es)) (replies_from 0 es) (All-contains_itself (replies_from 0 es))) in
+    told_of (CompletesKey requests (replies_from 0 es) (stored_from 0 es)) (is_own_pair device completion) (keys_from 0 es) _ (completions es) _ each
+    (
+    ap (filter (λ key. has_pair device completion (requests key))) (first_are es)
+    ∙ filter_same (λ key. has_pair device completion (requests key)) (is_own_pair device completion) (keys_from 0 es) (keys_pair requests device completion 0 es own named)
+    )
+    (filter_same (names_pair device completion) (is_own_pair device completion) (completions es) (messages_pair device completion es fits_device fits_completion own))

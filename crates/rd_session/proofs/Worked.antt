@@ -1,0 +1,94 @@
+-- Worked cases of the definitions, which the checker computes.
+use Rattle.std.proofs.Common.{◌≡◌, ℕ, List, [], ◌∷◌, ◌++◌, true, false, Some, None, refl, lit<}
+use Rattle.std.specs.Prelude.{codes, All}
+use Rattle.rd_base.specs.declared.journal.Item.TheVariants.{Came, Cancelled, Sent, Cut}
+use Rattle.rd_base.specs.declared.journal.Cause.TheVariants.{Removed}
+use Rattle.rd_irp.specs.declared.op.Op.TheVariants as op
+use Rattle.rd_irp.specs.declared.completion.Kind.TheVariants as kind
+use Rattle.rd_irp.specs.declared.completion.Body.TheVariants as body
+use Rattle.rd_session.specs.Session.{IsUncut, first_keys, in_turn, key_at}
+use Rattle.rd_session.specs.declared.recording.End.TheVariants.{Host, Client}
+use Rattle.rd_session.specs.declared.session.Outcome.TheVariants as outcome
+use Rattle.rd_session.specs.Asked.{Asked, Answered}
+use Rattle.rd_session.specs.Outcomes.{held_file, requests_of}
+use Rattle.rd_session.specs.Recording.{recording_of, begins, sends}
+use Rattle.rd_session.specs.Told.{names_pair, completes, is_request}
+
+-- an open of \a, a read of five bytes, a close, by the handle h
+unfoldable pub open_a : Asked
+open_a = record { handle = codes "h"; op = op.Create 0x8000_0000 0 0 7 1 0 (codes "\\a") }
+
+unfoldable pub read_five : Asked
+read_five = record { handle = codes "h"; op = op.Read 0 5 }
+
+unfoldable pub close_it : Asked
+close_it = record { handle = codes "h"; op = op.Close }
+
+-- The outcomes of the three lines.
+unfoldable pub opened : Answered
+opened = record { kind = kind.Create; status = record { 0 = 0 }; body = body.Created 1 1 }
+
+unfoldable pub hello : Answered
+hello = record { kind = kind.Buffer; status = record { 0 = 0 }; body = body.Buffer (codes "hello") }
+
+unfoldable pub closed : Answered
+closed = record { kind = kind.Close; status = record { 0 = 0 }; body = body.Closed }
+
+-- A handle holds what its last open gave, and nothing where that failed or another name was opened.
+holds_one : held_file (codes "h") ((open_a, outcome.Done opened) ∷ []) ≡ Some 1
+unfolding open_a opened
+holds_one = refl
+
+holds_none : held_file (codes "k") ((open_a, outcome.Done opened) ∷ []) ≡ None
+unfolding open_a opened
+holds_none = refl
+
+-- The requests that the lines send: an open names no file, the others the one that was opened.
+three_requests : requests_of [] ((open_a, outcome.Done opened) ∷ (read_five, outcome.Done hello) ∷ (close_it, outcome.Done closed) ∷ [])
+    ≡ record { device = 1; file = 0; completion = 0; op = op.Create 0x8000_0000 0 0 7 1 0 (codes "\\a") }
+    ∷ record { device = 1; file = 1; completion = 0; op = op.Read 0 5 }
+    ∷ record { device = 1; file = 1; completion = 0; op = op.Close }
+    ∷ []
+unfolding open_a read_five close_it opened hello closed
+three_requests = refl
+
+-- A read before any open sends nothing.
+no_request : requests_of [] ((read_five, outcome.NoHandle) ∷ []) ≡ []
+unfolding read_five
+no_request = refl
+
+-- A recording of one frame of the host.
+one_frame : recording_of (begins ∷ sends Host (1 ∷ 2 ∷ []) ∷ []) ≡ codes "RDRREC01" ++ 2 ∷ 0 ∷ 1 ∷ 2 ∷ []
+one_frame = refl
+
+-- A journal that cancels in place of running is no history of this form.
+cancelled : All IsUncut (Came (key_at 0) ∷ Cut Removed ∷ Cancelled (key_at 0) ∷ Sent (key_at 0) ∷ []) → ⊥
+cancelled h = h 1 (Cut Removed) (lit< tt)
+
+-- The keys of three requests.
+three_keys : first_keys 3 ≡ key_at 0 ∷ key_at 1 ∷ key_at 2 ∷ []
+three_keys = refl
+
+-- Requests and completions take turns.
+turns : in_turn ((1 ∷ [], 2 ∷ []) ∷ (3 ∷ [], 4 ∷ []) ∷ []) ≡ (Host, 1 ∷ []) ∷ (Client, 2 ∷ []) ∷ (Host, 3 ∷ []) ∷ (Client, 4 ∷ []) ∷ []
+turns = refl
+
+-- The completion of a Close of device 1 names that device and the completion id 0, and no other.
+close_completion : List ℕ
+close_completion = 0x72 ∷ 0x44 ∷ 0x43 ∷ 0x49 ∷ 1 ∷ 0 ∷ 0 ∷ 0 ∷ 0 ∷ 0 ∷ 0 ∷ 0 ∷ 0 ∷ 0 ∷ 0 ∷ 0 ∷ 0 ∷ 0 ∷ 0 ∷ 0 ∷ []
+
+names_its_pair : names_pair 1 0 close_completion ≡ true
+unfolding close_completion
+names_its_pair = refl
+
+names_no_other : names_pair 2 0 close_completion ≡ false
+unfolding close_completion
+names_no_other = refl
+
+is_its_completion : completes 1 (Client, close_completion) ≡ true
+unfolding close_completion
+is_its_completion = refl
+
+is_no_request : is_request (Host, close_completion) ≡ false
+unfolding close_completion
+is_no_request = refl

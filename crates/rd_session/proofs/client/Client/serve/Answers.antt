@@ -1,0 +1,35 @@
+use Rattle.std.proofs.lemmas.List.{length-drop}
+use Rattle.std.proofs.Common.{◌≡◌, ℕ, List, [], ◌∷◌, ◌++◌, ap, subst, ◌∙◌, arith, append_assoc}
+use Rattle.rd_base.specs.declared.journal.Item.{Item}
+use Rattle.rd_irp.specs.declared.completion.Head.{Head}
+use Rattle.rd_irp.specs.Completion.{SpellsHead}
+use Rattle.rd_irp.specs.Fits.{reply_kind}
+use Rattle.rd_irp.specs.Written.{body_tail}
+use Rattle.rd_drive.specs.Starved.{is_starved}
+use Rattle.rd_session.proofs.client.Client.serve.Goals as goal
+
+-- three entries, one behind another
+three_added : (a b c d e : List Item) (x y z : Item) → b ≡ a → c ≡ b ++ x ∷ [] → d ≡ c ++ y ∷ [] → e ≡ d ++ z ∷ [] → e ≡ a ++ x ∷ y ∷ z ∷ []
+three_added a b c d e x y z p q r s =
+    let two : d ≡ a ++ x ∷ y ∷ [] = r ∙ ap (λ (l : List Item). l ++ y ∷ []) (q ∙ ap (λ (l : List Item). l ++ x ∷ []) p) ∙ append_assoc a (x ∷ []) (y ∷ []) in
+    s ∙ ap (λ (l : List Item). l ++ z ∷ []) two ∙ append_assoc a (x ∷ y ∷ []) (z ∷ [])
+
+pub returns-clause-served : goal.returns-clause-served
+returns-clause-served c =
+    let reply = c.apply-reply.result in
+    let completion = c.in_ok-completion.completion in
+    let made = c.in_ok-completion.ensures in
+    let head : Head = record { device = c.args.request.device; completion = c.args.request.completion; status = reply.status } in
+    let starved : c.eq.result ≡ is_starved reply = c.eq.ensures in
+    record {
+      reply = reply;
+      ran = rw c.prepare.ensures.job at c.apply-reply.ensures.steps;
+      close_fed = rw c.prepare.ensures.job at c.apply-reply.ensures.close;
+      kept = three_added _ _ _ _ _ _ _ _ c.reserve.ensures.items c.add.ensures.items (rw starved at c.add-2.ensures.items) c.add-3.ensures.items;
+      completes = record {
+        head = subst (λ (n : ℕ). SpellsHead head n completion) (omega (arith, made.length, length-drop 16 completion)) made.head;
+        tail = body_tail (reply_kind c.args.request.op) reply.body;
+        body = rw c.kind_of-kind.ensures at made.body;
+      };
+      written = rw c.kind_of-kind.ensures at made.written;
+    }

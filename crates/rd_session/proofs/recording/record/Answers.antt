@@ -1,0 +1,30 @@
+use Rattle.std.proofs.Common.{ℕ, List, ◌++◌, sym, ap, ◌∙◌, subst, rules}
+use Rattle.std.specs.Slice.Iter.{chunks_rest}
+use Rattle.rd_session.proofs.Recorded.{IsLeft, left_all, left_less, left_none}
+use Rattle.rd_session.proofs.recording.record.Goals as goal
+
+pub loop-frame-init : goal.loop-frame-init
+loop-frame-init g c = record {
+  goes = (search rules, tt);
+  size = search rules;
+  left = λ message is. rw (c.into_iter-frame-iterator.ensures.into_iter_gives, c.chunks-frame-items.ensures.rest, is, c.new-entries.ensures.items) (left_all c.args.end message);
+}
+
+pub loop-frame-preserved : goal.loop-frame-preserved
+loop-frame-preserved g c =
+    let steps = c.in-Some.ensures.steps in
+    let frame = c.in-Some.frame.now in
+    let size = steps.0 ∙ c.loop-frame.invariant.size in
+    record {
+      goes = (search rules, tt);
+      size = size;
+      left = λ message is.
+          let entries_are = c.in_ok-extend_from_slice.ensures.items ∙ ap (λ (l : List ℕ). l ++ frame) (rw c.mark.ensures at c.in_ok-push.ensures.items) in
+          subst (λ (entries : List ℕ). IsLeft c.args.end message entries (chunks_rest c.next.new.self)) (sym entries_are)
+          (left_less c.args.end message _ _ frame _ (c.loop-frame.invariant.left message is) steps.1.0 (rw c.loop-frame.invariant.size at steps.1.1) steps.1.2);
+    }
+
+pub returns-clause-recorded : goal.returns-clause-recorded
+returns-clause-recorded g c message is =
+    let all = left_none c.args.end message _ _ (c.loop-frame.invariant.left message is) c.in-None.ensures.steps.1.0 in
+    rw (c.as_slice.ensures.value, all) at c.in_ok-write_all.ensures.written

@@ -1,0 +1,164 @@
+-- Messages on the channel, what came of a request, and how a line ends: for the contracts of both ends and of `run_session`.
+use Rattle.std.specs.Prelude.{◌≡◌, ℕ, ◌+◌, ◌-◌, ◌≤◌, ◌&&◌, if◌then◌else◌, List, [], ◌∷◌, ◌++◌, length, drop, Option, Some, None, Result, IfErr, String, bytes_eq, false, IsFalse}
+use Rattle.std.specs.Option.{option_flatten}
+use Rattle.std.specs.List.{flat_map}
+use Rattle.std.specs.BTreeMap.{BTreeMap, get_by_text}
+use Rattle.std.specs.Io.KnownBytes.{Appends}
+use Rattle.rd_base.specs.Faults.{Rose}
+use Rattle.rd_base.specs.declared.journal.Key.{Key}
+use Rattle.rd_base.specs.declared.journal.Item.{Item}
+use Rattle.rd_base.specs.declared.journal.Item.TheVariants.{Came, Ran, Sent}
+use Rattle.rd_irp.specs.declared.op.Op.TheVariants as op
+use Rattle.rd_irp.specs.declared.completion.Body.{Body}
+use Rattle.rd_irp.specs.declared.completion.Head.{Head}
+use Rattle.rd_irp.specs.declared.completion.Kind.{Kind}
+use Rattle.rd_irp.specs.declared.completion.Reply.{Reply}
+use Rattle.rd_irp.specs.declared.request.Request.{Request}
+use Rattle.rd_irp.specs.Fits.{reply_kind}
+use Rattle.rd_irp.specs.Request.{SpellsRequest}
+use Rattle.rd_irp.specs.Completion.{SpellsHead, SpellsBody}
+use Rattle.rd_irp.specs.Written.{request_bytes}
+use Rattle.rd_chunk.specs.Carrier.{IsMessage}
+use Rattle.rd_drive.specs.DriveState.{DriveState}
+use Rattle.rd_drive.specs.DriveStep.{drive_step}
+use Rattle.rd_drive.specs.Starved.{Gives, is_starved, unless_starved}
+use Rattle.rd_chunk.specs.Frames.{One}
+use Rattle.rd_chunk.specs.Standing.{Held, StandsFor}
+use Rattle.rd_session.specs.declared.run_no.RunNo.{RunNo}
+use Rattle.rd_session.specs.declared.run_no.RunNo.TheVariants as no
+use Rattle.rd_session.specs.declared.recording.End.TheVariants.{Host, Client}
+use Rattle.rd_session.specs.declared.session.Outcome.{Outcome}
+use Rattle.rd_session.specs.declared.session.Outcome.TheVariants as outcome
+use Rattle.rd_session.specs.Asked.{Asked, Answered}
+use Rattle.rd_session.specs.Outcomes.{opens, given_file, request_to}
+use Rattle.rd_session.specs.Recording.{Entry, Passed, entry_bytes, entries_of}
+use Rattle.rd_session.specs.Told.{Completes, completion_written}
+use Rattle.rd_session.specs.Session.{key_at}
+
+-- it holds, unless memory ran out
+abbrev pub ForWire : Type 0 → RunNo → Type 0
+ForWire P no.Wire = P
+ForWire P no.Memory = Unit {0}
+
+-- the number of faults of the wire never falls, and a step ends for the wire only where it rose
+abbrev pub CountsWire : {T : Type 0} → Result T RunNo → ℕ → ℕ → Type 0
+CountsWire result old new = (old ≤ new) × IfErr result (ForWire (Rose old new))
+
+-- a joiner between two messages
+abbrev pub IsIdle : Held → Type 0
+IsIdle held = (before : ℕ) × StandsFor held before []
+
+-- the bytes are the frames of some message
+abbrev pub CarriesOne : List ℕ → Type 0
+CarriesOne frames = (message : List ℕ) × One message frames
+
+-- the bytes are the frames of some request, with no tail
+abbrev pub CarriesRequest : List ℕ → Type 0
+CarriesRequest frames = (message : List ℕ) × (request : Request) × One message frames × SpellsRequest request 0 message
+
+-- the bytes are the frames of some completion of this kind; one with a status other than 0 is of every kind
+abbrev pub CarriesCompletion : Kind → List ℕ → Type 0
+CarriesCompletion kind frames =
+    (message : List ℕ) × (head : Head) × (body : Body) × (behind : ℕ) × (tail : ℕ) × One message frames × SpellsHead head behind message ×
+    SpellsBody kind head.status body tail (drop 16 message)
+
+-- What came of a request: its reply, and the messages that were sent for it and for its completion.
+pub record Exchange : Type 0 where
+  pub request : Request
+  pub reply : Reply
+  pub sent : List ℕ
+  pub completion : List ℕ
+
+-- the messages, as they passed
+abbrev pub passed_in : Exchange → List Passed
+passed_in e = (Host, e.sent) ∷ (Client, e.completion) ∷ []
+
+-- the entries of the recording
+abbrev pub recorded_in : Exchange → List Entry
+recorded_in e = flat_map entries_of (passed_in e)
+
+-- the entries of the journal, under a key
+abbrev pub stored_under : Key → Reply → List Item
+stored_under key reply = Came key ∷ Ran key 0 (is_starved reply) false ∷ Sent key ∷ []
+
+-- what the application hears: the reply, of the request's kind
+abbrev pub answer_in : Exchange → Answered
+answer_in e = record { kind = reply_kind e.request.op; status = e.reply.status; body = e.reply.body }
+
+-- The messages can be carried, they spell the request and its completion with the reply, as this program writes them, and no
+-- memory is never the reply to a Close.
+pub record IsExchange (e : Exchange) : Type 0 where
+  pub sent_fits : IsMessage e.sent
+  pub completion_fits : IsMessage e.completion
+  pub spelled : SpellsRequest e.request 0 e.sent
+  pub completes : Completes e.request e.reply e.completion
+  pub sent_bytes : e.sent ≡ request_bytes e.request
+  pub completion_bytes : e.completion ≡ completion_written e.request e.reply
+  pub close_fed : e.request.op ≡ op.Close → IsFalse (is_starved e.reply)
+
+-- a drive that runs a request at moment 0, or has no memory for it, is left so
+abbrev pub Runs : Request → Reply → DriveState → DriveState → Type 0
+Runs request reply drive left = Gives (unless_starved drive (is_starved reply) (drive_step drive request.file request.op 0)) left reply
+
+-- What came of a request at the drive's end: it ran once, at moment 0, or no memory was found for it, which a Close always does;
+-- the journal says so; and the message completes the request with the drive's reply, as this program writes it.
+pub record Serves (request : Request) (key : Key) (drive left : DriveState) (journal stored : List Item) (completion : List ℕ) : Type 0 where
+  pub reply : Reply
+  pub ran : Runs request reply drive left
+  pub close_fed : request.op ≡ op.Close → IsFalse (is_starved reply)
+  pub kept : stored ≡ journal ++ stored_under key reply
+  pub completes : Completes request reply completion
+  pub written : completion ≡ completion_written request reply
+
+-- What an application hears in the frames of a completion of this kind: its status and body, whatever device and completion id
+-- it names. Any tail may follow.
+pub record HearsIn (kind : Kind) (frames : List ℕ) (answered : Answered) : Type 0 where
+  pub message : List ℕ
+  pub carried : One message frames
+  pub device : ℕ
+  pub completion : ℕ
+  pub head : SpellsHead (record { device = device; completion = completion; status = answered.status }) (length message - 16) message
+  pub tail : ℕ
+  pub body : SpellsBody kind answered.status answered.body tail (drop 16 message)
+  pub kind_is : answered.kind ≡ kind
+
+-- Both ends of the channel between two lines: the file that each name holds, how many requests were read, the drive, its journal
+-- and what the recording holds, where that can be told.
+pub record Ends : Type 0 where
+  pub files : List ℕ → Option ℕ
+  pub asked : ℕ
+  pub drive : DriveState
+  pub journal : List Item
+  pub held : Option (List ℕ)
+
+-- What a request that went from end to end left: its exchange, on the drive, in the journal and in the recording, and the answer,
+-- which is the drive's reply.
+pub record Exchanges (request : Request) (answered : Answered) (before after : Ends) : Type 0 where
+  pub exchange : Exchange
+  pub request_is : exchange.request ≡ request
+  pub sound : IsExchange exchange
+  pub ran : Runs request exchange.reply before.drive after.drive
+  pub counted : after.asked ≡ before.asked + 1
+  pub kept : after.journal ≡ before.journal ++ stored_under (key_at before.asked) exchange.reply
+  pub recorded : Appends before.held after.held (flat_map entry_bytes (recorded_in exchange))
+  pub answer : answered ≡ answer_in exchange
+
+-- the file that the request of a line names: 0 where it opens one, else the one that its handle holds, if it holds one
+abbrev pub file_named : (List ℕ → Option ℕ) → Asked → Option ℕ
+file_named files asked = if opens asked.op then Some 0 else files asked.handle
+
+-- How a line ended. Refused: its handle holds no file, and both ends are as before. Answered: its request, for the file that its
+-- handle holds, was exchanged, and this is its answer; an open's handle holds what it gave, and the others what they held.
+abbrev pub EndsIn : Asked → Outcome → Ends → Ends → Type 0
+EndsIn asked outcome.NoHandle before after = (file_named before.files asked ≡ None) × (after ≡ before)
+EndsIn asked (outcome.Done answered) before after =
+    (file : ℕ) × (file_named before.files asked ≡ Some file) × Exchanges (request_to asked.op file) answered before after ×
+    ((name : List ℕ) → after.files name ≡ if opens asked.op && bytes_eq asked.handle name then given_file answered.body else before.files name)
+
+-- the file that a name has among the host's handles
+abbrev pub file_under : {Z : Type 0} → BTreeMap (String Z) (Option ℕ) → List ℕ → Option ℕ
+file_under files name = option_flatten (get_by_text files name)
+
+-- the ends, by what the code keeps
+abbrev pub ends_of : {Z : Type 0} → BTreeMap (String Z) (Option ℕ) → ℕ → DriveState → List Item → Option (List ℕ) → Ends
+ends_of files asked drive journal held = record { files = file_under files; asked = asked; drive = drive; journal = journal; held = held }

@@ -1,0 +1,6 @@
+pub mod Asked
+pub mod Outcomes
+pub mod Recording
+pub mod Told
+pub mod Session
+pub mod Channel

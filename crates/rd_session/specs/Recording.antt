@@ -1,0 +1,45 @@
+-- Recordings: what stands in one, and which messages passed.
+use Rattle.std.specs.Prelude.{ℕ, Bool, true, false, List, [], ◌∷◌, ◌++◌, length, map, codes}
+use Rattle.std.specs.List.{flat_map}
+use Rattle.std.specs.Int.{div_ceil}
+use Rattle.rd_chunk.specs.Carrier.{carrier_frames}
+use Rattle.rd_session.specs.declared.recording.End.{End}
+use Rattle.rd_session.specs.declared.recording.End.TheVariants.{Host, Client}
+
+-- an entry of a recording: a channel begins, it ended, or an end sent a frame
+pub data Entry : Type 0 where
+  begins ends : Entry
+  sends : End → List ℕ → Entry
+
+-- the byte in front of a frame, by the end that sent it
+abbrev pub mark : End → ℕ
+mark Host = 0
+mark Client = 1
+
+-- the bytes of an entry
+abbrev pub entry_bytes : Entry → List ℕ
+entry_bytes begins = 2 ∷ []
+entry_bytes ends = 3 ∷ []
+entry_bytes (sends end frame) = mark end ∷ frame
+
+-- the bytes of a recording: the magic, and the entries
+abbrev pub recording_of : List Entry → List ℕ
+recording_of entries = codes "RDRREC01" ++ flat_map entry_bytes entries
+
+-- a message that passed, and the end that sent it
+abbrev pub Passed : Type 0
+Passed = End × List ℕ
+
+-- the entries of a message: the frames in which this project carries it, one behind another
+abbrev pub entries_of : Passed → List Entry
+entries_of passed =
+    map (λ frame. sends passed.0 frame) (carrier_frames passed.1 (div_ceil (length passed.1) 1600))
+
+-- whether the host, or the client, sent it
+abbrev pub is_host : Passed → Bool
+is_host (Host, message) = true
+is_host (Client, message) = false
+
+abbrev pub is_client : Passed → Bool
+is_client (Host, message) = false
+is_client (Client, message) = true

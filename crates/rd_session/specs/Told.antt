@@ -1,0 +1,90 @@
+-- What a client tells on a channel, by the journal of its device.
+use Rattle.std.specs.Prelude.{◌≡◌, ℕ, ◌<◌, ◌≤◌, ◌^◌, ◌⊎◌, ◌==◌, ◌&&◌, if◌then◌else◌, Bool, List, ◌++◌, length, take, drop, filter, count_by, Option, Some, None, slice_get, Contains, bytes_eq}
+use Rattle.std.specs.List.{AllZip, filter_map}
+use Rattle.std.specs.Int.{w32, to_le_bytes}
+use Rattle.rd_base.specs.declared.journal.Key.{Key}
+use Rattle.rd_base.specs.declared.journal.Item.{Item}
+use Rattle.rd_base.specs.declared.journal.Item.TheVariants.{Ran, Cancelled, Sent}
+use Rattle.rd_irp.specs.declared.completion.Reply.{Reply}
+use Rattle.rd_irp.specs.declared.completion.Body.TheVariants.{Fault}
+use Rattle.rd_irp.specs.declared.request.Request.{Request}
+use Rattle.rd_irp.specs.Fits.{reply_kind}
+use Rattle.rd_irp.specs.Completion.{SpellsHead, SpellsBody}
+use Rattle.rd_irp.specs.Written.{header_bytes, completion_bytes}
+use Rattle.rd_session.specs.Recording.{Passed, is_host, is_client}
+
+-- the reply of a request that was cancelled
+abbrev pub cancelled_reply : Reply
+cancelled_reply = record { status = record { 0 = 0xc000_0120 }; body = Fault }
+
+-- the answer to a key: its reply where it ran, and CANCELLED where it was cancelled
+abbrev pub IsAnswer : List (Key × Reply) → List Item → Key → Reply → Type 0
+IsAnswer replies journal key reply = Contains replies (key, reply) ⊎ (Contains journal (Cancelled key) × (reply ≡ cancelled_reply))
+
+-- the message is the completion of this request with this reply: the request's device, completion id and kind
+pub record Completes (request : Request) (reply : Reply) (message : List ℕ) : Type 0 where
+  pub head : SpellsHead (record { device = request.device; completion = request.completion; status = reply.status }) (length (drop 16 message)) message
+  pub tail : ℕ
+  pub body : SpellsBody (reply_kind request.op) reply.status reply.body tail (drop 16 message)
+
+-- the completion of a request with a reply, as this program writes it: every pad is zeros
+abbrev pub completion_written : Request → Reply → List ℕ
+completion_written request reply =
+    completion_bytes (reply_kind request.op) (record { device = request.device; completion = request.completion; status = reply.status }) reply.body
+
+-- the key on this channel of which an entry says that its completion was handed out
+abbrev pub sent_key : ℕ → Item → Option Key
+sent_key channel (Sent key) = if key.channel == channel then Some key else None
+sent_key channel _ = None
+
+-- the keys on a channel whose completions were handed out, in the order of the journal
+abbrev pub sent_keys : ℕ → List Item → List Key
+sent_keys channel journal = filter_map (sent_key channel) journal
+
+-- the message completes the request of this key with its answer
+abbrev pub CompletesKey : (Key → Request) → List (Key × Reply) → List Item → Key → List ℕ → Type 0
+CompletesKey requests replies journal key message = (reply : Reply) × IsAnswer replies journal key reply × Completes (requests key) reply message
+
+-- A device's completions on a channel are those of the keys that were handed out there, in the order of its journal, each with
+-- its key's answer.
+abbrev pub Told : ℕ → (Key → Request) → List (Key × Reply) → List Item → List (List ℕ) → Type 0
+Told channel requests replies journal completions = AllZip (CompletesKey requests replies journal) (sent_keys channel journal) completions
+
+-- whether a request has this device and completion id
+abbrev pub has_pair : ℕ → ℕ → Request → Bool
+has_pair device completion request = request.device == device && request.completion == completion
+
+-- whether a completion names them, in the eight bytes behind its header (MS-RDPEFS 2.2.1.5)
+abbrev pub names_pair : ℕ → ℕ → List ℕ → Bool
+names_pair device completion message = bytes_eq (take 8 (drop 4 message)) (to_le_bytes w32 device ++ to_le_bytes w32 completion)
+
+-- Of each pair of a device and a completion id, the m-th completion answers the m-th request.
+abbrev pub Counted : (Key → Request) → List (Key × Reply) → List Item → List Key → List (List ℕ) → Type 0
+Counted requests replies journal keys messages = (device completion : ℕ) → device < 2 ^ 32 → completion < 2 ^ 32 →
+    let asked = filter (λ key. has_pair device completion (requests key)) keys in
+    let told = filter (names_pair device completion) messages in
+    (length told ≤ length asked) × AllZip (CompletesKey requests replies journal) (take (length told) asked) told
+
+-- the place of a key's run in the journal
+abbrev pub RanAt : List Item → ℕ → Key → Type 0
+RanAt journal place key = (moment : ℕ) × (starved : Bool) × (parked : Bool) × (slice_get journal place ≡ Some (Ran key moment starved parked))
+
+-- a message that names a device, in the four bytes behind its header
+abbrev pub names_device : ℕ → List ℕ → Bool
+names_device device message = bytes_eq (take 4 (drop 4 message)) (to_le_bytes w32 device)
+
+-- the host asks some device for something
+abbrev pub is_request : Passed → Bool
+is_request passed = is_host passed && bytes_eq (take 4 passed.1) (header_bytes 0x4952)
+
+-- the client completes what the device was asked for
+abbrev pub completes : ℕ → Passed → Bool
+completes device passed = is_client passed && bytes_eq (take 4 passed.1) (header_bytes 0x4943) && names_device device passed.1
+
+-- At each moment of a channel, what a device completed before it ran before what it is asked behind it. The indices of its keys
+-- count the requests of the channel.
+abbrev pub InOrder : ℕ → ℕ → List Passed → List Item → Type 0
+InOrder device channel passed journal = (before behind : List Passed) (k l : Key) → passed ≡ before ++ behind →
+    Contains (take (count_by (completes device) before) (sent_keys channel journal)) k →
+    l.channel ≡ channel → count_by is_request before ≤ l.index →
+    (i j : ℕ) → RanAt journal i k → RanAt journal j l → i < j

@@ -1,0 +1,62 @@
+//! The recording of a session: every frame of both directions as it is sent.
+
+ghost use Rattle.std.specs.Prelude.{◌≡◌, ℕ, List, [], ◌∷◌, take, OnOk, OnErr};
+ghost use Rattle.std.specs.List.{flat_map};
+ghost use Rattle.std.specs.Io.KnownBytes.{Appends};
+ghost use Rattle.rd_base.specs.Faults.{CountsFaults};
+ghost use Rattle.rd_chunk.specs.Carrier.{carrier_of};
+ghost use Rattle.rd_session.specs.Channel.{CountsWire};
+ghost use Rattle.rd_session.specs.Recording.{begins, entry_bytes, entries_of, recording_of};
+
+use crate::run_no::RunNo;
+use rd_base::{Failed, Sink, write_all};
+use rd_chunk::{CHUNK_LEN, HEAD_LEN};
+use std::alloc::Global;
+
+/// What a recording begins with, and the entry of the first channel's begin.
+const OPENING: &[u8] = b"RDRREC01\x02";
+
+/// Which end sent a frame.
+#[derive(Clone, Copy, Debug, PartialEq, Eq)]
+pub enum End {
+    Host,
+    Client,
+}
+
+impl End {
+    ghost use Rattle.std.specs.Prelude.{◌≡◌};
+    ghost use Rattle.rd_session.specs.Recording.{mark};
+
+    /// The byte in front of a frame of this end.
+    fn mark(self) -> u8
+        ensures { result ≡ mark self }
+    {
+        match self {
+            End::Host => 0,
+            End::Client => 1,
+        }
+    }
+}
+
+/// Writes the magic and the begin of a channel.
+pub fn begin_recording<R: Sink>(wire: &mut R) -> Result<(), Failed>
+    ensures counted { CountsFaults result (R.faults wire.old) (R.faults wire.new) }
+    ensures begun { OnOk result (Appends (R.held wire.old) (R.held wire.new) (recording_of (begins ∷ []))) }
+    ensures front { OnErr result ((n : ℕ) × Appends (R.held wire.old) (R.held wire.new) (take n (recording_of (begins ∷ [])))) }
+{
+    write_all(wire, OPENING)
+}
+
+/// Writes the frames of one message, each behind the mark of its sender.
+pub fn record<R: Sink>(alloc: Global, wire: &mut R, end: End, frames: &[u8]) -> Result<(), RunNo>
+    ensures counted { CountsWire result (R.faults wire.old) (R.faults wire.new) }
+    ensures recorded { OnOk result ((message : List ℕ) → frames.now ≡ carrier_of message →
+        Appends (R.held wire.old) (R.held wire.new) (flat_map entry_bytes (entries_of (end, message)))) }
+{
+    let mut entries = Vec::new(alloc);
+    for frame in frames.chunks(HEAD_LEN + CHUNK_LEN) {
+        entries.push(end.mark())?;
+        entries.extend_from_slice(frame)?;
+    }
+    Ok(write_all(wire, entries.as_slice())?)
+}
