@@ -108,7 +108,7 @@ plain_units (unit ∷ name) h =
 nat_le-true : (a b : ℕ) → nat_le a b ≡ true → a ≤ b
 nat_le-true a b h = grind (arith, nat_tests)
 
-pub plain_visible : (path : List ℕ) → IsPlainPath path → All Visible path × (length path ≤ 65)
+plain_visible : (path : List ℕ) → IsPlainPath path → All Visible path × (length path ≤ 65)
 plain_visible [] h = cc h
 plain_visible (unit ∷ name) h =
     let parts = and_parts (unit == 0x5c) (is_plain_name name) h in
@@ -245,8 +245,8 @@ text_words text l = (
 abbrev pub said_by : List (Bor (List ℕ)) → List (List ℕ)
 said_by ws = map (λ w. w.now) ws
 
--- three words by their places
-pub three_words : (ws : List (Bor (List ℕ))) (d : Bor (List ℕ)) → length ws ≡ 3 → said_by ws ≡ (get_or ws 0 d).now ∷ (get_or ws 1 d).now ∷ (get_or ws 2 d).now ∷ []
+-- the words by their places
+three_words : (ws : List (Bor (List ℕ))) (d : Bor (List ℕ)) → length ws ≡ 3 → said_by ws ≡ (get_or ws 0 d).now ∷ (get_or ws 1 d).now ∷ (get_or ws 2 d).now ∷ []
 three_words [] d len = absurd (omega arith)
 three_words (a ∷ []) d len = absurd (omega arith)
 three_words (a ∷ b ∷ []) d len = absurd (omega arith)

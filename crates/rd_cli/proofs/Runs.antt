@@ -1,6 +1,6 @@
 -- A script that ran, from its session.
 use Rattle.std.proofs.Common.{◌≡◌, ◌≤◌, ℕ, List, [], ◌∷◌, ◌++◌, length, Bool, true, false, Option, Some, None, refl, sym, ap, subst, ◌∙◌, append_assoc, arith}
-use Rattle.std.specs.Prelude.{◌==◌, if◌then◌else◌, codes, unwrap_or, MatchOption, Result, Ok, Err, IfErr}
+use Rattle.std.specs.Prelude.{◌==◌, if◌then◌else◌, ◌⊎◌, codes, unwrap_or, MatchOption}
 use Rattle.std.specs.List.{concat, flat_map}
 use Rattle.std.specs.Ordering.{nat_cmp}
 use Rattle.std.specs.BTreeMap.{insert_entry}
@@ -16,9 +16,9 @@ use Rattle.rd_session.specs.Session.{IsSession}
 use Rattle.rd_session.proofs.SoFar.{empty_session}
 use Rattle.rd_cli.specs.declared.stop.Stop.{Stop}
 use Rattle.rd_cli.specs.declared.stop.Stop.TheVariants as stop
-use Rattle.rd_cli.specs.Causes.{Caused, status_of}
+use Rattle.rd_cli.specs.Causes.{FailedToWrite, IsOutputStop, Stopped, last_line, status_of}
 use Rattle.rd_cli.specs.Grammar.{IsScript, Said, lines_of, nothing_said, onto_first}
-use Rattle.rd_cli.specs.Headline.{IsScriptRun, Ran, RanScript, journals_in}
+use Rattle.rd_cli.specs.Headline.{IsScriptRun, RanScript, RanToEnd, journals_in}
 use Rattle.rd_cli.specs.Report.{report_of}
 
 -- Without a drive nothing runs.
@@ -78,19 +78,27 @@ script_short text said script = omega (arith, script.within.1, ap length (concat
 -- A script that was read to the input's end, ran, and whose report was written.
 pub whole_run : (left rest held grown shown printed : Option (List ℕ)) (books : List (ℕ × History)) (text report : List ℕ) (said : Said) (outcomes : List Outcome)
     → Consumes left rest text → (length text ≤ 65536 → IsAtEnd rest) → IsScript text said → RanScript said outcomes held grown books → Appends shown printed report → report ≡ report_of outcomes (journals_in books)
-    → Ran left rest held grown shown printed books
+    → RanToEnd left rest held grown shown printed books
 whole_run left rest held grown shown printed books text report said outcomes read whole script (recording, written, ran) told output =
     (text, recording, report, read, whole (script_short text said script), written, told, record { said = said; outcomes = outcomes; script = script; ran = ran; output = output })
 
--- what stops a run for the input or the outputs refuses nothing
-pub not_refused : (s : Stop) (of_input of_output : Type 0) → Caused s ⊥ of_input of_output → status_of s ≡ 1 → ⊥
-not_refused stop.Words of_input of_output caused one = caused
-not_refused (stop.Line number) of_input of_output caused one = caused
-not_refused stop.Input of_input of_output caused one = absurd (cc)
-not_refused stop.Output of_input of_output caused one = absurd (cc)
-not_refused stop.Memory of_input of_output caused one = absurd (cc)
+-- ---- a run that ended early
+-- a stop for the output, by what it then has done
+pub output_stop : (words : List (List ℕ)) (left rest held grown shown printed : Option (List ℕ)) (books : List (ℕ × History)) (P : Type 0) (s : Stop)
+    → (P → FailedToWrite words left rest held grown shown printed) → IsOutputStop s P → Stopped words left rest held grown shown printed books s
+output_stop words left rest held grown shown printed books P stop.Output failed part = failed part
+output_stop words left rest held grown shown printed books P stop.Memory failed part = tt
+output_stop words left rest held grown shown printed books P stop.Words failed part = absurd part
+output_stop words left rest held grown shown printed books P (stop.Line number) failed part = absurd part
+output_stop words left rest held grown shown printed books P stop.Input failed part = absurd part
 
--- so of an error that it gives anything holds that is owed to a refusal
-pub none_refused : {T : Type 0} (result : Result T Stop) (of_input of_output : Type 0) (P : Stop → Type 0) → IfErr result (λ s. Caused s ⊥ of_input of_output) → IfErr result (λ s. status_of s ≡ 1 → P s)
-none_refused (Ok x) of_input of_output P caused = tt
-none_refused (Err s) of_input of_output P caused = λ one. absurd (not_refused s of_input of_output caused one)
+-- behind a stop for the output nothing more is said
+pub unwritten : (words : List (List ℕ)) (left rest held grown shown printed said : Option (List ℕ)) (books : List (ℕ × History)) (s : Stop) (status : ℕ)
+    → Stopped words left rest held grown shown printed books s → (status ≡ status_of s) ⊎ (status ≡ 6) → (last_line s ≡ None → said ≡ printed) → status ≡ 3
+    → FailedToWrite words left rest held grown shown said
+unwritten words left rest held grown shown printed said books stop.Output status stopped known kept three =
+    subst (λ (o : Option (List ℕ)). FailedToWrite words left rest held grown shown o) (sym (kept refl)) stopped
+unwritten words left rest held grown shown printed said books stop.Words status stopped known kept three = absurd (omega (arith, known, three))
+unwritten words left rest held grown shown printed said books (stop.Line number) status stopped known kept three = absurd (omega (arith, known, three))
+unwritten words left rest held grown shown printed said books stop.Input status stopped known kept three = absurd (omega (arith, known, three))
+unwritten words left rest held grown shown printed said books stop.Memory status stopped known kept three = absurd (omega (arith, known, three))

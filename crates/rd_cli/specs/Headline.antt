@@ -1,12 +1,13 @@
 -- What holds of a run of `both` that ended with status 0: how its script, its recording, its journal and its report belong
--- together. Nothing here knows how the program works.
-use Rattle.std.specs.Prelude.{◌≡◌, ℕ, List, [], ◌∷◌, map, unwrap_or, Option, MatchOption}
+-- together.
+use Rattle.std.specs.Prelude.{◌≡◌, ℕ, ◌⊎◌, List, [], ◌∷◌, take, map, unwrap_or, Option, MatchOption}
 use Rattle.std.specs.Io.KnownBytes.{Appends, Consumes, IsAtEnd}
 use Rattle.rd_base.specs.History.{History}
 use Rattle.rd_base.specs.declared.journal.Item.{Item}
 use Rattle.rd_drive.specs.DriveState.{opening}
 use Rattle.rd_session.specs.declared.session.Outcome.{Outcome}
 use Rattle.rd_session.specs.Recording.{Entry, begins, recording_of}
+use Rattle.rd_session.specs.Early.{EndedEarly}
 use Rattle.rd_session.specs.Session.{IsSession}
 use Rattle.rd_cli.specs.Grammar.{Said, IsScript}
 use Rattle.rd_cli.specs.Report.{report_of}
@@ -38,7 +39,13 @@ RanScript said outcomes held grown books = (recording : List ℕ) × Appends hel
 
 -- What a run did to its input, its recording, its output and its books, as far as their bytes can be told: the input was read to
 -- its end, and the recording and the output grew by those of the run.
-abbrev pub Ran : (left rest held grown shown printed : Option (List ℕ)) → List (ℕ × History) → Type 0
-Ran left rest held grown shown printed books =
+abbrev pub RanToEnd : (left rest held grown shown printed : Option (List ℕ)) → List (ℕ × History) → Type 0
+RanToEnd left rest held grown shown printed books =
     (text : List ℕ) × (recording : List ℕ) × (report : List ℕ) × Consumes left rest text × IsAtEnd rest × Appends held grown recording × Appends shown printed report ×
     IsRun text recording report (journals_in books)
+
+-- A script whose recording ended early: a front of the recording's opening, or that and what its session left when it ended early.
+abbrev pub PartOfScript : Said → (held grown : Option (List ℕ)) → Type 0
+PartOfScript said held grown =
+    ((n : ℕ) × Appends held grown (take n (recording_of (begins ∷ []))))
+    ⊎ ((middle : Option (List ℕ)) × Appends held middle (recording_of (begins ∷ [])) × EndedEarly (opening (unwrap_or said.label []) said.files) said.asks middle grown)

@@ -1,6 +1,6 @@
 pub mod Words
 pub mod Grammar
 pub mod ReadScript
-pub mod Causes
 pub mod Report
 pub mod Headline
+pub mod Causes

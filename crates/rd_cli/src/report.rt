@@ -1,7 +1,8 @@
 //! The report of a session.
 
-ghost use Rattle.std.specs.Prelude.{◌≡◌, ◌++◌, ◌∷◌, [], codes, count_by, decimal, map, IfOk, OnOk};
+ghost use Rattle.std.specs.Prelude.{◌≡◌, ◌++◌, ◌∷◌, [], codes, count_by, decimal, IfOk, OnOk};
 ghost use Rattle.std.specs.String.{string_bytes};
+ghost use Rattle.rd_cli.specs.Headline.{journals_in};
 ghost use Rattle.rd_cli.specs.Report.{ending, is_run, report_of};
 
 use rd_base::{Books, Item, Journal};
@@ -10,8 +11,7 @@ use std::alloc::{AllocError, Global};
 
 /// A line for each of the application's lines, and one for each device.
 pub fn report(alloc: Global, outcomes: &[Outcome], books: &Books) -> Result<String, AllocError>
-    ensures { IfOk result (λ text.
-        string_bytes text ≡ report_of outcomes.now (map (λ b. (b.0, b.1.items)) books.now)) }
+    ensures { IfOk result (λ text. string_bytes text ≡ report_of outcomes.now (journals_in books.now)) }
 {
     let mut text = String::new(alloc);
     for (index, outcome) in outcomes.iter().enumerate() {

@@ -1,11 +1,10 @@
 //! The top call.
 
-ghost use Rattle.std.specs.Prelude.{◌≡◌, ◌≢◌, ◌≤◌, ⊤, ◌⊎◌, ◌↔◌, [], codes, IsTrue, map, string_bytes, IfErr, IfOk, OnOk, IsErrOf};
+ghost use Rattle.std.specs.Prelude.{◌≡◌, ◌≤◌, ⊤, ◌⊎◌, ◌↔◌, [], None, codes, IsTrue, map, option_map, string_bytes, unwrap_or, IfErr, IfOk, OnOk, IsErrOf};
 ghost use Rattle.rd_base.specs.Faults.{Rose};
-ghost use Rattle.std.specs.Io.KnownBytes.{Appends};
-ghost use Rattle.rd_cli.specs.Causes.{AreBoth, Caused, IsRefusal, Refused, last_line, status_of};
+ghost use Rattle.rd_cli.specs.Causes.{AreBoth, Caused, FailedToWrite, IsOutputStop, IsUnrun, Refused, Says, Stopped, last_line, status_of};
 ghost use Rattle.rd_cli.specs.Grammar.{Said};
-ghost use Rattle.rd_cli.specs.Headline.{Ran, RanScript};
+ghost use Rattle.rd_cli.specs.Headline.{PartOfScript, RanScript, RanToEnd};
 ghost use Rattle.rd_cli.specs.ReadScript.{HoldsSaid};
 
 use crate::input::read_all;
@@ -20,7 +19,7 @@ use std::alloc::{AllocError, Global};
 ///
 /// `words` are the command's words without the program's name. The one command so far is `both`: it reads a script from
 /// `input` to its end, runs it, writes a recording of all frames to `wire` as they are sent, and then the report to
-/// `output`. `books` is to be empty, and holds the journal of each device at the end.
+/// `output`. `books` is to be empty; at status 0 it holds the journal of each device at the end.
 ///
 /// | status | comes where |
 /// |---|---|
@@ -29,6 +28,8 @@ use std::alloc::{AllocError, Global};
 /// | 2 | a read of the input failed |
 /// | 3 | a write to the output or the wire failed |
 /// | 6 | memory ran out |
+///
+/// A last line that can't be written leaves the status as it is.
 pub fn run<S: Source, K: Sink, R: Sink>(
     alloc: Global,
     words: &[String],
@@ -44,19 +45,21 @@ pub fn run<S: Source, K: Sink, R: Sink>(
     ensures words { ¬ (AreBoth (map string_bytes words.now)) → (result ≡ 1) ⊎ (result ≡ 6) }
     ensures input { result ≡ 2 → Rose (S.faults input.old) (S.faults input.new) }
     ensures output { result ≡ 3 → Rose (K.faults output.old) (K.faults output.new) ⊎ Rose (R.faults wire.old) (R.faults wire.new) }
-
     ensures counted { (S.faults input.old ≤ S.faults input.new) × (K.faults output.old ≤ K.faults output.new) × (R.faults wire.old ≤ R.faults wire.new) }
 
-    // Why a run is refused, and what the output then says.
-    ensures refused { result ≡ 1 → Refused (map string_bytes words.now) (S.left input.old) (S.left input.new)
-        (K.held output.old) (K.held output.new) (Rose (K.faults output.old) (K.faults output.new)) }
+    // A run that ended early: what it has done by then.
+    ensures refused { result ≡ 1 → Refused (map string_bytes words.now) (S.left input.old) (S.left input.new) (R.held wire.old) (R.held wire.new)
+        (K.held output.old) (K.held output.new) books.new (Rose (K.faults output.old) (K.faults output.new)) }
+    ensures unread { result ≡ 2 → IsUnrun (R.held wire.old) (R.held wire.new) books.new × (K.held output.new ≡ K.held output.old) }
+    ensures unwritten { result ≡ 3 → FailedToWrite (map string_bytes words.now) (S.left input.old) (S.left input.new) (R.held wire.old) (R.held wire.new)
+        (K.held output.old) (K.held output.new) }
 
     // A run to its end.
-    ensures ran { result ≡ 0 → Ran (S.left input.old) (S.left input.new) (R.held wire.old) (R.held wire.new) (K.held output.old) (K.held output.new) books.new }
+    ensures ran { result ≡ 0 → RanToEnd (S.left input.old) (S.left input.new) (R.held wire.old) (R.held wire.new) (K.held output.old) (K.held output.new) books.new }
 {
     match both(alloc, words, input, output, wire, books) {
         Ok(()) => 0,
-        Err(stop) => last_line(alloc, output, stop),
+        Err(stop) => end(alloc, output, stop),
     }
 }
 
@@ -70,12 +73,12 @@ fn both<S: Source, K: Sink, R: Sink>(
 ) -> Result<(), Stop>
     requires { books.old ≡ [] }
     ensures words { ¬ (AreBoth (map string_bytes words.now)) → IsErrOf result Stop.Words }
-    ensures refused { IfErr result (λ stop. status_of stop ≡ 1 →
-        IsRefusal (map string_bytes words.now) (S.left input.old) (S.left input.new) stop × (K.held output.new ≡ K.held output.old)) }
+    ensures stopped { IfErr result (Stopped (map string_bytes words.now) (S.left input.old) (S.left input.new) (R.held wire.old) (R.held wire.new)
+        (K.held output.old) (K.held output.new) books.new) }
     ensures cause { IfErr result (λ stop. Caused stop ⊤ (Rose (S.faults input.old) (S.faults input.new))
         (Rose (K.faults output.old) (K.faults output.new) ⊎ Rose (R.faults wire.old) (R.faults wire.new))) }
     ensures counted { (S.faults input.old ≤ S.faults input.new) × (K.faults output.old ≤ K.faults output.new) × (R.faults wire.old ≤ R.faults wire.new) }
-    ensures ran { OnOk result (Ran (S.left input.old) (S.left input.new) (R.held wire.old) (R.held wire.new) (K.held output.old) (K.held output.new) books.new) }
+    ensures ran { OnOk result (RanToEnd (S.left input.old) (S.left input.new) (R.held wire.old) (R.held wire.new) (K.held output.old) (K.held output.new) books.new) }
 {
     if !are_both(words) {
         return Err(Stop::Words);
@@ -100,6 +103,8 @@ fn run_script<R: Sink>(
     requires { books.old ≡ [] }
     ensures counted { R.faults wire.old ≤ R.faults wire.new }
     ensures cause { IfErr result (λ stop. Caused stop ⊥ ⊥ (Rose (R.faults wire.old) (R.faults wire.new))) }
+    ensures early { IfErr result (λ stop. (said : Said) → HoldsSaid said script →
+        IsOutputStop stop (PartOfScript said (R.held wire.old) (R.held wire.new))) }
     ensures ran { IfOk result (λ outcomes. (said : Said) → HoldsSaid said script →
         RanScript said outcomes.items (R.held wire.old) (R.held wire.new) books.new) }
 {
@@ -131,27 +136,29 @@ fn is_both(word: &String) -> bool
 }
 
 /// Says what ended the run, where that has a line, and answers the status. A failure to say it changes nothing.
-fn last_line<K: Sink>(alloc: Global, output: &mut K, stop: Stop) -> u8
+fn end<K: Sink>(alloc: Global, output: &mut K, stop: Stop) -> u8
     ensures status { (result ≡ status_of stop) ⊎ (result ≡ 6) }
-    ensures said { result ≢ 6 → Rose (K.faults output.old) (K.faults output.new) ⊎ Appends (K.held output.old) (K.held output.new) (last_line stop) }
+    ensures said { result ≡ 1 → Says (unwrap_or (last_line stop) []) (K.held output.old) (K.held output.new) (Rose (K.faults output.old) (K.faults output.new)) }
+    ensures kept { last_line stop ≡ None → output.new ≡ output.old }
     ensures counted { K.faults output.old ≤ K.faults output.new }
 {
-    match line_of(alloc, &stop) {
-        Ok(line) => {
+    match last_line(alloc, &stop) {
+        Ok(Some(line)) => {
             let _ = write_all(output, line.as_bytes());
             stop.status()
         }
+        Ok(None) => stop.status(),
         Err(_) => Stop::Memory.status(),
     }
 }
 
 /// The last line on the output, if any.
-fn line_of(alloc: Global, stop: &Stop) -> Result<String, AllocError>
-    ensures { IfOk result (λ text. string_bytes text ≡ last_line stop.now) }
+fn last_line(alloc: Global, stop: &Stop) -> Result<Option<String>, AllocError>
+    ensures { IfOk result (λ line. option_map string_bytes line ≡ last_line stop.now) }
 {
     match stop {
-        Stop::Words => String::from_str(alloc, "bad words\n"),
-        Stop::Line(number) => format!(in alloc; "line {number} words\n"),
-        Stop::Input | Stop::Output | Stop::Memory => Ok(String::new(alloc)),
+        Stop::Words => Ok(Some(String::from_str(alloc, "bad words\n")?)),
+        Stop::Line(number) => Ok(Some(format!(in alloc; "line {number} words\n")?)),
+        Stop::Input | Stop::Output | Stop::Memory => Ok(None),
     }
 }

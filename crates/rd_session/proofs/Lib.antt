@@ -1,4 +1,5 @@
 pub mod Joined
+pub mod Early
 pub mod Ended
 pub mod Course
 pub mod Lawfulness

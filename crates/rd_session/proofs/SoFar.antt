@@ -9,7 +9,10 @@ use Rattle.std.proofs.lemmas.List.{append-nil, length-append, length-map, map_pu
 use Rattle.rd_base.specs.declared.journal.Item.{Item}
 use Rattle.rd_base.specs.declared.journal.Key.{Key}
 use Rattle.rd_irp.specs.declared.completion.Reply.{Reply}
-use Rattle.rd_drive.specs.Replies.{replies_of}
+use Rattle.rd_drive.specs.DriveStep.{drive_step}
+use Rattle.rd_drive.specs.Replies.{last_state, replies_of}
+use Rattle.rd_drive.specs.Starved.{is_starved, unless_starved}
+use Rattle.rd_session.specs.Early.{EndedEarly, PartOfLine}
 use Rattle.rd_irp.specs.declared.request.Request.{Request}
 use Rattle.rd_drive.specs.DriveState.{DriveState}
 use Rattle.rd_session.specs.Session.{IsHistory, IsSession, first_keys, in_turn, key_at}
@@ -291,3 +294,43 @@ unfolding none_yet
 empty_session start =
     let ends : Ends = record { files = λ name. None; asked = 0; drive = start; journal = []; held = None } in
     session start None [] ends (none_yet start ends refl refl refl (λ name. refl))
+
+-- ---- a session that ends early
+last_left : (start now : DriveState) (requests : Key → Request) (n : ℕ) (es : List Exchange) → NamesFrom requests n es → RunsAll start es now → last_state start requests (stored_from n es) ≡ now
+last_left start now requests n [] names runs = sym runs
+last_left start now requests n (e ∷ es) names (middle, ran, others) =
+    ap (λ (request : Request). last_state (unless_starved start (is_starved e.reply) (drive_step start request.file request.op 0)).0 requests (stored_from (suc n) es)) names.0
+    ∙ ap (λ (state : DriveState). last_state state requests (stored_from (suc n) es)) ran.0
+    ∙ last_left middle now requests (suc n) es names.1 others
+
+-- the drive behind a session
+session_left : (start : DriveState) (opened : Option (List ℕ)) (ended : List Ended) (ends : Ends) (so_far : SoFar start opened ended ends)
+    → last_state start (session start opened ended ends so_far).requests ends.journal ≡ ends.drive
+unfolding session
+session_left start opened ended ends so_far =
+    let asked : List Request = map (λ (e : Exchange). e.request) so_far.exchanges in
+    let requests : Key → Request = requests_of_list asked in
+    ap (λ (j : List Item). last_state start requests j) so_far.stored ∙ last_left start ends.drive requests 0 so_far.exchanges (names_from requests so_far.exchanges (named asked)) so_far.ran
+
+-- Behind the lines that ended, of the next one a part passed.
+pub ended_early : (start : DriveState) (opened : Option (List ℕ)) (asks : List Asked) (count : ℕ) (rest behind : List Asked) (left : ℕ) (outcomes : List Outcome) (ends : Ends) (asked : Asked) (grown : Option (List ℕ))
+    → Lines start opened asks count rest left outcomes ends → rest ≡ asked ∷ behind → PartOfLine ends.drive (option_map (request_to asked.op) (file_named ends.files asked)) ends.held grown
+    → EndedEarly start asks opened grown
+ended_early start opened asks count rest behind left outcomes ends asked grown (ended, asks_are, outcomes_are, all, so_far) next part =
+    let lines : zip (map (λ (l : Ended). l.0) ended) (map (λ (l : Ended). l.1) ended) ≡ ended = zipped ended in
+    let request_is : option_map (request_to asked.op) (file_named ends.files asked) ≡ request_of (zip (map (λ (l : Ended). l.0) ended) (map (λ (l : Ended). l.1) ended)) asked =
+    sym (ap (λ (ls : List Ended). request_of ls asked) lines ∙ request_named ends.files ended asked so_far.holds) in
+    record {
+      before = map (λ (l : Ended). l.0) ended;
+      asked = asked;
+      behind = behind;
+      asks_are = asks_are ∙ ap (λ (l : List Asked). map (λ (k : Ended). k.0) ended ++ l) next;
+      outcomes = map (λ (l : Ended). l.1) ended;
+      journal = ends.journal;
+      recorded = flat_map recorded_in so_far.exchanges;
+      session = session start opened ended ends so_far;
+      middle = ends.held;
+      written = so_far.written;
+      part = subst (λ (state : DriveState). PartOfLine state (request_of (zip (map (λ (l : Ended). l.0) ended) (map (λ (l : Ended). l.1) ended)) asked) ends.held grown) (sym (session_left start opened ended ends so_far))
+          (subst (λ (r : Option Request). PartOfLine ends.drive r ends.held grown) request_is part);
+    }

@@ -4,3 +4,4 @@ pub mod Recording
 pub mod Told
 pub mod Session
 pub mod Channel
+pub mod Early

@@ -35,6 +35,10 @@ abbrev pub entries_of : Passed → List Entry
 entries_of passed =
     map (λ frame. sends passed.0 frame) (carrier_frames passed.1 (div_ceil (length passed.1) 1600))
 
+-- the bytes of these entries
+abbrev pub frames_of : End → List ℕ → List ℕ
+frames_of end message = flat_map entry_bytes (entries_of (end, message))
+
 -- whether the host, or the client, sent it
 abbrev pub is_host : Passed → Bool
 is_host (Host, message) = true

@@ -1,12 +1,11 @@
 //! The recording of a session: every frame of both directions as it is sent.
 
 ghost use Rattle.std.specs.Prelude.{◌≡◌, ℕ, List, [], ◌∷◌, take, OnOk, OnErr};
-ghost use Rattle.std.specs.List.{flat_map};
 ghost use Rattle.std.specs.Io.KnownBytes.{Appends};
 ghost use Rattle.rd_base.specs.Faults.{CountsFaults};
 ghost use Rattle.rd_chunk.specs.Carrier.{carrier_of};
 ghost use Rattle.rd_session.specs.Channel.{CountsWire};
-ghost use Rattle.rd_session.specs.Recording.{begins, entry_bytes, entries_of, recording_of};
+ghost use Rattle.rd_session.specs.Recording.{begins, frames_of, recording_of};
 
 use crate::run_no::RunNo;
 use rd_base::{Failed, Sink, write_all};
@@ -51,7 +50,9 @@ pub fn begin_recording<R: Sink>(wire: &mut R) -> Result<(), Failed>
 pub fn record<R: Sink>(alloc: Global, wire: &mut R, end: End, frames: &[u8]) -> Result<(), RunNo>
     ensures counted { CountsWire result (R.faults wire.old) (R.faults wire.new) }
     ensures recorded { OnOk result ((message : List ℕ) → frames.now ≡ carrier_of message →
-        Appends (R.held wire.old) (R.held wire.new) (flat_map entry_bytes (entries_of (end, message)))) }
+        Appends (R.held wire.old) (R.held wire.new) (frames_of end message)) }
+    ensures front { OnErr result ((message : List ℕ) → frames.now ≡ carrier_of message →
+        (n : ℕ) × Appends (R.held wire.old) (R.held wire.new) (take n (frames_of end message))) }
 {
     let mut entries = Vec::new(alloc);
     for frame in frames.chunks(HEAD_LEN + CHUNK_LEN) {

@@ -1,11 +1,13 @@
 //! One application, one channel and one drive, a request after the other.
 
-ghost use Rattle.std.specs.Prelude.{◌≡◌, ◌<◌, ◌-◌, ◌^◌, List, IfOk, OnOk};
+ghost use Rattle.std.specs.Prelude.{◌≡◌, ◌<◌, ◌-◌, ◌^◌, List, option_map, IfOk, OnOk, OnErr};
 ghost use Rattle.std.specs.List.{flat_map};
 ghost use Rattle.std.specs.Io.KnownBytes.{Appends};
 ghost use Rattle.rd_irp.specs.Fits.{Fits};
 ghost use Rattle.rd_session.specs.Recording.{Entry, entry_bytes};
-ghost use Rattle.rd_session.specs.Channel.{IsIdle, CountsWire, Exchanges, EndsIn, ends_of};
+ghost use Rattle.rd_session.specs.Channel.{IsIdle, CountsWire, Exchanges, EndsIn, ends_of, file_named, file_under};
+ghost use Rattle.rd_session.specs.Early.{EndedEarly, PartOf, PartOfLine};
+ghost use Rattle.rd_session.specs.Outcomes.{request_to};
 ghost use Rattle.rd_session.specs.Session.{IsSession};
 
 use crate::answer::Answer;
@@ -52,6 +54,7 @@ pub fn run_session<R: Sink>(
     wire: &mut R,
 ) -> Result<Session, RunNo>
     ensures counted { CountsWire result (R.faults wire.old) (R.faults wire.new) }
+    ensures early { OnErr result (EndedEarly drive asks.items (R.held wire.old) (R.held wire.new)) }
     ensures session { IfOk result (λ session. (recorded : List Entry) ×
         IsSession drive asks.items session.outcomes.items session.journal.items recorded ×
         Appends (R.held wire.old) (R.held wire.new) (flat_map entry_bytes recorded)) }
@@ -82,6 +85,7 @@ fn serve<R: Sink>(
     ensures counted { CountsWire result (R.faults wire.old) (R.faults wire.new) }
     ensures host_idle { OnOk result (IsIdle host.new.joiner) }
     ensures client_idle { OnOk result (IsIdle client.new.joiner) }
+    ensures early { OnErr result (PartOfLine client.old.drive (option_map (request_to ask.op) (file_named (file_under host.old.files) ask)) (R.held wire.old) (R.held wire.new)) }
     ensures ended { IfOk result (λ outcome. EndsIn ask outcome
         (ends_of host.old.files client.old.asked client.old.drive client.old.journal.items (R.held wire.old))
         (ends_of host.new.files client.new.asked client.new.drive client.new.journal.items (R.held wire.new))) }
@@ -117,6 +121,7 @@ fn exchange<R: Sink>(
     ensures host_idle { OnOk result (IsIdle host.new.joiner) }
     ensures client_idle { OnOk result (IsIdle client.new.joiner) }
     ensures files { host.new.files ≡ host.old.files }
+    ensures early { OnErr result (PartOf client.old.drive request.now (R.held wire.old) (R.held wire.new)) }
     ensures exchanged { IfOk result (λ answer. Exchanges request.now answer
         (ends_of host.old.files client.old.asked client.old.drive client.old.journal.items (R.held wire.old))
         (ends_of host.new.files client.new.asked client.new.drive client.new.journal.items (R.held wire.new))) }

@@ -1,8 +1,11 @@
-use Rattle.std.proofs.Common.{◌∙◌, rules}
+use Rattle.std.proofs.Common.{◌∙◌, inl, inr, refl, rules}
 use Rattle.std.specs.Prelude.{IfErr}
-use Rattle.rd_base.specs.Faults.{Rose}
-use Rattle.rd_cli.specs.Causes.{Caused}
-use Rattle.rd_cli.proofs.Runs.{none_refused, whole_run}
+use Rattle.std.proofs.lemmas.Result.{IfErr-weaker}
+use Rattle.rd_cli.specs.Causes.{IsOutputStop}
+use Rattle.rd_cli.specs.Grammar.{Said}
+use Rattle.rd_cli.specs.Headline.{PartOfScript}
+use Rattle.rd_cli.specs.ReadScript.{HoldsSaid}
+use Rattle.rd_cli.proofs.Runs.{output_stop, script_short, whole_run}
 use Rattle.rd_cli.proofs.top.both.Goals as goal
 
 pub returns-clause-ran : goal.returns-clause-ran
@@ -12,12 +15,23 @@ returns-clause-ran g c =
     whole_run _ _ _ _ _ _ _ c.in_ok-text.text.items _ script.0 c.in_ok-outcomes.outcomes.items c.in_ok-text.ensures.read c.in_ok-text.ensures.whole script.1 (c.in_ok-outcomes.ensures.ran script.0 script.2) c.in-Ok.ensures.written
     (c.as_bytes.ensures.value ∙ report)
 
-pub returns-in_err-text-clause-refused : goal.returns-in_err-text-clause-refused
-returns-in_err-text-clause-refused g c =
-    let caused : IfErr c.from_residual.result (λ s. Caused s ⊥ (Rose (g.S.Source.faults c.args.input.now) (g.S.Source.faults c.read_all.new.input)) ⊥) = search rules in
-    none_refused c.from_residual.result _ _ _ caused
+pub returns-in_err-outcomes-clause-stopped : goal.returns-in_err-outcomes-clause-stopped
+returns-in_err-outcomes-clause-stopped g c =
+    let text = c.in_ok-text.text.items in
+    let script = rw c.as_slice.ensures.value at c.in_ok-script.ensures.script in
+    let early : IfErr c.from_residual-in_err-outcomes.result
+    (λ s. (said : Said) → HoldsSaid said c.in_ok-script.script → IsOutputStop s (PartOfScript said (g.R.Sink.held c.args.wire.now) (g.R.Sink.held c.run_script.new.wire))) = search rules in
+    IfErr-weaker c.from_residual-in_err-outcomes.result _ _
+    (λ s part. output_stop _ _ _ _ _ _ _ _ _ s
+    (λ p. (c.are_both.ensures.0 c.if-not-are_both.false, (text, script.0, c.in_ok-text.ensures.read, c.in_ok-text.ensures.whole (script_short text script.0 script.1), script.1, inl (p, refl))))
+    (part script.0 script.2))
+    early
 
-pub returns-in_err-outcomes-clause-refused : goal.returns-in_err-outcomes-clause-refused
-returns-in_err-outcomes-clause-refused g c =
-    let caused : IfErr c.from_residual-in_err-outcomes.result (λ s. Caused s ⊥ ⊥ (Rose (g.R.Sink.faults c.args.wire.now) (g.R.Sink.faults c.run_script.new.wire))) = search rules in
-    none_refused c.from_residual-in_err-outcomes.result _ _ _ caused
+pub returns-in_default-clause-stopped : goal.returns-in_default-clause-stopped
+returns-in_default-clause-stopped g c =
+    let text = c.in_ok-text.text.items in
+    let script = rw c.as_slice.ensures.value at c.in_ok-script.ensures.script in
+    let report = rw c.as_slice-2.ensures.value at c.in_ok-report.ensures in
+    let front = rw (c.as_bytes.ensures.value, report) at c.in_default.ensures.front in
+    let written = inr (c.in_ok-outcomes.outcomes.items, c.run_script.new.books, front.0, c.in_ok-outcomes.ensures.ran script.0 script.2, front.1) in
+    (c.are_both.ensures.0 c.if-not-are_both.false, (text, script.0, c.in_ok-text.ensures.read, c.in_ok-text.ensures.whole (script_short text script.0 script.1), script.1, written))

@@ -1,5 +1,6 @@
 use Rattle.std.proofs.Common.{ℕ, List, ◌++◌, sym, ap, ◌∙◌, subst, rules}
 use Rattle.std.specs.Slice.Iter.{chunks_rest}
+use Rattle.rd_session.proofs.Early.{no_front, of_error}
 use Rattle.rd_session.proofs.Recorded.{IsLeft, left_all, left_less, left_none}
 use Rattle.rd_session.proofs.recording.record.Goals as goal
 
@@ -28,3 +29,16 @@ pub returns-clause-recorded : goal.returns-clause-recorded
 returns-clause-recorded g c message is =
     let all = left_none c.args.end message _ _ (c.loop-frame.invariant.left message is) c.in-None.ensures.steps.1.0 in
     rw (c.as_slice.ensures.value, all) at c.in_ok-write_all.ensures.written
+
+pub returns-in_err-push-clause-front : goal.returns-in_err-push-clause-front
+returns-in_err-push-clause-front g c = of_error c.from_residual.result _ (λ message is. no_front _ _)
+
+pub returns-in_err-extend_from_slice-clause-front : goal.returns-in_err-extend_from_slice-clause-front
+returns-in_err-extend_from_slice-clause-front g c = of_error c.from_residual-in_err-extend_from_slice.result _ (λ message is. no_front _ _)
+
+pub returns-in_err-write_all-clause-front : goal.returns-in_err-write_all-clause-front
+returns-in_err-write_all-clause-front g c =
+    of_error c.from_residual-in_err-write_all.result _
+    (λ message is.
+    let all = left_none c.args.end message _ _ (c.loop-frame.invariant.left message is) c.in-None.ensures.steps.1.0 in
+    rw (c.as_slice.ensures.value, all) at c.in_err-write_all.ensures.front)

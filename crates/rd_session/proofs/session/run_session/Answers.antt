@@ -1,6 +1,7 @@
 use Rattle.std.proofs.Common.{◌≡◌, [], sym, arith}
 use Rattle.std.proofs.lemmas.List.{nil_from_length}
-use Rattle.rd_session.proofs.SoFar.{asked_few, lines_more, none_yet, whole_session}
+use Rattle.rd_session.proofs.Early.{of_error, part_ended}
+use Rattle.rd_session.proofs.SoFar.{asked_few, ended_early, lines_more, none_yet, whole_session}
 use Rattle.rd_session.proofs.session.run_session.Goals as goal
 
 pub loop-ask-init : goal.loop-ask-init
@@ -34,3 +35,12 @@ returns-clause-session g c =
     let rest = c.loop-ask.ask-iterator.rest in
     let none : rest.items ≡ [] = nil_from_length rest.items (omega (arith, rest.ok, c.in-None.ensures.steps.0)) in
     whole_session _ _ _ _ _ _ _ (rw none at c.loop-ask.invariant.lines)
+
+pub returns-in_err-serve-clause-early : goal.returns-in_err-serve-clause-early
+returns-in_err-serve-clause-early g c =
+    of_error c.from_residual.result _ (ended_early _ _ _ _ _ _ _ _ _ c.in-Some.ask _ c.loop-ask.invariant.lines c.in-Some.ensures.steps.0 c.in_err-serve.ensures.early)
+
+pub returns-in_err-push-clause-early : goal.returns-in_err-push-clause-early
+returns-in_err-push-clause-early g c =
+    of_error c.from_residual-in_err-push.result _
+    (ended_early _ _ _ _ _ _ _ _ _ c.in-Some.ask _ c.loop-ask.invariant.lines c.in-Some.ensures.steps.0 (part_ended c.in-Some.ask _ _ _ c.in_ok-serve.ensures.ended))

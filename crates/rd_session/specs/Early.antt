@@ -1,0 +1,47 @@
+-- What stands on the wire where a session ends early: a front of what would have been written.
+use Rattle.std.specs.Prelude.{◌≡◌, ℕ, ◌⊎◌, List, [], ◌∷◌, ◌++◌, take, zip, Option, Some, None, IsFalse}
+use Rattle.std.specs.List.{flat_map}
+use Rattle.std.specs.Io.KnownBytes.{Appends}
+use Rattle.rd_base.specs.declared.journal.Item.{Item}
+use Rattle.rd_irp.specs.declared.op.Op.TheVariants as op
+use Rattle.rd_irp.specs.declared.completion.Reply.{Reply}
+use Rattle.rd_irp.specs.declared.request.Request.{Request}
+use Rattle.rd_irp.specs.Written.{request_bytes}
+use Rattle.rd_drive.specs.DriveState.{DriveState}
+use Rattle.rd_drive.specs.Replies.{last_state}
+use Rattle.rd_drive.specs.Starved.{is_starved}
+use Rattle.rd_session.specs.declared.recording.End.TheVariants.{Host, Client}
+use Rattle.rd_session.specs.declared.session.Outcome.{Outcome}
+use Rattle.rd_session.specs.Asked.{Asked}
+use Rattle.rd_session.specs.Channel.{Runs}
+use Rattle.rd_session.specs.Outcomes.{request_of}
+use Rattle.rd_session.specs.Recording.{Entry, entry_bytes, frames_of}
+use Rattle.rd_session.specs.Session.{IsSession}
+use Rattle.rd_session.specs.Told.{completion_written}
+
+-- What a request that may not have gone all its way left on the wire: a front of its frames, or these and a front of those of its
+-- completion with the reply of the drive.
+abbrev pub PartOf : DriveState → Request → (held grown : Option (List ℕ)) → Type 0
+PartOf drive request held grown =
+    ((n : ℕ) × Appends held grown (take n (frames_of Host (request_bytes request))))
+    ⊎ ((reply : Reply) × (left : DriveState) × (n : ℕ) × Runs request reply drive left × (request.op ≡ op.Close → IsFalse (is_starved reply)) ×
+    Appends held grown (frames_of Host (request_bytes request) ++ take n (frames_of Client (completion_written request reply))))
+
+-- what a line that may not have ended left on the wire: nothing, where it has no request
+abbrev pub PartOfLine : DriveState → Option Request → (held grown : Option (List ℕ)) → Type 0
+PartOfLine drive None held grown = Appends held grown []
+PartOfLine drive (Some request) held grown = PartOf drive request held grown
+
+-- A session that ended early: some first lines had theirs whole, and of the next line a part passed, on the drive behind them.
+pub record EndedEarly (start : DriveState) (asks : List Asked) (held grown : Option (List ℕ)) : Type 0 where
+  pub before : List Asked
+  pub asked : Asked
+  pub behind : List Asked
+  pub asks_are : asks ≡ before ++ asked ∷ behind
+  pub outcomes : List Outcome
+  pub journal : List Item
+  pub recorded : List Entry
+  pub session : IsSession start before outcomes journal recorded
+  pub middle : Option (List ℕ)
+  pub written : Appends held middle (flat_map entry_bytes recorded)
+  pub part : PartOfLine (last_state start session.requests journal) (request_of (zip before outcomes) asked) middle grown
