@@ -49,15 +49,19 @@ struct Ran {
     books: Books,
 }
 
-/// Runs `both` over a script. The reads and writes with these numbers fail.
-fn both(
+/// Runs a command over a script. The reads and writes with these numbers fail.
+fn command(
     alloc: Global,
+    words: &[&str],
     script: &[u8],
     reads: &[u64],
     outputs: &[u64],
     wires: &[u64],
 ) -> Result<Ran, Fail> {
-    let words = vec![in alloc; String::from_str(alloc, "both")?]?;
+    let mut command = Vec::new(alloc);
+    for word in words {
+        command.push(String::from_str(alloc, word)?)?;
+    }
     let mut input = MemSource::new(
         Bytes::of(script.to_vec(alloc)?),
         Calls::of(reads.to_vec(alloc)?),
@@ -67,7 +71,7 @@ fn both(
     let mut books = Books::new(alloc);
     let status = run(
         alloc,
-        words.as_slice(),
+        command.as_slice(),
         &mut input,
         &mut output,
         &mut wire,
@@ -79,6 +83,17 @@ fn both(
         wire,
         books,
     })
+}
+
+/// Runs `both` over a script.
+fn both(
+    alloc: Global,
+    script: &[u8],
+    reads: &[u64],
+    outputs: &[u64],
+    wires: &[u64],
+) -> Result<Ran, Fail> {
+    command(alloc, &["both"], script, reads, outputs, wires)
 }
 
 #[test]
@@ -172,5 +187,16 @@ fn holds_scripts_to_their_limits(rt: HostRuntime) -> Result<(), Fail> {
     let most = vec![in rt.alloc(); b'#'; 65_536]?;
     let whole = both(rt.alloc(), most.as_slice(), &[], &[], &[])?;
     assert_eq!(rt; whole.status, 0);
+    Ok(())
+}
+
+#[test]
+fn knows_one_command(rt: HostRuntime) -> Result<(), Fail> {
+    for words in [[].as_slice(), &["decode"], &["both", "both"], &["Both"]] {
+        let ran = command(rt.alloc(), words, SCRIPT, &[], &[], &[])?;
+        assert_eq!(rt; ran.status, 1, "{words:?}");
+        assert_eq!(rt; ran.output.bytes(), b"bad words\n".as_slice());
+        assert_eq!(rt; ran.wire.bytes().len(), 0);
+    }
     Ok(())
 }
