@@ -4,5 +4,6 @@ pub mod Opening
 pub mod Reading
 pub mod Pieces
 pub mod Runs
+pub mod Readings
 pub mod StatusDigits
 pub mod Worked

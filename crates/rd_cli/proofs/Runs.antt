@@ -67,7 +67,7 @@ concat-next : (b : Bool) (byte : ℕ) (pieces : List (List ℕ)) (bytes : List �
 concat-next true byte pieces bytes same = ap (λ (l : List ℕ). byte ∷ l) same
 concat-next false byte pieces bytes same = concat-onto_first byte pieces ∙ ap (λ (l : List ℕ). byte ∷ l) same
 
-concat-lines : (text : List ℕ) → concat (lines_of text) ≡ text
+pub concat-lines : (text : List ℕ) → concat (lines_of text) ≡ text
 concat-lines [] = refl
 concat-lines (byte ∷ bytes) = concat-next (byte == 0x0a) byte (lines_of bytes) bytes (concat-lines bytes)
 

@@ -30,7 +30,7 @@ abbrev pub is_run : Item → Bool
 is_run (item.Ran key moment starved parked) = true
 is_run _ = false
 
--- how many requests a device ran
+-- the line of a device: how many requests it ran
 abbrev pub device_line : ℕ × List Item → List ℕ
 device_line device =
     codes "device " ++ decimal device.0 ++ codes " ran " ++ decimal (count_by is_run device.1) ++ 0x0a ∷ []

@@ -2,6 +2,7 @@
 use rd_base::{Books, Bytes, Calls, Item, Key, MemSink, MemSource};
 use rd_cli::run;
 use std::alloc::Global;
+use std::process::Abort;
 use std::test::Fail;
 
 /// A file is opened, read and closed.
@@ -123,20 +124,42 @@ fn takes_a_file_through_frames(rt: HostRuntime) -> Result<(), Fail> {
     Ok(())
 }
 
+/// The script ends with a status and without a report where these reads and writes fail.
+fn ends_with(
+    rt: &impl Abort,
+    alloc: Global,
+    reads: &[u64],
+    outputs: &[u64],
+    wires: &[u64],
+    status: u8,
+) -> Result<(), Fail> {
+    let ran = both(alloc, SCRIPT, reads, outputs, wires)?;
+    assert_eq!(rt; ran.status, status, "at {reads:?}, {outputs:?}, {wires:?}");
+    assert_eq!(rt; ran.output.bytes().len(), 0);
+    Ok(())
+}
+
 #[test]
 fn ends_where_the_outside_fails(rt: HostRuntime) -> Result<(), Fail> {
-    let input = both(rt.alloc(), SCRIPT, &[1], &[], &[])?;
-    assert_eq!(rt; (input.status, input.output.bytes().len()), (2, 0));
-    let output = both(rt.alloc(), SCRIPT, &[], &[1], &[])?;
-    assert_eq!(rt; (output.status, output.output.bytes().len()), (3, 0));
+    ends_with(&rt, rt.alloc(), &[1], &[], &[], 2)?;
+    ends_with(&rt, rt.alloc(), &[], &[1], &[], 3)?;
     for call in 1..=7 {
-        let wire = both(rt.alloc(), SCRIPT, &[], &[], &[call])?;
-        assert_eq!(rt;
-            (wire.status, wire.output.bytes().len()),
-            (3, 0),
-            "at write {call}"
-        );
+        ends_with(&rt, rt.alloc(), &[], &[], &[call], 3)?;
     }
+    Ok(())
+}
+
+/// A script ends with a status and this output.
+fn prints(
+    rt: &impl Abort,
+    alloc: Global,
+    script: &[u8],
+    status: u8,
+    output: &[u8],
+) -> Result<(), Fail> {
+    let ran = both(alloc, script, &[], &[], &[])?;
+    assert_eq!(rt; ran.status, status);
+    assert_eq!(rt; ran.output.bytes(), output);
     Ok(())
 }
 
@@ -165,28 +188,22 @@ fn names_the_first_line_outside_the_grammar(rt: HostRuntime) -> Result<(), Fail>
         (b"drive 1 DATA\n1  close h", b"line 2 words\n"),
         (b"drive 1 DATA\n\xff", b"line 2 words\n"),
     ] {
-        let ran = both(rt.alloc(), script, &[], &[], &[])?;
-        assert_eq!(rt; ran.status, 1, "{script:?}");
-        assert_eq!(rt; ran.output.bytes(), line, "{script:?}");
-        assert_eq!(rt; ran.wire.bytes().len(), 0);
+        prints(&rt, rt.alloc(), script, 1, line)?;
     }
     Ok(())
 }
 
 #[test]
 fn holds_scripts_to_their_limits(rt: HostRuntime) -> Result<(), Fail> {
-    let empty = vec![in rt.alloc(); b'\n'; 1001]?;
-    let lines = both(rt.alloc(), empty.as_slice(), &[], &[], &[])?;
-    assert_eq!(rt; lines.output.bytes(), b"line 1001 words\n".as_slice());
-    let thousand = vec![in rt.alloc(); b'\n'; 1000]?;
-    let fits = both(rt.alloc(), thousand.as_slice(), &[], &[], &[])?;
-    assert_eq!(rt; (fits.status, fits.output.bytes().len()), (0, 0));
-    let long = vec![in rt.alloc(); b'#'; 65_537]?;
-    let bytes = both(rt.alloc(), long.as_slice(), &[], &[], &[])?;
-    assert_eq!(rt; bytes.output.bytes(), b"line 1 words\n".as_slice());
-    let most = vec![in rt.alloc(); b'#'; 65_536]?;
-    let whole = both(rt.alloc(), most.as_slice(), &[], &[], &[])?;
-    assert_eq!(rt; whole.status, 0);
+    for (byte, count, status, output) in [
+        (b'\n', 1001, 1, b"line 1001 words\n".as_slice()),
+        (b'\n', 1000, 0, b""),
+        (b'#', 65_537, 1, b"line 1 words\n"),
+        (b'#', 65_536, 0, b""),
+    ] {
+        let script = vec![in rt.alloc(); byte; count]?;
+        prints(&rt, rt.alloc(), script.as_slice(), status, output)?;
+    }
     Ok(())
 }
 
