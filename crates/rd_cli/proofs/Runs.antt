@@ -1,7 +1,7 @@
 -- A script that ran, from its session.
-use Rattle.std.proofs.Common.{◌≡◌, ◌≤◌, ℕ, List, [], ◌∷◌, ◌++◌, length, Bool, true, false, Option, Some, None, refl, sym, ap, subst, ◌∙◌, append_assoc, arith}
-use Rattle.std.specs.Prelude.{◌==◌, if◌then◌else◌, ◌⊎◌, codes, unwrap_or, MatchOption}
-use Rattle.std.specs.List.{concat, flat_map}
+use Rattle.std.proofs.Common.{◌≡◌, ◌≤◌, ℕ, List, [], ◌∷◌, ◌++◌, length, Option, Some, None, refl, sym, ap, subst, ◌∙◌, append_assoc, arith}
+use Rattle.std.specs.Prelude.{◌⊎◌, codes, unwrap_or, MatchOption}
+use Rattle.std.specs.List.{flat_map}
 use Rattle.std.specs.Ordering.{nat_cmp}
 use Rattle.std.specs.BTreeMap.{insert_entry}
 use Rattle.std.specs.Io.KnownBytes.{Appends, Consumes, IsAtEnd}
@@ -9,17 +9,18 @@ use Rattle.std.proofs.KnownBytes.{Appends-trans}
 use Rattle.rd_base.specs.History.{History}
 use Rattle.rd_base.specs.declared.journal.Item.{Item}
 use Rattle.rd_drive.specs.DriveState.{DriveState, opening}
-use Rattle.rd_session.specs.declared.session.Outcome.{Outcome}
-use Rattle.rd_session.specs.Asked.{Asked}
+use Rattle.rd_script.specs.declared.outcome.Outcome.{Outcome}
+use Rattle.rd_script.specs.Asked.{Asked}
 use Rattle.rd_session.specs.Recording.{Entry, begins, entry_bytes, recording_of}
 use Rattle.rd_session.specs.Session.{IsSession}
 use Rattle.rd_session.proofs.SoFar.{empty_session}
 use Rattle.rd_cli.specs.declared.stop.Stop.{Stop}
 use Rattle.rd_cli.specs.declared.stop.Stop.TheVariants as stop
 use Rattle.rd_cli.specs.Causes.{FailedToWrite, IsOutputStop, Stopped, last_line, status_of}
-use Rattle.rd_cli.specs.Grammar.{IsScript, Said, lines_of, nothing_said, onto_first}
-use Rattle.rd_cli.specs.Headline.{IsScriptRun, RanScript, RanToEnd, journals_in}
-use Rattle.rd_cli.specs.Report.{report_of}
+use Rattle.rd_script.proofs.Texts.{script_short}
+use Rattle.rd_script.specs.Grammar.{IsScript, Said, nothing_said}
+use Rattle.rd_cli.specs.Headline.{IsScriptRun, RanScript, RanToEnd}
+use Rattle.rd_script.specs.Report.{journals_in, report_of}
 
 -- Without a drive nothing runs.
 pub empty_run : (said : Said) (outcomes : List Outcome) (held grown : Option (List ℕ)) (books : List (ℕ × History)) → said ≡ nothing_said → outcomes ≡ [] → books ≡ [] → Appends held grown (recording_of (begins ∷ []))
@@ -57,23 +58,6 @@ drive_run said label drive asks outcomes journal held middle grown books label_i
         journals = one_journal said.label label (journals_in books) ((1, journal.items) ∷ []) label_is journals;
       },
     )
-
--- ---- the lines of a text are the text
-concat-onto_first : (byte : ℕ) (pieces : List (List ℕ)) → concat (onto_first byte pieces) ≡ byte ∷ concat pieces
-concat-onto_first byte [] = refl
-concat-onto_first byte (piece ∷ pieces) = refl
-
-concat-next : (b : Bool) (byte : ℕ) (pieces : List (List ℕ)) (bytes : List ℕ) → concat pieces ≡ bytes → concat (if b then (byte ∷ []) ∷ pieces else onto_first byte pieces) ≡ byte ∷ bytes
-concat-next true byte pieces bytes same = ap (λ (l : List ℕ). byte ∷ l) same
-concat-next false byte pieces bytes same = concat-onto_first byte pieces ∙ ap (λ (l : List ℕ). byte ∷ l) same
-
-pub concat-lines : (text : List ℕ) → concat (lines_of text) ≡ text
-concat-lines [] = refl
-concat-lines (byte ∷ bytes) = concat-next (byte == 0x0a) byte (lines_of bytes) bytes (concat-lines bytes)
-
--- a script is no longer than its limit
-pub script_short : (text : List ℕ) (said : Said) → IsScript text said → length text ≤ 65536
-script_short text said script = omega (arith, script.within.1, ap length (concat-lines text))
 
 -- A script that was read to the input's end, ran, and whose report was written.
 pub whole_run : (left rest held grown shown printed : Option (List ℕ)) (books : List (ℕ × History)) (text report : List ℕ) (said : Said) (outcomes : List Outcome)

@@ -2,12 +2,14 @@
 use Rattle.std.specs.Prelude.{◌≡◌, ℕ, ◌≤◌, ◌⊎◌, List, [], ◌∷◌, ◌++◌, length, take, Option, Some, None, codes, decimal, unwrap_or}
 use Rattle.std.specs.Io.KnownBytes.{Appends, Consumes, IsAtEnd}
 use Rattle.rd_base.specs.History.{History}
+use Rattle.rd_script.specs.declared.script_no.ScriptNo.{ScriptNo}
+use Rattle.rd_script.specs.declared.script_no.ScriptNo.TheVariants as script_no
 use Rattle.rd_session.specs.declared.run_no.RunNo.{RunNo}
 use Rattle.rd_session.specs.declared.run_no.RunNo.TheVariants as no
-use Rattle.rd_session.specs.declared.session.Outcome.{Outcome}
-use Rattle.rd_cli.specs.Grammar.{IsFirstBad, IsScript, Said}
-use Rattle.rd_cli.specs.Headline.{PartOfScript, RanScript, journals_in}
-use Rattle.rd_cli.specs.Report.{report_of}
+use Rattle.rd_script.specs.declared.outcome.Outcome.{Outcome}
+use Rattle.rd_script.specs.Grammar.{IsFirstBad, IsScript, Said}
+use Rattle.rd_cli.specs.Headline.{PartOfScript, RanScript}
+use Rattle.rd_script.specs.Report.{journals_in, report_of}
 use Rattle.rd_cli.specs.declared.stop.Stop.{Stop}
 use Rattle.rd_cli.specs.declared.stop.Stop.TheVariants as stop
 
@@ -25,6 +27,11 @@ abbrev pub IsOutputStop : Stop → Type 0 → Type 0
 IsOutputStop stop.Output P = P
 IsOutputStop stop.Memory P = Unit {0}
 IsOutputStop _ P = ⊥
+
+-- the stop of a script that could not be read
+abbrev pub stop_of_script : ScriptNo → Stop
+stop_of_script (script_no.BadLine number) = stop.Line number
+stop_of_script script_no.Memory = stop.Memory
 
 -- the stop of a session that ended early
 abbrev pub stop_of : RunNo → Stop

@@ -1,16 +1,16 @@
 -- What holds of a run of `both` that ended with status 0: how its script, its recording, its journal and its report belong
 -- together.
-use Rattle.std.specs.Prelude.{◌≡◌, ℕ, ◌⊎◌, List, [], ◌∷◌, take, map, unwrap_or, Option, MatchOption}
+use Rattle.std.specs.Prelude.{◌≡◌, ℕ, ◌⊎◌, List, [], ◌∷◌, take, unwrap_or, Option, MatchOption}
 use Rattle.std.specs.Io.KnownBytes.{Appends, Consumes, IsAtEnd}
 use Rattle.rd_base.specs.History.{History}
 use Rattle.rd_base.specs.declared.journal.Item.{Item}
 use Rattle.rd_drive.specs.DriveState.{opening}
-use Rattle.rd_session.specs.declared.session.Outcome.{Outcome}
+use Rattle.rd_script.specs.declared.outcome.Outcome.{Outcome}
 use Rattle.rd_session.specs.Recording.{Entry, begins, recording_of}
 use Rattle.rd_session.specs.Early.{EndedEarly}
 use Rattle.rd_session.specs.Session.{IsSession}
-use Rattle.rd_cli.specs.Grammar.{Said, IsScript}
-use Rattle.rd_cli.specs.Report.{report_of}
+use Rattle.rd_script.specs.Grammar.{Said, IsScript}
+use Rattle.rd_script.specs.Report.{journals_in, report_of}
 
 -- A script that ran: the session is of its application, on the drive at the opening that it gives, and without a drive there is
 -- none; the recording is of that session, and the books hold the drive's journal.
@@ -28,10 +28,6 @@ pub record IsRun (text recording printed : List ℕ) (books : List (ℕ × List 
   pub script : IsScript text said
   pub ran : IsScriptRun said outcomes recording books
   pub output : printed ≡ report_of outcomes books
-
--- the journals in books
-abbrev pub journals_in : List (ℕ × History) → List (ℕ × List Item)
-journals_in books = map (λ b. (b.0, b.1.items)) books
 
 -- A script ran, and the recording grew by that of the run, as far as it can be told.
 abbrev pub RanScript : Said → List Outcome → (held grown : Option (List ℕ)) → List (ℕ × History) → Type 0

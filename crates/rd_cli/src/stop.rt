@@ -3,6 +3,7 @@
 ghost use Rattle.std.specs.Prelude.{◌≡◌};
 ghost use Rattle.rd_cli.specs.declared.stop.Stop.TheVariants as stop;
 
+use rd_script::ScriptNo;
 use rd_session::RunNo;
 use std::alloc::{AllocError, AllocFailed};
 
@@ -32,6 +33,19 @@ impl Stop {
             Stop::Input => 2,
             Stop::Output => 3,
             Stop::Memory => 6,
+        }
+    }
+}
+
+impl From<ScriptNo> for Stop {
+    ghost use Rattle.rd_cli.specs.Causes.{stop_of_script};
+
+    ghost from_gives = { λ no e. e ≡ stop_of_script no };
+
+    fn from(no: ScriptNo) -> Stop {
+        match no {
+            ScriptNo::BadLine { line } => Stop::Line(line),
+            ScriptNo::Memory => Stop::Memory,
         }
     }
 }

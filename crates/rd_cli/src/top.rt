@@ -3,16 +3,15 @@
 ghost use Rattle.std.specs.Prelude.{◌≡◌, ◌≤◌, ⊤, ◌⊎◌, ◌↔◌, [], None, codes, IsTrue, map, option_map, string_bytes, unwrap_or, IfErr, IfOk, OnOk, IsErrOf};
 ghost use Rattle.rd_base.specs.Faults.{Rose};
 ghost use Rattle.rd_cli.specs.Causes.{AreBoth, Caused, FailedToWrite, IsOutputStop, IsUnrun, Refused, Says, Stopped, last_line, status_of};
-ghost use Rattle.rd_cli.specs.Grammar.{Said};
+ghost use Rattle.rd_script.specs.Grammar.{Said};
 ghost use Rattle.rd_cli.specs.Headline.{PartOfScript, RanScript, RanToEnd};
-ghost use Rattle.rd_cli.specs.ReadScript.{HoldsSaid};
+ghost use Rattle.rd_script.specs.ReadScript.{HoldsSaid};
 
 use crate::input::read_all;
-use crate::report::report;
-use crate::script::{MAX_BYTES, Script, read_script};
 use crate::stop::Stop;
 use rd_base::{Books, Sink, Source, write_all};
-use rd_session::{DEVICE, Outcome, Session, begin_recording, run_session};
+use rd_script::{MAX_BYTES, Outcome, Script, read_script, report};
+use rd_session::{DEVICE, Session, begin_recording, run_session};
 use std::alloc::{AllocError, Global};
 
 /// Runs a command and answers the exit status.

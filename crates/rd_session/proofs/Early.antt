@@ -13,9 +13,9 @@ use Rattle.rd_irp.specs.Written.{request_bytes}
 use Rattle.rd_drive.specs.DriveState.{DriveState}
 use Rattle.rd_drive.specs.Starved.{is_starved}
 use Rattle.rd_session.specs.declared.recording.End.TheVariants.{Host, Client}
-use Rattle.rd_session.specs.declared.session.Outcome.{Outcome}
-use Rattle.rd_session.specs.declared.session.Outcome.TheVariants as outcome
-use Rattle.rd_session.specs.Asked.{Asked, Answered}
+use Rattle.rd_script.specs.declared.outcome.Outcome.{Outcome}
+use Rattle.rd_script.specs.declared.outcome.Outcome.TheVariants as outcome
+use Rattle.rd_script.specs.Asked.{Asked, Answered}
 use Rattle.rd_session.specs.Channel.{Ends, EndsIn, Exchange, Exchanges, Runs, file_named, recorded_in}
 use Rattle.rd_session.specs.Early.{PartOf, PartOfLine}
 use Rattle.rd_session.specs.Outcomes.{request_to}

@@ -2,8 +2,8 @@
 use Rattle.std.proofs.Common.{◌≡◌, ℕ, List, Option, Some}
 use Rattle.std.specs.Prelude.{◌&&◌, if◌then◌else◌, bytes_eq}
 use Rattle.rd_irp.specs.declared.request.Request.{Request}
-use Rattle.rd_session.specs.declared.session.Outcome.TheVariants as outcome
-use Rattle.rd_session.specs.Asked.{Asked, Answered}
+use Rattle.rd_script.specs.declared.outcome.Outcome.TheVariants as outcome
+use Rattle.rd_script.specs.Asked.{Asked, Answered}
 use Rattle.rd_session.specs.Channel.{Ends, Exchanges, EndsIn, file_named}
 use Rattle.rd_session.specs.Outcomes.{opens, given_file, request_to}
 

@@ -23,7 +23,7 @@ use Rattle.rd_irp.specs.Request.{SpellsRequest, FirstFaultOfRequest}
 use Rattle.rd_irp.specs.Completion.{completion_head, completion_body, SpellsHead, SpellsBody, FirstFaultOfHead, FirstFaultOfBody}
 use Rattle.rd_irp.proofs.OneOf.{request_one_value, request_not_both, layout_one_value, layout_not_both}
 use Rattle.rd_drive.specs.DriveState.{DriveState}
-use Rattle.rd_session.specs.Asked.{Answered}
+use Rattle.rd_script.specs.Asked.{Answered}
 use Rattle.rd_irp.specs.declared.completion.Reply.{Reply}
 use Rattle.std.specs.List.{flat_map}
 use Rattle.std.specs.Io.KnownBytes.{Appends}

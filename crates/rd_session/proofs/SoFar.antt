@@ -16,9 +16,9 @@ use Rattle.rd_session.specs.Early.{EndedEarly, PartOfLine}
 use Rattle.rd_irp.specs.declared.request.Request.{Request}
 use Rattle.rd_drive.specs.DriveState.{DriveState}
 use Rattle.rd_session.specs.Session.{IsHistory, IsSession, first_keys, in_turn, key_at}
-use Rattle.rd_session.specs.declared.session.Outcome.{Outcome}
-use Rattle.rd_session.specs.declared.session.Outcome.TheVariants as outcome
-use Rattle.rd_session.specs.Asked.{Asked, Answered}
+use Rattle.rd_script.specs.declared.outcome.Outcome.{Outcome}
+use Rattle.rd_script.specs.declared.outcome.Outcome.TheVariants as outcome
+use Rattle.rd_script.specs.Asked.{Asked, Answered}
 use Rattle.rd_session.specs.Channel.{Ends, Exchange, Exchanges, EndsIn, Runs, answer_in, file_named, recorded_in, stored_under}
 use Rattle.rd_session.specs.Outcomes.{Ended, answers_in, given_file, held_file, opened_file, opens, request_of, request_to, requests_of}
 use Rattle.rd_session.specs.Recording.{Entry, entry_bytes}

@@ -4,35 +4,13 @@ use Rattle.std.specs.Prelude.{codes, All}
 use Rattle.rd_base.specs.declared.journal.Item.TheVariants.{Came, Cancelled, Sent, Cut}
 use Rattle.rd_base.specs.declared.journal.Cause.TheVariants.{Removed}
 use Rattle.rd_irp.specs.declared.op.Op.TheVariants as op
-use Rattle.rd_irp.specs.declared.completion.Kind.TheVariants as kind
-use Rattle.rd_irp.specs.declared.completion.Body.TheVariants as body
+use Rattle.rd_script.proofs.Worked.{open_a, read_five, close_it, opened, hello, closed}
 use Rattle.rd_session.specs.Session.{IsUncut, first_keys, in_turn, key_at}
 use Rattle.rd_session.specs.declared.recording.End.TheVariants.{Host, Client}
-use Rattle.rd_session.specs.declared.session.Outcome.TheVariants as outcome
-use Rattle.rd_session.specs.Asked.{Asked, Answered}
+use Rattle.rd_script.specs.declared.outcome.Outcome.TheVariants as outcome
 use Rattle.rd_session.specs.Outcomes.{held_file, requests_of}
 use Rattle.rd_session.specs.Recording.{recording_of, begins, sends}
 use Rattle.rd_session.specs.Told.{names_pair, completes, is_request}
-
--- an open of \a, a read of five bytes, a close, by the handle h
-unfoldable pub open_a : Asked
-open_a = record { handle = codes "h"; op = op.Create 0x8000_0000 0 0 7 1 0 (codes "\\a") }
-
-unfoldable pub read_five : Asked
-read_five = record { handle = codes "h"; op = op.Read 0 5 }
-
-unfoldable pub close_it : Asked
-close_it = record { handle = codes "h"; op = op.Close }
-
--- The outcomes of the three lines.
-unfoldable pub opened : Answered
-opened = record { kind = kind.Create; status = record { 0 = 0 }; body = body.Created 1 1 }
-
-unfoldable pub hello : Answered
-hello = record { kind = kind.Buffer; status = record { 0 = 0 }; body = body.Buffer (codes "hello") }
-
-unfoldable pub closed : Answered
-closed = record { kind = kind.Close; status = record { 0 = 0 }; body = body.Closed }
 
 -- A handle holds what its last open gave, and nothing where that failed or another name was opened.
 holds_one : held_file (codes "h") ((open_a, outcome.Done opened) ∷ []) ≡ Some 1

@@ -27,9 +27,9 @@ use Rattle.rd_chunk.specs.Standing.{Held, StandsFor}
 use Rattle.rd_session.specs.declared.run_no.RunNo.{RunNo}
 use Rattle.rd_session.specs.declared.run_no.RunNo.TheVariants as no
 use Rattle.rd_session.specs.declared.recording.End.TheVariants.{Host, Client}
-use Rattle.rd_session.specs.declared.session.Outcome.{Outcome}
-use Rattle.rd_session.specs.declared.session.Outcome.TheVariants as outcome
-use Rattle.rd_session.specs.Asked.{Asked, Answered}
+use Rattle.rd_script.specs.declared.outcome.Outcome.{Outcome}
+use Rattle.rd_script.specs.declared.outcome.Outcome.TheVariants as outcome
+use Rattle.rd_script.specs.Asked.{Asked, Answered}
 use Rattle.rd_session.specs.Outcomes.{opens, given_file, request_to}
 use Rattle.rd_session.specs.Recording.{Entry, Passed, entry_bytes, entries_of}
 use Rattle.rd_session.specs.Told.{Completes, completion_written}

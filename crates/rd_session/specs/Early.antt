@@ -11,8 +11,8 @@ use Rattle.rd_drive.specs.DriveState.{DriveState}
 use Rattle.rd_drive.specs.Replies.{last_state}
 use Rattle.rd_drive.specs.Starved.{is_starved}
 use Rattle.rd_session.specs.declared.recording.End.TheVariants.{Host, Client}
-use Rattle.rd_session.specs.declared.session.Outcome.{Outcome}
-use Rattle.rd_session.specs.Asked.{Asked}
+use Rattle.rd_script.specs.declared.outcome.Outcome.{Outcome}
+use Rattle.rd_script.specs.Asked.{Asked}
 use Rattle.rd_session.specs.Channel.{Runs}
 use Rattle.rd_session.specs.Outcomes.{request_of}
 use Rattle.rd_session.specs.Recording.{Entry, entry_bytes, frames_of}

@@ -1,4 +1,3 @@
-pub mod Asked
 pub mod Outcomes
 pub mod Recording
 pub mod Told

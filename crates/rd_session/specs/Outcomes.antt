@@ -6,9 +6,9 @@ use Rattle.rd_irp.specs.declared.op.Op.TheVariants as op
 use Rattle.rd_irp.specs.declared.completion.Body.{Body}
 use Rattle.rd_irp.specs.declared.completion.Body.TheVariants as body
 use Rattle.rd_irp.specs.declared.request.Request.{Request}
-use Rattle.rd_session.specs.Asked.{Asked, Answered}
-use Rattle.rd_session.specs.declared.session.Outcome.{Outcome}
-use Rattle.rd_session.specs.declared.session.Outcome.TheVariants as outcome
+use Rattle.rd_script.specs.Asked.{Asked, Answered}
+use Rattle.rd_script.specs.declared.outcome.Outcome.{Outcome}
+use Rattle.rd_script.specs.declared.outcome.Outcome.TheVariants as outcome
 
 -- a line that ended: what it asked for, and how it ended
 abbrev pub Ended : Type 0

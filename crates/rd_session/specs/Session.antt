@@ -15,8 +15,8 @@ use Rattle.rd_chunk.specs.Carrier.{IsMessage}
 use Rattle.rd_drive.specs.DriveState.{DriveState}
 use Rattle.rd_drive.specs.Replies.{replies_of, StarvesNoClose}
 use Rattle.rd_session.specs.declared.recording.End.TheVariants.{Host, Client}
-use Rattle.rd_session.specs.declared.session.Outcome.{Outcome}
-use Rattle.rd_session.specs.Asked.{Asked, Answered}
+use Rattle.rd_script.specs.declared.outcome.Outcome.{Outcome}
+use Rattle.rd_script.specs.Asked.{Asked, Answered}
 use Rattle.rd_session.specs.Outcomes.{AreOutcomes}
 use Rattle.rd_session.specs.Recording.{Entry, Passed, entries_of}
 use Rattle.rd_session.specs.Told.{Told, Counted, InOrder, Completes, completion_written}

@@ -4,12 +4,12 @@ ghost use Rattle.std.specs.Prelude.{◌≡◌, ◌&&◌, ℕ, List, None, Some, 
 ghost use Rattle.rd_session.specs.Channel.{IsIdle, CarriesCompletion, HearsIn, file_under};
 ghost use Rattle.rd_session.specs.Outcomes.{opens, given_file};
 
-use crate::answer::Answer;
 use crate::frames::join;
 use crate::run_no::RunNo;
 use rd_base::ReadNo;
 use rd_chunk::Joiner;
 use rd_irp::{Body, COMPLETION_HEAD_LEN, Kind, Op, read_head};
+use rd_script::Answer;
 use std::alloc::Global;
 use std::collections::BTreeMap;
 

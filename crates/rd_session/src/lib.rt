@@ -1,7 +1,7 @@
 //! A session of one application and one drive: what the application asks for goes to the drive and back through the frames of one
 //! channel, a request after the other.
 //!
-//! It stands on all layers below. The layer above makes each `Ask`, begins the recording (`begin_recording`), and uses one contract:
+//! It stands on all layers below. The layer above begins the recording (`begin_recording`), and uses one contract:
 //! `run_session` gives each thing that was asked for its one outcome, out of one lawful history of the drive, and the recording has
 //! every frame.
 //!
@@ -10,8 +10,6 @@
 //! completion once. A handle is found by its name in an ordered map.
 #![tactic(auto)]
 
-mod answer;
-mod ask;
 mod client;
 mod frames;
 mod host;
@@ -19,8 +17,6 @@ mod recording;
 mod run_no;
 mod session;
 
-pub use answer::Answer;
-pub use ask::Ask;
-pub use recording::{End, begin_recording};
+pub use recording::begin_recording;
 pub use run_no::RunNo;
-pub use session::{DEVICE, Outcome, Session, run_session};
+pub use session::{DEVICE, Session, run_session};

@@ -15,6 +15,9 @@ use std::alloc::Global;
 /// What a recording begins with, and the entry of the first channel's begin.
 const OPENING: &[u8] = b"RDRREC01\x02";
 
+/// The bytes of each frame of a message but the last.
+const FRAME_LEN: usize = HEAD_LEN + CHUNK_LEN;
+
 /// Which end sent a frame.
 #[derive(Clone, Copy, Debug, PartialEq, Eq)]
 pub enum End {
@@ -54,8 +57,9 @@ pub fn record<R: Sink>(alloc: Global, wire: &mut R, end: End, frames: &[u8]) -> 
     ensures front { OnErr result ((message : List ℕ) → frames.now ≡ carrier_of message →
         (n : ℕ) × Appends (R.held wire.old) (R.held wire.new) (take n (frames_of end message))) }
 {
-    let mut entries = Vec::new(alloc);
-    for frame in frames.chunks(HEAD_LEN + CHUNK_LEN) {
+    let marks = frames.len().div_ceil(FRAME_LEN);
+    let mut entries = Vec::with_capacity(alloc, frames.len().saturating_add(marks))?;
+    for frame in frames.chunks(FRAME_LEN) {
         entries.push(end.mark())?;
         entries.extend_from_slice(frame)?;
     }

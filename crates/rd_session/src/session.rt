@@ -10,8 +10,6 @@ ghost use Rattle.rd_session.specs.Early.{EndedEarly, PartOf, PartOfLine};
 ghost use Rattle.rd_session.specs.Outcomes.{request_to};
 ghost use Rattle.rd_session.specs.Session.{IsSession};
 
-use crate::answer::Answer;
-use crate::ask::Ask;
 use crate::client::Client;
 use crate::host::Host;
 use crate::recording::{End, record};
@@ -20,6 +18,7 @@ use rd_base::{Journal, Sink};
 use rd_chunk::split;
 use rd_drive::MemoryDrive;
 use rd_irp::{Request, kind_of, write_request};
+use rd_script::{Answer, Ask, Outcome};
 use std::alloc::Global;
 
 /// The id of the one device.
@@ -27,15 +26,6 @@ pub const DEVICE: u32 = 1;
 
 /// The completion id of every request: none is sent before the one before is answered.
 const COMPLETION: u32 = 0;
-
-/// How an application's line ended.
-#[derive(Debug, Drop)]
-pub enum Outcome {
-    /// Its request was answered.
-    Done(Answer),
-    /// Its handle holds no file.
-    NoHandle,
-}
 
 /// What came of a session.
 #[derive(Debug, Drop)]

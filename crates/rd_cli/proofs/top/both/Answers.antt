@@ -2,10 +2,11 @@ use Rattle.std.proofs.Common.{◌∙◌, inl, inr, refl, rules}
 use Rattle.std.specs.Prelude.{IfErr}
 use Rattle.std.proofs.lemmas.Result.{IfErr-weaker}
 use Rattle.rd_cli.specs.Causes.{IsOutputStop}
-use Rattle.rd_cli.specs.Grammar.{Said}
+use Rattle.rd_script.specs.Grammar.{Said}
 use Rattle.rd_cli.specs.Headline.{PartOfScript}
-use Rattle.rd_cli.specs.ReadScript.{HoldsSaid}
-use Rattle.rd_cli.proofs.Runs.{output_stop, script_short, whole_run}
+use Rattle.rd_script.specs.ReadScript.{HoldsSaid}
+use Rattle.rd_script.proofs.Texts.{script_short}
+use Rattle.rd_cli.proofs.Runs.{output_stop, whole_run}
 use Rattle.rd_cli.proofs.top.both.Goals as goal
 
 pub returns-clause-ran : goal.returns-clause-ran

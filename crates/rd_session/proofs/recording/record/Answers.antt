@@ -8,7 +8,7 @@ pub loop-frame-init : goal.loop-frame-init
 loop-frame-init g c = record {
   goes = (search rules, tt);
   size = search rules;
-  left = λ message is. rw (c.into_iter-frame-iterator.ensures.into_iter_gives, c.chunks-frame-items.ensures.rest, is, c.new-entries.ensures.items) (left_all c.args.end message);
+  left = λ message is. rw (c.into_iter-frame-iterator.ensures.into_iter_gives, c.chunks-frame-items.ensures.rest, is, c.in_ok-entries.ensures.items) (left_all c.args.end message);
 }
 
 pub loop-frame-preserved : goal.loop-frame-preserved
@@ -31,7 +31,7 @@ returns-clause-recorded g c message is =
     rw (c.as_slice.ensures.value, all) at c.in_ok-write_all.ensures.written
 
 pub returns-in_err-push-clause-front : goal.returns-in_err-push-clause-front
-returns-in_err-push-clause-front g c = of_error c.from_residual.result _ (λ message is. no_front _ _)
+returns-in_err-push-clause-front g c = of_error c.from_residual-in_err-push.result _ (λ message is. no_front _ _)
 
 pub returns-in_err-extend_from_slice-clause-front : goal.returns-in_err-extend_from_slice-clause-front
 returns-in_err-extend_from_slice-clause-front g c = of_error c.from_residual-in_err-extend_from_slice.result _ (λ message is. no_front _ _)
@@ -42,3 +42,6 @@ returns-in_err-write_all-clause-front g c =
     (λ message is.
     let all = left_none c.args.end message _ _ (c.loop-frame.invariant.left message is) c.in-None.ensures.steps.1.0 in
     rw (c.as_slice.ensures.value, all) at c.in_err-write_all.ensures.front)
+
+pub returns-in_err-entries-clause-front : goal.returns-in_err-entries-clause-front
+returns-in_err-entries-clause-front g c = of_error c.from_residual.result _ (λ message is. no_front _ _)

@@ -1,0 +1,9 @@
+pub mod Words
+pub mod Lines
+pub mod Opening
+pub mod Reading
+pub mod Pieces
+pub mod Texts
+pub mod Readings
+pub mod StatusDigits
+pub mod Worked

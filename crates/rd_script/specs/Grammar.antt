@@ -1,0 +1,115 @@
+-- The scripts of the first path: which text spells which lines, and which line is the first outside the grammar.
+use Rattle.std.specs.Prelude.{◌≡◌, ℕ, ◌+◌, ◌<◌, ◌≤◌, ◌^◌, ◌⊎◌, ◌==◌, not, if◌then◌else◌, List, [], ◌∷◌, ◌++◌, length, codes, decimal, Option, Some, None, IsSome, All, take_while}
+use Rattle.std.specs.List.{concat, join_with_byte}
+use Rattle.hex.specs.Hex.{encode_lower}
+use Rattle.rd_irp.specs.declared.op.Op.{Op}
+use Rattle.rd_irp.specs.declared.op.Op.TheVariants as op
+use Rattle.rd_drive.specs.PlainPath.{IsPlainPath}
+use Rattle.rd_script.specs.Asked.{Asked}
+use Rattle.rd_script.specs.declared.grammar.Line.{Line}
+use Rattle.rd_script.specs.declared.grammar.Line.TheVariants as line
+
+-- a name of a drive: up to seven visible ASCII characters, and at least one
+abbrev pub IsName : List ℕ → Type 0
+IsName word = (0 < length word) × (length word ≤ 7) × All (λ c. (0x21 ≤ c) × (c ≤ 0x7e)) word
+
+-- a name of a handle: up to eight letters a to z or digits, and at least one
+abbrev pub IsHandleName : List ℕ → Type 0
+IsHandleName word = (0 < length word) × (length word ≤ 8) × All (λ c. ((0x61 ≤ c) × (c ≤ 0x7a)) ⊎ ((0x30 ≤ c) × (c ≤ 0x39))) word
+
+-- bytes as a word: two lower-case digits each, or a dash for none
+abbrev pub hex_word : List ℕ → List ℕ
+hex_word [] = codes "-"
+hex_word (byte ∷ bytes) = encode_lower (byte ∷ bytes)
+
+-- what an application's line says behind its number: `open H 1 PATH` opens what is there for reading, shared by all;
+-- `read H OFFSET LENGTH` and `close H` are what they are called
+abbrev pub IsAskOf : Op → List ℕ → List (List ℕ) → Type 0
+IsAskOf (op.Create access allocation attributes share disposition options path) handle words =
+    (words ≡ codes "open" ∷ handle ∷ codes "1" ∷ path ∷ []) × IsPlainPath path × (access ≡ 0x8000_0000) × (allocation ≡ 0) × (attributes ≡ 0) × (share ≡ 7) × (disposition ≡ 1) × (options ≡ 0)
+IsAskOf (op.Read offset count) handle words =
+    (words ≡ codes "read" ∷ handle ∷ decimal offset ∷ decimal count ∷ []) × (offset < 2 ^ 64) × (count < 2 ^ 32)
+IsAskOf op.Close handle words = words ≡ codes "close" ∷ handle ∷ []
+IsAskOf (op.Unknown major minor) handle words = ⊥
+IsAskOf (op.Malformed major minor bad) handle words = ⊥
+
+-- the words of a line: `drive 1 NAME`, `file 1 PATH HEX`, or `1` and what application 1 asks for
+abbrev pub AreWordsOf : Line → List (List ℕ) → Type 0
+AreWordsOf (line.Drive label) words = (words ≡ codes "drive" ∷ codes "1" ∷ label ∷ []) × IsName label
+AreWordsOf (line.File path bytes) words = (words ≡ codes "file" ∷ codes "1" ∷ path ∷ hex_word bytes ∷ []) × IsPlainPath path × All (λ byte. byte < 256) bytes
+AreWordsOf (line.Ask asked) words =
+    (asking : List (List ℕ)) × (words ≡ codes "1" ∷ asking) × IsHandleName asked.handle × IsAskOf asked.op asked.handle asking
+
+-- the text is that of the line: its words with a space between them
+abbrev pub IsTextOf : Line → List ℕ → Type 0
+IsTextOf l text = (words : List (List ℕ)) × (text ≡ join_with_byte 0x20 words) × AreWordsOf l words
+
+-- empty lines and remarks are skipped
+abbrev pub IsSkipped : List ℕ → Type 0
+IsSkipped text = (text ≡ []) ⊎ ((rest : List ℕ) × (text ≡ 0x23 ∷ rest))
+
+-- what a script says: the drive's label, the path and the bytes of each file, and what the application asks for
+pub record Said : Type 0 where
+  pub label : Option (List ℕ)
+  pub files : List (List ℕ × List ℕ)
+  pub asks : List Asked
+
+-- nothing yet
+abbrev pub nothing_said : Said
+nothing_said = record { label = None; files = []; asks = [] }
+
+-- what is said with one more line
+abbrev pub with_line : Said → Line → Said
+with_line said (line.Drive label) = record said { label = Some label }
+with_line said (line.File path bytes) = record said { files = said.files ++ (path, bytes) ∷ [] }
+with_line said (line.Ask asked) = record said { asks = said.asks ++ asked ∷ [] }
+
+-- the drive comes first and once; its files come behind it and before all that is asked, each path once
+abbrev pub MayFollow : Said → Line → Type 0
+MayFollow said (line.Drive label) = said.label ≡ None
+MayFollow said (line.File path bytes) = IsSome said.label × (said.asks ≡ []) × All (λ file. ¬ (file.0 ≡ path)) said.files
+MayFollow said (line.Ask asked) = IsSome said.label
+
+-- a line's text adds this to what was said
+abbrev pub Adds : Said → List ℕ → Said → Type 0
+Adds old text new = (IsSkipped text × (new ≡ old)) ⊎ ((l : Line) × IsTextOf l text × MayFollow old l × (new ≡ with_line old l))
+
+-- a byte in front of the first of some lines
+abbrev pub onto_first : ℕ → List (List ℕ) → List (List ℕ)
+onto_first byte [] = (byte ∷ []) ∷ []
+onto_first byte (piece ∷ pieces) = (byte ∷ piece) ∷ pieces
+
+-- the lines of a text, each with its line feed, which the last may lack
+abbrev pub lines_of : List ℕ → List (List ℕ)
+lines_of [] = []
+lines_of (byte ∷ bytes) = if byte == 0x0a then (byte ∷ []) ∷ lines_of bytes else onto_first byte (lines_of bytes)
+
+-- a line without its line feed
+abbrev pub text_of : List ℕ → List ℕ
+text_of l = take_while (λ byte. not (byte == 0x0a)) l
+
+-- lines, one behind another, say this
+abbrev pub Say : Said → List (List ℕ) → Said → Type 0
+Say old [] new = new ≡ old
+Say old (l ∷ ls) new = (middle : Said) × Adds old (text_of l) middle × Say middle ls new
+
+-- the limits of a script: 1,000 lines and 65,536 bytes, line feeds counted
+abbrev pub IsWithinLimits : List (List ℕ) → Type 0
+IsWithinLimits ls = (length ls ≤ 1000) × (length (concat ls) ≤ 65536)
+
+-- the text is a script that says this
+pub record IsScript (text : List ℕ) (said : Said) : Type 0 where
+  pub within : IsWithinLimits (lines_of text)
+  pub says : Say nothing_said (lines_of text) said
+
+-- the first line, counted from 1, that passes a limit, or that adds nothing to what the lines before it said
+pub record IsFirstBad (text : List ℕ) (number : ℕ) : Type 0 where
+  pub good : List (List ℕ)
+  pub bad : List ℕ
+  pub behind : List (List ℕ)
+  pub said : Said
+  pub lines : lines_of text ≡ good ++ bad ∷ behind
+  pub within : IsWithinLimits good
+  pub says : Say nothing_said good said
+  pub number_is : number ≡ length good + 1
+  pub refused : ¬ (IsWithinLimits (good ++ bad ∷ [])) ⊎ ((more : Said) → ¬ (Adds said (text_of bad) more))

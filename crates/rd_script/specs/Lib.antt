@@ -1,0 +1,5 @@
+pub mod Asked
+pub mod Words
+pub mod Grammar
+pub mod ReadScript
+pub mod Report
