@@ -2,13 +2,15 @@
 use rd_base::{Bytes, Key, Status, Units};
 use rd_drive::{AddNo, Device, Job, MemoryDrive, is_plain_path, prepare};
 use rd_irp::{Body, Op, Reply};
+use std::alloc::Global;
+use std::process::Abort;
 use std::test::Fail;
 
 fn units(rt: &HostRuntime, text: &str) -> Result<Units, Fail> {
     Ok(Units::of(text.bytes().map(u16::from).collect(rt.alloc())?))
 }
 
-fn ask(rt: &HostRuntime, drive: &mut MemoryDrive, file: u32, op: Op) -> Reply {
+fn ask(alloc: Global, drive: &mut MemoryDrive, file: u32, op: Op) -> Reply {
     let key = Key {
         channel: 1,
         index: 0,
@@ -19,7 +21,7 @@ fn ask(rt: &HostRuntime, drive: &mut MemoryDrive, file: u32, op: Op) -> Reply {
         completion: 0,
         op,
     };
-    drive.apply(prepare(rt.alloc(), job), 0)
+    drive.apply(prepare(alloc, job), 0)
 }
 
 fn open(path: Units, access: u32) -> Op {
@@ -34,6 +36,33 @@ fn open(path: Units, access: u32) -> Op {
     }
 }
 
+/// What a request with a file id and an operation is answered: a status, and the file id of an open or the bytes of a read.
+fn answers(
+    rt: &impl Abort,
+    alloc: Global,
+    drive: &mut MemoryDrive,
+    file: u32,
+    op: Op,
+    status: Status,
+    given: Option<u32>,
+    bytes: &[u8],
+) {
+    let reply = ask(alloc, drive, file, op);
+    assert_eq!(rt; reply.status, status);
+    match reply.body {
+        Body::Created { file, information } => assert_eq!(rt;
+            (Some(file), information),
+            (given, 1)
+        ),
+        Body::Buffer(buffer) => assert_eq!(rt; buffer.as_slice(), bytes),
+        _ => assert!(rt; given.is_none() && bytes.is_empty()),
+    }
+}
+
+fn read(offset: u64, length: u32) -> Op {
+    Op::Read { offset, length }
+}
+
 #[test]
 fn opens_reads_and_closes(rt: HostRuntime) -> Result<(), Fail> {
     let mut drive = MemoryDrive::new(rt.alloc(), units(&rt, "DATA")?)?;
@@ -42,68 +71,80 @@ fn opens_reads_and_closes(rt: HostRuntime) -> Result<(), Fail> {
     assert_eq!(rt; drive.add_file(&path, hello), Ok(()));
     let again = Bytes::of(Vec::new(rt.alloc()));
     assert_eq!(rt; drive.add_file(&path, again), Err(AddNo::Collision));
-    let opened = ask(&rt, &mut drive, 0, open(path.copy()?, 0x8000_0000));
-    assert!(rt;
-        matches!(
-            opened.body,
-            Body::Created {
-                file: 1,
-                information: 1
-            }
-        )
-    );
-    let second = ask(&rt, &mut drive, 0, open(path.copy()?, 0x8000_0000));
-    assert!(rt;
-        matches!(
-            second.body,
-            Body::Created {
-                file: 2,
-                information: 1
-            }
-        )
-    );
-    let writing = ask(&rt, &mut drive, 0, open(path, 0xc000_0000));
-    assert_eq!(rt; writing.status, Status::NOT_SUPPORTED);
-    let read = ask(
+    let done = Status::SUCCESS;
+    answers(
         &rt,
+        rt.alloc(),
+        &mut drive,
+        0,
+        open(path.copy()?, 0x8000_0000),
+        done,
+        Some(1),
+        &[],
+    );
+    answers(
+        &rt,
+        rt.alloc(),
+        &mut drive,
+        0,
+        open(path.copy()?, 0x8000_0000),
+        done,
+        Some(2),
+        &[],
+    );
+    answers(
+        &rt,
+        rt.alloc(),
+        &mut drive,
+        0,
+        open(path, 0xc000_0000),
+        Status::NOT_SUPPORTED,
+        None,
+        &[],
+    );
+    answers(
+        &rt,
+        rt.alloc(),
         &mut drive,
         1,
-        Op::Read {
-            offset: 3,
-            length: 10,
-        },
+        read(3, 10),
+        done,
+        None,
+        b"lo",
     );
-    match read.body {
-        Body::Buffer(bytes) => assert_eq!(rt; bytes.as_slice(), b"lo".as_slice()),
-        _ => return Err(Fail::from("two bytes are read")),
-    }
-    let past = ask(
+    answers(
         &rt,
+        rt.alloc(),
         &mut drive,
         1,
-        Op::Read {
-            offset: 5,
-            length: 3,
-        },
+        read(5, 3),
+        Status::END_OF_FILE,
+        None,
+        &[],
     );
-    assert_eq!(rt; past.status, Status::END_OF_FILE);
-    let nothing = ask(
+    answers(&rt, rt.alloc(), &mut drive, 1, read(5, 0), done, None, &[]);
+    answers(&rt, rt.alloc(), &mut drive, 1, Op::Close, done, None, &[]);
+    answers(
         &rt,
+        rt.alloc(),
         &mut drive,
         1,
-        Op::Read {
-            offset: 5,
-            length: 0,
-        },
+        Op::Close,
+        Status::INVALID_HANDLE,
+        None,
+        &[],
     );
-    assert_eq!(rt; nothing.status, Status::SUCCESS);
-    let closed = ask(&rt, &mut drive, 1, Op::Close);
-    assert!(rt; matches!(closed.body, Body::Closed));
-    let stale = ask(&rt, &mut drive, 1, Op::Close);
-    assert_eq!(rt; stale.status, Status::INVALID_HANDLE);
     drive.cut();
-    let cut = ask(&rt, &mut drive, 2, Op::Close);
-    assert_eq!(rt; cut.status, Status::INVALID_HANDLE);
+    answers(
+        &rt,
+        rt.alloc(),
+        &mut drive,
+        2,
+        Op::Close,
+        Status::INVALID_HANDLE,
+        None,
+        &[],
+    );
     Ok(())
 }
 
