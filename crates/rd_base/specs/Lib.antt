@@ -1,4 +1,5 @@
 pub mod Faults
+pub mod Fronts
 pub mod Position
 pub mod History
 pub mod Layout

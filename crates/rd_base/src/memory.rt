@@ -1,6 +1,6 @@
 //! Sources and sinks in memory.
 
-ghost use Rattle.std.specs.Prelude.{◌≡◌, ◌≤◌, min, length, take};
+ghost use Rattle.std.specs.Prelude.{◌≡◌, ◌≤◌, [], Some, min, length, take};
 
 use crate::items::{Bytes, Calls};
 use crate::outside::{Failed, Sink, Source};
@@ -15,13 +15,15 @@ pub struct PlainSource {
 }
 
 impl PlainSource {
-    pub fn new(bytes: Bytes) -> Self {
+    pub fn new(bytes: Bytes) -> Self
+        ensures { ⟦<PlainSource as Source>⟧.left result ≡ Some bytes }
+    {
         PlainSource { bytes, at: 0 }
     }
 }
 
 impl Source for PlainSource {
-    ghost use Rattle.std.specs.Prelude.{Some, drop};
+    ghost use Rattle.std.specs.Prelude.{drop};
 
     ghost left = { λ s. Some (drop s.at s.bytes) };
 
@@ -45,7 +47,10 @@ pub struct MemSource {
 
 impl MemSource {
     /// A source of these bytes. The reads with the given numbers, counted from 1, fail.
-    pub fn new(bytes: Bytes, fails: Calls) -> Self {
+    pub fn new(bytes: Bytes, fails: Calls) -> Self
+        ensures left { ⟦<MemSource as Source>⟧.left result ≡ Some bytes }
+        ensures faults { ⟦<MemSource as Source>⟧.faults result ≡ 0 }
+    {
         MemSource {
             source: PlainSource::new(bytes),
             calls: 0,
@@ -56,7 +61,7 @@ impl MemSource {
 }
 
 impl Source for MemSource {
-    ghost use Rattle.std.specs.Prelude.{Some, drop};
+    ghost use Rattle.std.specs.Prelude.{drop};
 
     ghost left = { λ s. Some (drop s.source.at s.source.bytes) };
 
@@ -105,7 +110,10 @@ pub struct MemSink {
 
 impl MemSink {
     /// An empty sink. The writes with the given numbers, counted from 1, fail.
-    pub fn new(alloc: Global, fails: Calls) -> Self {
+    pub fn new(alloc: Global, fails: Calls) -> Self
+        ensures held { ⟦<MemSink as Sink>⟧.held result ≡ Some [] }
+        ensures faults { ⟦<MemSink as Sink>⟧.faults result ≡ 0 }
+    {
         MemSink {
             held: Vec::new(alloc),
             calls: 0,
@@ -116,15 +124,13 @@ impl MemSink {
 
     /// The bytes held.
     pub fn bytes(&self) -> &[u8]
-        ensures { result.now ≡ self.now.held.items }
+        ensures { ⟦<MemSink as Sink>⟧.held self.now ≡ Some result.now }
     {
         self.held.as_slice()
     }
 }
 
 impl Sink for MemSink {
-    ghost use Rattle.std.specs.Prelude.{Some};
-
     ghost held = { λ s. Some s.held.items };
 
     ghost faults = { λ s. s.faults };

@@ -1,9 +1,10 @@
 //! Where bytes come from and go to.
 
-ghost use Rattle.std.specs.Prelude.{ℕ, List, Option, length, take, OnOk, OnErr};
+ghost use Rattle.std.specs.Prelude.{ℕ, List, Option, length, OnOk, OnErr};
 ghost use Rattle.std.specs.Io.KnownBytes.{Appends, ReadConsumes, WriteAppends};
 ghost use Rattle.std.specs.Io.{ReadsAtMost, WritesAtMost};
 ghost use Rattle.rd_base.specs.Faults.{CountsFaults, StuckOnlyOnFault};
+ghost use Rattle.rd_base.specs.Fronts.{AppendsFront};
 
 use thiserror::Error;
 
@@ -20,8 +21,8 @@ pub trait Source {
     /// How many faults it had. The count never falls.
     ghost faults: { Self → ℕ };
 
-    /// Reads at most `into.len()` bytes into the front of `into`, and answers how many. An answer of 0 for a piece
-    /// that isn't empty is the end of input.
+    /// Reads at most `into.len()` bytes into the front of `into`, and answers how many. Where there was room, 0 means that
+    /// the input has ended.
     fn read(&mut self, into: &mut [u8]) -> Result<usize, Failed>
         ensures bound { ReadsAtMost result into.new }
         ensures bytes { ReadConsumes (left self.old) (left self.new) result into.new }
@@ -36,7 +37,7 @@ pub trait Sink {
     /// How many faults it had. The count never falls.
     ghost faults: { Self → ℕ };
 
-    /// Takes a prefix of the piece, and answers how long it is. An answer of 0 for a piece that isn't empty is a fault.
+    /// Takes a front of the piece, and answers how long it is. To take nothing of a piece that has bytes is a fault.
     fn write(&mut self, piece: &[u8]) -> Result<usize, Failed>
         ensures bound { WritesAtMost result piece.now }
         ensures bytes { WriteAppends (held self.old) (held self.new) result piece.now }
@@ -49,7 +50,7 @@ pub fn write_all<K: Sink>(output: &mut K, bytes: &[u8]) -> Result<(), Failed>
     ensures counted { CountsFaults result (K.faults output.old) (K.faults output.new) }
     ensures written { OnOk result (Appends (K.held output.old) (K.held output.new) bytes.now) }
     // A call that fails has written a front of them.
-    ensures front { OnErr result ((n : ℕ) × Appends (K.held output.old) (K.held output.new) (take n bytes.now)) }
+    ensures front { OnErr result (AppendsFront (K.held output.old) (K.held output.new) bytes.now) }
 {
     let mut rest = bytes;
     while !rest.is_empty() {

@@ -1,6 +1,6 @@
 //! Sources and sinks over std's readers, writers and files. They tell nothing of the bytes.
 
-ghost use Rattle.std.specs.Prelude.{length};
+ghost use Rattle.std.specs.Prelude.{◌≡◌, length};
 ghost use Rattle.std.specs.Io.{WritesAtMost};
 ghost use Rattle.rd_base.specs.Faults.{CountsFaults, StuckOnlyOnFault};
 
@@ -16,8 +16,10 @@ pub struct StdSource<R> {
     faults: u64,
 }
 
-impl<R> StdSource<R> {
-    pub fn new(reader: R) -> Self {
+impl<R: Read> StdSource<R> {
+    pub fn new(reader: R) -> Self
+        ensures { ⟦<StdSource<R> as Source>⟧.faults result ≡ 0 }
+    {
         StdSource { reader, faults: 0 }
     }
 }
@@ -47,8 +49,10 @@ pub struct StdSink<W> {
     faults: u64,
 }
 
-impl<W> StdSink<W> {
-    pub fn new(writer: W) -> Self {
+impl<W: Write> StdSink<W> {
+    pub fn new(writer: W) -> Self
+        ensures { ⟦<StdSink<W> as Sink>⟧.faults result ≡ 0 }
+    {
         StdSink { writer, faults: 0 }
     }
 }
@@ -75,7 +79,9 @@ pub struct FileSink<'a, R: Files> {
 }
 
 impl<'a, R: Files> FileSink<'a, R> {
-    pub fn new(rt: &'a R, path: &'a str) -> Self {
+    pub fn new(rt: &'a R, path: &'a str) -> Self
+        ensures { ⟦<FileSink<'a, R> as Sink>⟧.faults result ≡ 0 }
+    {
         FileSink {
             rt,
             path,

@@ -1,5 +1,6 @@
 -- What can be wrong with a stream of carrier frames, and where.
 use Rattle.std.specs.Prelude.{ℕ, ◌≡◌, ◌≤◌, ◌<◌, ◌+◌, ◌-◌, ◌==◌, not, ◌&&◌, ◌||◌, nat_lt, if◌then◌else◌, Bool, List, [], ◌∷◌, ◌++◌, length, bit_and, Option, Some, None, ◌⊎◌}
+use Rattle.rd_chunk.specs.Sizes.{most_data, most_message}
 use Rattle.rd_chunk.specs.Frames.{size_of, length_of, flags_of, Carried, Begun}
 use Rattle.rd_chunk.specs.declared.head.RowFault.{RowFault}
 use Rattle.rd_chunk.specs.declared.fault.ChunkWhy.{ChunkWhy}
@@ -11,7 +12,7 @@ row offset why = Some (record { offset = offset; why = why })
 
 -- the table of faults, first part: what a size alone tells
 abbrev pub size_fault : ℕ → Option RowFault
-size_fault size = if size == 8 then row 0 Empty else (if nat_lt size 9 || nat_lt 16392 size then row 0 Size else None)
+size_fault size = if size == 8 then row 0 Empty else (if nat_lt size 9 || nat_lt (most_data + 8) size then row 0 Size else None)
 
 -- a row of the table: what it tests, how far behind the frame's first byte its fault stands, and the fault
 abbrev pub Row : Type 0
@@ -34,7 +35,7 @@ fields_fault n before size len flags =
     (not (bit_and flags 0x200000 == 0), 8, Compressed)
     ∷ (begins && not first, 8, NoFirst)
     ∷ (not begins && first, 8, SecondFirst)
-    ∷ (nat_lt 1052672 len, 4, TooLong)
+    ∷ (nat_lt most_message len, 4, TooLong)
     ∷ (not begins && not (len == n), 4, LengthChanged)
     ∷ (nat_lt len reached, 12, Overrun)
     ∷ (last && nat_lt reached len, 8, LastEarly)

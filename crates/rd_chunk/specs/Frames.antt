@@ -3,6 +3,7 @@
 use Rattle.std.specs.Prelude.{ℕ, ◌≡◌, ◌≤◌, ◌<◌, ◌+◌, ◌==◌, Bool, false, not, List, [], ◌∷◌, ◌++◌, length, take, drop, bit_and}
 use Rattle.std.specs.List.{concat, flat_map}
 use Rattle.std.specs.Int.{w32, from_le_bytes}
+use Rattle.rd_chunk.specs.Sizes.{most_data, most_message}
 
 -- a frame's size field, which counts all that stands behind these four bytes
 unfoldable pub size_of : List ℕ → ℕ
@@ -35,7 +36,7 @@ is_compressed frame = not (bit_and (flags_of frame) 0x200000 == 0)
 pub record IsFrame (n before : ℕ) (frame : List ℕ) : Type 0 where
   pub size : size_of frame ≡ length (data_of frame) + 8
   pub some : 1 ≤ length (data_of frame)
-  pub most : length (data_of frame) ≤ 16384
+  pub most : length (data_of frame) ≤ most_data
   pub plain : is_compressed frame ≡ false
   pub whole : length_of frame ≡ n
   pub within : before + length (data_of frame) ≤ n
@@ -54,7 +55,7 @@ pub record One (message bytes : List ℕ) : Type 0 where
   pub joined : flat_map data_of frames ≡ message
   pub bytes_are : concat frames ≡ bytes
   pub some : 1 ≤ length message
-  pub most : length message ≤ 1052672
+  pub most : length message ≤ most_message
 
 -- the bytes carry the messages one behind another, and nothing else
 abbrev pub Carried : List (List ℕ) → List ℕ → Type 0
@@ -68,4 +69,4 @@ pub record Begun (n : ℕ) (joined bytes : List ℕ) : Type 0 where
   pub joined_are : flat_map data_of frames ≡ joined
   pub bytes_are : concat frames ≡ bytes
   pub short : length joined < n
-  pub most : n ≤ 1052672
+  pub most : n ≤ most_message

@@ -4,6 +4,7 @@ use Rattle.std.specs.List.{concat, flat_map}
 use Rattle.rd_chunk.specs.declared.fault.ChunkBad.{ChunkBad}
 use Rattle.rd_chunk.specs.declared.fault.FeedNo.{FeedNo}
 use Rattle.rd_chunk.specs.declared.fault.FeedNo.TheVariants.{Bad, Memory}
+use Rattle.rd_chunk.specs.Sizes.{most_message}
 use Rattle.rd_chunk.specs.Frames.{size_of, length_of, data_of, AreFrames, Carried}
 use Rattle.rd_chunk.specs.Faults.{IsPart, FaultInMessage}
 
@@ -30,7 +31,7 @@ pub record StandsFor (held : Held) (before : ℕ) (bytes : List ℕ) : Type 0 wh
   pub still : 12 ≤ length part → held.left + length part ≡ size_of part + 4
   pub in_head : length part < 12 → held.left ≡ 0
   pub same : 12 ≤ length part → length_of part ≡ held.whole
-  pub most : held.whole ≤ 1052672
+  pub most : held.whole ≤ most_message
   pub complete : 0 < length (flat_map data_of frames) → length (flat_map data_of frames) ≡ held.whole → part ≡ []
   pub taken_are : held.taken ≡ (before + length bytes) % 2 ^ 64
   pub no_fault : held.fault ≡ None

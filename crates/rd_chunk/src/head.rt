@@ -4,6 +4,7 @@
 ghost use Rattle.std.specs.Prelude.{◌≡◌, ◌≤◌, ◌-◌};
 ghost use Rattle.rd_chunk.specs.Faults.{fields_fault};
 ghost use Rattle.rd_chunk.specs.Faults as Faults;
+ghost use Rattle.rd_chunk.specs.Sizes.{most_message};
 
 use crate::fault::ChunkWhy;
 
@@ -77,7 +78,7 @@ pub fn size_fault(size: u32) -> Option<RowFault>
 /// data bytes no message is under way, and `length` says nothing.
 #[tactic(auto, unfolding(crate::specs::Faults::fields_fault))]
 pub fn head_fault(head: Head, joined: usize, length: usize) -> Option<RowFault>
-    requires { joined ≤ 1052672 }
+    requires { joined ≤ most_message }
     ensures { result ≡ fields_fault length joined head.size head.length head.flags }
 {
     let reached = joined + head.data_len();

@@ -2,6 +2,7 @@
 
 ghost use Rattle.std.specs.Prelude.{◌≡◌, ◌<◌, ◌≤◌, ◌+◌, ◌%◌, ◌^◌, ◌↔◌, ◌⊎◌, ℕ, List, [], length, take, false, None, Some, Ok, Err, IsTrue, IsSome, IfNone, OnSome, IfOk, IfErr, OnErr};
 ghost use Rattle.rd_chunk.specs.Frames.{One};
+ghost use Rattle.rd_chunk.specs.Sizes.{most_message};
 ghost use Rattle.rd_chunk.specs.Standing.{StandsFor, Takes, BringsFault, IfBad, waiting};
 
 use crate::fault::{ChunkBad, FeedNo};
@@ -70,7 +71,7 @@ impl Joiner {
         ensures memory { result ≡ Err FeedNo.Memory → self.new ≡ self.old }
 
         // A message, and the twelve bytes of a head.
-        ensures held { length self.new.joined + length self.new.head ≤ 1052684 }
+        ensures held { length self.new.joined + length self.new.head ≤ most_message + 12 }
     {
         if let Some(bad) = self.bad {
             return Err(FeedNo::Bad(bad));

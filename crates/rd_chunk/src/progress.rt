@@ -6,6 +6,7 @@ ghost use Rattle.rd_chunk.specs.Standing.{Takes, BringsFault, IfBad};
 ghost use Rattle.rd_chunk.specs.Kept.{InRange, head_of, is_done, seen};
 ghost use Rattle.rd_chunk.specs.Frames.{size_of, length_of, flags_of};
 ghost use Rattle.rd_chunk.specs.Faults.{size_fault, head_fault};
+ghost use Rattle.rd_chunk.specs.Sizes.{most_message};
 
 use crate::fault::{ChunkBad, FeedNo};
 use crate::head::{HEAD_LEN, Head, RowFault, head_fault, size_fault};
@@ -89,7 +90,7 @@ impl Progress {
     /// The fault that the newest byte of the head brings, behind `joined` bytes of the message.
     fn fault(self, joined: usize) -> Option<RowFault>
         requires have { self.have ≤ 12 }
-        requires joined { joined ≤ 1052672 }
+        requires joined { joined ≤ most_message }
         ensures size { self.have ≡ 4 → result ≡ size_fault (size_of (head_of self)) }
         ensures head { self.have ≡ 12 → result ≡ head_fault self.length joined (head_of self) }
         ensures other { self.have ≢ 4 → self.have ≢ 12 → result ≡ None }
@@ -226,7 +227,7 @@ fn step(progress: &mut Progress, message: &mut Vec<u8>, piece: &[u8]) -> Result<
 
 /// Appends data to a message that will have `whole` bytes in all.
 fn append(message: &mut Vec<u8>, bytes: &[u8], whole: usize) -> Result<(), AllocError>
-    requires { vec_len message.old + length bytes.now ≤ 1052672 }
+    requires { vec_len message.old + length bytes.now ≤ most_message }
     ensures ok { OnOk result (message.new.items ≡ message.old.items ++ bytes.now) }
     ensures err { OnErr result (message.new.items ≡ message.old.items) }
 {
@@ -237,7 +238,7 @@ fn append(message: &mut Vec<u8>, bytes: &[u8], whole: usize) -> Result<(), Alloc
 /// Reserves room for `more` bytes of a message that will have `whole` bytes in all: for all of it, but for no more than
 /// 64 times the bytes that have come.
 fn make_room(message: &mut Vec<u8>, more: usize, whole: usize) -> Result<(), AllocError>
-    requires { vec_len message.old + more ≤ 1052672 }
+    requires { vec_len message.old + more ≤ most_message }
     ensures items { message.new.items ≡ message.old.items }
     ensures len { vec_len message.new ≡ vec_len message.old }
     ensures room { OnOk result (vec_len message.old + more ≤ vec_capacity message.new) }

@@ -1,11 +1,14 @@
 -- A script that ran, from its session.
-use Rattle.std.proofs.Common.{◌≡◌, ◌≤◌, ℕ, List, [], ◌∷◌, ◌++◌, length, Option, Some, None, refl, sym, ap, subst, ◌∙◌, append_assoc, arith}
-use Rattle.std.specs.Prelude.{◌⊎◌, codes, unwrap_or, MatchOption}
+use Rattle.std.proofs.Common.{◌≡◌, ◌≤◌, ℕ, List, [], ◌∷◌, ◌++◌, length, Option, Some, None, refl, sym, ap, subst, ◌∙◌, append_assoc, append-nil, inl, inr, arith}
+use Rattle.std.proofs.lemmas.Bool.{cases_lt}
+use Rattle.std.specs.Prelude.{◌⊎◌, codes, unwrap_or, MatchOption, Result, Ok, Err, IfErr, IsErrAnd}
 use Rattle.std.specs.List.{flat_map}
 use Rattle.std.specs.Ordering.{nat_cmp}
 use Rattle.std.specs.BTreeMap.{insert_entry}
 use Rattle.std.specs.Io.KnownBytes.{Appends, Consumes, IsAtEnd}
 use Rattle.std.proofs.KnownBytes.{Appends-trans}
+use Rattle.rd_base.specs.Faults.{Rose}
+use Rattle.rd_base.specs.Fronts.{AppendsFront}
 use Rattle.rd_base.specs.History.{History}
 use Rattle.rd_base.specs.declared.journal.Item.{Item}
 use Rattle.rd_drive.specs.DriveState.{DriveState, opening}
@@ -16,9 +19,13 @@ use Rattle.rd_session.specs.Session.{IsSession}
 use Rattle.rd_session.proofs.SoFar.{empty_session}
 use Rattle.rd_cli.specs.declared.stop.Stop.{Stop}
 use Rattle.rd_cli.specs.declared.stop.Stop.TheVariants as stop
-use Rattle.rd_cli.specs.Causes.{FailedToWrite, IsOutputStop, Stopped, last_line, status_of}
+use Rattle.rd_cli.specs.Causes.{Caused, HasRead, IsGoodRun, IsOutputStop, Stopped, WroteFront, last_line, status_of, stop_of_script}
+use Rattle.rd_script.specs.declared.script_no.ScriptNo.{ScriptNo}
+use Rattle.rd_script.specs.declared.script_no.ScriptNo.TheVariants as script_no
+use Rattle.rd_script.specs.ReadScript.{IsBadLine}
 use Rattle.rd_script.proofs.Texts.{script_short}
-use Rattle.rd_script.specs.Grammar.{IsScript, Said, nothing_said}
+use Rattle.rd_script.proofs.Readings.{cut_bad, never_both}
+use Rattle.rd_script.specs.Grammar.{IsFirstBad, IsScript, Said, nothing_said}
 use Rattle.rd_cli.specs.Headline.{IsScriptRun, RanScript, RanToEnd}
 use Rattle.rd_script.specs.Report.{journals_in, report_of}
 
@@ -67,22 +74,67 @@ whole_run left rest held grown shown printed books text report said outcomes rea
     (text, recording, report, read, whole (script_short text said script), written, told, record { said = said; outcomes = outcomes; script = script; ran = ran; output = output })
 
 -- ---- a run that ended early
--- a stop for the output, by what it then has done
-pub output_stop : (words : List (List ℕ)) (left rest held grown shown printed : Option (List ℕ)) (books : List (ℕ × History)) (P : Type 0) (s : Stop)
-    → (P → FailedToWrite words left rest held grown shown printed) → IsOutputStop s P → Stopped words left rest held grown shown printed books s
-output_stop words left rest held grown shown printed books P stop.Output failed part = failed part
-output_stop words left rest held grown shown printed books P stop.Memory failed part = tt
-output_stop words left rest held grown shown printed books P stop.Words failed part = absurd part
-output_stop words left rest held grown shown printed books P (stop.Line number) failed part = absurd part
-output_stop words left rest held grown shown printed books P stop.Input failed part = absurd part
+-- what holds of an error in two ways
+pub err_both : {T E : Type 0} (r : Result T E) (P Q : E → Type 0) → IfErr r P → IfErr r Q → IfErr r (λ e. P e × Q e)
+err_both (Ok x) P Q p q = tt
+err_both (Err e) P Q p q = (p, q)
 
--- behind a stop for the output nothing more is said
-pub unwritten : (words : List (List ℕ)) (left rest held grown shown printed said : Option (List ℕ)) (books : List (ℕ × History)) (s : Stop) (status : ℕ)
-    → Stopped words left rest held grown shown printed books s → (status ≡ status_of s) ⊎ (status ≡ 6) → (last_line s ≡ None → said ≡ printed) → status ≡ 3
-    → FailedToWrite words left rest held grown shown said
-unwritten words left rest held grown shown printed said books stop.Output status stopped known kept three =
-    subst (λ (o : Option (List ℕ)). FailedToWrite words left rest held grown shown o) (sym (kept refl)) stopped
-unwritten words left rest held grown shown printed said books stop.Words status stopped known kept three = absurd (omega (arith, known, three))
-unwritten words left rest held grown shown printed said books (stop.Line number) status stopped known kept three = absurd (omega (arith, known, three))
-unwritten words left rest held grown shown printed said books stop.Input status stopped known kept three = absurd (omega (arith, known, three))
-unwritten words left rest held grown shown printed said books stop.Memory status stopped known kept three = absurd (omega (arith, known, three))
+-- a stop for the recording, by what it then has done
+pub wire_stop : (words : List (List ℕ)) (left rest : Option (List ℕ)) (nothing_done failed P of_wire : Type 0) (s : Stop) → (of_wire → P → failed) → IsOutputStop s P → Caused s ⊥ ⊥ of_wire → Stopped words left rest nothing_done failed s
+wire_stop words left rest nothing_done failed P of_wire stop.Output fails part cause = fails cause part
+wire_stop words left rest nothing_done failed P of_wire stop.Memory fails part cause = tt
+wire_stop words left rest nothing_done failed P of_wire stop.Words fails part cause = absurd part
+wire_stop words left rest nothing_done failed P of_wire (stop.Line number) fails part cause = absurd part
+wire_stop words left rest nothing_done failed P of_wire stop.Input fails part cause = absurd part
+
+-- a stop for the output, where the status says so
+pub failed_stop : (words : List (List ℕ)) (left rest : Option (List ℕ)) (nothing_done failed : Type 0) (s : Stop) (status : ℕ)
+    → Stopped words left rest nothing_done failed s → (status ≡ status_of s) ⊎ (status ≡ 6) → status ≡ 3 → (last_line s ≡ None) × failed
+failed_stop words left rest nothing_done failed stop.Output status stopped known three = (refl, stopped)
+failed_stop words left rest nothing_done failed stop.Words status stopped known three = absurd (omega (arith, known, three))
+failed_stop words left rest nothing_done failed (stop.Line number) status stopped known three = absurd (omega (arith, known, three))
+failed_stop words left rest nothing_done failed stop.Input status stopped known three = absurd (omega (arith, known, three))
+failed_stop words left rest nothing_done failed stop.Memory status stopped known three = absurd (omega (arith, known, three))
+
+-- a count that rose, and didn't fall since
+pub rose_since : (old new since : ℕ) → Rose old new → new ≤ since → Rose old since
+rose_since old new since (inl rose) still = inl (omega arith)
+rose_since old new since (inr most) still = inr (omega arith)
+
+-- behind a stop nothing more is written, but for its last line
+pub wrote_still : {K : Type 0} (said : Said) (held grown shown : Option (List ℕ)) (output middle last : K) (seen : K → Option (List ℕ)) (books : List (ℕ × History)) (of_wire of_output more : Type 0)
+    → last ≡ middle → (of_output → more) → WroteFront said held grown output middle shown (seen middle) books of_wire of_output → WroteFront said held grown output last shown (seen last) books of_wire more
+wrote_still said held grown shown output middle last seen books of_wire of_output more same rises (inl (failed, part, none, untouched)) = inl (failed, part, none, same ∙ untouched)
+wrote_still {K = K} said held grown shown output middle last seen books of_wire of_output more same rises (inr (failed, (outcomes, ran, front))) =
+    inr (rises failed, (outcomes, ran, subst (λ (k : K). AppendsFront shown (seen k) (report_of outcomes (journals_in books))) (sym same) front))
+
+-- ---- a run that comes to its end
+-- what two options that are one hold
+some_is : {A : Type 0} {a b : A} → Some a ≡ Some b → a ≡ b
+some_is is = cc
+
+-- A text that was read of a script has no first bad line.
+bad_text : (left rest : Option (List ℕ)) (text whole : List ℕ) (said : Said) (number : ℕ) → left ≡ Some whole → HasRead left rest text → IsFirstBad text number → IsScript whole said → ⊥
+bad_text None rest text whole said number is read bad script = absurd (cc)
+bad_text (Some xs) None text whole said number is (consumed, at_end) bad script = absurd consumed
+bad_text (Some xs) (Some ys) text whole said number is (consumed, at_end) bad script =
+    let same : xs ≡ whole = some_is is in
+    let parts : whole ≡ text ++ ys = sym same ∙ consumed in
+    elim (cases_lt 65536 (length text)) [
+      | inl long ↦ never_both (text ++ ys) said number (subst (λ (t : List ℕ). IsScript t said) parts script) (cut_bad text ys number long bad)
+      | inr short ↦ never_both text said number (subst (λ (t : List ℕ). IsScript t said) (parts ∙ ap (λ (l : List ℕ). text ++ l) (at_end short) ∙ append-nil text) script) bad
+    ]
+
+pub bad_input : (words : List (List ℕ)) (left rest : Option (List ℕ)) (text : List ℕ) (number : ℕ) → HasRead left rest text → IsFirstBad text number → ¬ (IsGoodRun words left)
+bad_input words left rest text number read bad (both, (whole, said, is, script)) = bad_text left rest text whole said number is read bad script
+
+-- a script that could not be read, in words of the run
+pub unread_script : (words : List (List ℕ)) (left rest : Option (List ℕ)) (text : List ℕ) (no : ScriptNo) (of_input of_output : Type 0) → HasRead left rest text → IsBadLine (IsFirstBad text) no
+    → Caused (stop_of_script no) (¬ (IsGoodRun words left)) of_input of_output
+unread_script words left rest text (script_no.BadLine number) of_input of_output read bad = bad_input words left rest text number read bad
+unread_script words left rest text script_no.Memory of_input of_output read bad = tt
+
+-- what holds of the one error that a result may be
+pub err_is : {T E : Type 0} (r : Result T E) (e : E) (P : E → Type 0) → IsErrAnd r (λ s. s ≡ e) → P e → IfErr r P
+err_is (Ok x) e P is p = absurd is
+err_is (Err s) e P is p = subst P (sym is) p

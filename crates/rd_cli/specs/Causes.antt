@@ -1,15 +1,19 @@
--- Why a run ends before its report, and what it has done by then.
-use Rattle.std.specs.Prelude.{◌≡◌, ℕ, ◌≤◌, ◌⊎◌, List, [], ◌∷◌, ◌++◌, length, take, Option, Some, None, codes, decimal, unwrap_or}
+-- What ends a run early, and what it has done by then.
+use Rattle.std.specs.Prelude.{◌≡◌, ℕ, ◌≤◌, ◌⊎◌, List, [], ◌∷◌, ◌++◌, length, Option, Some, None, codes, decimal, unwrap_or}
 use Rattle.std.specs.Io.KnownBytes.{Appends, Consumes, IsAtEnd}
+use Rattle.rd_base.specs.Fronts.{AppendsFront}
 use Rattle.rd_base.specs.History.{History}
+use Rattle.rd_drive.specs.DriveState.{opening}
 use Rattle.rd_script.specs.declared.script_no.ScriptNo.{ScriptNo}
 use Rattle.rd_script.specs.declared.script_no.ScriptNo.TheVariants as script_no
+use Rattle.rd_script.specs.declared.outcome.Outcome.{Outcome}
+use Rattle.rd_script.specs.Grammar.{IsFirstBad, IsScript, Said, most_bytes}
+use Rattle.rd_script.specs.Report.{journals_in, report_of}
 use Rattle.rd_session.specs.declared.run_no.RunNo.{RunNo}
 use Rattle.rd_session.specs.declared.run_no.RunNo.TheVariants as no
-use Rattle.rd_script.specs.declared.outcome.Outcome.{Outcome}
-use Rattle.rd_script.specs.Grammar.{IsFirstBad, IsScript, Said}
-use Rattle.rd_cli.specs.Headline.{PartOfScript, RanScript}
-use Rattle.rd_script.specs.Report.{journals_in, report_of}
+use Rattle.rd_session.specs.Recording.{begins, recording_of}
+use Rattle.rd_session.specs.Early.{EndedEarly}
+use Rattle.rd_cli.specs.Headline.{RanScript}
 use Rattle.rd_cli.specs.declared.stop.Stop.{Stop}
 use Rattle.rd_cli.specs.declared.stop.Stop.TheVariants as stop
 
@@ -22,7 +26,7 @@ Caused stop.Input of_text of_input of_output = of_input
 Caused stop.Output of_text of_input of_output = of_output
 Caused stop.Memory of_text of_input of_output = Unit {0}
 
--- The stop is for the output or the recording, and this holds, or for want of memory.
+-- The stop is for the output or the recording, and this holds, or it is for want of memory.
 abbrev pub IsOutputStop : Stop → Type 0 → Type 0
 IsOutputStop stop.Output P = P
 IsOutputStop stop.Memory P = Unit {0}
@@ -58,11 +62,11 @@ AreBoth words = words ≡ codes "both" ∷ []
 
 -- Of the input this text was read. It is all of it, unless it is longer than a script may be.
 abbrev pub HasRead : (left rest : Option (List ℕ)) → List ℕ → Type 0
-HasRead left rest text = Consumes left rest text × (length text ≤ 65536 → IsAtEnd rest)
+HasRead left rest text = Consumes left rest text × (length text ≤ most_bytes → IsAtEnd rest)
 
--- Nothing was recorded, and no journal stored.
-abbrev pub IsUnrun : (held grown : Option (List ℕ)) → List (ℕ × History) → Type 0
-IsUnrun held grown books = (grown ≡ held) × (books ≡ [])
+-- Nothing ran: the recording wasn't touched, and no journal was stored.
+abbrev pub IsUnrun : {R : Type 0} → (wire recorded : R) → List (ℕ × History) → Type 0
+IsUnrun wire recorded books = (recorded ≡ wire) × (books ≡ [])
 
 -- The words are no command, or they are and this line of the text is the first outside the grammar.
 abbrev pub IsRefusal : List (List ℕ) → (left rest : Option (List ℕ)) → Stop → Type 0
@@ -70,28 +74,42 @@ IsRefusal words left rest stop.Words = ¬ (AreBoth words)
 IsRefusal words left rest (stop.Line number) = AreBoth words × ((text : List ℕ) × HasRead left rest text × IsFirstBad text number)
 IsRefusal words left rest _ = ⊥
 
--- a front of these bytes was written, and all of them unless that failed
-abbrev pub Says : List ℕ → (shown printed : Option (List ℕ)) → Type 0 → Type 0
-Says text shown printed failed = (n : ℕ) × Appends shown printed (take n text) × (failed ⊎ (length text ≤ n))
+-- a front of these bytes was printed, and all of them unless the write failed
+abbrev pub Prints : List ℕ → (shown printed : Option (List ℕ)) → Type 0 → Type 0
+Prints text shown printed failed = AppendsFront shown printed text × (failed ⊎ Appends shown printed text)
 
--- A run was refused: before anything ran the output says why.
-abbrev pub Refused : List (List ℕ) → (left rest held grown shown printed : Option (List ℕ)) → List (ℕ × History) → Type 0 → Type 0
-Refused words left rest held grown shown printed books failed = (s : Stop) × IsRefusal words left rest s × Says (unwrap_or (last_line s) []) shown printed failed × IsUnrun held grown books
+-- A run was refused, and the output says why.
+abbrev pub Refused : List (List ℕ) → (left rest shown printed : Option (List ℕ)) → Type 0 → Type 0
+Refused words left rest shown printed failed = (s : Stop) × IsRefusal words left rest s × Prints (unwrap_or (last_line s) []) shown printed failed
 
--- What a run that failed to write has written of its recording and its report: a front of what would have been, the recording first.
-abbrev pub WroteFront : Said → (held grown shown printed : Option (List ℕ)) → Type 0
-WroteFront said held grown shown printed =
-    (PartOfScript said held grown × (printed ≡ shown))
-    ⊎ ((outcomes : List Outcome) × (books : List (ℕ × History)) × (n : ℕ) × RanScript said outcomes held grown books × Appends shown printed (take n (report_of outcomes (journals_in books))))
+-- What is recorded of a script whose recording failed: a front of the recording's opening, or that and what its session left when it
+-- ended early.
+abbrev pub PartOfScript : Said → (held grown : Option (List ℕ)) → Type 0
+PartOfScript said held grown =
+    AppendsFront held grown (recording_of (begins ∷ []))
+    ⊎ ((middle : Option (List ℕ)) × Appends held middle (recording_of (begins ∷ [])) × EndedEarly (opening (unwrap_or said.label []) said.files) said.asks middle grown)
 
--- A write of a run failed: its script was read and is one.
-abbrev pub FailedToWrite : List (List ℕ) → (left rest held grown shown printed : Option (List ℕ)) → Type 0
-FailedToWrite words left rest held grown shown printed =
-    AreBoth words × ((text : List ℕ) × (said : Said) × Consumes left rest text × IsAtEnd rest × IsScript text said × WroteFront said held grown shown printed)
+-- What is recorded and printed of a script of which a write failed. Either the recording failed: a part of it stands, no journal was
+-- stored, and the output wasn't touched. Or the output failed: the script ran, its recording is whole and its journal stored, and a front
+-- of its report stands.
+abbrev pub WroteFront : {K : Type 0} → Said → (held grown : Option (List ℕ)) → (output output_then : K) → (shown printed : Option (List ℕ)) → List (ℕ × History) → (of_wire of_output : Type 0) → Type 0
+WroteFront said held grown output output_then shown printed books of_wire of_output =
+    (of_wire × PartOfScript said held grown × (books ≡ []) × (output_then ≡ output))
+    ⊎ (of_output × ((outcomes : List Outcome) × RanScript said outcomes held grown books × AppendsFront shown printed (report_of outcomes (journals_in books))))
 
--- what has happened by the time of a stop, before its last line
-abbrev pub Stopped : List (List ℕ) → (left rest held grown shown printed : Option (List ℕ)) → List (ℕ × History) → Stop → Type 0
-Stopped words left rest held grown shown printed books stop.Input = IsUnrun held grown books × (printed ≡ shown)
-Stopped words left rest held grown shown printed books stop.Output = FailedToWrite words left rest held grown shown printed
-Stopped words left rest held grown shown printed books stop.Memory = Unit {0}
-Stopped words left rest held grown shown printed books s = IsRefusal words left rest s × IsUnrun held grown books × (printed ≡ shown)
+-- A write failed: the words are the command, the input was read to its end, and it is a script of which this was written.
+abbrev pub FailedToWrite : List (List ℕ) → (left rest : Option (List ℕ)) → (Said → Type 0) → Type 0
+FailedToWrite words left rest wrote =
+    AreBoth words × ((text : List ℕ) × (said : Said) × Consumes left rest text × IsAtEnd rest × IsScript text said × wrote said)
+
+-- What has happened by the time of a stop, before its last line. Of a stop for the input or for a refusal nothing was done, and of one
+-- for the output or the recording this.
+abbrev pub Stopped : List (List ℕ) → (left rest : Option (List ℕ)) → (nothing_done failed : Type 0) → Stop → Type 0
+Stopped words left rest nothing_done failed stop.Input = nothing_done
+Stopped words left rest nothing_done failed stop.Output = failed
+Stopped words left rest nothing_done failed stop.Memory = Unit {0}
+Stopped words left rest nothing_done failed s = IsRefusal words left rest s × nothing_done
+
+-- The words are the command, and the input, where that can be told, is a script.
+abbrev pub IsGoodRun : List (List ℕ) → Option (List ℕ) → Type 0
+IsGoodRun words left = AreBoth words × ((text : List ℕ) × (said : Said) × (left ≡ Some text) × IsScript text said)

@@ -1,13 +1,12 @@
 -- What holds of a run of `both` that ended with status 0: how its script, its recording, its journal and its report belong
 -- together.
-use Rattle.std.specs.Prelude.{◌≡◌, ℕ, ◌⊎◌, List, [], ◌∷◌, take, unwrap_or, Option, MatchOption}
+use Rattle.std.specs.Prelude.{◌≡◌, ℕ, List, [], ◌∷◌, unwrap_or, Option, MatchOption}
 use Rattle.std.specs.Io.KnownBytes.{Appends, Consumes, IsAtEnd}
 use Rattle.rd_base.specs.History.{History}
 use Rattle.rd_base.specs.declared.journal.Item.{Item}
 use Rattle.rd_drive.specs.DriveState.{opening}
 use Rattle.rd_script.specs.declared.outcome.Outcome.{Outcome}
 use Rattle.rd_session.specs.Recording.{Entry, begins, recording_of}
-use Rattle.rd_session.specs.Early.{EndedEarly}
 use Rattle.rd_session.specs.Session.{IsSession}
 use Rattle.rd_script.specs.Grammar.{Said, IsScript}
 use Rattle.rd_script.specs.Report.{journals_in, report_of}
@@ -19,7 +18,7 @@ pub record IsScriptRun (said : Said) (outcomes : List Outcome) (recording : List
   pub recorded : List Entry
   pub session : IsSession (opening (unwrap_or said.label []) said.files) said.asks outcomes journal recorded
   pub wire : recording ≡ recording_of (begins ∷ recorded)
-  pub journals : MatchOption said.label (books ≡ []) (λ label. books ≡ (1, journal) ∷ [])
+  pub journals : MatchOption said.label (books ≡ []) (λ _. books ≡ (1, journal) ∷ [])
 
 -- A run: the text is a script, which ran, and the printed text is the report.
 pub record IsRun (text recording printed : List ℕ) (books : List (ℕ × List Item)) : Type 0 where
@@ -39,9 +38,3 @@ abbrev pub RanToEnd : (left rest held grown shown printed : Option (List ℕ)) �
 RanToEnd left rest held grown shown printed books =
     (text : List ℕ) × (recording : List ℕ) × (report : List ℕ) × Consumes left rest text × IsAtEnd rest × Appends held grown recording × Appends shown printed report ×
     IsRun text recording report (journals_in books)
-
--- A script whose recording ended early: a front of the recording's opening, or that and what its session left when it ended early.
-abbrev pub PartOfScript : Said → (held grown : Option (List ℕ)) → Type 0
-PartOfScript said held grown =
-    ((n : ℕ) × Appends held grown (take n (recording_of (begins ∷ []))))
-    ⊎ ((middle : Option (List ℕ)) × Appends held middle (recording_of (begins ∷ [])) × EndedEarly (opening (unwrap_or said.label []) said.files) said.asks middle grown)

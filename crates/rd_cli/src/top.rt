@@ -2,9 +2,9 @@
 
 ghost use Rattle.std.specs.Prelude.{◌≡◌, ◌≤◌, ⊤, ◌⊎◌, ◌↔◌, [], None, codes, IsTrue, map, option_map, string_bytes, unwrap_or, IfErr, IfOk, OnOk, IsErrOf};
 ghost use Rattle.rd_base.specs.Faults.{Rose};
-ghost use Rattle.rd_cli.specs.Causes.{AreBoth, Caused, FailedToWrite, IsOutputStop, IsUnrun, Refused, Says, Stopped, last_line, status_of};
+ghost use Rattle.rd_cli.specs.Causes.{AreBoth, Caused, FailedToWrite, IsGoodRun, IsOutputStop, IsUnrun, PartOfScript, Prints, Refused, Stopped, WroteFront, last_line, status_of};
 ghost use Rattle.rd_script.specs.Grammar.{Said};
-ghost use Rattle.rd_cli.specs.Headline.{PartOfScript, RanScript, RanToEnd};
+ghost use Rattle.rd_cli.specs.Headline.{RanScript, RanToEnd};
 ghost use Rattle.rd_script.specs.ReadScript.{HoldsSaid};
 
 use crate::input::read_all;
@@ -47,13 +47,16 @@ pub fn run<S: Source, K: Sink, R: Sink>(
     ensures counted { (S.faults input.old ≤ S.faults input.new) × (K.faults output.old ≤ K.faults output.new) × (R.faults wire.old ≤ R.faults wire.new) }
 
     // A run that ended early: what it has done by then.
-    ensures refused { result ≡ 1 → Refused (map string_bytes words.now) (S.left input.old) (S.left input.new) (R.held wire.old) (R.held wire.new)
-        (K.held output.old) (K.held output.new) books.new (Rose (K.faults output.old) (K.faults output.new)) }
-    ensures unread { result ≡ 2 → IsUnrun (R.held wire.old) (R.held wire.new) books.new × (K.held output.new ≡ K.held output.old) }
-    ensures unwritten { result ≡ 3 → FailedToWrite (map string_bytes words.now) (S.left input.old) (S.left input.new) (R.held wire.old) (R.held wire.new)
-        (K.held output.old) (K.held output.new) }
+    ensures refused { result ≡ 1 → Refused (map string_bytes words.now) (S.left input.old) (S.left input.new)
+        (K.held output.old) (K.held output.new) (Rose (K.faults output.old) (K.faults output.new)) × IsUnrun wire.old wire.new books.new }
+    ensures unread { result ≡ 2 → IsUnrun wire.old wire.new books.new × (output.new ≡ output.old) }
+    ensures unwritten { result ≡ 3 → FailedToWrite (map string_bytes words.now) (S.left input.old) (S.left input.new) (λ said.
+        WroteFront said (R.held wire.old) (R.held wire.new) output.old output.new (K.held output.old) (K.held output.new) books.new
+        (Rose (R.faults wire.old) (R.faults wire.new)) (Rose (K.faults output.old) (K.faults output.new))) }
 
-    // A run to its end.
+    // A run to its end. It comes to it, unless something failed or memory ran out.
+    ensures complete { IsGoodRun (map string_bytes words.now) (S.left input.old) → (result ≡ 0) ⊎ ((result ≡ 6) ⊎
+        (Rose (S.faults input.old) (S.faults input.new) ⊎ (Rose (K.faults output.old) (K.faults output.new) ⊎ Rose (R.faults wire.old) (R.faults wire.new)))) }
     ensures ran { result ≡ 0 → RanToEnd (S.left input.old) (S.left input.new) (R.held wire.old) (R.held wire.new) (K.held output.old) (K.held output.new) books.new }
 {
     match both(alloc, words, input, output, wire, books) {
@@ -72,9 +75,12 @@ fn both<S: Source, K: Sink, R: Sink>(
 ) -> Result<(), Stop>
     requires { books.old ≡ [] }
     ensures words { ¬ (AreBoth (map string_bytes words.now)) → IsErrOf result Stop.Words }
-    ensures stopped { IfErr result (Stopped (map string_bytes words.now) (S.left input.old) (S.left input.new) (R.held wire.old) (R.held wire.new)
-        (K.held output.old) (K.held output.new) books.new) }
-    ensures cause { IfErr result (λ stop. Caused stop ⊤ (Rose (S.faults input.old) (S.faults input.new))
+    ensures stopped { IfErr result (Stopped (map string_bytes words.now) (S.left input.old) (S.left input.new)
+        (IsUnrun wire.old wire.new books.new × (output.new ≡ output.old))
+        (FailedToWrite (map string_bytes words.now) (S.left input.old) (S.left input.new) (λ said.
+        WroteFront said (R.held wire.old) (R.held wire.new) output.old output.new (K.held output.old) (K.held output.new) books.new
+        (Rose (R.faults wire.old) (R.faults wire.new)) (Rose (K.faults output.old) (K.faults output.new))))) }
+    ensures cause { IfErr result (λ stop. Caused stop (¬ (IsGoodRun (map string_bytes words.now) (S.left input.old))) (Rose (S.faults input.old) (S.faults input.new))
         (Rose (K.faults output.old) (K.faults output.new) ⊎ Rose (R.faults wire.old) (R.faults wire.new))) }
     ensures counted { (S.faults input.old ≤ S.faults input.new) × (K.faults output.old ≤ K.faults output.new) × (R.faults wire.old ≤ R.faults wire.new) }
     ensures ran { OnOk result (RanToEnd (S.left input.old) (S.left input.new) (R.held wire.old) (R.held wire.new) (K.held output.old) (K.held output.new) books.new) }
@@ -103,7 +109,7 @@ fn run_script<R: Sink>(
     ensures counted { R.faults wire.old ≤ R.faults wire.new }
     ensures cause { IfErr result (λ stop. Caused stop ⊥ ⊥ (Rose (R.faults wire.old) (R.faults wire.new))) }
     ensures early { IfErr result (λ stop. (said : Said) → HoldsSaid said script →
-        IsOutputStop stop (PartOfScript said (R.held wire.old) (R.held wire.new))) }
+        IsOutputStop stop (PartOfScript said (R.held wire.old) (R.held wire.new) × (books.new ≡ []))) }
     ensures ran { IfOk result (λ outcomes. (said : Said) → HoldsSaid said script →
         RanScript said outcomes.items (R.held wire.old) (R.held wire.new) books.new) }
 {
@@ -137,7 +143,7 @@ fn is_both(word: &String) -> bool
 /// Says what ended the run, where that has a line, and answers the status. A failure to say it changes nothing.
 fn end<K: Sink>(alloc: Global, output: &mut K, stop: Stop) -> u8
     ensures status { (result ≡ status_of stop) ⊎ (result ≡ 6) }
-    ensures said { result ≡ 1 → Says (unwrap_or (last_line stop) []) (K.held output.old) (K.held output.new) (Rose (K.faults output.old) (K.faults output.new)) }
+    ensures said { result ≡ 1 → Prints (unwrap_or (last_line stop) []) (K.held output.old) (K.held output.new) (Rose (K.faults output.old) (K.faults output.new)) }
     ensures kept { last_line stop ≡ None → output.new ≡ output.old }
     ensures counted { K.faults output.old ≤ K.faults output.new }
 {

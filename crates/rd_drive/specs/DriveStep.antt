@@ -44,11 +44,23 @@ checked s (check ∷ checks) outcome = if check.0 then refused s check.1 else ch
 abbrev pub on_handle : DriveState → ℕ → (Handle → DriveState × Reply) → DriveState × Reply
 on_handle s file outcome = option_map_or outcome (handle_at s file) (refused s invalid_handle)
 
--- Create (MS-RDPEFS 2.2.1.4.1). This form of the drive serves it where it asks to read (GENERIC_READ), shares all, opens what
--- is there (FILE_OPEN) without options, and names a plain path.
+-- GENERIC_READ, the DesiredAccess of a Create that only reads
+abbrev pub generic_read : ℕ
+generic_read = 0x8000_0000
+
+-- the SharedAccess that lets everybody read, write and delete
+abbrev pub share_all : ℕ
+share_all = 7
+
+-- FILE_OPEN, the CreateDisposition that opens what is there and makes nothing
+abbrev pub open_existing : ℕ
+open_existing = 1
+
+-- Create (MS-RDPEFS 2.2.1.4.1). This form of the drive serves it where it asks to read, shares all, opens what is there without
+-- options, and names a plain path.
 abbrev pub is_served : ℕ → ℕ → ℕ → ℕ → Path → Bool
 is_served access share disposition options path =
-    access == 0x8000_0000 && share == 7 && disposition == 1 && options == 0 && is_plain_path path
+    access == generic_read && share == share_all && disposition == open_existing && options == 0 && is_plain_path path
 
 -- no further handle can be made: there are too many, or no file id is left
 abbrev pub is_full : DriveState → Bool

@@ -9,12 +9,12 @@ use Rattle.rd_irp.specs.declared.completion.Kind.{Kind}
 use Rattle.rd_irp.specs.declared.completion.Kind.TheVariants as kind
 use Rattle.rd_irp.specs.declared.completion.Body.{Body}
 use Rattle.rd_irp.specs.declared.completion.Body.TheVariants.{Created, Closed, Count, Buffer, Locked, Fault}
-use Rattle.rd_irp.specs.Header.{header}
+use Rattle.rd_irp.specs.Header.{header, io_completion}
 
 -- DR_DEVICE_IOCOMPLETION, the first 16 bytes of every completion
 unfoldable pub completion_head : Layout Head
 completion_head = do
-  header 0x4943
+  header io_completion
   device ← number32
   completion ← number32
   status ← number32

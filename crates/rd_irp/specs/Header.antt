@@ -12,6 +12,14 @@ core = 0x4472
 abbrev pub printing : ℕ
 printing = 0x5052
 
+-- DR_DEVICE_IOREQUEST, the PacketId of a request (2.2.1.4)
+abbrev pub io_request : ℕ
+io_request = 0x4952
+
+-- DR_DEVICE_IOCOMPLETION, the PacketId of a completion (2.2.1.5)
+abbrev pub io_completion : ℕ
+io_completion = 0x4943
+
 -- A header whose Component is known and whose PacketId is this packet of the core component.
 unfoldable pub header : ℕ → Layout (Unit {0})
 header packet = do

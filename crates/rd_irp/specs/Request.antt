@@ -7,13 +7,13 @@ use Rattle.rd_irp.specs.declared.op.Op.{Op}
 use Rattle.rd_irp.specs.declared.op.Op.TheVariants.{Malformed}
 use Rattle.rd_irp.specs.declared.request.Request.{Request}
 use Rattle.rd_irp.specs.declared.request.RequestHead.{RequestHead}
-use Rattle.rd_irp.specs.Header.{header}
+use Rattle.rd_irp.specs.Header.{header, io_request}
 use Rattle.rd_irp.specs.Op.{op_body}
 
 -- DR_DEVICE_IOREQUEST, the first 24 bytes of every request
 unfoldable pub request_head : Layout RequestHead
 request_head = do
-  header 0x4952
+  header io_request
   device ← number32
   file ← number32
   completion ← number32

@@ -10,7 +10,7 @@ use Rattle.rd_irp.specs.declared.completion.Kind.{Kind}
 use Rattle.rd_irp.specs.declared.completion.Body.{Body}
 use Rattle.rd_irp.specs.declared.completion.Body.TheVariants as body
 use Rattle.rd_irp.specs.Fits.{fault_length}
-use Rattle.rd_irp.specs.Header.{core}
+use Rattle.rd_irp.specs.Header.{core, io_request, io_completion}
 
 -- the header of a packet of the core component
 abbrev pub header_bytes : ℕ → List ℕ
@@ -37,7 +37,7 @@ op_bytes (Malformed major minor bad) = []
 -- the head of a request; its MinorFunction is 0
 abbrev pub request_head_bytes : Request → List ℕ
 request_head_bytes r =
-    header_bytes 0x4952 ++ to_le_bytes w32 r.device ++ to_le_bytes w32 r.file ++ to_le_bytes w32 r.completion
+    header_bytes io_request ++ to_le_bytes w32 r.device ++ to_le_bytes w32 r.file ++ to_le_bytes w32 r.completion
     ++ to_le_bytes w32 (major_of r.op) ++ to_le_bytes w32 0
 
 -- a request whose operation fits
@@ -46,7 +46,7 @@ request_bytes r = request_head_bytes r ++ op_bytes r.op
 
 -- the head of a completion
 abbrev pub head_bytes : Head → List ℕ
-head_bytes head = header_bytes 0x4943 ++ to_le_bytes w32 head.device ++ to_le_bytes w32 head.completion ++ to_le_bytes w32 (head.status).0
+head_bytes head = header_bytes io_completion ++ to_le_bytes w32 head.device ++ to_le_bytes w32 head.completion ++ to_le_bytes w32 (head.status).0
 
 -- the body of a completion; that of a fault is as long as the kind's fields without the buffer
 abbrev pub body_bytes : Kind → Body → List ℕ

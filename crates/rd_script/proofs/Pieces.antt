@@ -1,7 +1,7 @@
 -- The lines of a text, as the reader comes by them.
 use Rattle.std.proofs.Common.{◌≡◌, refl, sym, ap, ◌∙◌, subst, ℕ, suc, ◌+◌, ◌-◌, ◌<◌, ◌≤◌, ◌≢◌, ◌⊎◌, inl, inr, arith, List, [], ◌∷◌, ◌++◌, Bool, true, false, length, get_or, take, drop, Option, Some, None, append-nil, eq-eqb, Result, Ok, Err, ◌^◌}
 use Rattle.std.specs.Prelude.{All, not, min, ◌==◌}
-use Rattle.std.specs.List.{concat, prefix_len}
+use Rattle.std.specs.List.{concat, prefix_len, onto_first}
 use Rattle.std.proofs.lemmas.Bool.Decides.{nat_tests}
 use Rattle.std.proofs.Math.Seq.{take-append_seam, drop-append_seam, drop-length}
 use Rattle.std.proofs.lemmas.Bool.{cases_lt, eqb-true}
@@ -25,7 +25,7 @@ use Rattle.std.proofs.lemmas.Iterator.Splits.{YieldsList-from_shown_while}
 use Rattle.rd_script.specs.declared.script.Script.{Script}
 use Rattle.rd_script.specs.declared.grammar.Line.{Line}
 use Rattle.rd_script.specs.declared.grammar.Line.TheVariants as line
-use Rattle.rd_script.specs.Grammar.{Said, nothing_said, Say, Adds, with_line, lines_of, text_of, onto_first, IsWithinLimits, IsScript, IsFirstBad}
+use Rattle.rd_script.specs.Grammar.{Said, nothing_said, Say, Adds, with_line, lines_of, text_of, IsWithinLimits, IsScript, IsFirstBad}
 use Rattle.rd_script.specs.ReadScript.{HoldsSaid, Reads}
 
 -- no line feed

@@ -1,14 +1,14 @@
 -- A text is read in one way.
 use Rattle.std.proofs.Common.{◌≡◌, refl, sym, ap, ◌∙◌, subst, ℕ, ◌+◌, ◌<◌, ◌⊎◌, inl, inr, arith, List, [], ◌∷◌, ◌++◌, Bool, true, false, length, get_or, append-nil, lit<}
 use Rattle.std.specs.Prelude.{All, codes, decimal, ◌==◌, if◌then◌else◌}
-use Rattle.std.specs.List.{concat, join_with_byte, slice_split}
+use Rattle.std.specs.List.{concat, join_with_byte, slice_split, onto_first}
 use Rattle.std.proofs.lemmas.List.{length-append}
 use Rattle.std.proofs.lemmas.List.Folds.{concat-append}
 use Rattle.rd_irp.specs.declared.op.Op.{Op}
 use Rattle.rd_irp.specs.declared.op.Op.TheVariants as op
 use Rattle.rd_script.specs.declared.grammar.Line.{Line}
 use Rattle.rd_script.specs.declared.grammar.Line.TheVariants as line
-use Rattle.rd_script.specs.Grammar.{Adds, AreWordsOf, IsAskOf, IsFirstBad, IsScript, IsSkipped, IsTextOf, IsWithinLimits, Said, Say, hex_word, lines_of, nothing_said, onto_first, text_of, with_line}
+use Rattle.rd_script.specs.Grammar.{Adds, AreWordsOf, IsAskOf, IsFirstBad, IsScript, IsSkipped, IsTextOf, IsWithinLimits, Said, Say, hex_word, lines_of, nothing_said, text_of, with_line}
 use Rattle.rd_script.proofs.Words.{dash_word, lower_word}
 use Rattle.rd_script.proofs.Lines.{close_words, open_words, read_words_at, text_words}
 use Rattle.rd_script.proofs.Texts.{concat-lines}

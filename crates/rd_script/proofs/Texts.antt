@@ -1,8 +1,8 @@
 -- The lines of a text are the text.
 use Rattle.std.proofs.Common.{◌≡◌, ◌≤◌, ℕ, List, [], ◌∷◌, length, Bool, true, false, refl, ap, ◌∙◌, arith}
 use Rattle.std.specs.Prelude.{◌==◌, if◌then◌else◌}
-use Rattle.std.specs.List.{concat}
-use Rattle.rd_script.specs.Grammar.{IsScript, Said, lines_of, onto_first}
+use Rattle.std.specs.List.{concat, onto_first}
+use Rattle.rd_script.specs.Grammar.{IsScript, Said, lines_of}
 
 concat-onto_first : (byte : ℕ) (pieces : List (List ℕ)) → concat (onto_first byte pieces) ≡ byte ∷ concat pieces
 concat-onto_first byte [] = refl

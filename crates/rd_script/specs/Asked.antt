@@ -5,7 +5,7 @@ use Rattle.rd_irp.specs.declared.op.Op.{Op}
 use Rattle.rd_irp.specs.declared.completion.Kind.{Kind}
 use Rattle.rd_irp.specs.declared.completion.Body.{Body}
 
--- the name of its handle, as ASCII bytes, and the operation
+-- what a line asks for: the name of its handle, as ASCII bytes, and the operation
 pub record Asked : Type 0 where
   pub handle : List ℕ
   pub op : Op

@@ -1,10 +1,11 @@
 -- The scripts of the first path: which text spells which lines, and which line is the first outside the grammar.
 use Rattle.std.specs.Prelude.{◌≡◌, ℕ, ◌+◌, ◌<◌, ◌≤◌, ◌^◌, ◌⊎◌, ◌==◌, not, if◌then◌else◌, List, [], ◌∷◌, ◌++◌, length, codes, decimal, Option, Some, None, IsSome, All, take_while}
-use Rattle.std.specs.List.{concat, join_with_byte}
+use Rattle.std.specs.List.{concat, join_with_byte, onto_first}
 use Rattle.hex.specs.Hex.{encode_lower}
 use Rattle.rd_irp.specs.declared.op.Op.{Op}
 use Rattle.rd_irp.specs.declared.op.Op.TheVariants as op
 use Rattle.rd_drive.specs.PlainPath.{IsPlainPath}
+use Rattle.rd_drive.specs.DriveStep.{generic_read, share_all, open_existing}
 use Rattle.rd_script.specs.Asked.{Asked}
 use Rattle.rd_script.specs.declared.grammar.Line.{Line}
 use Rattle.rd_script.specs.declared.grammar.Line.TheVariants as line
@@ -23,10 +24,10 @@ hex_word [] = codes "-"
 hex_word (byte ∷ bytes) = encode_lower (byte ∷ bytes)
 
 -- what an application's line says behind its number: `open H 1 PATH` opens what is there for reading, shared by all;
--- `read H OFFSET LENGTH` and `close H` are what they are called
+-- `read H OFFSET LENGTH` reads, and `close H` closes
 abbrev pub IsAskOf : Op → List ℕ → List (List ℕ) → Type 0
 IsAskOf (op.Create access allocation attributes share disposition options path) handle words =
-    (words ≡ codes "open" ∷ handle ∷ codes "1" ∷ path ∷ []) × IsPlainPath path × (access ≡ 0x8000_0000) × (allocation ≡ 0) × (attributes ≡ 0) × (share ≡ 7) × (disposition ≡ 1) × (options ≡ 0)
+    (words ≡ codes "open" ∷ handle ∷ codes "1" ∷ path ∷ []) × IsPlainPath path × (access ≡ generic_read) × (allocation ≡ 0) × (attributes ≡ 0) × (share ≡ share_all) × (disposition ≡ open_existing) × (options ≡ 0)
 IsAskOf (op.Read offset count) handle words =
     (words ≡ codes "read" ∷ handle ∷ decimal offset ∷ decimal count ∷ []) × (offset < 2 ^ 64) × (count < 2 ^ 32)
 IsAskOf op.Close handle words = words ≡ codes "close" ∷ handle ∷ []
@@ -70,14 +71,9 @@ MayFollow said (line.Drive label) = said.label ≡ None
 MayFollow said (line.File path bytes) = IsSome said.label × (said.asks ≡ []) × All (λ file. ¬ (file.0 ≡ path)) said.files
 MayFollow said (line.Ask asked) = IsSome said.label
 
--- a line's text adds this to what was said
+-- With a line of this text, what was said becomes this; a line that is skipped leaves it.
 abbrev pub Adds : Said → List ℕ → Said → Type 0
 Adds old text new = (IsSkipped text × (new ≡ old)) ⊎ ((l : Line) × IsTextOf l text × MayFollow old l × (new ≡ with_line old l))
-
--- a byte in front of the first of some lines
-abbrev pub onto_first : ℕ → List (List ℕ) → List (List ℕ)
-onto_first byte [] = (byte ∷ []) ∷ []
-onto_first byte (piece ∷ pieces) = (byte ∷ piece) ∷ pieces
 
 -- the lines of a text, each with its line feed, which the last may lack
 abbrev pub lines_of : List ℕ → List (List ℕ)
@@ -93,16 +89,24 @@ abbrev pub Say : Said → List (List ℕ) → Said → Type 0
 Say old [] new = new ≡ old
 Say old (l ∷ ls) new = (middle : Said) × Adds old (text_of l) middle × Say middle ls new
 
--- the limits of a script: 1,000 lines and 65,536 bytes, line feeds counted
+-- the most lines of a script
+abbrev pub most_lines : ℕ
+most_lines = 1000
+
+-- the most bytes of a script, line feeds counted
+abbrev pub most_bytes : ℕ
+most_bytes = 65536
+
+-- lines within the limits of a script
 abbrev pub IsWithinLimits : List (List ℕ) → Type 0
-IsWithinLimits ls = (length ls ≤ 1000) × (length (concat ls) ≤ 65536)
+IsWithinLimits ls = (length ls ≤ most_lines) × (length (concat ls) ≤ most_bytes)
 
 -- the text is a script that says this
 pub record IsScript (text : List ℕ) (said : Said) : Type 0 where
   pub within : IsWithinLimits (lines_of text)
   pub says : Say nothing_said (lines_of text) said
 
--- the first line, counted from 1, that passes a limit, or that adds nothing to what the lines before it said
+-- the first line, counted from 1, that passes a limit, or that may not stand behind what the lines before it said
 pub record IsFirstBad (text : List ℕ) (number : ℕ) : Type 0 where
   pub good : List (List ℕ)
   pub bad : List ℕ

@@ -1,7 +1,7 @@
 -- What the reader of scripts answers.
 use Rattle.std.specs.Prelude.{◌≡◌, ℕ, ◌≤◌, List, length, Bool, MatchBool, Some}
 use Rattle.rd_drive.specs.DriveState.{opening}
-use Rattle.rd_script.specs.Grammar.{Said, nothing_said, Adds, MayFollow, with_line}
+use Rattle.rd_script.specs.Grammar.{Said, nothing_said, Adds, MayFollow, most_lines, with_line}
 use Rattle.rd_script.specs.declared.grammar.Line.{Line}
 use Rattle.rd_script.specs.declared.script.Script.{Script}
 use Rattle.rd_script.specs.declared.script.Script.TheVariants as script
@@ -15,12 +15,12 @@ HoldsSaid said (script.Drive drive asks) = (label : List ℕ) × (said.label ≡
 
 -- A script of a few files answers whether the line may follow what it says, and then says it too.
 abbrev pub Takes : Script → Line → Bool → Script → Type 0
-Takes old l fits new = (said : Said) → HoldsSaid said old → length said.files ≤ 1000 →
+Takes old l fits new = (said : Said) → HoldsSaid said old → length said.files ≤ most_lines →
     MatchBool fits (MayFollow said l × HoldsSaid (with_line said l) new) (¬ (MayFollow said l))
 
 -- A script of a few files answers whether the text adds to what it says, and then says that.
 abbrev pub Reads : Script → List ℕ → Bool → Script → Type 0
-Reads old text fits new = (said : Said) → HoldsSaid said old → length said.files ≤ 1000 →
+Reads old text fits new = (said : Said) → HoldsSaid said old → length said.files ≤ most_lines →
     MatchBool fits ((more : Said) × Adds said text more × HoldsSaid more new) ((more : Said) → ¬ (Adds said text more))
 
 -- It holds of the line that was refused, unless memory ran out.

@@ -16,10 +16,10 @@ use Rattle.rd_session.specs.declared.recording.End.TheVariants.{Host, Client}
 use Rattle.rd_script.specs.declared.outcome.Outcome.{Outcome}
 use Rattle.rd_script.specs.declared.outcome.Outcome.TheVariants as outcome
 use Rattle.rd_script.specs.Asked.{Asked, Answered}
-use Rattle.rd_session.specs.Channel.{Ends, EndsIn, Exchange, Exchanges, Runs, file_named, recorded_in}
+use Rattle.rd_session.specs.Channel.{Ends, EndsIn, Exchange, Exchanges, Runs, recorded_in}
 use Rattle.rd_session.specs.Early.{PartOf, PartOfLine}
-use Rattle.rd_session.specs.Outcomes.{request_to}
-use Rattle.rd_session.specs.Recording.{entry_bytes, frames_of}
+use Rattle.rd_session.specs.Outcomes.{request_to, file_named}
+use Rattle.rd_session.specs.Recording.{entry_bytes, recorded_bytes}
 use Rattle.rd_session.proofs.Joined.{exchange_frames}
 use Rattle.rd_session.specs.Told.{completion_written}
 
@@ -37,41 +37,41 @@ pub part_none : (drive : DriveState) (request : Request) (held : Option (List �
 part_none drive request held = inl (0, Appends-nil held)
 
 -- a front of its frames
-pub part_front : (drive : DriveState) (request : Request) (sent : List ℕ) (held grown : Option (List ℕ)) → sent ≡ request_bytes request → (n : ℕ) × Appends held grown (take n (frames_of Host sent)) → PartOf drive request held grown
+pub part_front : (drive : DriveState) (request : Request) (sent : List ℕ) (held grown : Option (List ℕ)) → sent ≡ request_bytes request → (n : ℕ) × Appends held grown (take n (recorded_bytes Host sent)) → PartOf drive request held grown
 part_front drive request sent held grown is front =
-    inl (subst (λ (message : List ℕ). (n : ℕ) × Appends held grown (take n (frames_of Host message))) is front)
+    inl (subst (λ (message : List ℕ). (n : ℕ) × Appends held grown (take n (recorded_bytes Host message))) is front)
 
 -- all of them
-pub part_request : (drive : DriveState) (request : Request) (sent : List ℕ) (held grown : Option (List ℕ)) → sent ≡ request_bytes request → Appends held grown (frames_of Host sent) → PartOf drive request held grown
+pub part_request : (drive : DriveState) (request : Request) (sent : List ℕ) (held grown : Option (List ℕ)) → sent ≡ request_bytes request → Appends held grown (recorded_bytes Host sent) → PartOf drive request held grown
 part_request drive request sent held grown is written =
-    part_front drive request sent held grown is (length (frames_of Host sent), subst (λ (bytes : List ℕ). Appends held grown bytes) (sym (take-length (frames_of Host sent))) written)
+    part_front drive request sent held grown is (length (recorded_bytes Host sent), subst (λ (bytes : List ℕ). Appends held grown bytes) (sym (take-length (recorded_bytes Host sent))) written)
 
 -- and a front of those of its completion
 pub part_completion : (drive left : DriveState) (request : Request) (reply : Reply) (sent completion : List ℕ) (held middle grown : Option (List ℕ)) → sent ≡ request_bytes request → completion ≡ completion_written request reply
-    → Runs request reply drive left → (request.op ≡ op.Close → IsFalse (is_starved reply)) → Appends held middle (frames_of Host sent) → (n : ℕ) × Appends middle grown (take n (frames_of Client completion)) → PartOf drive request held grown
+    → Runs request reply drive left → (request.op ≡ op.Close → IsFalse (is_starved reply)) → Appends held middle (recorded_bytes Host sent) → (n : ℕ) × Appends middle grown (take n (recorded_bytes Client completion)) → PartOf drive request held grown
 part_completion drive left request reply sent completion held middle grown sent_is completion_is ran fed written (n, front) =
-    let first : Appends held middle (frames_of Host (request_bytes request)) = subst (λ (message : List ℕ). Appends held middle (frames_of Host message)) sent_is written in
-    let second : Appends middle grown (take n (frames_of Client (completion_written request reply))) = subst (λ (message : List ℕ). Appends middle grown (take n (frames_of Client message))) completion_is front in
-    inr (reply, left, n, ran, fed, Appends-trans held middle grown (frames_of Host (request_bytes request)) (take n (frames_of Client (completion_written request reply))) first second)
+    let first : Appends held middle (recorded_bytes Host (request_bytes request)) = subst (λ (message : List ℕ). Appends held middle (recorded_bytes Host message)) sent_is written in
+    let second : Appends middle grown (take n (recorded_bytes Client (completion_written request reply))) = subst (λ (message : List ℕ). Appends middle grown (take n (recorded_bytes Client message))) completion_is front in
+    inr (reply, left, n, ran, fed, Appends-trans held middle grown (recorded_bytes Host (request_bytes request)) (take n (recorded_bytes Client (completion_written request reply))) first second)
 
 -- and all of those
 pub part_whole : (drive left : DriveState) (request : Request) (reply : Reply) (sent completion : List ℕ) (held middle grown : Option (List ℕ)) → sent ≡ request_bytes request → completion ≡ completion_written request reply
-    → Runs request reply drive left → (request.op ≡ op.Close → IsFalse (is_starved reply)) → Appends held middle (frames_of Host sent) → Appends middle grown (frames_of Client completion) → PartOf drive request held grown
+    → Runs request reply drive left → (request.op ≡ op.Close → IsFalse (is_starved reply)) → Appends held middle (recorded_bytes Host sent) → Appends middle grown (recorded_bytes Client completion) → PartOf drive request held grown
 part_whole drive left request reply sent completion held middle grown sent_is completion_is ran fed first second =
     part_completion drive left request reply sent completion held middle grown sent_is completion_is ran fed first
-    (length (frames_of Client completion), subst (λ (bytes : List ℕ). Appends middle grown bytes) (sym (take-length (frames_of Client completion))) second)
+    (length (recorded_bytes Client completion), subst (λ (bytes : List ℕ). Appends middle grown bytes) (sym (take-length (recorded_bytes Client completion))) second)
 
 -- a whole exchange
 pub part_exchange : (request : Request) (answered : Answered) (before after : Ends) → Exchanges request answered before after → PartOf before.drive request before.held after.held
 part_exchange request answered before after exchanged =
     let e : Exchange = exchanged.exchange in
-    let told : List ℕ = frames_of Client e.completion in
+    let told : List ℕ = recorded_bytes Client e.completion in
     let fed : request.op ≡ op.Close → IsFalse (is_starved e.reply) = subst (λ (r : Request). r.op ≡ op.Close → IsFalse (is_starved e.reply)) exchanged.request_is exchanged.sound.close_fed in
     let sent_is : e.sent ≡ request_bytes request = exchanged.sound.sent_bytes ∙ ap request_bytes exchanged.request_is in
     let told_is : e.completion ≡ completion_written request e.reply = exchanged.sound.completion_bytes ∙ ap (λ (r : Request). completion_written r e.reply) exchanged.request_is in
-    let bytes_are : flat_map entry_bytes (recorded_in e) ≡ frames_of Host (request_bytes request) ++ take (length told) (frames_of Client (completion_written request e.reply)) =
-    exchange_frames e ∙ ap (λ (message : List ℕ). frames_of Host message ++ told) sent_is ∙ ap (λ (l : List ℕ). frames_of Host (request_bytes request) ++ l) (sym (take-length told))
-    ∙ ap (λ (message : List ℕ). frames_of Host (request_bytes request) ++ take (length told) (frames_of Client message)) told_is in
+    let bytes_are : flat_map entry_bytes (recorded_in e) ≡ recorded_bytes Host (request_bytes request) ++ take (length told) (recorded_bytes Client (completion_written request e.reply)) =
+    exchange_frames e ∙ ap (λ (message : List ℕ). recorded_bytes Host message ++ told) sent_is ∙ ap (λ (l : List ℕ). recorded_bytes Host (request_bytes request) ++ l) (sym (take-length told))
+    ∙ ap (λ (message : List ℕ). recorded_bytes Host (request_bytes request) ++ take (length told) (recorded_bytes Client message)) told_is in
     inr (e.reply, after.drive, length told, exchanged.ran, fed, subst (λ (bytes : List ℕ). Appends before.held after.held bytes) bytes_are exchanged.recorded)
 
 -- of a line with a file

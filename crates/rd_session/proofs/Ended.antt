@@ -4,8 +4,8 @@ use Rattle.std.specs.Prelude.{◌&&◌, if◌then◌else◌, bytes_eq}
 use Rattle.rd_irp.specs.declared.request.Request.{Request}
 use Rattle.rd_script.specs.declared.outcome.Outcome.TheVariants as outcome
 use Rattle.rd_script.specs.Asked.{Asked, Answered}
-use Rattle.rd_session.specs.Channel.{Ends, Exchanges, EndsIn, file_named}
-use Rattle.rd_session.specs.Outcomes.{opens, given_file, request_to}
+use Rattle.rd_session.specs.Channel.{Ends, Exchanges, EndsIn}
+use Rattle.rd_session.specs.Outcomes.{opens, given_file, request_to, file_named}
 
 -- An exchange doesn't look at the files that names hold.
 with_files : (request : Request) (answered : Answered) (before after : Ends) (files : List ℕ → Option ℕ) → Exchanges request answered before after

@@ -30,7 +30,7 @@ use Rattle.std.specs.Io.KnownBytes.{Appends}
 use Rattle.std.proofs.KnownBytes.{Appends-trans}
 use Rattle.std.proofs.lemmas.Grind.{flat_map-append}
 use Rattle.rd_session.specs.declared.recording.End.TheVariants.{Host, Client}
-use Rattle.rd_session.specs.Recording.{Entry, entry_bytes, entries_of, frames_of}
+use Rattle.rd_session.specs.Recording.{Entry, entry_bytes, entries_of, recorded_bytes}
 use Rattle.rd_session.specs.Channel.{CarriesRequest, CarriesCompletion, Serves, HearsIn, Ends, Exchange, Exchanges, recorded_in}
 use Rattle.rd_session.specs.Session.{key_at}
 use Rattle.rd_chunk.specs.Carrier.{IsMessage}
@@ -137,15 +137,15 @@ reply_heard request reply completion answered kind heard own one_completion hear
     λ i. record { kind = same_kind i; status = same_status i; body = same_body i }
 
 -- The frames of an exchange are those of its request and those of its completion, one behind the other.
-pub exchange_frames : (e : Exchange) → flat_map entry_bytes (recorded_in e) ≡ frames_of Host e.sent ++ frames_of Client e.completion
+pub exchange_frames : (e : Exchange) → flat_map entry_bytes (recorded_in e) ≡ recorded_bytes Host e.sent ++ recorded_bytes Client e.completion
 exchange_frames e =
     let sent : List Entry = entries_of (Host, e.sent) in
     let told : List Entry = entries_of (Client, e.completion) in
     flat_map-append entry_bytes sent (told ++ []) ∙ ap (λ (l : List Entry). flat_map entry_bytes sent ++ flat_map entry_bytes l) (append-nil told)
 
-both_recorded : (old middle new : Option (List ℕ)) (e : Exchange) → Appends old middle (frames_of Host e.sent) → Appends middle new (frames_of Client e.completion) → Appends old new (flat_map entry_bytes (recorded_in e))
+both_recorded : (old middle new : Option (List ℕ)) (e : Exchange) → Appends old middle (recorded_bytes Host e.sent) → Appends middle new (recorded_bytes Client e.completion) → Appends old new (flat_map entry_bytes (recorded_in e))
 both_recorded old middle new e first second =
-    subst (λ (bytes : List ℕ). Appends old new bytes) (sym (exchange_frames e)) (Appends-trans old middle new (frames_of Host e.sent) (frames_of Client e.completion) first second)
+    subst (λ (bytes : List ℕ). Appends old new bytes) (sym (exchange_frames e)) (Appends-trans old middle new (recorded_bytes Host e.sent) (recorded_bytes Client e.completion) first second)
 
 -- a request that fits is within the limit of a message
 request_most : (op : Op) → Fits op → 24 + op_length op ≤ 1052672
@@ -162,7 +162,7 @@ request_is_message op message fits long = (omega (arith, long), omega (arith, lo
 pub exchanged : (request : Request) (kind : Kind) (sent asked completion answered : List ℕ) (before after : Ends) (middle : Option (List ℕ)) (heard : Answered)
     → IsMessage sent → SpellsRequest request 0 sent → sent ≡ request_bytes request → IsMessage completion → Serves request (key_at before.asked) before.drive after.drive before.journal after.journal completion
     → One completion answered → HearsIn kind answered heard → kind ≡ reply_kind request.op → after.asked ≡ before.asked + 1
-    → Appends before.held middle (frames_of Host sent) → Appends middle after.held (frames_of Client completion)
+    → Appends before.held middle (recorded_bytes Host sent) → Appends middle after.held (recorded_bytes Client completion)
     → Exchanges request heard before after
 exchanged request kind sent asked completion answered before after middle heard sent_fits spelled sent_bytes completion_fits own one hears kind_is counted first second =
     let e : Exchange = record { request = request; reply = own.reply; sent = sent; completion = completion } in

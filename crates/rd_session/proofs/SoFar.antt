@@ -19,8 +19,8 @@ use Rattle.rd_session.specs.Session.{IsHistory, IsSession, first_keys, in_turn, 
 use Rattle.rd_script.specs.declared.outcome.Outcome.{Outcome}
 use Rattle.rd_script.specs.declared.outcome.Outcome.TheVariants as outcome
 use Rattle.rd_script.specs.Asked.{Asked, Answered}
-use Rattle.rd_session.specs.Channel.{Ends, Exchange, Exchanges, EndsIn, Runs, answer_in, file_named, recorded_in, stored_under}
-use Rattle.rd_session.specs.Outcomes.{Ended, answers_in, given_file, held_file, opened_file, opens, request_of, request_to, requests_of}
+use Rattle.rd_session.specs.Channel.{Ends, Exchange, Exchanges, EndsIn, Runs, answer_in, recorded_in, stored_under}
+use Rattle.rd_session.specs.Outcomes.{Ended, answers_in, given_file, held_file, opened_file, opens, request_of, request_to, requests_of, file_named}
 use Rattle.rd_session.specs.Recording.{Entry, entry_bytes}
 use Rattle.rd_session.specs.Told.{Told, Counted, InOrder}
 use Rattle.rd_session.proofs.Course.{AreOwn, IsOwn, NamesFrom, RunsAll, replies_from, stored_from}

@@ -30,7 +30,7 @@ use Rattle.rd_session.specs.declared.recording.End.TheVariants.{Host, Client}
 use Rattle.rd_script.specs.declared.outcome.Outcome.{Outcome}
 use Rattle.rd_script.specs.declared.outcome.Outcome.TheVariants as outcome
 use Rattle.rd_script.specs.Asked.{Asked, Answered}
-use Rattle.rd_session.specs.Outcomes.{opens, given_file, request_to}
+use Rattle.rd_session.specs.Outcomes.{opens, given_file, file_named, request_to}
 use Rattle.rd_session.specs.Recording.{Entry, Passed, entry_bytes, entries_of}
 use Rattle.rd_session.specs.Told.{Completes, completion_written}
 use Rattle.rd_session.specs.Session.{key_at}
@@ -142,10 +142,6 @@ pub record Exchanges (request : Request) (answered : Answered) (before after : E
   pub kept : after.journal ≡ before.journal ++ stored_under (key_at before.asked) exchange.reply
   pub recorded : Appends before.held after.held (flat_map entry_bytes (recorded_in exchange))
   pub answer : answered ≡ answer_in exchange
-
--- the file that the request of a line names: 0 where it opens one, else the one that its handle holds, if it holds one
-abbrev pub file_named : (List ℕ → Option ℕ) → Asked → Option ℕ
-file_named files asked = if opens asked.op then Some 0 else files asked.handle
 
 -- How a line ended. Refused: its handle holds no file, and both ends are as before. Answered: its request, for the file that its
 -- handle holds, was exchanged, and this is its answer; an open's handle holds what it gave, and the others what they held.

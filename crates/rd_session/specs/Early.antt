@@ -3,6 +3,7 @@ use Rattle.std.specs.Prelude.{◌≡◌, ℕ, ◌⊎◌, List, [], ◌∷◌, �
 use Rattle.std.specs.List.{flat_map}
 use Rattle.std.specs.Io.KnownBytes.{Appends}
 use Rattle.rd_base.specs.declared.journal.Item.{Item}
+use Rattle.rd_base.specs.Fronts.{AppendsFront}
 use Rattle.rd_irp.specs.declared.op.Op.TheVariants as op
 use Rattle.rd_irp.specs.declared.completion.Reply.{Reply}
 use Rattle.rd_irp.specs.declared.request.Request.{Request}
@@ -15,24 +16,25 @@ use Rattle.rd_script.specs.declared.outcome.Outcome.{Outcome}
 use Rattle.rd_script.specs.Asked.{Asked}
 use Rattle.rd_session.specs.Channel.{Runs}
 use Rattle.rd_session.specs.Outcomes.{request_of}
-use Rattle.rd_session.specs.Recording.{Entry, entry_bytes, frames_of}
+use Rattle.rd_session.specs.Recording.{Entry, entry_bytes, recorded_bytes}
 use Rattle.rd_session.specs.Session.{IsSession}
 use Rattle.rd_session.specs.Told.{completion_written}
 
--- What a request that may not have gone all its way left on the wire: a front of its frames, or these and a front of those of its
+-- What a request that may not have gone all its way left on the wire: a front of its entries, or these and a front of those of its
 -- completion with the reply of the drive.
 abbrev pub PartOf : DriveState → Request → (held grown : Option (List ℕ)) → Type 0
 PartOf drive request held grown =
-    ((n : ℕ) × Appends held grown (take n (frames_of Host (request_bytes request))))
+    AppendsFront held grown (recorded_bytes Host (request_bytes request))
     ⊎ ((reply : Reply) × (left : DriveState) × (n : ℕ) × Runs request reply drive left × (request.op ≡ op.Close → IsFalse (is_starved reply)) ×
-    Appends held grown (frames_of Host (request_bytes request) ++ take n (frames_of Client (completion_written request reply))))
+    Appends held grown (recorded_bytes Host (request_bytes request) ++ take n (recorded_bytes Client (completion_written request reply))))
 
 -- what a line that may not have ended left on the wire: nothing, where it has no request
 abbrev pub PartOfLine : DriveState → Option Request → (held grown : Option (List ℕ)) → Type 0
 PartOfLine drive None held grown = Appends held grown []
 PartOfLine drive (Some request) held grown = PartOf drive request held grown
 
--- A session that ended early: some first lines had theirs whole, and of the next line a part passed, on the drive behind them.
+-- A session that ended early: the first lines ended, and of what the next line sends a front was written, with the drive as those
+-- lines left it.
 pub record EndedEarly (start : DriveState) (asks : List Asked) (held grown : Option (List ℕ)) : Type 0 where
   pub before : List Asked
   pub asked : Asked

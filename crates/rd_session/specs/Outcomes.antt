@@ -38,10 +38,13 @@ held_file name ended =
 abbrev pub request_to : Op → ℕ → Request
 request_to op file = record { device = 1; file = file; completion = 0; op = op }
 
--- The request of a line behind lines that ended so. An open names the file 0, and everything else the one that its handle
--- holds; where it holds none there is no request.
+-- the file that the request of a line names: 0 where it opens one, else the one that its handle holds, if it holds one
+abbrev pub file_named : (List ℕ → Option ℕ) → Asked → Option ℕ
+file_named files asked = if opens asked.op then Some 0 else files asked.handle
+
+-- The request of a line behind lines that ended so; where its handle holds no file there is none.
 abbrev pub request_of : List Ended → Asked → Option Request
-request_of ended asked = option_map (request_to asked.op) (if opens asked.op then Some 0 else held_file asked.handle ended)
+request_of ended asked = option_map (request_to asked.op) (file_named (λ name. held_file name ended) asked)
 
 -- the requests of lines behind lines that ended so, in order
 abbrev pub requests_of : List Ended → List Ended → List Request

@@ -1,8 +1,7 @@
 -- Recordings: what stands in one, and which messages passed.
-use Rattle.std.specs.Prelude.{ℕ, Bool, true, false, List, [], ◌∷◌, ◌++◌, length, map, codes}
+use Rattle.std.specs.Prelude.{ℕ, Bool, true, false, List, [], ◌∷◌, ◌++◌, map, codes}
 use Rattle.std.specs.List.{flat_map}
-use Rattle.std.specs.Int.{div_ceil}
-use Rattle.rd_chunk.specs.Carrier.{carrier_frames}
+use Rattle.rd_chunk.specs.Carrier.{frames_for}
 use Rattle.rd_session.specs.declared.recording.End.{End}
 use Rattle.rd_session.specs.declared.recording.End.TheVariants.{Host, Client}
 
@@ -32,18 +31,18 @@ Passed = End × List ℕ
 
 -- the entries of a message: the frames in which this project carries it, one behind another
 abbrev pub entries_of : Passed → List Entry
-entries_of passed =
-    map (λ frame. sends passed.0 frame) (carrier_frames passed.1 (div_ceil (length passed.1) 1600))
+entries_of passed = map (λ frame. sends passed.0 frame) (frames_for passed.1)
 
 -- the bytes of these entries
-abbrev pub frames_of : End → List ℕ → List ℕ
-frames_of end message = flat_map entry_bytes (entries_of (end, message))
+abbrev pub recorded_bytes : End → List ℕ → List ℕ
+recorded_bytes end message = flat_map entry_bytes (entries_of (end, message))
 
--- whether the host, or the client, sent it
+-- whether the host sent it
 abbrev pub is_host : Passed → Bool
 is_host (Host, message) = true
 is_host (Client, message) = false
 
+-- whether the client sent it
 abbrev pub is_client : Passed → Bool
 is_client (Host, message) = false
 is_client (Client, message) = true

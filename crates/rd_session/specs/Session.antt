@@ -59,7 +59,7 @@ abbrev pub Hears : Request × Answered → List ℕ → Type 0
 Hears heard message =
     (heard.1.kind ≡ reply_kind heard.0.op) × Completes heard.0 (reply_in heard.1) message × (message ≡ completion_written heard.0 (reply_in heard.1))
 
--- the one legal history of the drive: each key that it names is a request on the wire, each run at the script's moment, and
+-- the one lawful history of the drive: each key that it names is a request on the wire, each run at the script's moment, and
 -- nothing else happened to the drive
 pub record IsHistory (requests : Key → Request) (asked : List Request) (journal : List Item) : Type 0 where
   pub lawful : IsLawful journal

@@ -10,12 +10,14 @@ use Rattle.rd_irp.specs.declared.completion.Body.TheVariants.{Fault}
 use Rattle.rd_irp.specs.declared.request.Request.{Request}
 use Rattle.rd_irp.specs.Fits.{reply_kind}
 use Rattle.rd_irp.specs.Completion.{SpellsHead, SpellsBody}
+use Rattle.rd_irp.specs.Header.{io_request, io_completion}
 use Rattle.rd_irp.specs.Written.{header_bytes, completion_bytes}
+use Rattle.rd_drive.specs.Statuses.{cancelled}
 use Rattle.rd_session.specs.Recording.{Passed, is_host, is_client}
 
 -- the reply of a request that was cancelled
 abbrev pub cancelled_reply : Reply
-cancelled_reply = record { status = record { 0 = 0xc000_0120 }; body = Fault }
+cancelled_reply = record { status = cancelled; body = Fault }
 
 -- the answer to a key: its reply where it ran, and CANCELLED where it was cancelled
 abbrev pub IsAnswer : List (Key × Reply) → List Item → Key → Reply → Type 0
@@ -75,11 +77,11 @@ names_device device message = bytes_eq (take 4 (drop 4 message)) (to_le_bytes w3
 
 -- the host asks some device for something
 abbrev pub is_request : Passed → Bool
-is_request passed = is_host passed && bytes_eq (take 4 passed.1) (header_bytes 0x4952)
+is_request passed = is_host passed && bytes_eq (take 4 passed.1) (header_bytes io_request)
 
 -- the client completes what the device was asked for
 abbrev pub completes : ℕ → Passed → Bool
-completes device passed = is_client passed && bytes_eq (take 4 passed.1) (header_bytes 0x4943) && names_device device passed.1
+completes device passed = is_client passed && bytes_eq (take 4 passed.1) (header_bytes io_completion) && names_device device passed.1
 
 -- At each moment of a channel, what a device completed before it ran before what it is asked behind it. The indices of its keys
 -- count the requests of the channel.

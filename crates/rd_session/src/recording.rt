@@ -1,11 +1,12 @@
 //! The recording of a session: every frame of both directions as it is sent.
 
-ghost use Rattle.std.specs.Prelude.{◌≡◌, ℕ, List, [], ◌∷◌, take, OnOk, OnErr};
+ghost use Rattle.std.specs.Prelude.{◌≡◌, ℕ, List, [], ◌∷◌, OnOk, OnErr};
 ghost use Rattle.std.specs.Io.KnownBytes.{Appends};
 ghost use Rattle.rd_base.specs.Faults.{CountsFaults};
+ghost use Rattle.rd_base.specs.Fronts.{AppendsFront};
 ghost use Rattle.rd_chunk.specs.Carrier.{carrier_of};
 ghost use Rattle.rd_session.specs.Channel.{CountsWire};
-ghost use Rattle.rd_session.specs.Recording.{begins, frames_of, recording_of};
+ghost use Rattle.rd_session.specs.Recording.{begins, recorded_bytes, recording_of};
 
 use crate::run_no::RunNo;
 use rd_base::{Failed, Sink, write_all};
@@ -44,7 +45,7 @@ impl End {
 pub fn begin_recording<R: Sink>(wire: &mut R) -> Result<(), Failed>
     ensures counted { CountsFaults result (R.faults wire.old) (R.faults wire.new) }
     ensures begun { OnOk result (Appends (R.held wire.old) (R.held wire.new) (recording_of (begins ∷ []))) }
-    ensures front { OnErr result ((n : ℕ) × Appends (R.held wire.old) (R.held wire.new) (take n (recording_of (begins ∷ [])))) }
+    ensures front { OnErr result (AppendsFront (R.held wire.old) (R.held wire.new) (recording_of (begins ∷ []))) }
 {
     write_all(wire, OPENING)
 }
@@ -53,9 +54,9 @@ pub fn begin_recording<R: Sink>(wire: &mut R) -> Result<(), Failed>
 pub fn record<R: Sink>(alloc: Global, wire: &mut R, end: End, frames: &[u8]) -> Result<(), RunNo>
     ensures counted { CountsWire result (R.faults wire.old) (R.faults wire.new) }
     ensures recorded { OnOk result ((message : List ℕ) → frames.now ≡ carrier_of message →
-        Appends (R.held wire.old) (R.held wire.new) (frames_of end message)) }
+        Appends (R.held wire.old) (R.held wire.new) (recorded_bytes end message)) }
     ensures front { OnErr result ((message : List ℕ) → frames.now ≡ carrier_of message →
-        (n : ℕ) × Appends (R.held wire.old) (R.held wire.new) (take n (frames_of end message))) }
+        AppendsFront (R.held wire.old) (R.held wire.new) (recorded_bytes end message)) }
 {
     let marks = frames.len().div_ceil(FRAME_LEN);
     let mut entries = Vec::with_capacity(alloc, frames.len().saturating_add(marks))?;

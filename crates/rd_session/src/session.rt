@@ -5,9 +5,9 @@ ghost use Rattle.std.specs.List.{flat_map};
 ghost use Rattle.std.specs.Io.KnownBytes.{Appends};
 ghost use Rattle.rd_irp.specs.Fits.{Fits};
 ghost use Rattle.rd_session.specs.Recording.{Entry, entry_bytes};
-ghost use Rattle.rd_session.specs.Channel.{IsIdle, CountsWire, Exchanges, EndsIn, ends_of, file_named, file_under};
+ghost use Rattle.rd_session.specs.Channel.{IsIdle, CountsWire, Exchanges, EndsIn, ends_of, file_under};
 ghost use Rattle.rd_session.specs.Early.{EndedEarly, PartOf, PartOfLine};
-ghost use Rattle.rd_session.specs.Outcomes.{request_to};
+ghost use Rattle.rd_session.specs.Outcomes.{request_to, file_named};
 ghost use Rattle.rd_session.specs.Session.{IsSession};
 
 use crate::client::Client;

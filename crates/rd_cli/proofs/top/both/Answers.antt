@@ -1,12 +1,12 @@
-use Rattle.std.proofs.Common.{◌∙◌, inl, inr, refl, rules}
+use Rattle.std.proofs.Common.{◌≡◌, ◌∙◌, [], inl, inr, refl, rules}
 use Rattle.std.specs.Prelude.{IfErr}
 use Rattle.std.proofs.lemmas.Result.{IfErr-weaker}
-use Rattle.rd_cli.specs.Causes.{IsOutputStop}
+use Rattle.rd_base.specs.Faults.{Rose}
+use Rattle.rd_cli.specs.Causes.{Caused, IsOutputStop, PartOfScript}
 use Rattle.rd_script.specs.Grammar.{Said}
-use Rattle.rd_cli.specs.Headline.{PartOfScript}
 use Rattle.rd_script.specs.ReadScript.{HoldsSaid}
 use Rattle.rd_script.proofs.Texts.{script_short}
-use Rattle.rd_cli.proofs.Runs.{output_stop, whole_run}
+use Rattle.rd_cli.proofs.Runs.{err_both, err_is, unread_script, whole_run, wire_stop}
 use Rattle.rd_cli.proofs.top.both.Goals as goal
 
 pub returns-clause-ran : goal.returns-clause-ran
@@ -16,17 +16,23 @@ returns-clause-ran g c =
     whole_run _ _ _ _ _ _ _ c.in_ok-text.text.items _ script.0 c.in_ok-outcomes.outcomes.items c.in_ok-text.ensures.read c.in_ok-text.ensures.whole script.1 (c.in_ok-outcomes.ensures.ran script.0 script.2) c.in-Ok.ensures.written
     (c.as_bytes.ensures.value ∙ report)
 
+pub returns-in_err-script-clause-cause : goal.returns-in_err-script-clause-cause
+returns-in_err-script-clause-cause g c =
+    let bad = rw c.as_slice.ensures.value at c.in_err-script.ensures.bad in
+    err_is _ _ _ c.from_residual-in_err-script.ensures.1 (unread_script _ _ _ c.in_ok-text.text.items c.in_err-script.field-0.0 _ _ (c.in_ok-text.ensures.read, c.in_ok-text.ensures.whole) bad)
+
 pub returns-in_err-outcomes-clause-stopped : goal.returns-in_err-outcomes-clause-stopped
 returns-in_err-outcomes-clause-stopped g c =
     let text = c.in_ok-text.text.items in
     let script = rw c.as_slice.ensures.value at c.in_ok-script.ensures.script in
     let early : IfErr c.from_residual-in_err-outcomes.result
-    (λ s. (said : Said) → HoldsSaid said c.in_ok-script.script → IsOutputStop s (PartOfScript said (g.R.Sink.held c.args.wire.now) (g.R.Sink.held c.run_script.new.wire))) = search rules in
+    (λ s. (said : Said) → HoldsSaid said c.in_ok-script.script → IsOutputStop s (PartOfScript said (g.R.Sink.held c.args.wire.now) (g.R.Sink.held c.run_script.new.wire) × (c.run_script.new.books ≡ []))) = search rules in
+    let cause : IfErr c.from_residual-in_err-outcomes.result (λ s. Caused s ⊥ ⊥ (Rose (g.R.Sink.faults c.args.wire.now) (g.R.Sink.faults c.run_script.new.wire))) = search rules in
     IfErr-weaker c.from_residual-in_err-outcomes.result _ _
-    (λ s part. output_stop _ _ _ _ _ _ _ _ _ s
-    (λ p. (c.are_both.ensures.0 c.if-not-are_both.false, (text, script.0, c.in_ok-text.ensures.read, c.in_ok-text.ensures.whole (script_short text script.0 script.1), script.1, inl (p, refl))))
-    (part script.0 script.2))
-    early
+    (λ s of. wire_stop _ _ _ _ _ _ _ s
+    (λ rose part. (c.are_both.ensures.0 c.if-not-are_both.false, (text, script.0, c.in_ok-text.ensures.read, c.in_ok-text.ensures.whole (script_short text script.0 script.1), script.1, inl (rose, part.0, part.1, refl))))
+    (of.0 script.0 script.2) of.1)
+    (err_both _ _ _ early cause)
 
 pub returns-in_default-clause-stopped : goal.returns-in_default-clause-stopped
 returns-in_default-clause-stopped g c =
@@ -34,5 +40,5 @@ returns-in_default-clause-stopped g c =
     let script = rw c.as_slice.ensures.value at c.in_ok-script.ensures.script in
     let report = rw c.as_slice-2.ensures.value at c.in_ok-report.ensures in
     let front = rw (c.as_bytes.ensures.value, report) at c.in_default.ensures.front in
-    let written = inr (c.in_ok-outcomes.outcomes.items, c.run_script.new.books, front.0, c.in_ok-outcomes.ensures.ran script.0 script.2, front.1) in
+    let written = inr (c.in_default.ensures.counted.1, (c.in_ok-outcomes.outcomes.items, c.in_ok-outcomes.ensures.ran script.0 script.2, front)) in
     (c.are_both.ensures.0 c.if-not-are_both.false, (text, script.0, c.in_ok-text.ensures.read, c.in_ok-text.ensures.whole (script_short text script.0 script.1), script.1, written))
