@@ -1,7 +1,7 @@
-//! What ends a run, and the bytes of its recording.
+//! What ends a run, and what it leaves: the report, the recording and the journal.
 use rd_base::{Books, Bytes, Calls, Item, Key, MemSink, MemSource};
 use rd_cli::run;
-use std::alloc::Global;
+use std::alloc::{AllocError, Global};
 use std::process::Abort;
 use std::test::Fail;
 
@@ -41,126 +41,160 @@ const RECORDING: &str = "5244525245433031\
 72444349010000000000000000000000\
 00000000";
 
-/// What a run of `both` left.
+/// No call on the outside fails.
+const NEVER: [&[u64]; 3] = [&[], &[], &[]];
+
+/// What a run leaves.
 #[derive(Drop)]
 struct Ran {
     status: u8,
-    output: MemSink,
-    wire: MemSink,
-    books: Books,
+    output: Vec<u8>,
+    recording: Vec<u8>,
+    journal: Vec<Item>,
 }
 
-/// Runs a command over a script. The reads and writes with these numbers fail.
+/// Runs a command over a script. The reads, the writes to the output and those to the recording with these numbers fail.
 fn command(
     alloc: Global,
     words: &[&str],
     script: &[u8],
-    reads: &[u64],
-    outputs: &[u64],
-    wires: &[u64],
-) -> Result<Ran, Fail> {
-    let mut command = Vec::new(alloc);
-    for word in words {
-        command.push(String::from_str(alloc, word)?)?;
-    }
-    let mut input = MemSource::new(
-        Bytes::of(script.to_vec(alloc)?),
-        Calls::of(reads.to_vec(alloc)?),
-    );
-    let mut output = MemSink::new(alloc, Calls::of(outputs.to_vec(alloc)?));
-    let mut wire = MemSink::new(alloc, Calls::of(wires.to_vec(alloc)?));
+    fails: [&[u64]; 3],
+) -> Result<Ran, AllocError> {
+    let [reads, outputs, wires] = fails;
+    let words = strings(alloc, words)?;
+    let mut input = source(alloc, script, reads)?;
+    let mut output = sink(alloc, outputs)?;
+    let mut wire = sink(alloc, wires)?;
     let mut books = Books::new(alloc);
     let status = run(
         alloc,
-        command.as_slice(),
+        words.as_slice(),
         &mut input,
         &mut output,
         &mut wire,
         &mut books,
     );
+    left(alloc, status, &output, &wire, &books)
+}
+
+fn strings(alloc: Global, words: &[&str]) -> Result<Vec<String>, AllocError> {
+    words
+        .iter()
+        .map(|word| String::from_str(alloc, word))
+        .try_collect(alloc)
+}
+
+/// A source of a script whose reads with these numbers fail.
+fn source(alloc: Global, script: &[u8], fails: &[u64]) -> Result<MemSource, AllocError> {
+    let fails = Calls::of(fails.to_vec(alloc)?);
+    Ok(MemSource::new(Bytes::of(script.to_vec(alloc)?), fails))
+}
+
+/// An empty sink whose writes with these numbers fail.
+fn sink(alloc: Global, fails: &[u64]) -> Result<MemSink, AllocError> {
+    Ok(MemSink::new(alloc, Calls::of(fails.to_vec(alloc)?)))
+}
+
+/// A status, and copies of what a run left.
+fn left(
+    alloc: Global,
+    status: u8,
+    output: &MemSink,
+    wire: &MemSink,
+    books: &Books,
+) -> Result<Ran, AllocError> {
     Ok(Ran {
         status,
-        output,
-        wire,
-        books,
+        output: output.bytes().to_vec(alloc)?,
+        recording: wire.bytes().to_vec(alloc)?,
+        journal: entries(books).to_vec(alloc)?,
     })
 }
 
-/// Runs `both` over a script.
-fn both(
+/// The entries of the drive's journal.
+fn entries(books: &Books) -> &[Item] {
+    let Some(journal) = books.journal(1) else {
+        return &[];
+    };
+    journal.items()
+}
+
+/// A command ends with this status, this output and this recording.
+fn ends(
+    rt: &impl Abort,
     alloc: Global,
+    words: &[&str],
     script: &[u8],
-    reads: &[u64],
-    outputs: &[u64],
-    wires: &[u64],
-) -> Result<Ran, Fail> {
-    command(alloc, &["both"], script, reads, outputs, wires)
+    fails: [&[u64]; 3],
+    wanted: (u8, &[u8], &[u8]),
+) -> Result<(), Fail> {
+    let ran = command(alloc, words, script, fails)?;
+    assert_eq!(rt;
+        (ran.status, ran.output.as_slice(), ran.recording.as_slice()),
+        wanted,
+        "{words:?}, {fails:?}"
+    );
+    Ok(())
 }
 
 #[test]
 fn takes_a_file_through_frames(rt: HostRuntime) -> Result<(), Fail> {
-    let ran = both(rt.alloc(), SCRIPT, &[], &[], &[])?;
-    assert_eq!(rt; ran.status, 0);
-    assert_eq!(rt; ran.output.bytes(), REPORT);
     let recording = hex::decode(rt.alloc(), RECORDING)?;
-    assert_eq!(rt; ran.wire.bytes(), recording.as_slice());
-    let journal = ran.books.journal(1).ok_or("the drive has its journal")?;
-    let key = Key {
-        channel: 1,
-        index: 2,
-    };
+    let wanted = (0, REPORT, recording.as_slice());
+    ends(&rt, rt.alloc(), &["both"], SCRIPT, NEVER, wanted)
+}
+
+/// The entries of a request that ran.
+fn completed(index: u64) -> [Item; 3] {
+    let key = Key { channel: 1, index };
     let ended = Item::Ran {
         key,
         moment: 0,
         starved: false,
         parked: false,
     };
-    assert_eq!(rt; journal.items().len(), 9);
-    let closed = journal.items().get(6..).ok_or("nine items are there")?;
-    assert_eq!(rt;
-        closed,
-        [Item::Came(key), ended, Item::Sent(key)].as_slice()
-    );
-    Ok(())
+    [Item::Came(key), ended, Item::Sent(key)]
 }
 
-/// The script ends with a status and without a report where these reads and writes fail.
-fn ends_with(
-    rt: &impl Abort,
-    alloc: Global,
-    reads: &[u64],
-    outputs: &[u64],
-    wires: &[u64],
-    status: u8,
-) -> Result<(), Fail> {
-    let ran = both(alloc, SCRIPT, reads, outputs, wires)?;
-    assert_eq!(rt; ran.status, status, "at {reads:?}, {outputs:?}, {wires:?}");
-    assert_eq!(rt; ran.output.bytes().len(), 0);
+#[test]
+fn keeps_a_journal(rt: HostRuntime) -> Result<(), Fail> {
+    let ran = command(rt.alloc(), &["both"], SCRIPT, NEVER)?;
+    let entries = [completed(0), completed(1), completed(2)];
+    assert_eq!(rt; ran.journal.as_slice(), entries.as_flattened());
     Ok(())
 }
 
 #[test]
 fn ends_where_the_outside_fails(rt: HostRuntime) -> Result<(), Fail> {
-    ends_with(&rt, rt.alloc(), &[1], &[], &[], 2)?;
-    ends_with(&rt, rt.alloc(), &[], &[1], &[], 3)?;
-    for call in 1..=7 {
-        ends_with(&rt, rt.alloc(), &[], &[], &[call], 3)?;
+    let recording = hex::decode(rt.alloc(), RECORDING)?;
+    // What fails, the status, and how many bytes are recorded by then.
+    for (fails, status, recorded) in [
+        ([[1].as_slice(), &[], &[]], 2, 0),
+        ([&[], &[1], &[]], 3, 335),
+        ([&[], &[], &[1]], 3, 0),
+        ([&[], &[], &[2]], 3, 9),
+        ([&[], &[], &[3]], 3, 92),
+        ([&[], &[], &[4]], 3, 126),
+        ([&[], &[], &[5]], 3, 195),
+        ([&[], &[], &[6]], 3, 233),
+        ([&[], &[], &[7]], 3, 302),
+    ] {
+        let front = recording.get(..recorded).unwrap_or_default();
+        let wanted = (status, b"".as_slice(), front);
+        ends(&rt, rt.alloc(), &["both"], SCRIPT, fails, wanted)?;
     }
     Ok(())
 }
 
-/// A script ends with a status and this output.
-fn prints(
+/// A command over a script is refused with this line, and nothing is recorded.
+fn refuses(
     rt: &impl Abort,
     alloc: Global,
+    words: &[&str],
     script: &[u8],
-    status: u8,
-    output: &[u8],
+    line: &[u8],
 ) -> Result<(), Fail> {
-    let ran = both(alloc, script, &[], &[], &[])?;
-    assert_eq!(rt; ran.status, status);
-    assert_eq!(rt; ran.output.bytes(), output);
-    Ok(())
+    ends(rt, alloc, words, script, NEVER, (1, line, b""))
 }
 
 #[test]
@@ -188,21 +222,28 @@ fn names_the_first_line_outside_the_grammar(rt: HostRuntime) -> Result<(), Fail>
         (b"drive 1 DATA\n1  close h", b"line 2 words\n"),
         (b"drive 1 DATA\n\xff", b"line 2 words\n"),
     ] {
-        prints(&rt, rt.alloc(), script, 1, line)?;
+        refuses(&rt, rt.alloc(), &["both"], script, line)?;
     }
     Ok(())
 }
 
 #[test]
 fn holds_scripts_to_their_limits(rt: HostRuntime) -> Result<(), Fail> {
-    for (byte, count, status, output) in [
-        (b'\n', 1001, 1, b"line 1001 words\n".as_slice()),
-        (b'\n', 1000, 0, b""),
-        (b'#', 65_537, 1, b"line 1 words\n"),
-        (b'#', 65_536, 0, b""),
+    for (byte, count, status, output, recording) in [
+        (
+            b'\n',
+            1001,
+            1,
+            b"line 1001 words\n".as_slice(),
+            b"".as_slice(),
+        ),
+        (b'\n', 1000, 0, b"", b"RDRREC01\x02"),
+        (b'#', 65_537, 1, b"line 1 words\n", b""),
+        (b'#', 65_536, 0, b"", b"RDRREC01\x02"),
     ] {
         let script = vec![in rt.alloc(); byte; count]?;
-        prints(&rt, rt.alloc(), script.as_slice(), status, output)?;
+        let wanted = (status, output, recording);
+        ends(&rt, rt.alloc(), &["both"], script.as_slice(), NEVER, wanted)?;
     }
     Ok(())
 }
@@ -210,10 +251,7 @@ fn holds_scripts_to_their_limits(rt: HostRuntime) -> Result<(), Fail> {
 #[test]
 fn knows_one_command(rt: HostRuntime) -> Result<(), Fail> {
     for words in [[].as_slice(), &["decode"], &["both", "both"], &["Both"]] {
-        let ran = command(rt.alloc(), words, SCRIPT, &[], &[], &[])?;
-        assert_eq!(rt; ran.status, 1, "{words:?}");
-        assert_eq!(rt; ran.output.bytes(), b"bad words\n".as_slice());
-        assert_eq!(rt; ran.wire.bytes().len(), 0);
+        refuses(&rt, rt.alloc(), words, SCRIPT, b"bad words\n")?;
     }
     Ok(())
 }
