@@ -44,25 +44,22 @@ fn main(rt: HostRuntime) -> Result<()> {
 
 /// Prints how fast so many rounds of a message are copied, cut into frames, and joined from them.
 fn measure(rt: &HostRuntime, message: &[u8], frames: &[u8], rounds: u64) -> Result<()> {
+    let size = message.len();
     let started = Instant::now(rt)?;
     for _ in 0..rounds {
         Vec::from_slice(rt.alloc(), message)?;
     }
-    let copied = started.elapsed(rt)?;
+    let copied = speed(size, rounds, started.elapsed(rt)?);
     let started = Instant::now(rt)?;
     for _ in 0..rounds {
         cut(rt.alloc(), message)?;
     }
-    let split = started.elapsed(rt)?;
+    let split = speed(size, rounds, started.elapsed(rt)?);
     let started = Instant::now(rt)?;
     for _ in 0..rounds {
         join(rt.alloc(), frames)?;
     }
-    let fed = started.elapsed(rt)?;
-    let size = message.len();
-    let copied = speed(size, rounds, copied);
-    let split = speed(size, rounds, split);
-    let fed = speed(size, rounds, fed);
+    let fed = speed(size, rounds, started.elapsed(rt)?);
     println!(rt; "{size} bytes: copy {copied} MB/s, split {split} MB/s, feed {fed} MB/s")?;
     Ok(())
 }
