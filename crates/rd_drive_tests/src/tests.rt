@@ -1,16 +1,55 @@
 //! A drive by its replies, as MS-RDPEFS and MS-ERREF name them.
 use rd_base::{Bytes, Key, Status, Units};
 use rd_drive::{AddNo, Device, Job, MemoryDrive, is_plain_path, prepare};
-use rd_irp::{Body, Op, Reply};
-use std::alloc::Global;
+use rd_irp::{Body, Op};
 use std::process::Abort;
-use std::test::Fail;
 
-fn units(rt: &HostRuntime, text: &str) -> Result<Units, Fail> {
-    Ok(Units::of(text.bytes().map(u16::from).collect(rt.alloc())?))
+fn units(rt: &(impl Abort + AllocGlobal), text: &str) -> Units {
+    let units = text.encode_utf16().collect(rt.alloc());
+    Units::of(units.expect(rt, "memory for units"))
 }
 
-fn ask(alloc: Global, drive: &mut MemoryDrive, file: u32, op: Op) -> Reply {
+/// Adds a file of these bytes at `\a.txt`.
+fn add(
+    rt: &(impl Abort + AllocGlobal),
+    drive: &mut MemoryDrive,
+    bytes: &[u8],
+) -> Result<(), AddNo> {
+    let bytes = bytes.to_vec(rt.alloc()).expect(rt, "memory for bytes");
+    drive.add_file(&units(rt, "\\a.txt"), Bytes::of(bytes))
+}
+
+/// Opens what is there at `\a.txt`, shared by all.
+fn open(rt: &(impl Abort + AllocGlobal), access: u32) -> Op {
+    Op::Create {
+        access,
+        allocation: 0,
+        attributes: 0,
+        share: 7,
+        disposition: 1,
+        options: 0,
+        path: units(rt, "\\a.txt"),
+    }
+}
+
+/// The file id and the information of an open, and the bytes of a read.
+fn given(body: &Body) -> (Option<(u32, u8)>, &[u8]) {
+    match body {
+        Body::Created { file, information } => (Some((*file, *information)), &[]),
+        Body::Buffer(bytes) => (None, bytes.as_slice()),
+        _ => (None, &[]),
+    }
+}
+
+/// Asserts what the drive answers a request with a file id and an operation.
+fn answers(
+    rt: &(impl Abort + AllocGlobal),
+    drive: &mut MemoryDrive,
+    file: u32,
+    op: Op,
+    status: Status,
+    wanted: (Option<(u32, u8)>, &[u8]),
+) {
     let key = Key {
         channel: 1,
         index: 0,
@@ -21,135 +60,55 @@ fn ask(alloc: Global, drive: &mut MemoryDrive, file: u32, op: Op) -> Reply {
         completion: 0,
         op,
     };
-    drive.apply(prepare(alloc, job), 0)
+    let reply = drive.apply(prepare(rt.alloc(), job), 0);
+    assert_eq!(rt; (reply.status, given(&reply.body)), (status, wanted));
 }
 
-fn open(path: Units, access: u32) -> Op {
-    Op::Create {
-        access,
-        allocation: 0,
-        attributes: 0,
-        share: 7,
-        disposition: 1,
-        options: 0,
-        path,
+/// Asserts that each open gives the next file id, and that opening for more than reading isn't served.
+fn opens(rt: &(impl Abort + AllocGlobal), drive: &mut MemoryDrive) {
+    for (access, status, opened) in [
+        (0x8000_0000, Status::SUCCESS, Some((1, 1))),
+        (0x8000_0000, Status::SUCCESS, Some((2, 1))),
+        (0xc000_0000, Status::NOT_SUPPORTED, None),
+    ] {
+        answers(rt, drive, 0, open(rt, access), status, (opened, b""));
     }
 }
 
-/// What a request with a file id and an operation is answered: a status, and the file id of an open or the bytes of a read.
-fn answers(
-    rt: &impl Abort,
-    alloc: Global,
-    drive: &mut MemoryDrive,
-    file: u32,
-    op: Op,
-    status: Status,
-    given: Option<u32>,
-    bytes: &[u8],
-) {
-    let reply = ask(alloc, drive, file, op);
-    assert_eq!(rt; reply.status, status);
-    match reply.body {
-        Body::Created { file, information } => assert_eq!(rt;
-            (Some(file), information),
-            (given, 1)
-        ),
-        Body::Buffer(buffer) => assert_eq!(rt; buffer.as_slice(), bytes),
-        _ => assert!(rt; given.is_none() && bytes.is_empty()),
+/// Asserts what is read of `hello`, up to its end and behind it.
+fn reads(rt: &(impl Abort + AllocGlobal), drive: &mut MemoryDrive) {
+    for (offset, length, status, text) in [
+        (3, 10, Status::SUCCESS, "lo"),
+        (5, 3, Status::END_OF_FILE, ""),
+        (5, 0, Status::SUCCESS, ""),
+    ] {
+        let read = Op::Read { offset, length };
+        answers(rt, drive, 1, read, status, (None, text.as_bytes()));
     }
 }
 
-fn read(offset: u64, length: u32) -> Op {
-    Op::Read { offset, length }
-}
-
-#[test]
-fn opens_reads_and_closes(rt: HostRuntime) -> Result<(), Fail> {
-    let mut drive = MemoryDrive::new(rt.alloc(), units(&rt, "DATA")?)?;
-    let path = units(&rt, "\\a.txt")?;
-    let hello = Bytes::of(b"hello".to_vec(rt.alloc())?);
-    assert_eq!(rt; drive.add_file(&path, hello), Ok(()));
-    let again = Bytes::of(Vec::new(rt.alloc()));
-    assert_eq!(rt; drive.add_file(&path, again), Err(AddNo::Collision));
-    let done = Status::SUCCESS;
-    answers(
-        &rt,
-        rt.alloc(),
-        &mut drive,
-        0,
-        open(path.copy()?, 0x8000_0000),
-        done,
-        Some(1),
-        &[],
-    );
-    answers(
-        &rt,
-        rt.alloc(),
-        &mut drive,
-        0,
-        open(path.copy()?, 0x8000_0000),
-        done,
-        Some(2),
-        &[],
-    );
-    answers(
-        &rt,
-        rt.alloc(),
-        &mut drive,
-        0,
-        open(path, 0xc000_0000),
-        Status::NOT_SUPPORTED,
-        None,
-        &[],
-    );
-    answers(
-        &rt,
-        rt.alloc(),
-        &mut drive,
-        1,
-        read(3, 10),
-        done,
-        None,
-        b"lo",
-    );
-    answers(
-        &rt,
-        rt.alloc(),
-        &mut drive,
-        1,
-        read(5, 3),
-        Status::END_OF_FILE,
-        None,
-        &[],
-    );
-    answers(&rt, rt.alloc(), &mut drive, 1, read(5, 0), done, None, &[]);
-    answers(&rt, rt.alloc(), &mut drive, 1, Op::Close, done, None, &[]);
-    answers(
-        &rt,
-        rt.alloc(),
-        &mut drive,
-        1,
-        Op::Close,
-        Status::INVALID_HANDLE,
-        None,
-        &[],
-    );
+/// Asserts that a handle is closed once, and that a cut closes the rest.
+fn closes(rt: &(impl Abort + AllocGlobal), drive: &mut MemoryDrive) {
+    for status in [Status::SUCCESS, Status::INVALID_HANDLE] {
+        answers(rt, drive, 1, Op::Close, status, (None, b""));
+    }
     drive.cut();
-    answers(
-        &rt,
-        rt.alloc(),
-        &mut drive,
-        2,
-        Op::Close,
-        Status::INVALID_HANDLE,
-        None,
-        &[],
-    );
-    Ok(())
+    answers(rt, drive, 2, Op::Close, Status::INVALID_HANDLE, (None, b""));
 }
 
 #[test]
-fn knows_plain_paths(rt: HostRuntime) -> Result<(), Fail> {
+fn opens_reads_and_closes(rt: HostRuntime) {
+    let drive = MemoryDrive::new(rt.alloc(), units(&rt, "DATA"));
+    let mut drive = drive.expect(&rt, "memory for a drive");
+    let added = [add(&rt, &mut drive, b"hello"), add(&rt, &mut drive, b"")];
+    assert_eq!(rt; added, [Ok(()), Err(AddNo::Collision)]);
+    opens(&rt, &mut drive);
+    reads(&rt, &mut drive);
+    closes(&rt, &mut drive);
+}
+
+#[test]
+fn knows_plain_paths(rt: HostRuntime) {
     for (text, plain) in [
         ("\\a.txt", true),
         ("\\..a", true),
@@ -160,11 +119,7 @@ fn knows_plain_paths(rt: HostRuntime) -> Result<(), Fail> {
         ("\\A", false),
         ("\\a\\b", false),
     ] {
-        assert_eq!(rt;
-            is_plain_path(units(&rt, text)?.as_slice()),
-            plain,
-            "{text}"
-        );
+        let is_plain = is_plain_path(units(&rt, text).as_slice());
+        assert!(rt; is_plain == plain, "{text}");
     }
-    Ok(())
 }

@@ -1,33 +1,31 @@
 //! Bytes that the public standards and worked examples give.
-use rd_base::{Bad, Status, Units, Why};
+use rd_base::{Bad, ReadNo, Status, Units, Why};
 use rd_irp::{
     Body, Head, Kind, Op, Request, fits, kind_of, read_body, read_head, read_request,
     write_completion, write_request,
 };
-use std::alloc::Global;
-use std::test::Fail;
+use std::process::Abort;
 
 /// A CREATE for `\a.txt` on device 1, for reading and shared by all.
-const CREATE: &str = "724452490100000000000000000000000000000000000000\
-00000080000000000000000000000000070000000100000000000000\
-0e000000\
-5c0061002e007400780074000000";
+const CREATE: &[u8] = b"rDRI\x01\0\0\0\0\0\0\0\0\0\0\0\0\0\0\0\0\0\0\0\
+\0\0\0\x80\0\0\0\0\0\0\0\0\0\0\0\0\x07\0\0\0\x01\0\0\0\0\0\0\0\
+\x0e\0\0\0\
+\\\0a\0.\0t\0x\0t\0\0\0";
 
 /// A READ of device 1, file 1, of 5 bytes from the first.
-const READ: &str = "724452490100000001000000000000000300000000000000\
-050000000000000000000000\
-0000000000000000000000000000000000000000";
+const READ: &[u8] = b"rDRI\x01\0\0\0\x01\0\0\0\0\0\0\0\x03\0\0\0\0\0\0\0\
+\x05\0\0\0\0\0\0\0\0\0\0\0\
+\0\0\0\0\0\0\0\0\0\0\0\0\0\0\0\0\0\0\0\0";
 
-fn unhex(rt: &HostRuntime, text: &str) -> Result<Vec<u8>, Fail> {
-    Ok(hex::decode(rt.alloc(), text)?)
-}
+/// A request with a function that isn't known, and one byte behind it.
+const UNKNOWN: &[u8] = b"rDRI\x01\0\0\0\x01\0\0\0\x02\0\0\0\x11\0\0\0\x09\0\0\0\x05";
 
-fn units(alloc: Global, text: &str) -> Result<Units, Fail> {
-    Ok(Units::of(text.bytes().map(u16::from).collect(alloc)?))
-}
+/// The units of `\a.txt`.
+const PATH: &[u16] = &[0x5c, 0x61, 0x2e, 0x74, 0x78, 0x74];
 
-#[test]
-fn writes_a_create_and_reads_it(rt: HostRuntime) -> Result<(), Fail> {
+/// The request that `CREATE` is.
+fn create(rt: &(impl Abort + AllocGlobal)) -> Request {
+    let path = PATH.to_vec(rt.alloc()).expect(rt, "memory for a path");
     let op = Op::Create {
         access: 0x8000_0000,
         allocation: 0,
@@ -35,134 +33,79 @@ fn writes_a_create_and_reads_it(rt: HostRuntime) -> Result<(), Fail> {
         share: 7,
         disposition: 1,
         options: 0,
-        path: units(rt.alloc(), "\\a.txt")?,
+        path: Units::of(path),
     };
-    assert!(rt; matches!(kind_of(&op), Kind::Create));
-    let request = Request {
+    Request {
         device: 1,
         file: 0,
         completion: 0,
         op,
-    };
-    let fit = fits(&request.op);
-    assert!(rt; fit);
-    let message = write_request(rt.alloc(), &request)?;
-    assert_eq!(rt; message.as_slice().len(), 70);
-    assert_eq!(rt; message.as_slice(), unhex(&rt, CREATE)?.as_slice());
-    let Ok((again, tail)) = read_request(rt.alloc(), message.as_slice()) else {
-        return Err(Fail::from("the request reads"));
-    };
-    assert_eq!(rt;
-        (again.device, again.file, again.completion, tail),
-        (1, 0, 0, 0)
-    );
-    match again.op {
-        Op::Create { path, share, .. } => {
-            assert_eq!(rt; share, 7);
-            assert_eq!(rt; path.as_slice(), units(rt.alloc(), "\\a.txt")?.as_slice());
-        }
-        _ => return Err(Fail::from("it is a Create")),
     }
-    Ok(())
+}
+
+/// `READ` without its last byte.
+fn cut_read(rt: &impl Abort) -> &'static [u8] {
+    assert_eq!(rt; READ.len(), 56);
+    &READ[..55]
+}
+
+/// A request, and the count of the bytes behind it.
+fn read(rt: &(impl Abort + AllocGlobal), bytes: &[u8]) -> (Request, u32) {
+    read_request(rt.alloc(), bytes).expect(rt, "a request")
+}
+
+/// A body, and the count of the bytes behind it.
+fn body(rt: &(impl Abort + AllocGlobal), kind: Kind, status: Status, bytes: &[u8]) -> (Body, u32) {
+    read_body(rt.alloc(), kind, status, bytes).expect(rt, "a body")
 }
 
 #[test]
-fn answers_a_cut_read(rt: HostRuntime) -> Result<(), Fail> {
-    let message = unhex(&rt, READ)?;
-    let Ok((whole, 0)) = read_request(rt.alloc(), message.as_slice()) else {
-        return Err(Fail::from("the whole request reads"));
-    };
+fn writes_a_create(rt: HostRuntime) {
+    let request = create(&rt);
+    assert!(rt; kind_of(&request.op) == Kind::Create && fits(&request.op));
+    let message = write_request(rt.alloc(), &request).expect(&rt, "memory for a message");
+    let message = message.as_slice();
+    assert_eq!(rt; (message.len(), message), (70, CREATE));
+}
+
+#[test]
+fn reads_requests(rt: HostRuntime) {
     assert!(rt;
         matches!(
-            whole.op,
-            Op::Read {
-                offset: 0,
-                length: 5
-            }
+            read(&rt, CREATE),
+            (Request { device: 1, file: 0, completion: 0, op: Op::Create { share: 7, path, .. } }, 0)
+                if path.as_slice() == PATH
         )
     );
-    assert_eq!(rt; message.len(), 56);
-    let front = message.get(..55).ok_or("the message has 56 bytes")?;
-    let Ok((cut, 31)) = read_request(rt.alloc(), front) else {
-        return Err(Fail::from("its head reads"));
-    };
-    let pad = Bad {
+    assert!(rt;
+        matches!(
+            read(&rt, READ),
+            (
+                Request {
+                    op: Op::Read {
+                        offset: 0,
+                        length: 5
+                    },
+                    ..
+                },
+                0
+            )
+        )
+    );
+    let bad = Bad {
         at: 36,
         why: Why::Short,
     };
-    assert!(rt; matches!(cut.op, Op::Malformed { major: 3, minor: 0, bad } if bad == pad));
-    let head = Head {
-        device: 1,
-        completion: 0,
-        status: Status::INVALID_PARAMETER,
-    };
-    let completion = write_completion(rt.alloc(), kind_of(&cut.op), &head, &Body::Fault)?;
-    let wanted = unhex(&rt, "7244434901000000000000000d0000c000000000")?;
-    assert_eq!(rt; completion.as_slice(), wanted.as_slice());
-    Ok(())
-}
-
-#[test]
-fn reads_what_other_programs_complete(rt: HostRuntime) -> Result<(), Fail> {
-    // A Close without its padding, a count without its padding, a buffer with bytes behind it.
-    let success = Status::SUCCESS;
-    let close = read_body(rt.alloc(), Kind::Close, success, &[]);
-    assert!(rt; matches!(close, Ok((Body::Closed, 0))));
-    let count = read_body(rt.alloc(), Kind::Count, success, &[2, 0, 0, 0]);
-    assert!(rt; matches!(count, Ok((Body::Count(2), 0))));
-    let buffer = read_body(rt.alloc(), Kind::Buffer, success, &[1, 0, 0, 0, 0x61, 0x62]);
-    match buffer {
-        Ok((Body::Buffer(bytes), 1)) => assert_eq!(rt; bytes.as_slice(), b"a".as_slice()),
-        _ => return Err(Fail::from("a buffer of one byte, and one byte behind it")),
-    }
-    let short = read_body(rt.alloc(), Kind::Create, success, &[1, 0, 0, 0]);
-    let missing = Bad {
-        at: 4,
-        why: Why::Short,
-    };
-    assert!(rt; matches!(short, Err(rd_base::ReadNo::Bad(bad)) if bad == missing));
-    let fault = read_body(rt.alloc(), Kind::Create, Status::NO_MEMORY, &[0; 5]);
-    assert!(rt; matches!(fault, Ok((Body::Fault, 5))));
-    Ok(())
-}
-
-#[test]
-fn refuses_heads(rt: HostRuntime) {
     assert!(rt;
         matches!(
-            read_head(b"xx"),
-            Err(Bad {
-                at: 0,
-                why: Why::Component
-            })
+            read(&rt, cut_read(&rt)),
+            (Request { op: Op::Malformed { major: 3, minor: 0, bad: found }, .. }, 31) if found == bad
         )
     );
     assert!(rt;
         matches!(
-            read_head(b"rDIR"),
-            Err(Bad {
-                at: 2,
-                why: Why::Packet
-            })
-        )
-    );
-    assert!(rt;
-        matches!(
-            read_head(b"rDCI"),
-            Err(Bad {
-                at: 4,
-                why: Why::Short
-            })
-        )
-    );
-    let unknown = [
-        0x72, 0x44, 0x52, 0x49, 1, 0, 0, 0, 1, 0, 0, 0, 2, 0, 0, 0, 0x11, 0, 0, 0, 9, 0, 0, 0, 5,
-    ];
-    let read = read_request(rt.alloc(), &unknown);
-    assert!(rt;
-        matches!(
-            read,
-            Ok((
+            read(&rt, UNKNOWN),
+            (
                 Request {
                     op: Op::Unknown {
                         major: 0x11,
@@ -171,7 +114,67 @@ fn refuses_heads(rt: HostRuntime) {
                     ..
                 },
                 1
-            ))
+            )
         )
     );
+}
+
+#[test]
+fn answers_a_cut_read(rt: HostRuntime) {
+    let (request, _) = read(&rt, cut_read(&rt));
+    let kind = kind_of(&request.op);
+    let head = Head {
+        device: 1,
+        completion: 0,
+        status: Status::INVALID_PARAMETER,
+    };
+    let completion = write_completion(rt.alloc(), kind, &head, &Body::Fault);
+    let completion = completion.expect(&rt, "memory for a completion");
+    let wanted = b"rDCI\x01\0\0\0\0\0\0\0\x0d\0\0\xc0\0\0\0\0";
+    assert_eq!(rt; completion.as_slice(), wanted.as_slice());
+}
+
+#[test]
+fn reads_what_other_programs_complete(rt: HostRuntime) {
+    // A Close without its padding, a count without its padding, a buffer with bytes behind it.
+    let success = Status::SUCCESS;
+    assert!(rt; matches!(body(&rt, Kind::Close, success, b""), (Body::Closed, 0)));
+    assert!(rt;
+        matches!(
+            body(&rt, Kind::Count, success, b"\x02\0\0\0"),
+            (Body::Count(2), 0)
+        )
+    );
+    assert!(rt;
+        matches!(
+            body(&rt, Kind::Buffer, success, b"\x01\0\0\0ab"),
+            (Body::Buffer(bytes), 1) if bytes.as_slice() == b"a".as_slice()
+        )
+    );
+    assert!(rt;
+        matches!(
+            body(&rt, Kind::Create, Status::NO_MEMORY, &[0; 5]),
+            (Body::Fault, 5)
+        )
+    );
+    assert!(rt;
+        matches!(
+            read_body(rt.alloc(), Kind::Create, success, b"\x01\0\0\0"),
+            Err(ReadNo::Bad(Bad {
+                at: 4,
+                why: Why::Short
+            }))
+        )
+    );
+}
+
+#[test]
+fn refuses_heads(rt: HostRuntime) {
+    for (bytes, at, why) in [
+        ("xx", 0, Why::Component),
+        ("rDIR", 2, Why::Packet),
+        ("rDCI", 4, Why::Short),
+    ] {
+        assert_eq!(rt; read_head(bytes.as_bytes()), Err(Bad { at, why }));
+    }
 }
