@@ -2,15 +2,15 @@
 use Rattle.std.specs.Prelude.{ℕ, zero, suc, ◌≤◌, ◌+◌, ◌*◌, ◌==◌, nat_lt, if◌then◌else◌, List, [], ◌∷◌, ◌++◌, length, take, drop, bit_or}
 use Rattle.std.specs.List.{concat, flat_map}
 use Rattle.std.specs.Int.{w32, to_le_bytes, div_ceil}
-use Rattle.rd_chunk.specs.Sizes.{chunk_data, most_message}
+use Rattle.rd_chunk.specs.Sizes.{chunk_length, most_message}
 
--- the data of frame k: each has as many bytes of the message, the last what is left
+-- the data of frame k: each frame has chunk_length bytes of the message, the last what is left
 abbrev pub carrier_data : List ℕ → ℕ → List ℕ
-carrier_data message k = take chunk_data (drop (chunk_data * k) message)
+carrier_data message k = take chunk_length (drop (chunk_length * k) message)
 
 -- the flags of frame k: the first one's, and the last one's, behind which nothing is left
 abbrev pub carrier_flags : (bytes k : ℕ) → ℕ
-carrier_flags bytes k = bit_or (if k == 0 then 0x1 else 0) (if nat_lt (chunk_data * k + chunk_data) bytes then 0 else 0x2)
+carrier_flags bytes k = bit_or (if k == 0 then 0x1 else 0) (if nat_lt (chunk_length * k + chunk_length) bytes then 0 else 0x2)
 
 -- frame k: its size field, the message's length, its flags and its data
 unfoldable pub carrier_frame : List ℕ → ℕ → List ℕ
@@ -24,7 +24,7 @@ carrier_frames message (suc k) = carrier_frames message k ++ carrier_frame messa
 
 -- all frames of a message
 abbrev pub frames_for : List ℕ → List (List ℕ)
-frames_for message = carrier_frames message (div_ceil (length message) chunk_data)
+frames_for message = carrier_frames message (div_ceil (length message) chunk_length)
 
 -- the same, one behind another
 abbrev pub carrier_of : List ℕ → List ℕ

@@ -6,6 +6,7 @@ ghost use Rattle.rd_chunk.specs.declared.fault.ChunkWhy.{ChunkWhy};
 ghost use Rattle.rd_chunk.specs.declared.fault.ChunkWhy.TheVariants as why;
 ghost use Rattle.rd_chunk.specs.Frames.{AreFrames, One, Carried, Begun, data_of, is_first, is_last};
 ghost use Rattle.rd_chunk.specs.Faults.{ChunkFault};
+ghost use Rattle.rd_chunk.specs.Sizes.{most_message};
 ghost use Rattle.rd_chunk.specs.Standing.{Held, StandsFor};
 ghost use Rattle.rd_chunk.specs.Streams.{HasChunkFault, IsStream};
 ghost use Rattle.rd_chunk.specs.Carrier.{IsMessage, carrier_of, carrier_stream};
@@ -53,7 +54,7 @@ pub fn carrier_carries()
 pub fn worked_streams()
     ensures written { carrier_of worked.announce ≡ worked.announce_frame }
     ensures read { One worked.announce worked.announce_frame }
-    ensures longest { Begun 1052672 (0x61 ∷ []) worked.longest }
+    ensures longest { Begun most_message (0x61 ∷ []) worked.longest }
     ensures empty { ChunkFault worked.empty 0 why.Empty }
     ensures size { ChunkFault worked.too_small 0 why.Size }
     ensures compressed { ChunkFault worked.compressed 8 why.Compressed }

@@ -1,6 +1,6 @@
 //! The messages of a stream that is there in pieces.
 
-ghost use Rattle.std.specs.Prelude.{◌≡◌, ◌%◌, ◌^◌, ℕ, List, [], ◌++◌, None, IfOk, IfErr, OnOk, MatchResult};
+ghost use Rattle.std.specs.Prelude.{◌≡◌, ℕ, List, ◌++◌, None, IfOk, IfErr, OnOk, MatchResult};
 ghost use Rattle.std.specs.List.{concat};
 ghost use Rattle.rd_chunk.specs.Frames.{Carried};
 ghost use Rattle.rd_chunk.specs.Standing.{HasJoined, IfBad, waiting};

@@ -3,7 +3,7 @@
 ghost use Rattle.std.specs.Prelude.{◌≡◌, ◌<◌, ◌≤◌, ◌+◌, ◌*◌, ◌++◌, length, IfOk, OnOk};
 ghost use Rattle.rd_chunk.specs.Carrier.{carrier_of, carrier_frame, carrier_data, carrier_flags};
 ghost use Rattle.rd_chunk.specs.Frames.{One};
-ghost use Rattle.rd_chunk.specs.Sizes.{chunk_data, most_message};
+ghost use Rattle.rd_chunk.specs.Sizes.{chunk_length, most_message};
 
 use crate::head::{CHUNK_LEN, FIRST, HEAD_LEN, LAST};
 use rd_base::{Bytes, Items};
@@ -27,7 +27,7 @@ pub fn split(alloc: Global, message: &[u8]) -> Result<Bytes, AllocError>
 /// Appends frame `k`, counted from 0.
 #[tactic(auto, unfolding(crate::specs::Carrier::carrier_frame))]
 fn push_frame(stream: &mut Vec<u8>, message: &[u8], k: usize) -> Result<(), AllocError>
-    requires place { chunk_data * k < length message.now }
+    requires place { chunk_length * k < length message.now }
     requires most { length message.now ≤ most_message }
     ensures { OnOk result (stream.new.items ≡ stream.old.items ++ carrier_frame message.now k) }
 {
@@ -40,10 +40,10 @@ fn push_frame(stream: &mut Vec<u8>, message: &[u8], k: usize) -> Result<(), Allo
 
 /// The data of frame `k`.
 fn data_at(message: &[u8], k: usize) -> &[u8]
-    requires place { chunk_data * k < length message.now }
+    requires place { chunk_length * k < length message.now }
     requires most { length message.now ≤ most_message }
     ensures value { result.now ≡ carrier_data message.now k }
-    ensures most { length result.now ≤ chunk_data }
+    ensures most { length result.now ≤ chunk_length }
 {
     let from = k * CHUNK_LEN;
     let end = message.len().min(from + CHUNK_LEN);
@@ -52,7 +52,7 @@ fn data_at(message: &[u8], k: usize) -> &[u8]
 
 /// The flags of frame `k` of a message of so many bytes.
 fn flags_at(bytes: usize, k: usize) -> u32
-    requires place { chunk_data * k < bytes }
+    requires place { chunk_length * k < bytes }
     requires most { bytes ≤ most_message }
     ensures { result ≡ carrier_flags bytes k }
 {

@@ -1,9 +1,10 @@
--- What ends a run early, and what it has done by then.
+-- What ends a run early, and what it has done by then. `left` and `rest` are what the input has left at first and at last, `held` and
+-- `grown` what the recording holds, `shown` and `printed` what the output holds, each where that can be told.
 use Rattle.std.specs.Prelude.{◌≡◌, ℕ, ◌≤◌, ◌⊎◌, List, [], ◌∷◌, ◌++◌, length, Option, Some, None, codes, decimal, unwrap_or}
 use Rattle.std.specs.Io.KnownBytes.{Appends, Consumes, IsAtEnd}
 use Rattle.rd_base.specs.Fronts.{AppendsFront}
 use Rattle.rd_base.specs.History.{History}
-use Rattle.rd_drive.specs.DriveState.{opening}
+use Rattle.rd_base.specs.declared.journal.Item.{Item}
 use Rattle.rd_script.specs.declared.script_no.ScriptNo.{ScriptNo}
 use Rattle.rd_script.specs.declared.script_no.ScriptNo.TheVariants as script_no
 use Rattle.rd_script.specs.declared.outcome.Outcome.{Outcome}
@@ -11,9 +12,7 @@ use Rattle.rd_script.specs.Grammar.{IsFirstBad, IsScript, Said, most_bytes}
 use Rattle.rd_script.specs.Report.{journals_in, report_of}
 use Rattle.rd_session.specs.declared.run_no.RunNo.{RunNo}
 use Rattle.rd_session.specs.declared.run_no.RunNo.TheVariants as no
-use Rattle.rd_session.specs.Recording.{begins, recording_of}
-use Rattle.rd_session.specs.Early.{EndedEarly}
-use Rattle.rd_cli.specs.Headline.{RanScript}
+use Rattle.rd_cli.specs.Headline.{IsScriptRun, RanScript}
 use Rattle.rd_cli.specs.declared.stop.Stop.{Stop}
 use Rattle.rd_cli.specs.declared.stop.Stop.TheVariants as stop
 
@@ -65,8 +64,8 @@ abbrev pub HasRead : (left rest : Option (List ℕ)) → List ℕ → Type 0
 HasRead left rest text = Consumes left rest text × (length text ≤ most_bytes → IsAtEnd rest)
 
 -- Nothing ran: the recording wasn't touched, and no journal was stored.
-abbrev pub IsUnrun : {R : Type 0} → (wire recorded : R) → List (ℕ × History) → Type 0
-IsUnrun wire recorded books = (recorded ≡ wire) × (books ≡ [])
+abbrev pub IsUnrun : {R : Type 0} → (wire wire_then : R) → List (ℕ × History) → Type 0
+IsUnrun wire wire_then books = (wire_then ≡ wire) × (books ≡ [])
 
 -- The words are no command, or they are and this line of the text is the first outside the grammar.
 abbrev pub IsRefusal : List (List ℕ) → (left rest : Option (List ℕ)) → Stop → Type 0
@@ -82,34 +81,33 @@ Prints text shown printed failed = AppendsFront shown printed text × (failed �
 abbrev pub Refused : List (List ℕ) → (left rest shown printed : Option (List ℕ)) → Type 0 → Type 0
 Refused words left rest shown printed failed = (s : Stop) × IsRefusal words left rest s × Prints (unwrap_or (last_line s) []) shown printed failed
 
--- What is recorded of a script whose recording failed: a front of the recording's opening, or that and what its session left when it
--- ended early.
+-- What is recorded of a script whose recording failed: a front of the recording of a run of it.
 abbrev pub PartOfScript : Said → (held grown : Option (List ℕ)) → Type 0
 PartOfScript said held grown =
-    AppendsFront held grown (recording_of (begins ∷ []))
-    ⊎ ((middle : Option (List ℕ)) × Appends held middle (recording_of (begins ∷ [])) × EndedEarly (opening (unwrap_or said.label []) said.files) said.asks middle grown)
+    (outcomes : List Outcome) × (recording : List ℕ) × (books : List (ℕ × List Item)) × IsScriptRun said outcomes recording books × AppendsFront held grown recording
 
--- What is recorded and printed of a script of which a write failed. Either the recording failed: a part of it stands, no journal was
--- stored, and the output wasn't touched. Or the output failed: the script ran, its recording is whole and its journal stored, and a front
--- of its report stands.
-abbrev pub WroteFront : {K : Type 0} → Said → (held grown : Option (List ℕ)) → (output output_then : K) → (shown printed : Option (List ℕ)) → List (ℕ × History) → (of_wire of_output : Type 0) → Type 0
-WroteFront said held grown output output_then shown printed books of_wire of_output =
-    (of_wire × PartOfScript said held grown × (books ≡ []) × (output_then ≡ output))
-    ⊎ (of_output × ((outcomes : List Outcome) × RanScript said outcomes held grown books × AppendsFront shown printed (report_of outcomes (journals_in books))))
+-- The recording failed: a part of it stands, no journal was stored, and the output wasn't touched.
+abbrev pub FailedToRecord : {K : Type 0} → Said → (held grown : Option (List ℕ)) → List (ℕ × History) → (output output_then : K) → Type 0
+FailedToRecord said held grown books output output_then = PartOfScript said held grown × (books ≡ []) × (output_then ≡ output)
+
+-- The output failed: the script ran, its recording is whole and its journal stored, and a front of its report stands.
+abbrev pub FailedToReport : Said → (held grown : Option (List ℕ)) → List (ℕ × History) → (shown printed : Option (List ℕ)) → Type 0
+FailedToReport said held grown books shown printed =
+    (outcomes : List Outcome) × RanScript said outcomes held grown books × AppendsFront shown printed (report_of outcomes (journals_in books))
 
 -- A write failed: the words are the command, the input was read to its end, and it is a script of which this was written.
 abbrev pub FailedToWrite : List (List ℕ) → (left rest : Option (List ℕ)) → (Said → Type 0) → Type 0
 FailedToWrite words left rest wrote =
     AreBoth words × ((text : List ℕ) × (said : Said) × Consumes left rest text × IsAtEnd rest × IsScript text said × wrote said)
 
--- What has happened by the time of a stop, before its last line. Of a stop for the input or for a refusal nothing was done, and of one
--- for the output or the recording this.
+-- What holds at a stop, before its last line: for the input the first fact, for the output or the recording the second, and for a refusal
+-- its cause and the first.
 abbrev pub Stopped : List (List ℕ) → (left rest : Option (List ℕ)) → (nothing_done failed : Type 0) → Stop → Type 0
 Stopped words left rest nothing_done failed stop.Input = nothing_done
 Stopped words left rest nothing_done failed stop.Output = failed
 Stopped words left rest nothing_done failed stop.Memory = Unit {0}
 Stopped words left rest nothing_done failed s = IsRefusal words left rest s × nothing_done
 
--- The words are the command, and the input, where that can be told, is a script.
-abbrev pub IsGoodRun : List (List ℕ) → Option (List ℕ) → Type 0
-IsGoodRun words left = AreBoth words × ((text : List ℕ) × (said : Said) × (left ≡ Some text) × IsScript text said)
+-- The words are the command, and what the input has left can be told and is a script.
+abbrev pub GivesScript : List (List ℕ) → Option (List ℕ) → Type 0
+GivesScript words left = AreBoth words × ((text : List ℕ) × (said : Said) × (left ≡ Some text) × IsScript text said)

@@ -1,5 +1,6 @@
 -- What holds of a run of `both` that ended with status 0: how its script, its recording, its journal and its report belong
--- together.
+-- together. `left` and `rest` are what the input has left at first and at last, `held` and `grown` what the recording holds, `shown` and
+-- `printed` what the output holds, each where that can be told.
 use Rattle.std.specs.Prelude.{◌≡◌, ℕ, List, [], ◌∷◌, unwrap_or, Option, MatchOption}
 use Rattle.std.specs.Io.KnownBytes.{Appends, Consumes, IsAtEnd}
 use Rattle.rd_base.specs.History.{History}

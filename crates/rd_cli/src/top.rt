@@ -1,8 +1,9 @@
 //! The top call.
 
-ghost use Rattle.std.specs.Prelude.{◌≡◌, ◌≤◌, ⊤, ◌⊎◌, ◌↔◌, [], None, codes, IsTrue, map, option_map, string_bytes, unwrap_or, IfErr, IfOk, OnOk, IsErrOf};
+ghost use Rattle.std.specs.Prelude.{◌≡◌, ◌≤◌, ◌⊎◌, ◌↔◌, [], All, None, codes, IsTrue, map, option_map, string_bytes, unwrap_or, IfErr, IfOk, OnOk, IsErrOf};
 ghost use Rattle.rd_base.specs.Faults.{Rose};
-ghost use Rattle.rd_cli.specs.Causes.{AreBoth, Caused, FailedToWrite, IsGoodRun, IsOutputStop, IsUnrun, PartOfScript, Prints, Refused, Stopped, WroteFront, last_line, status_of};
+ghost use Rattle.rd_cli.specs.Causes.{AreBoth, Caused, FailedToRecord, FailedToReport, FailedToWrite, GivesScript, IsOutputStop, IsUnrun, PartOfScript, Prints, Refused, Stopped, last_line, status_of};
+ghost use Rattle.rd_script.specs.Asked.{CanBeSent};
 ghost use Rattle.rd_script.specs.Grammar.{Said};
 ghost use Rattle.rd_cli.specs.Headline.{RanScript, RanToEnd};
 ghost use Rattle.rd_script.specs.ReadScript.{HoldsSaid};
@@ -51,12 +52,15 @@ pub fn run<S: Source, K: Sink, R: Sink>(
         (K.held output.old) (K.held output.new) (Rose (K.faults output.old) (K.faults output.new)) × IsUnrun wire.old wire.new books.new }
     ensures unread { result ≡ 2 → IsUnrun wire.old wire.new books.new × (output.new ≡ output.old) }
     ensures unwritten { result ≡ 3 → FailedToWrite (map string_bytes words.now) (S.left input.old) (S.left input.new) (λ said.
-        WroteFront said (R.held wire.old) (R.held wire.new) output.old output.new (K.held output.old) (K.held output.new) books.new
-        (Rose (R.faults wire.old) (R.faults wire.new)) (Rose (K.faults output.old) (K.faults output.new))) }
+        (Rose (R.faults wire.old) (R.faults wire.new) × FailedToRecord said (R.held wire.old) (R.held wire.new) books.new output.old output.new)
+        ⊎ (Rose (K.faults output.old) (K.faults output.new) × FailedToReport said (R.held wire.old) (R.held wire.new) books.new (K.held output.old) (K.held output.new))) }
 
-    // A run to its end. It comes to it, unless something failed or memory ran out.
-    ensures complete { IsGoodRun (map string_bytes words.now) (S.left input.old) → (result ≡ 0) ⊎ ((result ≡ 6) ⊎
-        (Rose (S.faults input.old) (S.faults input.new) ⊎ (Rose (K.faults output.old) (K.faults output.new) ⊎ Rose (R.faults wire.old) (R.faults wire.new)))) }
+    // A script comes to its end, unless a read or a write fails or memory runs out. It is never refused.
+    ensures complete { GivesScript (map string_bytes words.now) (S.left input.old) → (result ≡ 0) ⊎ ((result ≡ 6) ⊎
+        (((result ≡ 2) × Rose (S.faults input.old) (S.faults input.new)) ⊎
+        ((result ≡ 3) × (Rose (K.faults output.old) (K.faults output.new) ⊎ Rose (R.faults wire.old) (R.faults wire.new))))) }
+
+    // A run to its end.
     ensures ran { result ≡ 0 → RanToEnd (S.left input.old) (S.left input.new) (R.held wire.old) (R.held wire.new) (K.held output.old) (K.held output.new) books.new }
 {
     match both(alloc, words, input, output, wire, books) {
@@ -78,9 +82,9 @@ fn both<S: Source, K: Sink, R: Sink>(
     ensures stopped { IfErr result (Stopped (map string_bytes words.now) (S.left input.old) (S.left input.new)
         (IsUnrun wire.old wire.new books.new × (output.new ≡ output.old))
         (FailedToWrite (map string_bytes words.now) (S.left input.old) (S.left input.new) (λ said.
-        WroteFront said (R.held wire.old) (R.held wire.new) output.old output.new (K.held output.old) (K.held output.new) books.new
-        (Rose (R.faults wire.old) (R.faults wire.new)) (Rose (K.faults output.old) (K.faults output.new))))) }
-    ensures cause { IfErr result (λ stop. Caused stop (¬ (IsGoodRun (map string_bytes words.now) (S.left input.old))) (Rose (S.faults input.old) (S.faults input.new))
+        (Rose (R.faults wire.old) (R.faults wire.new) × FailedToRecord said (R.held wire.old) (R.held wire.new) books.new output.old output.new)
+        ⊎ (Rose (K.faults output.old) (K.faults output.new) × FailedToReport said (R.held wire.old) (R.held wire.new) books.new (K.held output.old) (K.held output.new))))) }
+    ensures cause { IfErr result (λ stop. Caused stop (¬ (GivesScript (map string_bytes words.now) (S.left input.old))) (Rose (S.faults input.old) (S.faults input.new))
         (Rose (K.faults output.old) (K.faults output.new) ⊎ Rose (R.faults wire.old) (R.faults wire.new))) }
     ensures counted { (S.faults input.old ≤ S.faults input.new) × (K.faults output.old ≤ K.faults output.new) × (R.faults wire.old ≤ R.faults wire.new) }
     ensures ran { OnOk result (RanToEnd (S.left input.old) (S.left input.new) (R.held wire.old) (R.held wire.new) (K.held output.old) (K.held output.new) books.new) }
@@ -108,7 +112,7 @@ fn run_script<R: Sink>(
     requires { books.old ≡ [] }
     ensures counted { R.faults wire.old ≤ R.faults wire.new }
     ensures cause { IfErr result (λ stop. Caused stop ⊥ ⊥ (Rose (R.faults wire.old) (R.faults wire.new))) }
-    ensures early { IfErr result (λ stop. (said : Said) → HoldsSaid said script →
+    ensures early { IfErr result (λ stop. (said : Said) → HoldsSaid said script → All CanBeSent said.asks →
         IsOutputStop stop (PartOfScript said (R.held wire.old) (R.held wire.new) × (books.new ≡ []))) }
     ensures ran { IfOk result (λ outcomes. (said : Said) → HoldsSaid said script →
         RanScript said outcomes.items (R.held wire.old) (R.held wire.new) books.new) }

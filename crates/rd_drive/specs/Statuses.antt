@@ -29,10 +29,6 @@ object_name_not_found = record { 0 = 0xc000_0034 }
 abbrev pub not_supported : Status
 not_supported = record { 0 = 0xc000_00bb }
 
--- the request was given up before it ran
-abbrev pub cancelled : Status
-cancelled = record { 0 = 0xc000_0120 }
-
 -- no file id is left, or too many are in use
 abbrev pub too_many_opened_files : Status
 too_many_opened_files = record { 0 = 0xc000_011f }

@@ -171,14 +171,17 @@ impl MemoryDrive {
 /// The Information of a `Create` that opened what was there (MS-RDPEFS 2.2.1.5.1).
 const OPENED: u8 = 1;
 
-/// What a `Create` asks for where this form of the drive serves it: to open for reading what is there, shared by all.
-const SERVED_ACCESS: u32 = 0x8000_0000;
+/// The DesiredAccess of a `Create` that only reads.
+pub const GENERIC_READ: u32 = 0x8000_0000;
 
-const SERVED_SHARE: u32 = 7;
+/// The SharedAccess that lets everybody read, write and delete.
+pub const SHARE_ALL: u32 = 7;
 
-const SERVED_DISPOSITION: u32 = 1;
+/// The CreateDisposition that opens what is there and makes nothing.
+pub const OPEN_EXISTING: u32 = 1;
 
-const SERVED_OPTIONS: u32 = 0;
+/// The CreateOptions of a `Create` that wants nothing special.
+const NO_OPTIONS: u32 = 0;
 
 impl Device for MemoryDrive {
     ghost step = { drive_step };
@@ -193,10 +196,10 @@ impl Device for MemoryDrive {
         match job.op {
             Op::Malformed { .. } => fault(Status::INVALID_PARAMETER),
             Op::Create {
-                access: SERVED_ACCESS,
-                share: SERVED_SHARE,
-                disposition: SERVED_DISPOSITION,
-                options: SERVED_OPTIONS,
+                access: GENERIC_READ,
+                share: SHARE_ALL,
+                disposition: OPEN_EXISTING,
+                options: NO_OPTIONS,
                 path,
                 ..
             } if is_plain_path(path.as_slice()) => self.open(path),

@@ -13,6 +13,8 @@ mod path;
 mod plan;
 
 pub use device::Device;
-pub use drive::{AddNo, MAX_HANDLES, MAX_NODES, MemoryDrive};
+pub use drive::{
+    AddNo, GENERIC_READ, MAX_HANDLES, MAX_NODES, MemoryDrive, OPEN_EXISTING, SHARE_ALL,
+};
 pub use path::is_plain_path;
 pub use plan::{Job, MAX_READ, Plan, prepare};

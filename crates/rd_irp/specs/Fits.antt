@@ -9,9 +9,17 @@ use Rattle.rd_irp.specs.declared.completion.Body.{Body}
 use Rattle.rd_irp.specs.declared.completion.Body.TheVariants as body
 use Rattle.rd_irp.specs.declared.completion.Reply.{Reply}
 
--- A request with this operation can be sent: its path has at most 4,096 units and none is zero.
+-- the most units of a path
+abbrev pub most_path : ℕ
+most_path = 4096
+
+-- the most bytes of a buffer
+abbrev pub most_buffer : ℕ
+most_buffer = 1048576
+
+-- A request with this operation can be sent: its path isn't too long, and none of its units is zero.
 abbrev pub Fits : Op → Type 0
-Fits (op.Create access allocation attributes share disposition options path) = (length path ≤ 4096) × All (λ unit. unit ≢ 0) path
+Fits (op.Create access allocation attributes share disposition options path) = (length path ≤ most_path) × All (λ unit. unit ≢ 0) path
 Fits op.Close = Unit {0}
 Fits (op.Read offset len) = Unit {0}
 Fits (op.Unknown major minor) = ⊥
@@ -47,12 +55,12 @@ IsOfKind k b = ⊥
 abbrev pub BodyFits : Kind → Status → Body → Type 0
 BodyFits k status b = MatchBool (status.0 == 0) (IsOfKind k b) (b ≡ body.Fault) × IsCountable b
 
--- a body that leaves a completion within the limit of a message: its buffer has at most 1,048,576 bytes
+-- a body that leaves a completion within the limit of a message: its buffer isn't too long
 abbrev pub IsSendable : Body → Type 0
 IsSendable (body.Created file information) = Unit {0}
 IsSendable body.Closed = Unit {0}
 IsSendable (body.Count count) = Unit {0}
-IsSendable (body.Buffer bytes) = length bytes ≤ 1048576
+IsSendable (body.Buffer bytes) = length bytes ≤ most_buffer
 IsSendable body.Locked = Unit {0}
 IsSendable body.Fault = Unit {0}
 

@@ -8,7 +8,7 @@ ghost use Rattle.rd_irp.specs.Op.{create_body, op_body};
 ghost use Rattle.rd_irp.specs.Request.{request_head, SpellsRequest, FirstFaultOfRequest};
 ghost use Rattle.rd_base.specs.Reading.{WithTail, ForBad};
 ghost use Rattle.rd_irp.specs.Written.{request_bytes, major_of, op_bytes, IsOpInRange};
-ghost use Rattle.rd_irp.specs.Fits.{Fits, op_length};
+ghost use Rattle.rd_irp.specs.Fits.{Fits, op_length, most_path};
 
 use crate::head::{IO_REQUEST, put_header, read_header, tail_len};
 use crate::op::{MAX_PATH, Op};
@@ -246,7 +246,7 @@ fn body_len(op: &Op) -> usize
 
 /// The bytes of a path field: two for each unit, and two for the zero unit behind them.
 fn path_len(path: &Units) -> usize
-    requires { length path.now ≤ 4096 }
+    requires { length path.now ≤ most_path }
     ensures { result ≡ 2 * length path.now + 2 }
 {
     2 * path.as_slice().len() + 2
@@ -290,7 +290,7 @@ fn put_op(out: &mut Vec<u8>, op: &Op) -> Result<(), AllocError>
 
 /// Writes the length in bytes, the units, and one zero unit that the length counts.
 fn put_path(out: &mut Vec<u8>, path: &Units) -> Result<(), AllocError>
-    requires { length path.now ≤ 4096 }
+    requires { length path.now ≤ most_path }
     ensures bytes { OnOk result (out.new.items
         ≡ out.old.items ++ to_le_bytes w32 (2 * length path.now + 2) ++ path_bytes path.now) }
     ensures length { OnOk result (vec_len out.new ≡ vec_len out.old + 6 + 2 * length path.now) }

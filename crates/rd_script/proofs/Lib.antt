@@ -4,6 +4,7 @@ pub mod Opening
 pub mod Reading
 pub mod Pieces
 pub mod Texts
+pub mod Asking
 pub mod Readings
 pub mod StatusDigits
 pub mod Worked

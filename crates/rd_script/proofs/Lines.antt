@@ -108,7 +108,7 @@ plain_units (unit ∷ name) h =
 nat_le-true : (a b : ℕ) → nat_le a b ≡ true → a ≤ b
 nat_le-true a b h = grind (arith, nat_tests)
 
-plain_visible : (path : List ℕ) → IsPlainPath path → All Visible path × (length path ≤ 65)
+pub plain_visible : (path : List ℕ) → IsPlainPath path → All Visible path × (length path ≤ 65)
 plain_visible [] h = cc h
 plain_visible (unit ∷ name) h =
     let parts = and_parts (unit == 0x5c) (is_plain_name name) h in

@@ -26,7 +26,7 @@ use Rattle.rd_script.specs.declared.script.Script.{Script}
 use Rattle.rd_script.specs.declared.grammar.Line.{Line}
 use Rattle.rd_script.specs.declared.grammar.Line.TheVariants as line
 use Rattle.rd_script.specs.Grammar.{Said, nothing_said, Say, Adds, with_line, lines_of, text_of, IsWithinLimits, IsScript, IsFirstBad}
-use Rattle.rd_script.specs.ReadScript.{HoldsSaid, Reads}
+use Rattle.rd_script.specs.ReadScript.{HoldsSaid, ReadsLine}
 
 -- no line feed
 abbrev pub IsPlain : ℕ → Type 0
@@ -169,7 +169,7 @@ module _ (text : List ℕ) (n : ℕ) (piece : List ℕ) (there : n < length (lin
   piece_line = subst IsLine (sym is) (lines_fronts text n piece there)
 
   -- one line more
-  pub so_far_more : (end more : ℕ) (old new : Script) → SoFar text n end old → n < 1000 → more ≡ end + length piece → more ≤ 65536 → Reads old (text_of piece) true new → SoFar text (n + 1) more new
+  pub so_far_more : (end more : ℕ) (old new : Script) → SoFar text n end old → n < 1000 → more ≡ end + length piece → more ≤ 65536 → ReadsLine old (text_of piece) true new → SoFar text (n + 1) more new
   so_far_more end more old new s few end_is small reads =
       let read = reads s.said s.holds (omega (arith, s.few, s.within)) in
       record {
@@ -200,7 +200,7 @@ module _ (text : List ℕ) (n : ℕ) (piece : List ℕ) (there : n < length (lin
   bad_limit end script s past = bad_by end script s (inl (λ within. past (omega (arith, counted, within.0)) (omega (arith, bytes_counted, s.end_is, within.1))))
 
   -- a line that adds nothing
-  pub bad_line : (end : ℕ) (old new : Script) → SoFar text n end old → Reads old (text_of piece) false new → IsFirstBad text (n + 1)
+  pub bad_line : (end : ℕ) (old new : Script) → SoFar text n end old → ReadsLine old (text_of piece) false new → IsFirstBad text (n + 1)
   bad_line end old new s reads = bad_by end old s (inr (reads s.said s.holds (omega (arith, s.few, s.within))))
 
 -- all lines were read

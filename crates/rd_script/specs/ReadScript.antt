@@ -14,13 +14,13 @@ HoldsSaid said script.Empty = said ≡ nothing_said
 HoldsSaid said (script.Drive drive asks) = (label : List ℕ) × (said.label ≡ Some label) × (drive ≡ opening label said.files) × (asks.items ≡ said.asks)
 
 -- A script of a few files answers whether the line may follow what it says, and then says it too.
-abbrev pub Takes : Script → Line → Bool → Script → Type 0
-Takes old l fits new = (said : Said) → HoldsSaid said old → length said.files ≤ most_lines →
+abbrev pub TakesLine : Script → Line → Bool → Script → Type 0
+TakesLine old l fits new = (said : Said) → HoldsSaid said old → length said.files ≤ most_lines →
     MatchBool fits (MayFollow said l × HoldsSaid (with_line said l) new) (¬ (MayFollow said l))
 
 -- A script of a few files answers whether the text adds to what it says, and then says that.
-abbrev pub Reads : Script → List ℕ → Bool → Script → Type 0
-Reads old text fits new = (said : Said) → HoldsSaid said old → length said.files ≤ most_lines →
+abbrev pub ReadsLine : Script → List ℕ → Bool → Script → Type 0
+ReadsLine old text fits new = (said : Said) → HoldsSaid said old → length said.files ≤ most_lines →
     MatchBool fits ((more : Said) × Adds said text more × HoldsSaid more new) ((more : Said) → ¬ (Adds said text more))
 
 -- It holds of the line that was refused, unless memory ran out.

@@ -10,7 +10,7 @@ ghost use Rattle.rd_script.specs.declared.grammar.Line.TheVariants as line;
 
 use crate::ask::Ask;
 use rd_base::{Bytes, Units};
-use rd_drive::is_plain_path;
+use rd_drive::{GENERIC_READ, OPEN_EXISTING, SHARE_ALL, is_plain_path};
 use rd_irp::Op;
 use std::alloc::{AllocError, Global};
 use std::str;
@@ -101,18 +101,12 @@ fn open_line(alloc: Global, handle: &str, path: &str) -> Result<Option<Line>, Al
         allocation: 0,
         attributes: 0,
         share: SHARE_ALL,
-        disposition: OPEN,
+        disposition: OPEN_EXISTING,
         options: 0,
         path,
     };
     ask_line(alloc, handle, op)
 }
-
-const GENERIC_READ: u32 = 0x8000_0000;
-
-const SHARE_ALL: u32 = 7;
-
-const OPEN: u32 = 1;
 
 fn read_line(
     alloc: Global,

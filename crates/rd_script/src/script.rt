@@ -3,7 +3,7 @@
 ghost use Rattle.std.specs.Prelude.{◌≡◌, ◌≢◌, ◌-◌, ◌↔◌, All, IfOk, IfErr, IsTrue, length, take};
 ghost use Rattle.rd_drive.specs.PlainPath.{IsPlainPath};
 ghost use Rattle.rd_script.specs.Grammar.{IsFirstBad, IsScript, IsSkipped, Said, text_of};
-ghost use Rattle.rd_script.specs.ReadScript.{HoldsSaid, IsBadLine, Reads, Takes};
+ghost use Rattle.rd_script.specs.ReadScript.{HoldsSaid, IsBadLine, ReadsLine, TakesLine};
 ghost use Rattle.rd_script.specs.declared.grammar.Line.TheVariants as line;
 
 use crate::ask::Ask;
@@ -64,7 +64,7 @@ fn is_skipped(text: &[u8]) -> bool
 impl Script {
     /// Adds a line, or skips it where it is empty or a remark, and answers whether it may stand here.
     fn read_line(&mut self, alloc: Global, text: &[u8]) -> Result<bool, AllocError>
-        ensures { IfOk result (λ fits. Reads self.old text.now fits self.new) }
+        ensures { IfOk result (λ fits. ReadsLine self.old text.now fits self.new) }
     {
         if is_skipped(text) {
             return Ok(true);
@@ -79,7 +79,7 @@ impl Script {
 
     /// The drive comes first, and once.
     fn add_drive(&mut self, alloc: Global, label: Units) -> Result<bool, AllocError>
-        ensures { IfOk result (λ fits. Takes self.old (line.Drive label) fits self.new) }
+        ensures { IfOk result (λ fits. TakesLine self.old (line.Drive label) fits self.new) }
     {
         if matches!(self, Script::Drive { .. }) {
             return Ok(false);
@@ -93,7 +93,7 @@ impl Script {
 
     /// Files come behind the drive and before all that is asked, each path once.
     fn add_file(&mut self, path: &Units, bytes: Bytes) -> Result<bool, AllocError>
-        ensures { IfOk result (λ fits. IsPlainPath path.now → Takes self.old (line.File path.now bytes) fits self.new) }
+        ensures { IfOk result (λ fits. IsPlainPath path.now → TakesLine self.old (line.File path.now bytes) fits self.new) }
     {
         let Script::Drive { drive, asks } = self else {
             return Ok(false);
@@ -111,7 +111,7 @@ impl Script {
     }
 
     fn add_ask(&mut self, ask: Ask) -> Result<bool, AllocError>
-        ensures { IfOk result (λ fits. Takes self.old (line.Ask ask) fits self.new) }
+        ensures { IfOk result (λ fits. TakesLine self.old (line.Ask ask) fits self.new) }
     {
         let Script::Drive { asks, .. } = self else {
             return Ok(false);

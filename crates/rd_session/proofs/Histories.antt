@@ -1,4 +1,4 @@
--- A session's journal is a legal history, and what the client tells is what it answered.
+-- A session's journal is a lawful history, and what the client tells is what it answered.
 use Rattle.std.proofs.Common.{◌≡◌, ℕ, suc, ◌+◌, ◌≤◌, ◌<◌, List, [], ◌∷◌, map, length, get_or, Bool, true, false, Some, refl, ap, ◌∙◌, arith, inl, add-zero}
 use Rattle.std.specs.Prelude.{IfSome, Contains, slice_get, IsFalse}
 use Rattle.std.specs.List.{AllByRecursion, AllZip}

@@ -6,6 +6,8 @@ pub mod Lawfulness
 pub mod Histories
 pub mod Named
 pub mod Orders
+pub mod Going
 pub mod SoFar
+pub mod Fronts
 pub mod Recorded
 pub mod Worked

@@ -1,6 +1,6 @@
 -- A session after some of its lines.
-use Rattle.std.proofs.Common.{◌≡◌, ◌≤◌, ℕ, suc, ◌+◌, List, [], ◌∷◌, ◌++◌, length, map, Bool, true, false, Option, Some, None, refl, sym, ap, subst, ◌∙◌, append_assoc, arith}
-use Rattle.std.specs.Prelude.{◌↔◌, ◌&&◌, if◌then◌else◌, IsNone, bytes_eq, zip, fold, option_map, option_to_list}
+use Rattle.std.proofs.Common.{◌≡◌, ◌≤◌, ◌<◌, ◌^◌, ℕ, suc, ◌+◌, List, [], ◌∷◌, ◌++◌, length, map, Bool, true, false, Option, Some, None, refl, sym, ap, subst, ◌∙◌, append_assoc, arith}
+use Rattle.std.specs.Prelude.{◌↔◌, ◌&&◌, if◌then◌else◌, IfSome, IsNone, bytes_eq, zip, fold, option_map, option_to_list}
 use Rattle.std.specs.List.{flat_map}
 use Rattle.std.specs.Io.KnownBytes.{Appends}
 use Rattle.std.proofs.KnownBytes.{Appends-nil, Appends-trans}
@@ -9,10 +9,7 @@ use Rattle.std.proofs.lemmas.List.{append-nil, length-append, length-map, map_pu
 use Rattle.rd_base.specs.declared.journal.Item.{Item}
 use Rattle.rd_base.specs.declared.journal.Key.{Key}
 use Rattle.rd_irp.specs.declared.completion.Reply.{Reply}
-use Rattle.rd_drive.specs.DriveStep.{drive_step}
-use Rattle.rd_drive.specs.Replies.{last_state, replies_of}
-use Rattle.rd_drive.specs.Starved.{is_starved, unless_starved}
-use Rattle.rd_session.specs.Early.{EndedEarly, PartOfLine}
+use Rattle.rd_drive.specs.Replies.{replies_of}
 use Rattle.rd_irp.specs.declared.request.Request.{Request}
 use Rattle.rd_drive.specs.DriveState.{DriveState}
 use Rattle.rd_session.specs.Session.{IsHistory, IsSession, first_keys, in_turn, key_at}
@@ -23,6 +20,7 @@ use Rattle.rd_session.specs.Channel.{Ends, Exchange, Exchanges, EndsIn, Runs, an
 use Rattle.rd_session.specs.Outcomes.{Ended, answers_in, given_file, held_file, opened_file, opens, request_of, request_to, requests_of, file_named}
 use Rattle.rd_session.specs.Recording.{Entry, entry_bytes}
 use Rattle.rd_session.specs.Told.{Told, Counted, InOrder}
+use Rattle.rd_session.proofs.Going.{HoldSmall, given_small, proper_reply, small_either}
 use Rattle.rd_session.proofs.Course.{AreOwn, IsOwn, NamesFrom, RunsAll, replies_from, stored_from}
 use Rattle.rd_session.proofs.Histories.{history, named, names_from, replies, requests_of_list, told}
 use Rattle.rd_session.proofs.Orders.{completions, counted, fit, heard, in_order, sents, spelled, wire}
@@ -105,6 +103,7 @@ pub record SoFar (start : DriveState) (opened : Option (List ℕ)) (ended : List
   pub heard : map answer_in exchanges ≡ flat_map answers_in (map (λ (l : Ended). l.1) ended)
   pub refused : (before : List Ended) (line : Ended) (behind : List Ended) → ended ≡ before ++ line ∷ behind → (line.1 ≡ outcome.NoHandle) ↔ IsNone (request_of before line.0)
   pub holds : (name : List ℕ) → ends.files name ≡ held_file name ended
+  pub small : HoldSmall ends.files
   pub written : Appends opened ends.held (flat_map entry_bytes (flat_map recorded_in exchanges))
 
 -- before the first line
@@ -120,6 +119,7 @@ none_yet start ends drive journal asked files = record {
   heard = refl;
   refused = λ before line behind none. absurd (omega (arith, ap length none, length-append before (line ∷ behind)));
   holds = files;
+  small = λ name. subst (λ (o : Option ℕ). IfSome o (λ file. file < 2 ^ 32)) (sym (files name)) tt;
   written = Appends-nil ends.held;
 }
 
@@ -164,6 +164,7 @@ more_refused start opened ended ends asked so_far none =
       heard = so_far.heard ∙ sym (answers_more ended line ∙ append-nil (flat_map answers_in (map (λ (l : Ended). l.1) ended)));
       refused = refused_more ended line so_far.refused (λ same. subst (λ (r : Option Request). IsNone r) (sym no_request) refl, λ same. refl);
       holds = λ name. so_far.holds name ∙ sym (held_more name ended line ∙ none_given (opens asked.op) (bytes_eq asked.handle name) (held_file name ended) (named_none (opens asked.op) (ends.files asked.handle) none));
+      small = so_far.small;
       written = so_far.written;
     }
 
@@ -186,6 +187,8 @@ more_done start opened ended before after asked answered file so_far named excha
     let es : List Exchange = so_far.exchanges in
     let has_request : request_of ended asked ≡ Some (request_to asked.op file) = request_named before.files ended asked so_far.holds ∙ ap (λ (f : Option ℕ). option_map (request_to asked.op) f) named in
     let ran : Runs e.request e.reply before.drive after.drive = subst (λ (r : Request). Runs r e.reply before.drive after.drive) (sym exchanged.request_is) exchanged.ran in
+    let given : IfSome (given_file answered.body) (λ f. f < 2 ^ 32) = subst (λ (a : Answered). IfSome (given_file a.body) (λ f. f < 2 ^ 32)) (sym exchanged.answer)
+    (given_small e.reply.body (proper_reply e.request e.reply before.drive after.drive ran).body_fits) in
     record {
       exchanges = es ++ e ∷ [];
       own = own_more es e so_far.own (exchanged.sound, ap (λ (r : Request). r.device) exchanged.request_is, ap (λ (r : Request). r.completion) exchanged.request_is);
@@ -199,6 +202,8 @@ more_done start opened ended before after asked answered file so_far named excha
           ∙ ap (λ (a : Answered). flat_map answers_in (map (λ (l : Ended). l.1) ended) ++ a ∷ []) (sym exchanged.answer) ∙ sym (answers_more ended line);
       refused = refused_more ended line so_far.refused (λ same. absurd (cc), λ none. absurd (some_or_none (request_to asked.op file) (subst (λ (r : Option Request). IsNone r) has_request none)));
       holds = λ name. files name ∙ ap (λ (held : Option ℕ). if opens asked.op && bytes_eq asked.handle name then given_file answered.body else held) (so_far.holds name) ∙ sym (held_more name ended line);
+      small = λ name. subst (λ (o : Option ℕ). IfSome o (λ f. f < 2 ^ 32)) (sym (files name))
+          (small_either (opens asked.op && bytes_eq asked.handle name) (given_file answered.body) (before.files name) given (so_far.small name));
       written = subst (λ (bytes : List ℕ). Appends opened after.held bytes) (sym (bytes_more es e)) (Appends-trans opened before.held after.held _ _ so_far.written exchanged.recorded);
     }
 
@@ -294,43 +299,3 @@ unfolding none_yet
 empty_session start =
     let ends : Ends = record { files = λ name. None; asked = 0; drive = start; journal = []; held = None } in
     session start None [] ends (none_yet start ends refl refl refl (λ name. refl))
-
--- ---- a session that ends early
-last_left : (start now : DriveState) (requests : Key → Request) (n : ℕ) (es : List Exchange) → NamesFrom requests n es → RunsAll start es now → last_state start requests (stored_from n es) ≡ now
-last_left start now requests n [] names runs = sym runs
-last_left start now requests n (e ∷ es) names (middle, ran, others) =
-    ap (λ (request : Request). last_state (unless_starved start (is_starved e.reply) (drive_step start request.file request.op 0)).0 requests (stored_from (suc n) es)) names.0
-    ∙ ap (λ (state : DriveState). last_state state requests (stored_from (suc n) es)) ran.0
-    ∙ last_left middle now requests (suc n) es names.1 others
-
--- the drive behind a session
-session_left : (start : DriveState) (opened : Option (List ℕ)) (ended : List Ended) (ends : Ends) (so_far : SoFar start opened ended ends)
-    → last_state start (session start opened ended ends so_far).requests ends.journal ≡ ends.drive
-unfolding session
-session_left start opened ended ends so_far =
-    let asked : List Request = map (λ (e : Exchange). e.request) so_far.exchanges in
-    let requests : Key → Request = requests_of_list asked in
-    ap (λ (j : List Item). last_state start requests j) so_far.stored ∙ last_left start ends.drive requests 0 so_far.exchanges (names_from requests so_far.exchanges (named asked)) so_far.ran
-
--- Behind the lines that ended, of the next one a part passed.
-pub ended_early : (start : DriveState) (opened : Option (List ℕ)) (asks : List Asked) (count : ℕ) (rest behind : List Asked) (left : ℕ) (outcomes : List Outcome) (ends : Ends) (asked : Asked) (grown : Option (List ℕ))
-    → Lines start opened asks count rest left outcomes ends → rest ≡ asked ∷ behind → PartOfLine ends.drive (option_map (request_to asked.op) (file_named ends.files asked)) ends.held grown
-    → EndedEarly start asks opened grown
-ended_early start opened asks count rest behind left outcomes ends asked grown (ended, asks_are, outcomes_are, all, so_far) next part =
-    let lines : zip (map (λ (l : Ended). l.0) ended) (map (λ (l : Ended). l.1) ended) ≡ ended = zipped ended in
-    let request_is : option_map (request_to asked.op) (file_named ends.files asked) ≡ request_of (zip (map (λ (l : Ended). l.0) ended) (map (λ (l : Ended). l.1) ended)) asked =
-    sym (ap (λ (ls : List Ended). request_of ls asked) lines ∙ request_named ends.files ended asked so_far.holds) in
-    record {
-      before = map (λ (l : Ended). l.0) ended;
-      asked = asked;
-      behind = behind;
-      asks_are = asks_are ∙ ap (λ (l : List Asked). map (λ (k : Ended). k.0) ended ++ l) next;
-      outcomes = map (λ (l : Ended). l.1) ended;
-      journal = ends.journal;
-      recorded = flat_map recorded_in so_far.exchanges;
-      session = session start opened ended ends so_far;
-      middle = ends.held;
-      written = so_far.written;
-      part = subst (λ (state : DriveState). PartOfLine state (request_of (zip (map (λ (l : Ended). l.0) ended) (map (λ (l : Ended). l.1) ended)) asked) ends.held grown) (sym (session_left start opened ended ends so_far))
-          (subst (λ (r : Option Request). PartOfLine ends.drive r ends.held grown) request_is part);
-    }

@@ -1,5 +1,5 @@
--- What stands on the wire where a session ends early: a front of what would have been written.
-use Rattle.std.specs.Prelude.{◌≡◌, ℕ, ◌⊎◌, List, [], ◌∷◌, ◌++◌, take, zip, Option, Some, None, IsFalse}
+-- What stands on the wire where a session ends early: a front of what would have stood there.
+use Rattle.std.specs.Prelude.{◌≡◌, ℕ, ◌⊎◌, List, [], ◌++◌, take, Option, Some, None, IsFalse}
 use Rattle.std.specs.List.{flat_map}
 use Rattle.std.specs.Io.KnownBytes.{Appends}
 use Rattle.rd_base.specs.declared.journal.Item.{Item}
@@ -9,16 +9,19 @@ use Rattle.rd_irp.specs.declared.completion.Reply.{Reply}
 use Rattle.rd_irp.specs.declared.request.Request.{Request}
 use Rattle.rd_irp.specs.Written.{request_bytes}
 use Rattle.rd_drive.specs.DriveState.{DriveState}
-use Rattle.rd_drive.specs.Replies.{last_state}
 use Rattle.rd_drive.specs.Starved.{is_starved}
 use Rattle.rd_session.specs.declared.recording.End.TheVariants.{Host, Client}
 use Rattle.rd_script.specs.declared.outcome.Outcome.{Outcome}
 use Rattle.rd_script.specs.Asked.{Asked}
 use Rattle.rd_session.specs.Channel.{Runs}
-use Rattle.rd_session.specs.Outcomes.{request_of}
 use Rattle.rd_session.specs.Recording.{Entry, entry_bytes, recorded_bytes}
 use Rattle.rd_session.specs.Session.{IsSession}
 use Rattle.rd_session.specs.Told.{completion_written}
+
+-- A session that ended early recorded a front of a whole session: of one that begins so and in which this is asked for.
+abbrev pub EndedEarly : DriveState → List Asked → (held grown : Option (List ℕ)) → Type 0
+EndedEarly start asks held grown = (outcomes : List Outcome) × (journal : List Item) × (recorded : List Entry) ×
+    IsSession start asks outcomes journal recorded × AppendsFront held grown (flat_map entry_bytes recorded)
 
 -- What a request that may not have gone all its way left on the wire: a front of its entries, or these and a front of those of its
 -- completion with the reply of the drive.
@@ -32,18 +35,3 @@ PartOf drive request held grown =
 abbrev pub PartOfLine : DriveState → Option Request → (held grown : Option (List ℕ)) → Type 0
 PartOfLine drive None held grown = Appends held grown []
 PartOfLine drive (Some request) held grown = PartOf drive request held grown
-
--- A session that ended early: the first lines ended, and of what the next line sends a front was written, with the drive as those
--- lines left it.
-pub record EndedEarly (start : DriveState) (asks : List Asked) (held grown : Option (List ℕ)) : Type 0 where
-  pub before : List Asked
-  pub asked : Asked
-  pub behind : List Asked
-  pub asks_are : asks ≡ before ++ asked ∷ behind
-  pub outcomes : List Outcome
-  pub journal : List Item
-  pub recorded : List Entry
-  pub session : IsSession start before outcomes journal recorded
-  pub middle : Option (List ℕ)
-  pub written : Appends held middle (flat_map entry_bytes recorded)
-  pub part : PartOfLine (last_state start session.requests journal) (request_of (zip before outcomes) asked) middle grown

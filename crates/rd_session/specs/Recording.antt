@@ -33,7 +33,7 @@ Passed = End × List ℕ
 abbrev pub entries_of : Passed → List Entry
 entries_of passed = map (λ frame. sends passed.0 frame) (frames_for passed.1)
 
--- the bytes of these entries
+-- the bytes of the entries of a message
 abbrev pub recorded_bytes : End → List ℕ → List ℕ
 recorded_bytes end message = flat_map entry_bytes (entries_of (end, message))
 

@@ -3,6 +3,7 @@ use Rattle.std.specs.Prelude.{◌≡◌, ℕ, ◌<◌, ◌≤◌, ◌^◌, ◌�
 use Rattle.std.specs.List.{AllZip, filter_map}
 use Rattle.std.specs.Int.{w32, to_le_bytes}
 use Rattle.rd_base.specs.declared.journal.Key.{Key}
+use Rattle.rd_base.specs.declared.status.Status.{Status}
 use Rattle.rd_base.specs.declared.journal.Item.{Item}
 use Rattle.rd_base.specs.declared.journal.Item.TheVariants.{Ran, Cancelled, Sent}
 use Rattle.rd_irp.specs.declared.completion.Reply.{Reply}
@@ -12,8 +13,11 @@ use Rattle.rd_irp.specs.Fits.{reply_kind}
 use Rattle.rd_irp.specs.Completion.{SpellsHead, SpellsBody}
 use Rattle.rd_irp.specs.Header.{io_request, io_completion}
 use Rattle.rd_irp.specs.Written.{header_bytes, completion_bytes}
-use Rattle.rd_drive.specs.Statuses.{cancelled}
 use Rattle.rd_session.specs.Recording.{Passed, is_host, is_client}
+
+-- STATUS_CANCELLED (MS-ERREF 2.3): the request was given up before it ran
+abbrev pub cancelled : Status
+cancelled = record { 0 = 0xc000_0120 }
 
 -- the reply of a request that was cancelled
 abbrev pub cancelled_reply : Reply

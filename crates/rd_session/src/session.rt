@@ -1,12 +1,13 @@
 //! One application, one channel and one drive, a request after the other.
 
-ghost use Rattle.std.specs.Prelude.{◌≡◌, ◌<◌, ◌-◌, ◌^◌, List, option_map, IfOk, OnOk, OnErr};
+ghost use Rattle.std.specs.Prelude.{◌≡◌, ◌<◌, ◌-◌, ◌^◌, All, List, option_map, IfOk, OnOk, OnErr};
 ghost use Rattle.std.specs.List.{flat_map};
 ghost use Rattle.std.specs.Io.KnownBytes.{Appends};
 ghost use Rattle.rd_irp.specs.Fits.{Fits};
 ghost use Rattle.rd_session.specs.Recording.{Entry, entry_bytes};
 ghost use Rattle.rd_session.specs.Channel.{IsIdle, CountsWire, Exchanges, EndsIn, ends_of, file_under};
 ghost use Rattle.rd_session.specs.Early.{EndedEarly, PartOf, PartOfLine};
+ghost use Rattle.rd_script.specs.Asked.{CanBeSent};
 ghost use Rattle.rd_session.specs.Outcomes.{request_to, file_named};
 ghost use Rattle.rd_session.specs.Session.{IsSession};
 
@@ -44,7 +45,7 @@ pub fn run_session<R: Sink>(
     wire: &mut R,
 ) -> Result<Session, RunNo>
     ensures counted { CountsWire result (R.faults wire.old) (R.faults wire.new) }
-    ensures early { OnErr result (EndedEarly drive asks.items (R.held wire.old) (R.held wire.new)) }
+    ensures early { OnErr result (All CanBeSent asks.items → EndedEarly drive asks.items (R.held wire.old) (R.held wire.new)) }
     ensures session { IfOk result (λ session. (recorded : List Entry) ×
         IsSession drive asks.items session.outcomes.items session.journal.items recorded ×
         Appends (R.held wire.old) (R.held wire.new) (flat_map entry_bytes recorded)) }

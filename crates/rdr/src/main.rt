@@ -1,6 +1,6 @@
 //! `rdr`: both ends of Remote Desktop drive redirection.
 //!
-//! It makes the real input, outputs and recording, and leaves the rest to `rd_cli::run`.
+//! It makes the real input, output and recording, and leaves the rest to `rd_cli::run`.
 #![tactic(auto)]
 
 use rd_base::{Books, FileSink, StdSink, StdSource};

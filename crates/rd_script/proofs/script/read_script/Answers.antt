@@ -6,7 +6,7 @@ use Rattle.std.proofs.lemmas.List.FromFn.{length-enumerate_from}
 use Rattle.std.proofs.lemmas.Iterator.Consumers.{YieldsList-turn, YieldsList-end}
 use Rattle.rd_drive.proofs.Maps.{le_test}
 use Rattle.rd_script.specs.Grammar.{IsFirstBad, lines_of, text_of}
-use Rattle.rd_script.specs.ReadScript.{Reads}
+use Rattle.rd_script.specs.ReadScript.{ReadsLine}
 use Rattle.rd_script.proofs.Pieces.{SoFar, YieldsList-from_lines, turn_is, number_fits, piece_line, so_far_more, bad_limit, bad_line, all_read}
 use Rattle.rd_script.proofs.script.read_script.Goals as goal
 use Rattle.rd_script.proofs.script.read_script.Goals.{then-index-lt-MAX_LINES, else-index-lt-MAX_LINES, then-not-fits-via-then-not-fits, then-not-fits-via-else-not-fits+in_ok-read_line+then-not-branch}
@@ -23,8 +23,8 @@ loop-index-preserved c =
     let few : c.in-Some.index < 1000 = omega arith in
     let small : c.saturating_add-end.result ≤ 65536 = omega arith in
     let text = c.without_line_feed.ensures (piece_line c.args.bytes.now (length c.loop-index.yielded) c.in-Some.piece.now at.0 at.2) in
-    let reads : Reads c.loop-index.script (text_of c.in-Some.piece.now) true c.read_line.new.self =
-    subst (λ (b : Bool). Reads c.loop-index.script (text_of c.in-Some.piece.now) b c.read_line.new.self) c.if-not-branch.false (subst (λ (t : List ℕ). Reads c.loop-index.script t c.in_ok-read_line.field-0 c.read_line.new.self) text c.in_ok-read_line.ensures) in
+    let reads : ReadsLine c.loop-index.script (text_of c.in-Some.piece.now) true c.read_line.new.self =
+    subst (λ (b : Bool). ReadsLine c.loop-index.script (text_of c.in-Some.piece.now) b c.read_line.new.self) c.if-not-branch.false (subst (λ (t : List ℕ). ReadsLine c.loop-index.script t c.in_ok-read_line.field-0 c.read_line.new.self) text c.in_ok-read_line.ensures) in
     let push : length c.loop-index.yielded + 1 ≡ length (c.loop-index.yielded ++ (c.in-Some.index, c.in-Some.piece) ∷ []) = sym (length_push c.loop-index.yielded (c.in-Some.index, c.in-Some.piece)) in
     subst (λ (m : ℕ). SoFar c.args.bytes.now m c.saturating_add-end.result c.read_line.new.self) push
     (so_far_more c.args.bytes.now (length c.loop-index.yielded) c.in-Some.piece.now at.0 at.2 c.loop-index.end c.saturating_add-end.result c.loop-index.script c.read_line.new.self c.loop-index.invariant (omega (arith, few, at.1)) (omega (arith, small, c.saturating_add-end.ensures)) small reads)
@@ -47,7 +47,7 @@ returns-then-not-fits-clause-bad c =
       ])
       | then-not-fits-via-else-not-fits+in_ok-read_line+then-not-branch w ↦
           let text = w.without_line_feed.ensures (piece_line c.args.bytes.now (length c.loop-index.yielded) c.in-Some.piece.now at.0 at.2) in
-          let reads : Reads c.loop-index.script (text_of c.in-Some.piece.now) false w.read_line.new.self =
-          subst (λ (b : Bool). Reads c.loop-index.script (text_of c.in-Some.piece.now) b w.read_line.new.self) w.if-not-branch.true (subst (λ (t : List ℕ). Reads c.loop-index.script t w.in_ok-read_line.field-0 w.read_line.new.self) text w.in_ok-read_line.ensures) in
+          let reads : ReadsLine c.loop-index.script (text_of c.in-Some.piece.now) false w.read_line.new.self =
+          subst (λ (b : Bool). ReadsLine c.loop-index.script (text_of c.in-Some.piece.now) b w.read_line.new.self) w.if-not-branch.true (subst (λ (t : List ℕ). ReadsLine c.loop-index.script t w.in_ok-read_line.field-0 w.read_line.new.self) text w.in_ok-read_line.ensures) in
           bad_line c.args.bytes.now (length c.loop-index.yielded) c.in-Some.piece.now at.0 at.2 c.loop-index.end c.loop-index.script w.read_line.new.self c.loop-index.invariant reads
     ])

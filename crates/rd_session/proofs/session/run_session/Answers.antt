@@ -1,7 +1,8 @@
 use Rattle.std.proofs.Common.{◌≡◌, [], sym, arith}
 use Rattle.std.proofs.lemmas.List.{nil_from_length}
 use Rattle.rd_session.proofs.Early.{of_error, part_ended}
-use Rattle.rd_session.proofs.SoFar.{asked_few, ended_early, lines_more, none_yet, whole_session}
+use Rattle.rd_session.proofs.Fronts.{ended_early}
+use Rattle.rd_session.proofs.SoFar.{asked_few, lines_more, none_yet, whole_session}
 use Rattle.rd_session.proofs.session.run_session.Goals as goal
 
 pub loop-ask-init : goal.loop-ask-init
@@ -38,9 +39,9 @@ returns-clause-session g c =
 
 pub returns-in_err-serve-clause-early : goal.returns-in_err-serve-clause-early
 returns-in_err-serve-clause-early g c =
-    of_error c.from_residual.result _ (ended_early _ _ _ _ _ _ _ _ _ c.in-Some.ask _ c.loop-ask.invariant.lines c.in-Some.ensures.steps.0 c.in_err-serve.ensures.early)
+    of_error c.from_residual.result _ (λ can. ended_early _ _ _ _ _ _ _ _ _ c.in-Some.ask _ c.loop-ask.invariant.lines c.in-Some.ensures.steps.0 c.in_err-serve.ensures.early can)
 
 pub returns-in_err-push-clause-early : goal.returns-in_err-push-clause-early
 returns-in_err-push-clause-early g c =
     of_error c.from_residual-in_err-push.result _
-    (ended_early _ _ _ _ _ _ _ _ _ c.in-Some.ask _ c.loop-ask.invariant.lines c.in-Some.ensures.steps.0 (part_ended c.in-Some.ask _ _ _ c.in_ok-serve.ensures.ended))
+    (λ can. ended_early _ _ _ _ _ _ _ _ _ c.in-Some.ask _ c.loop-ask.invariant.lines c.in-Some.ensures.steps.0 (part_ended c.in-Some.ask _ _ _ c.in_ok-serve.ensures.ended) can)
