@@ -134,8 +134,9 @@ fn plain_forms_never_fail(rt: HostRuntime) -> Result<(), Fail> {
 fn std_forms_pass_bytes_on(rt: HostRuntime) {
     let mut source = StdSource::new(b"hi".as_slice());
     reads(&rt, &mut source, &[(Ok(2), *b"hi\0\0"), (Ok(0), [0; 4])]);
-    let mut sink = StdSink::new(Vec::new(rt.alloc()));
-    writes(&rt, &mut sink, &[(b"hi", Ok(2))]);
+    let mut written = Vec::new(rt.alloc());
+    writes(&rt, &mut StdSink::new(&mut written), &[(b"hi", Ok(2))]);
+    assert_eq!(rt; written.as_slice(), b"hi".as_slice());
 }
 
 #[test]

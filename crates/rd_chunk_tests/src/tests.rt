@@ -86,7 +86,7 @@ fn splits(
 }
 
 #[test]
-fn byte_rows(rt: HostRuntime) -> Result<(), Fail> {
+fn joins_streams_in_any_pieces(rt: HostRuntime) -> Result<(), Fail> {
     let rows: [Row; 6] = [
         (ANNOUNCE_FRAME, Some(ANNOUNCE), None),
         (
@@ -111,6 +111,11 @@ fn byte_rows(rt: HostRuntime) -> Result<(), Fail> {
         joins(&rt, &mut Joiner::new(rt.alloc()), row, 1)?;
         joins(&rt, &mut Joiner::new(rt.alloc()), row, 64)?;
     }
+    Ok(())
+}
+
+#[test]
+fn splits_messages(rt: HostRuntime) -> Result<(), Fail> {
     assert_eq!(rt; split(rt.alloc(), ANNOUNCE)?.as_slice(), ANNOUNCE_FRAME);
     for (size, length, last, first) in [
         (1600, 1612, 0, 0x48),

@@ -23,7 +23,7 @@ use Rattle.rd_session.proofs.Fronts.{front_behind, front_more, some_session}
 use Rattle.rd_session.proofs.SoFar.{empty_session}
 use Rattle.rd_cli.specs.declared.stop.Stop.{Stop}
 use Rattle.rd_cli.specs.declared.stop.Stop.TheVariants as stop
-use Rattle.rd_cli.specs.Causes.{Caused, FailedToRecord, FailedToReport, GivesScript, HasRead, IsOutputStop, PartOfScript, Stopped, last_line, status_of, stop_of, stop_of_script}
+use Rattle.rd_cli.specs.Causes.{Caused, FailedToRecord, FailedToReport, GivesBadLine, GivesScript, HasRead, IsLineStop, IsOutputStop, PartOfScript, Stopped, last_line, status_of, stop_of, stop_of_script}
 use Rattle.rd_script.specs.declared.script_no.ScriptNo.{ScriptNo}
 use Rattle.rd_script.specs.declared.script_no.ScriptNo.TheVariants as script_no
 use Rattle.rd_script.specs.ReadScript.{IsBadLine}
@@ -190,3 +190,26 @@ unread_script words left rest text script_no.Memory of_input of_output read bad 
 pub err_is : {T E : Type 0} (r : Result T E) (e : E) (P : E → Type 0) → IsErrAnd r (λ s. s ≡ e) → P e → IfErr r P
 err_is (Ok x) e P is p = absurd is
 err_is (Err s) e P is p = subst P (sym is) p
+
+-- ---- a script with a bad line
+-- A text that was read and is a script is all of the input, which then has no bad line.
+whole_text : (left rest : Option (List ℕ)) (text whole : List ℕ) (said : Said) (number : ℕ) → left ≡ Some whole → HasRead left rest text → IsScript text said → IsFirstBad whole number → ⊥
+whole_text None rest text whole said number is read script bad = absurd (cc)
+whole_text (Some xs) None text whole said number is (consumed, at_end) script bad = absurd consumed
+whole_text (Some xs) (Some ys) text whole said number is (consumed, at_end) script bad =
+    let none : ys ≡ [] = at_end (script_short text said script) in
+    let same : xs ≡ whole = some_is is in
+    let text_is : whole ≡ text = sym same ∙ consumed ∙ ap (λ (l : List ℕ). text ++ l) none ∙ append-nil text in
+    never_both text said number script (subst (λ (t : List ℕ). IsFirstBad t number) text_is bad)
+
+pub no_bad_line : (words : List (List ℕ)) (left rest : Option (List ℕ)) (text : List ℕ) (said : Said) (number : ℕ) → HasRead left rest text → IsScript text said → GivesBadLine words left number → ⊥
+no_bad_line words left rest text said number read script (both, (whole, is, bad)) = whole_text left rest text whole said number is read script bad
+
+-- the status of such a stop
+pub line_status : (s : Stop) (of_input : Type 0) (status : ℕ) → IsLineStop of_input s → (status ≡ status_of s) ⊎ (status ≡ 6) → (status ≡ 1) ⊎ ((status ≡ 6) ⊎ ((status ≡ 2) × of_input))
+line_status s of_input status line (inr six) = inr (inl six)
+line_status stop.Words of_input status line (inl is) = absurd line
+line_status (stop.Line number) of_input status line (inl is) = inl is
+line_status stop.Input of_input status line (inl is) = inr (inr (is, line))
+line_status stop.Output of_input status line (inl is) = absurd line
+line_status stop.Memory of_input status line (inl is) = inr (inl is)

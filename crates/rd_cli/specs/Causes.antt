@@ -111,3 +111,14 @@ Stopped words left rest nothing_done failed s = IsRefusal words left rest s × n
 -- The words are the command, and what the input has left can be told and is a script.
 abbrev pub GivesScript : List (List ℕ) → Option (List ℕ) → Type 0
 GivesScript words left = AreBoth words × ((text : List ℕ) × (said : Said) × (left ≡ Some text) × IsScript text said)
+
+-- The words are the command, and what the input has left can be told and has this first line outside the grammar.
+abbrev pub GivesBadLine : List (List ℕ) → Option (List ℕ) → ℕ → Type 0
+GivesBadLine words left number = AreBoth words × ((text : List ℕ) × (left ≡ Some text) × IsFirstBad text number)
+
+-- The stop is for a line, or for the input, and this holds, or it is for want of memory.
+abbrev pub IsLineStop : Type 0 → Stop → Type 0
+IsLineStop of_input (stop.Line number) = Unit {0}
+IsLineStop of_input stop.Input = of_input
+IsLineStop of_input stop.Memory = Unit {0}
+IsLineStop of_input _ = ⊥

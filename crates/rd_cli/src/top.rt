@@ -1,8 +1,8 @@
 //! The top call.
 
-ghost use Rattle.std.specs.Prelude.{◌≡◌, ◌≤◌, ◌⊎◌, ◌↔◌, [], All, None, codes, IsTrue, map, option_map, string_bytes, unwrap_or, IfErr, IfOk, OnOk, IsErrOf};
+ghost use Rattle.std.specs.Prelude.{◌≡◌, ℕ, ◌≤◌, ◌⊎◌, ◌↔◌, [], All, None, codes, IsTrue, map, option_map, string_bytes, unwrap_or, IfErr, IfOk, OnOk, IsErrAnd, IsErrOf};
 ghost use Rattle.rd_base.specs.Faults.{Rose};
-ghost use Rattle.rd_cli.specs.Causes.{AreBoth, Caused, FailedToRecord, FailedToReport, FailedToWrite, GivesScript, IsOutputStop, IsUnrun, PartOfScript, Prints, Refused, Stopped, last_line, status_of};
+ghost use Rattle.rd_cli.specs.Causes.{AreBoth, Caused, FailedToRecord, FailedToReport, FailedToWrite, GivesBadLine, GivesScript, IsLineStop, IsOutputStop, IsUnrun, PartOfScript, Prints, Refused, Stopped, last_line, status_of};
 ghost use Rattle.rd_script.specs.Asked.{CanBeSent};
 ghost use Rattle.rd_script.specs.Grammar.{Said};
 ghost use Rattle.rd_cli.specs.Headline.{RanScript, RanToEnd};
@@ -55,6 +55,10 @@ pub fn run<S: Source, K: Sink, R: Sink>(
         (Rose (R.faults wire.old) (R.faults wire.new) × FailedToRecord said (R.held wire.old) (R.held wire.new) books.new output.old output.new)
         ⊎ (Rose (K.faults output.old) (K.faults output.new) × FailedToReport said (R.held wire.old) (R.held wire.new) books.new (K.held output.old) (K.held output.new))) }
 
+    // A bad line is refused, unless a read fails or memory runs out.
+    ensures refuses { (number : ℕ) → GivesBadLine (map string_bytes words.now) (S.left input.old) number →
+        (result ≡ 1) ⊎ ((result ≡ 6) ⊎ ((result ≡ 2) × Rose (S.faults input.old) (S.faults input.new))) }
+
     // A script comes to its end, unless a read or a write fails or memory runs out. It is never refused.
     ensures complete { GivesScript (map string_bytes words.now) (S.left input.old) → (result ≡ 0) ⊎ ((result ≡ 6) ⊎
         (((result ≡ 2) × Rose (S.faults input.old) (S.faults input.new)) ⊎
@@ -86,6 +90,8 @@ fn both<S: Source, K: Sink, R: Sink>(
         ⊎ (Rose (K.faults output.old) (K.faults output.new) × FailedToReport said (R.held wire.old) (R.held wire.new) books.new (K.held output.old) (K.held output.new))))) }
     ensures cause { IfErr result (λ stop. Caused stop (¬ (GivesScript (map string_bytes words.now) (S.left input.old))) (Rose (S.faults input.old) (S.faults input.new))
         (Rose (K.faults output.old) (K.faults output.new) ⊎ Rose (R.faults wire.old) (R.faults wire.new))) }
+    ensures refuses { (number : ℕ) → GivesBadLine (map string_bytes words.now) (S.left input.old) number →
+        IsErrAnd result (IsLineStop (Rose (S.faults input.old) (S.faults input.new))) }
     ensures counted { (S.faults input.old ≤ S.faults input.new) × (K.faults output.old ≤ K.faults output.new) × (R.faults wire.old ≤ R.faults wire.new) }
     ensures ran { OnOk result (RanToEnd (S.left input.old) (S.left input.new) (R.held wire.old) (R.held wire.new) (K.held output.old) (K.held output.new) books.new) }
 {

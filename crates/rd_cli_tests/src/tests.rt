@@ -170,6 +170,7 @@ fn ends_where_the_outside_fails(rt: HostRuntime) -> Result<(), Fail> {
     // What fails, the status, and how many bytes are recorded by then.
     for (fails, status, recorded) in [
         ([[1].as_slice(), &[], &[]], 2, 0),
+        ([&[2], &[], &[]], 2, 0),
         ([&[], &[1], &[]], 3, 335),
         ([&[], &[], &[1]], 3, 0),
         ([&[], &[], &[2]], 3, 9),
@@ -253,5 +254,7 @@ fn knows_one_command(rt: HostRuntime) -> Result<(), Fail> {
     for words in [[].as_slice(), &["decode"], &["both", "both"], &["Both"]] {
         refuses(&rt, rt.alloc(), words, SCRIPT, b"bad words\n")?;
     }
-    Ok(())
+    // The line can't be written, and the status stays.
+    let unsaid = [[].as_slice(), &[1], &[]];
+    ends(&rt, rt.alloc(), &["decode"], SCRIPT, unsaid, (1, b"", b""))
 }

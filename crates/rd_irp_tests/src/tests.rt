@@ -136,7 +136,7 @@ fn answers_a_cut_read(rt: HostRuntime) {
 
 #[test]
 fn reads_what_other_programs_complete(rt: HostRuntime) {
-    // A Close without its padding, a count without its padding, a buffer with bytes behind it.
+    // A Close without its padding, a count without its padding, a buffer with bytes behind it, a fault with some, a Create that is cut.
     let success = Status::SUCCESS;
     assert!(rt; matches!(body(&rt, Kind::Close, success, b""), (Body::Closed, 0)));
     assert!(rt;

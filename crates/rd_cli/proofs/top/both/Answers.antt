@@ -8,7 +8,7 @@ use Rattle.rd_script.specs.Grammar.{Said}
 use Rattle.rd_script.specs.ReadScript.{HoldsSaid}
 use Rattle.rd_script.proofs.Asking.{script_can}
 use Rattle.rd_script.proofs.Texts.{script_short}
-use Rattle.rd_cli.proofs.Runs.{err_both, err_is, unread_script, whole_run, wire_stop}
+use Rattle.rd_cli.proofs.Runs.{err_both, err_is, no_bad_line, unread_script, whole_run, wire_stop}
 use Rattle.rd_cli.proofs.top.both.Goals as goal
 
 pub returns-clause-ran : goal.returns-clause-ran
@@ -44,3 +44,19 @@ returns-in_default-clause-stopped g c =
     let front = rw (c.as_bytes.ensures.value, report) at c.in_default.ensures.front in
     let written = inr (c.in_default.ensures.counted.1, (c.in_ok-outcomes.outcomes.items, c.in_ok-outcomes.ensures.ran script.0 script.2, front)) in
     (c.are_both.ensures.0 c.if-not-are_both.false, (text, script.0, c.in_ok-text.ensures.read, c.in_ok-text.ensures.whole (script_short text script.0 script.1), script.1, written))
+
+-- ---- a script has no bad line
+pub returns-in_err-outcomes-clause-refuses : goal.returns-in_err-outcomes-clause-refuses
+returns-in_err-outcomes-clause-refuses g c number bad =
+    let script = rw c.as_slice.ensures.value at c.in_ok-script.ensures.script in
+    absurd (no_bad_line _ _ _ c.in_ok-text.text.items script.0 number (c.in_ok-text.ensures.read, c.in_ok-text.ensures.whole) script.1 bad)
+
+pub returns-in_default-clause-refuses : goal.returns-in_default-clause-refuses
+returns-in_default-clause-refuses g c number bad =
+    let script = rw c.as_slice.ensures.value at c.in_ok-script.ensures.script in
+    absurd (no_bad_line _ _ _ c.in_ok-text.text.items script.0 number (c.in_ok-text.ensures.read, c.in_ok-text.ensures.whole) script.1 bad)
+
+pub returns-clause-refuses : goal.returns-clause-refuses
+returns-clause-refuses g c number bad =
+    let script = rw c.as_slice.ensures.value at c.in_ok-script.ensures.script in
+    absurd (no_bad_line _ _ _ c.in_ok-text.text.items script.0 number (c.in_ok-text.ensures.read, c.in_ok-text.ensures.whole) script.1 bad)
