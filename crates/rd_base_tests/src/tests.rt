@@ -146,6 +146,7 @@ fn makes_a_file_at_the_first_write(rt: HostRuntime) -> Result<(), Fail> {
     writes(&rt, &mut sink, &[(b"RDR", Ok(3))]);
     let mut source = StdSource::new(fs::open(&rt, "made.rec")?);
     reads(&rt, &mut source, &[(Ok(3), *b"RDR\0"), (Ok(0), [0; 4])]);
+    fs::remove_file(&rt, "made.rec")?;
     Ok(())
 }
 
