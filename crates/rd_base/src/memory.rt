@@ -77,7 +77,7 @@ impl Source for MemSource {
     }
 }
 
-/// A sink that takes every piece whole, keeps nothing and never fails.
+/// A sink that never fails, and remembers no byte.
 #[derive(Debug, Default, Drop)]
 pub struct PlainSink {}
 

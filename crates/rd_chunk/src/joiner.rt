@@ -45,8 +45,8 @@ impl Joiner {
         }
     }
 
-    /// Takes bytes up to the end of the message under way, and answers how many. While a finished message waits it
-    /// takes none. A fault stays: each later call answers it again. Want of memory changes nothing.
+    /// Takes what the piece has of one message, no byte behind its end, and answers how many. While a finished message waits
+    /// it takes none. A fault stays: each later call answers it again. Want of memory changes nothing.
     pub fn feed(&mut self, piece: &[u8]) -> Result<usize, FeedNo>
         // What is taken is the front of the piece, and the joiner then stands for that too.
         ensures count { IfOk result (λ n. n ≤ length piece.now) }
@@ -107,7 +107,7 @@ impl Joiner {
         Some(Items::of(mem::replace(&mut self.message, empty)))
     }
 
-    /// Whether no frame and no message is begun: the place where a stream may end.
+    /// Whether it stands between two messages, where a stream may end.
     pub fn between(&self) -> bool
         ensures stands { (before : ℕ) (bytes : List ℕ) → StandsFor self.now before bytes →
             IsTrue result ↔ (bytes ≡ []) }

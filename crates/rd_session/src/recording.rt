@@ -1,4 +1,4 @@
-//! The recording of a session: every frame of both directions as it is sent.
+//! The recording of a session: each frame as it is sent, by either end.
 
 ghost use Rattle.std.specs.Prelude.{◌≡◌, ℕ, List, [], ◌∷◌, OnOk, OnErr};
 ghost use Rattle.std.specs.Io.KnownBytes.{Appends};
