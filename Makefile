@@ -1,14 +1,14 @@
-# Thin names for the commands of the kit.
-.PHONY: build demo test bench
+# Thin names for the commands of the kit. README.md says what each costs.
+.PHONY: demo build test bench
 
-build: ## leaves the proved program at bin/rdr
+demo: ## runs an example script by the program as it stands, before any proof
+	@cd crates/rdr && rt try -- both < ../../examples/open_read_close.script
+
+build: ## proves the program and all below it, and leaves it at bin/rdr
 	cd crates/rdr && rt run -- both < /dev/null
 	mkdir -p bin && cp crates/rdr/out/rdr bin/rdr
 
-demo: build ## runs an example script and shows its report
-	bin/rdr both < examples/open_read_close.script
-
-test: ## the gate: every proof from nothing, the edits that must fail, the tests, the programs
+test: ## the gate: every proof, the edits that must fail, the tests, the programs
 	rt ci
 
 bench: ## what is measured, and how: bench/README.md

@@ -1,7 +1,10 @@
-pub mod Numbers
-pub mod Decided
-pub mod Times
-pub mod Units
-pub mod Writing
-pub mod UnitsWriting
+pub mod ListLemmas
+pub mod ResultLemmas
+pub mod NumberLemmas
+pub mod LayoutLemmas
+pub mod TimesLemmas
+pub mod PathLemmas
+pub mod WrittenLemmas
+pub mod WrittenPathLemmas
+pub mod JournalLemmas
 pub mod WorkedJournals

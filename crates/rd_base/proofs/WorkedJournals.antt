@@ -1,5 +1,5 @@
 -- Journals that are lawful and journals that aren't.
-use Rattle.std.proofs.Common.{◌≡◌, ◌≢◌, refl, sym, ap, subst, ℕ, zero, suc, ◌<◌, ◌≤◌, arith, ◌⊎◌, List, [], ◌∷◌, ◌++◌, append-nil, append_assoc, Bool, true, false, inl, inr, lit<, lit≤, length, take, drop}
+use Rattle.std.proofs.Common.{◌≡◌, ◌≢◌, refl, sym, ap, subst, ℕ, zero, suc, ◌<◌, ◌≤◌, arith, ◌⊎◌, List, [], ◌∷◌, Bool, true, false, inl, inr, lit<, lit≤, length, take, drop}
 use Rattle.std.specs.Prelude.{Contains, Some, IfSome, slice_get}
 use Rattle.std.specs.List.{AllByRecursion, list_any}
 use Rattle.std.proofs.lemmas.List.Elements.{All-from_recursion}
@@ -9,42 +9,8 @@ use Rattle.rd_base.specs.declared.journal.Cause.{Cause}
 use Rattle.rd_base.specs.declared.journal.Cause.TheVariants.{Removed, Dropped}
 use Rattle.rd_base.specs.declared.journal.Item.{Item}
 use Rattle.rd_base.specs.declared.journal.Item.TheVariants.{Came, Ran, Cancelled, Sent, Cut}
-use Rattle.rd_base.specs.Lawful.{IsLawful, EachAfter, IsBehind, IsBelow, Settles, RisesAbove, SettlesFirst, SendsFirst, RunsUncut, CancelsRemoved, NamesRemembered, CutsFewUnsent, FewUnsent, is_unsent, named_key}
-
--- the same entry by entry, which computes
-abbrev pub EachInTurn : (List Item → Item → Type 0) → List Item → List Item → Type 0
-EachInTurn P before [] = Unit {0}
-EachInTurn P before (item ∷ items) = P before item × EachInTurn P (before ++ item ∷ []) items
-
-from_turns : (P : List Item → Item → Type 0) (front journal : List Item) → EachInTurn P front journal → (before : List Item) (item : Item) (behind : List Item) → journal ≡ before ++ item ∷ behind → P (front ++ before) item
-from_turns P front [] turns [] item behind e = absurd (cc)
-from_turns P front [] turns (b ∷ bs) item behind e = absurd (cc)
-from_turns P front (x ∷ xs) turns [] item behind e = let same : x ≡ item = cc in rw append-nil (subst (P front) same turns.0)
-from_turns P front (x ∷ xs) turns (b ∷ bs) item behind e =
-    let same : x ≡ b = cc in
-    let rest : xs ≡ bs ++ item ∷ behind = cc in
-    let met : P ((front ++ x ∷ []) ++ bs) item = from_turns P (front ++ x ∷ []) xs turns.1 bs item behind rest in
-    subst (λ (y : Item). P (front ++ y ∷ bs) item) same (subst (λ (ys : List Item). P ys item) (append_assoc front (x ∷ []) bs) met)
-
-pub EachAfter-from_turns : (P : List Item → Item → Type 0) (journal : List Item) → EachInTurn P [] journal → EachAfter P journal
-EachAfter-from_turns P journal turns before item behind e = from_turns P [] journal turns before item behind e
-
-to_turns : (P : List Item → Item → Type 0) (front journal : List Item) → ((before : List Item) (item : Item) (behind : List Item) → journal ≡ before ++ item ∷ behind → P (front ++ before) item) → EachInTurn P front journal
-to_turns P front [] each = tt
-to_turns P front (x ∷ xs) each = (
-  rw append-nil at (each [] x xs refl),
-  to_turns P (front ++ x ∷ []) xs (λ before item behind e. subst (λ (ys : List Item). P ys item) (sym (append_assoc front (x ∷ []) before)) (each (x ∷ before) item behind (ap (λ (ys : List Item). x ∷ ys) e))),
-)
-
-turns-append : (P : List Item → Item → Type 0) (front journal : List Item) (item : Item) → EachInTurn P front journal → P (front ++ journal) item → EachInTurn P front (journal ++ item ∷ [])
-turns-append P front [] item turns met = (rw append-nil at met, tt)
-turns-append P front (x ∷ xs) item turns met =
-    (turns.0, turns-append P (front ++ x ∷ []) xs item turns.1 (subst (λ (ys : List Item). P ys item) (sym (append_assoc front (x ∷ []) xs)) met))
-
--- An entry at the end adds what it has to meet, and takes nothing away.
-pub EachAfter-append : (P : List Item → Item → Type 0) (journal : List Item) (item : Item) → EachAfter P journal → P journal item → EachAfter P (journal ++ item ∷ [])
-EachAfter-append P journal item each met =
-    EachAfter-from_turns P (journal ++ item ∷ []) (turns-append P [] journal item (to_turns P [] journal each) met)
+use Rattle.rd_base.proofs.JournalLemmas.{EachAfter-from_turns}
+use Rattle.rd_base.specs.Lawful.{IsLawful, IsBefore, IsBelow, Settles, RisesAbove, SettlesFirst, SendsFirst, RunsUncut, CancelsRemoved, NamesRemembered, CutsFewUnsent, FewUnsent, is_unsent, named_key}
 
 -- the two requests of the cases below, and a request of the next channel
 abbrev one : Key
@@ -75,8 +41,8 @@ ran_twice_is_unlawful lawful =
     (lawful.runs_once (Came one ∷ Ran one 0 false false ∷ []) (Ran one 0 false false) [] refl).1 1 (Came one) (lit< tt) refl
 
 -- ---- a request runs that never came
-pub ran_unasked_is_unlawful : ¬ (IsLawful (Ran one 0 false false ∷ []))
-ran_unasked_is_unlawful lawful = let came = (lawful.runs_once [] (Ran one 0 false false) [] refl).0 in omega (arith, came.1)
+pub ran_without_coming_is_unlawful : ¬ (IsLawful (Ran one 0 false false ∷ []))
+ran_without_coming_is_unlawful lawful = let came = (lawful.runs_once [] (Ran one 0 false false) [] refl).0 in omega (arith, came.1)
 
 -- ---- a completion is sent twice
 pub sent_twice_is_unlawful : ¬ (IsLawful (Came one ∷ Ran one 0 false false ∷ Sent one ∷ Sent one ∷ []))
@@ -84,36 +50,36 @@ sent_twice_is_unlawful lawful =
     (lawful.sent_once (Came one ∷ Ran one 0 false false ∷ Sent one ∷ []) (Sent one) [] refl).1 2 (Came one) (lit< tt) refl
 
 -- ---- a request runs though the device was removed since it came
-pub ran_behind_cut_is_unlawful : ¬ (IsLawful (Came one ∷ Cut Removed ∷ Ran one 0 false false ∷ []))
-ran_behind_cut_is_unlawful lawful =
-    lawful.no_run_behind_cut (Came one ∷ Cut Removed ∷ []) (Ran one 0 false false) [] refl Removed (0, 1, lit< tt, refl, refl)
+pub ran_after_cut_is_unlawful : ¬ (IsLawful (Came one ∷ Cut Removed ∷ Ran one 0 false false ∷ []))
+ran_after_cut_is_unlawful lawful =
+    lawful.no_run_after_cut (Came one ∷ Cut Removed ∷ []) (Ran one 0 false false) [] refl Removed (0, 1, lit< tt, refl, refl)
 
 -- ---- a request is sent on, though its channel was dropped
-pub sent_behind_drop_is_unlawful : ¬ (IsLawful (Came one ∷ Ran one 0 false false ∷ Cut Dropped ∷ Sent one ∷ []))
-sent_behind_drop_is_unlawful lawful =
+pub sent_after_drop_is_unlawful : ¬ (IsLawful (Came one ∷ Ran one 0 false false ∷ Cut Dropped ∷ Sent one ∷ []))
+sent_after_drop_is_unlawful lawful =
     (lawful.drop_forgets (Came one ∷ Ran one 0 false false ∷ Cut Dropped ∷ []) (Sent one) [] refl).0 (0, 2, lit< tt, refl, refl)
 
 -- ---- what doesn't stand in a list, entry by entry
 abbrev IsNowhere : Item → List Item → Type 0
-IsNowhere b items = AllByRecursion (λ item. item ≢ b) items
+IsNowhere b entries = AllByRecursion (λ entry. entry ≢ b) entries
 
-abbrev NeverBehind : Item → Item → List Item → Type 0
-NeverBehind a b [] = Unit {0}
-NeverBehind a b (x ∷ xs) = (x ≡ a → IsNowhere b xs) × NeverBehind a b xs
+abbrev NeverBefore : Item → Item → List Item → Type 0
+NeverBefore a b [] = Unit {0}
+NeverBefore a b (x ∷ xs) = (x ≡ a → IsNowhere b xs) × NeverBefore a b xs
 
-nowhere : (b : Item) (items : List Item) → IsNowhere b items → (j : ℕ) → ¬ (slice_get items j ≡ Some b)
+nowhere : (b : Item) (entries : List Item) → IsNowhere b entries → (j : ℕ) → ¬ (slice_get entries j ≡ Some b)
 nowhere b [] none j e = absurd (cc)
 nowhere b (x ∷ xs) none zero e = let same : x ≡ b = cc in none.0 same
 nowhere b (x ∷ xs) none (suc j) e = nowhere b xs none.1 j e
 
-not_behind : (a b : Item) (items : List Item) → NeverBehind a b items → (i j : ℕ) → i < j → slice_get items i ≡ Some a → ¬ (slice_get items j ≡ Some b)
-not_behind a b [] never i j below first e = absurd (cc)
-not_behind a b (x ∷ xs) never i zero below first e = absurd (omega arith)
-not_behind a b (x ∷ xs) never zero (suc j) below first e = let same : x ≡ a = cc in nowhere b xs (never.0 same) j e
-not_behind a b (x ∷ xs) never (suc i) (suc j) below first e = not_behind a b xs never.1 i j (omega arith) first e
+not_before : (a b : Item) (entries : List Item) → NeverBefore a b entries → (i j : ℕ) → i < j → slice_get entries i ≡ Some a → ¬ (slice_get entries j ≡ Some b)
+not_before a b [] never i j below first e = absurd (cc)
+not_before a b (x ∷ xs) never i zero below first e = absurd (omega arith)
+not_before a b (x ∷ xs) never zero (suc j) below first e = let same : x ≡ a = cc in nowhere b xs (never.0 same) j e
+not_before a b (x ∷ xs) never (suc i) (suc j) below first e = not_before a b xs never.1 i j (omega arith) first e
 
-never_behind : (a b : Item) (items : List Item) → NeverBehind a b items → ¬ (IsBehind items a b)
-never_behind a b items never (i, j, below, first, second) = not_behind a b items never i j below first second
+never_before : (a b : Item) (entries : List Item) → NeverBefore a b entries → ¬ (IsBefore entries a b)
+never_before a b entries never (i, j, below, first, second) = not_before a b entries never i j below first second
 
 few_of_short : (journal : List Item) → length journal ≤ 128 → FewUnsent journal
 few_of_short journal short channel last = omega (arith, count_by-le-length (is_unsent journal channel) journal)
@@ -121,14 +87,14 @@ few_of_short journal short channel last = omega (arith, count_by-le-length (is_u
 -- ---- a request is cancelled though the device is there
 pub cancelled_unremoved_is_unlawful : ¬ (IsLawful (Came one ∷ Cancelled one ∷ []))
 cancelled_unremoved_is_unlawful lawful =
-    never_behind (Came one) (Cut Removed) (Came one ∷ []) ((λ e. tt), tt) (lawful.cancelled_behind_removal (Came one ∷ []) (Cancelled one) [] refl)
+    never_before (Came one) (Cut Removed) (Came one ∷ []) ((λ e. tt), tt) (lawful.cancelled_after_removal (Came one ∷ []) (Cancelled one) [] refl)
 
 -- ---- 129 requests wait at once
 pub many : ℕ → List Item
 many zero = []
 many (suc n) = Came (record { channel = 1; index = n }) ∷ many n
 
-none_above : (n : ℕ) → AllByRecursion (λ item. IfSome (named_key item) (λ key. key.channel ≤ 1)) (many n)
+none_above : (n : ℕ) → AllByRecursion (λ entry. IfSome (named_key entry) (λ key. key.channel ≤ 1)) (many n)
 unfolding many
 none_above zero = tt
 none_above (suc n) = (lit≤ tt, none_above n)
@@ -136,7 +102,7 @@ none_above (suc n) = (lit≤ tt, none_above n)
 pub waiting_129_is_unlawful : ¬ (IsLawful (many 129))
 unfolding many
 waiting_129_is_unlawful lawful =
-    let few : 129 ≤ 128 = lawful.few_unsent.1 1 (All-from_recursion (λ item. IfSome (named_key item) (λ key. key.channel ≤ 1)) (many 129) (none_above 129)) in
+    let few : 129 ≤ 128 = lawful.few_unsent.1 1 (All-from_recursion (λ entry. IfSome (named_key entry) (λ key. key.channel ≤ 1)) (many 129) (none_above 129)) in
     omega arith
 
 -- ---- lawful ones
@@ -153,7 +119,7 @@ is_cut : Item → Bool
 is_cut (Cut cause) = true
 is_cut _ = false
 
-no_cut : (items : List Item) (cause : Cause) → list_any is_cut items ≡ false → (j : ℕ) → ¬ (slice_get items j ≡ Some (Cut cause))
+no_cut : (entries : List Item) (cause : Cause) → list_any is_cut entries ≡ false → (j : ℕ) → ¬ (slice_get entries j ≡ Some (Cut cause))
 unfolding is_cut
 no_cut [] cause none j e = absurd (cc)
 no_cut (x ∷ xs) cause none zero e =
@@ -166,8 +132,8 @@ no_cut (Ran k m s p ∷ xs) cause none (suc j) e = no_cut xs cause none j e
 no_cut (Cancelled k ∷ xs) cause none (suc j) e = no_cut xs cause none j e
 no_cut (Sent k ∷ xs) cause none (suc j) e = no_cut xs cause none j e
 
-uncut : (items : List Item) → list_any is_cut items ≡ false → (a : Item) (cause : Cause) → ¬ (IsBehind items a (Cut cause))
-uncut items none a cause (i, j, below, first, second) = no_cut items cause none j second
+uncut : (entries : List Item) → list_any is_cut entries ≡ false → (a : Item) (cause : Cause) → ¬ (IsBefore entries a (Cut cause))
+uncut entries none a cause (i, j, below, first, second) = no_cut entries cause none j second
 
 none_before : (k : Key) → ¬ (Contains [] (Came k))
 none_before k c = omega (arith, c.1)
@@ -177,16 +143,16 @@ alone k l (zero, inside, same) = cc
 alone k l (suc i, inside, same) = absurd (omega arith)
 
 low : ℕ → Item → Type 0
-low channel item = IfSome (named_key item) (λ key. key.channel ≤ channel)
+low channel entry = IfSome (named_key entry) (λ key. key.channel ≤ channel)
 
 pub ordinary_is_lawful : IsLawful ordinary
 unfolding is_cut low
 ordinary_is_lawful = record {
   keys_rise = EachAfter-from_turns RisesAbove ordinary ((λ k c. absurd (none_before k c)), ((λ k c. subst (λ (l : Key). IsBelow l two) (alone one k c) (inr (refl, lit< tt))), (tt, (tt, (tt, (tt, tt))))));
-  runs_once = EachAfter-from_turns SettlesFirst ordinary (tt, (tt, (((0, lit< tt, refl), All-from_recursion (λ item. ¬ (Settles one item)) (take 2 ordinary) ((λ e. e), ((λ e. e), tt))), (((1, lit< tt, refl), All-from_recursion (λ item. ¬ (Settles two item)) (take 3 ordinary) ((λ e. e), ((λ e. e), (one≢two, tt)))), (tt, (tt, tt))))));
-  sent_once = EachAfter-from_turns SendsFirst ordinary (tt, (tt, (tt, (tt, (((3, Ran two 0 true false, lit< tt, refl, refl), All-from_recursion (λ item. item ≢ Sent two) (take 4 ordinary) ((λ e. cc), ((λ e. cc), ((λ e. cc), ((λ e. cc), tt))))), (((2, Ran one 0 false false, lit< tt, refl, refl), All-from_recursion (λ item. item ≢ Sent one) (take 5 ordinary) ((λ e. cc), ((λ e. cc), ((λ e. cc), ((λ e. cc), ((λ e. let same : two ≡ one = cc in one≢two (sym same)), tt)))))), tt))))));
-  no_run_behind_cut = EachAfter-from_turns RunsUncut ordinary (tt, (tt, (uncut (take 2 ordinary) refl (Came one), (uncut (take 3 ordinary) refl (Came two), (tt, (tt, tt))))));
-  cancelled_behind_removal = EachAfter-from_turns CancelsRemoved ordinary (tt, (tt, (tt, (tt, (tt, (tt, tt))))));
+  runs_once = EachAfter-from_turns SettlesFirst ordinary (tt, (tt, (((0, lit< tt, refl), All-from_recursion (λ entry. ¬ (Settles one entry)) (take 2 ordinary) ((λ e. e), ((λ e. e), tt))), (((1, lit< tt, refl), All-from_recursion (λ entry. ¬ (Settles two entry)) (take 3 ordinary) ((λ e. e), ((λ e. e), (one≢two, tt)))), (tt, (tt, tt))))));
+  sent_once = EachAfter-from_turns SendsFirst ordinary (tt, (tt, (tt, (tt, (((3, Ran two 0 true false, lit< tt, refl, refl), All-from_recursion (λ entry. entry ≢ Sent two) (take 4 ordinary) ((λ e. cc), ((λ e. cc), ((λ e. cc), ((λ e. cc), tt))))), (((2, Ran one 0 false false, lit< tt, refl, refl), All-from_recursion (λ entry. entry ≢ Sent one) (take 5 ordinary) ((λ e. cc), ((λ e. cc), ((λ e. cc), ((λ e. cc), ((λ e. let same : two ≡ one = cc in one≢two (sym same)), tt)))))), tt))))));
+  no_run_after_cut = EachAfter-from_turns RunsUncut ordinary (tt, (tt, (uncut (take 2 ordinary) refl (Came one), (uncut (take 3 ordinary) refl (Came two), (tt, (tt, tt))))));
+  cancelled_after_removal = EachAfter-from_turns CancelsRemoved ordinary (tt, (tt, (tt, (tt, (tt, (tt, tt))))));
   drop_forgets = EachAfter-from_turns NamesRemembered ordinary ((uncut (take 0 ordinary) refl (Came one) Dropped, All-from_recursion (low 1) [] tt), ((uncut (take 1 ordinary) refl (Came two) Dropped, All-from_recursion (low 1) (take 1 ordinary) (lit≤ tt, tt)), ((uncut (take 2 ordinary) refl (Came one) Dropped, All-from_recursion (low 1) (take 2 ordinary) (lit≤ tt, (lit≤ tt, tt))), ((uncut (take 3 ordinary) refl (Came two) Dropped, All-from_recursion (low 1) (take 3 ordinary) (lit≤ tt, (lit≤ tt, (lit≤ tt, tt)))), ((uncut (take 4 ordinary) refl (Came two) Dropped, All-from_recursion (low 1) (take 4 ordinary) (lit≤ tt, (lit≤ tt, (lit≤ tt, (lit≤ tt, tt))))), ((uncut (take 5 ordinary) refl (Came one) Dropped, All-from_recursion (low 1) (take 5 ordinary) (lit≤ tt, (lit≤ tt, (lit≤ tt, (lit≤ tt, (lit≤ tt, tt)))))), tt))))));
   few_unsent = (EachAfter-from_turns CutsFewUnsent ordinary (tt, (tt, (tt, (tt, (tt, (tt, tt)))))), few_of_short ordinary (lit≤ tt));
 }
@@ -212,10 +178,10 @@ pub removed_is_lawful : IsLawful removed
 unfolding low is_cut
 removed_is_lawful = record {
   keys_rise = EachAfter-from_turns RisesAbove removed ((λ k c. absurd (none_before k c)), (tt, (tt, (tt, (later, (tt, tt))))));
-  runs_once = EachAfter-from_turns SettlesFirst removed (tt, (tt, (((0, lit< tt, refl), All-from_recursion (λ item. ¬ (Settles one item)) (take 2 removed) ((λ e. e), ((λ e. e), tt))), (tt, (tt, (((4, lit< tt, refl), All-from_recursion (λ item. ¬ (Settles next_channel item)) (take 5 removed) ((λ e. e), ((λ e. e), ((λ e. one≢next (ap (λ (k : Key). Came k) e)), ((λ e. e), ((λ e. e), tt)))))), tt))))));
+  runs_once = EachAfter-from_turns SettlesFirst removed (tt, (tt, (((0, lit< tt, refl), All-from_recursion (λ entry. ¬ (Settles one entry)) (take 2 removed) ((λ e. e), ((λ e. e), tt))), (tt, (tt, (((4, lit< tt, refl), All-from_recursion (λ entry. ¬ (Settles next_channel entry)) (take 5 removed) ((λ e. e), ((λ e. e), ((λ e. one≢next (ap (λ (k : Key). Came k) e)), ((λ e. e), ((λ e. e), tt)))))), tt))))));
   sent_once = EachAfter-from_turns SendsFirst removed (tt, (tt, (tt, (tt, (tt, (tt, tt))))));
-  no_run_behind_cut = EachAfter-from_turns RunsUncut removed (tt, (tt, (tt, (tt, (tt, ((λ cause. never_behind (Came next_channel) (Cut cause) (take 5 removed) ((λ e. absurd (one≢next e)), ((λ e. absurd (cc)), ((λ e. absurd (cc)), ((λ e. absurd (cc)), ((λ e. tt), tt)))))), tt))))));
-  cancelled_behind_removal = EachAfter-from_turns CancelsRemoved removed (tt, (tt, ((0, 1, lit< tt, refl, refl), (tt, (tt, (tt, tt))))));
-  drop_forgets = EachAfter-from_turns NamesRemembered removed ((uncut [] refl (Came one) Dropped, All-from_recursion (low 1) [] tt), (tt, ((never_behind (Came one) (Cut Dropped) (take 2 removed) ((λ e. ((λ f. let causes : Removed ≡ Dropped = cc in cc), tt)), ((λ e. tt), tt)), All-from_recursion (low 1) (take 2 removed) (lit≤ tt, (tt, tt))), (tt, ((never_behind (Came next_channel) (Cut Dropped) (take 4 removed) ((λ e. absurd (one≢next e)), ((λ e. absurd (cc)), ((λ e. absurd (cc)), ((λ e. absurd (cc)), tt)))), All-from_recursion (low 2) (take 4 removed) (lit≤ tt, (tt, (lit≤ tt, (tt, tt))))), ((never_behind (Came next_channel) (Cut Dropped) (take 5 removed) ((λ e. absurd (one≢next e)), ((λ e. absurd (cc)), ((λ e. absurd (cc)), ((λ e. absurd (cc)), ((λ e. tt), tt))))), All-from_recursion (low 2) (take 5 removed) (lit≤ tt, (tt, (lit≤ tt, (tt, (lit≤ tt, tt)))))), tt))))));
+  no_run_after_cut = EachAfter-from_turns RunsUncut removed (tt, (tt, (tt, (tt, (tt, ((λ cause. never_before (Came next_channel) (Cut cause) (take 5 removed) ((λ e. absurd (one≢next e)), ((λ e. absurd (cc)), ((λ e. absurd (cc)), ((λ e. absurd (cc)), ((λ e. tt), tt)))))), tt))))));
+  cancelled_after_removal = EachAfter-from_turns CancelsRemoved removed (tt, (tt, ((0, 1, lit< tt, refl, refl), (tt, (tt, (tt, tt))))));
+  drop_forgets = EachAfter-from_turns NamesRemembered removed ((uncut [] refl (Came one) Dropped, All-from_recursion (low 1) [] tt), (tt, ((never_before (Came one) (Cut Dropped) (take 2 removed) ((λ e. ((λ f. let causes : Removed ≡ Dropped = cc in cc), tt)), ((λ e. tt), tt)), All-from_recursion (low 1) (take 2 removed) (lit≤ tt, (tt, tt))), (tt, ((never_before (Came next_channel) (Cut Dropped) (take 4 removed) ((λ e. absurd (one≢next e)), ((λ e. absurd (cc)), ((λ e. absurd (cc)), ((λ e. absurd (cc)), tt)))), All-from_recursion (low 2) (take 4 removed) (lit≤ tt, (tt, (lit≤ tt, (tt, tt))))), ((never_before (Came next_channel) (Cut Dropped) (take 5 removed) ((λ e. absurd (one≢next e)), ((λ e. absurd (cc)), ((λ e. absurd (cc)), ((λ e. absurd (cc)), ((λ e. tt), tt))))), All-from_recursion (low 2) (take 5 removed) (lit≤ tt, (tt, (lit≤ tt, (tt, (lit≤ tt, tt)))))), tt))))));
   few_unsent = (EachAfter-from_turns CutsFewUnsent removed (tt, (few_of_short (take 1 removed) (lit≤ tt), (tt, (few_of_short (take 3 removed) (lit≤ tt), (tt, (tt, tt)))))), few_of_short removed (lit≤ tt));
 }

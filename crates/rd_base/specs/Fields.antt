@@ -3,7 +3,7 @@ use Rattle.std.specs.Prelude.{◌≡◌, ℕ, zero, suc, ◌/◌, ◌%◌, ◌�
 use Rattle.std.specs.List.{flat_map}
 use Rattle.std.specs.Int.{w16, to_le_bytes, from_le_bytes}
 use Rattle.rd_base.specs.declared.bad.Why.TheVariants.{Length}
-use Rattle.rd_base.specs.Layout.{Layout, one_byte, two_bytes, four_bytes, eight_bytes, done, number, byte_run, bytes_left, test, within, ◌>>=◌, ◌>>◌}
+use Rattle.rd_base.specs.Layout.{Layout, one_byte, two_bytes, four_bytes, eight_bytes, done, number, any_bytes, bytes_left, test, within, ◌>>=◌, ◌>>◌}
 
 -- a number of 8 bits
 abbrev pub number8 : Layout ℕ
@@ -23,15 +23,15 @@ number64 = number eight_bytes
 
 -- that many bytes, any, which say nothing
 abbrev pub pad : ℕ → Layout (Unit {0})
-pad count = byte_run count >> done tt
+pad count = any_bytes count >> done tt
 
--- the same, any number of which may be missing where the bytes end
+-- the same, of which any number may be missing where no more bytes come
 abbrev pub missing_pad : ℕ → Layout (Unit {0})
 missing_pad count = do
   left ← bytes_left
   pad (min count left)
 
--- so many records, one behind another
+-- so many records, one after another
 abbrev pub times : {A : Type 0} → ℕ → Layout A → Layout (List A)
 times zero l = done []
 times (suc count) l = do
@@ -50,7 +50,7 @@ length_of_units = do
 abbrev pub text : ℕ → Layout (List ℕ)
 text count = within count (times (count / 2) number16)
 
--- the units of bytes, two each, the lower byte first; an odd byte at the end says nothing
+-- the units of bytes, two each, the lower byte first; an odd last byte says nothing
 abbrev pub units_of : List ℕ → List ℕ
 units_of [] = []
 units_of (a ∷ []) = []
@@ -66,10 +66,10 @@ path count = do
   units ← text count
   done (before_zero units)
 
--- the units of a path: without zero, and behind them nothing, or a zero and any others
+-- the units of a path: without zero, and after them nothing, or a zero and any others
 abbrev pub AreUnitsOf : List ℕ → List ℕ → Type 0
 AreUnitsOf path units = All (λ u. 0 < u) path × ((units ≡ path) ⊎ ((others : List ℕ) × (units ≡ path ++ 0 ∷ others)))
 
--- the bytes of a path as it is written: its units, and a zero unit behind them
+-- the bytes of a path as it is written: its units, and a zero unit after them
 abbrev pub path_bytes : List ℕ → List ℕ
 path_bytes path = flat_map (λ u. to_le_bytes w16 u) (path ++ 0 ∷ [])

@@ -10,11 +10,11 @@ use Rattle.rd_base.specs.declared.journal.Item.TheVariants.{Came, Ran, Cancelled
 
 -- P holds of each entry of the journal and the entries before it
 abbrev pub EachAfter : (List Item → Item → Type 0) → List Item → Type 0
-EachAfter P journal = (before : List Item) (item : Item) (behind : List Item) → journal ≡ before ++ item ∷ behind → P before item
+EachAfter P journal = (before : List Item) (entry : Item) (after : List Item) → journal ≡ before ++ entry ∷ after → P before entry
 
--- b stands somewhere behind a
-abbrev pub IsBehind : List Item → Item → Item → Type 0
-IsBehind items a b = (i : ℕ) × (j : ℕ) × (i < j) × (slice_get items i ≡ Some a) × (slice_get items j ≡ Some b)
+-- a stands somewhere before b
+abbrev pub IsBefore : List Item → Item → Item → Type 0
+IsBefore entries a b = (i : ℕ) × (j : ℕ) × (i < j) × (slice_get entries i ≡ Some a) × (slice_get entries j ≡ Some b)
 
 -- a key is below another by channel, and then by index
 abbrev pub IsBelow : Key → Key → Type 0
@@ -30,7 +30,7 @@ named_key (Cut cause) = None
 
 -- no entry names a key of a later channel
 abbrev pub NoneAboveChannel : ℕ → List Item → Type 0
-NoneAboveChannel channel items = All (λ item. IfSome (named_key item) (λ key. key.channel ≤ channel)) items
+NoneAboveChannel channel entries = All (λ entry. IfSome (named_key entry) (λ key. key.channel ≤ channel)) entries
 
 -- the entry says that the request ran or was cancelled
 abbrev pub Settles : Key → Item → Type 0
@@ -45,7 +45,7 @@ RisesAbove before _ = Unit {0}
 
 -- the request came, and has neither run nor been cancelled
 abbrev pub IsUnsettled : List Item → Key → Type 0
-IsUnsettled before key = Contains before (Came key) × All (λ item. ¬ (Settles key item)) before
+IsUnsettled before key = Contains before (Came key) × All (λ entry. ¬ (Settles key entry)) before
 
 -- What runs or is cancelled came before, and did neither before.
 abbrev pub SettlesFirst : List Item → Item → Type 0
@@ -55,23 +55,23 @@ SettlesFirst before _ = Unit {0}
 
 -- What is sent ran or was cancelled before, and wasn't sent before.
 abbrev pub SendsFirst : List Item → Item → Type 0
-SendsFirst before (Sent key) = Any (Settles key) before × All (λ item. item ≢ Sent key) before
+SendsFirst before (Sent key) = Any (Settles key) before × All (λ entry. entry ≢ Sent key) before
 SendsFirst before _ = Unit {0}
 
--- What runs came behind the last cut.
+-- What runs came after the last cut.
 abbrev pub RunsUncut : List Item → Item → Type 0
-RunsUncut before (Ran key moment starved parked) = (cause : Cause) → ¬ (IsBehind before (Came key) (Cut cause))
+RunsUncut before (Ran key moment starved parked) = (cause : Cause) → ¬ (IsBefore before (Came key) (Cut cause))
 RunsUncut before _ = Unit {0}
 
 -- What is cancelled was overtaken by a removal of the device.
 abbrev pub CancelsRemoved : List Item → Item → Type 0
-CancelsRemoved before (Cancelled key) = IsBehind before (Came key) (Cut Removed)
+CancelsRemoved before (Cancelled key) = IsBefore before (Came key) (Cut Removed)
 CancelsRemoved before _ = Unit {0}
 
 -- What is named didn't come before a drop, and no channel named before is a later one.
 abbrev pub NamesRemembered : List Item → Item → Type 0
-NamesRemembered before item =
-    IfSome (named_key item) (λ key. ¬ (IsBehind before (Came key) (Cut Dropped)) × NoneAboveChannel key.channel before)
+NamesRemembered before entry =
+    IfSome (named_key entry) (λ key. ¬ (IsBefore before (Came key) (Cut Dropped)) × NoneAboveChannel key.channel before)
 
 -- whether an entry says that the completion of a request was handed out
 abbrev pub sends : Key → Item → Bool
@@ -97,13 +97,13 @@ pub record IsLawful (journal : List Item) : Type 0 where
   pub keys_rise : EachAfter RisesAbove journal
   pub runs_once : EachAfter SettlesFirst journal
   pub sent_once : EachAfter SendsFirst journal
-  pub no_run_behind_cut : EachAfter RunsUncut journal
-  pub cancelled_behind_removal : EachAfter CancelsRemoved journal
+  pub no_run_after_cut : EachAfter RunsUncut journal
+  pub cancelled_after_removal : EachAfter CancelsRemoved journal
   pub drop_forgets : EachAfter NamesRemembered journal
-  -- at each cut, and at the end
+  -- at each cut, and of the whole journal
   pub few_unsent : EachAfter CutsFewUnsent journal × FewUnsent journal
 
--- No request waits inside a device for its end: that comes with requests that wait.
+-- No request waits inside a device to be completed: that comes with requests that wait.
 abbrev pub IsUnparked : Item → Type 0
 IsUnparked (Ran key moment starved parked) = parked ≡ false
 IsUnparked _ = Unit {0}

@@ -1,5 +1,5 @@
 pub mod Faults
-pub mod Fronts
+pub mod Prefixes
 pub mod Position
 pub mod History
 pub mod Layout
@@ -7,3 +7,4 @@ pub mod Fields
 pub mod Reading
 pub mod Lawful
 pub mod Digits
+pub mod InMemory

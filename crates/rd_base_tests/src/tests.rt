@@ -1,19 +1,22 @@
 //! Each public call once with ample memory, and what no clause says of the forms over std.
 
+ghost use Rattle.std.specs.Prelude.{◌≤◌, IfOk};
+
 use rd_base::{
     Bad, Books, Cursor, Failed, FileSink, Item, Items, Journal, Key, MemSink, MemSource, PlainSink,
     PlainSource, Sink, Source, StdSink, StdSource, Why,
 };
 use std::alloc::{AllocError, Global};
 use std::fs;
+use std::io::{self, Error, ErrorKind, Read, Write};
 use std::process::Abort;
 use std::test::Fail;
 
-fn list<T: Copy>(alloc: Global, items: &[T]) -> Result<Items<T>, AllocError> {
-    Ok(Items::of(items.to_vec(alloc)?))
+fn list<T: Copy>(alloc: Global, elements: &[T]) -> Result<Items<T>, AllocError> {
+    Ok(Items::of(elements.to_vec(alloc)?))
 }
 
-/// Books in which device 7 alone has a journal, of two items.
+/// Books in which device 7 alone has a journal, of two entries.
 fn books_of(alloc: Global, [first, second]: [Item; 2]) -> Result<Books, AllocError> {
     let mut journal = Journal::new(alloc);
     journal.reserve(2)?;
@@ -24,32 +27,86 @@ fn books_of(alloc: Global, [first, second]: [Item; 2]) -> Result<Books, AllocErr
     Ok(books)
 }
 
-/// A list of some items and a copy of it have these items.
+/// A list of some elements and a copy of it have these elements.
 fn copies<T: Copy + PartialEq>(
     rt: &impl Abort,
     alloc: Global,
-    items: &[T],
+    elements: &[T],
 ) -> Result<(), AllocError> {
-    let whole = list(alloc, items)?;
+    let whole = list(alloc, elements)?;
     let copied = whole.copy()?.into_vec();
-    assert!(rt; whole.as_slice() == items && copied.as_slice() == items);
+    assert!(rt; whole.as_slice() == elements && copied.as_slice() == elements);
     Ok(())
 }
 
-/// A row is the answer of a read into four zero bytes, and what they are then.
+/// A row is what a read into four zero bytes returns, and what they are then.
 fn reads<S: Source>(rt: &impl Abort, source: &mut S, rows: &[(Result<usize, Failed>, [u8; 4])]) {
     for row in rows {
         let mut piece = [0; 4];
-        let answer = source.read(&mut piece);
-        assert_eq!(rt; (answer, piece), *row);
+        let count = source.read(&mut piece);
+        assert_eq!(rt; (count, piece), *row);
     }
 }
 
-/// A row is a piece, and the answer of its write.
+/// A row is a piece, and what its write returns.
 fn writes<S: Sink>(rt: &impl Abort, sink: &mut S, rows: &[(&[u8], Result<usize, Failed>)]) {
-    for (piece, answer) in rows {
-        assert_eq!(rt; sink.write(piece), *answer);
+    for (piece, count) in rows {
+        assert_eq!(rt; sink.write(piece), *count);
     }
+}
+
+/// A reader and a writer of one byte a call. Calls are counted from 1: one of them fails, and one takes or gives nothing.
+#[derive(Drop)]
+struct Faltering {
+    calls: u64,
+    failing: u64,
+    empty: u64,
+}
+
+impl Faltering {
+    /// How many bytes this call takes or gives, where there is one.
+    fn next(&mut self, most: usize) -> io::Result<usize>
+        ensures { IfOk result (λ count. count ≤ most) }
+    {
+        self.calls = self.calls.saturating_add(1);
+        if self.calls == self.failing {
+            return Err(Error::from(ErrorKind::BrokenPipe));
+        }
+        if self.calls == self.empty {
+            return Ok(0);
+        }
+        Ok(most.min(1))
+    }
+}
+
+impl Read for Faltering {
+    fn read(&mut self, into: &mut [u8]) -> io::Result<usize> {
+        self.next(into.len())
+    }
+}
+
+impl Write for Faltering {
+    fn write(&mut self, piece: &[u8]) -> io::Result<usize> {
+        self.next(piece.len())
+    }
+
+    fn flush(&mut self) -> io::Result<()> {
+        Ok(())
+    }
+}
+
+/// One whose call with the first number fails, and whose call with the second takes or gives nothing; 0 is the number of none.
+fn one_byte_a_call(failing: u64, empty: u64) -> Faltering {
+    Faltering {
+        calls: 0,
+        failing,
+        empty,
+    }
+}
+
+/// The kind of an error, where there is one.
+fn kind(error: Option<&Error>) -> Option<ErrorKind> {
+    error.map(Error::kind)
 }
 
 #[test]
@@ -92,10 +149,11 @@ fn keeps_journals_in_books(rt: HostRuntime) -> Result<(), Fail> {
         channel: 1,
         index: 0,
     };
-    let items = [Item::Came(key), Item::Sent(key)];
-    let books = books_of(rt.alloc(), items)?;
+    let entries = [Item::Came(key), Item::Sent(key)];
+    let books = books_of(rt.alloc(), entries)?;
     let journal = books.journal(7).map(Journal::items);
-    assert_eq!(rt; journal, Some(items.as_slice()));
+    let spare = books.journal(7).map(Journal::spare);
+    assert_eq!(rt; (journal, spare), (Some(entries.as_slice()), Some(0)));
     assert!(rt; books.journal(8).is_none() && books.iter().count() == 1);
     Ok(())
 }
@@ -140,6 +198,29 @@ fn std_forms_pass_bytes_on(rt: HostRuntime) {
 }
 
 #[test]
+fn std_forms_tell_of_failures(rt: HostRuntime) {
+    for (failing, rows) in [
+        (1, [Err(Failed), Ok(1), Ok(0)]),
+        (2, [Ok(1), Err(Failed), Ok(0)]),
+    ] {
+        let mut source = StdSource::new(one_byte_a_call(failing, 3));
+        let rows = rows.map(|row| (row, [0; 4]));
+        reads(&rt, &mut source, &rows);
+        assert_eq!(rt; kind(source.last_error()), Some(ErrorKind::BrokenPipe));
+    }
+    for (failing, empty, rows, last) in [
+        (1, 0, [Err(Failed), Ok(1)], ErrorKind::BrokenPipe),
+        (2, 0, [Ok(1), Err(Failed)], ErrorKind::BrokenPipe),
+        (0, 2, [Ok(1), Ok(0)], ErrorKind::WriteZero),
+    ] {
+        let mut sink = StdSink::new(one_byte_a_call(failing, empty));
+        let rows = rows.map(|row| (b"abc".as_slice(), row));
+        writes(&rt, &mut sink, &rows);
+        assert_eq!(rt; kind(sink.last_error()), Some(last));
+    }
+}
+
+#[test]
 fn makes_a_file_at_the_first_write(rt: HostRuntime) -> Result<(), Fail> {
     let mut sink = FileSink::new(&rt, "made.rec");
     assert!(rt; fs::open(&rt, "made.rec").is_err());
@@ -154,4 +235,5 @@ fn makes_a_file_at_the_first_write(rt: HostRuntime) -> Result<(), Fail> {
 fn makes_no_folder(rt: HostRuntime) {
     let mut nowhere = FileSink::new(&rt, "no/folder/made.rec");
     writes(&rt, &mut nowhere, &[(b"RDR", Err(Failed))]);
+    assert_eq!(rt; kind(nowhere.last_error()), Some(ErrorKind::NotFound));
 }

@@ -1,20 +1,20 @@
 -- What can be wrong with a stream of carrier frames, and where.
 use Rattle.std.specs.Prelude.{ℕ, ◌≡◌, ◌≤◌, ◌<◌, ◌+◌, ◌-◌, ◌==◌, not, ◌&&◌, ◌||◌, nat_lt, if◌then◌else◌, Bool, List, [], ◌∷◌, ◌++◌, length, bit_and, Option, Some, None, ◌⊎◌}
-use Rattle.rd_chunk.specs.Sizes.{most_data, most_message}
+use Rattle.rd_chunk.specs.Sizes.{max_chunk, max_message}
 use Rattle.rd_chunk.specs.Frames.{size_of, length_of, flags_of, Carried, Begun}
 use Rattle.rd_chunk.specs.declared.head.RowFault.{RowFault}
 use Rattle.rd_chunk.specs.declared.fault.ChunkWhy.{ChunkWhy}
 use Rattle.rd_chunk.specs.declared.fault.ChunkWhy.TheVariants.{Empty, Size, Compressed, NoFirst, SecondFirst, TooLong, LengthChanged, Overrun, LastEarly, NotLast}
 
--- a fault, so many bytes behind the first of its frame
+-- a fault, so many bytes after the first of its frame
 abbrev pub row : ℕ → ChunkWhy → Option RowFault
 row offset why = Some (record { offset = offset; why = why })
 
 -- the table of faults, first part: what a size alone tells
 abbrev pub size_fault : ℕ → Option RowFault
-size_fault size = if size == 8 then row 0 Empty else (if nat_lt size 9 || nat_lt (most_data + 8) size then row 0 Size else None)
+size_fault size = if size == 8 then row 0 Empty else (if nat_lt size 9 || nat_lt (max_chunk + 8) size then row 0 Size else None)
 
--- a row of the table: what it tests, how far behind the frame's first byte its fault stands, and the fault
+-- a row of the table: what it tests, how far after the frame's first byte its fault stands, and the fault
 abbrev pub Row : Type 0
 Row = Bool × ℕ × ChunkWhy
 
@@ -23,7 +23,7 @@ abbrev pub first_row : List Row → Option RowFault
 first_row [] = None
 first_row (r ∷ rows) = if r.0 then row r.1 r.2 else first_row rows
 
--- the table of faults, second part: the first row that holds of a head with these fields, behind `before` data bytes of
+-- the table of faults, second part: the first row that holds of a head with these fields, after `before` data bytes of
 -- a message of n bytes; with no such bytes no message is under way, and n says nothing
 unfoldable pub fields_fault : (n before size len flags : ℕ) → Option RowFault
 fields_fault n before size len flags =
@@ -35,7 +35,7 @@ fields_fault n before size len flags =
     (not (bit_and flags 0x200000 == 0), 8, Compressed)
     ∷ (begins && not first, 8, NoFirst)
     ∷ (not begins && first, 8, SecondFirst)
-    ∷ (nat_lt most_message len, 4, TooLong)
+    ∷ (nat_lt max_message len, 4, TooLong)
     ∷ (not begins && not (len == n), 4, LengthChanged)
     ∷ (nat_lt len reached, 12, Overrun)
     ∷ (last && nat_lt reached len, 8, LastEarly)
@@ -58,7 +58,7 @@ pub record IsPart (n before : ℕ) (part : List ℕ) : Type 0 where
   pub head : 12 ≤ length part → head_fault n before part ≡ None
   pub short : 4 ≤ length part → length part < size_of part + 4
 
--- the bytes are whole frames that begin some stream of messages, and behind them the bytes that the first row needs
+-- the bytes are whole frames that begin some stream of messages, and after them the bytes that the first row needs
 -- that holds; the fault's place is counted from the first byte
 pub record ChunkFault (bytes : List ℕ) (place : ℕ) (why : ChunkWhy) : Type 0 where
   pub messages : List (List ℕ)
@@ -75,6 +75,6 @@ pub record ChunkFault (bytes : List ℕ) (place : ℕ) (why : ChunkWhy) : Type 0
   pub place_is : place ≡ length whole + length begun + fault.offset
   pub why_is : why ≡ fault.why
 
--- the same, where no whole message stands in front of the fault
+-- the same, where no whole message stands before the fault
 abbrev pub FaultInMessage : List ℕ → ℕ → ChunkWhy → Type 0
 FaultInMessage bytes place why = (fault : ChunkFault bytes place why) × (fault.messages ≡ [])

@@ -3,9 +3,9 @@
 use Rattle.std.specs.Prelude.{ℕ, ◌≡◌, ◌≤◌, ◌<◌, ◌+◌, ◌==◌, Bool, false, not, List, [], ◌∷◌, ◌++◌, length, take, drop, bit_and}
 use Rattle.std.specs.List.{concat, flat_map}
 use Rattle.std.specs.Int.{w32, from_le_bytes}
-use Rattle.rd_chunk.specs.Sizes.{most_data, most_message}
+use Rattle.rd_chunk.specs.Sizes.{max_chunk, max_message}
 
--- a frame's size field, which counts all that stands behind these four bytes
+-- a frame's size field, which counts all that comes after these four bytes
 unfoldable pub size_of : List ℕ → ℕ
 size_of frame = from_le_bytes w32 (take 4 frame)
 
@@ -36,14 +36,14 @@ is_compressed frame = not (bit_and (flags_of frame) 0x200000 == 0)
 pub record IsFrame (n before : ℕ) (frame : List ℕ) : Type 0 where
   pub size : size_of frame ≡ length (data_of frame) + 8
   pub some : 1 ≤ length (data_of frame)
-  pub most : length (data_of frame) ≤ most_data
+  pub most : length (data_of frame) ≤ max_chunk
   pub plain : is_compressed frame ≡ false
   pub whole : length_of frame ≡ n
   pub within : before + length (data_of frame) ≤ n
   pub first : is_first frame ≡ (before == 0)
   pub last : is_last frame ≡ (before + length (data_of frame) == n)
 
--- frames of a message of n bytes, one behind another, `before` of which stand in the frames before them
+-- frames of a message of n bytes, one after another, `before` of which stand in the frames before them
 abbrev pub AreFrames : ℕ → ℕ → List (List ℕ) → Type 0
 AreFrames n before [] = Unit {0}
 AreFrames n before (frame ∷ frames) = IsFrame n before frame × AreFrames n (before + length (data_of frame)) frames
@@ -55,12 +55,12 @@ pub record One (message bytes : List ℕ) : Type 0 where
   pub joined : flat_map data_of frames ≡ message
   pub bytes_are : concat frames ≡ bytes
   pub some : 1 ≤ length message
-  pub most : length message ≤ most_message
+  pub most : length message ≤ max_message
 
--- the bytes carry the messages one behind another, and nothing else
+-- the bytes carry the messages one after another, and nothing else
 abbrev pub Carried : List (List ℕ) → List ℕ → Type 0
 Carried [] bytes = bytes ≡ []
-Carried (message ∷ messages) bytes = (front rest : List ℕ) × (bytes ≡ front ++ rest) × One message front × Carried messages rest
+Carried (message ∷ messages) bytes = (first rest : List ℕ) × (bytes ≡ first ++ rest) × One message first × Carried messages rest
 
 -- the bytes are the frames so far of a message of n bytes that isn't complete, or nothing; `joined` are their data
 pub record Begun (n : ℕ) (joined bytes : List ℕ) : Type 0 where
@@ -69,4 +69,4 @@ pub record Begun (n : ℕ) (joined bytes : List ℕ) : Type 0 where
   pub joined_are : flat_map data_of frames ≡ joined
   pub bytes_are : concat frames ≡ bytes
   pub short : length joined < n
-  pub most : n ≤ most_message
+  pub most : n ≤ max_message

@@ -2,7 +2,7 @@
 use Rattle.std.specs.Prelude.{ℕ, Bool, ◌≡◌, ◌≤◌, ◌<◌, ◌+◌, List, length, take, Option, None}
 use Rattle.rd_chunk.specs.declared.fault.ChunkBad.{ChunkBad}
 use Rattle.rd_chunk.specs.declared.progress.Progress.{Progress}
-use Rattle.rd_chunk.specs.Sizes.{most_message}
+use Rattle.rd_chunk.specs.Sizes.{max_message}
 use Rattle.rd_chunk.specs.Frames.{size_of}
 use Rattle.rd_chunk.specs.Faults.{size_fault}
 use Rattle.rd_chunk.specs.Standing.{Held, is_complete}
@@ -29,4 +29,4 @@ pub record InRange (p : Progress) (joined : ℕ) : Type 0 where
   pub count : length (head_of p) ≡ p.have
   pub to_come : p.have ≡ 12 → 0 < p.left
   pub size : 4 ≤ p.have → size_fault (size_of (head_of p)) ≡ None
-  pub room : joined + p.left ≤ most_message
+  pub room : joined + p.left ≤ max_message

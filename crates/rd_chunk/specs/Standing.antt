@@ -4,7 +4,7 @@ use Rattle.std.specs.List.{concat, flat_map}
 use Rattle.rd_chunk.specs.declared.fault.ChunkBad.{ChunkBad}
 use Rattle.rd_chunk.specs.declared.fault.FeedNo.{FeedNo}
 use Rattle.rd_chunk.specs.declared.fault.FeedNo.TheVariants.{Bad, Memory}
-use Rattle.rd_chunk.specs.Sizes.{most_message}
+use Rattle.rd_chunk.specs.Sizes.{max_message}
 use Rattle.rd_chunk.specs.Frames.{size_of, length_of, data_of, AreFrames, Carried}
 use Rattle.rd_chunk.specs.Faults.{IsPart, FaultInMessage}
 
@@ -31,7 +31,7 @@ pub record StandsFor (held : Held) (before : ℕ) (bytes : List ℕ) : Type 0 wh
   pub still : 12 ≤ length part → held.left + length part ≡ size_of part + 4
   pub in_head : length part < 12 → held.left ≡ 0
   pub same : 12 ≤ length part → length_of part ≡ held.whole
-  pub most : held.whole ≤ most_message
+  pub most : held.whole ≤ max_message
   pub complete : 0 < length (flat_map data_of frames) → length (flat_map data_of frames) ≡ held.whole → part ≡ []
   pub taken_are : held.taken ≡ (before + length bytes) % 2 ^ 64
   pub no_fault : held.fault ≡ None
@@ -48,8 +48,8 @@ waiting held = if not (is_some held.fault) && is_complete held.left (length held
 abbrev pub Takes : Held → Held → List ℕ → Type 0
 Takes old new more = (before : ℕ) (bytes : List ℕ) → StandsFor old before bytes → StandsFor new before (bytes ++ more)
 
--- whatever list the joiner stands for, that list and these bytes are a chunk fault with no whole message in front of it, and
--- it is the answered one: its place is counted from the stream's first byte, modulo 2^64
+-- whatever list the joiner stands for, that list and these bytes are a chunk fault with no whole message before it, and
+-- it is the returned one: its place is counted from the stream's first byte, modulo 2^64
 abbrev pub BringsFault : Held → List ℕ → ChunkBad → Type 0
 BringsFault held more bad = (before : ℕ) (bytes : List ℕ) → StandsFor held before bytes →
     (place : ℕ) × FaultInMessage (bytes ++ more) place bad.why × (bad.at ≡ (before + place) % 2 ^ 64)
@@ -63,7 +63,7 @@ pub record HasJoined (held : Held) (messages : List (List ℕ)) (bytes : List �
   pub stands : StandsFor held (length whole) rest
   pub none_waits : waiting held ≡ None
 
--- a fact for an answered fault
-abbrev pub IfBad : FeedNo → (ChunkBad → Type 0) → Type 0
-IfBad (Bad bad) P = P bad
-IfBad Memory P = Unit {0}
+-- it holds of the fault, unless memory ran out
+abbrev pub ForBad : (ChunkBad → Type 0) → FeedNo → Type 0
+ForBad P (Bad bad) = P bad
+ForBad P Memory = Unit {0}

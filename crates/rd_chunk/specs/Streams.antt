@@ -5,16 +5,16 @@ use Rattle.rd_chunk.specs.Faults.{IsPart, ChunkFault}
 use Rattle.rd_chunk.specs.declared.fault.ChunkWhy.{ChunkWhy}
 use Rattle.rd_chunk.specs.declared.fault.ChunkBad.{ChunkBad}
 
--- a front of the bytes is a chunk fault
+-- a prefix of the bytes is a chunk fault
 pub record HasChunkFault (bytes : List ℕ) : Type 0 where
-  pub front : List ℕ
+  pub prefix : List ℕ
   pub rest : List ℕ
   pub place : ℕ
   pub why : ChunkWhy
-  pub bytes_are : bytes ≡ front ++ rest
-  pub fault : ChunkFault front place why
+  pub bytes_are : bytes ≡ prefix ++ rest
+  pub fault : ChunkFault prefix place why
 
--- the bytes carry these messages, and behind them stand whole frames of one that isn't complete, and a part of a frame:
+-- the bytes carry these messages, and after them come whole frames of one that isn't complete, and a part of a frame:
 -- either may be nothing
 pub record IsStream (messages : List (List ℕ)) (bytes : List ℕ) : Type 0 where
   pub whole : List ℕ
@@ -27,6 +27,6 @@ pub record IsStream (messages : List (List ℕ)) (bytes : List ℕ) : Type 0 whe
   pub is_part : IsPart n (length joined) part
   pub bytes_are : bytes ≡ whole ++ begun ++ part
 
--- the answered fault is one of the bytes, with its place modulo 2^64
+-- the returned fault is one of the bytes, with its place modulo 2^64
 abbrev pub IsFaultOf : List ℕ → ChunkBad → Type 0
 IsFaultOf bytes bad = (found : HasChunkFault bytes) × (bad.why ≡ found.why) × (bad.at ≡ found.place % 2 ^ 64)

@@ -1,10 +1,10 @@
-//! The head of a carrier frame: the bytes behind its first four, and then the CHANNEL_PDU_HEADER (MS-RDPBCGR 2.2.6.1.1), the
+//! The head of a carrier frame: how many bytes come after its first four, and then the CHANNEL_PDU_HEADER (MS-RDPBCGR 2.2.6.1.1), the
 //! message's length and the flags; each a little-endian u32.
 
 ghost use Rattle.std.specs.Prelude.{◌≡◌, ◌≤◌, ◌-◌};
 ghost use Rattle.rd_chunk.specs.Faults.{fields_fault};
 ghost use Rattle.rd_chunk.specs.Faults as Faults;
-ghost use Rattle.rd_chunk.specs.Sizes.{most_message};
+ghost use Rattle.rd_chunk.specs.Sizes.{max_message};
 
 use crate::fault::ChunkWhy;
 
@@ -32,7 +32,7 @@ pub const PACKET_COMPRESSED: u32 = 0x20_0000;
 /// The fields of a frame's head.
 #[derive(Clone, Copy, Debug, PartialEq, Eq)]
 pub struct Head {
-    /// The bytes behind this field: the 8 of the other two, and the data.
+    /// The bytes after this field: the 8 of the other two, and the data.
     pub size: u32,
     /// The bytes of the whole message.
     pub length: u32,
@@ -74,11 +74,11 @@ pub fn size_fault(size: u32) -> Option<RowFault>
     None
 }
 
-/// The first fault of a head whose size is good, behind `joined` data bytes of a message of `length` bytes. With no
+/// The first fault of a head whose size is good, after `joined` data bytes of a message of `length` bytes. With no
 /// data bytes no message is under way, and `length` says nothing.
 #[tactic(auto, unfolding(crate::specs::Faults::fields_fault))]
-pub fn head_fault(head: Head, joined: usize, length: usize) -> Option<RowFault>
-    requires { joined ≤ most_message }
+pub fn fields_fault(head: Head, joined: usize, length: usize) -> Option<RowFault>
+    requires { joined ≤ max_message }
     ensures { result ≡ fields_fault length joined head.size head.length head.flags }
 {
     let reached = joined + head.data_len();

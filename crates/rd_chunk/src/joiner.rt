@@ -2,8 +2,8 @@
 
 ghost use Rattle.std.specs.Prelude.{◌≡◌, ◌<◌, ◌≤◌, ◌+◌, ◌%◌, ◌^◌, ◌↔◌, ◌⊎◌, ℕ, List, [], length, take, false, None, Some, Ok, Err, IsTrue, IsSome, IfNone, OnSome, IfOk, IfErr, OnErr};
 ghost use Rattle.rd_chunk.specs.Frames.{One};
-ghost use Rattle.rd_chunk.specs.Sizes.{most_message};
-ghost use Rattle.rd_chunk.specs.Standing.{StandsFor, Takes, BringsFault, IfBad, waiting};
+ghost use Rattle.rd_chunk.specs.Sizes.{max_message};
+ghost use Rattle.rd_chunk.specs.Standing.{StandsFor, Takes, BringsFault, ForBad, waiting};
 
 use crate::fault::{ChunkBad, FeedNo};
 use crate::progress::{Progress, take_in};
@@ -45,15 +45,15 @@ impl Joiner {
         }
     }
 
-    /// Takes what the piece has of one message, no byte behind its end, and answers how many. While a finished message waits
-    /// it takes none. A fault stays: each later call answers it again. Want of memory changes nothing.
+    /// Takes what the piece has of one message, no byte after its last, and returns how many. While a finished message waits
+    /// it takes none. A fault stays: each later call returns it again. Want of memory changes nothing.
     pub fn feed(&mut self, piece: &[u8]) -> Result<usize, FeedNo>
-        // What is taken is the front of the piece, and the joiner then stands for that too.
+        // What is taken is a prefix of the piece, and the joiner then stands for that too.
         ensures count { IfOk result (λ n. n ≤ length piece.now) }
         ensures takes { IfOk result (λ n. Takes self.old self.new (take n piece.now)) }
         ensures counts { IfOk result (λ n. self.new.taken ≡ (self.old.taken + n) % 2 ^ 64) }
 
-        // Bytes stay only behind the end of a message, and none are taken only where there are none or one waits.
+        // Bytes are left only after the last of a message, and none are taken only where there are none or one waits.
         ensures all { IfOk result (λ n. n < length piece.now → IsSome (waiting self.new)) }
         ensures idle { self.old.fault ≡ None → (piece.now ≡ []) ⊎ IsSome (waiting self.old) →
             result ≡ Ok 0 }
@@ -61,7 +61,7 @@ impl Joiner {
             ((piece.now ≡ []) ⊎ IsSome (waiting self.old))) }
 
         // A fault is the first one of the stream, which the piece brings, and it stays.
-        ensures fault { IfErr result (λ no. IfBad no (λ bad.
+        ensures fault { IfErr result (ForBad (λ bad.
             (count : ℕ) × (count ≤ length piece.now) × BringsFault self.old (take count piece.now) bad)) }
         ensures failed { (bad : ChunkBad) →
             (self.new.fault ≡ Some bad) ↔ (result ≡ Err (FeedNo.Bad bad)) }
@@ -71,22 +71,22 @@ impl Joiner {
         ensures memory { result ≡ Err FeedNo.Memory → self.new ≡ self.old }
 
         // A message, and the twelve bytes of a head.
-        ensures held { length self.new.joined + length self.new.head ≤ most_message + 12 }
+        ensures held { length self.new.joined + length self.new.head ≤ max_message + 12 }
     {
         if let Some(bad) = self.bad {
             return Err(FeedNo::Bad(bad));
         }
         let before = self.progress;
         let held = self.message.len();
-        let answer = take_in(&mut self.progress, &mut self.message, piece);
-        if let Err(no) = &answer {
+        let taken = take_in(&mut self.progress, &mut self.message, piece);
+        if let Err(no) = &taken {
             self.progress = before;
             self.message.truncate(held);
             if let FeedNo::Bad(bad) = no {
                 self.bad = Some(*bad);
             }
         }
-        answer
+        taken
     }
 
     /// The finished message, if one waits. Its bytes are moved, and no memory is taken.
@@ -100,14 +100,14 @@ impl Joiner {
         ensures gone { waiting self.new ≡ None }
         ensures taken { self.new.taken ≡ self.old.taken }
     {
-        if self.bad.is_some() || !self.progress.is_whole(self.message.len()) {
+        if self.bad.is_some() || !self.progress.is_done(self.message.len()) {
             return None;
         }
         let empty = Vec::new(*self.message.allocator());
         Some(Items::of(mem::replace(&mut self.message, empty)))
     }
 
-    /// Whether it stands between two messages, where a stream may end.
+    /// Whether it stands between two messages, where a stream may stop.
     pub fn between(&self) -> bool
         ensures stands { (before : ℕ) (bytes : List ℕ) → StandsFor self.now before bytes →
             IsTrue result ↔ (bytes ≡ []) }

@@ -6,7 +6,7 @@ ghost use Rattle.rd_chunk.specs.declared.fault.ChunkWhy.{ChunkWhy};
 ghost use Rattle.rd_chunk.specs.declared.fault.ChunkWhy.TheVariants as why;
 ghost use Rattle.rd_chunk.specs.Frames.{AreFrames, One, Carried, Begun, data_of, is_first, is_last};
 ghost use Rattle.rd_chunk.specs.Faults.{ChunkFault};
-ghost use Rattle.rd_chunk.specs.Sizes.{most_message};
+ghost use Rattle.rd_chunk.specs.Sizes.{max_message};
 ghost use Rattle.rd_chunk.specs.Standing.{Held, StandsFor};
 ghost use Rattle.rd_chunk.specs.Streams.{HasChunkFault, IsStream};
 ghost use Rattle.rd_chunk.specs.Carrier.{IsMessage, carrier_of, carrier_stream};
@@ -14,11 +14,11 @@ ghost use Rattle.rd_chunk.specs.Worked as worked;
 
 /// Of a message's frames the first alone has the first one's flag, and the last alone the last one's.
 pub fn first_and_last_alone()
-    ensures first { (n : ℕ) (fronts backs : List (List ℕ)) (frame : List ℕ) →
-        AreFrames n 0 (fronts ++ frame ∷ backs) → IsTrue (is_first frame) ↔ (fronts ≡ []) }
-    ensures last { (n : ℕ) (fronts backs : List (List ℕ)) (frame : List ℕ) →
-        AreFrames n 0 (fronts ++ frame ∷ backs) →
-        length (flat_map data_of (fronts ++ frame ∷ backs)) ≡ n → IsTrue (is_last frame) ↔ (backs ≡ []) }
+    ensures first { (n : ℕ) (before after : List (List ℕ)) (frame : List ℕ) →
+        AreFrames n 0 (before ++ frame ∷ after) → IsTrue (is_first frame) ↔ (before ≡ []) }
+    ensures last { (n : ℕ) (before after : List (List ℕ)) (frame : List ℕ) →
+        AreFrames n 0 (before ++ frame ∷ after) →
+        length (flat_map data_of (before ++ frame ∷ after)) ≡ n → IsTrue (is_last frame) ↔ (after ≡ []) }
 {}
 
 /// Every byte list has a fault, or it is messages, frames of one that isn't complete, and a part of a frame; never both.
@@ -29,11 +29,11 @@ pub fn faulty_or_sound()
         HasChunkFault bytes → IsStream messages bytes → ⊥ }
 {}
 
-/// A stream has one fault at most, and one list of messages, whatever comes behind.
+/// A stream has one fault at most, and one list of messages, whatever comes after.
 pub fn one_reading()
-    ensures fault { (front other rest tail : List ℕ) (place spot : ℕ) (why cause : ChunkWhy) →
-        ChunkFault front place why → ChunkFault other spot cause →
-        front ++ rest ≡ other ++ tail → (front ≡ other) × (place ≡ spot) × (why ≡ cause) }
+    ensures fault { (prefix other rest tail : List ℕ) (place spot : ℕ) (why cause : ChunkWhy) →
+        ChunkFault prefix place why → ChunkFault other spot cause →
+        prefix ++ rest ≡ other ++ tail → (prefix ≡ other) × (place ≡ spot) × (why ≡ cause) }
     ensures messages { (messages others : List (List ℕ)) (bytes : List ℕ) →
         IsStream messages bytes → IsStream others bytes → messages ≡ others }
 {}
@@ -54,7 +54,7 @@ pub fn carrier_carries()
 pub fn worked_streams()
     ensures written { carrier_of worked.announce ≡ worked.announce_frame }
     ensures read { One worked.announce worked.announce_frame }
-    ensures longest { Begun most_message (0x61 ∷ []) worked.longest }
+    ensures longest { Begun max_message (0x61 ∷ []) worked.longest }
     ensures empty { ChunkFault worked.empty 0 why.Empty }
     ensures size { ChunkFault worked.too_small 0 why.Size }
     ensures compressed { ChunkFault worked.compressed 8 why.Compressed }

@@ -3,7 +3,7 @@
 ghost use Rattle.std.specs.Prelude.{◌≡◌, ℕ, List, ◌++◌, None, IfOk, IfErr, OnOk, MatchResult};
 ghost use Rattle.std.specs.List.{concat};
 ghost use Rattle.rd_chunk.specs.Frames.{Carried};
-ghost use Rattle.rd_chunk.specs.Standing.{HasJoined, IfBad, waiting};
+ghost use Rattle.rd_chunk.specs.Standing.{HasJoined, ForBad, waiting};
 ghost use Rattle.rd_chunk.specs.Streams.{IsStream, IsFaultOf};
 
 use crate::fault::FeedNo;
@@ -11,13 +11,13 @@ use crate::joiner::Joiner;
 use rd_base::Bytes;
 use std::alloc::Global;
 
-/// The messages of a stream that comes in these pieces, in order. What stands behind the last whole one is let go.
+/// The messages of a stream that comes in these pieces, in order. What comes after the last whole one is let go.
 pub fn join_pieces(alloc: Global, pieces: &[Bytes]) -> Result<Vec<Bytes>, FeedNo>
     ensures stream { IfOk result (λ joined. IsStream joined.items (concat pieces.now)) }
     // So the messages that come out are those that went in, however their frames were cut.
     ensures sent { (messages : List (List ℕ)) → Carried messages (concat pieces.now) →
         MatchResult result (λ joined. joined.items ≡ messages) (λ no. no ≡ FeedNo.Memory) }
-    ensures fault { IfErr result (λ no. IfBad no (IsFaultOf (concat pieces.now))) }
+    ensures fault { IfErr result (ForBad (IsFaultOf (concat pieces.now))) }
 {
     let mut joiner = Joiner::new(alloc);
     let mut messages = Vec::new(alloc);
@@ -27,13 +27,13 @@ pub fn join_pieces(alloc: Global, pieces: &[Bytes]) -> Result<Vec<Bytes>, FeedNo
     Ok(messages)
 }
 
-/// Feeds a piece to its end, and takes each message that is finished on the way.
+/// Feeds a whole piece, and takes each message that is finished on the way.
 fn feed_whole(joiner: &mut Joiner, messages: &mut Vec<Bytes>, piece: &[u8]) -> Result<(), FeedNo>
     requires { waiting joiner.old ≡ None }
     ensures none_waits { OnOk result (waiting joiner.new ≡ None) }
     ensures joined { OnOk result ((bytes : List ℕ) → HasJoined joiner.old messages.old.items bytes →
         HasJoined joiner.new messages.new.items (bytes ++ piece.now)) }
-    ensures fault { IfErr result (λ no. IfBad no (λ bad. (bytes : List ℕ) →
+    ensures fault { IfErr result (ForBad (λ bad. (bytes : List ℕ) →
         HasJoined joiner.old messages.old.items bytes → IsFaultOf (bytes ++ piece.now) bad)) }
 {
     let mut at = 0;

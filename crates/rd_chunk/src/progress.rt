@@ -2,14 +2,14 @@
 
 ghost use Rattle.std.specs.Prelude.{◌≡◌, ◌<◌, ◌≤◌, ◌+◌, ◌-◌, ◌*◌, ◌%◌, ◌↔◌, ◌^◌, length, max, vec_len, vec_capacity, IsTrue, IfOk, IfErr, OnOk, OnErr, ◌≢◌, None, Ok, ◌⊎◌, false, true, take, List, ℕ};
 ghost use Rattle.std.specs.Prelude.{◌++◌, ◌∷◌, []};
-ghost use Rattle.rd_chunk.specs.Standing.{Takes, BringsFault, IfBad};
+ghost use Rattle.rd_chunk.specs.Standing.{Takes, BringsFault, ForBad};
 ghost use Rattle.rd_chunk.specs.Kept.{InRange, head_of, is_done, seen};
 ghost use Rattle.rd_chunk.specs.Frames.{size_of, length_of, flags_of};
 ghost use Rattle.rd_chunk.specs.Faults.{size_fault, head_fault};
-ghost use Rattle.rd_chunk.specs.Sizes.{most_message};
+ghost use Rattle.rd_chunk.specs.Sizes.{max_message};
 
 use crate::fault::{ChunkBad, FeedNo};
-use crate::head::{HEAD_LEN, Head, RowFault, head_fault, size_fault};
+use crate::head::{HEAD_LEN, Head, RowFault, fields_fault, size_fault};
 use std::alloc::AllocError;
 
 /// How many times the data bytes that are there a message's buffer may be reserved.
@@ -18,7 +18,7 @@ const GROWTH: usize = 64;
 /// The frame under way, and what is known of its message. The message's data stand beside it, in a `Vec`.
 #[derive(Clone, Copy, Debug)]
 pub struct Progress {
-    /// The bytes of the head that are there, from the front.
+    /// The bytes of the head that are there, from its first on.
     pub head: [u8; 12],
     /// How many they are: all twelve exactly while data are still to come.
     pub have: usize,
@@ -49,7 +49,7 @@ impl Progress {
     }
 
     /// Whether the message is finished, with `joined` of its bytes there.
-    pub fn is_whole(self, joined: usize) -> bool
+    pub fn is_done(self, joined: usize) -> bool
         ensures { result ≡ is_done self joined }
     {
         self.left == 0 && joined != 0 && joined == self.length
@@ -87,17 +87,17 @@ impl Progress {
         }
     }
 
-    /// The fault that the newest byte of the head brings, behind `joined` bytes of the message.
+    /// The fault that the newest byte of the head brings, after `joined` bytes of the message.
     fn fault(self, joined: usize) -> Option<RowFault>
         requires have { self.have ≤ 12 }
-        requires joined { joined ≤ most_message }
+        requires joined { joined ≤ max_message }
         ensures size { self.have ≡ 4 → result ≡ size_fault (size_of (head_of self)) }
         ensures head { self.have ≡ 12 → result ≡ head_fault self.length joined (head_of self) }
         ensures other { self.have ≢ 4 → self.have ≢ 12 → result ≡ None }
     {
         match self.have {
             4 => size_fault(self.fields().size),
-            12 => head_fault(self.fields(), joined, self.length),
+            12 => fields_fault(self.fields(), joined, self.length),
             _ => None,
         }
     }
@@ -142,7 +142,7 @@ impl Progress {
         ensures head { result.left ≢ 0 → head_of result ≡ head_of self }
         ensures next { result.left ≡ 0 → head_of result ≡ [] }
         ensures in_frame { result.left ≢ 0 → result.have ≡ self.have }
-        ensures behind { result.left ≡ 0 → result.have ≡ 0 }
+        ensures after { result.left ≡ 0 → result.have ≡ 0 }
         ensures length { result.length ≡ self.length }
         ensures taken { result.taken ≡ (self.taken + count) % 2 ^ 64 }
     {
@@ -154,16 +154,16 @@ impl Progress {
     }
 }
 
-/// Takes a byte into the head of the frame under way, behind `joined` bytes of its message.
+/// Takes a byte into the head of the frame under way, after `joined` bytes of its message.
 fn take_byte(progress: Progress, joined: usize, byte: u8) -> Result<Progress, ChunkBad>
     requires in_range { InRange progress joined }
     requires in_head { progress.left ≡ 0 }
     ensures in_range { IfOk result (λ next. InRange next joined) }
     ensures counts { IfOk result (λ next. next.taken ≡ (progress.taken + 1) % 2 ^ 64) }
-    ensures takes { IfOk result (λ next. (items : List ℕ) → length items ≡ joined →
-        is_done progress joined ≡ false → Takes (seen progress items) (seen next items) (byte ∷ [])) }
-    ensures fault { IfErr result (λ bad. (items : List ℕ) → length items ≡ joined →
-        is_done progress joined ≡ false → BringsFault (seen progress items) (byte ∷ []) bad) }
+    ensures takes { IfOk result (λ next. (message : List ℕ) → length message ≡ joined →
+        is_done progress joined ≡ false → Takes (seen progress message) (seen next message) (byte ∷ [])) }
+    ensures fault { IfErr result (λ bad. (message : List ℕ) → length message ≡ joined →
+        is_done progress joined ≡ false → BringsFault (seen progress message) (byte ∷ []) bad) }
 {
     let next = progress.with_byte(byte);
     match next.fault(joined) {
@@ -172,7 +172,7 @@ fn take_byte(progress: Progress, joined: usize, byte: u8) -> Result<Progress, Ch
     }
 }
 
-/// Takes as much of the frame's data as `piece` has. Answers the bytes taken.
+/// Takes as much of the frame's data as `piece` has, and returns how many bytes it took.
 fn take_data(
     progress: Progress,
     message: &mut Vec<u8>,
@@ -195,8 +195,8 @@ fn take_data(
     Ok((progress.with_data(count), count))
 }
 
-/// Takes some of `piece` into the frame under way: a byte of its head, or as much of its data as is there. Answers
-/// the bytes taken.
+/// Takes some of `piece` into the frame under way: a byte of its head, or as much of its data as is there.
+/// Returns how many bytes it took.
 fn step(progress: &mut Progress, message: &mut Vec<u8>, piece: &[u8]) -> Result<usize, FeedNo>
     requires piece { 0 < length piece.now }
     requires in_range { InRange progress.old (vec_len message.old) }
@@ -207,8 +207,8 @@ fn step(progress: &mut Progress, message: &mut Vec<u8>, piece: &[u8]) -> Result<
         progress.new.taken ≡ (progress.old.taken + n) % 2 ^ 64) }
     ensures takes { IfOk result (λ n.
         Takes (seen progress.old message.old.items) (seen progress.new message.new.items) (take n piece.now)) }
-    ensures fault { IfErr result (λ no.
-        IfBad no (BringsFault (seen progress.old message.old.items) (take 1 piece.now))) }
+    ensures fault { IfErr result (ForBad
+        (BringsFault (seen progress.old message.old.items) (take 1 piece.now))) }
     ensures message { (more : List ℕ) × (message.new.items ≡ message.old.items ++ more) }
 {
     if progress.left > 0 {
@@ -227,7 +227,7 @@ fn step(progress: &mut Progress, message: &mut Vec<u8>, piece: &[u8]) -> Result<
 
 /// Appends data to a message that will have `whole` bytes in all.
 fn append(message: &mut Vec<u8>, bytes: &[u8], whole: usize) -> Result<(), AllocError>
-    requires { vec_len message.old + length bytes.now ≤ most_message }
+    requires { vec_len message.old + length bytes.now ≤ max_message }
     ensures ok { OnOk result (message.new.items ≡ message.old.items ++ bytes.now) }
     ensures err { OnErr result (message.new.items ≡ message.old.items) }
 {
@@ -238,7 +238,7 @@ fn append(message: &mut Vec<u8>, bytes: &[u8], whole: usize) -> Result<(), Alloc
 /// Reserves room for `more` bytes of a message that will have `whole` bytes in all: for all of it, but for no more than
 /// 64 times the bytes that have come.
 fn make_room(message: &mut Vec<u8>, more: usize, whole: usize) -> Result<(), AllocError>
-    requires { vec_len message.old + more ≤ most_message }
+    requires { vec_len message.old + more ≤ max_message }
     ensures items { message.new.items ≡ message.old.items }
     ensures len { vec_len message.new ≡ vec_len message.old }
     ensures room { OnOk result (vec_len message.old + more ≤ vec_capacity message.new) }
@@ -253,7 +253,7 @@ fn make_room(message: &mut Vec<u8>, more: usize, whole: usize) -> Result<(), All
     message.reserve_exact(room - message.len())
 }
 
-/// Takes bytes of `piece` up to the end of the message under way. Answers how many.
+/// Takes bytes of `piece` until the message under way is complete, and returns how many.
 pub fn take_in(
     progress: &mut Progress,
     message: &mut Vec<u8>,
@@ -266,19 +266,19 @@ pub fn take_in(
         progress.new.taken ≡ (progress.old.taken + n) % 2 ^ 64) }
     ensures takes { IfOk result (λ n.
         Takes (seen progress.old message.old.items) (seen progress.new message.new.items) (take n piece.now)) }
-    // Bytes stay behind only where the message is complete.
+    // Bytes are left only where the message is complete.
     ensures all { IfOk result (λ n. n < length piece.now →
         is_done progress.new (vec_len message.new) ≡ true) }
     ensures idle { (piece.now ≡ []) ⊎ (is_done progress.old (vec_len message.old) ≡ true) →
         result ≡ Ok 0 }
     ensures none { IfOk result (λ n. (n ≡ 0) ↔
         ((piece.now ≡ []) ⊎ (is_done progress.old (vec_len message.old) ≡ true))) }
-    ensures fault { IfErr result (λ no. IfBad no (λ bad. (count : ℕ) × (count ≤ length piece.now) ×
+    ensures fault { IfErr result (ForBad (λ bad. (count : ℕ) × (count ≤ length piece.now) ×
         BringsFault (seen progress.old message.old.items) (take count piece.now) bad)) }
     ensures message { (more : List ℕ) × (message.new.items ≡ message.old.items ++ more) }
 {
     let mut at = 0;
-    while at < piece.len() && !progress.is_whole(message.len()) {
+    while at < piece.len() && !progress.is_done(message.len()) {
         at += step(progress, message, &piece[at..])?;
     }
     Ok(at)

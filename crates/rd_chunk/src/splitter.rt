@@ -3,7 +3,7 @@
 ghost use Rattle.std.specs.Prelude.{◌≡◌, ◌<◌, ◌≤◌, ◌+◌, ◌*◌, ◌++◌, length, IfOk, OnOk};
 ghost use Rattle.rd_chunk.specs.Carrier.{carrier_of, carrier_frame, carrier_data, carrier_flags};
 ghost use Rattle.rd_chunk.specs.Frames.{One};
-ghost use Rattle.rd_chunk.specs.Sizes.{chunk_length, most_message};
+ghost use Rattle.rd_chunk.specs.Sizes.{chunk_len, max_message};
 
 use crate::head::{CHUNK_LEN, FIRST, HEAD_LEN, LAST};
 use rd_base::{Bytes, Items};
@@ -12,7 +12,7 @@ use std::alloc::{AllocError, Global};
 /// The frames that carry a message of 1 to 1,052,672 bytes: each has 1,600 of its bytes, the last what is left.
 pub fn split(alloc: Global, message: &[u8]) -> Result<Bytes, AllocError>
     requires some { 1 ≤ length message.now }
-    requires most { length message.now ≤ most_message }
+    requires most { length message.now ≤ max_message }
     ensures stream { IfOk result (λ stream. stream ≡ carrier_of message.now) }
     ensures one { IfOk result (λ stream. One message.now stream) }
 {
@@ -27,33 +27,33 @@ pub fn split(alloc: Global, message: &[u8]) -> Result<Bytes, AllocError>
 /// Appends frame `k`, counted from 0.
 #[tactic(auto, unfolding(crate::specs::Carrier::carrier_frame))]
 fn push_frame(stream: &mut Vec<u8>, message: &[u8], k: usize) -> Result<(), AllocError>
-    requires place { chunk_length * k < length message.now }
-    requires most { length message.now ≤ most_message }
+    requires place { chunk_len * k < length message.now }
+    requires most { length message.now ≤ max_message }
     ensures { OnOk result (stream.new.items ≡ stream.old.items ++ carrier_frame message.now k) }
 {
-    let bytes = data_at(message, k);
+    let bytes = carrier_data(message, k);
     stream.extend_from_slice(&(bytes.len() as u32 + 8).to_le_bytes())?;
     stream.extend_from_slice(&(message.len() as u32).to_le_bytes())?;
-    stream.extend_from_slice(&flags_at(message.len(), k).to_le_bytes())?;
+    stream.extend_from_slice(&carrier_flags(message.len(), k).to_le_bytes())?;
     stream.extend_from_slice(bytes)
 }
 
 /// The data of frame `k`.
-fn data_at(message: &[u8], k: usize) -> &[u8]
-    requires place { chunk_length * k < length message.now }
-    requires most { length message.now ≤ most_message }
+fn carrier_data(message: &[u8], k: usize) -> &[u8]
+    requires place { chunk_len * k < length message.now }
+    requires most { length message.now ≤ max_message }
     ensures value { result.now ≡ carrier_data message.now k }
-    ensures most { length result.now ≤ chunk_length }
+    ensures most { length result.now ≤ chunk_len }
 {
     let from = k * CHUNK_LEN;
-    let end = message.len().min(from + CHUNK_LEN);
-    &message[from..end]
+    let to = message.len().min(from + CHUNK_LEN);
+    &message[from..to]
 }
 
 /// The flags of frame `k` of a message of so many bytes.
-fn flags_at(bytes: usize, k: usize) -> u32
-    requires place { chunk_length * k < bytes }
-    requires most { bytes ≤ most_message }
+fn carrier_flags(bytes: usize, k: usize) -> u32
+    requires place { chunk_len * k < bytes }
+    requires most { bytes ≤ max_message }
     ensures { result ≡ carrier_flags bytes k }
 {
     let first = if k == 0 { FIRST } else { 0 };

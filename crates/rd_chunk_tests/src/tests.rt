@@ -19,7 +19,7 @@ fn bad(at: u64, why: ChunkWhy) -> Option<ChunkBad> {
     Some(ChunkBad { at, why })
 }
 
-/// Feeds a stream in pieces of `step` bytes. Answers whether each piece before a fault is taken whole, with no message
+/// Feeds a stream in pieces of `step` bytes. Returns whether each piece before a fault is taken whole, with no message
 /// finished before the last one, and the fault.
 fn feed(
     joiner: &mut Joiner,

@@ -1,2 +1,3 @@
+pub mod Outside
 pub mod Headline
-pub mod Causes
+pub mod Ends

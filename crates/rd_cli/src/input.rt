@@ -1,9 +1,9 @@
 //! Reading the input.
 
-ghost use Rattle.std.specs.Prelude.{◌≤◌, length, IfErr, IfOk};
-ghost use Rattle.std.specs.Io.KnownBytes.{Consumes, IsAtEnd};
-ghost use Rattle.rd_base.specs.Faults.{Rose};
-ghost use Rattle.rd_cli.specs.Causes.{Caused};
+ghost use Rattle.std.specs.Prelude.{◌≡◌, ◌≤◌, length, IfOk, IfErr};
+ghost use Rattle.std.specs.Io.KnownBytes.{IsAtEnd};
+ghost use Rattle.rd_cli.specs.Outside.{Read, stream};
+ghost use Rattle.rd_cli.specs.Ends.{StopsForInput};
 
 use crate::stop::Stop;
 use rd_base::Source;
@@ -12,12 +12,11 @@ use std::alloc::Global;
 /// How many bytes one read asks for.
 const PIECE: usize = 8192;
 
-/// Reads to the end of the input, or until more than `most` bytes came.
+/// Reads to the end of the input, or until more than `most` bytes came. The first fault ends it.
 pub fn read_all<S: Source>(alloc: Global, input: &mut S, most: usize) -> Result<Vec<u8>, Stop>
-    ensures counted { S.faults input.old ≤ S.faults input.new }
-    ensures cause { IfErr result (λ stop. Caused stop ⊥ (Rose (S.faults input.old) (S.faults input.new)) ⊥) }
-    ensures read { IfOk result (λ bytes. Consumes (S.left input.old) (S.left input.new) bytes.items) }
+    ensures read { IfOk result (λ bytes. Read (stream S.left S.faults input.old) (stream S.left S.faults input.new) bytes.items) }
     ensures whole { IfOk result (λ bytes. length bytes.items ≤ most → IsAtEnd (S.left input.new)) }
+    ensures err { IfErr result (StopsForInput (stream S.left S.faults input.old) (stream S.left S.faults input.new)) }
 {
     let mut bytes = Vec::new(alloc);
     let mut piece = [0; PIECE];

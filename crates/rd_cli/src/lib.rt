@@ -6,7 +6,9 @@
 //! Cost: the input is read once, in pieces of 8,192 bytes; the report is written once.
 #![tactic(auto)]
 
+mod both;
 mod input;
+mod notes;
 mod stop;
 mod top;
 

@@ -1,10 +1,8 @@
-//! What ends a run before its report.
+//! What ends a command before its end.
 
 ghost use Rattle.std.specs.Prelude.{◌≡◌};
 ghost use Rattle.rd_cli.specs.declared.stop.Stop.TheVariants as stop;
 
-use rd_script::ScriptNo;
-use rd_session::RunNo;
 use std::alloc::{AllocError, AllocFailed};
 
 #[derive(Debug, Drop)]
@@ -13,16 +11,17 @@ pub enum Stop {
     Words,
     /// This line of the script, counted from 1, is the first outside the grammar.
     Line(u32),
-    /// The input failed.
+    /// A read of the input failed.
     Input,
-    /// The output or the recording failed.
+    /// A write to the output failed.
     Output,
+    /// A write to the recording failed.
+    Recording,
     Memory,
 }
 
 impl Stop {
-    ghost use Rattle.std.specs.Prelude.{◌≡◌};
-    ghost use Rattle.rd_cli.specs.Causes.{status_of};
+    ghost use Rattle.rd_cli.specs.Ends.{status_of};
 
     /// The exit status.
     pub fn status(&self) -> u8
@@ -31,34 +30,8 @@ impl Stop {
         match self {
             Stop::Words | Stop::Line(_) => 1,
             Stop::Input => 2,
-            Stop::Output => 3,
+            Stop::Output | Stop::Recording => 3,
             Stop::Memory => 6,
-        }
-    }
-}
-
-impl From<ScriptNo> for Stop {
-    ghost use Rattle.rd_cli.specs.Causes.{stop_of_script};
-
-    ghost from_gives = { λ no e. e ≡ stop_of_script no };
-
-    fn from(no: ScriptNo) -> Stop {
-        match no {
-            ScriptNo::BadLine { line } => Stop::Line(line),
-            ScriptNo::Memory => Stop::Memory,
-        }
-    }
-}
-
-impl From<RunNo> for Stop {
-    ghost use Rattle.rd_cli.specs.Causes.{stop_of};
-
-    ghost from_gives = { λ no e. e ≡ stop_of no };
-
-    fn from(no: RunNo) -> Stop {
-        match no {
-            RunNo::Wire => Stop::Output,
-            RunNo::Memory => Stop::Memory,
         }
     }
 }

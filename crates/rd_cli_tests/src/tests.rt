@@ -1,4 +1,4 @@
-//! What ends a run, and what it leaves: the report, the recording and the journal.
+//! What ends a command, and what it leaves: the report, the recording, the journal and the notes.
 use rd_base::{Books, Bytes, Calls, Item, Key, MemSink, MemSource};
 use rd_cli::run;
 use std::alloc::{AllocError, Global};
@@ -12,7 +12,7 @@ const SCRIPT: &[u8] =
 const REPORT: &[u8] =
     b"1.1 done 00000000 0100000001\n1.2 done 00000000 0500000068656c6c6f\n1.3 done 00000000 00000000\ndevice 1 ran 3\n";
 
-/// The recording: the magic, the channel's begin, and each message in a frame of its own behind its sender's mark.
+/// The recording: the magic, the channel's begin, and each message in a frame of its own after its sender's mark.
 const RECORDING: &str = "5244525245433031\
 02\
 00\
@@ -44,37 +44,40 @@ const RECORDING: &str = "5244525245433031\
 /// No call on the outside fails.
 const NEVER: [&[u64]; 3] = [&[], &[], &[]];
 
-/// What a run leaves.
+/// What a command leaves.
 #[derive(Drop)]
-struct Ran {
+struct Remains {
     status: u8,
     output: Vec<u8>,
     recording: Vec<u8>,
+    notes: Vec<u8>,
     journal: Vec<Item>,
 }
 
-/// Runs a command over a script. The reads, the writes to the output and those to the recording with these numbers fail.
+/// A command over a script. The reads, the writes to the output and those to the recording with these numbers fail.
 fn command(
     alloc: Global,
     words: &[&str],
     script: &[u8],
     fails: [&[u64]; 3],
-) -> Result<Ran, AllocError> {
-    let [reads, outputs, wires] = fails;
+) -> Result<Remains, AllocError> {
+    let [reads, outputs, recordings] = fails;
     let words = strings(alloc, words)?;
     let mut input = source(alloc, script, reads)?;
     let mut output = sink(alloc, outputs)?;
-    let mut wire = sink(alloc, wires)?;
+    let mut recording = sink(alloc, recordings)?;
+    let mut notes = sink(alloc, &[])?;
     let mut books = Books::new(alloc);
     let status = run(
         alloc,
         words.as_slice(),
         &mut input,
         &mut output,
-        &mut wire,
+        &mut recording,
+        &mut notes,
         &mut books,
     );
-    left(alloc, status, &output, &wire, &books)
+    copies_of(alloc, status, [&output, &recording, &notes], &books)
 }
 
 fn strings(alloc: Global, words: &[&str]) -> Result<Vec<String>, AllocError> {
@@ -95,18 +98,18 @@ fn sink(alloc: Global, fails: &[u64]) -> Result<MemSink, AllocError> {
     Ok(MemSink::new(alloc, Calls::of(fails.to_vec(alloc)?)))
 }
 
-/// A status, and copies of what a run left.
-fn left(
+/// A status, and copies of what a command left in its sinks and books.
+fn copies_of(
     alloc: Global,
     status: u8,
-    output: &MemSink,
-    wire: &MemSink,
+    [output, recording, notes]: [&MemSink; 3],
     books: &Books,
-) -> Result<Ran, AllocError> {
-    Ok(Ran {
+) -> Result<Remains, AllocError> {
+    Ok(Remains {
         status,
         output: output.bytes().to_vec(alloc)?,
-        recording: wire.bytes().to_vec(alloc)?,
+        recording: recording.bytes().to_vec(alloc)?,
+        notes: notes.bytes().to_vec(alloc)?,
         journal: entries(books).to_vec(alloc)?,
     })
 }
@@ -128,9 +131,13 @@ fn ends(
     fails: [&[u64]; 3],
     wanted: (u8, &[u8], &[u8]),
 ) -> Result<(), Fail> {
-    let ran = command(alloc, words, script, fails)?;
+    let left = command(alloc, words, script, fails)?;
     assert_eq!(rt;
-        (ran.status, ran.output.as_slice(), ran.recording.as_slice()),
+        (
+            left.status,
+            left.output.as_slice(),
+            left.recording.as_slice()
+        ),
         wanted,
         "{words:?}, {fails:?}"
     );
@@ -158,9 +165,9 @@ fn completed(index: u64) -> [Item; 3] {
 
 #[test]
 fn keeps_a_journal(rt: HostRuntime) -> Result<(), Fail> {
-    let ran = command(rt.alloc(), &["both"], SCRIPT, NEVER)?;
+    let left = command(rt.alloc(), &["both"], SCRIPT, NEVER)?;
     let entries = [completed(0), completed(1), completed(2)];
-    assert_eq!(rt; ran.journal.as_slice(), entries.as_flattened());
+    assert_eq!(rt; left.journal.as_slice(), entries.as_flattened());
     Ok(())
 }
 
@@ -180,8 +187,8 @@ fn ends_where_the_outside_fails(rt: HostRuntime) -> Result<(), Fail> {
         ([&[], &[], &[6]], 3, 233),
         ([&[], &[], &[7]], 3, 302),
     ] {
-        let front = recording.get(..recorded).unwrap_or_default();
-        let wanted = (status, b"".as_slice(), front);
+        let prefix = recording.get(..recorded).unwrap_or_default();
+        let wanted = (status, b"".as_slice(), prefix);
         ends(&rt, rt.alloc(), &["both"], SCRIPT, fails, wanted)?;
     }
     Ok(())
@@ -254,7 +261,34 @@ fn knows_one_command(rt: HostRuntime) -> Result<(), Fail> {
     for words in [[].as_slice(), &["decode"], &["both", "both"], &["Both"]] {
         refuses(&rt, rt.alloc(), words, SCRIPT, b"bad words\n")?;
     }
-    // The line can't be written, and the status stays.
-    let unsaid = [[].as_slice(), &[1], &[]];
+    // The line can't be written, and the status stays. Nothing is read.
+    let unsaid = [[1].as_slice(), &[1], &[]];
     ends(&rt, rt.alloc(), &["decode"], SCRIPT, unsaid, (1, b"", b""))
+}
+
+#[test]
+fn tells_people_what_is_wrong(rt: HostRuntime) -> Result<(), Fail> {
+    for (words, script, told) in [
+        (["--help"], SCRIPT, "usage: rdr both < SCRIPT"),
+        (
+            ["both"],
+            b"drive 1 DATA\n1 raed h 0 5\n".as_slice(),
+            "line 2 can't stand here: 1 raed h 0 5\n",
+        ),
+        (
+            ["both"],
+            b"drive 1 DATA\n1 raed h 0 5\n",
+            "1 read HANDLE OFFSET LENGTH",
+        ),
+        (["both"], b"\xffpeek", "no line begins with that word"),
+        (["both"], SCRIPT, ""),
+    ] {
+        let left = command(rt.alloc(), &words, script, NEVER)?;
+        let notes = std::str::from_utf8(left.notes.as_slice())?;
+        assert!(rt;
+            notes.contains(told) && notes.is_empty() == told.is_empty(),
+            "{notes}"
+        );
+    }
+    Ok(())
 }

@@ -1,5 +1,5 @@
 pub mod Worked
-pub mod Maps
-pub mod Adding
-pub mod Laws
-pub mod Growing
+pub mod DriveStateLemmas
+pub mod AddsFileLemmas
+pub mod DriveStepLemmas
+pub mod RepliesLemmas

@@ -40,7 +40,7 @@ abbrev asks_open : Path → Op
 asks_open path = Create 0x8000_0000 0 0 7 1 0 path
 
 abbrev success : Body → Reply
-success body = record { status = status.done; body = body }
+success body = record { status = status.success; body = body }
 
 abbrev fault : Status → Reply
 fault s = record { status = s; body = Fault }
@@ -152,8 +152,8 @@ abbrev request : ℕ → Op → Request
 request file op = record { device = 1; file = file; completion = 0; op = op }
 
 -- the requests of the journals below: open, read and close
-abbrev asked : Key → Request
-asked k = if k.index == 0 then request 0 (asks_open a_path) else (if k.index == 1 then request 1 (Read 0 5) else request 1 Close)
+abbrev requests : Key → Request
+requests k = if k.index == 0 then request 0 (asks_open a_path) else (if k.index == 1 then request 1 (Read 0 5) else request 1 Close)
 
 -- the first script of a user: one file is opened, read and closed
 abbrev ordinary : List Item
@@ -163,10 +163,10 @@ ordinary =
     ∷ Came (key 2) ∷ Ran (key 2) 0 false false ∷ Sent (key 2)
     ∷ []
 
-pub ordinary_replies : replies_of start asked ordinary ≡ (key 0, success (Created 1 1)) ∷ (key 1, success (Buffer (codes "hello"))) ∷ (key 2, success Closed) ∷ []
+pub ordinary_replies : replies_of start requests ordinary ≡ (key 0, success (Created 1 1)) ∷ (key 1, success (Buffer (codes "hello"))) ∷ (key 2, success Closed) ∷ []
 ordinary_replies = refl
 
-pub ordinary_leaves_no_handle : last_state start asked ordinary ≡ open_at [] 2
+pub ordinary_leaves_no_handle : last_state start requests ordinary ≡ open_at [] 2
 ordinary_leaves_no_handle = refl
 
 -- The read finds no memory, then the device is removed: the close finds no handle.
@@ -174,5 +174,5 @@ abbrev starved_and_cut : List Item
 starved_and_cut =
     Came (key 0) ∷ Came (key 1) ∷ Ran (key 0) 0 false false ∷ Ran (key 1) 0 true false ∷ Cut Removed ∷ Came (key 2) ∷ Ran (key 2) 0 false false ∷ []
 
-pub starved_and_cut_replies : replies_of start asked starved_and_cut ≡ (key 0, success (Created 1 1)) ∷ (key 1, starved_reply) ∷ (key 2, fault status.invalid_handle) ∷ []
+pub starved_and_cut_replies : replies_of start requests starved_and_cut ≡ (key 0, success (Created 1 1)) ∷ (key 1, starved_reply) ∷ (key 2, fault status.invalid_handle) ∷ []
 starved_and_cut_replies = refl

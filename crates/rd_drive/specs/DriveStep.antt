@@ -13,27 +13,27 @@ use Rattle.rd_irp.specs.declared.completion.Body.TheVariants as body
 use Rattle.rd_irp.specs.declared.completion.Reply.{Reply}
 use Rattle.rd_drive.specs.DriveState.{DriveState, Path, Handle, node_at, handle_at}
 use Rattle.rd_drive.specs.PlainPath.{is_plain_path}
-use Rattle.rd_drive.specs.Statuses.{done, invalid_handle, invalid_parameter, end_of_file, object_name_not_found, not_supported, too_many_opened_files}
+use Rattle.rd_drive.specs.Statuses.{success, invalid_handle, invalid_parameter, end_of_file, object_name_not_found, not_supported, too_many_opened_files}
 
 -- the most open files of a drive
-abbrev pub most_handles : ℕ
-most_handles = 4096
+abbrev pub max_handles : ℕ
+max_handles = 4096
 
 -- what every file id is below
-abbrev pub file_ids_end : ℕ
-file_ids_end = 2 ^ 32
+abbrev pub file_id_limit : ℕ
+file_id_limit = 2 ^ 32
 
--- the most bytes that one Read answers
-abbrev pub most_read : ℕ
-most_read = 1048576
+-- the most bytes that one Read gives
+abbrev pub max_read : ℕ
+max_read = 1048576
 
 -- The operation is refused with a status, and changes nothing.
 abbrev pub refused : DriveState → Status → DriveState × Reply
 refused s status = (s, record { status = status; body = body.Fault })
 
--- The operation is done: the state behind it, and the body of its answer.
-abbrev pub answered : DriveState → Body → DriveState × Reply
-answered s body = (s, record { status = done; body = body })
+-- The operation is done: the state after it, and the body of its reply.
+abbrev pub succeeded : DriveState → Body → DriveState × Reply
+succeeded s body = (s, record { status = success; body = body })
 
 -- The first check that applies refuses the operation. Where none does, this comes of it.
 abbrev pub checked : DriveState → List (Bool × Status) → DriveState × Reply → DriveState × Reply
@@ -64,12 +64,12 @@ is_served access share disposition options path =
 
 -- no further handle can be made: there are too many, or no file id is left
 abbrev pub is_full : DriveState → Bool
-is_full s = nat_le most_handles (length s.handles) || nat_le file_ids_end s.next
+is_full s = nat_le max_handles (length s.handles) || nat_le file_id_limit s.next
 
 -- The file at the path is opened. Its handle has the next file id, and the Information says that it was there (1).
 abbrev pub opened : DriveState → Path → DriveState × Reply
 opened s path =
-    answered (record s { handles = insert_entry nat_cmp s.handles s.next (record { path = path }); next = s.next + 1 }) (body.Created s.next 1)
+    succeeded (record s { handles = insert_entry nat_cmp s.handles s.next (record { path = path }); next = s.next + 1 }) (body.Created s.next 1)
 
 -- A Create that is served: there must be room for a further handle, and then the file must be there.
 abbrev pub open_file : DriveState → Path → DriveState × Reply
@@ -82,24 +82,24 @@ closed s file = record s { handles = remove_entry (is_at (nat_cmp file)) s.handl
 
 -- A Close: its file must be open.
 abbrev pub close_file : DriveState → ℕ → DriveState × Reply
-close_file s file = on_handle s file (λ handle. answered (closed s file) body.Closed)
+close_file s file = on_handle s file (λ handle. succeeded (closed s file) body.Closed)
 
 -- the bytes of an open file; it is there, since this form of the drive removes none
 abbrev pub bytes_of : DriveState → Handle → List ℕ
 bytes_of s handle = option_map_or (λ node. node.bytes) (node_at s handle.path) []
 
--- Read (MS-RDPEFS 2.2.1.4.3) of a file with these bytes: those from the offset on, as many as are asked for and there. At the
--- end and past it there are none to give, unless none are asked for.
+-- Read (MS-RDPEFS 2.2.1.4.3) of a file with these bytes: those from the offset on, as many as are wanted and there. Past the
+-- last byte there are none to give, unless none are wanted.
 abbrev pub read : DriveState → List ℕ → ℕ → ℕ → DriveState × Reply
 read s bytes offset count =
-    let given = answered s (body.Buffer (take (min count most_read) (drop offset bytes))) in
-    if count == 0 then answered s (body.Buffer []) else checked s ((nat_le (length bytes) offset, end_of_file) ∷ []) given
+    let given = succeeded s (body.Buffer (take (min count max_read) (drop offset bytes))) in
+    if count == 0 then succeeded s (body.Buffer []) else checked s ((nat_le (length bytes) offset, end_of_file) ∷ []) given
 
 -- A Read: its file must be open.
 abbrev pub read_file : DriveState → ℕ → ℕ → ℕ → DriveState × Reply
 read_file s file offset count = on_handle s file (λ handle. read s (bytes_of s handle) offset count)
 
--- What an operation with a file id does at a moment: the state behind it, and its reply.
+-- What an operation with a file id does at a moment: the state after it, and its reply.
 abbrev pub drive_step : DriveState → ℕ → Op → ℕ → DriveState × Reply
 drive_step s file (op.Malformed major minor bad) moment = refused s invalid_parameter
 drive_step s file (op.Unknown major minor) moment = refused s not_supported

@@ -1,4 +1,4 @@
--- What a device's journal says that its requests were answered.
+-- The replies to a device's requests, by its journal.
 use Rattle.std.specs.Prelude.{ℕ, ◌≢◌, Bool, true, List, [], ◌∷◌, ◌++◌}
 use Rattle.rd_base.specs.declared.journal.Key.{Key}
 use Rattle.rd_base.specs.declared.journal.Item.{Item}
@@ -11,8 +11,8 @@ use Rattle.rd_drive.specs.Starved.{unless_starved}
 use Rattle.rd_drive.specs.DriveState.{DriveState}
 use Rattle.rd_drive.specs.DriveStep.{drive_step, drive_cut}
 
--- A device with states of the type S: what a request with a file id and an operation does at a moment, and what the end of
--- its life at the host does.
+-- A device with states of the type S: what a request with a file id and an operation does at a moment, and what its cut
+-- does.
 module _ {S : Type 0} (step : S → ℕ → Op → ℕ → S × Reply) (cut : S → S) where
   -- What a request does: the device's step, unless no memory was found for it.
   abbrev pub ran_step : S → Bool → ℕ → Op → ℕ → S × Reply
@@ -20,13 +20,13 @@ module _ {S : Type 0} (step : S → ℕ → Op → ℕ → S × Reply) (cut : S 
 
   -- Each key names a request.
   module _ (requests : Key → Request) where
-    -- the state behind an entry of the journal
-    abbrev pub state_behind : S → Item → S
-    state_behind s (Ran key moment starved parked) =
+    -- the state after an entry of the journal
+    abbrev pub state_after : S → Item → S
+    state_after s (Ran key moment starved parked) =
         let request = requests key in
         (ran_step s starved request.file request.op moment).0
-    state_behind s (Cut cause) = cut s
-    state_behind s _ = s
+    state_after s (Cut cause) = cut s
+    state_after s _ = s
 
     -- the replies that an entry gives, each with the key that it belongs to
     abbrev pub replies_at : S → Item → List (Key × Reply)
@@ -35,15 +35,15 @@ module _ {S : Type 0} (step : S → ℕ → Op → ℕ → S × Reply) (cut : S 
         (key, (ran_step s starved request.file request.op moment).1) ∷ []
     replies_at s _ = []
 
-    -- the state behind a journal that begins in s
+    -- the state after a journal that begins in s
     abbrev pub last_state_by : S → List Item → S
     last_state_by s [] = s
-    last_state_by s (item ∷ items) = last_state_by (state_behind s item) items
+    last_state_by s (entry ∷ entries) = last_state_by (state_after s entry) entries
 
     -- the replies of a journal that begins in s
     abbrev pub replies_by : S → List Item → List (Key × Reply)
     replies_by s [] = []
-    replies_by s (item ∷ items) = replies_at s item ++ replies_by (state_behind s item) items
+    replies_by s (entry ∷ entries) = replies_at s entry ++ replies_by (state_after s entry) entries
 
 -- An entry doesn't say that a Close found no memory, since it needs none.
 abbrev pub StarvesNoClose : (Key → Request) → Item → Type 0
@@ -56,6 +56,6 @@ StarvesNoClose requests _ = Unit {0}
 abbrev pub replies_of : DriveState → (Key → Request) → List Item → List (Key × Reply)
 replies_of opening requests journal = replies_by drive_step drive_cut requests opening journal
 
--- the drive's state behind its journal
+-- the drive's state after its journal
 abbrev pub last_state : DriveState → (Key → Request) → List Item → DriveState
 last_state opening requests journal = last_state_by drive_step drive_cut requests opening journal

@@ -1,4 +1,4 @@
--- Want of memory (MS-ERREF 2.3, STATUS_NO_MEMORY): a request that finds none is answered so, and changes nothing.
+-- Want of memory (MS-ERREF 2.3, STATUS_NO_MEMORY): a request that finds none has it in its reply, and changes nothing.
 use Rattle.std.specs.Prelude.{◌≡◌, ◌==◌, Bool, if◌then◌else◌}
 use Rattle.rd_irp.specs.declared.completion.Body.TheVariants.{Fault}
 use Rattle.rd_irp.specs.declared.completion.Reply.{Reply}

@@ -1,9 +1,9 @@
--- The status values that a drive answers (MS-ERREF 2.3).
+-- The status values with which a drive replies (MS-ERREF 2.3).
 use Rattle.rd_base.specs.declared.status.Status.{Status}
 
 -- the operation was done
-abbrev pub done : Status
-done = record { 0 = 0 }
+abbrev pub success : Status
+success = record { 0 = 0 }
 
 -- no open file has the file id
 abbrev pub invalid_handle : Status

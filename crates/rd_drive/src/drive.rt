@@ -4,7 +4,7 @@ ghost use Rattle.std.specs.Prelude.{◌≡◌, [], IfOk};
 ghost use Rattle.rd_drive.specs.AddsFile.{AddsFile};
 ghost use Rattle.rd_drive.specs.DriveState.{empty_drive};
 ghost use Rattle.rd_drive.specs.DriveStep.{drive_step, drive_cut, open_file, close_file, read_file, bytes_of};
-ghost use Rattle.rd_drive.specs.Statuses.{done};
+ghost use Rattle.rd_drive.specs.Statuses.{success};
 ghost use Rattle.rd_drive.specs.Starved.{Gives, is_starved, unless_starved};
 ghost use Rattle.rd_irp.specs.Fits.{BodyFits, IsSendable};
 ghost use Rattle.rd_irp.specs.declared.completion.Kind.TheVariants as Kind;
@@ -25,8 +25,8 @@ pub const MAX_HANDLES: usize = 4096;
 /// The most nodes of a drive, its root counted.
 pub const MAX_NODES: usize = 65_536;
 
-/// One past the last file id.
-const FILE_IDS_END: u64 = 1 << 32;
+/// What every file id is below.
+const FILE_ID_LIMIT: u64 = 1 << 32;
 
 /// Why a file could not be added.
 #[derive(Clone, Copy, Debug, PartialEq, Eq, Error)]
@@ -98,13 +98,13 @@ impl MemoryDrive {
         }
     }
 
-    /// Opens the file at a path, which becomes the handle's. It is answered the next file id, never used before.
+    /// Opens the file at a path, which becomes the handle's. The reply gives the next file id, never used before.
     fn open(&mut self, path: Units) -> Reply
         ensures fits { BodyFits Kind.Create result.status result.body }
         ensures opened { Gives (unless_starved self.old (is_starved result) (open_file self.old path)) self.new result }
         ensures sendable { IsSendable result.body }
     {
-        if self.handles.len() >= MAX_HANDLES || self.next >= FILE_IDS_END {
+        if self.handles.len() >= MAX_HANDLES || self.next >= FILE_ID_LIMIT {
             return fault(Status::TOO_MANY_OPENED_FILES);
         }
         if !self.files.contains_key(path.as_slice()) {
@@ -133,7 +133,7 @@ impl MemoryDrive {
     }
 
     /// The bytes of the file at a path, and none where it isn't there.
-    fn bytes_at(&self, path: &[u16]) -> &[u8]
+    fn bytes_of(&self, path: &[u16]) -> &[u8]
         ensures { result.now ≡ bytes_of self.now (record { path = path.now }) }
     {
         match self.files.get(path) {
@@ -152,7 +152,7 @@ impl MemoryDrive {
         let Some(path) = self.handles.get(&file) else {
             return fault(Status::INVALID_HANDLE);
         };
-        let bytes = self.bytes_at(path.as_slice());
+        let bytes = self.bytes_of(path.as_slice());
         if length == 0 {
             return success(Body::Buffer(Bytes::of(room)));
         }
@@ -215,7 +215,7 @@ impl Device for MemoryDrive {
 }
 
 fn success(body: Body) -> Reply
-    ensures reply { result ≡ record { status = done; body = body } }
+    ensures reply { result ≡ record { status = success; body = body } }
 {
     Reply {
         status: Status::SUCCESS,

@@ -1,4 +1,4 @@
-//! The memory drive: what a request does to the files of a drive, and what it is answered.
+//! The memory drive: what a request does to the files of a drive, and the reply to it.
 //!
 //! It stands on `rd_irp` for requests and replies. The layer above uses one contract of it: `apply` is one step of the
 //! drive, and `cut` closes every handle.

@@ -32,7 +32,7 @@ fn is_plain_name(name: &[u16]) -> bool
 fn are_plain(name: &[u16]) -> bool
     ensures { result ≡ list_all is_plain_unit name.now }
 {
-    name.iter().all(|unit| is_plain(*unit))
+    name.iter().all(|unit| is_plain_unit(*unit))
 }
 
 /// The names that mean the folder itself and the one above it.
@@ -43,7 +43,7 @@ fn is_dots(name: &[u16]) -> bool
 }
 
 /// A unit that may stand in a plain name.
-fn is_plain(unit: u16) -> bool
+fn is_plain_unit(unit: u16) -> bool
     ensures { result ≡ is_plain_unit unit }
 {
     match unit {

@@ -7,7 +7,7 @@ use rd_irp::Op;
 use std::alloc::Global;
 use std::marker::Model;
 
-/// The most bytes that one `Read` answers.
+/// The most bytes that one `Read` gives.
 pub const MAX_READ: u32 = 1_048_576;
 
 /// A request that a device is to run.

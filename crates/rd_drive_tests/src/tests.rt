@@ -41,8 +41,8 @@ fn given(body: &Body) -> (Option<(u32, u8)>, &[u8]) {
     }
 }
 
-/// Asserts what the drive answers a request with a file id and an operation.
-fn answers(
+/// Asserts what the drive replies to a request with a file id and an operation.
+fn replies(
     rt: &(impl Abort + AllocGlobal),
     drive: &mut MemoryDrive,
     file: u32,
@@ -71,11 +71,11 @@ fn opens(rt: &(impl Abort + AllocGlobal), drive: &mut MemoryDrive) {
         (0x8000_0000, Status::SUCCESS, Some((2, 1))),
         (0xc000_0000, Status::NOT_SUPPORTED, None),
     ] {
-        answers(rt, drive, 0, open(rt, access), status, (opened, b""));
+        replies(rt, drive, 0, open(rt, access), status, (opened, b""));
     }
 }
 
-/// Asserts what is read of `hello`, up to its end and behind it.
+/// Asserts what is read of `hello`, its last bytes and past them.
 fn reads(rt: &(impl Abort + AllocGlobal), drive: &mut MemoryDrive) {
     for (offset, length, status, text) in [
         (3, 10, Status::SUCCESS, "lo"),
@@ -83,17 +83,17 @@ fn reads(rt: &(impl Abort + AllocGlobal), drive: &mut MemoryDrive) {
         (5, 0, Status::SUCCESS, ""),
     ] {
         let read = Op::Read { offset, length };
-        answers(rt, drive, 1, read, status, (None, text.as_bytes()));
+        replies(rt, drive, 1, read, status, (None, text.as_bytes()));
     }
 }
 
 /// Asserts that a handle is closed once, and that a cut closes the rest.
 fn closes(rt: &(impl Abort + AllocGlobal), drive: &mut MemoryDrive) {
     for status in [Status::SUCCESS, Status::INVALID_HANDLE] {
-        answers(rt, drive, 1, Op::Close, status, (None, b""));
+        replies(rt, drive, 1, Op::Close, status, (None, b""));
     }
     drive.cut();
-    answers(rt, drive, 2, Op::Close, Status::INVALID_HANDLE, (None, b""));
+    replies(rt, drive, 2, Op::Close, Status::INVALID_HANDLE, (None, b""));
 }
 
 #[test]

@@ -1,5 +1,5 @@
-pub mod OneOf
-pub mod Heads
-pub mod Paths
-pub mod Spelled
+pub mod RequestLemmas
+pub mod HeadLemmas
+pub mod PathLemmas
+pub mod WrittenLemmas
 pub mod Worked

@@ -6,9 +6,9 @@ use Rattle.rd_base.specs.declared.bad.Bad.{Bad}
 use Rattle.rd_base.specs.declared.bad.Why.TheVariants.{Short, Component, Packet, Length}
 use Rattle.rd_base.specs.declared.status.Status.{Status}
 use Rattle.std.specs.Int.{w8}
-use Rattle.rd_base.specs.Position.{Position}
-use Rattle.rd_base.specs.Layout.{AreBytes, Layout, Spells, FaultBehind, met}
-use Rattle.rd_base.proofs.Decided.{spells, fault_behind}
+use Rattle.rd_base.specs.Position.{at_start}
+use Rattle.rd_base.specs.Layout.{AreBytes, Layout, Spells, FaultAfter, met}
+use Rattle.rd_base.proofs.LayoutLemmas.{spells, fault_after}
 use Rattle.rd_irp.specs.declared.op.Op.TheVariants as op
 use Rattle.rd_irp.specs.declared.request.Request.{Request}
 use Rattle.rd_irp.specs.declared.request.RequestHead.{RequestHead}
@@ -16,7 +16,7 @@ use Rattle.rd_irp.specs.declared.completion.Kind.TheVariants as kind
 use Rattle.rd_irp.specs.declared.completion.Body.TheVariants as body
 use Rattle.rd_irp.specs.Header.{header}
 use Rattle.rd_irp.specs.Op.{op_body, create_body, read_body}
-use Rattle.rd_irp.specs.Request.{request_head, body_behind, whole_request, SpellsRequest, FirstFaultOfRequest}
+use Rattle.rd_irp.specs.Request.{request_head, body_after, whole_request, SpellsRequest, FirstFaultOfRequest}
 use Rattle.rd_irp.specs.Written.{request_bytes, completion_bytes, body_bytes}
 use Rattle.rd_irp.specs.Completion.{completion_head, success_body, completion_body, SpellsHead, SpellsBody, FirstFaultOfBody}
 
@@ -38,31 +38,28 @@ bytes_are (b ∷ bs) fits (suc i) = bytes_are bs (both_true (nat_lt b 256) (each
 fits_of : (bs : List ℕ) → AreBytes bs → (i : ℕ) → Fits w8 (get_or bs i 0)
 fits_of bs are i = let below : get_or bs i 0 < 256 = are i in omega arith
 
-abbrev front : List ℕ → Position
-front bytes = record { at = 0; left = bytes }
-
 -- what a layout meets is spelled, the rest being the tail
-met_is_spelled : {A : Type 0} (l : Layout A) (bytes : List ℕ) (a : A) (at tail : ℕ) → IsTrue (each_byte bytes) → met l (front bytes) ≡ Ok (a, record { at = at; left = drop at bytes }) → length (drop at bytes) ≡ tail → Spells l a tail bytes
+met_is_spelled : {A : Type 0} (l : Layout A) (bytes : List ℕ) (a : A) (at tail : ℕ) → IsTrue (each_byte bytes) → met l (at_start bytes) ≡ Ok (a, record { at = at; left = drop at bytes }) → length (drop at bytes) ≡ tail → Spells l a tail bytes
 met_is_spelled l bytes a at tail test e is =
     subst (λ (n : ℕ). Spells l a n bytes) is (spells l 0 bytes a (record { at = at; left = drop at bytes }) (bytes_are bytes test) e)
 
--- the fault that is met behind a request's head
-met_is_malformed : (bytes : List ℕ) (h : RequestHead) (bad : Bad) (tail : ℕ) → IsTrue (each_byte bytes) → met request_head (front bytes) ≡ Ok (h, record { at = 24; left = drop 24 bytes }) → met (body_behind h) (record { at = 24; left = drop 24 bytes }) ≡ Err bad → tail ≡ length (drop 24 bytes) → FaultBehind request_head body_behind h bad tail bytes
-met_is_malformed bytes h bad tail test e d is = fault_behind request_head body_behind bytes (front bytes) h _ bad tail (fits_of bytes (bytes_are bytes test)) refl e d is
+-- the fault that is met after a request's head
+met_is_malformed : (bytes : List ℕ) (h : RequestHead) (bad : Bad) (tail : ℕ) → IsTrue (each_byte bytes) → met request_head (at_start bytes) ≡ Ok (h, record { at = 24; left = drop 24 bytes }) → met (body_after h) (record { at = 24; left = drop 24 bytes }) ≡ Err bad → tail ≡ length (drop 24 bytes) → FaultAfter request_head body_after h bad tail bytes
+met_is_malformed bytes h bad tail test e d is = fault_after request_head body_after bytes (at_start bytes) h _ bad tail (fits_of bytes (bytes_are bytes test)) refl e d is
 
 -- A CREATE of `\a.txt` on device 1, for reading and shared by all: its head, its numbers, the length of the path.
-abbrev pub create_front : List ℕ
-create_front =
+abbrev pub create_fields : List ℕ
+create_fields =
     0x72 ∷ 0x44 ∷ 0x52 ∷ 0x49 ∷ 1 ∷ 0 ∷ 0 ∷ 0 ∷ 0 ∷ 0 ∷ 0 ∷ 0 ∷ 0 ∷ 0 ∷ 0 ∷ 0 ∷ 0 ∷ 0 ∷ 0 ∷ 0 ∷ 0 ∷ 0 ∷ 0 ∷ 0
     ∷ 0 ∷ 0 ∷ 0 ∷ 0x80 ∷ 0 ∷ 0 ∷ 0 ∷ 0 ∷ 0 ∷ 0 ∷ 0 ∷ 0 ∷ 0 ∷ 0 ∷ 0 ∷ 0 ∷ 7 ∷ 0 ∷ 0 ∷ 0 ∷ 1 ∷ 0 ∷ 0 ∷ 0 ∷ 0 ∷ 0 ∷ 0 ∷ 0 ∷ []
 
--- the path's units and the zero unit behind them
+-- the path's units and the zero unit after them
 abbrev pub path_field : List ℕ
 path_field = 0x5c ∷ 0 ∷ 0x61 ∷ 0 ∷ 0x2e ∷ 0 ∷ 0x74 ∷ 0 ∷ 0x78 ∷ 0 ∷ 0x74 ∷ 0 ∷ 0 ∷ 0 ∷ []
 
 -- the whole of it
 abbrev pub create_message : List ℕ
-create_message = create_front ++ 14 ∷ 0 ∷ 0 ∷ 0 ∷ path_field
+create_message = create_fields ++ 14 ∷ 0 ∷ 0 ∷ 0 ∷ path_field
 
 pub length-create_message : length create_message ≡ 70
 length-create_message = refl
@@ -84,7 +81,7 @@ create_written = refl
 
 -- A path that is longer than its message is short where its units begin: it isn't cut.
 abbrev pub long_path : List ℕ
-long_path = create_front ++ 16 ∷ 0 ∷ 0 ∷ 0 ∷ path_field
+long_path = create_fields ++ 16 ∷ 0 ∷ 0 ∷ 0 ∷ path_field
 
 pub long_path_malformed : SpellsRequest (record { device = 1; file = 0; completion = 0; op = op.Malformed 0 0 (record { at = 56; why = Short }) }) 46 long_path
 unfolding request_head header op_body create_body
@@ -92,7 +89,7 @@ long_path_malformed = met_is_malformed long_path (record { device = 1; file = 0;
 
 -- an odd length of a path, at the length
 abbrev pub odd_path : List ℕ
-odd_path = create_front ++ 13 ∷ 0 ∷ 0 ∷ 0 ∷ path_field
+odd_path = create_fields ++ 13 ∷ 0 ∷ 0 ∷ 0 ∷ path_field
 
 pub odd_path_malformed : SpellsRequest (record { device = 1; file = 0; completion = 0; op = op.Malformed 0 0 (record { at = 52; why = Length }) }) 46 odd_path
 unfolding request_head header op_body create_body
@@ -113,7 +110,7 @@ pub cut_read_malformed : SpellsRequest (record { device = 1; file = 1; completio
 unfolding request_head header op_body read_body
 cut_read_malformed = met_is_malformed (take 55 read_message) (record { device = 1; file = 1; completion = 0; major = 3; minor = 0 }) _ 31 refl refl refl refl
 
--- a request whose function isn't known, and one byte behind its head
+-- a request whose function isn't known, and one byte after its head
 abbrev pub unknown_message : List ℕ
 unknown_message =
     0x72 ∷ 0x44 ∷ 0x52 ∷ 0x49 ∷ 1 ∷ 0 ∷ 0 ∷ 0 ∷ 1 ∷ 0 ∷ 0 ∷ 0 ∷ 2 ∷ 0 ∷ 0 ∷ 0 ∷ 0x11 ∷ 0 ∷ 0 ∷ 0 ∷ 9 ∷ 0 ∷ 0 ∷ 0 ∷ 5 ∷ []
@@ -122,7 +119,7 @@ pub unknown_spelled : SpellsRequest (record { device = 1; file = 1; completion =
 unfolding whole_request request_head header op_body
 unknown_spelled = met_is_spelled whole_request unknown_message _ 24 1 refl refl refl
 
--- heads with a fault: an unknown component, a packet of printing, a request cut in front of its device
+-- heads with a fault: an unknown component, a packet of printing, a request cut in at_start of its device
 pub unknown_component : FirstFaultOfRequest (0x78 ∷ 0x78 ∷ 0x52 ∷ 0x49 ∷ []) (record { at = 0; why = Component })
 unfolding request_head header
 unknown_component = refl
@@ -178,7 +175,7 @@ buffer_written = refl
 pub close_written : body_bytes kind.Close body.Closed ≡ 0 ∷ 0 ∷ 0 ∷ 0 ∷ []
 close_written = refl
 
--- the bytes that a buffer doesn't count stand behind it
+-- the bytes that a buffer doesn't count come after it
 pub longer_buffer : SpellsBody kind.Buffer success (body.Buffer (0x61 ∷ [])) 1 (1 ∷ 0 ∷ 0 ∷ 0 ∷ 0x61 ∷ 0x62 ∷ [])
 unfolding completion_body success_body
 longer_buffer = met_is_spelled (completion_body kind.Buffer success) (1 ∷ 0 ∷ 0 ∷ 0 ∷ 0x61 ∷ 0x62 ∷ []) _ 5 1 refl refl refl

@@ -2,7 +2,7 @@
 use Rattle.std.specs.Prelude.{ℕ, List, ◌==◌}
 use Rattle.rd_base.specs.declared.bad.Bad.{Bad}
 use Rattle.rd_base.specs.declared.status.Status.{Status}
-use Rattle.rd_base.specs.Layout.{Layout, done, byte_run, ◌>>=◌, ◌>>◌, choose, Spells, FirstFault}
+use Rattle.rd_base.specs.Layout.{Layout, done, any_bytes, ◌>>=◌, ◌>>◌, choose, Spells, FirstFault}
 use Rattle.rd_base.specs.Fields.{number8, number32, missing_pad}
 use Rattle.rd_irp.specs.declared.completion.Head.{Head}
 use Rattle.rd_irp.specs.declared.completion.Kind.{Kind}
@@ -20,7 +20,7 @@ completion_head = do
   status ← number32
   done (record { device = device; completion = completion; status = record { 0 = status } })
 
--- What stands behind the head of a success (2.2.1.5.1 to 2.2.1.5.4, 2.2.3.4.12). Where the bytes end inside padding, what is there suffices.
+-- What comes after the head of a success (2.2.1.5.1 to 2.2.1.5.4, 2.2.3.4.12). Where padding is cut short, what is there suffices.
 unfoldable pub success_body : Kind → Layout Body
 success_body kind.Create = do
   file ← number32
@@ -35,17 +35,17 @@ success_body kind.Count = do
   done (Count count)
 success_body kind.Buffer = do
   count ← number32
-  bytes ← byte_run count
+  bytes ← any_bytes count
   done (Buffer bytes)
 success_body kind.Lock = do
   missing_pad 5
   done Locked
 
--- What stands behind the head. Beside a status other than success no byte means anything.
+-- What comes after the head. Beside a status other than success no byte means anything.
 unfoldable pub completion_body : Kind → Status → Layout Body
 completion_body k status = choose (status.0 == 0) (success_body k) (done Fault)
 
--- Behind the head of a completion of this kind and status, the bytes begin with a spelling of this body, and so many more stand behind it.
+-- After the head of a completion of this kind and status, the bytes begin with a spelling of this body, and so many more come after it.
 abbrev pub SpellsBody : Kind → Status → Body → ℕ → List ℕ → Type 0
 SpellsBody k status body tail bytes = Spells (completion_body k status) body tail bytes
 
@@ -53,7 +53,7 @@ SpellsBody k status body tail bytes = Spells (completion_body k status) body tai
 abbrev pub FirstFaultOfBody : Kind → Status → List ℕ → Bad → Type 0
 FirstFaultOfBody k status bytes bad = FirstFault (completion_body k status) bytes bad
 
--- The bytes begin with a spelling of this head of a completion, and so many more stand behind it.
+-- The bytes begin with a spelling of this head of a completion, and so many more come after it.
 abbrev pub SpellsHead : Head → ℕ → List ℕ → Type 0
 SpellsHead head tail bytes = Spells completion_head head tail bytes
 

@@ -10,28 +10,28 @@ use Rattle.rd_irp.specs.declared.completion.Body.TheVariants as body
 use Rattle.rd_irp.specs.declared.completion.Reply.{Reply}
 
 -- the most units of a path
-abbrev pub most_path : ℕ
-most_path = 4096
+abbrev pub max_path : ℕ
+max_path = 4096
 
 -- the most bytes of a buffer
-abbrev pub most_buffer : ℕ
-most_buffer = 1048576
+abbrev pub max_buffer : ℕ
+max_buffer = 1048576
 
 -- A request with this operation can be sent: its path isn't too long, and none of its units is zero.
 abbrev pub Fits : Op → Type 0
-Fits (op.Create access allocation attributes share disposition options path) = (length path ≤ most_path) × All (λ unit. unit ≢ 0) path
+Fits (op.Create access allocation attributes share disposition options path) = (length path ≤ max_path) × All (λ unit. unit ≢ 0) path
 Fits op.Close = Unit {0}
 Fits (op.Read offset len) = Unit {0}
 Fits (op.Unknown major minor) = ⊥
 Fits (op.Malformed major minor bad) = ⊥
 
--- the layout of the completion that answers an operation; a malformed one has that of its function
-abbrev pub reply_kind : Op → Kind
-reply_kind (op.Create access allocation attributes share disposition options path) = kind.Create
-reply_kind op.Close = kind.Close
-reply_kind (op.Read offset len) = kind.Buffer
-reply_kind (op.Unknown major minor) = kind.Buffer
-reply_kind (op.Malformed major minor bad) = if major == 0 then kind.Create else (if major == 2 then kind.Close else kind.Buffer)
+-- the layout of an operation's completion; a malformed one has that of its function
+abbrev pub kind_of : Op → Kind
+kind_of (op.Create access allocation attributes share disposition options path) = kind.Create
+kind_of op.Close = kind.Close
+kind_of (op.Read offset len) = kind.Buffer
+kind_of (op.Unknown major minor) = kind.Buffer
+kind_of (op.Malformed major minor bad) = if major == 0 then kind.Create else (if major == 2 then kind.Close else kind.Buffer)
 
 -- a byte field that its length field can count
 abbrev pub IsCountable : Body → Type 0
@@ -60,13 +60,13 @@ abbrev pub IsSendable : Body → Type 0
 IsSendable (body.Created file information) = Unit {0}
 IsSendable body.Closed = Unit {0}
 IsSendable (body.Count count) = Unit {0}
-IsSendable (body.Buffer bytes) = length bytes ≤ most_buffer
+IsSendable (body.Buffer bytes) = length bytes ≤ max_buffer
 IsSendable body.Locked = Unit {0}
 IsSendable body.Fault = Unit {0}
 
--- a reply that may answer the operation, and that can be sent
-abbrev pub Answers : Op → Reply → Type 0
-Answers op reply = BodyFits (reply_kind op) reply.status reply.body × IsSendable reply.body
+-- a reply with which the operation may be completed, and that can be sent
+abbrev pub IsReplyTo : Op → Reply → Type 0
+IsReplyTo op reply = BodyFits (kind_of op) reply.status reply.body × IsSendable reply.body
 
 -- the zeros beside a status other than success: as many as a success of the layout has bytes without its buffer
 abbrev pub fault_length : Kind → ℕ

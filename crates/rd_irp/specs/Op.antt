@@ -5,7 +5,7 @@ use Rattle.rd_base.specs.Fields.{number32, number64, pad, length_of_units, path}
 use Rattle.rd_irp.specs.declared.op.Op.{Op}
 use Rattle.rd_irp.specs.declared.op.Op.TheVariants.{Create, Close, Read, Unknown}
 
--- DR_CREATE_REQ behind its head (2.2.1.4.1)
+-- DR_CREATE_REQ after its head (2.2.1.4.1)
 unfoldable pub create_body : Layout Op
 create_body = do
   access ← number32
@@ -18,13 +18,13 @@ create_body = do
   units ← path count
   done (Create access allocation attributes share disposition options units)
 
--- DR_CLOSE_REQ behind its head (2.2.1.4.2)
+-- DR_CLOSE_REQ after its head (2.2.1.4.2)
 unfoldable pub close_body : Layout Op
 close_body = do
   pad 32
   done Close
 
--- DR_READ_REQ behind its head (2.2.1.4.3)
+-- DR_READ_REQ after its head (2.2.1.4.3)
 unfoldable pub read_body : Layout Op
 read_body = do
   len ← number32

@@ -1,7 +1,7 @@
 -- Which bytes spell a request (MS-RDPEFS 2.2.1.4).
 use Rattle.std.specs.Prelude.{ℕ, List}
 use Rattle.rd_base.specs.declared.bad.Bad.{Bad}
-use Rattle.rd_base.specs.Layout.{Layout, done, ◌>>=◌, ◌>>◌, Spells, FirstFault, FaultBehind}
+use Rattle.rd_base.specs.Layout.{Layout, done, ◌>>=◌, ◌>>◌, Spells, FirstFault, FaultAfter}
 use Rattle.rd_base.specs.Fields.{number32}
 use Rattle.rd_irp.specs.declared.op.Op.{Op}
 use Rattle.rd_irp.specs.declared.op.Op.TheVariants.{Malformed}
@@ -21,26 +21,26 @@ request_head = do
   minor ← number32
   done (record { device = device; file = file; completion = completion; major = major; minor = minor })
 
--- what stands behind such a head
-abbrev pub body_behind : RequestHead → Layout Op
-body_behind head = op_body head.major head.minor
+-- what comes after such a head
+abbrev pub body_after : RequestHead → Layout Op
+body_after head = op_body head.major head.minor
 
 -- a request whose head and body can be read
 unfoldable pub whole_request : Layout Request
 whole_request = do
   head ← request_head
-  op ← body_behind head
+  op ← body_after head
   done (record { device = head.device; file = head.file; completion = head.completion; op = op })
 
--- The bytes begin with a spelling of this request, whose operation is the first argument, and so many more stand behind it.
+-- The bytes begin with a spelling of this request, whose operation is the first argument, and so many more come after it.
 -- A malformed request is spelled by its head alone: its operation names what first goes wrong in the body, by its place in the whole
--- message, and all bytes behind the head count as more.
+-- message, and all bytes after the head count as more.
 abbrev pub SpellsWith : Op → Request → ℕ → List ℕ → Type 0
 SpellsWith (Malformed major minor bad) r tail bytes =
-    FaultBehind request_head body_behind (record { device = r.device; file = r.file; completion = r.completion; major = major; minor = minor }) bad tail bytes
+    FaultAfter request_head body_after (record { device = r.device; file = r.file; completion = r.completion; major = major; minor = minor }) bad tail bytes
 SpellsWith _ r tail bytes = Spells whole_request r tail bytes
 
--- The bytes begin with a spelling of this request, and so many more stand behind it.
+-- The bytes begin with a spelling of this request, and so many more come after it.
 abbrev pub SpellsRequest : Request → ℕ → List ℕ → Type 0
 SpellsRequest r tail bytes = SpellsWith r.op r tail bytes
 

@@ -1,20 +1,20 @@
 //! Completions (MS-RDPEFS 2.2.1.5).
 
-ghost use Rattle.std.specs.Prelude.{◌≡◌, ◌+◌, ◌-◌, ◌≤◌, ◌++◌, drop, length, replicate, IfOk, IfErr, OnOk, vec_len};
+ghost use Rattle.std.specs.Prelude.{◌≡◌, ◌+◌, ◌-◌, ◌≤◌, ◌↔◌, ◌++◌, IsTrue, drop, length, replicate, IfOk, IfErr, OnOk, vec_len};
 ghost use Rattle.rd_base.specs.Fields.{missing_pad};
 ghost use Rattle.rd_base.specs.Reading.{Reads, ReadsInto};
 ghost use Rattle.rd_irp.specs.Completion.{completion_head, success_body, completion_body, SpellsHead, FirstFaultOfHead, SpellsBody, FirstFaultOfBody};
 ghost use Rattle.rd_base.specs.Reading.{WithTail, ForBad};
 ghost use Rattle.rd_irp.specs.Written.{completion_bytes, body_bytes, body_tail, IsBodyInRange};
 ghost use Rattle.rd_base.specs.declared.status.Status.{Status};
-ghost use Rattle.rd_irp.specs.Fits.{BodyFits, IsCountable, IsOfKind, body_length, fault_length, reply_kind};
+ghost use Rattle.rd_irp.specs.Fits.{BodyFits, IsCountable, IsOfKind, body_length, fault_length, kind_of};
 
 use crate::head::{IO_COMPLETION, put_header, read_header, tail_len};
 use crate::op::Op;
 use rd_base::{Bad, Bytes, Cursor, ReadNo, Status};
 use std::alloc::{AllocError, Global};
 
-/// The bytes of a completion's head; its body stands behind them.
+/// The bytes of a completion's head; its body comes after them.
 pub const COMPLETION_HEAD_LEN: usize = 16;
 
 /// Which layout the body of a completion has.
@@ -44,14 +44,14 @@ pub enum Body {
     Fault,
 }
 
-/// The answer to a request.
+/// What a device replies to a request.
 #[derive(Debug, Drop)]
 pub struct Reply {
     pub status: Status,
     pub body: Body,
 }
 
-/// The head of a completion, which says whose answer it is.
+/// The head of a completion, which names its request.
 #[derive(Clone, Copy, Debug, PartialEq, Eq)]
 pub struct Head {
     pub device: u32,
@@ -62,7 +62,7 @@ pub struct Head {
 
 /// The layout of the completion of a request with this operation. A `Malformed` request has that of its function.
 pub fn kind_of(op: &Op) -> Kind
-    ensures { result ≡ reply_kind op.now }
+    ensures { result ≡ kind_of op.now }
 {
     match op {
         Op::Create { .. } => Kind::Create,
@@ -101,7 +101,7 @@ fn head_of(cursor: &mut Cursor<'_>) -> Result<Head, Bad>
     })
 }
 
-/// Reads the bytes behind a completion's head, and counts the ignored ones. Padding may be missing at the end.
+/// Reads the bytes after a completion's head, and counts the ignored ones. Padding may be missing.
 pub fn read_body(
     alloc: Global,
     kind: Kind,
@@ -176,7 +176,41 @@ fn skip_pad(cursor: &mut Cursor<'_>, count: u32) -> Result<(), Bad>
     Ok(())
 }
 
-/// Writes a completion whose body fits the kind and the status.
+/// Whether a completion of this kind and status can be written with this body.
+pub fn body_fits(kind: Kind, status: Status, body: &Body) -> bool
+    ensures { IsTrue result ↔ BodyFits kind status body.now }
+{
+    let fits = match status.0 {
+        0 => is_of_kind(kind, body),
+        _ => matches!(body, Body::Fault),
+    };
+    fits && is_countable(body)
+}
+
+/// Whether a body is that of a success of this kind.
+fn is_of_kind(kind: Kind, body: &Body) -> bool
+    ensures { IsTrue result ↔ IsOfKind kind body.now }
+{
+    match kind {
+        Kind::Create => matches!(body, Body::Created { .. }),
+        Kind::Close => matches!(body, Body::Closed),
+        Kind::Count => matches!(body, Body::Count(_)),
+        Kind::Buffer => matches!(body, Body::Buffer(_)),
+        Kind::Lock => matches!(body, Body::Locked),
+    }
+}
+
+/// Whether the length of a body's buffer fits its 32-bit field.
+pub fn is_countable(body: &Body) -> bool
+    ensures { IsTrue result ↔ IsCountable body.now }
+{
+    match body {
+        Body::Buffer(bytes) => u32::try_from(bytes.as_slice().len()).is_ok(),
+        Body::Created { .. } | Body::Closed | Body::Count(_) | Body::Locked | Body::Fault => true,
+    }
+}
+
+/// Writes a completion whose body fits the kind and the status (`body_fits`).
 pub fn write_completion(
     alloc: Global,
     kind: Kind,
@@ -190,7 +224,7 @@ pub fn write_completion(
     ensures written { IfOk result (λ message. message ≡ completion_bytes kind head.now body.now) }
     ensures length { IfOk result (λ message. length message ≡ 16 + body_length kind body.now) }
 {
-    let mut out = Vec::with_capacity(alloc, COMPLETION_HEAD_LEN + body_len(kind, body))?;
+    let mut out = Vec::with_capacity(alloc, COMPLETION_HEAD_LEN + body_length(kind, body))?;
     put_header(&mut out, IO_COMPLETION)?;
     out.extend_from_slice(&head.device.to_le_bytes())?;
     out.extend_from_slice(&head.completion.to_le_bytes())?;
@@ -199,7 +233,7 @@ pub fn write_completion(
     Ok(Bytes::of(out))
 }
 
-/// Writes the body of a completion alone, as it stands behind the head.
+/// Writes the body of a completion alone, as it comes after the head. Its length field has to count it (`is_countable`).
 pub fn write_body(alloc: Global, kind: Kind, body: &Body) -> Result<Bytes, AllocError>
     requires { IsCountable body.now }
     ensures spelled { IfOk result (λ bytes.
@@ -207,13 +241,13 @@ pub fn write_body(alloc: Global, kind: Kind, body: &Body) -> Result<Bytes, Alloc
         → SpellsBody kind status body.now (body_tail kind body.now) bytes) }
     ensures written { IfOk result (λ bytes. bytes ≡ body_bytes kind body.now) }
 {
-    let mut out = Vec::with_capacity(alloc, body_len(kind, body))?;
+    let mut out = Vec::with_capacity(alloc, body_length(kind, body))?;
     put_body(&mut out, kind, body)?;
     Ok(Bytes::of(out))
 }
 
 /// How many bytes a body is written in.
-fn body_len(kind: Kind, body: &Body) -> usize
+fn body_length(kind: Kind, body: &Body) -> usize
     requires { IsCountable body.now }
     ensures { result ≡ body_length kind body.now }
 {

@@ -1,4 +1,4 @@
-//! The header in front of every message (MS-RDPEFS 2.2.1.1).
+//! The header of every message (MS-RDPEFS 2.2.1.1).
 
 ghost use Rattle.std.specs.Prelude.{◌≡◌, ◌+◌, ◌-◌, ◌^◌, ◌++◌, OnOk, length, min, vec_len};
 ghost use Rattle.rd_base.specs.Reading.{Reads};
@@ -51,7 +51,7 @@ pub fn put_header(out: &mut Vec<u8>, packet: u16) -> Result<(), AllocError>
     out.extend_from_slice(&packet.to_le_bytes())
 }
 
-/// The count of the bytes behind the last named field; 2^32 - 1 where it is more.
+/// The count of the bytes after the last named field; 2^32 - 1 where it is more.
 pub fn tail_len(rest: &[u8]) -> u32
     ensures { result ≡ min (length rest.now) (2 ^ 32 - 1) }
 {

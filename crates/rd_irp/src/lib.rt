@@ -1,8 +1,8 @@
 //! Requests and completions (MS-RDPEFS 2.2.1.4, 2.2.1.5 and 2.2.3.4) as values and as bytes.
 //!
 //! It stands on `rd_base`. The layers above use one contract of it for each message: bytes are a value with a count of
-//! ignored bytes behind it, or have a first fault. A request whose head reads is always a value: where its body has a
-//! fault, the operation is `Malformed` and carries that fault, so that it can be answered.
+//! ignored bytes after it, or have a first fault. A request whose head reads is always a value: where its body has a
+//! fault, the operation is `Malformed` and carries that fault, so that it can be completed.
 //!
 //! Cost: a message is written into one buffer of its exact size, and a path or a byte field is copied once.
 #![tactic(auto)]
@@ -14,8 +14,8 @@ mod op;
 mod request;
 
 pub use completion::{
-    Body, COMPLETION_HEAD_LEN, Head, Kind, Reply, kind_of, read_body, read_head, write_body,
-    write_completion,
+    Body, COMPLETION_HEAD_LEN, Head, Kind, Reply, body_fits, is_countable, kind_of, read_body,
+    read_head, write_body, write_completion,
 };
 pub use laws::{completion_body_is_decided, completion_head_is_decided, request_is_decided};
 pub use op::{MAX_PATH, Op};

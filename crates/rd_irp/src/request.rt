@@ -8,7 +8,7 @@ ghost use Rattle.rd_irp.specs.Op.{create_body, op_body};
 ghost use Rattle.rd_irp.specs.Request.{request_head, SpellsRequest, FirstFaultOfRequest};
 ghost use Rattle.rd_base.specs.Reading.{WithTail, ForBad};
 ghost use Rattle.rd_irp.specs.Written.{request_bytes, major_of, op_bytes, IsOpInRange};
-ghost use Rattle.rd_irp.specs.Fits.{Fits, op_length, most_path};
+ghost use Rattle.rd_irp.specs.Fits.{Fits, op_length, max_path};
 
 use crate::head::{IO_REQUEST, put_header, read_header, tail_len};
 use crate::op::{MAX_PATH, Op};
@@ -24,13 +24,13 @@ const READ: u32 = 3;
 /// The bytes of a request's head.
 const HEAD_LEN: usize = 24;
 
-/// The bytes of a `Create` body in front of its path.
+/// The bytes of a `Create` body before its path.
 const CREATE_LEN: usize = 32;
 
 /// The pad of a `Close` body.
 const CLOSE_PAD: [u8; 32] = [0; 32];
 
-/// The pad behind the fields of a `Read` body.
+/// The pad after the fields of a `Read` body.
 const READ_PAD: [u8; 20] = [0; 20];
 
 /// A request of the host for a device.
@@ -67,8 +67,8 @@ pub fn fits(op: &Op) -> bool
     }
 }
 
-/// Reads a request, and counts the ignored bytes behind it. A fault in its head is `Bad`, at its place in the message.
-/// A fault in its body makes it `Malformed`; then all bytes behind the head are ignored.
+/// Reads a request, and counts the ignored bytes after it. A fault in its head is `Bad`, at its place in the message.
+/// A fault in its body makes it `Malformed`; then all bytes after the head are ignored.
 pub fn read_request(alloc: Global, bytes: &[u8]) -> Result<(Request, u32), ReadNo>
     ensures spelled { IfOk result (λ read.
         WithTail read.1 (λ tail. SpellsRequest read.0 tail bytes.now)) }
@@ -76,7 +76,7 @@ pub fn read_request(alloc: Global, bytes: &[u8]) -> Result<(Request, u32), ReadN
 {
     let mut cursor = Cursor::new(bytes);
     let head = head_of(&mut cursor)?;
-    let behind_head = tail_len(cursor.rest());
+    let after_head = tail_len(cursor.rest());
     let RequestHead {
         device,
         file,
@@ -86,7 +86,7 @@ pub fn read_request(alloc: Global, bytes: &[u8]) -> Result<(Request, u32), ReadN
     } = head;
     let (op, tail) = match read_op(alloc, major, minor, &mut cursor) {
         Ok(op) => (op, tail_len(cursor.rest())),
-        Err(ReadNo::Bad(bad)) => (Op::Malformed { major, minor, bad }, behind_head),
+        Err(ReadNo::Bad(bad)) => (Op::Malformed { major, minor, bad }, after_head),
         Err(ReadNo::Memory) => return Err(ReadNo::Memory),
     };
     let request = Request {
@@ -177,7 +177,7 @@ fn read_path_length(cursor: &mut Cursor<'_>) -> Result<u32, Bad>
 }
 
 /// Reads a path of that many bytes.
-#[tactic(auto, using(crate::proofs::Paths::path_faulty))]
+#[tactic(auto, using(crate::proofs::PathLemmas::path_faulty))]
 fn read_path(alloc: Global, cursor: &mut Cursor<'_>, count: u32) -> Result<Units, ReadNo>
     ensures { ReadsInto (λ units. units) (path count) cursor.old cursor.new result }
 {
@@ -191,13 +191,13 @@ fn units_before_zero(alloc: Global, field: &[u8]) -> Result<Units, AllocError>
 {
     let mut units = Vec::with_capacity(alloc, field.len() / 2)?;
     let mut left = field;
-    while let [low, high, behind @ ..] = left {
+    while let [low, high, rest @ ..] = left {
         let unit = u16::from_le_bytes([*low, *high]);
         if unit == 0 {
             break;
         }
         units.push(unit)?;
-        left = behind;
+        left = rest;
     }
     Ok(Units::of(units))
 }
@@ -209,7 +209,7 @@ pub fn write_request(alloc: Global, request: &Request) -> Result<Bytes, AllocErr
     ensures written { IfOk result (λ message. message ≡ request_bytes request.now) }
     ensures length { IfOk result (λ message. length message ≡ 24 + op_length request.now.op) }
 {
-    let mut out = Vec::with_capacity(alloc, HEAD_LEN + body_len(&request.op))?;
+    let mut out = Vec::with_capacity(alloc, HEAD_LEN + op_length(&request.op))?;
     put_header(&mut out, IO_REQUEST)?;
     out.extend_from_slice(&request.device.to_le_bytes())?;
     out.extend_from_slice(&request.file.to_le_bytes())?;
@@ -232,7 +232,7 @@ fn major_of(op: &Op) -> u32
 }
 
 /// How many bytes the body of an operation that fits is written in.
-fn body_len(op: &Op) -> usize
+fn op_length(op: &Op) -> usize
     requires { Fits op.now }
     ensures { result ≡ op_length op.now }
 {
@@ -244,9 +244,9 @@ fn body_len(op: &Op) -> usize
     }
 }
 
-/// The bytes of a path field: two for each unit, and two for the zero unit behind them.
+/// The bytes of a path field: two for each unit, and two for the zero unit after them.
 fn path_len(path: &Units) -> usize
-    requires { length path.now ≤ most_path }
+    requires { length path.now ≤ max_path }
     ensures { result ≡ 2 * length path.now + 2 }
 {
     2 * path.as_slice().len() + 2
@@ -290,7 +290,7 @@ fn put_op(out: &mut Vec<u8>, op: &Op) -> Result<(), AllocError>
 
 /// Writes the length in bytes, the units, and one zero unit that the length counts.
 fn put_path(out: &mut Vec<u8>, path: &Units) -> Result<(), AllocError>
-    requires { length path.now ≤ most_path }
+    requires { length path.now ≤ max_path }
     ensures bytes { OnOk result (out.new.items
         ≡ out.old.items ++ to_le_bytes w32 (2 * length path.now + 2) ++ path_bytes path.now) }
     ensures length { OnOk result (vec_len out.new ≡ vec_len out.old + 6 + 2 * length path.now) }

@@ -1,8 +1,8 @@
 //! Bytes that the public standards and worked examples give.
 use rd_base::{Bad, ReadNo, Status, Units, Why};
 use rd_irp::{
-    Body, Head, Kind, Op, Request, fits, kind_of, read_body, read_head, read_request,
-    write_completion, write_request,
+    Body, Head, Kind, Op, Request, body_fits, fits, is_countable, kind_of, read_body, read_head,
+    read_request, write_completion, write_request,
 };
 use std::process::Abort;
 
@@ -17,7 +17,7 @@ const READ: &[u8] = b"rDRI\x01\0\0\0\x01\0\0\0\0\0\0\0\x03\0\0\0\0\0\0\0\
 \x05\0\0\0\0\0\0\0\0\0\0\0\
 \0\0\0\0\0\0\0\0\0\0\0\0\0\0\0\0\0\0\0\0";
 
-/// A request with a function that isn't known, and one byte behind it.
+/// A request with a function that isn't known, and one byte after it.
 const UNKNOWN: &[u8] = b"rDRI\x01\0\0\0\x01\0\0\0\x02\0\0\0\x11\0\0\0\x09\0\0\0\x05";
 
 /// The units of `\a.txt`.
@@ -49,12 +49,18 @@ fn cut_read(rt: &impl Abort) -> &'static [u8] {
     &READ[..55]
 }
 
-/// A request, and the count of the bytes behind it.
+/// A request, and the count of the bytes after it.
 fn read(rt: &(impl Abort + AllocGlobal), bytes: &[u8]) -> (Request, u32) {
     read_request(rt.alloc(), bytes).expect(rt, "a request")
 }
 
-/// A body, and the count of the bytes behind it.
+/// A request's operation, and the count of the bytes after it.
+fn op(rt: &(impl Abort + AllocGlobal), bytes: &[u8]) -> (Op, u32) {
+    let (request, tail) = read(rt, bytes);
+    (request.op, tail)
+}
+
+/// A body, and the count of the bytes after it.
 fn body(rt: &(impl Abort + AllocGlobal), kind: Kind, status: Status, bytes: &[u8]) -> (Body, u32) {
     read_body(rt.alloc(), kind, status, bytes).expect(rt, "a body")
 }
@@ -79,14 +85,11 @@ fn reads_requests(rt: HostRuntime) {
     );
     assert!(rt;
         matches!(
-            read(&rt, READ),
+            op(&rt, READ),
             (
-                Request {
-                    op: Op::Read {
-                        offset: 0,
-                        length: 5
-                    },
-                    ..
+                Op::Read {
+                    offset: 0,
+                    length: 5
                 },
                 0
             )
@@ -98,20 +101,17 @@ fn reads_requests(rt: HostRuntime) {
     };
     assert!(rt;
         matches!(
-            read(&rt, cut_read(&rt)),
-            (Request { op: Op::Malformed { major: 3, minor: 0, bad: found }, .. }, 31) if found == bad
+            op(&rt, cut_read(&rt)),
+            (Op::Malformed { major: 3, minor: 0, bad: found }, 31) if found == bad
         )
     );
     assert!(rt;
         matches!(
-            read(&rt, UNKNOWN),
+            op(&rt, UNKNOWN),
             (
-                Request {
-                    op: Op::Unknown {
-                        major: 0x11,
-                        minor: 9
-                    },
-                    ..
+                Op::Unknown {
+                    major: 0x11,
+                    minor: 9
                 },
                 1
             )
@@ -120,7 +120,7 @@ fn reads_requests(rt: HostRuntime) {
 }
 
 #[test]
-fn answers_a_cut_read(rt: HostRuntime) {
+fn completes_a_cut_read(rt: HostRuntime) {
     let (request, _) = read(&rt, cut_read(&rt));
     let kind = kind_of(&request.op);
     let head = Head {
@@ -128,6 +128,8 @@ fn answers_a_cut_read(rt: HostRuntime) {
         completion: 0,
         status: Status::INVALID_PARAMETER,
     };
+    assert!(rt; body_fits(kind, head.status, &Body::Fault) && is_countable(&Body::Fault));
+    assert!(rt; !body_fits(kind, Status::SUCCESS, &Body::Fault));
     let completion = write_completion(rt.alloc(), kind, &head, &Body::Fault);
     let completion = completion.expect(&rt, "memory for a completion");
     let wanted = b"rDCI\x01\0\0\0\0\0\0\0\x0d\0\0\xc0\0\0\0\0";
@@ -136,7 +138,7 @@ fn answers_a_cut_read(rt: HostRuntime) {
 
 #[test]
 fn reads_what_other_programs_complete(rt: HostRuntime) {
-    // A Close without its padding, a count without its padding, a buffer with bytes behind it, a fault with some, a Create that is cut.
+    // A Close without its padding, a count without its padding, a buffer with bytes after it, a fault with some, a Create that is cut.
     let success = Status::SUCCESS;
     assert!(rt; matches!(body(&rt, Kind::Close, success, b""), (Body::Closed, 0)));
     assert!(rt;

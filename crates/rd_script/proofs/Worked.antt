@@ -10,28 +10,28 @@ use Rattle.rd_script.specs.declared.outcome.Outcome.TheVariants as outcome
 use Rattle.rd_irp.specs.declared.op.Op.TheVariants as op
 use Rattle.rd_irp.specs.declared.completion.Kind.TheVariants as kind
 use Rattle.rd_irp.specs.declared.completion.Body.TheVariants as body
-use Rattle.rd_script.specs.Asked.{Asked, Answered}
+use Rattle.rd_script.specs.Asks.{HandleOp, ReplyOfKind}
 use Rattle.rd_script.specs.Grammar.{IsTextOf, lines_of, text_of, hex_word}
 use Rattle.rd_script.specs.Report.{report_of, status_digits}
 
 -- an open of \a, a read of five bytes, a close, by the handle h
-unfoldable pub open_a : Asked
+unfoldable pub open_a : HandleOp
 open_a = record { handle = codes "h"; op = op.Create 0x8000_0000 0 0 7 1 0 (codes "\\a") }
 
-unfoldable pub read_five : Asked
+unfoldable pub read_five : HandleOp
 read_five = record { handle = codes "h"; op = op.Read 0 5 }
 
-unfoldable pub close_it : Asked
+unfoldable pub close_it : HandleOp
 close_it = record { handle = codes "h"; op = op.Close }
 
 -- The outcomes of the three lines.
-unfoldable pub opened : Answered
+unfoldable pub opened : ReplyOfKind
 opened = record { kind = kind.Create; status = record { 0 = 0 }; body = body.Created 1 1 }
 
-unfoldable pub hello : Answered
+unfoldable pub hello : ReplyOfKind
 hello = record { kind = kind.Buffer; status = record { 0 = 0 }; body = body.Buffer (codes "hello") }
 
-unfoldable pub closed : Answered
+unfoldable pub closed : ReplyOfKind
 closed = record { kind = kind.Close; status = record { 0 = 0 }; body = body.Closed }
 
 -- The lines spell what they say.
@@ -42,7 +42,7 @@ read_line : IsTextOf (line.Ask read_five) (codes "1 read h 0 5")
 unfolding read_five digits
 read_line = (codes "1" ∷ codes "read" ∷ codes "h" ∷ codes "0" ∷ codes "5" ∷ [], refl, (codes "read" ∷ codes "h" ∷ codes "0" ∷ codes "5" ∷ [], refl, (lit< tt, lit≤ tt, All-from_recursion (λ c. ((0x61 ≤ c) × (c ≤ 0x7a)) ⊎ ((0x30 ≤ c) × (c ≤ 0x39))) (codes "h") (inl (lit≤ tt, lit≤ tt), tt)), (refl, lit< tt, lit< tt)))
 
--- A text is cut behind each line feed, and a line feed at the end begins no line.
+-- A text is cut after each line feed, and a last line feed begins no line.
 two_lines : lines_of (codes "ab" ++ 10 ∷ 35 ∷ 10 ∷ []) ≡ (codes "ab" ++ 10 ∷ []) ∷ (35 ∷ 10 ∷ []) ∷ []
 two_lines = refl
 

@@ -6,7 +6,7 @@ use Rattle.rd_irp.specs.declared.op.Op.{Op}
 use Rattle.rd_irp.specs.declared.op.Op.TheVariants as op
 use Rattle.rd_drive.specs.PlainPath.{IsPlainPath}
 use Rattle.rd_drive.specs.DriveStep.{generic_read, share_all, open_existing}
-use Rattle.rd_script.specs.Asked.{Asked}
+use Rattle.rd_script.specs.Asks.{HandleOp}
 use Rattle.rd_script.specs.declared.grammar.Line.{Line}
 use Rattle.rd_script.specs.declared.grammar.Line.TheVariants as line
 
@@ -23,7 +23,7 @@ abbrev pub hex_word : List ℕ → List ℕ
 hex_word [] = codes "-"
 hex_word (byte ∷ bytes) = encode_lower (byte ∷ bytes)
 
--- what an application's line says behind its number: `open H 1 PATH` opens what is there for reading, shared by all;
+-- what an application's line says after its number: `open H 1 PATH` opens what is there for reading, shared by all;
 -- `read H OFFSET LENGTH` reads, and `close H` closes
 abbrev pub IsAskOf : Op → List ℕ → List (List ℕ) → Type 0
 IsAskOf (op.Create access allocation attributes share disposition options path) handle words =
@@ -38,8 +38,8 @@ IsAskOf (op.Malformed major minor bad) handle words = ⊥
 abbrev pub AreWordsOf : Line → List (List ℕ) → Type 0
 AreWordsOf (line.Drive label) words = (words ≡ codes "drive" ∷ codes "1" ∷ label ∷ []) × IsName label
 AreWordsOf (line.File path bytes) words = (words ≡ codes "file" ∷ codes "1" ∷ path ∷ hex_word bytes ∷ []) × IsPlainPath path × All (λ byte. byte < 256) bytes
-AreWordsOf (line.Ask asked) words =
-    (asking : List (List ℕ)) × (words ≡ codes "1" ∷ asking) × IsHandleName asked.handle × IsAskOf asked.op asked.handle asking
+AreWordsOf (line.Ask ask) words =
+    (asking : List (List ℕ)) × (words ≡ codes "1" ∷ asking) × IsHandleName ask.handle × IsAskOf ask.op ask.handle asking
 
 -- the text is that of the line: its words with a space between them
 abbrev pub IsTextOf : Line → List ℕ → Type 0
@@ -53,7 +53,7 @@ IsSkipped text = (text ≡ []) ⊎ ((rest : List ℕ) × (text ≡ 0x23 ∷ rest
 pub record Said : Type 0 where
   pub label : Option (List ℕ)
   pub files : List (List ℕ × List ℕ)
-  pub asks : List Asked
+  pub asks : List HandleOp
 
 -- nothing yet
 abbrev pub nothing_said : Said
@@ -63,13 +63,13 @@ nothing_said = record { label = None; files = []; asks = [] }
 abbrev pub with_line : Said → Line → Said
 with_line said (line.Drive label) = record said { label = Some label }
 with_line said (line.File path bytes) = record said { files = said.files ++ (path, bytes) ∷ [] }
-with_line said (line.Ask asked) = record said { asks = said.asks ++ asked ∷ [] }
+with_line said (line.Ask ask) = record said { asks = said.asks ++ ask ∷ [] }
 
--- the drive comes first and once; its files come behind it and before all that is asked, each path once
+-- the drive comes first and once; its files come after it and before all that the application asks, each path once
 abbrev pub MayFollow : Said → Line → Type 0
 MayFollow said (line.Drive label) = said.label ≡ None
 MayFollow said (line.File path bytes) = IsSome said.label × (said.asks ≡ []) × All (λ file. ¬ (file.0 ≡ path)) said.files
-MayFollow said (line.Ask asked) = IsSome said.label
+MayFollow said (line.Ask ask) = IsSome said.label
 
 -- With a line of this text, what was said becomes this; a line that is skipped leaves it.
 abbrev pub Adds : Said → List ℕ → Said → Type 0
@@ -84,35 +84,35 @@ lines_of (byte ∷ bytes) = if byte == 0x0a then (byte ∷ []) ∷ lines_of byte
 abbrev pub text_of : List ℕ → List ℕ
 text_of l = take_while (λ byte. not (byte == 0x0a)) l
 
--- lines, one behind another, say this
+-- lines, one after another, say this
 abbrev pub Say : Said → List (List ℕ) → Said → Type 0
 Say old [] new = new ≡ old
 Say old (l ∷ ls) new = (middle : Said) × Adds old (text_of l) middle × Say middle ls new
 
 -- the most lines of a script
-abbrev pub most_lines : ℕ
-most_lines = 1000
+abbrev pub max_lines : ℕ
+max_lines = 1000
 
 -- the most bytes of a script, line feeds counted
-abbrev pub most_bytes : ℕ
-most_bytes = 65536
+abbrev pub max_bytes : ℕ
+max_bytes = 65536
 
 -- lines within the limits of a script
 abbrev pub IsWithinLimits : List (List ℕ) → Type 0
-IsWithinLimits ls = (length ls ≤ most_lines) × (length (concat ls) ≤ most_bytes)
+IsWithinLimits ls = (length ls ≤ max_lines) × (length (concat ls) ≤ max_bytes)
 
 -- the text is a script that says this
 pub record IsScript (text : List ℕ) (said : Said) : Type 0 where
   pub within : IsWithinLimits (lines_of text)
   pub says : Say nothing_said (lines_of text) said
 
--- the first line, counted from 1, that passes a limit, or that may not stand behind what the lines before it said
+-- the first line, counted from 1, that passes a limit, or that may not come after what the lines before it said
 pub record IsFirstBad (text : List ℕ) (number : ℕ) : Type 0 where
   pub good : List (List ℕ)
   pub bad : List ℕ
-  pub behind : List (List ℕ)
+  pub after : List (List ℕ)
   pub said : Said
-  pub lines : lines_of text ≡ good ++ bad ∷ behind
+  pub lines : lines_of text ≡ good ++ bad ∷ after
   pub within : IsWithinLimits good
   pub says : Say nothing_said good said
   pub number_is : number ≡ length good + 1

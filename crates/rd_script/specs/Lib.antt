@@ -1,4 +1,4 @@
-pub mod Asked
+pub mod Asks
 pub mod Words
 pub mod Grammar
 pub mod ReadScript

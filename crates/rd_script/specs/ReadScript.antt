@@ -1,7 +1,7 @@
--- What the reader of scripts answers.
+-- What the reader of scripts returns.
 use Rattle.std.specs.Prelude.{◌≡◌, ℕ, ◌≤◌, List, length, Bool, MatchBool, Some}
 use Rattle.rd_drive.specs.DriveState.{opening}
-use Rattle.rd_script.specs.Grammar.{Said, nothing_said, Adds, MayFollow, most_lines, with_line}
+use Rattle.rd_script.specs.Grammar.{Said, nothing_said, Adds, MayFollow, max_lines, with_line}
 use Rattle.rd_script.specs.declared.grammar.Line.{Line}
 use Rattle.rd_script.specs.declared.script.Script.{Script}
 use Rattle.rd_script.specs.declared.script.Script.TheVariants as script
@@ -13,14 +13,14 @@ abbrev pub HoldsSaid : Said → Script → Type 0
 HoldsSaid said script.Empty = said ≡ nothing_said
 HoldsSaid said (script.Drive drive asks) = (label : List ℕ) × (said.label ≡ Some label) × (drive ≡ opening label said.files) × (asks.items ≡ said.asks)
 
--- A script of a few files answers whether the line may follow what it says, and then says it too.
+-- Of a script of a few files: whether the line may follow what it says; if so, it then says that too.
 abbrev pub TakesLine : Script → Line → Bool → Script → Type 0
-TakesLine old l fits new = (said : Said) → HoldsSaid said old → length said.files ≤ most_lines →
+TakesLine old l fits new = (said : Said) → HoldsSaid said old → length said.files ≤ max_lines →
     MatchBool fits (MayFollow said l × HoldsSaid (with_line said l) new) (¬ (MayFollow said l))
 
--- A script of a few files answers whether the text adds to what it says, and then says that.
+-- Of a script of a few files: whether the text adds to what it says; if so, it then says that.
 abbrev pub ReadsLine : Script → List ℕ → Bool → Script → Type 0
-ReadsLine old text fits new = (said : Said) → HoldsSaid said old → length said.files ≤ most_lines →
+ReadsLine old text fits new = (said : Said) → HoldsSaid said old → length said.files ≤ max_lines →
     MatchBool fits ((more : Said) × Adds said text more × HoldsSaid more new) ((more : Said) → ¬ (Adds said text more))
 
 -- It holds of the line that was refused, unless memory ran out.

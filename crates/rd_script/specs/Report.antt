@@ -4,7 +4,7 @@ use Rattle.std.specs.List.{flat_map}
 use Rattle.std.specs.Int.{w32, to_be_bytes}
 use Rattle.hex.specs.Hex.{encode_lower}
 use Rattle.rd_base.specs.declared.journal.Item.{Item}
-use Rattle.rd_base.specs.declared.journal.Item.TheVariants as item
+use Rattle.rd_base.specs.declared.journal.Item.TheVariants as entry
 use Rattle.rd_base.specs.History.{History}
 use Rattle.rd_base.specs.declared.status.Status.{Status}
 use Rattle.rd_irp.specs.Written.{body_bytes}
@@ -15,20 +15,20 @@ use Rattle.rd_script.specs.declared.outcome.Outcome.TheVariants as outcome
 abbrev pub status_digits : Status → List ℕ
 status_digits status = encode_lower (to_be_bytes w32 status.0)
 
--- how a line ended: what it was answered, with the body of its completion, or that its handle holds no file
-abbrev pub ending : Outcome → List ℕ
-ending (outcome.Done answered) =
-    codes " done " ++ status_digits answered.status ++ codes " " ++ encode_lower (body_bytes answered.kind answered.body)
-ending outcome.NoHandle = codes " refused nohandle"
+-- the outcome of a line: its answer, with the body of its completion, or that its handle holds no file
+abbrev pub outcome_text : Outcome → List ℕ
+outcome_text (outcome.Done answer) =
+    codes " done " ++ status_digits answer.status ++ codes " " ++ encode_lower (body_bytes answer.kind answer.body)
+outcome_text outcome.NoHandle = codes " refused nohandle"
 
 -- the lines of outcomes, numbered from a number on
 abbrev pub outcome_lines : ℕ → List Outcome → List ℕ
 outcome_lines number [] = []
-outcome_lines number (o ∷ os) = codes "1." ++ decimal number ++ ending o ++ 0x0a ∷ outcome_lines (number + 1) os
+outcome_lines number (o ∷ os) = codes "1." ++ decimal number ++ outcome_text o ++ 0x0a ∷ outcome_lines (number + 1) os
 
--- whether an entry of a journal is a run
+-- whether an entry of a journal says that a request ran
 abbrev pub is_run : Item → Bool
-is_run (item.Ran key moment starved parked) = true
+is_run (entry.Ran key moment starved parked) = true
 is_run _ = false
 
 -- the line of a device: how many requests it ran

@@ -1,7 +1,7 @@
 -- The words of which the numbers and the bytes of a line are made.
 use Rattle.std.specs.Prelude.{◌≡◌, ℕ, ◌<◌, ◌≤◌, ◌⊎◌, List, length, All, slice_index}
 
--- digits, and a zero in front only by itself
+-- digits, which begin with a zero only where that is all
 abbrev pub IsNumber : List ℕ → Type 0
 IsNumber word = (0 < length word) × All (λ c. (0x30 ≤ c) × (c ≤ 0x39)) word × (slice_index word 0 ≡ 0x30 → length word ≡ 1)
 

@@ -1,4 +1,4 @@
-//! What a request was answered.
+//! The reply that an application hears.
 
 ghost use Rattle.std.specs.Prelude.{◌≡◌, ℕ, IfErr, IfOk};
 ghost use Rattle.rd_base.specs.Reading.{ForBad};
@@ -10,7 +10,7 @@ use rd_irp::{Body, Kind, read_body, write_body};
 use std::alloc::{AllocError, Global};
 use std::marker::Model;
 
-/// The answer to a request, as its completion said it.
+/// The reply to a request, as its completion said it.
 #[derive(Debug, Drop)]
 pub struct Answer {
     kind: Kind,
@@ -20,9 +20,9 @@ pub struct Answer {
 
 impl Model for Answer {
     ghost use Rattle.rd_irp.specs.Fits.{BodyFits};
-    ghost use Rattle.rd_script.specs.Asked.{Answered};
+    ghost use Rattle.rd_script.specs.Asks.{ReplyOfKind};
 
-    ghost Value = { Answered };
+    ghost Value = { ReplyOfKind };
 
     ghost view = { λ a. record { kind = a.kind; status = a.status; body = a.body } };
 
@@ -30,7 +30,7 @@ impl Model for Answer {
 }
 
 impl Answer {
-    /// Reads the answer from a status and the bytes behind a completion's head.
+    /// Reads the answer from a status and the bytes after a completion's head.
     pub fn read(alloc: Global, kind: Kind, status: Status, bytes: &[u8]) -> Result<Self, ReadNo>
         ensures kind { IfOk result (λ answer. answer.kind ≡ kind) }
         ensures status { IfOk result (λ answer. answer.status ≡ status) }

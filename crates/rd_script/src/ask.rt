@@ -16,9 +16,9 @@ pub struct Ask {
 impl Model for Ask {
     ghost use Rattle.std.specs.Prelude.{string_bytes};
     ghost use Rattle.rd_irp.specs.Fits.{Fits};
-    ghost use Rattle.rd_script.specs.Asked.{Asked};
+    ghost use Rattle.rd_script.specs.Asks.{HandleOp};
 
-    ghost Value = { Asked };
+    ghost Value = { HandleOp };
 
     ghost view = { λ a. record { handle = string_bytes a.handle; op = a.op } };
 

@@ -73,14 +73,14 @@ fn drive_line(alloc: Global, name: &str) -> Result<Option<Line>, AllocError>
     if !is_name(name) {
         return Ok(None);
     }
-    let label = units_of(alloc, name)?;
+    let label = ascii_units(alloc, name)?;
     Ok(Some(Line::Drive { label }))
 }
 
 fn file_line(alloc: Global, path: &str, content: &str) -> Result<Option<Line>, AllocError>
     ensures { IfOk result (λ found. (l : Line) → AreWordsOf l (codes "file" ∷ codes "1" ∷ path.now ∷ content.now ∷ []) ↔ (found ≡ Some l)) }
 {
-    let path = units_of(alloc, path)?;
+    let path = ascii_units(alloc, path)?;
     let bytes = bytes_of(alloc, content)?;
     Ok(match bytes {
         Some(bytes) if is_plain_path(path.as_slice()) => Some(Line::File { path, bytes }),
@@ -92,7 +92,7 @@ fn file_line(alloc: Global, path: &str, content: &str) -> Result<Option<Line>, A
 fn open_line(alloc: Global, handle: &str, path: &str) -> Result<Option<Line>, AllocError>
     ensures { IfOk result (λ found. (l : Line) → AreWordsOf l (codes "1" ∷ codes "open" ∷ handle.now ∷ codes "1" ∷ path.now ∷ []) ↔ (found ≡ Some l)) }
 {
-    let path = units_of(alloc, path)?;
+    let path = ascii_units(alloc, path)?;
     if !is_plain_path(path.as_slice()) {
         return Ok(None);
     }
@@ -135,7 +135,7 @@ fn close_line(alloc: Global, handle: &str) -> Result<Option<Line>, AllocError>
 fn ask_line(alloc: Global, handle: &str, op: Op) -> Result<Option<Line>, AllocError>
     ensures { IfOk result (λ found. (l : Line) → (IsHandleName handle.now × Fits op × (l ≡ line.Ask (record { handle = handle.now; op = op }))) ↔ (found ≡ Some l)) }
 {
-    if !is_handle(handle) {
+    if !is_handle_name(handle) {
         return Ok(None);
     }
     Ok(Ask::of(String::from_str(alloc, handle)?, op).map(Line::Ask))
@@ -149,7 +149,7 @@ fn is_name(word: &str) -> bool
 }
 
 /// Up to eight letters `a` to `z` or digits, and at least one.
-fn is_handle(word: &str) -> bool
+fn is_handle_name(word: &str) -> bool
     ensures { IsTrue result ↔ IsHandleName word.now }
 {
     matches!(word.len(), 1..=8)
@@ -170,7 +170,7 @@ fn number_of(word: &str) -> Option<u64>
     }
 }
 
-/// Digits, and a zero in front only by itself.
+/// Digits, which begin with a zero only where that is all.
 fn is_number(word: &[u8]) -> bool
     ensures { IsTrue result ↔ IsNumber word.now }
 {
@@ -188,7 +188,7 @@ fn are_digits(word: &[u8]) -> bool
 }
 
 /// One unit for each byte, which is the character where that is ASCII.
-fn units_of(alloc: Global, word: &str) -> Result<Units, AllocError>
+fn ascii_units(alloc: Global, word: &str) -> Result<Units, AllocError>
     ensures { IfOk result (λ units. units ≡ word.now) }
 {
     let units = word.bytes().map(u16::from).collect(alloc)?;

@@ -1,4 +1,4 @@
-//! A script: what it says, how its lines end, and the report of them.
+//! A script: what it says, the outcomes of its lines, and the report of them.
 //!
 //! It stands on the drive below, which a script opens, and on requests and completions. The layers above use two contracts of it:
 //! `read_script` gives what a text says, or the first line outside the grammar, and `report` is the text of the outcomes. What holds of
@@ -9,6 +9,7 @@
 
 mod answer;
 mod ask;
+mod forms;
 mod grammar;
 mod laws;
 mod outcome;
@@ -18,6 +19,7 @@ mod script_no;
 
 pub use answer::Answer;
 pub use ask::Ask;
+pub use forms::FORMS;
 pub use laws::script_has_one_reading;
 pub use outcome::Outcome;
 pub use report_text::report;

@@ -1,11 +1,11 @@
-//! How what an application asked for ended.
+//! The outcome of what an application asks for.
 
 use crate::answer::Answer;
 
-/// How an application's line ended.
+/// The outcome of an application's line.
 #[derive(Debug, Drop)]
 pub enum Outcome {
-    /// Its request was answered.
+    /// Its request was completed, with this reply.
     Done(Answer),
     /// Its handle holds no file.
     NoHandle,

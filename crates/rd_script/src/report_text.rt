@@ -2,7 +2,7 @@
 
 ghost use Rattle.std.specs.Prelude.{◌≡◌, ◌++◌, ◌∷◌, [], codes, count_by, decimal, IfOk, OnOk};
 ghost use Rattle.std.specs.String.{string_bytes};
-ghost use Rattle.rd_script.specs.Report.{ending, is_run, journals_in, report_of};
+ghost use Rattle.rd_script.specs.Report.{outcome_text, is_run, journals_in, report_of};
 
 use crate::outcome::Outcome;
 use rd_base::{Books, Item, Journal};
@@ -30,7 +30,7 @@ fn put_outcome(
     outcome: &Outcome,
 ) -> Result<(), AllocError>
     ensures { OnOk result (string_bytes text.new
-        ≡ string_bytes text.old ++ (codes "1." ++ decimal number ++ ending outcome.now ++ 0x0a ∷ [])) }
+        ≡ string_bytes text.old ++ (codes "1." ++ decimal number ++ outcome_text outcome.now ++ 0x0a ∷ [])) }
 {
     match outcome {
         Outcome::Done(answer) => {
@@ -49,6 +49,6 @@ fn runs_in(journal: &Journal) -> usize
     journal
         .items()
         .iter()
-        .filter(|item| matches!(item, Item::Ran { .. }))
+        .filter(|entry| matches!(entry, Item::Ran { .. }))
         .count()
 }

@@ -33,10 +33,10 @@ pub fn read_script(alloc: Global, bytes: &[u8]) -> Result<Script, ScriptNo>
     ensures bad { IfErr result (IsBadLine (IsFirstBad bytes.now)) }
 {
     let mut script = Script::Empty;
-    let mut end = 0usize;
+    let mut reached = 0usize;
     for (index, piece) in bytes.split_inclusive(|byte| *byte == b'\n').enumerate() {
-        end = end.saturating_add(piece.len());
-        let fits = index < MAX_LINES && end <= MAX_BYTES;
+        reached = reached.saturating_add(piece.len());
+        let fits = index < MAX_LINES && reached <= MAX_BYTES;
         if !fits || !script.read_line(alloc, without_line_feed(piece))? {
             let number = u32::try_from(index).unwrap_or(u32::MAX).saturating_add(1);
             return Err(ScriptNo::BadLine { line: number });
@@ -62,7 +62,7 @@ fn is_skipped(text: &[u8]) -> bool
 }
 
 impl Script {
-    /// Adds a line, or skips it where it is empty or a remark, and answers whether it may stand here.
+    /// Adds a line, or skips it where it is empty or a remark, and returns whether it may stand here.
     fn read_line(&mut self, alloc: Global, text: &[u8]) -> Result<bool, AllocError>
         ensures { IfOk result (λ fits. ReadsLine self.old text.now fits self.new) }
     {
@@ -91,7 +91,7 @@ impl Script {
         Ok(true)
     }
 
-    /// Files come behind the drive and before all that is asked, each path once.
+    /// Files come after the drive and before all that the application asks, each path once.
     fn add_file(&mut self, path: &Units, bytes: Bytes) -> Result<bool, AllocError>
         ensures { IfOk result (λ fits. IsPlainPath path.now → TakesLine self.old (line.File path.now bytes) fits self.new) }
     {

@@ -1,6 +1,6 @@
 -- What a session that ended early left on the wire.
 use Rattle.std.proofs.Common.{◌≡◌, ℕ, List, [], ◌++◌, length, take, Option, Some, inl, inr, sym, ap, subst, ◌∙◌}
-use Rattle.std.specs.Prelude.{Result, Ok, Err, OnErr, option_map, IsFalse}
+use Rattle.std.specs.Prelude.{option_map, IsFalse}
 use Rattle.std.specs.List.{flat_map}
 use Rattle.std.specs.Io.KnownBytes.{Appends}
 use Rattle.std.proofs.KnownBytes.{Appends-nil, Appends-trans}
@@ -12,21 +12,16 @@ use Rattle.rd_irp.specs.declared.request.Request.{Request}
 use Rattle.rd_irp.specs.Written.{request_bytes}
 use Rattle.rd_drive.specs.DriveState.{DriveState}
 use Rattle.rd_drive.specs.Starved.{is_starved}
-use Rattle.rd_session.specs.declared.recording.End.TheVariants.{Host, Client}
+use Rattle.rd_session.specs.declared.recording.Side.TheVariants.{Host, Client}
 use Rattle.rd_script.specs.declared.outcome.Outcome.{Outcome}
 use Rattle.rd_script.specs.declared.outcome.Outcome.TheVariants as outcome
-use Rattle.rd_script.specs.Asked.{Asked, Answered}
+use Rattle.rd_script.specs.Asks.{HandleOp, ReplyOfKind}
 use Rattle.rd_session.specs.Channel.{Ends, EndsIn, Exchange, Exchanges, Runs, recorded_in}
 use Rattle.rd_session.specs.Early.{PartOf, PartOfLine}
 use Rattle.rd_session.specs.Outcomes.{request_to, file_named}
 use Rattle.rd_session.specs.Recording.{entry_bytes, recorded_bytes}
 use Rattle.rd_session.proofs.Joined.{exchange_frames}
 use Rattle.rd_session.specs.Told.{completion_written}
-
--- what holds anyhow holds of an error
-pub of_error : {T E : Type 0} (result : Result T E) (P : Type 0) → P → OnErr result P
-of_error (Ok x) P p = tt
-of_error (Err e) P p = p
 
 -- nothing is a front of anything
 pub no_front : (held : Option (List ℕ)) (bytes : List ℕ) → (n : ℕ) × Appends held held (take n bytes)
@@ -62,7 +57,7 @@ part_whole drive left request reply sent completion held middle grown sent_is co
     (length (recorded_bytes Client completion), subst (λ (bytes : List ℕ). Appends middle grown bytes) (sym (take-length (recorded_bytes Client completion))) second)
 
 -- a whole exchange
-pub part_exchange : (request : Request) (answered : Answered) (before after : Ends) → Exchanges request answered before after → PartOf before.drive request before.held after.held
+pub part_exchange : (request : Request) (answered : ReplyOfKind) (before after : Ends) → Exchanges request answered before after → PartOf before.drive request before.held after.held
 part_exchange request answered before after exchanged =
     let e : Exchange = exchanged.exchange in
     let told : List ℕ = recorded_bytes Client e.completion in
@@ -80,7 +75,7 @@ pub part_named : (drive : DriveState) (op : Op) (named : Option ℕ) (file : ℕ
 part_named drive op named file held grown is part = subst (λ (o : Option ℕ). PartOfLine drive (option_map (request_to op) o) held grown) (sym is) part
 
 -- of a line that ended
-pub part_ended : (asked : Asked) (ending : Outcome) (before after : Ends) → EndsIn asked ending before after → PartOfLine before.drive (option_map (request_to asked.op) (file_named before.files asked)) before.held after.held
+pub part_ended : (asked : HandleOp) (ending : Outcome) (before after : Ends) → EndsIn asked ending before after → PartOfLine before.drive (option_map (request_to asked.op) (file_named before.files asked)) before.held after.held
 part_ended asked outcome.NoHandle before after (none, same) =
     subst (λ (o : Option ℕ). PartOfLine before.drive (option_map (request_to asked.op) o) before.held after.held) (sym none)
     (subst (λ (ends : Ends). Appends before.held ends.held []) (sym same) (Appends-nil before.held))

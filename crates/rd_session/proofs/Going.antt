@@ -1,11 +1,10 @@
 -- A session that goes on: each further line can be run to its end, whatever ended before.
-use Rattle.std.proofs.Common.{◌≡◌, ◌≤◌, ◌<◌, ◌^◌, ℕ, ◌+◌, ◌*◌, List, [], ◌∷◌, ◌++◌, length, Bool, true, false, drop, Option, Some, None, refl, sym, ap, subst, ◌∙◌, lit<, arith}
-use Rattle.std.specs.Prelude.{◌&&◌, if◌then◌else◌, IfSome, IsFalse, bytes_eq, option_map}
+use Rattle.std.proofs.Common.{◌≡◌, ◌≤◌, ◌<◌, ◌^◌, ℕ, ◌+◌, List, [], ◌∷◌, ◌++◌, length, Bool, true, false, drop, Option, Some, None, refl, sym, ap, subst, ◌∙◌, lit<, arith}
+use Rattle.std.specs.Prelude.{◌&&◌, if◌then◌else◌, IfSome, IsFalse, bytes_eq}
 use Rattle.std.specs.List.{flat_map}
 use Rattle.std.specs.Io.KnownBytes.{Appends, append_known}
 use Rattle.std.proofs.lemmas.List.{length-append}
-use Rattle.rd_base.proofs.UnitsWriting.{length-units}
-use Rattle.rd_base.specs.declared.journal.Item.{Item}
+use Rattle.rd_base.proofs.WrittenPathLemmas.{length-units}
 use Rattle.rd_irp.specs.declared.op.Op.{Op}
 use Rattle.rd_irp.specs.declared.op.Op.TheVariants as op
 use Rattle.rd_irp.specs.declared.completion.Body.{Body}
@@ -15,18 +14,18 @@ use Rattle.rd_irp.specs.declared.completion.Kind.{Kind}
 use Rattle.rd_irp.specs.declared.completion.Kind.TheVariants as kind
 use Rattle.rd_irp.specs.declared.completion.Reply.{Reply}
 use Rattle.rd_irp.specs.declared.request.Request.{Request}
-use Rattle.rd_irp.specs.Fits.{Fits, IsSendable, body_length, fault_length, op_length, reply_kind}
-use Rattle.rd_irp.specs.Completion.{SpellsBody, SpellsHead}
+use Rattle.rd_irp.specs.Fits.{Fits, IsSendable, body_length, fault_length, op_length, kind_of}
+use Rattle.rd_irp.specs.Completion.{SpellsBody}
 use Rattle.rd_irp.specs.Written.{IsBodyInRange, body_bytes, body_tail, head_bytes, op_bytes, request_bytes, request_head_bytes}
-use Rattle.rd_irp.proofs.Spelled.{body_behind_head, body_spelled, head_spelled, length-body_bytes, request_spelled}
+use Rattle.rd_irp.proofs.WrittenLemmas.{body_after_head, body_spelled, head_spelled, length-body_bytes, request_spelled}
 use Rattle.rd_chunk.specs.Carrier.{IsMessage}
 use Rattle.rd_drive.specs.DriveState.{DriveState}
 use Rattle.rd_drive.specs.DriveStep.{drive_step}
-use Rattle.rd_drive.specs.Starved.{Gives, is_starved, starved_reply, unless_starved}
-use Rattle.rd_drive.proofs.Laws.{IsProper, fault_proper, is_starved-drive_step, proper-drive_step}
+use Rattle.rd_drive.specs.Starved.{Gives, is_starved, unless_starved}
+use Rattle.rd_drive.proofs.DriveStepLemmas.{IsProper, fault_proper, is_starved-drive_step, proper-drive_step}
 use Rattle.rd_script.specs.declared.outcome.Outcome.{Outcome}
 use Rattle.rd_script.specs.declared.outcome.Outcome.TheVariants as outcome
-use Rattle.rd_script.specs.Asked.{Asked, CanBeSent}
+use Rattle.rd_script.specs.Asks.{HandleOp, CanBeSent}
 use Rattle.rd_session.specs.Channel.{Ends, EndsIn, Exchange, Exchanges, IsExchange, Runs, answer_in, recorded_in, stored_under}
 use Rattle.rd_session.specs.Outcomes.{file_named, given_file, opens, request_to}
 use Rattle.rd_session.specs.Recording.{entry_bytes}
@@ -72,13 +71,13 @@ completion_is_message head k b sendable =
 completes_own : (request : Request) (reply : Reply) → request.device < 2 ^ 32 → request.completion < 2 ^ 32 → IsProper request.op reply → Completes request reply (completion_written request reply)
 completes_own request reply device completion proper =
     let head : Head = record { device = request.device; completion = request.completion; status = reply.status } in
-    let field : List ℕ = body_bytes (reply_kind request.op) reply.body in
-    let behind : drop 16 (head_bytes head ++ field) ≡ field = body_behind_head head field in
+    let field : List ℕ = body_bytes (kind_of request.op) reply.body in
+    let behind : drop 16 (head_bytes head ++ field) ≡ field = body_after_head head field in
     record {
       head = head_spelled head field _ (ap length (sym behind)) device completion proper.status_fits;
-      tail = body_tail (reply_kind request.op) reply.body;
-      body = subst (λ (bytes : List ℕ). SpellsBody (reply_kind request.op) reply.status reply.body (body_tail (reply_kind request.op) reply.body) bytes) (sym behind)
-          (body_spelled (reply_kind request.op) reply.status reply.body proper.answers.0 proper.body_fits);
+      tail = body_tail (kind_of request.op) reply.body;
+      body = subst (λ (bytes : List ℕ). SpellsBody (kind_of request.op) reply.status reply.body (body_tail (kind_of request.op) reply.body) bytes) (sym behind)
+          (body_spelled (kind_of request.op) reply.status reply.body proper.is_reply.0 proper.body_fits);
     }
 
 -- a request that can be sent, with a reply that may answer it
@@ -88,7 +87,7 @@ own_exchange o file handle reply can small proper fed =
     let request : Request = request_to o file in
     record {
       sent_fits = request_is_message o (request_bytes request) can.0 (length-request_bytes request can.0);
-      completion_fits = completion_is_message (record { device = 1; completion = 0; status = reply.status }) (reply_kind o) reply.body proper.answers.1;
+      completion_fits = completion_is_message (record { device = 1; completion = 0; status = reply.status }) (kind_of o) reply.body proper.is_reply.1;
       spelled = request_spelled request can.0 can.1 (lit< tt) small (lit< tt);
       completes = completes_own request reply (lit< tt) (lit< tt) proper;
       sent_bytes = refl;
@@ -140,7 +139,7 @@ Appends-known None bytes = tt
 Appends-known (Some xs) bytes = refl
 
 -- both ends behind a line that was answered so
-abbrev pub ends_behind : Ends → Asked → ℕ → Reply → DriveState → Ends
+abbrev pub ends_behind : Ends → HandleOp → ℕ → Reply → DriveState → Ends
 ends_behind before asked file reply left = record {
   files = λ name. if opens asked.op && bytes_eq asked.handle name then given_file reply.body else before.files name;
   asked = before.asked + 1;
@@ -150,7 +149,7 @@ ends_behind before asked file reply left = record {
 }
 
 -- a line whose request the drive can answer so
-pub line_with : (before : Ends) (asked : Asked) (file : ℕ) (reply : Reply) (left : DriveState) → CanBeSent asked → HoldSmall before.files → file_named before.files asked ≡ Some file
+pub line_with : (before : Ends) (asked : HandleOp) (file : ℕ) (reply : Reply) (left : DriveState) → CanBeSent asked → HoldSmall before.files → file_named before.files asked ≡ Some file
     → Runs (request_to asked.op file) reply before.drive left → (asked.op ≡ op.Close → IsFalse (is_starved reply))
     → EndsIn asked (outcome.Done (answer_in (exchange_for (request_to asked.op file) reply))) before (ends_behind before asked file reply left)
 line_with before asked file reply left can small named runs fed =
@@ -169,14 +168,14 @@ line_with before asked file reply left can small named runs fed =
     (file, named, exchanged, λ name. refl)
 
 -- How a line ends and where, with what is recorded of it.
-pub record Goes (before : Ends) (asked : Asked) : Type 0 where
+pub record Goes (before : Ends) (asked : HandleOp) : Type 0 where
   pub ending : Outcome
   pub after : Ends
   pub ends : EndsIn asked ending before after
   pub bytes : List ℕ
   pub recorded : Appends before.held after.held bytes
 
-unfoldable pub goes_with : (before : Ends) (asked : Asked) (file : ℕ) (reply : Reply) (left : DriveState) → CanBeSent asked → HoldSmall before.files → file_named before.files asked ≡ Some file
+unfoldable pub goes_with : (before : Ends) (asked : HandleOp) (file : ℕ) (reply : Reply) (left : DriveState) → CanBeSent asked → HoldSmall before.files → file_named before.files asked ≡ Some file
     → Runs (request_to asked.op file) reply before.drive left → (asked.op ≡ op.Close → IsFalse (is_starved reply)) → Goes before asked
 goes_with before asked file reply left can small named runs fed = record {
   ending = outcome.Done (answer_in (exchange_for (request_to asked.op file) reply));

@@ -4,11 +4,11 @@ use Rattle.std.specs.Prelude.{◌↔◌, IsSome}
 use Rattle.std.proofs.lemmas.Bool.{cases_lt}
 use Rattle.std.proofs.lemmas.List.{append-nil, take-append-drop, take_all}
 use Rattle.rd_chunk.specs.declared.fault.ChunkBad.{ChunkBad}
-use Rattle.rd_chunk.specs.Frames.{One, Carried}
+use Rattle.rd_chunk.specs.Frames.{One}
 use Rattle.rd_chunk.specs.Standing.{Held, StandsFor, BringsFault}
 use Rattle.rd_chunk.specs.Streams.{HasChunkFault}
-use Rattle.rd_chunk.proofs.Exists.{carried_stream}
-use Rattle.rd_chunk.proofs.Streams.{never_both, one_agrees}
+use Rattle.rd_chunk.proofs.ChunkFaultLemmas.{carried_stream}
+use Rattle.rd_chunk.proofs.StreamLemmas.{never_both, one_agrees}
 use Rattle.rd_base.specs.declared.journal.Key.{Key}
 use Rattle.rd_base.specs.declared.journal.Item.{Item}
 use Rattle.rd_base.specs.declared.bad.Bad.{Bad}
@@ -18,18 +18,20 @@ use Rattle.rd_irp.specs.declared.completion.Kind.{Kind}
 use Rattle.rd_irp.specs.declared.request.Request.{Request}
 use Rattle.rd_irp.specs.declared.op.Op.{Op}
 use Rattle.rd_irp.specs.declared.op.Op.TheVariants as op
-use Rattle.rd_irp.specs.Fits.{Fits, op_length, reply_kind}
+use Rattle.rd_irp.specs.Fits.{Fits, op_length, kind_of}
 use Rattle.rd_irp.specs.Request.{SpellsRequest, FirstFaultOfRequest}
 use Rattle.rd_irp.specs.Completion.{completion_head, completion_body, SpellsHead, SpellsBody, FirstFaultOfHead, FirstFaultOfBody}
-use Rattle.rd_irp.proofs.OneOf.{request_one_value, request_not_both, layout_one_value, layout_not_both}
+use Rattle.rd_chunk.proofs.CarriedLemmas.{carried_one}
+use Rattle.rd_base.proofs.LayoutLemmas.{one_value, not_both}
+use Rattle.rd_irp.proofs.RequestLemmas.{request_one_value, request_not_both}
 use Rattle.rd_drive.specs.DriveState.{DriveState}
-use Rattle.rd_script.specs.Asked.{Answered}
+use Rattle.rd_script.specs.Asks.{ReplyOfKind}
 use Rattle.rd_irp.specs.declared.completion.Reply.{Reply}
 use Rattle.std.specs.List.{flat_map}
 use Rattle.std.specs.Io.KnownBytes.{Appends}
 use Rattle.std.proofs.KnownBytes.{Appends-trans}
 use Rattle.std.proofs.lemmas.Grind.{flat_map-append}
-use Rattle.rd_session.specs.declared.recording.End.TheVariants.{Host, Client}
+use Rattle.rd_session.specs.declared.recording.Side.TheVariants.{Host, Client}
 use Rattle.rd_session.specs.Recording.{Entry, entry_bytes, entries_of, recorded_bytes}
 use Rattle.rd_session.specs.Channel.{CarriesRequest, CarriesCompletion, Serves, HearsIn, Ends, Exchange, Exchanges, recorded_in}
 use Rattle.rd_session.specs.Session.{key_at}
@@ -37,23 +39,19 @@ use Rattle.rd_chunk.specs.Carrier.{IsMessage}
 use Rattle.rd_irp.specs.Written.{request_bytes}
 use Rattle.rd_session.specs.Told.{Completes}
 
--- one message's frames carry it
-carried : (message frames : List ℕ) → One message frames → Carried (message ∷ []) frames
-carried message frames one = (frames, [], sym (append-nil frames), one, refl)
-
 -- No front of one message's frames brings a fault.
 pub brings_none : (held : Held) (before : ℕ) (message frames : List ℕ) (count : ℕ) (bad : ChunkBad) → StandsFor held before [] → One message frames → BringsFault held (take count frames) bad → ⊥
 brings_none held before message frames count bad stands one faults =
     let found = faults before [] stands in
     let fault : HasChunkFault frames = record {
-      front = take count frames;
+      prefix = take count frames;
       rest = drop count frames;
       place = found.0;
       why = bad.why;
       bytes_are = sym (take-append-drop count frames);
       fault = found.1.0;
     } in
-    never_both (message ∷ []) frames fault (carried_stream (message ∷ []) frames (carried message frames one))
+    never_both (message ∷ []) frames fault (carried_stream (message ∷ []) frames (carried_one message frames one))
 
 -- what is there is something
 found_some : (o : Option (List ℕ)) → IsSome o → (x : List ℕ) × (o ≡ Some x)
@@ -89,7 +87,7 @@ request_read frames message bad carries one fault =
 pub head_read : (kind : Kind) (frames message : List ℕ) (bad : Bad) → CarriesCompletion kind frames → One message frames → FirstFaultOfHead message bad → ⊥
 head_read kind frames message bad carries one fault =
     let same = same_message message carries.0 frames one carries.5 in
-    layout_not_both completion_head carries.1 carries.3 bad carries.0 carries.6 (subst (λ (m : List ℕ). FirstFaultOfHead m bad) same fault)
+    not_both completion_head 0 carries.0 (carries.1, carries.3, carries.6) (bad, subst (λ (m : List ℕ). FirstFaultOfHead m bad) same fault)
 
 -- The body of a carried completion can be read.
 pub body_read : (kind : Kind) (frames message : List ℕ) (head : Head) (bad : Bad)
@@ -97,10 +95,10 @@ pub body_read : (kind : Kind) (frames message : List ℕ) (head : Head) (bad : B
 body_read kind frames message head bad carries one spelled fault =
     let same = same_message message carries.0 frames one carries.5 in
     let own : SpellsHead head (length carries.0 - 16) carries.0 = subst (λ (m : List ℕ). SpellsHead head (length m - 16) m) same spelled in
-    let same_status : head.status ≡ carries.1.status = ap (λ (h : Head). h.status) (layout_one_value completion_head _ _ _ _ carries.0 own carries.6).0 in
+    let same_status : head.status ≡ carries.1.status = ap (λ (h : Head). h.status) (one_value completion_head 0 carries.0 _ _ _ _ own carries.6).0 in
     let there : FirstFaultOfBody kind head.status (drop 16 carries.0) bad = subst (λ (m : List ℕ). FirstFaultOfBody kind head.status (drop 16 m) bad) same fault in
-    layout_not_both (completion_body kind carries.1.status) carries.2 carries.4 bad (drop 16 carries.0) carries.7
-    (subst (λ (s : Status). FirstFaultOfBody kind s (drop 16 carries.0) bad) same_status there)
+    not_both (completion_body kind carries.1.status) 0 (drop 16 carries.0) (carries.2, carries.4, carries.7)
+    (bad, subst (λ (s : Status). FirstFaultOfBody kind s (drop 16 carries.0) bad) same_status there)
 
 -- A request that is carried to the client is the one that it serves.
 pub served : (request read : Request) (key : Key) (drive left : DriveState) (journal stored : List Item) (sent asked completion message : List ℕ) (tail : ℕ)
@@ -113,27 +111,27 @@ served request read key drive left journal stored sent asked completion message 
 
 -- The frames of the completion of a request that was served carry a completion of its kind.
 pub carries_reply : (request : Request) (key : Key) (drive left : DriveState) (journal stored : List Item) (completion answered : List ℕ)
-    → Serves request key drive left journal stored completion → One completion answered → CarriesCompletion (reply_kind request.op) answered
+    → Serves request key drive left journal stored completion → One completion answered → CarriesCompletion (kind_of request.op) answered
 carries_reply request key drive left journal stored completion answered own one =
     let done = own.completes in
     (completion, record { device = request.device; completion = request.completion; status = own.reply.status }, own.reply.body, length (drop 16 completion), done.tail, one, done.head, done.body)
 
 -- What is heard in the frames of a completion of a request is its reply.
-pub reply_heard : (request : Request) (reply : Reply) (completion answered : List ℕ) (kind : Kind) (heard : Answered)
-    → Completes request reply completion → One completion answered → HearsIn kind answered heard → kind ≡ reply_kind request.op
-    → heard ≡ record { kind = reply_kind request.op; status = reply.status; body = reply.body }
+pub reply_heard : (request : Request) (reply : Reply) (completion answered : List ℕ) (kind : Kind) (heard : ReplyOfKind)
+    → Completes request reply completion → One completion answered → HearsIn kind answered heard → kind ≡ kind_of request.op
+    → heard ≡ record { kind = kind_of request.op; status = reply.status; body = reply.body }
 reply_heard request reply completion answered kind heard own one_completion hears kind_is =
     let same_completion = same_message hears.message completion answered hears.carried one_completion in
     let heard_head : SpellsHead (record { device = hears.device; completion = hears.completion; status = heard.status }) (length completion - 16) completion =
     subst (λ (m : List ℕ). SpellsHead (record { device = hears.device; completion = hears.completion; status = heard.status }) (length m - 16) m) same_completion hears.head in
-    let same_head = (layout_one_value completion_head _ _ _ _ completion heard_head own.head).0 in
+    let same_head = (one_value completion_head 0 completion _ _ _ _ heard_head own.head).0 in
     let same_status : heard.status ≡ reply.status = ap (λ (h : Head). h.status) same_head in
-    let heard_body : SpellsBody (reply_kind request.op) reply.status heard.body hears.tail (drop 16 completion) =
-    subst (λ (m : List ℕ). SpellsBody (reply_kind request.op) reply.status heard.body hears.tail (drop 16 m)) same_completion
-    (subst (λ (s : Status). SpellsBody (reply_kind request.op) s heard.body hears.tail (drop 16 hears.message)) same_status
+    let heard_body : SpellsBody (kind_of request.op) reply.status heard.body hears.tail (drop 16 completion) =
+    subst (λ (m : List ℕ). SpellsBody (kind_of request.op) reply.status heard.body hears.tail (drop 16 m)) same_completion
+    (subst (λ (s : Status). SpellsBody (kind_of request.op) s heard.body hears.tail (drop 16 hears.message)) same_status
     (subst (λ (k : Kind). SpellsBody k heard.status heard.body hears.tail (drop 16 hears.message)) kind_is hears.body)) in
-    let same_body : heard.body ≡ reply.body = (layout_one_value (completion_body (reply_kind request.op) reply.status) _ _ _ _ (drop 16 completion) heard_body own.body).0 in
-    let same_kind : heard.kind ≡ reply_kind request.op = hears.kind_is ∙ kind_is in
+    let same_body : heard.body ≡ reply.body = (one_value (completion_body (kind_of request.op) reply.status) 0 (drop 16 completion) _ _ _ _ heard_body own.body).0 in
+    let same_kind : heard.kind ≡ kind_of request.op = hears.kind_is ∙ kind_is in
     λ i. record { kind = same_kind i; status = same_status i; body = same_body i }
 
 -- The frames of an exchange are those of its request and those of its completion, one behind the other.
@@ -159,9 +157,9 @@ pub request_is_message : (op : Op) (message : List ℕ) → Fits op → length m
 request_is_message op message fits long = (omega (arith, long), omega (arith, long, request_most op fits))
 
 -- A request that went to the drive and back: its own message was read there, and what is heard in the frames of the completion is the reply.
-pub exchanged : (request : Request) (kind : Kind) (sent asked completion answered : List ℕ) (before after : Ends) (middle : Option (List ℕ)) (heard : Answered)
+pub exchanged : (request : Request) (kind : Kind) (sent asked completion answered : List ℕ) (before after : Ends) (middle : Option (List ℕ)) (heard : ReplyOfKind)
     → IsMessage sent → SpellsRequest request 0 sent → sent ≡ request_bytes request → IsMessage completion → Serves request (key_at before.asked) before.drive after.drive before.journal after.journal completion
-    → One completion answered → HearsIn kind answered heard → kind ≡ reply_kind request.op → after.asked ≡ before.asked + 1
+    → One completion answered → HearsIn kind answered heard → kind ≡ kind_of request.op → after.asked ≡ before.asked + 1
     → Appends before.held middle (recorded_bytes Host sent) → Appends middle after.held (recorded_bytes Client completion)
     → Exchanges request heard before after
 exchanged request kind sent asked completion answered before after middle heard sent_fits spelled sent_bytes completion_fits own one hears kind_is counted first second =

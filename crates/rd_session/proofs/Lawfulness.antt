@@ -12,23 +12,23 @@ use Rattle.rd_base.specs.declared.journal.Cause.{Cause}
 use Rattle.rd_base.specs.declared.journal.Cause.TheVariants.{Dropped}
 use Rattle.rd_base.specs.declared.journal.Item.{Item}
 use Rattle.rd_base.specs.declared.journal.Item.TheVariants.{Came, Ran, Cancelled, Sent, Cut}
-use Rattle.rd_base.specs.Lawful.{IsLawful, EachAfter, IsBehind, named_key, NoneAboveChannel, Settles, RisesAbove, SettlesFirst, SendsFirst, RunsUncut, CancelsRemoved, NamesRemembered, CutsFewUnsent, FewUnsent, sends, is_unsent}
-use Rattle.rd_base.proofs.WorkedJournals.{EachInTurn, EachAfter-from_turns}
+use Rattle.rd_base.specs.Lawful.{IsLawful, EachAfter, IsBefore, named_key, NoneAboveChannel, Settles, RisesAbove, SettlesFirst, SendsFirst, RunsUncut, CancelsRemoved, NamesRemembered, CutsFewUnsent, FewUnsent, sends, is_unsent}
+use Rattle.rd_base.proofs.JournalLemmas.{EachInTurn, EachAfter-from_turns}
 use Rattle.rd_drive.specs.Starved.{is_starved}
 use Rattle.rd_session.specs.Channel.{Exchange}
 use Rattle.rd_session.specs.Session.{key_at}
 use Rattle.rd_session.proofs.Course.{stored_from}
 
 -- a key of the channel, of a request before the n-th
-abbrev IsBefore : ℕ → Key → Type 0
-IsBefore n key = (key.channel ≡ 1) × (key.index < n)
+abbrev IsOldKey : ℕ → Key → Type 0
+IsOldKey n key = (key.channel ≡ 1) × (key.index < n)
 
 -- an entry of a journal behind n requests
 abbrev IsOld : ℕ → Item → Type 0
-IsOld n (Came key) = IsBefore n key
-IsOld n (Ran key moment starved parked) = IsBefore n key
+IsOld n (Came key) = IsOldKey n key
+IsOld n (Ran key moment starved parked) = IsOldKey n key
 IsOld n (Cancelled key) = ⊥
-IsOld n (Sent key) = IsBefore n key
+IsOld n (Sent key) = IsOldKey n key
 IsOld n (Cut cause) = ⊥
 
 older : (n : ℕ) (item : Item) → IsOld n item → IsOld (suc n) item
@@ -48,7 +48,7 @@ behind_ran n starved front = behind_came n front ++ Ran (key_at n) 0 starved fal
 abbrev behind_sent : ℕ → Bool → List Item → List Item
 behind_sent n starved front = behind_ran n starved front ++ Sent (key_at n) ∷ []
 
-new_key : (n : ℕ) → IsBefore (suc n) (key_at n)
+new_key : (n : ℕ) → IsOldKey (suc n) (key_at n)
 new_key n = (refl, omega arith)
 
 came_old : (n : ℕ) (front : List Item) → All (IsOld n) front → All (IsOld (suc n)) (behind_came n front)
@@ -110,7 +110,7 @@ sends_first n starved front old =
     )
 
 -- nothing is cut
-no_cut : (n : ℕ) (items : List Item) → All (IsOld n) items → (a : Item) (cause : Cause) → ¬ (IsBehind items a (Cut cause))
+no_cut : (n : ℕ) (items : List Item) → All (IsOld n) items → (a : Item) (cause : Cause) → ¬ (IsBefore items a (Cut cause))
 no_cut n items old a cause (i, j, below, first, second) =
     All-contains (IsOld n) items (Cut cause) old (j, slice_get_within items j (Cut cause) second, get_or_from_slice_get items j (Cut cause) (Cut cause) second)
 
@@ -124,7 +124,7 @@ low n (Cancelled key) old = absurd old
 low n (Sent key) old = omega (arith, old.0)
 low n (Cut cause) old = absurd old
 
-remembered : (n m : ℕ) (items : List Item) → All (IsOld n) items → (¬ (IsBehind items (Came (key_at m)) (Cut Dropped))) × NoneAboveChannel 1 items
+remembered : (n m : ℕ) (items : List Item) → All (IsOld n) items → (¬ (IsBefore items (Came (key_at m)) (Cut Dropped))) × NoneAboveChannel 1 items
 remembered n m items old = (no_cut n items old (Came (key_at m)) Dropped, All-weaker (IsOld n) (λ item. IfSome (named_key item) (λ key. key.channel ≤ 1)) (low n) items old)
 
 -- ---- what was sent
@@ -153,8 +153,8 @@ lawful es = record {
   keys_rise = each RisesAbove rises (λ n starved front old. tt) (λ n starved front old. tt) es;
   runs_once = each SettlesFirst (λ n front old. tt) settles_first (λ n starved front old. tt) es;
   sent_once = each SendsFirst (λ n front old. tt) (λ n starved front old. tt) sends_first es;
-  no_run_behind_cut = each RunsUncut (λ n front old. tt) runs_uncut (λ n starved front old. tt) es;
-  cancelled_behind_removal = each CancelsRemoved (λ n front old. tt) (λ n starved front old. tt) (λ n starved front old. tt) es;
+  no_run_after_cut = each RunsUncut (λ n front old. tt) runs_uncut (λ n starved front old. tt) es;
+  cancelled_after_removal = each CancelsRemoved (λ n front old. tt) (λ n starved front old. tt) (λ n starved front old. tt) es;
   drop_forgets = each NamesRemembered (λ n front old. remembered n n front old) (λ n starved front old. remembered (suc n) n (behind_came n front) (came_old n front old)) (λ n starved front old. remembered (suc n) n (behind_ran n starved front) (ran_old n starved front old)) es;
   few_unsent = (each CutsFewUnsent (λ n front old. tt) (λ n starved front old. tt) (λ n starved front old. tt) es, few es);
 }

@@ -12,13 +12,14 @@ use Rattle.rd_irp.specs.declared.completion.Reply.{Reply}
 use Rattle.rd_irp.specs.declared.request.Request.{Request}
 use Rattle.rd_irp.specs.Request.{SpellsRequest}
 use Rattle.rd_irp.specs.Written.{header_bytes}
-use Rattle.rd_session.specs.declared.recording.End.TheVariants.{Host, Client}
+use Rattle.rd_session.specs.declared.recording.Side.TheVariants.{Host, Client}
 use Rattle.rd_chunk.specs.Carrier.{IsMessage}
 use Rattle.rd_session.specs.Channel.{Exchange, answer_in, recorded_in}
 use Rattle.rd_session.specs.Recording.{Entry, Passed, entries_of}
 use Rattle.rd_session.specs.Session.{Asks, key_at, in_turn, first_keys, Hears}
-use Rattle.rd_session.specs.Told.{Counted, InOrder, Completes, CompletesKey, RanAt, sent_keys, completes, is_request, has_pair, names_pair}
+use Rattle.rd_session.specs.Told.{Counted, InOrder, Completes, CompletesKey, RanAt, completes, is_request, has_pair, names_pair}
 use Rattle.rd_session.proofs.Course.{stored_from, keys_from, replies_from, NamesFrom, AreOwn}
+use Rattle.rd_session.proofs.Histories.{sent_keys-stored_from}
 use Rattle.rd_session.proofs.Named.{request_begins, names_own}
 
 -- the requests, as they were sent
@@ -57,12 +58,6 @@ spelled (e ∷ es) own = ((own.0.0.spelled, own.0.0.sent_bytes), spelled es own.
 pub heard : (es : List Exchange) → AreOwn es → AllZip Hears (zip (map (λ e. e.request) es) (map answer_in es)) (completions es)
 heard [] own = tt
 heard (e ∷ es) own = ((refl, own.0.0.completes, own.0.0.completion_bytes), heard es own.1)
-
--- ---- the keys
--- the keys whose completions were handed out
-pub keys_sent : (n : ℕ) (es : List Exchange) → sent_keys 1 (stored_from n es) ≡ keys_from n es
-keys_sent n [] = refl
-keys_sent n (e ∷ es) = ap (λ (ks : List Key). key_at n ∷ ks) (keys_sent (suc n) es)
 
 -- the first keys, and those behind them
 keys_first : (n : ℕ) (es : List Exchange) (m : ℕ) → m ≡ n + length es → first_keys m ≡ first_keys n ++ keys_from n es
@@ -148,7 +143,7 @@ fronts (e ∷ es) own (x ∷ y ∷ before) behind is =
 pub in_order : (es : List Exchange) → AreOwn es → InOrder 1 1 (in_turn (zip (sents es) (completions es))) (stored_from 0 es)
 in_order es own before behind k l is completed channel asked i j ran_i ran_j =
     let among : Contains (take (count_by (completes 1) before) (keys_from 0 es)) k =
-    subst (λ (ks : List Key). Contains (take (count_by (completes 1) before) ks) k) (keys_sent 0 es) completed in
+    subst (λ (ks : List Key). Contains (take (count_by (completes 1) before) ks) k) (sent_keys-stored_from 0 es) completed in
     let below : k.index < 0 + count_by (completes 1) before = index_below (count_by (completes 1) before) 0 es k among in
     let most : count_by (completes 1) before ≤ count_by is_request before = fronts es own before behind is in
     let at_k : i + 3 * 0 ≡ 3 * k.index + 1 = ran_place 0 es i k ran_i in

@@ -5,19 +5,16 @@ use Rattle.std.specs.List.{concat, flat_map}
 use Rattle.std.specs.Int.{div_ceil}
 use Rattle.std.proofs.lemmas.Grind.{div_ceil_times}
 use Rattle.std.proofs.lemmas.List.{append-nil, length-append, length-take, length-drop}
+use Rattle.rd_base.proofs.ListLemmas.{concat-push}
 use Rattle.std.proofs.Math.Seq.{take-append_seam, drop-append_seam}
 use Rattle.rd_chunk.specs.Carrier.{carrier_data, carrier_frame, carrier_frames}
 use Rattle.rd_session.specs.Recording.{sends, entry_bytes, mark}
-use Rattle.rd_session.specs.declared.recording.End.{End}
+use Rattle.rd_session.specs.declared.recording.Side.{Side}
 
 -- so many frames from frame k on
 abbrev pub frames_from : List ℕ → ℕ → ℕ → List ℕ
 frames_from message k zero = []
 frames_from message k (suc more) = carrier_frame message k ++ frames_from message (suc k) more
-
-concat_more : (frames : List (List ℕ)) (frame : List ℕ) → concat (frames ++ frame ∷ []) ≡ concat frames ++ frame
-concat_more [] frame = append-nil frame
-concat_more (f ∷ fs) frame = ap (λ (l : List ℕ). f ++ l) (concat_more fs frame) ∙ sym (append_assoc f (concat fs) frame)
 
 -- the first k of n frames, and those behind them
 frames_split : (message : List ℕ) (n k more : ℕ) → k + more ≡ n → concat (carrier_frames message n) ≡ concat (carrier_frames message k) ++ frames_from message k more
@@ -26,7 +23,7 @@ frames_split message n k zero all =
     ap (λ (m : ℕ). concat (carrier_frames message m)) same ∙ sym (append-nil (concat (carrier_frames message k)))
 frames_split message n k (suc more) all =
     frames_split message n (suc k) more (omega (arith, all))
-    ∙ ap (λ (l : List ℕ). l ++ frames_from message (suc k) more) (concat_more (carrier_frames message k) (carrier_frame message k))
+    ∙ ap (λ (l : List ℕ). l ++ frames_from message (suc k) more) (concat-push (carrier_frames message k) (carrier_frame message k))
     ∙ append_assoc (concat (carrier_frames message k)) (carrier_frame message k) (frames_from message (suc k) more)
 
 -- a frame is twelve bytes longer than its data
@@ -48,19 +45,19 @@ next_length message k (suc more) room =
     omega (arith, length-append (carrier_frame message k) (frames_from message (suc k) (suc more)), frame_full message k (omega arith))
 
 -- Of the stream of a message the first frames are written, each behind the end's mark, and these are left.
-abbrev pub IsLeft : End → List ℕ → List ℕ → List ℕ → Type 0
+abbrev pub IsLeft : Side → List ℕ → List ℕ → List ℕ → Type 0
 IsLeft end message entries rest =
     (k : ℕ) × (more : ℕ) × (k + more ≡ div_ceil (length message) 1600) × (rest ≡ frames_from message k more) ×
     (entries ≡ flat_map entry_bytes (map (λ frame. sends end frame) (carrier_frames message k)))
 
 -- at first all are left
-pub left_all : (end : End) (message : List ℕ) → IsLeft end message [] (concat (carrier_frames message (div_ceil (length message) 1600)))
+pub left_all : (end : Side) (message : List ℕ) → IsLeft end message [] (concat (carrier_frames message (div_ceil (length message) 1600)))
 left_all end message =
     let n : ℕ = div_ceil (length message) 1600 in
     let all : 0 + n ≡ n = omega arith in
     (0, n, all, frames_split message n 0 n all, refl)
 
-entries_more : (end : End) (frames : List (List ℕ)) (frame : List ℕ)
+entries_more : (end : Side) (frames : List (List ℕ)) (frame : List ℕ)
     → flat_map entry_bytes (map (λ f. sends end f) (frames ++ frame ∷ [])) ≡ (flat_map entry_bytes (map (λ f. sends end f) frames) ++ mark end ∷ []) ++ frame
 entries_more end [] frame = append-nil (mark end ∷ frame)
 entries_more end (f ∷ fs) frame =
@@ -80,7 +77,7 @@ same_fronts a b c d same long = (
 )
 
 -- then the next frame is written
-pub left_less : (end : End) (message entries rest frame behind : List ℕ) → IsLeft end message entries rest → rest ≡ frame ++ behind → length frame ≡ min 1612 (length rest) → 0 < length rest
+pub left_less : (end : Side) (message entries rest frame behind : List ℕ) → IsLeft end message entries rest → rest ≡ frame ++ behind → length frame ≡ min 1612 (length rest) → 0 < length rest
     → IsLeft end message ((entries ++ mark end ∷ []) ++ frame) behind
 left_less end message entries rest frame behind (k, zero, all, left, written) parts size some = absurd (omega (arith, ap length left, some))
 left_less end message entries rest frame behind (k, suc more, all, left, written) parts size some =
@@ -93,7 +90,7 @@ left_less end message entries rest frame behind (k, suc more, all, left, written
     (suc k, more, omega (arith, all), sym same.1, entries_are)
 
 -- and at last none is left
-pub left_none : (end : End) (message entries rest : List ℕ) → IsLeft end message entries rest → length rest ≡ 0
+pub left_none : (end : Side) (message entries rest : List ℕ) → IsLeft end message entries rest → length rest ≡ 0
     → entries ≡ flat_map entry_bytes (map (λ frame. sends end frame) (carrier_frames message (div_ceil (length message) 1600)))
 left_none end message entries rest (k, zero, all, left, written) none =
     let same : k ≡ div_ceil (length message) 1600 = omega (arith, all) in

@@ -1,10 +1,11 @@
 -- A session after some of its lines.
 use Rattle.std.proofs.Common.{◌≡◌, ◌≤◌, ◌<◌, ◌^◌, ℕ, suc, ◌+◌, List, [], ◌∷◌, ◌++◌, length, map, Bool, true, false, Option, Some, None, refl, sym, ap, subst, ◌∙◌, append_assoc, arith}
-use Rattle.std.specs.Prelude.{◌↔◌, ◌&&◌, if◌then◌else◌, IfSome, IsNone, bytes_eq, zip, fold, option_map, option_to_list}
+use Rattle.std.specs.Prelude.{◌↔◌, ◌&&◌, if◌then◌else◌, IfSome, IsNone, bytes_eq, zip, option_map, option_to_list}
 use Rattle.std.specs.List.{flat_map}
 use Rattle.std.specs.Io.KnownBytes.{Appends}
 use Rattle.std.proofs.KnownBytes.{Appends-nil, Appends-trans}
 use Rattle.std.proofs.lemmas.Grind.{flat_map-append}
+use Rattle.std.proofs.lemmas.List.Sums.{fold-append}
 use Rattle.std.proofs.lemmas.List.{append-nil, length-append, length-map, map_push}
 use Rattle.rd_base.specs.declared.journal.Item.{Item}
 use Rattle.rd_base.specs.declared.journal.Key.{Key}
@@ -15,7 +16,7 @@ use Rattle.rd_drive.specs.DriveState.{DriveState}
 use Rattle.rd_session.specs.Session.{IsHistory, IsSession, first_keys, in_turn, key_at}
 use Rattle.rd_script.specs.declared.outcome.Outcome.{Outcome}
 use Rattle.rd_script.specs.declared.outcome.Outcome.TheVariants as outcome
-use Rattle.rd_script.specs.Asked.{Asked, Answered}
+use Rattle.rd_script.specs.Asks.{HandleOp, ReplyOfKind}
 use Rattle.rd_session.specs.Channel.{Ends, Exchange, Exchanges, EndsIn, Runs, answer_in, recorded_in, stored_under}
 use Rattle.rd_session.specs.Outcomes.{Ended, answers_in, given_file, held_file, opened_file, opens, request_of, request_to, requests_of, file_named}
 use Rattle.rd_session.specs.Recording.{Entry, entry_bytes}
@@ -54,15 +55,11 @@ requests_more before (l ∷ lines) line =
 answers_more : (lines : List Ended) (line : Ended) → flat_map answers_in (map (λ (l : Ended). l.1) (lines ++ line ∷ [])) ≡ flat_map answers_in (map (λ (l : Ended). l.1) lines) ++ answers_in line.1
 answers_more [] line = append-nil (answers_in line.1)
 answers_more (l ∷ lines) line =
-    ap (λ (told : List Answered). answers_in l.1 ++ told) (answers_more lines line)
+    ap (λ (told : List ReplyOfKind). answers_in l.1 ++ told) (answers_more lines line)
     ∙ sym (append_assoc (answers_in l.1) (flat_map answers_in (map (λ (k : Ended). k.1) lines)) (answers_in line.1))
 
-fold_more : {A B : Type 0} (f : B → A → B) (b : B) (xs : List A) (x : A) → fold f b (xs ++ x ∷ []) ≡ f (fold f b xs) x
-fold_more f b [] x = refl
-fold_more f b (y ∷ xs) x = fold_more f (f b y) xs x
-
 held_more : (name : List ℕ) (lines : List Ended) (line : Ended) → held_file name (lines ++ line ∷ []) ≡ if opens line.0.op && bytes_eq line.0.handle name then opened_file line.1 else held_file name lines
-held_more name lines line = fold_more (λ held l. if opens l.0.op && bytes_eq l.0.handle name then opened_file l.1 else held) None lines line
+held_more name lines line = fold-append (λ held l. if opens l.0.op && bytes_eq l.0.handle name then opened_file l.1 else held) None lines (line ∷ [])
 
 -- a list that ends with an element, cut at an element: it is that one, or stands before it
 data Cut {A : Type 0} (xs : List A) (x : A) (before : List A) (y : A) (behind : List A) : Type 0 where
@@ -134,7 +131,7 @@ refused_more ended last all here before line behind same =
     ]
 
 -- the request of a line, by the file that it names
-request_named : (files : List ℕ → Option ℕ) (ended : List Ended) (asked : Asked) → ((name : List ℕ) → files name ≡ held_file name ended) → request_of ended asked ≡ option_map (request_to asked.op) (file_named files asked)
+request_named : (files : List ℕ → Option ℕ) (ended : List Ended) (asked : HandleOp) → ((name : List ℕ) → files name ≡ held_file name ended) → request_of ended asked ≡ option_map (request_to asked.op) (file_named files asked)
 request_named files ended asked holds =
     ap (λ (file : Option ℕ). option_map (request_to asked.op) (if opens asked.op then Some 0 else file)) (sym (holds asked.handle))
 
@@ -148,7 +145,7 @@ none_given false same held is = refl
 none_given true same held is = absurd (cc)
 
 -- A line that was refused leaves all as it was.
-more_refused : (start : DriveState) (opened : Option (List ℕ)) (ended : List Ended) (ends : Ends) (asked : Asked) → SoFar start opened ended ends → file_named ends.files asked ≡ None
+more_refused : (start : DriveState) (opened : Option (List ℕ)) (ended : List Ended) (ends : Ends) (asked : HandleOp) → SoFar start opened ended ends → file_named ends.files asked ≡ None
     → SoFar start opened (ended ++ (asked, outcome.NoHandle) ∷ []) ends
 more_refused start opened ended ends asked so_far none =
     let line : Ended = (asked, outcome.NoHandle) in
@@ -177,7 +174,7 @@ bytes_more es e =
     ∙ flat_map-append entry_bytes (flat_map recorded_in es) (recorded_in e)
 
 -- A line that was answered adds its exchange.
-more_done : (start : DriveState) (opened : Option (List ℕ)) (ended : List Ended) (before after : Ends) (asked : Asked) (answered : Answered) (file : ℕ) → SoFar start opened ended before
+more_done : (start : DriveState) (opened : Option (List ℕ)) (ended : List Ended) (before after : Ends) (asked : HandleOp) (answered : ReplyOfKind) (file : ℕ) → SoFar start opened ended before
     → file_named before.files asked ≡ Some file → Exchanges (request_to asked.op file) answered before after
     → ((name : List ℕ) → after.files name ≡ if opens asked.op && bytes_eq asked.handle name then given_file answered.body else before.files name)
     → SoFar start opened (ended ++ (asked, outcome.Done answered) ∷ []) after
@@ -187,7 +184,7 @@ more_done start opened ended before after asked answered file so_far named excha
     let es : List Exchange = so_far.exchanges in
     let has_request : request_of ended asked ≡ Some (request_to asked.op file) = request_named before.files ended asked so_far.holds ∙ ap (λ (f : Option ℕ). option_map (request_to asked.op) f) named in
     let ran : Runs e.request e.reply before.drive after.drive = subst (λ (r : Request). Runs r e.reply before.drive after.drive) (sym exchanged.request_is) exchanged.ran in
-    let given : IfSome (given_file answered.body) (λ f. f < 2 ^ 32) = subst (λ (a : Answered). IfSome (given_file a.body) (λ f. f < 2 ^ 32)) (sym exchanged.answer)
+    let given : IfSome (given_file answered.body) (λ f. f < 2 ^ 32) = subst (λ (a : ReplyOfKind). IfSome (given_file a.body) (λ f. f < 2 ^ 32)) (sym exchanged.answer)
     (given_small e.reply.body (proper_reply e.request e.reply before.drive after.drive ran).body_fits) in
     record {
       exchanges = es ++ e ∷ [];
@@ -198,8 +195,8 @@ more_done start opened ended before after asked answered file so_far named excha
       few = omega (arith, so_far.few, length-append es (e ∷ []), length-append ended (line ∷ []));
       sent = map_push (λ (x : Exchange). x.request) es e ∙ ap (λ (rs : List Request). rs ++ e.request ∷ []) so_far.sent ∙ ap (λ (r : Request). requests_of [] ended ++ r ∷ []) exchanged.request_is
           ∙ sym (requests_more [] ended line ∙ ap (λ (r : Option Request). requests_of [] ended ++ option_to_list r) has_request);
-      heard = map_push answer_in es e ∙ ap (λ (told : List Answered). told ++ answer_in e ∷ []) so_far.heard
-          ∙ ap (λ (a : Answered). flat_map answers_in (map (λ (l : Ended). l.1) ended) ++ a ∷ []) (sym exchanged.answer) ∙ sym (answers_more ended line);
+      heard = map_push answer_in es e ∙ ap (λ (told : List ReplyOfKind). told ++ answer_in e ∷ []) so_far.heard
+          ∙ ap (λ (a : ReplyOfKind). flat_map answers_in (map (λ (l : Ended). l.1) ended) ++ a ∷ []) (sym exchanged.answer) ∙ sym (answers_more ended line);
       refused = refused_more ended line so_far.refused (λ same. absurd (cc), λ none. absurd (some_or_none (request_to asked.op file) (subst (λ (r : Option Request). IsNone r) has_request none)));
       holds = λ name. files name ∙ ap (λ (held : Option ℕ). if opens asked.op && bytes_eq asked.handle name then given_file answered.body else held) (so_far.holds name) ∙ sym (held_more name ended line);
       small = λ name. subst (λ (o : Option ℕ). IfSome o (λ f. f < 2 ^ 32)) (sym (files name))
@@ -208,7 +205,7 @@ more_done start opened ended before after asked answered file so_far named excha
     }
 
 -- One more line.
-pub more : (start : DriveState) (opened : Option (List ℕ)) (ended : List Ended) (before after : Ends) (asked : Asked) (ending : Outcome) → SoFar start opened ended before → EndsIn asked ending before after
+pub more : (start : DriveState) (opened : Option (List ℕ)) (ended : List Ended) (before after : Ends) (asked : HandleOp) (ending : Outcome) → SoFar start opened ended before → EndsIn asked ending before after
     → SoFar start opened (ended ++ (asked, ending) ∷ []) after
 more start opened ended before after asked outcome.NoHandle so_far (none, same) =
     subst (λ (ends : Ends). SoFar start opened (ended ++ (asked, outcome.NoHandle) ∷ []) ends) (sym same) (more_refused start opened ended before asked so_far none)
@@ -261,34 +258,34 @@ session start opened ended ends so_far =
 
 -- ---- the lines behind some of which the session stands
 -- Of all that was asked some lines ended, with these outcomes, and these are left; so many stand there in all.
-abbrev pub Lines : DriveState → Option (List ℕ) → List Asked → ℕ → List Asked → ℕ → List Outcome → Ends → Type 0
+abbrev pub Lines : DriveState → Option (List ℕ) → List HandleOp → ℕ → List HandleOp → ℕ → List Outcome → Ends → Type 0
 Lines start opened asks count rest left outcomes ends =
     (ended : List Ended) × (asks ≡ map (λ (l : Ended). l.0) ended ++ rest) × (outcomes ≡ map (λ (l : Ended). l.1) ended) × (length ended + left ≡ count) × SoFar start opened ended ends
 
-pub lines_more : (start : DriveState) (opened : Option (List ℕ)) (asks : List Asked) (count : ℕ) (rest behind : List Asked) (left fewer : ℕ) (outcomes grown : List Outcome) (before after : Ends) (asked : Asked) (ending : Outcome)
+pub lines_more : (start : DriveState) (opened : Option (List ℕ)) (asks : List HandleOp) (count : ℕ) (rest behind : List HandleOp) (left fewer : ℕ) (outcomes grown : List Outcome) (before after : Ends) (asked : HandleOp) (ending : Outcome)
     → Lines start opened asks count rest left outcomes before → rest ≡ asked ∷ behind → fewer + 1 ≡ left → grown ≡ outcomes ++ ending ∷ [] → EndsIn asked ending before after
     → Lines start opened asks count behind fewer grown after
 lines_more start opened asks count rest behind left fewer outcomes grown before after asked ending (ended, asks_are, outcomes_are, all, so_far) next less more_outcomes ends =
     let line : Ended = (asked, ending) in (
       ended ++ line ∷ [],
-      asks_are ∙ ap (λ (l : List Asked). map (λ (k : Ended). k.0) ended ++ l) next ∙ sym (append_assoc (map (λ (k : Ended). k.0) ended) (asked ∷ []) behind)
-          ∙ ap (λ (l : List Asked). l ++ behind) (sym (map_push (λ (k : Ended). k.0) ended line)),
+      asks_are ∙ ap (λ (l : List HandleOp). map (λ (k : Ended). k.0) ended ++ l) next ∙ sym (append_assoc (map (λ (k : Ended). k.0) ended) (asked ∷ []) behind)
+          ∙ ap (λ (l : List HandleOp). l ++ behind) (sym (map_push (λ (k : Ended). k.0) ended line)),
       more_outcomes ∙ ap (λ (l : List Outcome). l ++ ending ∷ []) outcomes_are ∙ sym (map_push (λ (k : Ended). k.1) ended line),
       omega (arith, all, less, length-append ended (line ∷ [])),
       more start opened ended before after asked ending so_far ends,
     )
 
 -- so fewer requests were read than there are lines
-pub asked_few : (start : DriveState) (opened : Option (List ℕ)) (asks : List Asked) (count : ℕ) (rest : List Asked) (left : ℕ) (outcomes : List Outcome) (ends : Ends)
+pub asked_few : (start : DriveState) (opened : Option (List ℕ)) (asks : List HandleOp) (count : ℕ) (rest : List HandleOp) (left : ℕ) (outcomes : List Outcome) (ends : Ends)
     → Lines start opened asks count rest left outcomes ends → ends.asked + left ≤ count
 asked_few start opened asks count rest left outcomes ends (ended, asks_are, outcomes_are, all, so_far) = omega (arith, all, so_far.count, so_far.few)
 
 -- Where no line is left it is the session.
-pub whole_session : (start : DriveState) (opened : Option (List ℕ)) (asks : List Asked) (count : ℕ) (left : ℕ) (outcomes : List Outcome) (ends : Ends) → Lines start opened asks count [] left outcomes ends
+pub whole_session : (start : DriveState) (opened : Option (List ℕ)) (asks : List HandleOp) (count : ℕ) (left : ℕ) (outcomes : List Outcome) (ends : Ends) → Lines start opened asks count [] left outcomes ends
     → (recorded : List Entry) × IsSession start asks outcomes ends.journal recorded × Appends opened ends.held (flat_map entry_bytes recorded)
 whole_session start opened asks count left outcomes ends (ended, asks_are, outcomes_are, all, so_far) = (
   flat_map recorded_in so_far.exchanges,
-  subst (λ (l : List Asked). IsSession start l outcomes ends.journal (flat_map recorded_in so_far.exchanges)) (sym (asks_are ∙ append-nil (map (λ (l : Ended). l.0) ended)))
+  subst (λ (l : List HandleOp). IsSession start l outcomes ends.journal (flat_map recorded_in so_far.exchanges)) (sym (asks_are ∙ append-nil (map (λ (l : Ended). l.0) ended)))
       (subst (λ (l : List Outcome). IsSession start (map (λ (k : Ended). k.0) ended) l ends.journal (flat_map recorded_in so_far.exchanges)) (sym outcomes_are) (session start opened ended ends so_far)),
   so_far.written,
 )

@@ -6,7 +6,7 @@ use Rattle.rd_base.specs.declared.journal.Cause.TheVariants.{Removed}
 use Rattle.rd_irp.specs.declared.op.Op.TheVariants as op
 use Rattle.rd_script.proofs.Worked.{open_a, read_five, close_it, opened, hello, closed}
 use Rattle.rd_session.specs.Session.{IsUncut, first_keys, in_turn, key_at}
-use Rattle.rd_session.specs.declared.recording.End.TheVariants.{Host, Client}
+use Rattle.rd_session.specs.declared.recording.Side.TheVariants.{Host, Client}
 use Rattle.rd_script.specs.declared.outcome.Outcome.TheVariants as outcome
 use Rattle.rd_session.specs.Outcomes.{held_file, requests_of}
 use Rattle.rd_session.specs.Recording.{recording_of, begins, sends}

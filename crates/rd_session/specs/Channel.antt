@@ -1,10 +1,10 @@
 -- Messages on the channel, what came of a request, and how a line ends: for the contracts of both ends and of `run_session`.
-use Rattle.std.specs.Prelude.{◌≡◌, ℕ, ◌+◌, ◌-◌, ◌≤◌, ◌&&◌, if◌then◌else◌, List, [], ◌∷◌, ◌++◌, length, drop, Option, Some, None, Result, IfErr, String, bytes_eq, false, IsFalse}
+use Rattle.std.specs.Prelude.{◌≡◌, ℕ, ◌+◌, ◌-◌, ◌≤◌, ◌&&◌, if◌then◌else◌, List, [], ◌∷◌, ◌++◌, length, drop, Option, Some, None, Result, Ok, Err, String, bytes_eq, false, IsFalse}
 use Rattle.std.specs.Option.{option_flatten}
 use Rattle.std.specs.List.{flat_map}
 use Rattle.std.specs.BTreeMap.{BTreeMap, get_by_text}
 use Rattle.std.specs.Io.KnownBytes.{Appends}
-use Rattle.rd_base.specs.Faults.{Rose}
+use Rattle.rd_base.specs.Faults.{one_more}
 use Rattle.rd_base.specs.declared.journal.Key.{Key}
 use Rattle.rd_base.specs.declared.journal.Item.{Item}
 use Rattle.rd_base.specs.declared.journal.Item.TheVariants.{Came, Ran, Sent}
@@ -14,7 +14,7 @@ use Rattle.rd_irp.specs.declared.completion.Head.{Head}
 use Rattle.rd_irp.specs.declared.completion.Kind.{Kind}
 use Rattle.rd_irp.specs.declared.completion.Reply.{Reply}
 use Rattle.rd_irp.specs.declared.request.Request.{Request}
-use Rattle.rd_irp.specs.Fits.{reply_kind}
+use Rattle.rd_irp.specs.Fits.{kind_of}
 use Rattle.rd_irp.specs.Request.{SpellsRequest}
 use Rattle.rd_irp.specs.Completion.{SpellsHead, SpellsBody}
 use Rattle.rd_irp.specs.Written.{request_bytes}
@@ -26,23 +26,20 @@ use Rattle.rd_chunk.specs.Frames.{One}
 use Rattle.rd_chunk.specs.Standing.{Held, StandsFor}
 use Rattle.rd_session.specs.declared.run_no.RunNo.{RunNo}
 use Rattle.rd_session.specs.declared.run_no.RunNo.TheVariants as no
-use Rattle.rd_session.specs.declared.recording.End.TheVariants.{Host, Client}
+use Rattle.rd_session.specs.declared.recording.Side.TheVariants.{Host, Client}
 use Rattle.rd_script.specs.declared.outcome.Outcome.{Outcome}
 use Rattle.rd_script.specs.declared.outcome.Outcome.TheVariants as outcome
-use Rattle.rd_script.specs.Asked.{Asked, Answered}
+use Rattle.rd_script.specs.Asks.{HandleOp, ReplyOfKind}
 use Rattle.rd_session.specs.Outcomes.{opens, given_file, file_named, request_to}
 use Rattle.rd_session.specs.Recording.{Entry, Passed, entry_bytes, entries_of}
 use Rattle.rd_session.specs.Told.{Completes, completion_written}
 use Rattle.rd_session.specs.Session.{key_at}
 
--- it holds, unless memory ran out
-abbrev pub ForWire : Type 0 → RunNo → Type 0
-ForWire P no.Wire = P
-ForWire P no.Memory = Unit {0}
-
--- the number of faults of the wire never falls, and a step ends for the wire only where it rose
+-- A step that ended for the recording counts one fault of it, and any other none.
 abbrev pub CountsWire : {T : Type 0} → Result T RunNo → ℕ → ℕ → Type 0
-CountsWire result old new = (old ≤ new) × IfErr result (ForWire (Rose old new))
+CountsWire (Ok x) old new = new ≡ old
+CountsWire (Err no.Wire) old new = new ≡ one_more old
+CountsWire (Err no.Memory) old new = new ≡ old
 
 -- a joiner between two messages
 abbrev pub IsIdle : Held → Type 0
@@ -82,8 +79,8 @@ abbrev pub stored_under : Key → Reply → List Item
 stored_under key reply = Came key ∷ Ran key 0 (is_starved reply) false ∷ Sent key ∷ []
 
 -- what the application hears: the reply, of the request's kind
-abbrev pub answer_in : Exchange → Answered
-answer_in e = record { kind = reply_kind e.request.op; status = e.reply.status; body = e.reply.body }
+abbrev pub answer_in : Exchange → ReplyOfKind
+answer_in e = record { kind = kind_of e.request.op; status = e.reply.status; body = e.reply.body }
 
 -- The messages can be carried, they spell the request and its completion with the reply, as this program writes them, and no
 -- memory is never the reply to a Close.
@@ -112,7 +109,7 @@ pub record Serves (request : Request) (key : Key) (drive left : DriveState) (jou
 
 -- What an application hears in the frames of a completion of this kind: its status and body, whatever device and completion id
 -- it names. Any tail may follow.
-pub record HearsIn (kind : Kind) (frames : List ℕ) (answered : Answered) : Type 0 where
+pub record HearsIn (kind : Kind) (frames : List ℕ) (answered : ReplyOfKind) : Type 0 where
   pub message : List ℕ
   pub carried : One message frames
   pub device : ℕ
@@ -133,7 +130,7 @@ pub record Ends : Type 0 where
 
 -- What a request that went from end to end left: its exchange, on the drive, in the journal and in the recording, and the answer,
 -- which is the drive's reply.
-pub record Exchanges (request : Request) (answered : Answered) (before after : Ends) : Type 0 where
+pub record Exchanges (request : Request) (answered : ReplyOfKind) (before after : Ends) : Type 0 where
   pub exchange : Exchange
   pub request_is : exchange.request ≡ request
   pub sound : IsExchange exchange
@@ -145,7 +142,7 @@ pub record Exchanges (request : Request) (answered : Answered) (before after : E
 
 -- How a line ended. Refused: its handle holds no file, and both ends are as before. Answered: its request, for the file that its
 -- handle holds, was exchanged, and this is its answer; an open's handle holds what it gave, and the others what they held.
-abbrev pub EndsIn : Asked → Outcome → Ends → Ends → Type 0
+abbrev pub EndsIn : HandleOp → Outcome → Ends → Ends → Type 0
 EndsIn asked outcome.NoHandle before after = (file_named before.files asked ≡ None) × (after ≡ before)
 EndsIn asked (outcome.Done answered) before after =
     (file : ℕ) × (file_named before.files asked ≡ Some file) × Exchanges (request_to asked.op file) answered before after ×

@@ -6,13 +6,13 @@ use Rattle.rd_irp.specs.declared.op.Op.TheVariants as op
 use Rattle.rd_irp.specs.declared.completion.Body.{Body}
 use Rattle.rd_irp.specs.declared.completion.Body.TheVariants as body
 use Rattle.rd_irp.specs.declared.request.Request.{Request}
-use Rattle.rd_script.specs.Asked.{Asked, Answered}
+use Rattle.rd_script.specs.Asks.{HandleOp, ReplyOfKind}
 use Rattle.rd_script.specs.declared.outcome.Outcome.{Outcome}
 use Rattle.rd_script.specs.declared.outcome.Outcome.TheVariants as outcome
 
 -- a line that ended: what it asked for, and how it ended
 abbrev pub Ended : Type 0
-Ended = Asked × Outcome
+Ended = HandleOp × Outcome
 
 -- whether an operation opens a file
 abbrev pub opens : Op → Bool
@@ -39,11 +39,11 @@ abbrev pub request_to : Op → ℕ → Request
 request_to op file = record { device = 1; file = file; completion = 0; op = op }
 
 -- the file that the request of a line names: 0 where it opens one, else the one that its handle holds, if it holds one
-abbrev pub file_named : (List ℕ → Option ℕ) → Asked → Option ℕ
+abbrev pub file_named : (List ℕ → Option ℕ) → HandleOp → Option ℕ
 file_named files asked = if opens asked.op then Some 0 else files asked.handle
 
 -- The request of a line behind lines that ended so; where its handle holds no file there is none.
-abbrev pub request_of : List Ended → Asked → Option Request
+abbrev pub request_of : List Ended → HandleOp → Option Request
 request_of ended asked = option_map (request_to asked.op) (file_named (λ name. held_file name ended) asked)
 
 -- the requests of lines behind lines that ended so, in order
@@ -52,13 +52,13 @@ requests_of ended [] = []
 requests_of ended (line ∷ lines) = option_to_list (request_of ended line.0) ++ requests_of (ended ++ line ∷ []) lines
 
 -- what a line was answered, if its request was
-abbrev pub answers_in : Outcome → List Answered
+abbrev pub answers_in : Outcome → List ReplyOfKind
 answers_in (outcome.Done answered) = answered ∷ []
 answers_in outcome.NoHandle = []
 
 -- Each line has one outcome. It is a refusal exactly where the line's handle holds no file by the lines before it. The others
 -- send these requests, in order, and the m-th of them has the m-th of these answers.
-pub record AreOutcomes (asks : List Asked) (outcomes : List Outcome) (requests : List Request) (answers : List Answered) : Type 0 where
+pub record AreOutcomes (asks : List HandleOp) (outcomes : List Outcome) (requests : List Request) (answers : List ReplyOfKind) : Type 0 where
   pub one_each : length outcomes ≡ length asks
   pub refused : (before : List Ended) (line : Ended) (behind : List Ended) → zip asks outcomes ≡ before ++ line ∷ behind → (line.1 ≡ outcome.NoHandle) ↔ IsNone (request_of before line.0)
   pub sent : requests ≡ requests_of [] (zip asks outcomes)

@@ -2,16 +2,16 @@
 use Rattle.std.specs.Prelude.{ℕ, Bool, true, false, List, [], ◌∷◌, ◌++◌, map, codes}
 use Rattle.std.specs.List.{flat_map}
 use Rattle.rd_chunk.specs.Carrier.{frames_for}
-use Rattle.rd_session.specs.declared.recording.End.{End}
-use Rattle.rd_session.specs.declared.recording.End.TheVariants.{Host, Client}
+use Rattle.rd_session.specs.declared.recording.Side.{Side}
+use Rattle.rd_session.specs.declared.recording.Side.TheVariants.{Host, Client}
 
--- an entry of a recording: a channel begins, it ended, or an end sent a frame
+-- an entry of a recording: a channel begins, it ended, or a side sent a frame
 pub data Entry : Type 0 where
   begins ends : Entry
-  sends : End → List ℕ → Entry
+  sends : Side → List ℕ → Entry
 
--- the byte in front of a frame, by the end that sent it
-abbrev pub mark : End → ℕ
+-- the byte before a frame, by the side that sent it
+abbrev pub mark : Side → ℕ
 mark Host = 0
 mark Client = 1
 
@@ -19,23 +19,23 @@ mark Client = 1
 abbrev pub entry_bytes : Entry → List ℕ
 entry_bytes begins = 2 ∷ []
 entry_bytes ends = 3 ∷ []
-entry_bytes (sends end frame) = mark end ∷ frame
+entry_bytes (sends side frame) = mark side ∷ frame
 
 -- the bytes of a recording: the magic, and the entries
 abbrev pub recording_of : List Entry → List ℕ
 recording_of entries = codes "RDRREC01" ++ flat_map entry_bytes entries
 
--- a message that passed, and the end that sent it
+-- a message that passed, and the side that sent it
 abbrev pub Passed : Type 0
-Passed = End × List ℕ
+Passed = Side × List ℕ
 
--- the entries of a message: the frames in which this project carries it, one behind another
+-- the entries of a message: the frames in which this project carries it, one after another
 abbrev pub entries_of : Passed → List Entry
 entries_of passed = map (λ frame. sends passed.0 frame) (frames_for passed.1)
 
 -- the bytes of the entries of a message
-abbrev pub recorded_bytes : End → List ℕ → List ℕ
-recorded_bytes end message = flat_map entry_bytes (entries_of (end, message))
+abbrev pub recorded_bytes : Side → List ℕ → List ℕ
+recorded_bytes side message = flat_map entry_bytes (entries_of (side, message))
 
 -- whether the host sent it
 abbrev pub is_host : Passed → Bool

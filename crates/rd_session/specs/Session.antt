@@ -8,15 +8,15 @@ use Rattle.rd_base.specs.declared.journal.Item.TheVariants.{Ran, Cut, Cancelled}
 use Rattle.rd_base.specs.Lawful.{IsLawful, IsUnparked, named_key}
 use Rattle.rd_irp.specs.declared.completion.Reply.{Reply}
 use Rattle.rd_irp.specs.declared.request.Request.{Request}
-use Rattle.rd_irp.specs.Fits.{reply_kind}
+use Rattle.rd_irp.specs.Fits.{kind_of}
 use Rattle.rd_irp.specs.Request.{SpellsRequest}
 use Rattle.rd_irp.specs.Written.{request_bytes}
 use Rattle.rd_chunk.specs.Carrier.{IsMessage}
 use Rattle.rd_drive.specs.DriveState.{DriveState}
 use Rattle.rd_drive.specs.Replies.{replies_of, StarvesNoClose}
-use Rattle.rd_session.specs.declared.recording.End.TheVariants.{Host, Client}
+use Rattle.rd_session.specs.declared.recording.Side.TheVariants.{Host, Client}
 use Rattle.rd_script.specs.declared.outcome.Outcome.{Outcome}
-use Rattle.rd_script.specs.Asked.{Asked, Answered}
+use Rattle.rd_script.specs.Asks.{HandleOp, ReplyOfKind}
 use Rattle.rd_session.specs.Outcomes.{AreOutcomes}
 use Rattle.rd_session.specs.Recording.{Entry, Passed, entries_of}
 use Rattle.rd_session.specs.Told.{Told, Counted, InOrder, Completes, completion_written}
@@ -51,13 +51,13 @@ abbrev pub Asks : Request → List ℕ → Type 0
 Asks request message = SpellsRequest request 0 message × (message ≡ request_bytes request)
 
 -- the reply of which an answer tells
-abbrev pub reply_in : Answered → Reply
+abbrev pub reply_in : ReplyOfKind → Reply
 reply_in answered = record { status = answered.status; body = answered.body }
 
 -- the application hears this answer in the completion of its request, which is as this program writes it
-abbrev pub Hears : Request × Answered → List ℕ → Type 0
+abbrev pub Hears : Request × ReplyOfKind → List ℕ → Type 0
 Hears heard message =
-    (heard.1.kind ≡ reply_kind heard.0.op) × Completes heard.0 (reply_in heard.1) message × (message ≡ completion_written heard.0 (reply_in heard.1))
+    (heard.1.kind ≡ kind_of heard.0.op) × Completes heard.0 (reply_in heard.1) message × (message ≡ completion_written heard.0 (reply_in heard.1))
 
 -- the one lawful history of the drive: each key that it names is a request on the wire, each run at the script's moment, and
 -- nothing else happened to the drive
@@ -71,7 +71,7 @@ pub record IsHistory (requests : Key → Request) (asked : List Request) (journa
 
 -- The session of a drive that begins in a state, and of an application that asks for this: these outcomes came of it, this journal
 -- was stored, and these entries stand in the recording behind the channel's begin.
-pub record IsSession (start : DriveState) (asks : List Asked) (outcomes : List Outcome) (journal : List Item) (recorded : List Entry) : Type 0 where
+pub record IsSession (start : DriveState) (asks : List HandleOp) (outcomes : List Outcome) (journal : List Item) (recorded : List Entry) : Type 0 where
   -- the requests that were sent, and the messages of each and of its completion; nothing else passed
   pub asked : List Request
   pub sent : List (List ℕ)
@@ -91,6 +91,6 @@ pub record IsSession (start : DriveState) (asks : List Asked) (outcomes : List O
   pub completed : length completions ≡ length asked
   pub in_order : InOrder 1 1 passed journal
   -- each line of the application has its one outcome: the reply in its completion, or that its handle holds no file
-  pub answers : List Answered
+  pub answers : List ReplyOfKind
   pub outcomes_are : AreOutcomes asks outcomes asked answers
   pub heard : AllZip Hears (zip asked answers) completions

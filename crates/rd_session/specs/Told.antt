@@ -9,7 +9,7 @@ use Rattle.rd_base.specs.declared.journal.Item.TheVariants.{Ran, Cancelled, Sent
 use Rattle.rd_irp.specs.declared.completion.Reply.{Reply}
 use Rattle.rd_irp.specs.declared.completion.Body.TheVariants.{Fault}
 use Rattle.rd_irp.specs.declared.request.Request.{Request}
-use Rattle.rd_irp.specs.Fits.{reply_kind}
+use Rattle.rd_irp.specs.Fits.{kind_of}
 use Rattle.rd_irp.specs.Completion.{SpellsHead, SpellsBody}
 use Rattle.rd_irp.specs.Header.{io_request, io_completion}
 use Rattle.rd_irp.specs.Written.{header_bytes, completion_bytes}
@@ -31,12 +31,12 @@ IsAnswer replies journal key reply = Contains replies (key, reply) ⊎ (Contains
 pub record Completes (request : Request) (reply : Reply) (message : List ℕ) : Type 0 where
   pub head : SpellsHead (record { device = request.device; completion = request.completion; status = reply.status }) (length (drop 16 message)) message
   pub tail : ℕ
-  pub body : SpellsBody (reply_kind request.op) reply.status reply.body tail (drop 16 message)
+  pub body : SpellsBody (kind_of request.op) reply.status reply.body tail (drop 16 message)
 
 -- the completion of a request with a reply, as this program writes it: every pad is zeros
 abbrev pub completion_written : Request → Reply → List ℕ
 completion_written request reply =
-    completion_bytes (reply_kind request.op) (record { device = request.device; completion = request.completion; status = reply.status }) reply.body
+    completion_bytes (kind_of request.op) (record { device = request.device; completion = request.completion; status = reply.status }) reply.body
 
 -- the key on this channel of which an entry says that its completion was handed out
 abbrev pub sent_key : ℕ → Item → Option Key
@@ -60,37 +60,37 @@ Told channel requests replies journal completions = AllZip (CompletesKey request
 abbrev pub has_pair : ℕ → ℕ → Request → Bool
 has_pair device completion request = request.device == device && request.completion == completion
 
--- whether a completion names them, in the eight bytes behind its header (MS-RDPEFS 2.2.1.5)
+-- whether a completion names them, in the eight bytes after its header (MS-RDPEFS 2.2.1.5)
 abbrev pub names_pair : ℕ → ℕ → List ℕ → Bool
 names_pair device completion message = bytes_eq (take 8 (drop 4 message)) (to_le_bytes w32 device ++ to_le_bytes w32 completion)
 
--- Of each pair of a device and a completion id, the m-th completion answers the m-th request.
+-- Of each pair of a device and a completion id, the m-th completion completes the m-th request.
 abbrev pub Counted : (Key → Request) → List (Key × Reply) → List Item → List Key → List (List ℕ) → Type 0
-Counted requests replies journal keys messages = (device completion : ℕ) → device < 2 ^ 32 → completion < 2 ^ 32 →
-    let asked = filter (λ key. has_pair device completion (requests key)) keys in
-    let told = filter (names_pair device completion) messages in
-    (length told ≤ length asked) × AllZip (CompletesKey requests replies journal) (take (length told) asked) told
+Counted requests replies journal keys completions = (device completion : ℕ) → device < 2 ^ 32 → completion < 2 ^ 32 →
+    let with_pair = filter (λ key. has_pair device completion (requests key)) keys in
+    let of_pair = filter (names_pair device completion) completions in
+    (length of_pair ≤ length with_pair) × AllZip (CompletesKey requests replies journal) (take (length of_pair) with_pair) of_pair
 
 -- the place of a key's run in the journal
 abbrev pub RanAt : List Item → ℕ → Key → Type 0
 RanAt journal place key = (moment : ℕ) × (starved : Bool) × (parked : Bool) × (slice_get journal place ≡ Some (Ran key moment starved parked))
 
--- a message that names a device, in the four bytes behind its header
+-- whether a message names a device, in the four bytes after its header
 abbrev pub names_device : ℕ → List ℕ → Bool
 names_device device message = bytes_eq (take 4 (drop 4 message)) (to_le_bytes w32 device)
 
--- the host asks some device for something
+-- whether it is a request of the host for some device
 abbrev pub is_request : Passed → Bool
 is_request passed = is_host passed && bytes_eq (take 4 passed.1) (header_bytes io_request)
 
--- the client completes what the device was asked for
+-- whether it is a completion of the client for the device
 abbrev pub completes : ℕ → Passed → Bool
 completes device passed = is_client passed && bytes_eq (take 4 passed.1) (header_bytes io_completion) && names_device device passed.1
 
--- At each moment of a channel, what a device completed before it ran before what it is asked behind it. The indices of its keys
+-- At each moment of a channel, what a device completed before it ran before what is requested of it after it. The indices of its keys
 -- count the requests of the channel.
 abbrev pub InOrder : ℕ → ℕ → List Passed → List Item → Type 0
-InOrder device channel passed journal = (before behind : List Passed) (k l : Key) → passed ≡ before ++ behind →
+InOrder device channel passed journal = (before after : List Passed) (k l : Key) → passed ≡ before ++ after →
     Contains (take (count_by (completes device) before) (sent_keys channel journal)) k →
     l.channel ≡ channel → count_by is_request before ≤ l.index →
     (i j : ℕ) → RanAt journal i k → RanAt journal j l → i < j

@@ -2,7 +2,7 @@
 
 ghost use Rattle.std.specs.Prelude.{◌≡◌, ◌≤◌, ◌<◌, ◌+◌, ◌-◌, ◌^◌, [], ℕ, List, length, IfOk, IsOkUnless, OnOk};
 ghost use Rattle.rd_chunk.specs.Frames.{One};
-ghost use Rattle.rd_chunk.specs.Sizes.{most_message};
+ghost use Rattle.rd_chunk.specs.Sizes.{max_message};
 ghost use Rattle.rd_irp.specs.declared.request.Request.{Request};
 ghost use Rattle.rd_irp.specs.Request.{SpellsRequest};
 ghost use Rattle.rd_session.specs.Channel.{IsIdle, CarriesRequest, Serves};
@@ -52,7 +52,7 @@ impl Client {
         requires carried { CarriesRequest frames.now }
         requires few { self.old.asked < 2 ^ 64 - 1 }
         ensures some { IfOk result (λ completion. 1 ≤ length completion) }
-        ensures most { IfOk result (λ completion. length completion ≤ most_message) }
+        ensures most { IfOk result (λ completion. length completion ≤ max_message) }
         ensures memory { IsOkUnless result RunNo.Memory }
         ensures idle { OnOk result (IsIdle self.new.joiner) }
         ensures asked { OnOk result (self.new.asked ≡ self.old.asked + 1) }
@@ -73,7 +73,7 @@ impl Client {
     fn serve(&mut self, alloc: Global, request: Request) -> Result<Bytes, AllocError>
         requires few { self.old.asked < 2 ^ 64 - 1 }
         ensures some { IfOk result (λ completion. 1 ≤ length completion) }
-        ensures most { IfOk result (λ completion. length completion ≤ most_message) }
+        ensures most { IfOk result (λ completion. length completion ≤ max_message) }
         ensures joiner { self.new.joiner ≡ self.old.joiner }
         ensures asked { OnOk result (self.new.asked ≡ self.old.asked + 1) }
         ensures served { IfOk result (Serves request (key_at self.old.asked) self.old.drive self.new.drive self.old.journal.items self.new.journal.items) }

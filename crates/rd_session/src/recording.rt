@@ -1,9 +1,9 @@
-//! The recording of a session: each frame as it is sent, by either end.
+//! The recording of a session: each frame as it is sent, by either side.
 
 ghost use Rattle.std.specs.Prelude.{◌≡◌, ℕ, List, [], ◌∷◌, OnOk, OnErr};
 ghost use Rattle.std.specs.Io.KnownBytes.{Appends};
-ghost use Rattle.rd_base.specs.Faults.{CountsFaults};
-ghost use Rattle.rd_base.specs.Fronts.{AppendsFront};
+ghost use Rattle.rd_base.specs.Faults.{CountsFault};
+ghost use Rattle.rd_base.specs.Prefixes.{AppendsPrefix};
 ghost use Rattle.rd_chunk.specs.Carrier.{carrier_of};
 ghost use Rattle.rd_session.specs.Channel.{CountsWire};
 ghost use Rattle.rd_session.specs.Recording.{begins, recorded_bytes, recording_of};
@@ -19,50 +19,55 @@ const OPENING: &[u8] = b"RDRREC01\x02";
 /// The bytes of each frame of a message but the last.
 const FRAME_LEN: usize = HEAD_LEN + CHUNK_LEN;
 
-/// Which end sent a frame.
+/// Which side sent a frame.
 #[derive(Clone, Copy, Debug, PartialEq, Eq)]
-pub enum End {
+pub enum Side {
     Host,
     Client,
 }
 
-impl End {
+impl Side {
     ghost use Rattle.std.specs.Prelude.{◌≡◌};
     ghost use Rattle.rd_session.specs.Recording.{mark};
 
-    /// The byte in front of a frame of this end.
+    /// The byte before a frame of this side.
     fn mark(self) -> u8
         ensures { result ≡ mark self }
     {
         match self {
-            End::Host => 0,
-            End::Client => 1,
+            Side::Host => 0,
+            Side::Client => 1,
         }
     }
 }
 
 /// Writes the magic and the begin of a channel.
-pub fn begin_recording<R: Sink>(wire: &mut R) -> Result<(), Failed>
-    ensures counted { CountsFaults result (R.faults wire.old) (R.faults wire.new) }
-    ensures begun { OnOk result (Appends (R.held wire.old) (R.held wire.new) (recording_of (begins ∷ []))) }
-    ensures front { OnErr result (AppendsFront (R.held wire.old) (R.held wire.new) (recording_of (begins ∷ []))) }
+pub fn begin_recording<R: Sink>(recording: &mut R) -> Result<(), Failed>
+    ensures counted { CountsFault result (R.faults recording.old) (R.faults recording.new) }
+    ensures begun { OnOk result (Appends (R.held recording.old) (R.held recording.new) (recording_of (begins ∷ []))) }
+    ensures prefix { OnErr result (AppendsPrefix (R.held recording.old) (R.held recording.new) (recording_of (begins ∷ []))) }
 {
-    write_all(wire, OPENING)
+    write_all(recording, OPENING)
 }
 
-/// Writes the frames of one message, each behind the mark of its sender.
-pub fn record<R: Sink>(alloc: Global, wire: &mut R, end: End, frames: &[u8]) -> Result<(), RunNo>
-    ensures counted { CountsWire result (R.faults wire.old) (R.faults wire.new) }
+/// Writes the frames of one message, each after the mark of its sender.
+pub fn record<R: Sink>(
+    alloc: Global,
+    recording: &mut R,
+    side: Side,
+    frames: &[u8],
+) -> Result<(), RunNo>
+    ensures counted { CountsWire result (R.faults recording.old) (R.faults recording.new) }
     ensures recorded { OnOk result ((message : List ℕ) → frames.now ≡ carrier_of message →
-        Appends (R.held wire.old) (R.held wire.new) (recorded_bytes end message)) }
-    ensures front { OnErr result ((message : List ℕ) → frames.now ≡ carrier_of message →
-        AppendsFront (R.held wire.old) (R.held wire.new) (recorded_bytes end message)) }
+        Appends (R.held recording.old) (R.held recording.new) (recorded_bytes side message)) }
+    ensures prefix { OnErr result ((message : List ℕ) → frames.now ≡ carrier_of message →
+        AppendsPrefix (R.held recording.old) (R.held recording.new) (recorded_bytes side message)) }
 {
     let marks = frames.len().div_ceil(FRAME_LEN);
     let mut entries = Vec::with_capacity(alloc, frames.len().saturating_add(marks))?;
     for frame in frames.chunks(FRAME_LEN) {
-        entries.push(end.mark())?;
+        entries.push(side.mark())?;
         entries.extend_from_slice(frame)?;
     }
-    Ok(write_all(wire, entries.as_slice())?)
+    Ok(write_all(recording, entries.as_slice())?)
 }

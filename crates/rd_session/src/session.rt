@@ -7,13 +7,13 @@ ghost use Rattle.rd_irp.specs.Fits.{Fits};
 ghost use Rattle.rd_session.specs.Recording.{Entry, entry_bytes};
 ghost use Rattle.rd_session.specs.Channel.{IsIdle, CountsWire, Exchanges, EndsIn, ends_of, file_under};
 ghost use Rattle.rd_session.specs.Early.{EndedEarly, PartOf, PartOfLine};
-ghost use Rattle.rd_script.specs.Asked.{CanBeSent};
+ghost use Rattle.rd_script.specs.Asks.{CanBeSent};
 ghost use Rattle.rd_session.specs.Outcomes.{request_to, file_named};
 ghost use Rattle.rd_session.specs.Session.{IsSession};
 
 use crate::client::Client;
 use crate::host::Host;
-use crate::recording::{End, record};
+use crate::recording::{Side, record};
 use crate::run_no::RunNo;
 use rd_base::{Journal, Sink};
 use rd_chunk::split;
@@ -119,9 +119,9 @@ fn exchange<R: Sink>(
 {
     let message = write_request(alloc, request)?;
     let asked = split(alloc, message.as_slice())?;
-    record(alloc, wire, End::Host, asked.as_slice())?;
+    record(alloc, wire, Side::Host, asked.as_slice())?;
     let completion = client.hear(alloc, asked.as_slice())?;
     let answered = split(alloc, completion.as_slice())?;
-    record(alloc, wire, End::Client, answered.as_slice())?;
+    record(alloc, wire, Side::Client, answered.as_slice())?;
     host.hear(alloc, kind_of(&request.op), answered.as_slice())
 }

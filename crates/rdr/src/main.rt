@@ -1,43 +1,37 @@
 //! `rdr`: both ends of Remote Desktop drive redirection.
 //!
-//! It makes the real input, output and recording, and leaves the rest to `rd_cli::run`.
+//! It makes the real input, output and notes, and leaves the rest to `command`.
 #![tactic(auto)]
 
-use rd_base::{Books, FileSink, StdSink, StdSource};
-use std::process::ExitCode;
-use std::rt::Env;
-use std::{env, io};
+mod command;
+mod words;
 
-/// Where the recording goes, in the current folder.
-const RECORDING: &str = "rdr.rec";
+use command::{Ended, command};
+use rd_base::{StdSink, StdSource};
+use std::fs::File;
+use std::io;
+use words::words_of;
 
-/// The exit status where memory runs out before the words are known.
-const OUT_OF_MEMORY: u8 = 6;
+/// A folder that every system has.
+const ROOT: &str = "/";
 
-fn main(rt: HostRuntime) -> ExitCode {
-    let Ok(words) = words_of(&rt) else {
-        return ExitCode::from(OUT_OF_MEMORY);
-    };
+fn main(rt: HostRuntime) -> Ended {
+    // These take the lowest free descriptors, so that no file of ours stands in for a standard stream that is closed: a folder can
+    // be neither read nor written.
+    let _closed = [ROOT; 3].map(|path| File::open(&rt, path));
+    let words = words_of(&rt);
     let mut input = StdSource::new(rt.reader());
     let mut output = StdSink::new(io::writer(&rt));
-    let mut recording = FileSink::new(&rt, RECORDING);
-    let mut books = Books::new(rt.alloc());
-    let status = rd_cli::run(
-        rt.alloc(),
-        words.as_slice(),
-        &mut input,
-        &mut output,
-        &mut recording,
-        &mut books,
-    );
-    ExitCode::from(status)
+    let mut notes = StdSink::new(rt.stderr());
+    let ended = command(&rt, words, &mut input, &mut output, &mut notes);
+    say_why(&rt, "standard input", input.last_error());
+    say_why(&rt, "standard output", output.last_error());
+    ended
 }
 
-/// The words behind the program's name. Where they aren't text they are no command, as no words are.
-fn words_of<R: Env + AllocGlobal>(rt: &R) -> io::Result<Vec<String>> {
-    match env::args(rt) {
-        Ok(args) => Ok(args.skip(1).collect(rt.alloc())?),
-        Err(error) if error.kind() == io::ErrorKind::InvalidData => Ok(Vec::new(rt.alloc())),
-        Err(error) => Err(error),
+/// Says on the standard error which stream failed, and the system's reason.
+fn say_why(rt: &HostRuntime, stream: &str, error: Option<&io::Error>) {
+    if let Some(error) = error {
+        let _ = eprintln!(rt; "rdr: {stream}: {error}");
     }
 }

@@ -1,4 +1,4 @@
-use Rattle.rd_chunk.proofs.Carriers.{stream_carried}
+use Rattle.rd_chunk.proofs.CarrierLemmas.{stream_carried}
 use Rattle.rd_chunk.proofs.laws.carrier_carries.Goals as goal
 
 pub returns : goal.returns

@@ -1,5 +1,5 @@
-use Rattle.rd_chunk.proofs.Streams.{never_both}
-use Rattle.rd_chunk.proofs.Exists as exists
+use Rattle.rd_chunk.proofs.StreamLemmas.{never_both}
+use Rattle.rd_chunk.proofs.ChunkFaultLemmas as exists
 use Rattle.rd_chunk.proofs.laws.faulty_or_sound.Goals as goal
 
 pub returns-clause-either : goal.returns-clause-either

@@ -1,4 +1,4 @@
-use Rattle.rd_chunk.proofs.Places.{first_alone, last_alone}
+use Rattle.rd_chunk.proofs.FlagLemmas.{first_alone, last_alone}
 use Rattle.rd_chunk.proofs.laws.first_and_last_alone.Goals as goal
 
 pub returns-clause-first : goal.returns-clause-first

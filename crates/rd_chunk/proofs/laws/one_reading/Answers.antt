@@ -1,4 +1,4 @@
-use Rattle.rd_chunk.proofs.Streams as streams
+use Rattle.rd_chunk.proofs.StreamLemmas as streams
 use Rattle.rd_chunk.proofs.laws.one_reading.Goals as goal
 
 pub returns-clause-fault : goal.returns-clause-fault

@@ -1,4 +1,4 @@
-use Rattle.rd_chunk.proofs.Exists.{stands_clean}
+use Rattle.rd_chunk.proofs.ChunkFaultLemmas.{stands_clean}
 use Rattle.rd_chunk.proofs.laws.stands_without_fault.Goals as goal
 
 pub returns : goal.returns

@@ -1,4 +1,4 @@
-use Rattle.rd_chunk.proofs.Rows as rows
+use Rattle.rd_chunk.proofs.WorkedStreams as rows
 use Rattle.rd_chunk.proofs.laws.worked_streams.Goals as goal
 
 pub returns : goal.returns

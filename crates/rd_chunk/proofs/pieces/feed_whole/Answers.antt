@@ -1,7 +1,7 @@
 use Rattle.std.proofs.Common.{◌≡◌, ◌≤◌, ℕ, ◌+◌, ◌-◌, ◌++◌, ◌∷◌, [], List, take, drop, sym, ◌∙◌, arith, length, None, subst, length-take, length-drop}
 use Rattle.std.proofs.lemmas.Result.{err_from_is_err_and}
-use Rattle.rd_chunk.proofs.Steps.{if_bad}
-use Rattle.rd_chunk.proofs.Joins.{joined_on, joined_took, joined_fault, at_piece, all_piece}
+use Rattle.rd_chunk.proofs.TakesLemmas.{for_bad}
+use Rattle.rd_chunk.proofs.HasJoinedLemmas.{joined_on, joined_took, joined_fault, at_piece, all_piece}
 use Rattle.rd_chunk.specs.Standing.{Held, HasJoined, BringsFault}
 use Rattle.rd_chunk.specs.Streams.{IsFaultOf}
 use Rattle.rd_chunk.specs.declared.fault.ChunkBad.{ChunkBad}
@@ -11,7 +11,7 @@ pub returns-in_err-at-clause-fault : goal.returns-in_err-at-clause-fault
 returns-in_err-at-clause-fault c =
     let p = err_from_is_err_and c.from_residual.result c.from_residual.ensures.1 in
     let old = c.loop-at.joiner in
-    rw (p.1, p.2) (if_bad c.in_err-at.field-0.0
+    rw (p.1, p.2) (for_bad c.in_err-at.field-0.0
     (λ (bad : ChunkBad). (count : ℕ) × (count ≤ length (take (length c.args.piece.now - c.loop-at.at) (drop c.loop-at.at c.args.piece.now))) × BringsFault c.loop-at.joiner (take count (take (length c.args.piece.now - c.loop-at.at) (drop c.loop-at.at c.args.piece.now))) bad)
     (λ (bad : ChunkBad). (bytes : List ℕ) → HasJoined c.args.joiner.now c.args.messages.now.items bytes → IsFaultOf (bytes ++ c.args.piece.now) bad)
     (λ bad h bytes j. subst (λ (r : List ℕ). IsFaultOf r bad) (all_piece bytes c.args.piece.now c.loop-at.at h.0)
@@ -23,11 +23,11 @@ returns-in_err-at-clause-fault c =
 pub loop-at-preserved-in_ok-push : goal.loop-at-preserved-in_ok-push
 loop-at-preserved-in_ok-push c =
     let took = c.in-Some.ensures.next in
-    let items : c.push.new.self.items ≡ c.loop-at.messages.items ++ c.in-Some.message ∷ [] = c.in_ok-push.ensures.items in
+    let pushed : c.push.new.self.items ≡ c.loop-at.messages.items ++ c.in-Some.message ∷ [] = c.in_ok-push.ensures.items in
     record {
       in_piece = omega (arith, c.in_ok-at.ensures.count, length-take (length c.args.piece.now - c.loop-at.at) (drop c.loop-at.at c.args.piece.now), length-drop c.loop-at.at c.args.piece.now);
       none_waits = c.take.ensures.gone;
-      joined = λ bytes j. subst (λ (r : List (List ℕ)). HasJoined c.take.new.self r (bytes ++ take (c.loop-at.at + c.in_ok-at.field-0) c.args.piece.now)) (sym items)
+      joined = λ bytes j. subst (λ (r : List (List ℕ)). HasJoined c.take.new.self r (bytes ++ take (c.loop-at.at + c.in_ok-at.field-0) c.args.piece.now)) (sym pushed)
           (subst (HasJoined c.take.new.self (c.loop-at.messages.items ++ c.in-Some.message ∷ [])) (at_piece bytes c.args.piece.now c.loop-at.at c.in_ok-at.field-0)
           (joined_took c.loop-at.joiner c.feed.new.self c.take.new.self c.loop-at.messages.items c.in-Some.message (bytes ++ take c.loop-at.at c.args.piece.now)
           (take c.in_ok-at.field-0 (take (length c.args.piece.now - c.loop-at.at) (drop c.loop-at.at c.args.piece.now)))

@@ -2,18 +2,18 @@ use Rattle.std.proofs.Common.{ℕ, ◌++◌, List, take, subst, rules}
 use Rattle.std.specs.List.{concat}
 use Rattle.std.proofs.lemmas.List.{take_all}
 use Rattle.std.proofs.lemmas.Result.{err_from_is_err_and}
-use Rattle.rd_chunk.proofs.Steps.{if_bad}
-use Rattle.rd_chunk.proofs.Joins.{pieces_on, piece_fault, only_memory, joined_stream, sent_are}
-use Rattle.rd_chunk.specs.Standing.{HasJoined, IfBad}
+use Rattle.rd_chunk.proofs.TakesLemmas.{for_bad}
+use Rattle.rd_chunk.proofs.HasJoinedLemmas.{pieces_on, piece_fault, only_memory, joined_stream, sent_are}
+use Rattle.rd_chunk.specs.Standing.{HasJoined, ForBad}
 use Rattle.rd_chunk.specs.Streams.{IsStream, IsFaultOf}
 use Rattle.rd_chunk.specs.declared.fault.ChunkBad.{ChunkBad}
 use Rattle.rd_chunk.proofs.pieces.join_pieces.Goals as goal
 use Rattle.rd_chunk.proofs.pieces.join_pieces.Goals.{After-drop-joiner-inside}
 
--- the answered fault is one of all pieces
-fault_is : (c : After-drop-joiner-inside) → IfBad c.in_err-feed_whole.field-0.0 (IsFaultOf (concat c.args.pieces.now))
+-- the returned fault is one of all pieces
+fault_is : (c : After-drop-joiner-inside) → ForBad (IsFaultOf (concat c.args.pieces.now)) c.in_err-feed_whole.field-0.0
 fault_is c =
-    if_bad c.in_err-feed_whole.field-0.0
+    for_bad c.in_err-feed_whole.field-0.0
     (λ (bad : ChunkBad). (bytes : List ℕ) → HasJoined c.loop-piece.joiner c.loop-piece.messages.items bytes → IsFaultOf (bytes ++ c.as_slice.result.now) bad)
     (IsFaultOf (concat c.args.pieces.now))
     (λ bad h. piece_fault c.args.pieces.now c.loop-piece.piece-index c.as_slice.result.now bad c.loop-piece-test.true (search rules)

@@ -1,5 +1,5 @@
 use Rattle.std.proofs.Common.{◌≡◌, ℕ, List, ap, sym, ◌∙◌, arith, length, subst, rules, None, false}
-use Rattle.rd_chunk.proofs.Steps.{take_one}
+use Rattle.rd_chunk.proofs.TakesLemmas.{take_one}
 use Rattle.rd_chunk.specs.Standing.{BringsFault, is_complete}
 use Rattle.rd_chunk.specs.Kept.{held_of}
 use Rattle.rd_chunk.proofs.progress.step.Goals as goal

@@ -1,7 +1,7 @@
 use Rattle.std.proofs.Common.{◌≡◌, ◌∷◌, [], arith, length, ap, length-append, sym, ◌∙◌, inl, inr, ◌⊎◌}
 use Rattle.std.proofs.lemmas.Bool.{cases_eq}
 use Rattle.rd_chunk.specs.Kept.{head_of}
-use Rattle.rd_chunk.proofs.Steps.{byte_in_range, byte_takes, byte_faulty, not_both}
+use Rattle.rd_chunk.proofs.TakesLemmas.{byte_in_range, byte_takes, byte_faulty, not_both}
 use Rattle.rd_chunk.proofs.progress.take_byte.Goals as goal
 
 pub returns-in-None : goal.returns-in-None
@@ -16,7 +16,7 @@ returns-in-None c =
           next.ensures.head next.ensures.have next.ensures.left at_4 at_12
           c.opened.ensures.head c.opened.ensures.have c.opened.ensures.early c.opened.ensures.left;
       counts = c.opened.ensures.taken ∙ next.ensures.taken;
-      takes = λ items e lacking. byte_takes p next.result items c.args.joined c.args.byte c.requires.in_range c.requires.in_head count e lacking
+      takes = λ message e lacking. byte_takes p next.result message c.args.joined c.args.byte c.requires.in_range c.requires.in_head count e lacking
           next.ensures.head next.ensures.have next.ensures.length next.ensures.taken c.opened.result next.ensures.left at_4 at_12
           c.opened.ensures.head c.opened.ensures.have c.opened.ensures.early c.opened.ensures.left c.opened.ensures.length c.opened.ensures.taken;
       fault = tt;
@@ -38,7 +38,7 @@ returns-in-Some c =
       in_range = tt;
       counts = tt;
       takes = tt;
-      fault = λ items e lacking. byte_faulty p next.result items c.args.joined c.args.byte c.requires.in_range c.requires.in_head count e lacking
+      fault = λ message e lacking. byte_faulty p next.result message c.args.joined c.args.byte c.requires.in_range c.requires.in_head count e lacking
           next.ensures.head next.ensures.have next.ensures.length next.ensures.taken c.in-Some.row c.place.result
           (λ four. sym (c.fault.ensures.size four) ∙ c.in-Some.is) (λ twelve. sym (c.fault.ensures.head twelve) ∙ c.in-Some.is)
           only c.place.ensures.fits c.place.ensures.at c.place.ensures.why;

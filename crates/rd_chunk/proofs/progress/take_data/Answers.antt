@@ -1,6 +1,6 @@
 use Rattle.std.proofs.Common.{◌≡◌, ◌≤◌, ℕ, ◌+◌, ◌++◌, arith, length, length-take, refl, List, take, ◌%◌, ◌^◌, ◌∙◌, ap, sym}
 use Rattle.std.proofs.lemmas.Grind.{common_steps}
-use Rattle.rd_chunk.proofs.Stands.{data_stands}
+use Rattle.rd_chunk.proofs.StandsForLemmas.{data_stands}
 use Rattle.rd_chunk.specs.Kept.{held_of}
 use Rattle.std.specs.Prelude.{None}
 use Rattle.rd_chunk.proofs.progress.take_data.Goals as goal

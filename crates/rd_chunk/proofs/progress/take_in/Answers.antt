@@ -1,8 +1,8 @@
 use Rattle.std.proofs.Common.{◌≤◌, ℕ, ◌+◌, ◌++◌, List, take, drop, ap, ◌∙◌, arith, length, None, append_assoc, length-take, length-drop, ◌-◌, vec_len, ◌%◌, ◌^◌, add_assoc}
-use Rattle.rd_chunk.proofs.Stands.{count_on}
+use Rattle.rd_chunk.proofs.StandsForLemmas.{count_on}
 use Rattle.std.proofs.lemmas.Result.{err_from_is_err_and}
 use Rattle.std.proofs.lemmas.Bool.{not_from_false}
-use Rattle.rd_chunk.proofs.Steps.{takes_then, faults_then, if_bad, not_complete}
+use Rattle.rd_chunk.proofs.TakesLemmas.{takes_then, faults_then, for_bad, not_complete}
 use Rattle.rd_chunk.specs.Standing.{BringsFault, is_complete}
 use Rattle.rd_chunk.specs.Kept.{held_of}
 use Rattle.rd_chunk.specs.declared.progress.Progress.{Progress}
@@ -13,7 +13,7 @@ pub returns-in_err-at-clause-fault : goal.returns-in_err-at-clause-fault
 returns-in_err-at-clause-fault c =
     let p = err_from_is_err_and c.from_residual.result c.from_residual.ensures.1 in
     let piece : List ℕ = c.args.piece.now in
-    rw (p.1, p.2) (if_bad c.in_err-at.field-0.0 (BringsFault (held_of c.loop-at.progress c.loop-at.message.items None) (take 1 (take (length c.args.piece.now - c.loop-at.at) (drop c.loop-at.at c.args.piece.now))))
+    rw (p.1, p.2) (for_bad c.in_err-at.field-0.0 (BringsFault (held_of c.loop-at.progress c.loop-at.message.items None) (take 1 (take (length c.args.piece.now - c.loop-at.at) (drop c.loop-at.at c.args.piece.now))))
     (λ (bad : ChunkBad). (count : ℕ) × (count ≤ length c.args.piece.now) × BringsFault (held_of c.args.progress.now c.args.message.now.items None) (take count c.args.piece.now) bad)
     (λ bad h. (c.loop-at.at + 1, omega arith, faults_then (held_of c.args.progress.now c.args.message.now.items None) (held_of c.loop-at.progress c.loop-at.message.items None) c.args.piece.now c.loop-at.at 1 bad c.loop-at.invariant.takes h))
     c.in_err-at.ensures.fault)
@@ -29,8 +29,8 @@ loop-at-preserved c = record {
   complete = λ e.
       let z = c.loop-at.invariant.complete e in
       let same = c.loop-at.invariant.start z in
-      absurd (not_complete c.is_whole.result (is_complete c.args.progress.now.left (vec_len c.args.message.now) c.args.progress.now.length)
-      (c.is_whole.ensures ∙ ap (λ (k : ℕ). is_complete c.loop-at.progress.left k c.loop-at.progress.length) (c.len.ensures ∙ same.2)
-      ∙ ap (λ (p : Progress). is_complete p.left (vec_len c.args.message.now) p.length) same.0) e (not_from_false c.is_whole.result c.if-not-is_whole.true));
+      absurd (not_complete c.is_done.result (is_complete c.args.progress.now.left (vec_len c.args.message.now) c.args.progress.now.length)
+      (c.is_done.ensures ∙ ap (λ (k : ℕ). is_complete c.loop-at.progress.left k c.loop-at.progress.length) (c.len.ensures ∙ same.2)
+      ∙ ap (λ (p : Progress). is_complete p.left (vec_len c.args.message.now) p.length) same.0) e (not_from_false c.is_done.result c.if-not-is_done.true));
   message = (c.loop-at.invariant.message.0 ++ c.step.ensures.message.0, c.step.ensures.message.1 ∙ ap (λ (r : List ℕ). r ++ c.step.ensures.message.0) c.loop-at.invariant.message.1 ∙ append_assoc c.args.message.now.items c.loop-at.invariant.message.0 c.step.ensures.message.0);
 }

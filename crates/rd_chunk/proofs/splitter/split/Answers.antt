@@ -1,8 +1,8 @@
 use Rattle.std.proofs.Common.{◌≡◌, ◌++◌, ap, ◌∙◌, sym, List, ℕ, add-one, subst, rules}
 use Rattle.rd_chunk.specs.Frames.{One}
 use Rattle.rd_chunk.specs.Carrier.{carrier_frame, carrier_frames, carrier_of}
-use Rattle.rd_chunk.proofs.Stands.{concat-push}
-use Rattle.rd_chunk.proofs.Carriers.{carrier_one}
+use Rattle.rd_base.proofs.ListLemmas.{concat-push}
+use Rattle.rd_chunk.proofs.CarrierLemmas.{carrier_one}
 use Rattle.rd_chunk.proofs.splitter.split.Goals as goal
 
 pub loop-k-preserved : goal.loop-k-preserved

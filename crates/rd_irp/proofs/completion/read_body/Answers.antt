@@ -1,5 +1,5 @@
 use Rattle.std.proofs.Common.{ap, length}
-use Rattle.rd_base.proofs.Decided.{reader_spells}
+use Rattle.rd_base.proofs.LayoutLemmas.{reader_spells}
 use Rattle.rd_irp.specs.Completion.{completion_body}
 use Rattle.rd_irp.proofs.completion.read_body.Goals as goal
 

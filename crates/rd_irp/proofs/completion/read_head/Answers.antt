@@ -1,4 +1,4 @@
-use Rattle.rd_irp.proofs.Heads.{head_spelled, head_enough}
+use Rattle.rd_irp.proofs.HeadLemmas.{head_spelled, head_enough}
 use Rattle.rd_irp.proofs.completion.read_head.Goals as goal
 
 pub returns-clause-spelled : goal.returns-clause-spelled

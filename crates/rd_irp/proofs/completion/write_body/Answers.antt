@@ -1,5 +1,5 @@
 use Rattle.std.proofs.Common.{rules}
-use Rattle.rd_irp.proofs.Spelled.{body_spelled}
+use Rattle.rd_irp.proofs.WrittenLemmas.{body_spelled}
 use Rattle.rd_irp.proofs.completion.write_body.Goals as goal
 
 pub returns-clause-written : goal.returns-clause-written

@@ -1,5 +1,5 @@
 use Rattle.rd_irp.specs.Completion.{completion_body}
-use Rattle.rd_irp.proofs.OneOf.{layout_one_of}
+use Rattle.rd_base.proofs.LayoutLemmas.{layout_one_of}
 use Rattle.rd_irp.proofs.laws.completion_body_is_decided.Goals as goal
 
 pub returns : goal.returns

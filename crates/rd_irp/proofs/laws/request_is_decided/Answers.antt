@@ -1,4 +1,4 @@
-use Rattle.rd_irp.proofs.OneOf.{request_one_of}
+use Rattle.rd_irp.proofs.RequestLemmas.{request_one_of}
 use Rattle.rd_irp.proofs.laws.request_is_decided.Goals as goal
 
 pub returns : goal.returns

@@ -1,4 +1,4 @@
-use Rattle.rd_irp.proofs.Paths.{path_met}
+use Rattle.rd_irp.proofs.PathLemmas.{path_met}
 use Rattle.rd_irp.proofs.request.read_path.Goals as goal
 
 pub returns : goal.returns

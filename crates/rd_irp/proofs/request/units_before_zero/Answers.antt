@@ -1,4 +1,4 @@
-use Rattle.rd_irp.proofs.Paths.{unit_more}
+use Rattle.rd_irp.proofs.PathLemmas.{unit_more}
 use Rattle.rd_irp.proofs.request.units_before_zero.Goals as goal
 
 pub loop-left-preserved : goal.loop-left-preserved

@@ -1,5 +1,5 @@
 use Rattle.std.proofs.Common.{arith, rules}
-use Rattle.rd_irp.proofs.Spelled.{request_spelled}
+use Rattle.rd_irp.proofs.WrittenLemmas.{request_spelled}
 use Rattle.rd_irp.proofs.request.write_request.Goals as goal
 
 pub returns-clause-written : goal.returns-clause-written

@@ -3,7 +3,7 @@ use Rattle.std.specs.Borrow.{Bor}
 use Rattle.std.specs.Prelude.{IfOk, codes, ◌↔◌}
 use Rattle.rd_script.specs.declared.grammar.Line.{Line}
 use Rattle.rd_script.specs.Grammar.{AreWordsOf}
-use Rattle.rd_script.proofs.Lines.{said_by, four_words, ask_shape}
+use Rattle.rd_script.proofs.LineLemmas.{said_by, four_words, ask_shape}
 use Rattle.rd_script.proofs.grammar.asking_line.Goals as goal
 use Rattle.rd_script.proofs.grammar.asking_line.Goals.{in_default-via-then-asking-lt2, in_default-via-else-asking-lt2+then-asking-lt3+in_default, in_default-via-else-asking-lt2+else-asking-lt3+then-asking-lt4, in_default-via-else-asking-lt2+else-asking-lt3+else-asking-lt4+then-asking-lt5+in-open+in_default, in_default-via-else-asking-lt2+else-asking-lt3+else-asking-lt4+then-asking-lt5+in_default, in_default-via-else-asking-lt2+else-asking-lt3+else-asking-lt4+else-asking-lt5}
 

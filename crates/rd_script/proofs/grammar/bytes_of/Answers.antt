@@ -2,7 +2,7 @@ use Rattle.std.proofs.Common.{◌≡◌, sym, ap, ◌∙◌, true, Some, inl, in
 use Rattle.std.specs.Prelude.{codes}
 use Rattle.std.proofs.lemmas.Slice.Eq.{bytes_eq-Decides}
 use Rattle.hex.specs.Hex.{decode_of}
-use Rattle.rd_script.proofs.Words.{dash_word, word_of_decoded, lower_word}
+use Rattle.rd_script.proofs.WordLemmas.{dash_word, word_of_decoded, lower_word}
 use Rattle.rd_script.proofs.grammar.bytes_of.Goals as goal
 
 pub returns-then-eq-clause-spelled : goal.returns-then-eq-clause-spelled

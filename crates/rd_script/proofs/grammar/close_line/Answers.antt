@@ -1,7 +1,7 @@
 use Rattle.std.specs.Prelude.{codes, ◌∷◌, []}
 use Rattle.rd_irp.specs.declared.op.Op.TheVariants as op
 use Rattle.rd_script.specs.Grammar.{AreWordsOf}
-use Rattle.rd_script.proofs.Lines.{found_same, IsAskLine, close_words}
+use Rattle.rd_script.proofs.LineLemmas.{found_same, IsAskLine, close_words}
 use Rattle.rd_script.proofs.grammar.close_line.Goals as goal
 
 pub returns : goal.returns

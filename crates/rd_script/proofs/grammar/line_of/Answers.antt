@@ -3,7 +3,7 @@ use Rattle.std.specs.Prelude.{◌↔◌, ◌==◌, map}
 use Rattle.std.specs.Borrow.{Bor}
 use Rattle.std.specs.List.{slice_split}
 use Rattle.rd_script.specs.Grammar.{AreWordsOf, IsTextOf}
-use Rattle.rd_script.proofs.Lines.{found_same, text_utf8, text_words}
+use Rattle.rd_script.proofs.LineLemmas.{found_same, text_utf8, text_words}
 use Rattle.rd_script.proofs.grammar.line_of.Goals as goal
 
 pub returns-in_default : goal.returns-in_default

@@ -3,7 +3,7 @@ use Rattle.std.specs.Borrow.{Bor}
 use Rattle.std.specs.Prelude.{IfOk, codes, ◌↔◌}
 use Rattle.rd_script.specs.declared.grammar.Line.{Line}
 use Rattle.rd_script.specs.Grammar.{AreWordsOf}
-use Rattle.rd_script.proofs.Lines.{said_by, four_words, line_shape}
+use Rattle.rd_script.proofs.LineLemmas.{said_by, four_words, line_shape}
 use Rattle.rd_script.proofs.grammar.line_of_words.Goals as goal
 use Rattle.rd_script.proofs.grammar.line_of_words.Goals.{in_default-via-then-words-lt1, in_default-via-else-words-lt1+else-words-lt3+then-words-lt4+in-drive+in_default, in_default-via-else-words-lt1+else-words-lt3+then-words-lt4+in_default, in_default-via-else-words-lt1+else-words-lt3+else-words-lt4+then-words-lt5+in-file+in_default, in_default-via-else-words-lt1+else-words-lt3+else-words-lt4+then-words-lt5+in_default, in_default-via-else-words-lt1+in_default, then-words-lt3, else-words-lt3+else-words-lt4+else-words-lt5}
 

@@ -1,7 +1,7 @@
 use Rattle.std.proofs.Common.{◌≡◌, sym, ◌∙◌, subst, ℕ, true}
 use Rattle.std.specs.Prelude.{IfSome, decimal, ◌<◌, ◌^◌, Option}
 use Rattle.rd_script.specs.Words.{IsNumber}
-use Rattle.rd_script.proofs.Words.{number_read, number_found, decimal_is_number}
+use Rattle.rd_script.proofs.WordLemmas.{number_read, number_found, decimal_is_number}
 use Rattle.rd_script.proofs.grammar.number_of.Goals as goal
 
 pub returns-then-is_number-clause-some : goal.returns-then-is_number-clause-some

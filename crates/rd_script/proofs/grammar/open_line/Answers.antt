@@ -3,7 +3,7 @@ use Rattle.std.specs.Prelude.{codes, ◌∷◌, [], ◌↔◌}
 use Rattle.rd_drive.specs.PlainPath.{IsPlainPath}
 use Rattle.rd_script.specs.Grammar.{AreWordsOf}
 use Rattle.rd_script.specs.declared.grammar.Line.{Line}
-use Rattle.rd_script.proofs.Lines.{found_same, IsAskLine, open_of, open_words}
+use Rattle.rd_script.proofs.LineLemmas.{found_same, IsAskLine, open_of, open_words}
 use Rattle.rd_script.proofs.grammar.open_line.Goals as goal
 
 pub returns : goal.returns

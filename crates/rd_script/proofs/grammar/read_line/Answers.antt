@@ -2,7 +2,7 @@ use Rattle.std.proofs.Common.{◌≡◌, sym, ap, ◌∙◌, ◌<◌, ◌^◌, a
 use Rattle.std.specs.Prelude.{codes, ◌∷◌, [], decimal}
 use Rattle.rd_irp.specs.declared.op.Op.TheVariants as op
 use Rattle.rd_script.specs.Grammar.{AreWordsOf}
-use Rattle.rd_script.proofs.Lines.{found_same, IsAskLine, read_words_at}
+use Rattle.rd_script.proofs.LineLemmas.{found_same, IsAskLine, read_words_at}
 use Rattle.rd_script.proofs.grammar.read_line.Goals as goal
 
 pub returns : goal.returns

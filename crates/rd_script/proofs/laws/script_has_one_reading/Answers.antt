@@ -1,4 +1,4 @@
-use Rattle.rd_script.proofs.Readings as readings
+use Rattle.rd_script.proofs.ScriptLemmas as readings
 use Rattle.rd_script.proofs.laws.script_has_one_reading.Goals as goal
 
 pub returns-clause-said : goal.returns-clause-said

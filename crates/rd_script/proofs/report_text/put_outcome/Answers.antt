@@ -4,15 +4,15 @@ use Rattle.rd_base.specs.Digits.{eight_digits}
 use Rattle.hex.specs.Hex.{encode_lower}
 use Rattle.rd_irp.specs.Written.{body_bytes}
 use Rattle.rd_script.specs.Report.{status_digits}
-use Rattle.rd_script.proofs.StatusDigits.{status_digits-shown}
+use Rattle.rd_script.proofs.StatusDigitsLemmas.{status_digits-shown}
 use Rattle.rd_script.proofs.report_text.put_outcome.Goals as goal
 
 -- a line as it is written is the line as it is defined
-line-parts : (before number end : List ℕ)
-    → before ++ (codes "1." ++ (number ++ (end ++ codes "\n"))) ≡ before ++ (codes "1." ++ number ++ end ++ 0x0a ∷ [])
-line-parts before number end = ap (λ xs. before ++ (codes "1." ++ xs)) (sym (append_assoc number end (0x0a ∷ [])))
+line-parts : (before number outcome : List ℕ)
+    → before ++ (codes "1." ++ (number ++ (outcome ++ codes "\n"))) ≡ before ++ (codes "1." ++ number ++ outcome ++ 0x0a ∷ [])
+line-parts before number outcome = ap (λ xs. before ++ (codes "1." ++ xs)) (sym (append_assoc number outcome (0x0a ∷ [])))
 
--- the same of the end of a line that was answered
+-- the same of a line with an answer
 done-parts : (shown status written body : List ℕ) → shown ≡ status → written ≡ body
     → codes " done " ++ (shown ++ (codes " " ++ (written ++ codes "\n"))) ≡ (codes " done " ++ status ++ codes " " ++ body) ++ codes "\n"
 done-parts shown status written body e f = rw (e, f)

@@ -9,5 +9,5 @@ abbrev pub invariant-loop-frame : goal.invariant-loop-frame
 invariant-loop-frame g l = record {
   goes : (goal.iterator-loop-frame g).can_next l.frame-iterator × (goal.iterator-loop-frame g).is_finite l.frame-iterator;
   size : chunks_size l.frame-iterator ≡ 1612;
-  left : (message : List ℕ) → l.fn.frames ≡ carrier_of message → IsLeft l.fn.end message l.entries.items (chunks_rest l.frame-iterator);
+  left : (message : List ℕ) → l.fn.frames ≡ carrier_of message → IsLeft l.fn.side message l.entries.items (chunks_rest l.frame-iterator);
 }

@@ -2,7 +2,8 @@ use Rattle.std.proofs.Common.{sym, subst, ◌∙◌}
 use Rattle.std.proofs.lemmas.Result.{IfOk-weaker}
 use Rattle.rd_irp.specs.declared.completion.Kind.{Kind}
 use Rattle.rd_session.specs.Channel.{CarriesCompletion, HearsIn}
-use Rattle.rd_session.proofs.Early.{of_error, part_completion, part_front, part_none, part_request, part_whole}
+use Rattle.rd_base.proofs.ResultLemmas.{on_err_of}
+use Rattle.rd_session.proofs.Early.{part_completion, part_front, part_none, part_request, part_whole}
 use Rattle.rd_session.proofs.Joined.{served, carries_reply, request_is_message, exchanged}
 use Rattle.rd_session.proofs.session.exchange.Goals as goal
 
@@ -38,24 +39,24 @@ returns-clause-exchanged g c =
     heard
 
 pub returns-in_err-asked-clause-early : goal.returns-in_err-asked-clause-early
-returns-in_err-asked-clause-early g c = of_error c.from_residual-in_err-asked.result _ (part_none c.args.client.now.drive c.args.request.now _)
+returns-in_err-asked-clause-early g c = on_err_of c.from_residual-in_err-asked.result _ (part_none c.args.client.now.drive c.args.request.now _)
 
 pub returns-in_err-record-clause-early : goal.returns-in_err-record-clause-early
 returns-in_err-record-clause-early g c =
     let message = c.in_ok-message.message in
-    of_error c.from_residual-in_err-record.result _
-    (part_front c.args.client.now.drive c.args.request.now message _ _ c.in_ok-message.ensures.written (c.in_err-record.ensures.front message (c.as_slice-2.ensures ∙ rw c.as_slice.ensures at c.in_ok-asked.ensures.stream)))
+    on_err_of c.from_residual-in_err-record.result _
+    (part_front c.args.client.now.drive c.args.request.now message _ _ c.in_ok-message.ensures.written (c.in_err-record.ensures.prefix message (c.as_slice-2.ensures ∙ rw c.as_slice.ensures at c.in_ok-asked.ensures.stream)))
 
 pub returns-in_err-completion-clause-early : goal.returns-in_err-completion-clause-early
 returns-in_err-completion-clause-early g c =
     let message = c.in_ok-message.message in
-    of_error c.from_residual-in_err-completion.result _
+    on_err_of c.from_residual-in_err-completion.result _
     (part_request c.args.client.now.drive c.args.request.now message _ _ c.in_ok-message.ensures.written (c.in_ok-record.ensures.recorded message (c.as_slice-2.ensures ∙ rw c.as_slice.ensures at c.in_ok-asked.ensures.stream)))
 
 pub returns-in_err-answered-clause-early : goal.returns-in_err-answered-clause-early
 returns-in_err-answered-clause-early g c =
     let message = c.in_ok-message.message in
-    of_error c.from_residual-in_err-answered.result _
+    on_err_of c.from_residual-in_err-answered.result _
     (part_request c.args.client.now.drive c.args.request.now message _ _ c.in_ok-message.ensures.written (c.in_ok-record.ensures.recorded message (c.as_slice-2.ensures ∙ rw c.as_slice.ensures at c.in_ok-asked.ensures.stream)))
 
 pub returns-in_err-record-2-clause-early : goal.returns-in_err-record-2-clause-early
@@ -67,8 +68,8 @@ returns-in_err-record-2-clause-early g c =
     let read = rw c.as_slice-3.ensures at c.in_ok-completion.ensures.served in
     let own = served request read.1 _ _ _ _ _ message c.in_ok-asked.asked completion read.0 read.2 c.in_ok-message.ensures.spelled one_sent read.3 read.4 read.5 in
     let first = c.in_ok-record.ensures.recorded message (c.as_slice-2.ensures ∙ rw c.as_slice.ensures at c.in_ok-asked.ensures.stream) in
-    let second = c.in_err-record-2.ensures.front completion (c.as_slice-5.ensures ∙ rw c.as_slice-4.ensures at c.in_ok-answered.ensures.stream) in
-    of_error c.from_residual-in_err-record-2.result _ (part_completion _ _ request own.reply message completion _ _ _ c.in_ok-message.ensures.written own.written own.ran own.close_fed first second)
+    let second = c.in_err-record-2.ensures.prefix completion (c.as_slice-5.ensures ∙ rw c.as_slice-4.ensures at c.in_ok-answered.ensures.stream) in
+    on_err_of c.from_residual-in_err-record-2.result _ (part_completion _ _ request own.reply message completion _ _ _ c.in_ok-message.ensures.written own.written own.ran own.close_fed first second)
 
 pub returns-clause-early : goal.returns-clause-early
 returns-clause-early g c =
@@ -80,4 +81,4 @@ returns-clause-early g c =
     let own = served request read.1 _ _ _ _ _ message c.in_ok-asked.asked completion read.0 read.2 c.in_ok-message.ensures.spelled one_sent read.3 read.4 read.5 in
     let first = c.in_ok-record.ensures.recorded message (c.as_slice-2.ensures ∙ rw c.as_slice.ensures at c.in_ok-asked.ensures.stream) in
     let second = c.in_ok-record-2.ensures.recorded completion (c.as_slice-5.ensures ∙ rw c.as_slice-4.ensures at c.in_ok-answered.ensures.stream) in
-    of_error c.hear-2.result _ (part_whole _ _ request own.reply message completion _ _ _ c.in_ok-message.ensures.written own.written own.ran own.close_fed first second)
+    on_err_of c.hear-2.result _ (part_whole _ _ request own.reply message completion _ _ _ c.in_ok-message.ensures.written own.written own.ran own.close_fed first second)

@@ -1,12 +1,12 @@
-use Rattle.std.proofs.Common.{◌≤◌}
+use Rattle.std.proofs.Common.{◌≡◌}
 use Rattle.rd_session.specs.Channel.{IsIdle, ends_of}
 use Rattle.rd_session.proofs.SoFar.{Lines}
 use Rattle.rd_session.proofs.session.run_session.Given as goal
 
--- The wire's count didn't fall so far, both joiners are between two messages, and the session stands behind the lines that ended.
+-- No fault of the wire was counted so far, both joiners are between two messages, and the session stands behind the lines that ended.
 abbrev pub invariant-loop-ask : goal.invariant-loop-ask
 invariant-loop-ask g l = record {
-  counted : g.R.Sink.faults l.fn.wire ≤ g.R.Sink.faults l.wire;
+  counted : g.R.Sink.faults l.wire ≡ g.R.Sink.faults l.fn.wire;
   host_idle : IsIdle l.host.joiner;
   client_idle : IsIdle l.client.joiner;
   lines : Lines l.fn.drive (g.R.Sink.held l.fn.wire) l.fn.asks.items l.fn.asks.len l.ask-iterator.rest.items l.ask-iterator.rest.len l.outcomes.items

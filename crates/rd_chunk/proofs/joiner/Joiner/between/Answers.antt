@@ -2,7 +2,7 @@ use Rattle.std.proofs.Common.{◌≡◌, ◌∙◌, ◌+◌, arith, subst, sym, 
 use Rattle.std.proofs.lemmas.Bool.{eqb-true, eq-eqb}
 use Rattle.rd_chunk.specs.Standing.{Held, StandsFor}
 use Rattle.rd_chunk.specs.Kept.{held_of, head_of}
-use Rattle.rd_chunk.proofs.Starts.{nothing_came, nothing_held}
+use Rattle.rd_chunk.proofs.BetweenLemmas.{nothing_came, nothing_held}
 use Rattle.rd_chunk.proofs.joiner.Joiner.between.Goals as goal
 
 pub returns-then-is_none-clause-stands : goal.returns-then-is_none-clause-stands

@@ -1,5 +1,5 @@
 use Rattle.std.proofs.Common.{ℕ, arith, None, refl, ap, take}
-use Rattle.rd_chunk.proofs.Starts.{fresh}
+use Rattle.rd_chunk.proofs.BetweenLemmas.{fresh}
 use Rattle.rd_chunk.specs.Kept.{held_of}
 use Rattle.rd_chunk.proofs.joiner.Joiner.new.Goals as goal
 

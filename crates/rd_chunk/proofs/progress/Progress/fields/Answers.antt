@@ -1,5 +1,5 @@
 use Rattle.std.proofs.Common.{sym, ◌∙◌}
-use Rattle.rd_chunk.proofs.Heads.{size_at, length_at, flags_at}
+use Rattle.rd_chunk.proofs.HeadLemmas.{size_at, length_at, flags_at}
 use Rattle.rd_chunk.proofs.progress.Progress.fields.Goals as goal
 
 pub returns-clause-size : goal.returns-clause-size

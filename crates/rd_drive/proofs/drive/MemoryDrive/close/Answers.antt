@@ -4,9 +4,9 @@ use Rattle.rd_irp.specs.declared.completion.Body.TheVariants.{Closed}
 use Rattle.rd_drive.specs.Statuses.{invalid_handle}
 use Rattle.rd_drive.specs.DriveState.{DriveState}
 use Rattle.rd_drive.specs.Seen.{handle_entry}
-use Rattle.rd_drive.specs.DriveStep.{close_file, answered, refused}
+use Rattle.rd_drive.specs.DriveStep.{close_file, succeeded, refused}
 use Rattle.rd_drive.specs.contracts.drive.MemoryDrive.{the_view}
-use Rattle.rd_drive.proofs.Maps.{close_some, close_none}
+use Rattle.rd_drive.proofs.DriveStateLemmas.{close_some, close_none}
 use Rattle.rd_drive.proofs.drive.MemoryDrive.close.Goals as goal
 use Rattle.rd_drive.proofs.drive.MemoryDrive.close.Goals.{in-Some, in-None}
 
@@ -16,8 +16,8 @@ returns-clause-closed c =
     let after : DriveState = the_view (record c.self.inside { handles = c.remove.new.self }) in
     elim c.match-remove.branch [
       | in-Some w ↦
-          let found : close_file before c.args.file ≡ answered after Closed = close_some before c.self.inside.handles.entries c.remove.new.self.entries c.args.file w.in-Some.field-0 refl (sym c.remove.ensures.value ∙ w.in-Some.is) c.remove.ensures.entries in
-          let outcome : close_file c.args.self.now c.args.file ≡ answered after Closed = subst (λ (s : DriveState). close_file s c.args.file ≡ answered after Closed) c.self.view_is found in
+          let found : close_file before c.args.file ≡ succeeded after Closed = close_some before c.self.inside.handles.entries c.remove.new.self.entries c.args.file w.in-Some.field-0 refl (sym c.remove.ensures.value ∙ w.in-Some.is) c.remove.ensures.entries in
+          let outcome : close_file c.args.self.now c.args.file ≡ succeeded after Closed = subst (λ (s : DriveState). close_file s c.args.file ≡ succeeded after Closed) c.self.view_is found in
           (ap (λ p. p.0) outcome, ap (λ p. p.1) outcome ∙ sym w.success.ensures.reply ∙ sym w.result-is)
       | in-None w ↦
           let kept : c.remove.new.self.entries ≡ c.self.inside.handles.entries = subst (λ o. IfNone o (c.remove.new.self.entries ≡ c.self.inside.handles.entries)) w.in-None.is c.remove.ensures.unchanged in

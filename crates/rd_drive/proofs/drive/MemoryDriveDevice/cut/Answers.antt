@@ -2,7 +2,7 @@ use Rattle.std.proofs.Common.{◌≡◌, subst}
 use Rattle.rd_drive.specs.DriveState.{DriveState}
 use Rattle.rd_drive.specs.DriveStep.{drive_cut}
 use Rattle.rd_drive.specs.contracts.drive.MemoryDrive.{the_view}
-use Rattle.rd_drive.proofs.Maps.{cut_seen}
+use Rattle.rd_drive.proofs.DriveStateLemmas.{cut_seen}
 use Rattle.rd_drive.proofs.drive.MemoryDriveDevice.cut.Goals as goal
 
 pub returns : goal.returns

@@ -6,7 +6,7 @@ use Rattle.rd_drive.specs.DriveState.{DriveState, with_file}
 use Rattle.rd_drive.specs.AddsFile.{add_refusal}
 use Rattle.rd_script.specs.declared.script.Script.TheVariants as script
 use Rattle.rd_script.specs.ReadScript.{HoldsSaid}
-use Rattle.rd_script.proofs.Opening.{opening-push, added_other, refused_same, cause_is}
+use Rattle.rd_script.proofs.OpeningLemmas.{opening-push, added_other, refused_same, cause_is}
 use Rattle.rd_script.proofs.script.Script.add_file.Goals as goal
 
 pub returns-in-Ok : goal.returns-in-Ok

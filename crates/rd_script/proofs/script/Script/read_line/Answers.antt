@@ -1,6 +1,6 @@
 use Rattle.std.proofs.Common.{refl, ap, ◌∙◌, Some, None, inl}
 use Rattle.rd_script.specs.declared.grammar.Line.TheVariants as line
-use Rattle.rd_script.proofs.Reading.{finds_as, not_skipped, reads_line, reads_file, reads_none}
+use Rattle.rd_script.proofs.ReadLineLemmas.{finds_as, not_skipped, reads_line, reads_file, reads_none}
 use Rattle.rd_script.proofs.script.Script.read_line.Goals as goal
 
 pub returns-then-is_skipped : goal.returns-then-is_skipped

@@ -3,7 +3,7 @@ use Rattle.std.proofs.Common.{◌≡◌, ℕ, List, [], ◌∷◌, ◌++◌, ap,
 use Rattle.rd_base.specs.declared.journal.Item.{Item}
 use Rattle.rd_irp.specs.declared.completion.Head.{Head}
 use Rattle.rd_irp.specs.Completion.{SpellsHead}
-use Rattle.rd_irp.specs.Fits.{reply_kind}
+use Rattle.rd_irp.specs.Fits.{kind_of}
 use Rattle.rd_irp.specs.Written.{body_tail}
 use Rattle.rd_drive.specs.Starved.{is_starved}
 use Rattle.rd_session.proofs.client.Client.serve.Goals as goal
@@ -28,7 +28,7 @@ returns-clause-served c =
       kept = three_added _ _ _ _ _ _ _ _ c.reserve.ensures.items c.add.ensures.items (rw starved at c.add-2.ensures.items) c.add-3.ensures.items;
       completes = record {
         head = subst (λ (n : ℕ). SpellsHead head n completion) (omega (arith, made.length, length-drop 16 completion)) made.head;
-        tail = body_tail (reply_kind c.args.request.op) reply.body;
+        tail = body_tail (kind_of c.args.request.op) reply.body;
         body = rw c.kind_of-kind.ensures at made.body;
       };
       written = rw c.kind_of-kind.ensures at made.written;
