@@ -8,3 +8,9 @@ pub mod WrittenLemmas
 pub mod WrittenPathLemmas
 pub mod JournalLemmas
 pub mod WorkedJournals
+pub mod SizeLemmas
+pub mod MessageLemmas
+pub mod HeaderLemmas
+pub mod AppendLemmas
+pub mod SpellingLemmas
+pub mod CountedLemmas

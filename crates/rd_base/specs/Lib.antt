@@ -8,3 +8,6 @@ pub mod Reading
 pub mod Lawful
 pub mod Digits
 pub mod InMemory
+pub mod Header
+pub mod Spelling
+pub mod Counted

@@ -1,5 +1,5 @@
 -- A drive's state: its maps as the code keeps them, and what each operation does to them.
-use Rattle.std.proofs.Common.{◌≡◌, refl, sym, ap, ◌∙◌, subst, ℕ, suc, ◌<◌, ◌≤◌, ◌≢◌, arith, List, [], ◌∷◌, Bool, true, false, cond, length, take, drop, min, ◌-◌, ◌+◌, ◌++◌, ◌||◌, not}
+use Rattle.std.proofs.Common.{◌≡◌, refl, sym, ap, ◌∙◌, subst, ℕ, suc, ◌<◌, ◌≤◌, ◌≢◌, List, [], ◌∷◌, Bool, true, false, cond, length, take, drop, min, ◌-◌, ◌+◌, ◌++◌, ◌||◌, not}
 use Rattle.std.specs.Prelude.{◌==◌, nat_le, is_some, is_none, Vec, Some, None, map, option_map, Option, fold}
 use Rattle.std.specs.Ordering.{is_eq, nat_cmp, match_ordering}
 use Rattle.std.specs.Cmp.Lexicographic.{slice_cmp}

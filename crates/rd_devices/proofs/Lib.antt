@@ -1,0 +1,4 @@
+pub mod DeviceListLemmas
+pub mod RemovalLemmas
+pub mod DeviceReplyLemmas
+pub mod PrinterInfoLemmas
