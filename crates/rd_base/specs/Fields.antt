@@ -1,9 +1,9 @@
 -- The fields that layouts are made of.
-use Rattle.std.specs.Prelude.{◌≡◌, ℕ, zero, suc, ◌/◌, ◌%◌, ◌⊎◌, ◌==◌, min, not, All, ◌<◌, List, [], ◌∷◌, ◌++◌, take_while}
-use Rattle.std.specs.List.{flat_map}
-use Rattle.std.specs.Int.{w16, to_le_bytes, from_le_bytes}
-use Rattle.rd_base.specs.declared.bad.Why.TheVariants.{Length}
-use Rattle.rd_base.specs.Layout.{Layout, one_byte, two_bytes, four_bytes, eight_bytes, done, number, any_bytes, bytes_left, test, within, ◌>>=◌, ◌>>◌}
+use Rattle.std.specs.Prelude.{◌≡◌, ℕ, zero, suc, ◌/◌, ◌%◌, ◌⊎◌, ◌==◌, min, Bool, true, false, not, All, ◌<◌, List, [], ◌∷◌, ◌++◌, take_while}
+use Rattle.std.specs.List.{flat_map, list_all}
+use Rattle.std.specs.Int.{w8, w16, w32, w64, to_le_bytes, from_le_bytes}
+use Rattle.rd_base.specs.declared.bad.Why.TheVariants.{Length, Value}
+use Rattle.rd_base.specs.Layout.{Layout, Size, size_of, one_byte, two_bytes, four_bytes, eight_bytes, done, number, any_bytes, bytes_left, test, within, ◌>>=◌, ◌>>◌}
 
 -- a number of 8 bits
 abbrev pub number8 : Layout ℕ
@@ -73,3 +73,48 @@ AreUnitsOf path units = All (λ u. 0 < u) path × ((units ≡ path) ⊎ ((others
 -- the bytes of a path as it is written: its units, and a zero unit after them
 abbrev pub path_bytes : List ℕ → List ℕ
 path_bytes path = flat_map (λ u. to_le_bytes w16 u) (path ++ 0 ∷ [])
+
+-- a number that is true where it isn't 0
+abbrev pub flag : Layout Bool
+flag = do
+  n ← number8
+  done (not (n == 0))
+
+-- a number that has this value alone
+abbrev pub constant : Size → ℕ → Layout (Unit {0})
+constant s value = do
+  n ← number s
+  test (n == value) (size_of s) Value
+  done tt
+
+-- that many zero bytes
+abbrev pub zeros : ℕ → Layout (Unit {0})
+zeros count = do
+  field ← any_bytes count
+  test (list_all (λ b. b == 0) field) count Value
+  done tt
+
+-- The bytes of a number of 8 bits. These words and those below don't unfold by themselves, so that a goal about a writer shows its fields.
+unfoldable pub bytes8 : ℕ → List ℕ
+bytes8 n = to_le_bytes w8 n
+
+-- the bytes of a number of 16 bits, the lowest first
+unfoldable pub bytes16 : ℕ → List ℕ
+bytes16 n = to_le_bytes w16 n
+
+-- the bytes of a number of 32 bits, the lowest first
+unfoldable pub bytes32 : ℕ → List ℕ
+bytes32 n = to_le_bytes w32 n
+
+-- the bytes of a number of 64 bits, the lowest first
+unfoldable pub bytes64 : ℕ → List ℕ
+bytes64 n = to_le_bytes w64 n
+
+-- the bytes of units: two each, the lower byte first
+abbrev pub text_bytes : List ℕ → List ℕ
+text_bytes units = flat_map (λ u. to_le_bytes w16 u) units
+
+-- the number that a flag is written as
+abbrev pub flag_number : Bool → ℕ
+flag_number true = 1
+flag_number false = 0

@@ -79,3 +79,36 @@ pub enum InfoNo {
     #[error("out of memory")]
     Memory,
 }
+
+impl From<Bad> for InfoNo {
+    ghost use Rattle.rd_base.specs.declared.bad.InfoNo.TheVariants as no;
+
+    ghost from_gives = { λ b e. e ≡ no.Bad b };
+
+    fn from(bad: Bad) -> InfoNo {
+        InfoNo::Bad(bad)
+    }
+}
+
+impl From<ReadNo> for InfoNo {
+    ghost use Rattle.rd_base.specs.Classes.{info_no_of};
+
+    ghost from_gives = { λ b e. e ≡ info_no_of b };
+
+    fn from(error: ReadNo) -> InfoNo {
+        match error {
+            ReadNo::Bad(bad) => InfoNo::Bad(bad),
+            ReadNo::Memory => InfoNo::Memory,
+        }
+    }
+}
+
+impl From<AllocError> for InfoNo {
+    ghost use Rattle.rd_base.specs.declared.bad.InfoNo.TheVariants as no;
+
+    ghost from_gives = { λ _ e. e ≡ no.Memory };
+
+    fn from(_error: AllocError) -> InfoNo {
+        InfoNo::Memory
+    }
+}

@@ -16,6 +16,7 @@ mod bad;
 mod books;
 mod counted;
 mod cursor;
+mod fields;
 mod format;
 mod items;
 mod journal;
@@ -24,6 +25,7 @@ mod memory;
 mod moments;
 mod outside;
 mod packet;
+mod put_fields;
 mod standard;
 mod status;
 
@@ -34,6 +36,10 @@ pub use counted::{
     read_counted_bytes, read_eight, read_four_fields, read_two_fields,
 };
 pub use cursor::Cursor;
+pub use fields::{
+    read_constant_u8, read_constant_u32, read_flag, read_moments, read_path, read_text,
+    read_units_length, read_zeros,
+};
 pub use format::{
     Format, put_all, put_counted, read_counted, read_message, read_times, size_of_all,
     write_message,
@@ -46,6 +52,9 @@ pub use moments::Moments;
 pub use outside::{Failed, Sink, Source, write_all};
 pub use packet::{
     HEADER_LEN, Packet, packet_of, put_header, read_header, read_header_among, tail_len,
+};
+pub use put_fields::{
+    put_bytes, put_flag, put_moments, put_path, put_u8, put_u16, put_u32, put_u64, put_units,
 };
 pub use standard::{FileSink, StdSink, StdSource};
 pub use status::Status;

@@ -1,0 +1,6 @@
+use Rattle.rd_base.proofs.ClassLemmas.{class_one_of}
+use Rattle.rd_fileinfo.specs.FileInfo.{file_classes}
+use Rattle.rd_fileinfo.proofs.laws.file_info_is_decided.Goals as goal
+
+pub returns : goal.returns
+returns c = class_one_of file_classes c.args.class _ c.type_inv.bytes

@@ -1,0 +1,4 @@
+pub mod FileInfo
+pub mod SetInfo
+pub mod VolumeInfo
+pub mod Label
