@@ -9,7 +9,7 @@ use Rattle.rd_base.proofs.SpellingLemmas.{written}
 use Rattle.rd_base.proofs.CountedLemmas.{counted_bytes_last}
 use Rattle.rd_base.proofs.HeaderLemmas.{header_then}
 use Rattle.rd_devices.specs.declared.list.Announce.{Announce}
-use Rattle.rd_devices.specs.DeviceList.{most_devices, announce, device_list, announce_bytes, list_bytes, SpellsList}
+use Rattle.rd_devices.specs.DeviceList.{max_devices, announce, device_list, announce_bytes, list_bytes, SpellsList}
 
 pub announce_spelled : (a : Announce) → a.kind < 2 ^ 32 → a.id < 2 ^ 32 → length a.dos ≡ 8 → length a.body < 2 ^ 32 → IsSpelling announce a (announce_bytes a)
 unfolding announce
@@ -17,6 +17,6 @@ announce_spelled a kind id dos body = written announce a (announce_bytes a) λ a
     number_then a.kind kind (number_then a.id id (bytes_then a.dos dos (counted_bytes_last a.body body (done_last a after))))
 
 -- a whole list, whose count and devices are spelled
-pub list_spelled : (list : List Announce) → IsSpelling (counted four_bytes most_devices announce) list (items_and_count announce_bytes list) → SpellsList list 0 (list_bytes list)
+pub list_spelled : (list : List Announce) → IsSpelling (counted four_bytes max_devices announce) list (items_and_count announce_bytes list) → SpellsList list 0 (list_bytes list)
 unfolding device_list
 list_spelled list each = spells_all device_list list (list_bytes list) (header_then DeviceListAnnounce (record { spelled = each.whatever [] }))

@@ -8,10 +8,10 @@ use Rattle.rd_base.specs.Counted.{counted, items_and_count}
 use Rattle.rd_base.specs.Spelling.{IsSpelling}
 use Rattle.rd_base.proofs.WrittenLemmas.{spells_all}
 use Rattle.rd_base.proofs.HeaderLemmas.{header_then}
-use Rattle.rd_devices.specs.DeviceList.{most_devices}
+use Rattle.rd_devices.specs.DeviceList.{max_devices}
 use Rattle.rd_devices.specs.Removal.{removal, removal_bytes, SpellsRemoval}
 
 -- a whole removal, whose count and ids are spelled
-pub removal_spelled : (ids : List ℕ) → IsSpelling (counted four_bytes most_devices number32) ids (items_and_count (to_le_bytes w32) ids) → SpellsRemoval ids 0 (removal_bytes ids)
+pub removal_spelled : (ids : List ℕ) → IsSpelling (counted four_bytes max_devices number32) ids (items_and_count (to_le_bytes w32) ids) → SpellsRemoval ids 0 (removal_bytes ids)
 unfolding removal
 removal_spelled ids each = spells_all removal ids (removal_bytes ids) (header_then DeviceListRemove (record { spelled = each.whatever [] }))

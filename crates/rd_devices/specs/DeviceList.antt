@@ -10,8 +10,8 @@ use Rattle.rd_base.specs.Header.{header, header_bytes}
 use Rattle.rd_devices.specs.declared.list.Announce.{Announce}
 
 -- the most devices of a list or a removal
-abbrev pub most_devices : ℕ
-most_devices = 256
+abbrev pub max_devices : ℕ
+max_devices = 256
 
 -- DEVICE_ANNOUNCE, one device (2.2.1.3); what its data says depends on its kind
 unfoldable pub announce : Layout Announce
@@ -26,7 +26,7 @@ announce = do
 unfoldable pub device_list : Layout (List Announce)
 device_list = do
   header DeviceListAnnounce
-  counted four_bytes most_devices announce
+  counted four_bytes max_devices announce
 
 -- The bytes begin with a spelling of this list, and so many more stand after it.
 abbrev pub SpellsList : List Announce → ℕ → List ℕ → Type 0
@@ -50,4 +50,4 @@ IsCountable a = length a.body < 2 ^ 32
 
 -- a list that can be written
 abbrev pub IsWritableList : List Announce → Type 0
-IsWritableList list = (length list ≤ most_devices) × All IsCountable list
+IsWritableList list = (length list ≤ max_devices) × All IsCountable list

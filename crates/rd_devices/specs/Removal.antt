@@ -7,13 +7,13 @@ use Rattle.rd_base.specs.Layout.{Layout, four_bytes, ◌>>◌, Spells, FirstFaul
 use Rattle.rd_base.specs.Fields.{number32}
 use Rattle.rd_base.specs.Counted.{counted, items_and_count}
 use Rattle.rd_base.specs.Header.{header, header_bytes}
-use Rattle.rd_devices.specs.DeviceList.{most_devices}
+use Rattle.rd_devices.specs.DeviceList.{max_devices}
 
 -- the whole message: the ids of the devices
 unfoldable pub removal : Layout (List ℕ)
 removal = do
   header DeviceListRemove
-  counted four_bytes most_devices number32
+  counted four_bytes max_devices number32
 
 -- The bytes begin with a spelling of this removal, and so many more stand after it.
 abbrev pub SpellsRemoval : List ℕ → ℕ → List ℕ → Type 0
@@ -29,4 +29,4 @@ removal_bytes ids = header_bytes DeviceListRemove ++ items_and_count (to_le_byte
 
 -- a removal that can be written
 abbrev pub IsWritableRemoval : List ℕ → Type 0
-IsWritableRemoval ids = length ids ≤ most_devices
+IsWritableRemoval ids = length ids ≤ max_devices

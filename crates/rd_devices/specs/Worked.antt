@@ -2,6 +2,7 @@
 use Rattle.std.specs.Prelude.{ℕ, List, [], ◌∷◌, replicate}
 use Rattle.rd_devices.specs.declared.list.Announce.{Announce}
 use Rattle.rd_devices.specs.declared.reply.DeviceReply.{DeviceReply}
+use Rattle.rd_devices.specs.declared.printer.PrinterInfo.{PrinterInfo}
 
 -- a drive with the id 1 and the DOS name DATA
 abbrev pub drive : Announce
@@ -33,6 +34,15 @@ taken = record { id = 1; code = record { 0 = 0 } }
 
 abbrev pub taken_reply : List ℕ
 taken_reply = 0x72 ∷ 0x44 ∷ 0x72 ∷ 0x64 ∷ 1 ∷ 0 ∷ 0 ∷ 0 ∷ 0 ∷ 0 ∷ 0 ∷ 0 ∷ []
+
+-- a default printer with the driver ab, the name cd and the configuration e
+abbrev pub office : PrinterInfo
+office = record { flags = 2; page = 0; pnp = []; driver = 0x61 ∷ 0x62 ∷ []; name = 0x63 ∷ 0x64 ∷ []; config = 0x65 ∷ [] }
+
+abbrev pub office_data : List ℕ
+office_data =
+    2 ∷ 0 ∷ 0 ∷ 0 ∷ 0 ∷ 0 ∷ 0 ∷ 0 ∷ 0 ∷ 0 ∷ 0 ∷ 0 ∷ 2 ∷ 0 ∷ 0 ∷ 0 ∷ 2 ∷ 0 ∷ 0 ∷ 0 ∷ 1 ∷ 0 ∷ 0 ∷ 0
+    ∷ 0x61 ∷ 0x62 ∷ 0x63 ∷ 0x64 ∷ 0x65 ∷ []
 
 -- a printer's data that ends a byte early
 abbrev pub cut_printer : List ℕ

@@ -21,7 +21,7 @@ pub struct Announce {
     pub id: u32,
     /// PreferredDosName, filled up with zeros.
     pub dos: [u8; 8],
-    /// DeviceData, which depends on the kind: empty for a file system, `PrinterInfo` for a printer.
+    /// DeviceData, which depends on the kind: `PrinterInfo` for a printer; that of a file system is kept unread.
     pub body: Bytes,
 }
 
@@ -94,7 +94,8 @@ pub fn write_list(alloc: Global, list: &DeviceList) -> Result<Bytes, AllocError>
     Ok(Bytes::of(out))
 }
 
-/// Writes a list of devices after what the buffer holds.
+/// Writes a list of devices after what the buffer holds. Where memory runs out, the buffer may hold a part of it
+/// after that.
 #[tactic(auto, using(crate::proofs::DeviceListLemmas::list_spelled))]
 pub fn put_list(out: &mut Vec<u8>, list: &DeviceList) -> Result<(), AllocError>
     requires { IsWritableList list.now }

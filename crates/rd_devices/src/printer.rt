@@ -14,7 +14,7 @@ use std::alloc::{AllocError, Global};
 pub struct PrinterInfo {
     /// ASCII 1, default printer 2, network printer 4, terminal services printer 8, XPS format 0x10.
     pub flags: u32,
-    /// CodePage of the ANSI names, 0 where they are UTF-16.
+    /// CodePage, which is reserved.
     pub page: u32,
     /// PnPName.
     pub pnp: Bytes,
@@ -90,7 +90,8 @@ pub fn write_printer(alloc: Global, info: &PrinterInfo) -> Result<Bytes, AllocEr
     write_message(alloc, info)
 }
 
-/// Writes the data of a printer's announcement after what the buffer holds.
+/// Writes the data of a printer's announcement after what the buffer holds. Where memory runs out, the buffer may hold a part of it
+/// after that.
 pub fn put_printer(out: &mut Vec<u8>, info: &PrinterInfo) -> Result<(), AllocError>
     requires { IsWritablePrinter info.now }
     ensures { OnOk result (out.new.items ≡ out.old.items ++ printer_bytes info.now) }

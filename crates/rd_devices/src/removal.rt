@@ -44,7 +44,8 @@ pub fn write_removal(alloc: Global, removal: &Removal) -> Result<Bytes, AllocErr
     Ok(Bytes::of(out))
 }
 
-/// Writes a removal after what the buffer holds.
+/// Writes a removal after what the buffer holds. Where memory runs out, the buffer may hold a part of it
+/// after that.
 #[tactic(auto, using(crate::proofs::RemovalLemmas::removal_spelled))]
 pub fn put_removal(out: &mut Vec<u8>, removal: &Removal) -> Result<(), AllocError>
     requires { IsWritableRemoval removal.now }

@@ -72,7 +72,8 @@ pub fn write_reply(alloc: Global, reply: &DeviceReply) -> Result<Bytes, AllocErr
     write_message(alloc, reply)
 }
 
-/// Writes a reply after what the buffer holds.
+/// Writes a reply after what the buffer holds. Where memory runs out, the buffer may hold a part of it
+/// after that.
 pub fn put_reply(out: &mut Vec<u8>, reply: &DeviceReply) -> Result<(), AllocError>
     ensures { OnOk result (out.new.items ≡ out.old.items ++ reply_bytes reply.now) }
 {

@@ -10,7 +10,7 @@ use Rattle.rd_base.proofs.WrittenLemmas.{Written, done_last, layout_then, number
 use Rattle.rd_base.proofs.WrittenFieldLemmas.{constant_written, constant_then, zeros_then, moments_then, length_then, text_last}
 use Rattle.rd_dirinfo.specs.declared.entry.Entry.{Entry}
 use Rattle.rd_dirinfo.specs.declared.entry.Head.{Head}
-use Rattle.rd_dirinfo.specs.Entry.{entry_with, entry_named, links, entry_head, directory_entry, full_directory_entry, both_directory_entry, names_entry, entry_classes, sent_entry, entry_bytes, head_bytes, EntryFits, IsEntryInRange, SpellsEntry}
+use Rattle.rd_dirinfo.specs.Entry.{entry_with, entry_named, entry_start, entry_head, directory_entry, full_directory_entry, both_directory_entry, names_entry, entry_classes, sent_entry, entry_bytes, head_bytes, EntryFits, IsEntryInRange, SpellsEntry}
 
 -- a class of entries is one of the four
 one_of_four : (n : ℕ) → IsListed entry_classes n → (n ≡ 1) ⊎ ((n ≡ 2) ⊎ ((n ≡ 3) ⊎ (n ≡ 12)))
@@ -26,9 +26,9 @@ one_of_four n is = go (n == 1) (n == 2) (n == 3) (n == 12) refl refl refl refl i
     go false false false true e f g h is = inr (inr (inr (eqb-true n 12 h)))
     go false false false false e f g h is = absurd cc
 
-links_written : (after : List ℕ) → Written links tt (bytes32 0 ++ bytes32 0) after
-unfolding links bytes32
-links_written after = constant_then four_bytes 0 (lit< tt) (constant_written four_bytes 0 after (lit< tt))
+entry_start_written : (after : List ℕ) → Written entry_start tt (bytes32 0 ++ bytes32 0) after
+unfolding entry_start bytes32
+entry_start_written after = constant_then four_bytes 0 (lit< tt) (constant_written four_bytes 0 after (lit< tt))
 
 head_of : Entry → Head
 head_of e = record { moments = e.moments; end = e.end; allocation = e.allocation; attributes = e.attributes; name_len = 2 * length e.name }
@@ -36,7 +36,7 @@ head_of e = record { moments = e.moments; end = e.end; allocation = e.allocation
 head_written : (e : Entry) (after : List ℕ) → EntryFits e → IsEntryInRange e → Written entry_head (head_of e) (head_bytes e) after
 unfolding entry_head head_bytes head_of bytes32 bytes64 moments_bytes
 head_written e after f r =
-    layout_then tt (bytes32 0 ++ bytes32 0) (links_written _)
+    layout_then tt (bytes32 0 ++ bytes32 0) (entry_start_written _)
     (moments_then e.moments r.0 (number_then e.end r.1 (number_then e.allocation r.2 (number_then e.attributes r.3 (length_then (2 * length e.name) (length e.name) refl f (done_last _ after))))))
 
 entry_of_four : (n : ℕ) (e : Entry) → (n ≡ 1) ⊎ ((n ≡ 2) ⊎ ((n ≡ 3) ⊎ (n ≡ 12))) → EntryFits e → IsEntryInRange (sent_entry n e) → SpellsEntry n (sent_entry n e) 0 (entry_bytes n e)
@@ -53,7 +53,7 @@ entry_of_four n e which f =
       | inr (inr (inl is)) ↦ subst P (sym is) (λ r.
           spells_all both_directory_entry _ _ (layout_then (head_of e) (head_bytes e) (head_written e _ f r) (constant_then four_bytes 0 (lit< tt) (constant_then one_byte 0 (lit< tt) (zeros_then 24 (name r.4))))))
       | inr (inr (inr is)) ↦ subst P (sym is) (λ r.
-          spells_all names_entry _ _ (layout_then tt (bytes32 0 ++ bytes32 0) (links_written _) (length_then count (length e.name) refl f (text_last [] entry_named e.name count refl r.4))))
+          spells_all names_entry _ _ (layout_then tt (bytes32 0 ++ bytes32 0) (entry_start_written _) (length_then count (length e.name) refl f (text_last [] entry_named e.name count refl r.4))))
     ]
 
 pub entry_spelled : (n : ℕ) (e : Entry) → IsListed entry_classes n → EntryFits e → IsEntryInRange (sent_entry n e) → SpellsEntry n (sent_entry n e) 0 (entry_bytes n e)

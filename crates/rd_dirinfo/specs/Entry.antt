@@ -41,15 +41,15 @@ entry_named name = record {
 }
 
 -- NextEntryOffset and FileIndex: one entry stands alone, and has no index
-unfoldable pub links : Layout (Unit {0})
-links = do
+unfoldable pub entry_start : Layout (Unit {0})
+entry_start = do
   constant four_bytes 0
   constant four_bytes 0
 
 -- what every class but FileNamesInformation begins with, up to FileNameLength
 unfoldable pub entry_head : Layout Head
 entry_head = do
-  links
+  entry_start
   times ← moments
   end ← number64
   allocation ← number64
@@ -86,7 +86,7 @@ both_directory_entry = do
 -- an entry of FileNamesInformation (2.4.28)
 unfoldable pub names_entry : Layout Entry
 names_entry = do
-  links
+  entry_start
   count ← length_of_units
   name ← text count
   done (entry_named name)
@@ -116,7 +116,7 @@ sent_entry n e = if n == names then entry_named e.name else e
 abbrev pub EntryFits : Entry → Type 0
 EntryFits e = 2 * length e.name < 2 ^ 32
 
--- the bytes of the head of an entry: zero links, its numbers, and the length of its name
+-- the bytes of the head of an entry: eight zero bytes, its numbers, and the length of its name
 unfoldable pub head_bytes : Entry → List ℕ
 head_bytes e =
     bytes32 0 ++ bytes32 0 ++ moments_bytes e.moments ++ bytes64 e.end ++ bytes64 e.allocation ++ bytes32 e.attributes

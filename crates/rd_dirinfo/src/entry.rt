@@ -1,11 +1,10 @@
 //! The entries of a folder's listing (MS-FSCC 2.4).
 
-ghost use Rattle.std.specs.Prelude.{◌≡◌, ◌+◌, ◌*◌, ◌<◌, ◌≤◌, ◌^◌, ◌↔◌, ◌++◌, ℕ, All, IsTrue, IfOk, IfErr, OnOk, OnErr, length, vec_capacity, vec_len};
+ghost use Rattle.std.specs.Prelude.{◌≡◌, ◌+◌, ◌<◌, ◌≤◌, ◌^◌, ◌↔◌, ◌++◌, ℕ, IsTrue, IfOk, IfErr, OnOk, OnErr, vec_capacity, vec_len};
 ghost use Rattle.rd_base.specs.Classes.{IsListed, IsRefusal, IsUnlisted, ReadsOfClass};
-ghost use Rattle.rd_base.specs.Fields.{bytes32};
 ghost use Rattle.rd_base.specs.Moments.{MomentsFit};
 ghost use Rattle.rd_base.specs.Reading.{Reads, ReadsInto};
-ghost use Rattle.rd_dirinfo.specs.Entry.{both_directory, both_directory_entry, directory_entry, entry_bytes, entry_classes, entry_head, entry_with, full_directory_entry, links, head_bytes, names_entry, sent_entry, EntryFits, IsEntryInRange, IsUnwritten, SpellsEntry};
+ghost use Rattle.rd_dirinfo.specs.Entry.{both_directory, both_directory_entry, directory_entry, entry_bytes, entry_classes, entry_head, entry_with, full_directory_entry, entry_start, head_bytes, names_entry, sent_entry, EntryFits, IsEntryInRange, IsUnwritten, SpellsEntry};
 
 use rd_base::{
     Bad, Bytes, Cursor, InfoNo, Moments, ReadNo, Units, put_bytes, put_moments, put_u8, put_u32,
@@ -117,7 +116,7 @@ fn read_both_directory(alloc: Global, cursor: &mut Cursor<'_>) -> Result<Entry, 
 fn read_names(alloc: Global, cursor: &mut Cursor<'_>) -> Result<Entry, ReadNo>
     ensures { ReadsInto (λ entry. entry) names_entry cursor.old cursor.new result }
 {
-    read_links(cursor)?;
+    read_entry_start(cursor)?;
     let count = read_units_length(cursor)?;
     let name = read_text(alloc, cursor, count)?;
     let moments = Moments {
@@ -140,7 +139,7 @@ fn read_names(alloc: Global, cursor: &mut Cursor<'_>) -> Result<Entry, ReadNo>
 fn read_entry_head(cursor: &mut Cursor<'_>) -> Result<Head, Bad>
     ensures { Reads (λ head. head) entry_head cursor.old cursor.new result }
 {
-    read_links(cursor)?;
+    read_entry_start(cursor)?;
     let moments = read_moments(cursor)?;
     let end = cursor.u64()?;
     let allocation = cursor.u64()?;
@@ -175,9 +174,9 @@ fn entry_with(head: Head, name: Units) -> Entry
 }
 
 /// NextEntryOffset and FileIndex
-#[tactic(auto, unfolding(crate::specs::Entry::links))]
-fn read_links(cursor: &mut Cursor<'_>) -> Result<(), Bad>
-    ensures { Reads (λ u. u) links cursor.old cursor.new result }
+#[tactic(auto, unfolding(crate::specs::Entry::entry_start))]
+fn read_entry_start(cursor: &mut Cursor<'_>) -> Result<(), Bad>
+    ensures { Reads (λ u. u) entry_start cursor.old cursor.new result }
 {
     read_constant_u32(cursor, 0)?;
     read_constant_u32(cursor, 0)
@@ -266,7 +265,7 @@ fn append_both_directory(out: &mut Vec<u8>, entry: &Entry) -> Result<(), AllocEr
     Ok(())
 }
 
-/// The zero links, the numbers, and the length of the name.
+/// The zero entry_start, the numbers, and the length of the name.
 #[tactic(auto, unfolding(crate::specs::Entry::head_bytes))]
 fn put_head(out: &mut Vec<u8>, entry: &Entry)
     requires room { vec_len out.old + 64 ≤ vec_capacity out.old }

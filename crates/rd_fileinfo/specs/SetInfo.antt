@@ -32,7 +32,8 @@ basic_set = do
   attributes ← number32
   done (Basic times attributes)
 
--- The buffer of FileRenameInformation (2.4.37) as it is sent over this channel: no bytes are reserved, and RootDirectory is one byte.
+-- The buffer of FileRenameInformation as it is sent over this channel (MS-RDPEFS 2.2.3.3.9.1): no bytes are reserved, and RootDirectory is
+-- one byte.
 unfoldable pub rename_set : Layout SetInfo
 rename_set = do
   replace ← flag
@@ -41,7 +42,7 @@ rename_set = do
   units ← path count
   done (Rename replace units)
 
--- the buffer of FileDispositionInformation (2.4.11); without a byte it asks for the deletion
+-- the buffer of FileDispositionInformation (2.4.11); without a byte it asks for the deletion (MS-RDPEFS 2.2.3.3.9)
 unfoldable pub disposition_set : Layout SetInfo
 disposition_set = do
   left ← bytes_left

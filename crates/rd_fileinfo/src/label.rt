@@ -1,6 +1,6 @@
 //! The label that a volume is given (FileFsLabelInformation, MS-FSCC 2.5.5).
 
-ghost use Rattle.std.specs.Prelude.{◌≡◌, ◌<◌, ◌^◌, ◌↔◌, ◌++◌, ℕ, All, IsTrue, IfOk, IfErr, OnOk, OnErr};
+ghost use Rattle.std.specs.Prelude.{◌≡◌, ◌↔◌, ◌++◌, ℕ, IsTrue, IfOk, IfErr, OnOk, OnErr};
 ghost use Rattle.rd_base.specs.Reading.{ReadsInto, ForBad};
 ghost use Rattle.rd_fileinfo.specs.Label.{label_bytes, label_set, FirstFaultOfLabel, LabelFits, SpellsLabel};
 

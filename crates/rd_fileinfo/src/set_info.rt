@@ -36,7 +36,7 @@ pub enum SetInfo {
         moments: Moments,
         attributes: u32,
     },
-    /// FileRenameInformation (2.4.37).
+    /// FileRenameInformation (2.4.37), in the form of MS-RDPEFS 2.2.3.3.9.1.
     Rename {
         /// ReplaceIfExists
         replace: bool,

@@ -223,7 +223,8 @@ pub fn write_notice(alloc: Global, notice: &Notice) -> Result<Bytes, AllocError>
     write_message(alloc, notice)
 }
 
-/// Writes a notice after what the buffer holds.
+/// Writes a notice after what the buffer holds. Where memory runs out, the buffer may hold a part of it
+/// after that.
 pub fn put_notice(out: &mut Vec<u8>, notice: &Notice) -> Result<(), AllocError>
     requires { IsWritableNotice notice.now }
     ensures { OnOk result (out.new.items ≡ out.old.items ++ notice_bytes notice.now) }
