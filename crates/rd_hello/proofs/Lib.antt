@@ -1,0 +1,2 @@
+pub mod CapabilityLemmas
+pub mod HelloLemmas

@@ -1,0 +1,21 @@
+use Rattle.std.proofs.Common.{refl}
+use Rattle.rd_base.specs.Header.{component_field, header_among}
+use Rattle.rd_base.specs.Counted.{count_to}
+use Rattle.rd_hello.specs.Capability.{special, general, other, body_of, capability, sets}
+use Rattle.rd_hello.specs.Hello.{version, name, hello}
+use Rattle.rd_hello.proofs.laws.worked_faults.Goals as goal
+
+pub returns : goal.returns
+unfolding component_field header_among count_to version name special general other body_of capability sets hello
+returns c = record {
+  other_major = refl;
+  long_name = refl;
+  many_sets = refl;
+  low_length = refl;
+  low_general = refl;
+  low_second = refl;
+  cut_version = refl;
+  cut_body = refl;
+  other_protocol = refl;
+  request = refl;
+}
