@@ -9,7 +9,7 @@ use Rattle.rd_irp.specs.declared.completion.Body.TheVariants.{Buffer, Fault}
 use Rattle.rd_irp.specs.Fits.{IsReplyTo, IsOfKind, kind_of}
 use Rattle.rd_irp.specs.Written.{IsBodyInRange}
 use Rattle.rd_irp.specs.declared.op.Op.{Op}
-use Rattle.rd_irp.specs.declared.op.Op.TheVariants.{Create, Close, Read, Unknown, Malformed}
+use Rattle.rd_irp.specs.declared.op.Op.TheVariants.{Create, Close, Read, Malformed}
 use Rattle.rd_irp.specs.declared.completion.Reply.{Reply}
 use Rattle.rd_drive.specs.DriveState.{DriveState, Handle, handle_at, node_at}
 use Rattle.rd_drive.specs.DriveStep.{drive_step, is_served, is_full, bytes_of}
@@ -30,12 +30,12 @@ IsFed outcome = is_starved outcome.1 ≡ false
 -- No reply of a step is want of memory, so a journal's starved entries are those with that reply.
 pub is_starved-drive_step : (s : DriveState) (file : ℕ) (op : Op) (moment : ℕ) → is_starved (drive_step s file op moment).1 ≡ false
 is_starved-drive_step s file (Malformed major minor bad) moment = refl
-is_starved-drive_step s file (Unknown major minor) moment = refl
 is_starved-drive_step s file (Create access allocation attributes share disposition options path) moment =
     either IsFed (not (is_served access share disposition options path)) _ _ refl (either IsFed (is_full s) _ _ refl (either IsFed (is_none (node_at s path)) _ _ refl refl))
 is_starved-drive_step s file Close moment = on_some IsFed _ (handle_at s file) _ (λ handle. refl) refl
 is_starved-drive_step s file (Read offset count) moment =
     on_some IsFed _ (handle_at s file) _ (λ handle. either IsFed (count == 0) _ _ refl (either IsFed (nat_le (length (bytes_of s handle)) offset) _ _ refl refl)) refl
+is_starved-drive_step s file _ moment = refl
 
 abbrev Rises : DriveState → DriveState × Reply → Type 0
 Rises s outcome = s.next ≤ outcome.0.next
@@ -43,12 +43,12 @@ Rises s outcome = s.next ≤ outcome.0.next
 -- The next file id never falls, so an id that was given isn't given again.
 pub next-drive_step : (s : DriveState) (file : ℕ) (op : Op) (moment : ℕ) → s.next ≤ (drive_step s file op moment).0.next
 next-drive_step s file (Malformed major minor bad) moment = omega arith
-next-drive_step s file (Unknown major minor) moment = omega arith
 next-drive_step s file (Create access allocation attributes share disposition options path) moment =
     either (Rises s) (not (is_served access share disposition options path)) _ _ (omega arith) (either (Rises s) (is_full s) _ _ (omega arith) (either (Rises s) (is_none (node_at s path)) _ _ (omega arith) (omega arith)))
 next-drive_step s file Close moment = on_some (Rises s) _ (handle_at s file) _ (λ handle. omega arith) (omega arith)
 next-drive_step s file (Read offset count) moment =
     on_some (Rises s) _ (handle_at s file) _ (λ handle. either (Rises s) (count == 0) _ _ (omega arith) (either (Rises s) (nat_le (length (bytes_of s handle)) offset) _ _ (omega arith) (omega arith))) (omega arith)
+next-drive_step s file _ moment = omega arith
 
 -- A reply with which the operation may be completed, and whose numbers are in the ranges of their fields.
 pub record IsProper (op : Op) (reply : Reply) : Type 0 where
@@ -88,7 +88,6 @@ next_fits s room =
 -- With each reply of a step its operation may be completed.
 pub proper-drive_step : (s : DriveState) (file : ℕ) (op : Op) (moment : ℕ) → IsProper op (drive_step s file op moment).1
 proper-drive_step s file (Malformed major minor bad) moment = fault_proper (Malformed major minor bad) 0xc000_000d refl (lit< tt)
-proper-drive_step s file (Unknown major minor) moment = fault_proper (Unknown major minor) 0xc000_00bb refl (lit< tt)
 proper-drive_step s file (Create access allocation attributes share disposition options path) moment =
     let op = Create access allocation attributes share disposition options path in
     either (ProperFor op) (not (is_served access share disposition options path)) _ _ (fault_proper op 0xc000_00bb refl (lit< tt))
@@ -104,3 +103,4 @@ proper-drive_step s file (Read offset count) moment =
     (either (ProperFor op) (nat_le (length (bytes_of s handle)) offset) _ _ (fault_proper op 0xc000_0011 refl (lit< tt))
     (buffer_proper offset count (take (min count 1048576) (drop offset (bytes_of s handle))) (omega (arith, length-take (min count 1048576) (drop offset (bytes_of s handle)))))))
     (fault_proper op 0xc000_0008 refl (lit< tt))
+proper-drive_step s file op moment = fault_proper op 0xc000_00bb refl (lit< tt)

@@ -99,14 +99,19 @@ read s bytes offset count =
 abbrev pub read_file : DriveState → ℕ → ℕ → ℕ → DriveState × Reply
 read_file s file offset count = on_handle s file (λ handle. read s (bytes_of s handle) offset count)
 
--- What an operation with a file id does at a moment: the state after it, and its reply.
+-- A Create: of other ways to open than the served one none is supported.
+abbrev pub create_file : DriveState → ℕ → ℕ → ℕ → ℕ → Path → DriveState × Reply
+create_file s access share disposition options path =
+    checked s ((not (is_served access share disposition options path), not_supported) ∷ []) (open_file s path)
+
+-- What an operation with a file id does at a moment: the state after it, and its reply. Of the operations on files and folders only
+-- Create, Close and Read are served.
 abbrev pub drive_step : DriveState → ℕ → Op → ℕ → DriveState × Reply
 drive_step s file (op.Malformed major minor bad) moment = refused s invalid_parameter
-drive_step s file (op.Unknown major minor) moment = refused s not_supported
-drive_step s file (op.Create access allocation attributes share disposition options path) moment =
-    checked s ((not (is_served access share disposition options path), not_supported) ∷ []) (open_file s path)
+drive_step s file (op.Create access allocation attributes share disposition options path) moment = create_file s access share disposition options path
 drive_step s file op.Close moment = close_file s file
 drive_step s file (op.Read offset count) moment = read_file s file offset count
+drive_step s file _ moment = refused s not_supported
 
 -- Every handle is closed, in the order of the file ids.
 abbrev pub drive_cut : DriveState → DriveState

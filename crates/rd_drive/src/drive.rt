@@ -3,7 +3,7 @@
 ghost use Rattle.std.specs.Prelude.{◌≡◌, [], IfOk};
 ghost use Rattle.rd_drive.specs.AddsFile.{AddsFile};
 ghost use Rattle.rd_drive.specs.DriveState.{empty_drive};
-ghost use Rattle.rd_drive.specs.DriveStep.{drive_step, drive_cut, open_file, close_file, read_file, bytes_of};
+ghost use Rattle.rd_drive.specs.DriveStep.{drive_step, drive_cut, open_file, create_file, close_file, read_file, bytes_of};
 ghost use Rattle.rd_drive.specs.Statuses.{success};
 ghost use Rattle.rd_drive.specs.Starved.{Gives, is_starved, unless_starved};
 ghost use Rattle.rd_irp.specs.Fits.{BodyFits, IsSendable};
@@ -11,7 +11,7 @@ ghost use Rattle.rd_irp.specs.declared.completion.Kind.TheVariants as Kind;
 
 use crate::device::Device;
 use crate::path::is_plain_path;
-use crate::plan::{MAX_READ, Plan};
+use crate::plan::{Job, MAX_READ, Plan};
 use rd_base::{Bytes, Status, Units};
 use rd_irp::{Body, Op, Reply};
 use std::alloc::{AllocError, Global};
@@ -121,6 +121,30 @@ impl MemoryDrive {
         })
     }
 
+    /// Opens a file as far as this drive does: one that is there, for reading, shared by all.
+    fn create(
+        &mut self,
+        access: u32,
+        share: u32,
+        disposition: u32,
+        options: u32,
+        path: Units,
+    ) -> Reply
+        ensures fits { BodyFits Kind.Create result.status result.body }
+        ensures opened { Gives (unless_starved self.old (is_starved result) (create_file self.old access share disposition options path)) self.new result }
+        ensures sendable { IsSendable result.body }
+    {
+        if access == GENERIC_READ
+            && share == SHARE_ALL
+            && disposition == OPEN_EXISTING
+            && options == NO_OPTIONS
+            && is_plain_path(path.as_slice())
+        {
+            return self.open(path);
+        }
+        fault(Status::NOT_SUPPORTED)
+    }
+
     fn close(&mut self, file: u32) -> Reply
         ensures fits { BodyFits Kind.Close result.status result.body }
         ensures closed { Gives (close_file self.old file) self.new result }
@@ -193,19 +217,20 @@ impl Device for MemoryDrive {
             return fault(Status::NO_MEMORY);
         }
         let (job, room) = plan.into_parts();
-        match job.op {
+        let Job { file, op, .. } = job;
+        match op {
             Op::Malformed { .. } => fault(Status::INVALID_PARAMETER),
             Op::Create {
-                access: GENERIC_READ,
-                share: SHARE_ALL,
-                disposition: OPEN_EXISTING,
-                options: NO_OPTIONS,
+                access,
+                share,
+                disposition,
+                options,
                 path,
                 ..
-            } if is_plain_path(path.as_slice()) => self.open(path),
-            Op::Create { .. } | Op::Unknown { .. } => fault(Status::NOT_SUPPORTED),
-            Op::Close => self.close(job.file),
-            Op::Read { offset, length } => self.read(job.file, offset, length, room),
+            } => self.create(access, share, disposition, options, path),
+            Op::Close => self.close(file),
+            Op::Read { offset, length } => self.read(file, offset, length, room),
+            _unserved => fault(Status::NOT_SUPPORTED),
         }
     }
 

@@ -87,6 +87,14 @@ fn reads(rt: &(impl Abort + AllocGlobal), drive: &mut MemoryDrive) {
     }
 }
 
+/// Asserts that a query isn't served, whether or not its file is open.
+fn refuses(rt: &(impl Abort + AllocGlobal), drive: &mut MemoryDrive) {
+    for file in [1, 9] {
+        let query = Op::QueryFile { class: 5 };
+        replies(rt, drive, file, query, Status::NOT_SUPPORTED, (None, b""));
+    }
+}
+
 /// Asserts that a handle is closed once, and that a cut closes the rest.
 fn closes(rt: &(impl Abort + AllocGlobal), drive: &mut MemoryDrive) {
     for status in [Status::SUCCESS, Status::INVALID_HANDLE] {
@@ -104,6 +112,7 @@ fn opens_reads_and_closes(rt: HostRuntime) {
     assert_eq!(rt; added, [Ok(()), Err(AddNo::Collision)]);
     opens(&rt, &mut drive);
     reads(&rt, &mut drive);
+    refuses(&rt, &mut drive);
     closes(&rt, &mut drive);
 }
 

@@ -1,47 +1,14 @@
 -- The head of a completion: it is the first 16 bytes.
-use Rattle.std.proofs.Common.{Fits, ◌≡◌, ℕ, ◌+◌, ◌-◌, ◌≤◌, List, length, get_or, Bool, Result, Ok, Err, IfOk, OnOk, refl, ap, ◌∙◌, arith}
+use Rattle.std.proofs.Common.{Fits, ◌≡◌, ℕ, ◌+◌, ◌-◌, ◌≤◌, List, length, get_or, Result, Ok, Err, IfOk, OnOk, refl, arith}
 use Rattle.std.specs.Int.{w8}
-use Rattle.std.proofs.lemmas.List.{length-append}
 use Rattle.rd_base.specs.declared.bad.Bad.{Bad}
-use Rattle.rd_base.specs.declared.bad.Why.{Why}
 use Rattle.rd_base.specs.Position.{Position}
 use Rattle.rd_base.specs.Reading.{Reads}
-use Rattle.rd_base.specs.Layout.{Size, size_of, Layout, done, number, test, ◌>>=◌, IsSpelled}
-use Rattle.rd_base.proofs.NumberLemmas.{length-number}
+use Rattle.rd_base.proofs.SizeLemmas.{HasSize, size_done, size_number, size_then, sized_tail}
+use Rattle.rd_base.proofs.HeaderLemmas.{size_header}
 use Rattle.rd_base.proofs.LayoutLemmas.{reader_spells}
 use Rattle.rd_irp.specs.declared.completion.Head.{Head}
-use Rattle.rd_irp.specs.Header.{header}
 use Rattle.rd_irp.specs.Completion.{completion_head, SpellsHead}
-
--- whatever a layout spells has so many bytes
-pub record HasSize {A : Type 0} (n : ℕ) (l : Layout A) : Type 0 where
-  pub each : (a : A) (field after : List ℕ) → IsSpelled l a field after → length field ≡ n
-
-size_done : {A : Type 0} (x : A) → HasSize 0 (done x)
-size_done x = record { each = λ a field after s. ap length s.1 }
-
-size_number : (s : Size) → HasSize (size_of s) (number s)
-size_number s = record { each = λ n field after spelled. ap length spelled.0 ∙ length-number s n }
-
-size_test : (holds : Bool) (back : ℕ) (why : Why) → HasSize 0 (test holds back why)
-size_test holds back why = record { each = λ u field after s. ap length s.1 }
-
-size_then : {A B : Type 0} {l : Layout A} {next : A → Layout B} (m n total : ℕ) → total ≡ m + n → HasSize m l → ((a : A) → HasSize n (next a)) → HasSize total (l >>= next)
-size_then m n total is first second = record {
-  each = λ b field after s.
-      let one : length s.1 ≡ m = first.each s.0 s.1 _ s.4 in
-      let two : length s.2 ≡ n = (second s.0).each b s.2 after s.5 in
-      omega (arith, ap length s.3, length-append s.1 s.2, one, two, is);
-}
-
-size_header : (packet : ℕ) → HasSize 4 (header packet)
-unfolding header
-size_header packet =
-    size_then 2 2 4 refl (size_number _) λ component.
-    size_then 0 2 2 refl (size_test _ _ _) λ u.
-    size_then 2 0 2 refl (size_number _) λ id.
-    size_then 0 0 0 refl (size_test _ _ _) λ v.
-    size_done tt
 
 size_head : HasSize 16 completion_head
 unfolding completion_head
@@ -54,9 +21,7 @@ size_head =
 
 -- bytes that begin with a head are its 16 bytes and the tail
 pub head_length : (head : Head) (tail : ℕ) (bytes : List ℕ) → SpellsHead head tail bytes → length bytes ≡ 16 + tail
-head_length head tail bytes s =
-    let size : length s.0 ≡ 16 = size_head.each head s.0 s.1 s.4 in
-    omega (arith, ap length s.2, length-append s.0 s.1, size, s.3)
+head_length head tail bytes s = sized_tail 16 completion_head head tail bytes size_head s
 
 -- what a reader of a head returns
 pub head_spelled : (bytes : List ℕ) (start q : Position) (r : Result Head Bad) → ((i : ℕ) → Fits w8 (get_or bytes i 0)) → start ≡ record { at = 0; left = bytes } → Reads (λ head. head) completion_head start q r → IfOk r (λ head. SpellsHead head (length bytes - 16) bytes)

@@ -1,5 +1,5 @@
+pub mod OpLemmas
 pub mod RequestLemmas
 pub mod HeadLemmas
-pub mod PathLemmas
 pub mod WrittenLemmas
 pub mod Worked

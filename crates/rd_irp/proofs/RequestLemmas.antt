@@ -1,67 +1,22 @@
 -- Requests: bytes are one request, malformed or not, or their head has one first fault.
-use Rattle.std.proofs.Common.{Fits, ◌≡◌, ℕ, ◌+◌, Bool, true, false, List, length, get_or, Result, Ok, Err, refl, arith, sym, ap, subst, ◌∙◌, ◌⊎◌, inl, inr}
-use Rattle.std.specs.Prelude.{◌==◌}
+use Rattle.std.proofs.Common.{Fits, ◌≡◌, ℕ, ◌+◌, List, length, get_or, Result, Ok, Err, refl, arith, sym, ap, subst, ◌∙◌, ◌⊎◌, inl, inr}
 use Rattle.std.specs.Int.{w8}
 use Rattle.rd_base.specs.declared.bad.Bad.{Bad}
 use Rattle.rd_base.specs.declared.bad.ReadNo.{ReadNo}
 use Rattle.rd_base.specs.declared.bad.ReadNo.TheVariants as no
 use Rattle.rd_base.specs.Position.{Position, at_start}
 use Rattle.rd_base.specs.Reading.{ReadsInto}
-use Rattle.rd_base.specs.Layout.{Layout, done, ◌>>=◌, choose, Spells, and_then, met}
+use Rattle.rd_base.specs.Layout.{Spells, and_then, met}
 use Rattle.rd_base.proofs.NumberLemmas.{are_bytes}
 use Rattle.rd_base.proofs.ResultLemmas.{ok_one, err_one, and_then_ok}
 use Rattle.rd_base.proofs.LayoutLemmas.{spells, meets, again, reader_spells, fault_after}
 use Rattle.rd_base.specs.Reading.{IsOneOf}
 use Rattle.rd_irp.specs.declared.op.Op.{Op}
-use Rattle.rd_irp.specs.declared.op.Op.TheVariants.{Create, Close, Read, Unknown, Malformed}
+use Rattle.rd_irp.specs.declared.op.Op.TheVariants.{Malformed}
 use Rattle.rd_irp.specs.declared.request.Request.{Request}
 use Rattle.rd_irp.specs.declared.request.RequestHead.{RequestHead}
-use Rattle.rd_irp.specs.Op.{create_body, close_body, read_body, op_body}
+use Rattle.rd_irp.proofs.OpLemmas.{IsReadable, bodies_read}
 use Rattle.rd_irp.specs.Request.{request_head, body_after, whole_request, SpellsWith, SpellsRequest, FirstFaultOfRequest}
-
--- each value of a layout is such a one
-pub record EachValue {A : Type 0} (P : A → Type 0) (l : Layout A) : Type 0 where
-  pub each : (p : Position) (a : A) (q : Position) → met l p ≡ Ok (a, q) → P a
-
-each_done : {A : Type 0} {P : A → Type 0} (x : A) → P x → EachValue P (done x)
-each_done {P = P} x h = record { each = λ p a q e. let same : x ≡ a = ap (λ (y : _ × Position). y.0) (ok_one _ (x, p) (a, q) refl e) in subst P same h }
-
-each_then : {A B : Type 0} {P : B → Type 0} {l : Layout A} {next : A → Layout B} → ((a : A) → EachValue P (next a)) → EachValue P (l >>= next)
-each_then {l = l} {next = next} each = record {
-  each = λ p b q e. let x = and_then_ok (met l p) (λ y. met (next y.0) y.1) (b, q) e in (each x.0.0).each x.0.1 b q x.2;
-}
-
-each_choose : {A : Type 0} (P : A → Type 0) (b : Bool) (l m : Layout A) → EachValue P l → EachValue P m → EachValue P (choose b l m)
-each_choose P true l m g h = g
-each_choose P false l m g h = h
-
--- an operation whose body was read
-abbrev pub IsReadable : Op → Type 0
-IsReadable (Malformed major minor bad) = ⊥
-IsReadable _ = Unit {0}
-
-create_reads : EachValue IsReadable create_body
-unfolding create_body
-create_reads =
-    each_then λ access. each_then λ allocation. each_then λ attributes. each_then λ share. each_then λ disposition. each_then λ options. each_then λ count. each_then λ units.
-    each_done (Create access allocation attributes share disposition options units) (tt {0})
-
-close_reads : EachValue IsReadable close_body
-unfolding close_body
-close_reads = each_then λ u. each_done Close (tt {0})
-
-read_reads : EachValue IsReadable read_body
-unfolding read_body
-read_reads = each_then λ len. each_then λ offset. each_then λ u. each_done (Read offset len) (tt {0})
-
--- no body is read as a malformed one
-pub bodies_read : (major minor : ℕ) → EachValue IsReadable (op_body major minor)
-unfolding op_body
-bodies_read major minor =
-    let unknown : EachValue IsReadable (done (Unknown major minor)) = each_done (Unknown major minor) (tt {0}) in
-    let read : EachValue IsReadable (choose (major == 3) read_body (done (Unknown major minor))) = each_choose IsReadable (major == 3) read_body _ read_reads unknown in
-    let close : EachValue IsReadable (choose (major == 2) close_body (choose (major == 3) read_body (done (Unknown major minor)))) = each_choose IsReadable (major == 2) close_body _ close_reads read in
-    each_choose IsReadable (major == 0) create_body _ create_reads close
 
 -- the request with this head and operation
 abbrev pub request_with : RequestHead → Op → Request
@@ -78,11 +33,8 @@ reading bytes = and_then (met request_head (at_start bytes)) (λ x. Ok (with_bod
 
 -- an operation that was read is no malformed one
 pub spells_readable : (o : Op) (r : Request) (tail : ℕ) (bytes : List ℕ) → IsReadable o → Spells whole_request r tail bytes → SpellsWith o r tail bytes
-spells_readable (Create a b c d e f g) r tail bytes h s = s
-spells_readable Close r tail bytes h s = s
-spells_readable (Read a b) r tail bytes h s = s
-spells_readable (Unknown a b) r tail bytes h s = s
 spells_readable (Malformed a b c) r tail bytes h s = absurd h
+spells_readable _ r tail bytes h s = s
 
 -- head and body, where both were met
 pub met-whole : (h : RequestHead) (o : Op) (start p q : Position) → met request_head start ≡ Ok (h, p) → met (body_after h) p ≡ Ok (o, q) → met whole_request start ≡ Ok (request_with h o, q)
@@ -109,12 +61,9 @@ malformed_reading r major minor bad tail bytes f =
     rw (f.2, head, place, there, f.3) refl
 
 with_reading : (o : Op) (r : Request) (tail : ℕ) (bytes : List ℕ) → r.op ≡ o → SpellsWith o r tail bytes → reading bytes ≡ Ok (r, tail)
-with_reading (Create a b c d e f g) r tail bytes is s = whole_reading r tail bytes s
-with_reading Close r tail bytes is s = whole_reading r tail bytes s
-with_reading (Read a b) r tail bytes is s = whole_reading r tail bytes s
-with_reading (Unknown a b) r tail bytes is s = whole_reading r tail bytes s
 with_reading (Malformed major minor bad) r tail bytes is s =
     malformed_reading r major minor bad tail bytes s ∙ ap (λ (o : Op). Ok (record r { op = o }, tail)) (sym is)
+with_reading _ r tail bytes is s = whole_reading r tail bytes s
 
 -- what is spelled is what bytes are read as
 pub request_reading : (r : Request) (tail : ℕ) (bytes : List ℕ) → SpellsRequest r tail bytes → reading bytes ≡ Ok (r, tail)

@@ -14,7 +14,7 @@ use Rattle.rd_irp.specs.declared.request.Request.{Request}
 use Rattle.rd_irp.specs.declared.request.RequestHead.{RequestHead}
 use Rattle.rd_irp.specs.declared.completion.Kind.TheVariants as kind
 use Rattle.rd_irp.specs.declared.completion.Body.TheVariants as body
-use Rattle.rd_irp.specs.Header.{header}
+use Rattle.rd_base.specs.Header.{header, component_field}
 use Rattle.rd_irp.specs.Op.{op_body, create_body, read_body}
 use Rattle.rd_irp.specs.Request.{request_head, body_after, whole_request, SpellsRequest, FirstFaultOfRequest}
 use Rattle.rd_irp.specs.Written.{request_bytes, completion_bytes, body_bytes}
@@ -73,7 +73,7 @@ create_request = record {
 }
 
 pub create_spelled : SpellsRequest create_request 0 create_message
-unfolding whole_request request_head header op_body create_body
+unfolding whole_request request_head header component_field op_body create_body
 create_spelled = met_is_spelled whole_request create_message create_request 70 0 refl refl refl
 
 pub create_written : request_bytes create_request ≡ create_message
@@ -84,7 +84,7 @@ abbrev pub long_path : List ℕ
 long_path = create_fields ++ 16 ∷ 0 ∷ 0 ∷ 0 ∷ path_field
 
 pub long_path_malformed : SpellsRequest (record { device = 1; file = 0; completion = 0; op = op.Malformed 0 0 (record { at = 56; why = Short }) }) 46 long_path
-unfolding request_head header op_body create_body
+unfolding request_head header component_field op_body create_body
 long_path_malformed = met_is_malformed long_path (record { device = 1; file = 0; completion = 0; major = 0; minor = 0 }) _ 46 refl refl refl refl
 
 -- an odd length of a path, at the length
@@ -92,7 +92,7 @@ abbrev pub odd_path : List ℕ
 odd_path = create_fields ++ 13 ∷ 0 ∷ 0 ∷ 0 ∷ path_field
 
 pub odd_path_malformed : SpellsRequest (record { device = 1; file = 0; completion = 0; op = op.Malformed 0 0 (record { at = 52; why = Length }) }) 46 odd_path
-unfolding request_head header op_body create_body
+unfolding request_head header component_field op_body create_body
 odd_path_malformed = met_is_malformed odd_path (record { device = 1; file = 0; completion = 0; major = 0; minor = 0 }) _ 46 refl refl refl refl
 
 -- a READ of device 1, file 1, of 5 bytes from the first
@@ -102,34 +102,34 @@ read_message =
     ∷ 5 ∷ 0 ∷ 0 ∷ 0 ∷ 0 ∷ 0 ∷ 0 ∷ 0 ∷ 0 ∷ 0 ∷ 0 ∷ 0 ∷ replicate 20 0
 
 pub read_spelled : SpellsRequest (record { device = 1; file = 1; completion = 0; op = op.Read 0 5 }) 0 read_message
-unfolding whole_request request_head header op_body read_body
+unfolding whole_request request_head header component_field op_body read_body
 read_spelled = met_is_spelled whole_request read_message _ 56 0 refl refl refl
 
 -- the same without its last byte: the pad at 36 is short
 pub cut_read_malformed : SpellsRequest (record { device = 1; file = 1; completion = 0; op = op.Malformed 3 0 (record { at = 36; why = Short }) }) 31 (take 55 read_message)
-unfolding request_head header op_body read_body
+unfolding request_head header component_field op_body read_body
 cut_read_malformed = met_is_malformed (take 55 read_message) (record { device = 1; file = 1; completion = 0; major = 3; minor = 0 }) _ 31 refl refl refl refl
 
 -- a request whose function isn't known, and one byte after its head
 abbrev pub unknown_message : List ℕ
 unknown_message =
-    0x72 ∷ 0x44 ∷ 0x52 ∷ 0x49 ∷ 1 ∷ 0 ∷ 0 ∷ 0 ∷ 1 ∷ 0 ∷ 0 ∷ 0 ∷ 2 ∷ 0 ∷ 0 ∷ 0 ∷ 0x11 ∷ 0 ∷ 0 ∷ 0 ∷ 9 ∷ 0 ∷ 0 ∷ 0 ∷ 5 ∷ []
+    0x72 ∷ 0x44 ∷ 0x52 ∷ 0x49 ∷ 1 ∷ 0 ∷ 0 ∷ 0 ∷ 1 ∷ 0 ∷ 0 ∷ 0 ∷ 2 ∷ 0 ∷ 0 ∷ 0 ∷ 0x12 ∷ 0 ∷ 0 ∷ 0 ∷ 9 ∷ 0 ∷ 0 ∷ 0 ∷ 5 ∷ []
 
-pub unknown_spelled : SpellsRequest (record { device = 1; file = 1; completion = 2; op = op.Unknown 0x11 9 }) 1 unknown_message
-unfolding whole_request request_head header op_body
+pub unknown_spelled : SpellsRequest (record { device = 1; file = 1; completion = 2; op = op.Unknown 0x12 9 }) 1 unknown_message
+unfolding whole_request request_head header component_field op_body
 unknown_spelled = met_is_spelled whole_request unknown_message _ 24 1 refl refl refl
 
 -- heads with a fault: an unknown component, a packet of printing, a request cut in at_start of its device
 pub unknown_component : FirstFaultOfRequest (0x78 ∷ 0x78 ∷ 0x52 ∷ 0x49 ∷ []) (record { at = 0; why = Component })
-unfolding request_head header
+unfolding request_head header component_field
 unknown_component = refl
 
 pub printing_packet : FirstFaultOfRequest (0x52 ∷ 0x50 ∷ 0x52 ∷ 0x49 ∷ []) (record { at = 2; why = Packet })
-unfolding request_head header
+unfolding request_head header component_field
 printing_packet = refl
 
 pub cut_head : FirstFaultOfRequest (0x72 ∷ 0x44 ∷ 0x52 ∷ 0x49 ∷ 1 ∷ 0 ∷ []) (record { at = 4; why = Short })
-unfolding request_head header
+unfolding request_head header component_field
 cut_head = refl
 
 -- the completion of the cut READ
@@ -140,7 +140,7 @@ abbrev pub invalid_parameter : Status
 invalid_parameter = record { 0 = 0xc000_000d }
 
 pub refused_head : SpellsHead (record { device = 1; completion = 0; status = invalid_parameter }) 4 refused_read
-unfolding completion_head header
+unfolding completion_head header component_field
 refused_head = met_is_spelled completion_head refused_read _ 16 4 refl refl refl
 
 pub refused_body : SpellsBody kind.Buffer invalid_parameter body.Fault 4 (drop 16 refused_read)

@@ -1,16 +1,13 @@
 -- What is written: it spells its value.
-use Rattle.std.proofs.Common.{◌≡◌, ℕ, ◌+◌, ◌*◌, ◌%◌, ◌^◌, ◌<◌, ◌≤◌, ◌≢◌, List, [], ◌∷◌, ◌++◌, Bool, true, false, drop, length, refl, sym, subst, arith, lit<, eq-eqb}
-use Rattle.std.specs.Int.{w32, to_le_bytes}
-use Rattle.std.specs.Prelude.{replicate, min, IsTrue, All, MatchBool, ◌==◌, ◌&&◌}
+use Rattle.std.proofs.Common.{◌≡◌, ℕ, ◌^◌, ◌<◌, List, [], ◌++◌, Bool, true, false, drop, length, refl, sym, subst, arith}
+use Rattle.std.specs.Prelude.{replicate, min, MatchBool, ◌==◌}
 use Rattle.std.proofs.lemmas.List.{append-nil, length-append, length-replicate, drop_at}
-use Rattle.std.proofs.lemmas.List.Elements.{All-weaker}
+use Rattle.rd_base.specs.declared.packet.Packet.TheVariants.{IoRequest, IoCompletion}
 use Rattle.rd_base.specs.declared.status.Status.{Status}
 use Rattle.rd_base.specs.Layout.{Layout, done, ◌>>◌, choose, Spells}
-use Rattle.rd_base.specs.Fields.{path, path_bytes, missing_pad}
-use Rattle.rd_base.proofs.WrittenLemmas.{Written, done_last, layout_then, number_then, bytes_then, pad_then, test_then, same_bytes, spells_all}
-use Rattle.rd_base.proofs.WrittenPathLemmas.{length-units, length_written, path_written}
-use Rattle.rd_irp.specs.declared.op.Op.{Op}
-use Rattle.rd_irp.specs.declared.op.Op.TheVariants as op
+use Rattle.rd_base.specs.Fields.{missing_pad}
+use Rattle.rd_base.proofs.WrittenLemmas.{Written, done_last, layout_then, number_then, bytes_then, same_bytes, spells_all}
+use Rattle.rd_base.proofs.HeaderLemmas.{header_then}
 use Rattle.rd_irp.specs.declared.request.Request.{Request}
 use Rattle.rd_irp.specs.declared.request.RequestHead.{RequestHead}
 use Rattle.rd_irp.specs.declared.completion.Head.{Head}
@@ -19,84 +16,32 @@ use Rattle.rd_irp.specs.declared.completion.Kind.TheVariants as kind
 use Rattle.rd_irp.specs.declared.completion.Body.{Body}
 use Rattle.rd_irp.specs.declared.completion.Body.TheVariants as body
 use Rattle.rd_irp.specs.Fits.{Fits, IsOfKind, IsCountable, BodyFits, body_length, fault_length}
-use Rattle.rd_irp.specs.Header.{core, header}
-use Rattle.rd_irp.specs.Op.{op_body, create_body, close_body, read_body}
 use Rattle.rd_irp.specs.Request.{request_head, whole_request, SpellsRequest}
 use Rattle.rd_irp.specs.Completion.{completion_head, success_body, completion_body, SpellsHead, SpellsBody}
-use Rattle.rd_irp.specs.Written.{header_bytes, major_of, op_bytes, request_head_bytes, request_bytes, head_bytes, body_bytes, body_tail, IsOpInRange, IsBodyInRange}
-use Rattle.rd_irp.proofs.RequestLemmas.{IsReadable, spells_readable}
+use Rattle.rd_irp.specs.Written.{major_of, minor_of, op_bytes, request_head_bytes, request_bytes, head_bytes, body_bytes, body_tail, IsOpInRange, IsBodyInRange}
+use Rattle.rd_irp.proofs.OpLemmas.{op_written, fits_readable, head_fits}
+use Rattle.rd_irp.proofs.RequestLemmas.{spells_readable}
 
-header_written : (packet : ℕ) (after : List ℕ) → packet < 2 ^ 16 → IsTrue (packet == packet && core == core) → Written (header packet) tt (header_bytes packet) after
-unfolding header
-header_written packet after fits same = number_then core (lit< tt) (test_then refl (number_then packet fits (test_then same (done_last tt after))))
-
-request_head_written : (r : Request) (after : List ℕ) → r.device < 2 ^ 32 → r.file < 2 ^ 32 → r.completion < 2 ^ 32 → major_of r.op < 2 ^ 32 → Written request_head (record { device = r.device; file = r.file; completion = r.completion; major = major_of r.op; minor = 0 }) (request_head_bytes r) after
+request_head_written : (r : Request) (after : List ℕ) → r.device < 2 ^ 32 → r.file < 2 ^ 32 → r.completion < 2 ^ 32 → (major_of r.op < 2 ^ 32) × (minor_of r.op < 2 ^ 32) → Written request_head (record { device = r.device; file = r.file; completion = r.completion; major = major_of r.op; minor = minor_of r.op }) (request_head_bytes r) after
 unfolding request_head
-request_head_written r after device file completion major =
-    layout_then tt (header_bytes 0x4952) (header_written 0x4952 _ (lit< tt) refl)
+request_head_written r after device file completion function =
+    header_then IoRequest
     (number_then r.device device
     (number_then r.file file
     (number_then r.completion completion
-    (number_then (major_of r.op) major
-    (number_then 0 (lit< tt)
+    (number_then (major_of r.op) function.0
+    (number_then (minor_of r.op) function.1
     (done_last _ after))))))
-
-even : (n : ℕ) → IsTrue ((2 * n + 2) % 2 == 0)
-even n = eq-eqb ((2 * n + 2) % 2) 0 (omega arith)
-
-create_written : (access allocation attributes share disposition options : ℕ) (units after : List ℕ) → Fits (op.Create access allocation attributes share disposition options units) → IsOpInRange (op.Create access allocation attributes share disposition options units)
-    → Written create_body (op.Create access allocation attributes share disposition options units) (op_bytes (op.Create access allocation attributes share disposition options units)) after
-unfolding create_body
-create_written access allocation attributes share disposition options units after fits range =
-    let count = 2 * length units + 2 in
-    let field : List ℕ = path_bytes units in
-    let few : length units ≤ 4096 = fits.0 in
-    let len : count ≡ length (path_bytes units) = omega (arith, length-units (units ++ 0 ∷ []), length-append units (0 ∷ [])) in
-    let above : All (λ u. 0 < u) units = All-weaker (λ u. u ≢ 0) (λ u. 0 < u) (λ u not_zero. omega (arith, not_zero)) units fits.1 in
-    let written : Written (path count) units field ([] ++ after) = path_written units count _ len above range.6 in
-    number_then access range.0
-    (number_then allocation range.1
-    (number_then attributes range.2
-    (number_then share range.3
-    (number_then disposition range.4
-    (number_then options range.5
-    (layout_then count (to_le_bytes w32 count) (length_written count (field ++ after) (omega arith) (even (length units)))
-    (same_bytes field (field ++ []) (sym (append-nil field))
-    (layout_then units field written
-    (done_last _ after)))))))))
-
--- the body of each operation that fits
-op_written : (o : Op) (after : List ℕ) → Fits o → IsOpInRange o → Written (op_body (major_of o) 0) o (op_bytes o) after
-unfolding op_body close_body read_body
-op_written (op.Create access allocation attributes share disposition options units) after fits range = create_written access allocation attributes share disposition options units after fits range
-op_written op.Close after fits range = pad_then (replicate 32 0) refl (done_last op.Close after)
-op_written (op.Read offset len) after fits range = number_then len range.1 (number_then offset range.0 (pad_then (replicate 20 0) refl (done_last (op.Read offset len) after)))
-op_written (op.Unknown major minor) after fits range = absurd fits
-op_written (op.Malformed major minor bad) after fits range = absurd fits
-
-fits_readable : (o : Op) → Fits o → IsReadable o
-fits_readable (op.Create a b c d e f g) fits = tt
-fits_readable op.Close fits = tt
-fits_readable (op.Read a b) fits = tt
-fits_readable (op.Unknown a b) fits = tt
-fits_readable (op.Malformed a b c) fits = fits
-
-major_fits : (o : Op) → Fits o → major_of o < 2 ^ 32
-major_fits (op.Create a b c d e f g) fits = lit< tt
-major_fits op.Close fits = lit< tt
-major_fits (op.Read a b) fits = lit< tt
-major_fits (op.Unknown a b) fits = absurd fits
-major_fits (op.Malformed a b c) fits = absurd fits
 
 pub request_spelled : (r : Request) → Fits r.op → IsOpInRange r.op → r.device < 2 ^ 32 → r.file < 2 ^ 32 → r.completion < 2 ^ 32 → SpellsRequest r 0 (request_bytes r)
 unfolding whole_request
 request_spelled r fits range device file completion =
     let o = r.op in
     let field : List ℕ = op_bytes o in
-    let head : RequestHead = record { device = r.device; file = r.file; completion = r.completion; major = major_of o; minor = 0 } in
+    let head : RequestHead = record { device = r.device; file = r.file; completion = r.completion; major = major_of o; minor = minor_of o } in
     spells_readable o r 0 (request_bytes r) (fits_readable o fits)
     (spells_all whole_request r (request_bytes r)
-    (layout_then head (request_head_bytes r) (request_head_written r (field ++ []) device file completion (major_fits o fits))
+    (layout_then head (request_head_bytes r) (request_head_written r (field ++ []) device file completion (head_fits o fits))
     (same_bytes field (field ++ []) (sym (append-nil field))
     (layout_then o field (op_written o ([] ++ []) fits range)
     (done_last r [])))))
@@ -104,7 +49,7 @@ request_spelled r fits range device file completion =
 head_written : (head : Head) (after : List ℕ) → head.device < 2 ^ 32 → head.completion < 2 ^ 32 → (head.status).0 < 2 ^ 32 → Written completion_head head (head_bytes head) after
 unfolding completion_head
 head_written head after device completion status =
-    layout_then tt (header_bytes 0x4943) (header_written 0x4943 _ (lit< tt) refl)
+    header_then IoCompletion
     (number_then head.device device
     (number_then head.completion completion
     (number_then (head.status).0 status

@@ -2,19 +2,20 @@
 use Rattle.std.specs.Prelude.{ℕ, List, ◌==◌}
 use Rattle.rd_base.specs.declared.bad.Bad.{Bad}
 use Rattle.rd_base.specs.declared.status.Status.{Status}
+use Rattle.rd_base.specs.declared.packet.Packet.TheVariants.{IoCompletion}
 use Rattle.rd_base.specs.Layout.{Layout, done, any_bytes, ◌>>=◌, ◌>>◌, choose, Spells, FirstFault}
+use Rattle.rd_base.specs.Header.{header}
 use Rattle.rd_base.specs.Fields.{number8, number32, missing_pad}
 use Rattle.rd_irp.specs.declared.completion.Head.{Head}
 use Rattle.rd_irp.specs.declared.completion.Kind.{Kind}
 use Rattle.rd_irp.specs.declared.completion.Kind.TheVariants as kind
 use Rattle.rd_irp.specs.declared.completion.Body.{Body}
 use Rattle.rd_irp.specs.declared.completion.Body.TheVariants.{Created, Closed, Count, Buffer, Locked, Fault}
-use Rattle.rd_irp.specs.Header.{header, io_completion}
 
 -- DR_DEVICE_IOCOMPLETION, the first 16 bytes of every completion
 unfoldable pub completion_head : Layout Head
 completion_head = do
-  header io_completion
+  header IoCompletion
   device ← number32
   completion ← number32
   status ← number32

@@ -1,5 +1,5 @@
 -- What may be written.
-use Rattle.std.specs.Prelude.{◌≡◌, ℕ, ◌+◌, ◌*◌, ◌<◌, ◌≤◌, ◌^◌, ◌≢◌, ◌==◌, if◌then◌else◌, length, All, MatchBool}
+use Rattle.std.specs.Prelude.{◌≡◌, ℕ, ◌+◌, ◌*◌, ◌<◌, ◌≤◌, ◌^◌, ◌≢◌, ◌==◌, ◌||◌, if◌then◌else◌, List, length, All, MatchBool}
 use Rattle.rd_base.specs.declared.status.Status.{Status}
 use Rattle.rd_irp.specs.declared.op.Op.{Op}
 use Rattle.rd_irp.specs.declared.op.Op.TheVariants as op
@@ -8,6 +8,7 @@ use Rattle.rd_irp.specs.declared.completion.Kind.TheVariants as kind
 use Rattle.rd_irp.specs.declared.completion.Body.{Body}
 use Rattle.rd_irp.specs.declared.completion.Body.TheVariants as body
 use Rattle.rd_irp.specs.declared.completion.Reply.{Reply}
+use Rattle.rd_irp.specs.Op.{max_ranges}
 
 -- the most units of a path
 abbrev pub max_path : ℕ
@@ -17,21 +18,42 @@ max_path = 4096
 abbrev pub max_buffer : ℕ
 max_buffer = 1048576
 
--- A request with this operation can be sent: its path isn't too long, and none of its units is zero.
+-- a path that a request can carry: it isn't too long, and none of its units is zero
+abbrev pub IsWritablePath : List ℕ → Type 0
+IsWritablePath path = (length path ≤ max_path) × All (λ unit. unit ≢ 0) path
+
+-- A request with this operation can be sent: what it carries isn't too much, and no unit of its path is zero.
 abbrev pub Fits : Op → Type 0
-Fits (op.Create access allocation attributes share disposition options path) = (length path ≤ max_path) × All (λ unit. unit ≢ 0) path
-Fits op.Close = Unit {0}
-Fits (op.Read offset len) = Unit {0}
+Fits (op.Create access allocation attributes share disposition options path) = IsWritablePath path
+Fits (op.Write offset bytes) = length bytes ≤ max_buffer
+Fits (op.SetFile class bytes) = length bytes ≤ max_buffer
+Fits (op.SetVolume class bytes) = length bytes ≤ max_buffer
+Fits (op.QueryDir class initial path) = IsWritablePath path
+Fits (op.Control output code bytes) = length bytes ≤ max_buffer
+Fits (op.Lock operation wait ranges) = length ranges ≤ max_ranges
 Fits (op.Unknown major minor) = ⊥
 Fits (op.Malformed major minor bad) = ⊥
+Fits _ = Unit {0}
+
+-- the layout of the completion of a request with this MajorFunction
+abbrev pub kind_of_major : ℕ → Kind
+kind_of_major major =
+    if major == 0 then kind.Create
+    else (if major == 2 then kind.Close
+    else (if major == 4 || major == 6 || major == 0xb then kind.Count
+    else (if major == 0x11 then kind.Lock
+    else kind.Buffer)))
 
 -- the layout of an operation's completion; a malformed one has that of its function
 abbrev pub kind_of : Op → Kind
 kind_of (op.Create access allocation attributes share disposition options path) = kind.Create
 kind_of op.Close = kind.Close
-kind_of (op.Read offset len) = kind.Buffer
-kind_of (op.Unknown major minor) = kind.Buffer
-kind_of (op.Malformed major minor bad) = if major == 0 then kind.Create else (if major == 2 then kind.Close else kind.Buffer)
+kind_of (op.Write offset bytes) = kind.Count
+kind_of (op.SetFile class bytes) = kind.Count
+kind_of (op.SetVolume class bytes) = kind.Count
+kind_of (op.Lock operation wait ranges) = kind.Lock
+kind_of (op.Malformed major minor bad) = kind_of_major major
+kind_of _ = kind.Buffer
 
 -- a byte field that its length field can count
 abbrev pub IsCountable : Body → Type 0
@@ -88,7 +110,12 @@ body_length k body.Fault = fault_length k
 -- how many bytes the body of an operation that fits is written in
 abbrev pub op_length : Op → ℕ
 op_length (op.Create access allocation attributes share disposition options path) = 34 + 2 * length path
-op_length op.Close = 32
-op_length (op.Read offset len) = 32
+op_length (op.Write offset bytes) = 32 + length bytes
+op_length (op.SetFile class bytes) = 32 + length bytes
+op_length (op.SetVolume class bytes) = 32 + length bytes
+op_length (op.QueryDir class initial path) = 34 + 2 * length path
+op_length (op.Control output code bytes) = 32 + length bytes
+op_length (op.Lock operation wait ranges) = 32 + 16 * length ranges
 op_length (op.Unknown major minor) = 0
 op_length (op.Malformed major minor bad) = 0
+op_length _ = 32

@@ -1,6 +1,6 @@
-pub mod Fits
-pub mod Header
 pub mod Op
+pub mod Fits
 pub mod Request
 pub mod Completion
 pub mod Written
+pub mod Worked

@@ -1,19 +1,20 @@
 -- Which bytes spell a request (MS-RDPEFS 2.2.1.4).
 use Rattle.std.specs.Prelude.{ℕ, List}
 use Rattle.rd_base.specs.declared.bad.Bad.{Bad}
+use Rattle.rd_base.specs.declared.packet.Packet.TheVariants.{IoRequest}
 use Rattle.rd_base.specs.Layout.{Layout, done, ◌>>=◌, ◌>>◌, Spells, FirstFault, FaultAfter}
+use Rattle.rd_base.specs.Header.{header}
 use Rattle.rd_base.specs.Fields.{number32}
 use Rattle.rd_irp.specs.declared.op.Op.{Op}
 use Rattle.rd_irp.specs.declared.op.Op.TheVariants.{Malformed}
 use Rattle.rd_irp.specs.declared.request.Request.{Request}
 use Rattle.rd_irp.specs.declared.request.RequestHead.{RequestHead}
-use Rattle.rd_irp.specs.Header.{header, io_request}
 use Rattle.rd_irp.specs.Op.{op_body}
 
 -- DR_DEVICE_IOREQUEST, the first 24 bytes of every request
 unfoldable pub request_head : Layout RequestHead
 request_head = do
-  header io_request
+  header IoRequest
   device ← number32
   file ← number32
   completion ← number32

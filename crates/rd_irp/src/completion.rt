@@ -1,17 +1,18 @@
 //! Completions (MS-RDPEFS 2.2.1.5).
 
-ghost use Rattle.std.specs.Prelude.{◌≡◌, ◌+◌, ◌-◌, ◌≤◌, ◌↔◌, ◌++◌, IsTrue, drop, length, replicate, IfOk, IfErr, OnOk, vec_len};
+ghost use Rattle.std.specs.Prelude.{◌≡◌, ◌+◌, ◌-◌, ◌^◌, ◌<◌, ◌≤◌, ◌↔◌, ◌++◌, IsTrue, drop, length, replicate, IfOk, IfErr, OnOk};
 ghost use Rattle.rd_base.specs.Fields.{missing_pad};
-ghost use Rattle.rd_base.specs.Reading.{Reads, ReadsInto};
+ghost use Rattle.rd_base.specs.Reading.{Reads, ReadsInto, WithTail, ForBad};
 ghost use Rattle.rd_irp.specs.Completion.{completion_head, success_body, completion_body, SpellsHead, FirstFaultOfHead, SpellsBody, FirstFaultOfBody};
-ghost use Rattle.rd_base.specs.Reading.{WithTail, ForBad};
-ghost use Rattle.rd_irp.specs.Written.{completion_bytes, body_bytes, body_tail, IsBodyInRange};
+ghost use Rattle.rd_irp.specs.Written.{completion_bytes, head_bytes, body_bytes, body_tail, IsBodyInRange};
 ghost use Rattle.rd_base.specs.declared.status.Status.{Status};
-ghost use Rattle.rd_irp.specs.Fits.{BodyFits, IsCountable, IsOfKind, body_length, fault_length, kind_of};
+ghost use Rattle.rd_irp.specs.Fits.{BodyFits, IsCountable, IsOfKind, body_length, fault_length, kind_of, kind_of_major};
 
-use crate::head::{IO_COMPLETION, put_header, read_header, tail_len};
-use crate::op::Op;
-use rd_base::{Bad, Bytes, Cursor, ReadNo, Status};
+use crate::op::{CLOSE, CREATE, LOCK, Op, SET_FILE, SET_VOLUME, WRITE};
+use rd_base::{
+    Bad, Bytes, Cursor, Packet, ReadNo, Status, put_counted_bytes, put_header, read_counted_bytes,
+    read_header, tail_len,
+};
 use std::alloc::{AllocError, Global};
 
 /// The bytes of a completion's head; its body comes after them.
@@ -67,12 +68,28 @@ pub fn kind_of(op: &Op) -> Kind
     match op {
         Op::Create { .. } => Kind::Create,
         Op::Close => Kind::Close,
-        Op::Read { .. } | Op::Unknown { .. } => Kind::Buffer,
-        Op::Malformed { major, .. } => match major {
-            0 => Kind::Create,
-            2 => Kind::Close,
-            _ => Kind::Buffer,
-        },
+        Op::Write { .. } | Op::SetFile { .. } | Op::SetVolume { .. } => Kind::Count,
+        Op::Read { .. }
+        | Op::QueryFile { .. }
+        | Op::QueryVolume { .. }
+        | Op::QueryDir { .. }
+        | Op::Notify { .. }
+        | Op::Control { .. }
+        | Op::Unknown { .. } => Kind::Buffer,
+        Op::Lock { .. } => Kind::Lock,
+        Op::Malformed { major, .. } => kind_of_major(*major),
+    }
+}
+
+fn kind_of_major(major: u32) -> Kind
+    ensures { result ≡ kind_of_major major }
+{
+    match major {
+        CREATE => Kind::Create,
+        CLOSE => Kind::Close,
+        WRITE | SET_FILE | SET_VOLUME => Kind::Count,
+        LOCK => Kind::Lock,
+        _ => Kind::Buffer,
     }
 }
 
@@ -90,7 +107,7 @@ pub fn read_head(bytes: &[u8]) -> Result<Head, Bad>
 fn head_of(cursor: &mut Cursor<'_>) -> Result<Head, Bad>
     ensures { Reads (λ head. head) completion_head cursor.old cursor.new result }
 {
-    read_header(cursor, IO_COMPLETION)?;
+    read_header(cursor, Packet::IoCompletion)?;
     let device = cursor.u32()?;
     let completion = cursor.u32()?;
     let status = Status(cursor.u32()?);
@@ -135,7 +152,7 @@ fn body_of(
     success_of(alloc, kind, cursor)
 }
 
-#[tactic(auto, unfolding(crate::specs::Completion::success_body))]
+#[tactic(auto, unfolding(crate::specs::Completion::success_body, rd_base::specs::Counted::counted_bytes))]
 fn success_of(alloc: Global, kind: Kind, cursor: &mut Cursor<'_>) -> Result<Body, ReadNo>
     ensures read { ReadsInto (λ body. body) (success_body kind) cursor.old cursor.new result }
     ensures fits { IfOk result (λ body. IsOfKind kind body × IsCountable body) }
@@ -156,9 +173,8 @@ fn success_of(alloc: Global, kind: Kind, cursor: &mut Cursor<'_>) -> Result<Body
             Ok(Body::Count(count))
         }
         Kind::Buffer => {
-            let count = cursor.u32()?;
-            let field = cursor.take(count)?;
-            Ok(Body::Buffer(Bytes::of(Vec::from_slice(alloc, field)?)))
+            let bytes = read_counted_bytes(alloc, cursor)?;
+            Ok(Body::Buffer(bytes))
         }
         Kind::Lock => {
             skip_pad(cursor, 5)?;
@@ -225,12 +241,38 @@ pub fn write_completion(
     ensures length { IfOk result (λ message. length message ≡ 16 + body_length kind body.now) }
 {
     let mut out = Vec::with_capacity(alloc, COMPLETION_HEAD_LEN + body_length(kind, body))?;
-    put_header(&mut out, IO_COMPLETION)?;
+    put_completion(&mut out, kind, head, body)?;
+    Ok(Bytes::of(out))
+}
+
+/// Writes a completion whose body fits the kind and the status after what the buffer holds.
+pub fn put_completion(
+    out: &mut Vec<u8>,
+    kind: Kind,
+    head: &Head,
+    body: &Body,
+) -> Result<(), AllocError>
+    requires { BodyFits kind head.now.status body.now }
+    ensures bytes { OnOk result (out.new.items ≡ out.old.items ++ completion_bytes kind head.now body.now) }
+    ensures head { OnOk result (SpellsHead head.now (body_length kind body.now) (completion_bytes kind head.now body.now)) }
+    ensures body { OnOk result (SpellsBody kind head.now.status body.now (body_tail kind body.now) (body_bytes kind body.now)) }
+    ensures length { OnOk result (length (completion_bytes kind head.now body.now) ≡ 16 + body_length kind body.now) }
+{
+    put_head(out, head)?;
+    put_body(out, kind, body)
+}
+
+#[tactic(auto, using(std::proofs::Common::append_assoc))]
+fn put_head(out: &mut Vec<u8>, head: &Head) -> Result<(), AllocError>
+    ensures bytes { OnOk result (out.new.items ≡ out.old.items ++ head_bytes head.now) }
+    ensures device { OnOk result (head.now.device < 2 ^ 32) }
+    ensures completion { OnOk result (head.now.completion < 2 ^ 32) }
+    ensures status { OnOk result (head.now.status.0 < 2 ^ 32) }
+{
+    put_header(out, Packet::IoCompletion)?;
     out.extend_from_slice(&head.device.to_le_bytes())?;
     out.extend_from_slice(&head.completion.to_le_bytes())?;
-    out.extend_from_slice(&head.status.0.to_le_bytes())?;
-    put_body(&mut out, kind, body)?;
-    Ok(Bytes::of(out))
+    out.extend_from_slice(&head.status.0.to_le_bytes())
 }
 
 /// Writes the body of a completion alone, as it comes after the head. Its length field has to count it (`is_countable`).
@@ -270,10 +312,10 @@ fn fault_padding(kind: Kind) -> &'static [u8]
     }
 }
 
-fn put_body(out: &mut Vec<u8>, kind: Kind, body: &Body) -> Result<(), AllocError>
+/// Writes the body of a completion alone after what the buffer holds.
+pub fn put_body(out: &mut Vec<u8>, kind: Kind, body: &Body) -> Result<(), AllocError>
     requires { IsCountable body.now }
     ensures bytes { OnOk result (out.new.items ≡ out.old.items ++ body_bytes kind body.now) }
-    ensures length { OnOk result (vec_len out.new ≡ vec_len out.old + body_length kind body.now) }
     ensures in_range { OnOk result (IsBodyInRange body.now) }
 {
     match body {
@@ -286,11 +328,7 @@ fn put_body(out: &mut Vec<u8>, kind: Kind, body: &Body) -> Result<(), AllocError
             out.extend_from_slice(&count.to_le_bytes())?;
             out.extend_from_slice(&[0; 1])
         }
-        Body::Buffer(bytes) => {
-            let bytes = bytes.as_slice();
-            out.extend_from_slice(&(bytes.len() as u32).to_le_bytes())?;
-            out.extend_from_slice(bytes)
-        }
+        Body::Buffer(bytes) => put_counted_bytes(out, bytes.as_slice()),
         Body::Locked => out.extend_from_slice(&[0; 5]),
         Body::Fault => out.extend_from_slice(fault_padding(kind)),
     }

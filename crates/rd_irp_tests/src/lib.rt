@@ -2,4 +2,8 @@
 #![tactic(auto)]
 
 #[cfg(test)]
+mod operations;
+#[cfg(test)]
+mod said;
+#[cfg(test)]
 mod tests;

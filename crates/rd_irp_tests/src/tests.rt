@@ -1,4 +1,5 @@
 //! Bytes that the public standards and worked examples give.
+use crate::said::{MALFORMED, Said, UNKNOWN, said};
 use rd_base::{Bad, ReadNo, Status, Units, Why};
 use rd_irp::{
     Body, Head, Kind, Op, Request, body_fits, fits, is_countable, kind_of, read_body, read_head,
@@ -18,7 +19,7 @@ const READ: &[u8] = b"rDRI\x01\0\0\0\x01\0\0\0\0\0\0\0\x03\0\0\0\0\0\0\0\
 \0\0\0\0\0\0\0\0\0\0\0\0\0\0\0\0\0\0\0\0";
 
 /// A request with a function that isn't known, and one byte after it.
-const UNKNOWN: &[u8] = b"rDRI\x01\0\0\0\x01\0\0\0\x02\0\0\0\x11\0\0\0\x09\0\0\0\x05";
+const UNKNOWN_FUNCTION: &[u8] = b"rDRI\x01\0\0\0\x01\0\0\0\x02\0\0\0\x12\0\0\0\x09\0\0\0\x05";
 
 /// The units of `\a.txt`.
 const PATH: &[u16] = &[0x5c, 0x61, 0x2e, 0x74, 0x78, 0x74];
@@ -54,12 +55,6 @@ fn read(rt: &(impl Abort + AllocGlobal), bytes: &[u8]) -> (Request, u32) {
     read_request(rt.alloc(), bytes).expect(rt, "a request")
 }
 
-/// A request's operation, and the count of the bytes after it.
-fn op(rt: &(impl Abort + AllocGlobal), bytes: &[u8]) -> (Op, u32) {
-    let (request, tail) = read(rt, bytes);
-    (request.op, tail)
-}
-
 /// A body, and the count of the bytes after it.
 fn body(rt: &(impl Abort + AllocGlobal), kind: Kind, status: Status, bytes: &[u8]) -> (Body, u32) {
     read_body(rt.alloc(), kind, status, bytes).expect(rt, "a body")
@@ -74,49 +69,28 @@ fn writes_a_create(rt: HostRuntime) {
     assert_eq!(rt; (message.len(), message), (70, CREATE));
 }
 
+/// Asserts what a request says, with so many bytes after it.
+fn reads(rt: &(impl Abort + AllocGlobal), message: &[u8], wanted: Said<'_>, ignored: u32) {
+    let (request, tail) = read(rt, message);
+    assert_eq!(rt; (said(&request.op), tail), (wanted, ignored));
+}
+
+/// The device, the file and the completion id of a request.
+fn ids(rt: &(impl Abort + AllocGlobal), message: &[u8]) -> (u32, u32, u32) {
+    let (request, _) = read(rt, message);
+    (request.device, request.file, request.completion)
+}
+
 #[test]
 fn reads_requests(rt: HostRuntime) {
-    assert!(rt;
-        matches!(
-            read(&rt, CREATE),
-            (Request { device: 1, file: 0, completion: 0, op: Op::Create { share: 7, path, .. } }, 0)
-                if path.as_slice() == PATH
-        )
-    );
-    assert!(rt;
-        matches!(
-            op(&rt, READ),
-            (
-                Op::Read {
-                    offset: 0,
-                    length: 5
-                },
-                0
-            )
-        )
-    );
-    let bad = Bad {
-        at: 36,
-        why: Why::Short,
-    };
-    assert!(rt;
-        matches!(
-            op(&rt, cut_read(&rt)),
-            (Op::Malformed { major: 3, minor: 0, bad: found }, 31) if found == bad
-        )
-    );
-    assert!(rt;
-        matches!(
-            op(&rt, UNKNOWN),
-            (
-                Op::Unknown {
-                    major: 0x11,
-                    minor: 9
-                },
-                1
-            )
-        )
-    );
+    assert_eq!(rt; ids(&rt, CREATE), (1, 0, 0));
+    reads(&rt, CREATE, ([0, 0x8000_0000, 7, 0], &[], PATH, &[]), 0);
+    reads(&rt, READ, ([3, 0, 5, 0], &[], &[], &[]), 0);
+    let cut = cut_read(&rt);
+    reads(&rt, cut, ([MALFORMED, 3, 36, 0], &[], &[], &[]), 31);
+    assert_eq!(rt; ids(&rt, UNKNOWN_FUNCTION), (1, 1, 2));
+    let unknown = [UNKNOWN, 0x12, 9, 0];
+    reads(&rt, UNKNOWN_FUNCTION, (unknown, &[], &[], &[]), 1);
 }
 
 #[test]

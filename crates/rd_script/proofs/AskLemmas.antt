@@ -20,8 +20,7 @@ operation_can (op.Create access allocation attributes share disposition options 
     ((omega arith, some), (omega (arith, e0), omega (arith, e1), omega (arith, e2), omega (arith, e3), omega (arith, e4), omega (arith, e5), small))
 operation_can (op.Read offset count) handle words (w, low, high) = (tt, (low, high))
 operation_can op.Close handle words w = (tt, tt)
-operation_can (op.Unknown major minor) handle words w = absurd w
-operation_can (op.Malformed major minor bad) handle words w = absurd w
+operation_can _ handle words w = absurd w
 
 line_can : (said : Said) (l : Line) (text : List ℕ) → IsTextOf l text → All CanBeSent said.asks → All CanBeSent (with_line said l).asks
 line_can said (line.Drive label) text is can = can

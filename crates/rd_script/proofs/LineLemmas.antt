@@ -53,8 +53,7 @@ ask_close : (handle h : List ℕ) (o : Op) → IsAskOf o h (codes "close" ∷ ha
 ask_close handle h (op.Create access allocation attributes share disposition options path) w = cc w.0
 ask_close handle h (op.Read offset count) w = cc w.0
 ask_close handle h op.Close w = (cc w, refl)
-ask_close handle h (op.Unknown major minor) w = absurd w
-ask_close handle h (op.Malformed major minor bad) w = absurd w
+ask_close handle h _ w = absurd w
 
 abbrev ask_or : HandleOp → Line → HandleOp
 ask_or d (line.Ask ask) = ask
@@ -88,8 +87,7 @@ ask_open handle path h (op.Create access allocation attributes share disposition
     (cc w, cc (p, e0, e1, e2, e3, e4, e5), subst IsPlainPath p plain)
 ask_open handle path h (op.Read offset count) w = absurd (other_initial 111 114 (codes "pen") (codes "ead") (handle ∷ codes "1" ∷ path ∷ []) (h ∷ decimal offset ∷ decimal count ∷ []) w.0 (λ e. omega arith))
 ask_open handle path h op.Close w = cc w
-ask_open handle path h (op.Unknown major minor) w = absurd w
-ask_open handle path h (op.Malformed major minor bad) w = absurd w
+ask_open handle path h _ w = absurd w
 
 -- a plain path can be sent
 plain_unit : (unit : ℕ) → is_plain_unit unit ≡ true → (0x21 ≤ unit) × (unit ≤ 0x7e)
@@ -132,8 +130,7 @@ ask_read : (handle offset count h : List ℕ) (o : Op) → IsAskOf o h (codes "r
 ask_read handle offset count h (op.Create access allocation attributes share disposition options named) w = absurd (other_initial 114 111 (codes "ead") (codes "pen") (handle ∷ offset ∷ count ∷ []) (h ∷ codes "1" ∷ named ∷ []) w.0 (λ e. omega arith))
 ask_read handle offset count h (op.Read m n) (w, low, high) = (m, n, cc w, refl, cc w, cc w, low, high)
 ask_read handle offset count h op.Close w = cc w
-ask_read handle offset count h (op.Unknown major minor) w = absurd w
-ask_read handle offset count h (op.Malformed major minor bad) w = absurd w
+ask_read handle offset count h _ w = absurd w
 
 read_words : (handle : List ℕ) (m n : ℕ) → m < 2 ^ 64 → n < 2 ^ 32 → (l : Line) → AreWordsOf l (codes "1" ∷ codes "read" ∷ handle ∷ decimal m ∷ decimal n ∷ []) ↔ IsAskLine handle (op.Read m n) l
 read_words handle m n low high l = ask_words handle (op.Read m n) (codes "read" ∷ handle ∷ decimal m ∷ decimal n ∷ []) (λ h p. (
@@ -194,8 +191,7 @@ ask_visible (op.Read offset count) handle asking named is_ask =
     subst AllVisible (sym is_ask.0) (visible_from (codes "read") refl, (name_visible handle named, (decimal_visible offset is_ask.1, (decimal_visible count wide, tt))))
 ask_visible op.Close handle asking named is_ask =
     subst AllVisible (sym is_ask) (visible_from (codes "close") refl, (name_visible handle named, tt))
-ask_visible (op.Unknown major minor) handle asking named is_ask = absurd is_ask
-ask_visible (op.Malformed major minor bad) handle asking named is_ask = absurd is_ask
+ask_visible _ handle asking named is_ask = absurd is_ask
 
 -- the words of a line are visible, and there is one at least
 line_visible : (l : Line) (words : List (List ℕ)) → AreWordsOf l words → AllVisible words × (0 < length words)
@@ -290,8 +286,7 @@ op_shape : (ws : List (Bor (List ℕ))) (d : Bor (List ℕ)) (o : Op) (handle : 
 op_shape ws d (op.Create access allocation attributes share disposition options path) handle is_ask = let it = four_shape ws d (codes "open") handle (codes "1") path is_ask.0 in inl (it.0, it.1, it.3)
 op_shape ws d (op.Read offset count) handle is_ask = let it = four_shape ws d (codes "read") handle (decimal offset) (decimal count) is_ask.0 in inr (inl (it.0, it.1))
 op_shape ws d op.Close handle is_ask = inr (inr (two_shape ws d (codes "close") handle is_ask))
-op_shape ws d (op.Unknown major minor) handle is_ask = absurd is_ask
-op_shape ws d (op.Malformed major minor bad) handle is_ask = absurd is_ask
+op_shape ws d _ handle is_ask = absurd is_ask
 
 pub ask_shape : (ws : List (Bor (List ℕ))) (d : Bor (List ℕ)) (l : Line) → AreWordsOf l (codes "1" ∷ said_by ws) → AskShape ws d
 ask_shape ws d (line.Drive label) h = cc h.0

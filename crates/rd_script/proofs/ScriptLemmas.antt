@@ -109,8 +109,7 @@ one_ask (op.Read offset count) handle asking is_ask l k a b =
 one_ask op.Close handle asking is_ask l k a b =
     let same = close_words handle in
     ((same l).0 (subst (λ (ws : List (List ℕ)). AreWordsOf l (codes "1" ∷ ws)) is_ask a)).2 ∙ sym ((same k).0 (subst (λ (ws : List (List ℕ)). AreWordsOf k (codes "1" ∷ ws)) is_ask b)).2
-one_ask (op.Unknown major minor) handle asking is_ask l k a b = absurd is_ask
-one_ask (op.Malformed major minor bad) handle asking is_ask l k a b = absurd is_ask
+one_ask _ handle asking is_ask l k a b = absurd is_ask
 
 -- words are those of one line
 one_line : (words : List (List ℕ)) (l k : Line) → AreWordsOf l words → AreWordsOf k words → l ≡ k

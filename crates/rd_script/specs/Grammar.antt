@@ -31,8 +31,7 @@ IsAskOf (op.Create access allocation attributes share disposition options path) 
 IsAskOf (op.Read offset count) handle words =
     (words ≡ codes "read" ∷ handle ∷ decimal offset ∷ decimal count ∷ []) × (offset < 2 ^ 64) × (count < 2 ^ 32)
 IsAskOf op.Close handle words = words ≡ codes "close" ∷ handle ∷ []
-IsAskOf (op.Unknown major minor) handle words = ⊥
-IsAskOf (op.Malformed major minor bad) handle words = ⊥
+IsAskOf _ handle words = ⊥
 
 -- the words of a line: `drive 1 NAME`, `file 1 PATH HEX`, or `1` and what application 1 asks for
 abbrev pub AreWordsOf : Line → List (List ℕ) → Type 0

@@ -1,10 +1,9 @@
 -- A session that goes on: each further line can be run to its end, whatever ended before.
-use Rattle.std.proofs.Common.{◌≡◌, ◌≤◌, ◌<◌, ◌^◌, ℕ, ◌+◌, List, [], ◌∷◌, ◌++◌, length, Bool, true, false, drop, Option, Some, None, refl, sym, ap, subst, ◌∙◌, lit<, arith}
+use Rattle.std.proofs.Common.{◌≡◌, ◌≤◌, ◌<◌, ◌^◌, ℕ, ◌+◌, List, ◌++◌, length, Bool, true, false, drop, Option, Some, None, refl, sym, ap, subst, ◌∙◌, lit<, arith}
 use Rattle.std.specs.Prelude.{◌&&◌, if◌then◌else◌, IfSome, IsFalse, bytes_eq}
 use Rattle.std.specs.List.{flat_map}
 use Rattle.std.specs.Io.KnownBytes.{Appends, append_known}
 use Rattle.std.proofs.lemmas.List.{length-append}
-use Rattle.rd_base.proofs.WrittenPathLemmas.{length-units}
 use Rattle.rd_irp.specs.declared.op.Op.{Op}
 use Rattle.rd_irp.specs.declared.op.Op.TheVariants as op
 use Rattle.rd_irp.specs.declared.completion.Body.{Body}
@@ -17,6 +16,7 @@ use Rattle.rd_irp.specs.declared.request.Request.{Request}
 use Rattle.rd_irp.specs.Fits.{Fits, IsSendable, body_length, fault_length, op_length, kind_of}
 use Rattle.rd_irp.specs.Completion.{SpellsBody}
 use Rattle.rd_irp.specs.Written.{IsBodyInRange, body_bytes, body_tail, head_bytes, op_bytes, request_bytes, request_head_bytes}
+use Rattle.rd_irp.proofs.OpLemmas.{length-op_bytes}
 use Rattle.rd_irp.proofs.WrittenLemmas.{body_after_head, body_spelled, head_spelled, length-body_bytes, request_spelled}
 use Rattle.rd_chunk.specs.Carrier.{IsMessage}
 use Rattle.rd_drive.specs.DriveState.{DriveState}
@@ -37,13 +37,6 @@ use Rattle.rd_session.proofs.Joined.{request_is_message}
 -- what passes for it, as this program writes it
 abbrev pub exchange_for : Request → Reply → Exchange
 exchange_for request reply = record { request = request; reply = reply; sent = request_bytes request; completion = completion_written request reply }
-
-length-op_bytes : (o : Op) → Fits o → length (op_bytes o) ≡ op_length o
-length-op_bytes (op.Create access allocation attributes share disposition options path) fits = omega (arith, length-units (path ++ 0 ∷ []), length-append path (0 ∷ []))
-length-op_bytes op.Close fits = refl
-length-op_bytes (op.Read offset count) fits = refl
-length-op_bytes (op.Unknown major minor) fits = absurd fits
-length-op_bytes (op.Malformed major minor bad) fits = absurd fits
 
 length-request_bytes : (r : Request) → Fits r.op → length (request_bytes r) ≡ 24 + op_length r.op
 length-request_bytes r fits = length-append (request_head_bytes r) (op_bytes r.op) ∙ ap (λ (n : ℕ). 24 + n) (length-op_bytes r.op fits)

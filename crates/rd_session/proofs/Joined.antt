@@ -148,10 +148,10 @@ both_recorded old middle new e first second =
 -- a request that fits is within the limit of a message
 request_most : (op : Op) → Fits op → 24 + op_length op ≤ 1052672
 request_most (op.Create access allocation attributes share disposition options path) fits = omega (arith, fits.0)
-request_most op.Close fits = omega arith
-request_most (op.Read offset count) fits = omega arith
+request_most (op.QueryDir class initial path) fits = omega (arith, fits.0)
 request_most (op.Unknown major minor) fits = absurd fits
 request_most (op.Malformed major minor bad) fits = absurd fits
+request_most _ fits = omega arith
 
 pub request_is_message : (op : Op) (message : List ℕ) → Fits op → length message ≡ 24 + op_length op → IsMessage message
 request_is_message op message fits long = (omega (arith, long), omega (arith, long, request_most op fits))

@@ -7,30 +7,33 @@ use Rattle.std.proofs.lemmas.Bool.Decides.{same_from_decides, Decides-and, Decid
 use Rattle.std.proofs.lemmas.List.{append_assoc, append-nil}
 use Rattle.std.proofs.lemmas.Nat.{from_le_bytes-to_le_bytes_4}
 use Rattle.std.proofs.lemmas.Slice.Eq.{bytes_eq-Decides}
+use Rattle.rd_base.specs.declared.packet.Packet.{Packet}
+use Rattle.rd_base.specs.declared.packet.Packet.TheVariants.{IoRequest, IoCompletion}
+use Rattle.rd_base.specs.Header.{component_of, packet_id, component_field, header, header_bytes}
 use Rattle.rd_base.specs.Layout.{Layout, ◌>>=◌, IsSpelled, Spells}
 use Rattle.rd_irp.specs.declared.completion.Head.{Head}
 use Rattle.rd_irp.specs.declared.op.Op.{Op}
-use Rattle.rd_irp.specs.declared.op.Op.TheVariants.{Create, Close, Read, Unknown, Malformed}
+use Rattle.rd_irp.specs.declared.op.Op.TheVariants.{Malformed}
 use Rattle.rd_irp.specs.declared.request.Request.{Request}
-use Rattle.rd_irp.specs.Header.{core, header}
-use Rattle.rd_irp.specs.Written.{header_bytes}
 use Rattle.rd_irp.specs.Request.{request_head, whole_request, SpellsWith, SpellsRequest}
 use Rattle.rd_irp.specs.Completion.{completion_head, SpellsHead}
 use Rattle.rd_session.specs.Told.{names_pair}
 
 -- a header is its four bytes
-header_is : (packet : ℕ) (u : Unit {0}) (field behind : List ℕ) → IsSpelled (header packet) u field behind → field ≡ header_bytes packet
-unfolding header
+header_is : (packet : Packet) (u : Unit {0}) (field behind : List ℕ) → IsSpelled (header packet) u field behind → field ≡ header_bytes packet
+unfolding header component_field
 header_is packet u field behind s =
-    let t = s.5 in
-    let n = t.5 in
+    let c = s.4 in
+    let n = s.5 in
     let last = n.5 in
-    let is = and_parts (n.0 == packet) (s.0 == core) last.4.0 in
-    let first : s.1 ≡ to_le_bytes w16 core = s.4.0 ∙ ap (λ c. to_le_bytes w16 c) (eqb-true s.0 core is.1) in
-    let third : n.1 ≡ to_le_bytes w16 packet = n.4.0 ∙ ap (λ c. to_le_bytes w16 c) (eqb-true n.0 packet is.0) in
+    let is = and_parts (s.0 == component_of packet) (n.0 == packet_id packet) last.4.0 in
+    let value : c.0 ≡ component_of packet = sym c.5.5.0 ∙ eqb-true s.0 (component_of packet) is.0 in
+    let no_more : c.2 ≡ [] = c.5.3 ∙ ap (λ (x : List ℕ). x ++ c.5.2) c.5.4.1 ∙ c.5.5.1 in
+    let first : s.1 ≡ to_le_bytes w16 (component_of packet) = c.3 ∙ ap (λ (x : List ℕ). c.1 ++ x) no_more ∙ append-nil c.1 ∙ c.4.0 ∙ ap (λ (m : ℕ). to_le_bytes w16 m) value in
+    let third : n.1 ≡ to_le_bytes w16 (packet_id packet) = n.4.0 ∙ ap (λ (m : ℕ). to_le_bytes w16 m) (eqb-true n.0 (packet_id packet) is.1) in
     let end : n.2 ≡ [] = last.3 ∙ ap (λ (x : List ℕ). x ++ last.2) last.4.1 ∙ last.5.1 in
-    let second : s.2 ≡ n.1 = t.3 ∙ ap (λ (x : List ℕ). x ++ t.2) t.4.1 ∙ n.3 ∙ ap (λ (x : List ℕ). n.1 ++ x) end ∙ append-nil n.1 in
-    s.3 ∙ ap (λ (x : List ℕ). x ++ s.2) first ∙ ap (λ (x : List ℕ). to_le_bytes w16 core ++ x) (second ∙ third)
+    let second : s.2 ≡ n.1 = n.3 ∙ ap (λ (x : List ℕ). n.1 ++ x) end ∙ append-nil n.1 in
+    s.3 ∙ ap (λ (x : List ℕ). x ++ s.2) first ∙ ap (λ (x : List ℕ). to_le_bytes w16 (component_of packet) ++ x) (second ∙ third)
 
 -- bytes with this front
 abbrev pub Begins : List ℕ → List ℕ → Type 0
@@ -45,7 +48,7 @@ begins_more front field behind bytes b e =
 record BeginsWith {A : Type 0} (front : List ℕ) (l : Layout A) : Type 0 where
   each : (a : A) (field behind : List ℕ) → IsSpelled l a field behind → Begins front field
 
-begins_header : (packet : ℕ) → BeginsWith (header_bytes packet) (header packet)
+begins_header : (packet : Packet) → BeginsWith (header_bytes packet) (header packet)
 begins_header packet = record { each = λ u field behind s. ([], header_is packet u field behind s ∙ sym (append-nil (header_bytes packet))) }
 
 begins_then : {A B : Type 0} {front : List ℕ} {l : Layout A} {next : A → Layout B} → BeginsWith front l → BeginsWith front (l >>= next)
@@ -54,23 +57,20 @@ begins_then {front = front} first = record { each = λ b field behind s. begins_
 begins_spells : {A : Type 0} {front : List ℕ} {l : Layout A} (a : A) (tail : ℕ) (bytes : List ℕ) → BeginsWith front l → Spells l a tail bytes → Begins front bytes
 begins_spells {front = front} a tail bytes b s = begins_more front s.0 s.1 bytes (b.each a s.0 s.1 s.4) s.2
 
-begins_request : BeginsWith (header_bytes 0x4952) request_head
+begins_request : BeginsWith (header_bytes IoRequest) request_head
 unfolding request_head
-begins_request = begins_then (begins_header 0x4952)
+begins_request = begins_then (begins_header IoRequest)
 
-begins_whole : BeginsWith (header_bytes 0x4952) whole_request
+begins_whole : BeginsWith (header_bytes IoRequest) whole_request
 unfolding whole_request
 begins_whole = begins_then begins_request
 
-with_begins : (o : Op) (r : Request) (tail : ℕ) (bytes : List ℕ) → SpellsWith o r tail bytes → Begins (header_bytes 0x4952) bytes
-with_begins (Create a b c d e f g) r tail bytes s = begins_spells r tail bytes begins_whole s
-with_begins Close r tail bytes s = begins_spells r tail bytes begins_whole s
-with_begins (Read a b) r tail bytes s = begins_spells r tail bytes begins_whole s
-with_begins (Unknown a b) r tail bytes s = begins_spells r tail bytes begins_whole s
-with_begins (Malformed a b c) r tail bytes s = begins_more (header_bytes 0x4952) s.0 s.1 bytes (begins_request.each _ s.0 s.1 s.4) s.2
+with_begins : (o : Op) (r : Request) (tail : ℕ) (bytes : List ℕ) → SpellsWith o r tail bytes → Begins (header_bytes IoRequest) bytes
+with_begins (Malformed a b c) r tail bytes s = begins_more (header_bytes IoRequest) s.0 s.1 bytes (begins_request.each _ s.0 s.1 s.4) s.2
+with_begins _ r tail bytes s = begins_spells r tail bytes begins_whole s
 
 -- a request begins with its header
-pub request_begins : (r : Request) (tail : ℕ) (bytes : List ℕ) → SpellsRequest r tail bytes → Begins (header_bytes 0x4952) bytes
+pub request_begins : (r : Request) (tail : ℕ) (bytes : List ℕ) → SpellsRequest r tail bytes → Begins (header_bytes IoRequest) bytes
 request_begins r tail bytes s = with_begins r.op r tail bytes s
 
 -- the pair of a device and a completion id
@@ -82,23 +82,23 @@ join_row : (x a b c h d e : List ℕ) → x ≡ a ++ b → b ≡ c ++ e → a �
 join_row x a b c h d e is first head second = is ∙ ap (λ (y : List ℕ). y ++ b) head ∙ ap (λ (y : List ℕ). h ++ y) (first ∙ ap (λ (y : List ℕ). y ++ e) second)
 
 -- a completion begins with its header, its device and its completion id
-head_begins : (head : Head) (field behind : List ℕ) → IsSpelled completion_head head field behind → Begins (header_bytes 0x4943 ++ pair_bytes head.device head.completion) field
+head_begins : (head : Head) (field behind : List ℕ) → IsSpelled completion_head head field behind → Begins (header_bytes IoCompletion ++ pair_bytes head.device head.completion) field
 unfolding completion_head
 head_begins head field behind s =
     let d = s.5 in
     let c = d.5 in
     let t = c.5 in
-    let first : s.1 ≡ header_bytes 0x4943 = header_is 0x4943 s.0 s.1 _ s.4 in
+    let first : s.1 ≡ header_bytes IoCompletion = header_is IoCompletion s.0 s.1 _ s.4 in
     let device : d.1 ≡ to_le_bytes w32 head.device = d.4.0 ∙ ap (λ (h : Head). to_le_bytes w32 h.device) (sym t.5.0) in
     let completion : c.1 ≡ to_le_bytes w32 head.completion = c.4.0 ∙ ap (λ (h : Head). to_le_bytes w32 h.completion) (sym t.5.0) in
     let behind_pair : s.2 ≡ to_le_bytes w32 head.device ++ (to_le_bytes w32 head.completion ++ c.2) =
     join_row s.2 d.1 d.2 c.1 (to_le_bytes w32 head.device) (to_le_bytes w32 head.completion) c.2 d.3 c.3 device completion in
-    (c.2, s.3 ∙ ap (λ (y : List ℕ). y ++ s.2) first ∙ ap (λ (y : List ℕ). header_bytes 0x4943 ++ y) behind_pair)
+    (c.2, s.3 ∙ ap (λ (y : List ℕ). y ++ s.2) first ∙ ap (λ (y : List ℕ). header_bytes IoCompletion ++ y) behind_pair)
 
 -- the eight bytes behind a completion's header
 pub pair_is : (head : Head) (tail : ℕ) (bytes : List ℕ) → SpellsHead head tail bytes → take 8 (drop 4 bytes) ≡ pair_bytes head.device head.completion
 pair_is head tail bytes s =
-    let b = begins_more (header_bytes 0x4943 ++ pair_bytes head.device head.completion) s.0 s.1 bytes (head_begins head s.0 s.1 s.4) s.2 in
+    let b = begins_more (header_bytes IoCompletion ++ pair_bytes head.device head.completion) s.0 s.1 bytes (head_begins head s.0 s.1 s.4) s.2 in
     ap (λ (y : List ℕ). take 8 (drop 4 y)) b.1
 
 -- two pairs with the same bytes are the same pair

@@ -11,7 +11,8 @@ use Rattle.rd_base.specs.declared.journal.Item.{Item}
 use Rattle.rd_irp.specs.declared.completion.Reply.{Reply}
 use Rattle.rd_irp.specs.declared.request.Request.{Request}
 use Rattle.rd_irp.specs.Request.{SpellsRequest}
-use Rattle.rd_irp.specs.Written.{header_bytes}
+use Rattle.rd_base.specs.declared.packet.Packet.TheVariants.{IoRequest}
+use Rattle.rd_base.specs.Header.{header_bytes}
 use Rattle.rd_session.specs.declared.recording.Side.TheVariants.{Host, Client}
 use Rattle.rd_chunk.specs.Carrier.{IsMessage}
 use Rattle.rd_session.specs.Channel.{Exchange, answer_in, recorded_in}
@@ -101,7 +102,7 @@ counts p x xs = sum_by-cons (λ y. cond (p y) 1 0) x xs
 spells_counts : (r : Request) (tail : ℕ) (message : List ℕ) → SpellsRequest r tail message → is_request (Host, message) ≡ true
 spells_counts r tail message s =
     let b = request_begins r tail message s in
-    (bytes_eq-Decides (take 4 message) (header_bytes 0x4952)).1 (ap (λ (x : List ℕ). take 4 x) b.1)
+    (bytes_eq-Decides (take 4 message) (header_bytes IoRequest)).1 (ap (λ (x : List ℕ). take 4 x) b.1)
 
 at_most_one : (b : Bool) → cond b 1 0 ≤ 1
 at_most_one true = omega arith

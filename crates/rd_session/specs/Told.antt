@@ -11,8 +11,9 @@ use Rattle.rd_irp.specs.declared.completion.Body.TheVariants.{Fault}
 use Rattle.rd_irp.specs.declared.request.Request.{Request}
 use Rattle.rd_irp.specs.Fits.{kind_of}
 use Rattle.rd_irp.specs.Completion.{SpellsHead, SpellsBody}
-use Rattle.rd_irp.specs.Header.{io_request, io_completion}
-use Rattle.rd_irp.specs.Written.{header_bytes, completion_bytes}
+use Rattle.rd_base.specs.declared.packet.Packet.TheVariants.{IoRequest, IoCompletion}
+use Rattle.rd_base.specs.Header.{header_bytes}
+use Rattle.rd_irp.specs.Written.{completion_bytes}
 use Rattle.rd_session.specs.Recording.{Passed, is_host, is_client}
 
 -- STATUS_CANCELLED (MS-ERREF 2.3): the request was given up before it ran
@@ -81,11 +82,11 @@ names_device device message = bytes_eq (take 4 (drop 4 message)) (to_le_bytes w3
 
 -- whether it is a request of the host for some device
 abbrev pub is_request : Passed → Bool
-is_request passed = is_host passed && bytes_eq (take 4 passed.1) (header_bytes io_request)
+is_request passed = is_host passed && bytes_eq (take 4 passed.1) (header_bytes IoRequest)
 
 -- whether it is a completion of the client for the device
 abbrev pub completes : ℕ → Passed → Bool
-completes device passed = is_client passed && bytes_eq (take 4 passed.1) (header_bytes io_completion) && names_device device passed.1
+completes device passed = is_client passed && bytes_eq (take 4 passed.1) (header_bytes IoCompletion) && names_device device passed.1
 
 -- At each moment of a channel, what a device completed before it ran before what is requested of it after it. The indices of its keys
 -- count the requests of the channel.
