@@ -1,0 +1,4 @@
+pub mod OverLemmas
+pub mod PageLemmas
+pub mod CountLemmas
+pub mod ContentsLemmas
