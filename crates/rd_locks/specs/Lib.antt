@@ -1,0 +1,4 @@
+pub mod Locks
+pub mod Slots
+pub mod Index
+pub mod Worked
