@@ -22,7 +22,10 @@ mod progress;
 mod splitter;
 
 pub use fault::{ChunkBad, ChunkWhy, FeedNo};
-pub use head::{CHUNK_LEN, FIRST, HEAD_LEN, LAST, MAX_CHUNK, MAX_MESSAGE, PACKET_COMPRESSED};
+pub use head::{
+    CHUNK_LEN, FIRST, HEAD_LEN, Head, LAST, MAX_CHUNK, MAX_MESSAGE, PACKET_COMPRESSED, RowFault,
+    fields_fault, size_fault,
+};
 pub use joiner::Joiner;
 pub use laws::{
     carrier_carries, faulty_or_sound, first_and_last_alone, one_reading, stands_without_fault,

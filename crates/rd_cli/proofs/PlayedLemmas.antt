@@ -20,9 +20,9 @@ use Rattle.rd_session.specs.Early.{EndedEarly}
 use Rattle.rd_session.specs.Session.{IsSession}
 use Rattle.rd_session.proofs.Fronts.{front_behind, front_more, some_session}
 use Rattle.rd_session.proofs.SoFar.{empty_session}
-use Rattle.rd_cli.specs.Outside.{FailedToWrite, Stream, Wrote}
+use Rattle.rd_cli.specs.Outside.{Stream, Wrote}
 use Rattle.rd_cli.specs.Headline.{IsPlayed, Played}
-use Rattle.rd_cli.specs.Ends.{FailedToRecord}
+use Rattle.rd_cli.specs.Playing.{FailedToRecord}
 
 -- Without a drive nothing is played.
 pub empty_played : {R : Type 0} (said : Said) (outcomes : List Outcome) (before after : Stream R) (books : List (ℕ × History)) → said ≡ nothing_said → outcomes ≡ [] → books ≡ [] → Wrote before after (recording_of (begins ∷ []))

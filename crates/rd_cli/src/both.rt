@@ -1,26 +1,46 @@
 //! The command `both`: a script, read whole, is played by both ends of one session.
 
-ghost use Rattle.std.specs.Prelude.{◌≡◌, ◌↔◌, [], All, IsTrue, IfErr, IfOk, codes, map, string_bytes};
+ghost use Rattle.std.specs.Prelude.{◌≡◌, [], All, IfErr, IfOk};
 ghost use Rattle.rd_base.specs.Faults.{one_more};
-ghost use Rattle.rd_cli.specs.Ends.{AreBoth, EndsBoth, StopsForRecording, StopsForText};
 ghost use Rattle.rd_cli.specs.Headline.{Played};
 ghost use Rattle.rd_cli.specs.Outside.{outside, stream};
+ghost use Rattle.rd_cli.specs.Playing.{ComesOutOfBoth, IsEndOfBoth, StopsForRecording, StopsForText};
 ghost use Rattle.rd_script.specs.Asks.{CanBeSent};
 ghost use Rattle.rd_script.specs.Grammar.{Said, IsScript};
 ghost use Rattle.rd_script.specs.ReadScript.{HoldsSaid};
 
+use crate::ending::end;
 use crate::input::read_all;
-use crate::notes::{note_line, note_usage};
+use crate::notes::note_line;
 use crate::stop::Stop;
 use rd_base::{Books, Sink, Source, write_all};
 use rd_script::{MAX_BYTES, Outcome, Script, ScriptNo, read_script, report};
 use rd_session::{DEVICE, RunNo, Session, begin_recording, run_session};
 use std::alloc::Global;
 
-/// Reads a script from the input, plays it, and writes its report to the output. The first event that stops it ends it.
+/// Plays the script of the input, and returns the exit status.
 pub fn both<S: Source, K: Sink, R: Sink, N: Sink>(
     alloc: Global,
-    words: &[String],
+    input: &mut S,
+    output: &mut K,
+    recording: &mut R,
+    notes: &mut N,
+    books: &mut Books,
+) -> u8
+    requires { books.old ≡ [] }
+    ensures { IsEndOfBoth
+        (outside S.left S.faults K.held K.faults R.held R.faults input.old output.old recording.old)
+        (outside S.left S.faults K.held K.faults R.held R.faults input.new output.new recording.new) books.new result }
+{
+    match report_script(alloc, input, output, recording, notes, books) {
+        Ok(()) => 0,
+        Err(stop) => end(alloc, output, stop),
+    }
+}
+
+/// Reads a script from the input, plays it, and writes its report to the output. The first event that stops it ends it.
+fn report_script<S: Source, K: Sink, R: Sink, N: Sink>(
+    alloc: Global,
     input: &mut S,
     output: &mut K,
     recording: &mut R,
@@ -28,14 +48,10 @@ pub fn both<S: Source, K: Sink, R: Sink, N: Sink>(
     books: &mut Books,
 ) -> Result<(), Stop>
     requires { books.old ≡ [] }
-    ensures { EndsBoth (map string_bytes words.now)
+    ensures { ComesOutOfBoth
         (outside S.left S.faults K.held K.faults R.held R.faults input.old output.old recording.old)
         (outside S.left S.faults K.held K.faults R.held R.faults input.new output.new recording.new) books.new result }
 {
-    if !are_both(words) {
-        note_usage(notes);
-        return Err(Stop::Words);
-    }
     let text = read_all(alloc, input, MAX_BYTES)?;
     let script = script_in(alloc, text.as_slice(), notes)?;
     let outcomes = play(alloc, script, recording, books)?;
@@ -87,20 +103,4 @@ fn play<R: Sink>(
     };
     books.put(DEVICE, journal)?;
     Ok(outcomes)
-}
-
-/// Whether the words are the one command that there is.
-fn are_both(words: &[String]) -> bool
-    ensures { IsTrue result ↔ AreBoth (map string_bytes words.now) }
-{
-    match words {
-        [word] => is_both(word),
-        _ => false,
-    }
-}
-
-fn is_both(word: &String) -> bool
-    ensures { IsTrue result ↔ (string_bytes word.now ≡ codes "both") }
-{
-    word.as_str() == "both"
 }

@@ -3,7 +3,7 @@
 ghost use Rattle.std.specs.Prelude.{◌≡◌, ◌≤◌, length, IfOk, IfErr};
 ghost use Rattle.std.specs.Io.KnownBytes.{IsAtEnd};
 ghost use Rattle.rd_cli.specs.Outside.{Read, stream};
-ghost use Rattle.rd_cli.specs.Ends.{StopsForInput};
+ghost use Rattle.rd_cli.specs.Playing.{StopsForInput};
 
 use crate::stop::Stop;
 use rd_base::Source;

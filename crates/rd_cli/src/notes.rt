@@ -11,8 +11,9 @@ const SHOWN: usize = 64;
 const USAGE: &str = "\
 rdr: both ends of Remote Desktop drive redirection
 usage: rdr both < SCRIPT
-  plays the script of the standard input, prints a report, and leaves the frames in rdr.rec
-docs/SCRIPT.md says how to write a script and what a report says
+         plays the script of the standard input, prints a report, and leaves the frames in rdr.rec (docs/SCRIPT.md)
+       rdr decode < RECORDING
+         prints a line for each message of a recording, and names the first fault (docs/RECORDING.md)
 ";
 
 /// Says how the command is used.

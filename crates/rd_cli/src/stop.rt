@@ -3,6 +3,7 @@
 ghost use Rattle.std.specs.Prelude.{◌≡◌};
 ghost use Rattle.rd_cli.specs.declared.stop.Stop.TheVariants as stop;
 
+use rd_decode::Fault;
 use std::alloc::{AllocError, AllocFailed};
 
 #[derive(Debug, Drop)]
@@ -17,11 +18,15 @@ pub enum Stop {
     Output,
     /// A write to the recording failed.
     Recording,
+    /// This is the first fault of the recording that was to be printed.
+    Fault(Fault),
+    /// The recording has 2^40 bytes or more.
+    Long,
     Memory,
 }
 
 impl Stop {
-    ghost use Rattle.rd_cli.specs.Ends.{status_of};
+    ghost use Rattle.rd_cli.specs.Stops.{status_of};
 
     /// The exit status.
     pub fn status(&self) -> u8
@@ -31,7 +36,9 @@ impl Stop {
             Stop::Words | Stop::Line(_) => 1,
             Stop::Input => 2,
             Stop::Output | Stop::Recording => 3,
+            Stop::Fault(_) => 4,
             Stop::Memory => 6,
+            Stop::Long => 7,
         }
     }
 }

@@ -194,7 +194,7 @@ fn ends_where_the_outside_fails(rt: HostRuntime) -> Result<(), Fail> {
     Ok(())
 }
 
-/// A command over a script is refused with this line, and nothing is recorded.
+/// Words, or a script, are refused with this line, and nothing is recorded.
 fn refuses(
     rt: &impl Abort,
     alloc: Global,
@@ -257,19 +257,67 @@ fn holds_scripts_to_their_limits(rt: HostRuntime) -> Result<(), Fail> {
 }
 
 #[test]
-fn knows_one_command(rt: HostRuntime) -> Result<(), Fail> {
-    for words in [[].as_slice(), &["decode"], &["both", "both"], &["Both"]] {
+fn knows_each_command_by_its_one_word(rt: HostRuntime) -> Result<(), Fail> {
+    for words in [
+        [].as_slice(),
+        &[""],
+        &["Both"],
+        &["both", "both"],
+        &["both", "decode"],
+        &["decode", ""],
+        &["help"],
+        &["help", "both"],
+        &["both", "help"],
+        &["-"],
+        &["--"],
+        &["--", "both"],
+        &["both", "--"],
+        &["--help"],
+        &["decode", "-h"],
+        &["--version"],
+    ] {
         refuses(&rt, rt.alloc(), words, SCRIPT, b"bad words\n")?;
     }
     // The line can't be written, and the status stays. Nothing is read.
     let unsaid = [[1].as_slice(), &[1], &[]];
-    ends(&rt, rt.alloc(), &["decode"], SCRIPT, unsaid, (1, b"", b""))
+    ends(&rt, rt.alloc(), &["help"], SCRIPT, unsaid, (1, b"", b""))
+}
+
+/// A recording in which the host announces itself, and what is printed of it.
+const ANNOUNCE: &[u8] = b"RDRREC01\x02\0\x14\0\0\0\x0c\0\0\0\x03\0\0\0rDnI\x01\0\x0c\0\x01\0\0\0";
+
+const ANNOUNCE_LINE: &[u8] = b"host 12 SERVER_ANNOUNCE tail 0\n";
+
+/// The same, cut inside the frame.
+const CUT: &[u8] = b"RDRREC01\x02\0\x14\0\0\0\x0c\0\0\0\x03\0\0\0rDnI\x01\0\x0c\0\x01\0\0";
+
+const CUT_LINE: &[u8] = b"fault at 10 Short\n";
+
+#[test]
+fn decodes_a_recording(rt: HostRuntime) -> Result<(), Fail> {
+    for (recording, fails, status, output) in [
+        (ANNOUNCE, NEVER, 0, ANNOUNCE_LINE),
+        (CUT, NEVER, 4, CUT_LINE),
+        (b"", NEVER, 4, b"fault at 0 Value\n"),
+        (ANNOUNCE, [[1].as_slice(), &[], &[]], 2, b""),
+        (ANNOUNCE, [&[], &[1], &[]], 3, b""),
+        // The line can't be written, and the status stays.
+        (CUT, [&[], &[1], &[]], 4, b""),
+        // Nothing is recorded, so no failure of the recording is met.
+        (ANNOUNCE, [&[], &[], &[1]], 0, ANNOUNCE_LINE),
+    ] {
+        let wanted = (status, output, b"".as_slice());
+        ends(&rt, rt.alloc(), &["decode"], recording, fails, wanted)?;
+    }
+    Ok(())
 }
 
 #[test]
 fn tells_people_what_is_wrong(rt: HostRuntime) -> Result<(), Fail> {
     for (words, script, told) in [
         (["--help"], SCRIPT, "usage: rdr both < SCRIPT"),
+        (["help"], SCRIPT, "rdr decode < RECORDING"),
+        (["decode"], CUT, ""),
         (
             ["both"],
             b"drive 1 DATA\n1 raed h 0 5\n".as_slice(),

@@ -3,4 +3,5 @@ pub mod Fits
 pub mod Request
 pub mod Completion
 pub mod Written
+pub mod Measure
 pub mod Worked

@@ -81,7 +81,8 @@ pub fn kind_of(op: &Op) -> Kind
     }
 }
 
-fn kind_of_major(major: u32) -> Kind
+/// The layout of the completion of a request with this MajorFunction, whatever comes after its head.
+pub fn kind_of_major(major: u32) -> Kind
     ensures { result ≡ kind_of_major major }
 {
     match major {
@@ -184,7 +185,7 @@ fn success_of(alloc: Global, kind: Kind, cursor: &mut Cursor<'_>) -> Result<Body
 }
 
 /// Skips as much of the padding as is there.
-fn skip_pad(cursor: &mut Cursor<'_>, count: u32) -> Result<(), Bad>
+pub fn skip_pad(cursor: &mut Cursor<'_>, count: u32) -> Result<(), Bad>
     ensures { Reads (λ u. u) (missing_pad count) cursor.old cursor.new result }
 {
     let present = cursor.rest().len().min(count as usize);

@@ -14,16 +14,18 @@ mod directory;
 mod files;
 mod laws;
 mod lock;
+mod measure;
 mod op;
 mod path;
 mod request;
 
 pub use completion::{
-    Body, COMPLETION_HEAD_LEN, Head, Kind, Reply, body_fits, is_countable, kind_of, put_body,
-    put_completion, read_body, read_head, write_body, write_completion,
+    Body, COMPLETION_HEAD_LEN, Head, Kind, Reply, body_fits, is_countable, kind_of, kind_of_major,
+    put_body, put_completion, read_body, read_head, write_body, write_completion,
 };
 pub use laws::{
     completion_body_is_decided, completion_head_is_decided, request_is_decided, worked_operations,
 };
+pub use measure::{measure_body, measure_request};
 pub use op::{MAX_BUFFER, MAX_PATH, MAX_RANGES, Op, Range, Ranges, fits};
-pub use request::{Request, put_request, read_request, write_request};
+pub use request::{Request, RequestHead, put_request, read_request, write_request};

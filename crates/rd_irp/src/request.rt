@@ -38,12 +38,12 @@ pub struct Request {
 
 /// What the first 24 bytes of a request say.
 #[derive(Clone, Copy, Debug, PartialEq, Eq)]
-struct RequestHead {
-    device: u32,
-    file: u32,
-    completion: u32,
-    major: u32,
-    minor: u32,
+pub struct RequestHead {
+    pub device: u32,
+    pub file: u32,
+    pub completion: u32,
+    pub major: u32,
+    pub minor: u32,
 }
 
 /// Reads a request, and counts the ignored bytes after it. A fault in its head is `Bad`, at its place in the message.
@@ -78,7 +78,7 @@ pub fn read_request(alloc: Global, bytes: &[u8]) -> Result<(Request, u32), ReadN
 }
 
 #[tactic(auto, unfolding(crate::specs::Request::request_head))]
-fn head_of(cursor: &mut Cursor<'_>) -> Result<RequestHead, Bad>
+pub fn head_of(cursor: &mut Cursor<'_>) -> Result<RequestHead, Bad>
     ensures { Reads (λ head. head) request_head cursor.old cursor.new result }
 {
     read_header(cursor, Packet::IoRequest)?;

@@ -24,7 +24,7 @@ impl Termination for Ended {
     }
 }
 
-/// Runs the command that the words are. Its frames go to the recording in the current folder. The notes get what a person at the
+/// Runs the command that the words are. Frames of `both` go to the recording in the current folder. The notes get what a person at the
 /// terminal wants to know: how the command is used, what is wrong with a line, why the recording failed, that memory ran out.
 pub fn command<R: Files + AllocGlobal, S: Source, K: Sink, N: Sink>(
     rt: &R,
@@ -69,6 +69,7 @@ mod tests {
     use rd_base::{Bytes, Calls, MemSink, MemSource};
     use std::alloc::Global;
     use std::fs;
+    use std::io::ErrorKind;
     use std::process::Abort;
     use std::test::Fail;
 
@@ -78,11 +79,11 @@ mod tests {
 
     const RECORDED: &[u8] = b"RDRREC01\x02";
 
-    /// Runs `both` over a script, and returns the status and the output.
-    fn ended(rt: &HostRuntime, script: &[u8]) -> Result<(u8, MemSink), AllocError> {
+    /// Runs a command over an input, and returns the status and the output.
+    fn ended(rt: &HostRuntime, word: &str, input: &[u8]) -> Result<(u8, MemSink), AllocError> {
         let never = Calls::of(Vec::new(rt.alloc()));
-        let words = vec![in rt.alloc(); String::from_str(rt.alloc(), "both")?]?;
-        let mut input = MemSource::new(Bytes::of(script.to_vec(rt.alloc())?), never.copy()?);
+        let words = vec![in rt.alloc(); String::from_str(rt.alloc(), word)?]?;
+        let mut input = MemSource::new(Bytes::of(input.to_vec(rt.alloc())?), never.copy()?);
         let mut output = MemSink::new(rt.alloc(), never.copy()?);
         let mut notes = MemSink::new(rt.alloc(), never);
         let ended = command(rt, Ok(words), &mut input, &mut output, &mut notes);
@@ -91,11 +92,15 @@ mod tests {
 
     #[test]
     fn leaves_a_recording_of_what_ran(rt: HostRuntime) -> Result<(), Fail> {
+        let (status, output) = ended(&rt, "decode", RECORDED)?;
+        assert_eq!(rt; (status, output.bytes()), (0, b"".as_slice()));
+        let recording = fs::metadata(&rt, RECORDING).map_err(|error| error.kind());
+        assert!(rt; matches!(recording, Err(ErrorKind::NotFound)));
         for (script, status, printed) in [
             (SCRIPT, 0, REPORT),
             (b"drive 2 DATA\n", 1, b"line 1 words\n".as_slice()),
         ] {
-            let (ended, output) = ended(&rt, script)?;
+            let (ended, output) = ended(&rt, "both", script)?;
             assert_eq!(rt; (ended, output.bytes()), (status, printed));
             assert_eq!(rt; fs::read(&rt, RECORDING)?.as_slice(), RECORDED);
         }

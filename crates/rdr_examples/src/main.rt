@@ -1,5 +1,8 @@
-//! Runs every script of the current folder with `both`, and compares what it does with what stands beside it: `NAME.report` the
-//! output, `NAME.rec` the recording, `NAME.status` the exit status where that isn't 0. It fails where one differs.
+//! Runs the examples of the current folder, and compares what each does with what stands beside it.
+//!
+//! `NAME.script` is played with `both`: `NAME.report` is the output, `NAME.rec` the recording, `NAME.status` the exit status where that
+//! isn't 0. Where there is a `NAME.lines`, `NAME.rec` is read with `decode`: `NAME.lines` is the output, and `NAME.status` the exit status
+//! where no script has that name. It fails where one differs.
 #![tactic(auto)]
 
 use anyhow::{Context, Result, bail};
@@ -8,13 +11,14 @@ use std::fs;
 use std::io::ErrorKind;
 
 fn main(rt: HostRuntime) -> Result<()> {
-    let mut names = names_of(&rt)?;
-    names.sort()?;
     let mut differ = 0u64;
-    for name in &names {
-        let difference = difference_of(&rt, name)?;
-        println!(rt; "{name}: {}", difference.unwrap_or("as told"))?;
-        differ = differ.saturating_add(u64::from(difference.is_some()));
+    for name in &names_of(&rt, ".script")? {
+        let difference = played(&rt, name)?;
+        differ = differ.saturating_add(told(&rt, "script", name, difference)?);
+    }
+    for name in &names_of(&rt, ".lines")? {
+        let difference = decoded(&rt, name)?;
+        differ = differ.saturating_add(told(&rt, "recording", name, difference)?);
     }
     if differ != 0 {
         bail!("{differ} of the examples differ");
@@ -22,24 +26,72 @@ fn main(rt: HostRuntime) -> Result<()> {
     Ok(())
 }
 
-/// The names of the scripts, without their ending.
-fn names_of(rt: &HostRuntime) -> Result<Vec<String>> {
+/// The names of the files with this ending, without it, in order.
+fn names_of(rt: &HostRuntime, ending: &str) -> Result<Vec<String>> {
     let mut names = Vec::new(rt.alloc());
     for entry in fs::read_dir(rt, ".")? {
         let entry = entry?;
-        if let Some(name) = entry.file_name().strip_suffix(".script") {
+        if let Some(name) = entry.file_name().strip_suffix(ending) {
             names.push(String::from_str(rt.alloc(), name)?)?;
         }
     }
+    names.sort()?;
     Ok(names)
 }
 
+/// Says of an example whether it differs, and counts it then.
+fn told(rt: &HostRuntime, kind: &str, name: &String, difference: Option<&str>) -> Result<u64> {
+    println!(rt; "{kind} {name}: {}", difference.unwrap_or("as told"))?;
+    Ok(u64::from(difference.is_some()))
+}
+
+/// What a command leaves.
+#[derive(Drop)]
+struct Remains {
+    status: u8,
+    output: MemSink,
+    recording: MemSink,
+}
+
 /// The first thing in which a script's session differs from what stands beside it.
-fn difference_of(rt: &HostRuntime, name: &String) -> Result<Option<&'static str>> {
-    let script = read(rt, name, "script")?;
-    let words = vec![in rt.alloc(); String::from_str(rt.alloc(), "both")?]?;
+fn played(rt: &HostRuntime, name: &String) -> Result<Option<&'static str>> {
+    let left = left_by(rt, "both", read(rt, name, "script")?)?;
+    if left.status != status_of(rt, name)? {
+        return Ok(Some("another STATUS"));
+    }
+    if left.output.bytes() != read(rt, name, "report")?.as_slice() {
+        return Ok(Some("another REPORT"));
+    }
+    if left.recording.bytes() != read(rt, name, "rec")?.as_slice() {
+        return Ok(Some("another RECORDING"));
+    }
+    Ok(None)
+}
+
+/// The first thing in which what `decode` says of a recording differs from what stands beside it.
+fn decoded(rt: &HostRuntime, name: &String) -> Result<Option<&'static str>> {
+    let left = left_by(rt, "decode", read(rt, name, "rec")?)?;
+    let status = match exists(rt, name, "script")? {
+        true => 0,
+        false => status_of(rt, name)?,
+    };
+    if left.status != status {
+        return Ok(Some("another STATUS"));
+    }
+    if left.output.bytes() != read(rt, name, "lines")?.as_slice() {
+        return Ok(Some("other LINES"));
+    }
+    if !left.recording.bytes().is_empty() {
+        return Ok(Some("a RECORDING"));
+    }
+    Ok(None)
+}
+
+/// Runs a command over an input.
+fn left_by(rt: &HostRuntime, word: &str, input: Vec<u8>) -> Result<Remains> {
+    let words = vec![in rt.alloc(); String::from_str(rt.alloc(), word)?]?;
     let never = Calls::of(Vec::new(rt.alloc()));
-    let mut input = MemSource::new(Bytes::of(script), never.copy()?);
+    let mut input = MemSource::new(Bytes::of(input), never.copy()?);
     let mut output = MemSink::new(rt.alloc(), never.copy()?);
     let mut recording = MemSink::new(rt.alloc(), never);
     let mut books = Books::new(rt.alloc());
@@ -52,24 +104,29 @@ fn difference_of(rt: &HostRuntime, name: &String) -> Result<Option<&'static str>
         &mut PlainSink::new(),
         &mut books,
     );
-    if status != status_of(rt, name)? {
-        return Ok(Some("another STATUS"));
-    }
-    if output.bytes() != read(rt, name, "report")?.as_slice() {
-        return Ok(Some("another REPORT"));
-    }
-    if recording.bytes() != read(rt, name, "rec")?.as_slice() {
-        return Ok(Some("another RECORDING"));
-    }
-    Ok(None)
+    Ok(Remains {
+        status,
+        output,
+        recording,
+    })
 }
 
 /// The exit status of an example: 0 where it has no file that says another.
 fn status_of(rt: &HostRuntime, name: &String) -> Result<u8> {
+    if !exists(rt, name, "status")? {
+        return Ok(0);
+    }
     let path = format!(in rt.alloc(); "{name}.status")?;
-    match fs::read_to_string(rt, path.as_str()) {
-        Ok(text) => Ok(text.trim().parse::<u8>()?),
-        Err(error) if error.kind() == ErrorKind::NotFound => Ok(0),
+    let text = fs::read_to_string(rt, path.as_str()).context(format_args!("reading {path}"))?;
+    Ok(text.trim().parse::<u8>()?)
+}
+
+/// Whether there is a `NAME.ENDING`.
+fn exists(rt: &HostRuntime, name: &String, ending: &str) -> Result<bool> {
+    let path = format!(in rt.alloc(); "{name}.{ending}")?;
+    match fs::metadata(rt, path.as_str()) {
+        Ok(_) => Ok(true),
+        Err(error) if error.kind() == ErrorKind::NotFound => Ok(false),
         Err(error) => Err(error.into()),
     }
 }

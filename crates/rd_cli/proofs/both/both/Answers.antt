@@ -1,52 +1,8 @@
-use Rattle.std.proofs.Common.{◌∙◌, refl}
-use Rattle.rd_script.proofs.AskLemmas.{script_can}
-use Rattle.rd_cli.proofs.EndLemmas.{ends_err, read_whole, stopped_playing}
+use Rattle.rd_cli.proofs.PlayingLemmas.{played_end, stopped_end}
 use Rattle.rd_cli.proofs.both.both.Goals as goal
 
-pub returns-in_err-outcomes : goal.returns-in_err-outcomes
-returns-in_err-outcomes g c =
-    let script = rw c.as_slice.ensures.value at c.in_ok-script.ensures.script in
-    let reads = read_whole _ _ _ _ script.0 (c.are_both.ensures.0 c.if-not-are_both.false) c.in_ok-text.ensures.read c.in_ok-text.ensures.whole script.1 in
-    ends_err _ _ _ _ _ _ c.from_residual-in_err-outcomes.ensures.1
-    (stopped_playing _ _ _ _ script.0 _ reads refl (c.in_err-outcomes.ensures.err script.0 script.2 (script_can c.in_ok-text.text.items script.0 script.1)))
-
-pub returns-in_err-report : goal.returns-in_err-report
-returns-in_err-report g c =
-    let script = rw c.as_slice.ensures.value at c.in_ok-script.ensures.script in
-    let played = c.in_ok-outcomes.ensures.played script.0 script.2 in
-    ends_err _ _ _ _ _ _ c.from_residual-in_err-report.ensures.1
-    (record { input = c.in_ok-text.ensures.read.faultless; output = refl; recording = played.1.faultless })
-
 pub returns-in-Ok : goal.returns-in-Ok
-returns-in-Ok g c =
-    let both = c.are_both.ensures.0 c.if-not-are_both.false in
-    let script = rw c.as_slice.ensures.value at c.in_ok-script.ensures.script in
-    let reads = read_whole _ _ _ _ script.0 both c.in_ok-text.ensures.read c.in_ok-text.ensures.whole script.1 in
-    let report = rw c.as_slice-2.ensures.value at c.in_ok-report.ensures in
-    let written = rw (c.as_bytes.ensures.value, report) at c.in-Ok.ensures.written in (
-      both,
-      record {
-        text = reads.text;
-        said = script.0;
-        outcomes = c.in_ok-outcomes.outcomes.items;
-        read = reads.read;
-        script = reads.script;
-        played = c.in_ok-outcomes.ensures.played script.0 script.2;
-        reported = record { written = written; faultless = c.in-Ok.ensures.counted };
-      },
-    )
+returns-in-Ok g c = played_end _ _ _ c.in-Ok.ensures
 
-pub returns : goal.returns
-returns g c =
-    let script = rw c.as_slice.ensures.value at c.in_ok-script.ensures.script in
-    let reads = read_whole _ _ _ _ script.0 (c.are_both.ensures.0 c.if-not-are_both.false) c.in_ok-text.ensures.read c.in_ok-text.ensures.whole script.1 in
-    let report = rw c.as_slice-2.ensures.value at c.in_ok-report.ensures in
-    let prefix = rw (c.as_bytes.ensures.value, report) at c.in-Err.ensures.prefix in (
-      script.0,
-      reads,
-      record {
-        outcomes = c.in_ok-outcomes.outcomes.items;
-        played = c.in_ok-outcomes.ensures.played script.0 script.2;
-        failed = record { prefix = prefix; fault = c.in-Err.ensures.counted };
-      },
-    )
+pub returns-in-Err : goal.returns-in-Err
+returns-in-Err g c = stopped_end _ _ _ _ c.in-Err.stop _ c.in-Err.ensures c.end.ensures

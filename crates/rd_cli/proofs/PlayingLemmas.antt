@@ -1,0 +1,175 @@
+-- How the command `both` ends, from how it came out.
+use Rattle.std.proofs.Common.{◌≡◌, ◌≤◌, ℕ, List, [], ◌++◌, length, Option, Some, None, refl, sym, ap, subst, ◌∙◌, append-nil, inl, inr, arith}
+use Rattle.std.proofs.lemmas.Bool.{cases_lt}
+use Rattle.std.specs.Prelude.{◌⊎◌, Result, Ok, Err, IfErr, IsErrAnd}
+use Rattle.std.specs.Io.KnownBytes.{Consumes, IsAtEnd}
+use Rattle.std.proofs.lemmas.Option.{same_Some}
+use Rattle.rd_base.specs.History.{History}
+use Rattle.rd_script.specs.Grammar.{IsFirstBad, IsScript, Said}
+use Rattle.rd_script.proofs.TextLemmas.{script_short}
+use Rattle.rd_script.proofs.ScriptLemmas.{cut_bad, never_both}
+use Rattle.rd_cli.specs.declared.stop.Stop.{Stop}
+use Rattle.rd_cli.specs.declared.stop.Stop.TheVariants as stop
+use Rattle.rd_cli.specs.Outside.{AreFaultless, IsFaultless, Outside, Read, ReadToEnd, Stream}
+use Rattle.rd_cli.specs.Headline.{PlayedToEnd}
+use Rattle.rd_cli.specs.Stops.{EndsWith}
+use Rattle.rd_cli.specs.Playing.{ComesOutOfBoth, IsEndOfBoth, FailedToReport, GivesBadLine, GivesScript, HasRead, ReadsBadLine, ReadsScript, RefusesScript, StoppedPlaying, StopsForRecording}
+
+-- what holds of the one error that a result may be
+pub err_is : {T E : Type 0} (r : Result T E) (e : E) (P : E → Type 0) → IsErrAnd r (λ s. s ≡ e) → P e → IfErr r P
+err_is (Ok x) e P is p = absurd is
+err_is (Err s) e P is p = subst P (sym is) p
+
+-- how the command came out that stopped with this one error
+pub stopped_with : {T S K R : Type 0} (before after : Outside S K R) (books : List (ℕ × History)) (r : Result T Stop) (s : Stop) → IsErrAnd r (λ e. e ≡ s) → StoppedPlaying before after books s → ComesOutOfBoth before after books r
+stopped_with before after books (Ok x) s is stopped = absurd is
+stopped_with before after books (Err e) s is stopped = subst (λ (e : Stop). StoppedPlaying before after books e) (sym is) stopped
+
+-- a script that is short enough to be one was read to the input's end
+pub read_whole : {S : Type 0} (before after : Stream S) (text : List ℕ) (said : Said) → Read before after text → (length text ≤ 65536 → IsAtEnd after.bytes) → IsScript text said → ReadsScript before after said
+read_whole before after text said read whole script = record { text = text; read = record { read = read; ended = whole (script_short text said script) }; script = script }
+
+-- a stop of the playing of a script that was read
+pub stopped_playing : {S K R : Type 0} (before after : Outside S K R) (books : List (ℕ × History)) (said : Said) (s : Stop) → ReadsScript before.input after.input said → after.output ≡ before.output
+    → StopsForRecording said before.recording after.recording books s → StoppedPlaying before after books s
+stopped_playing before after books said stop.Recording reads silent (failed, none) = (said, reads, failed, silent, none)
+stopped_playing before after books said stop.Memory reads silent faultless =
+    record { input = reads.read.read.faultless; output = ap (λ (o : Stream _). o.faults) silent; recording = faultless }
+stopped_playing before after books said stop.Words reads silent other = absurd other
+stopped_playing before after books said (stop.Line number) reads silent other = absurd other
+stopped_playing before after books said stop.Input reads silent other = absurd other
+stopped_playing before after books said stop.Output reads silent other = absurd other
+stopped_playing before after books said (stop.Fault fault) reads silent other = absurd other
+stopped_playing before after books said stop.Long reads silent other = absurd other
+
+-- ---- scripts and bad lines
+-- A text that was read of a script has no first bad line.
+script_not_bad : {S : Type 0} (before after : Stream S) (text : List ℕ) (number : ℕ) → HasRead before after text → IsFirstBad text number → GivesScript before.bytes → ⊥
+script_not_bad before after text number read bad (whole, said, is, script) = go before.bytes after.bytes is read.read.taken read.whole
+  where
+    go : (left rest : Option (List ℕ)) → left ≡ Some whole → Consumes left rest text → (length text ≤ 65536 → IsAtEnd rest) → ⊥
+    go None rest is taken ended = absurd (cc)
+    go (Some xs) None is taken ended = absurd taken
+    go (Some xs) (Some ys) is taken ended =
+        let same : xs ≡ whole = same_Some _ _ is in
+        let parts : whole ≡ text ++ ys = sym same ∙ taken in
+        elim (cases_lt 65536 (length text)) [
+          | inl long ↦ never_both (text ++ ys) said number (subst (λ (t : List ℕ). IsScript t said) parts script) (cut_bad text ys number long bad)
+          | inr short ↦ never_both text said number (subst (λ (t : List ℕ). IsScript t said) (parts ∙ ap (λ (l : List ℕ). text ++ l) (ended short) ∙ append-nil text) script) bad
+        ]
+
+-- A script that was read to the input's end is all of the input, which then has no bad line.
+whole_not_bad : {S : Type 0} (before after : Stream S) (text : List ℕ) (said : Said) (number : ℕ) → ReadToEnd before after text → IsScript text said → GivesBadLine before.bytes number → ⊥
+whole_not_bad before after text said number read script (whole, is, bad) = go before.bytes after.bytes is read.read.taken read.ended
+  where
+    go : (left rest : Option (List ℕ)) → left ≡ Some whole → Consumes left rest text → IsAtEnd rest → ⊥
+    go None rest is taken ended = absurd (cc)
+    go (Some xs) None is taken ended = absurd taken
+    go (Some xs) (Some ys) is taken ended =
+        let text_is : whole ≡ text = sym (same_Some _ _ is) ∙ taken ∙ ap (λ (l : List ℕ). text ++ l) ended ∙ append-nil text in
+        never_both text said number script (subst (λ (t : List ℕ). IsFirstBad t number) text_is bad)
+
+-- ---- the end, by the status
+-- A session that came to its end ends with 0.
+pub played_end : {S K R : Type 0} (before after : Outside S K R) (books : List (ℕ × History)) → PlayedToEnd before after books → IsEndOfBoth before after books 0
+played_end before after books played = record {
+  known = inl refl;
+  played = λ zero. played;
+  refused = λ one. absurd (omega (arith, one));
+  unread = λ two. absurd (omega (arith, two));
+  unwritten = λ three. absurd (omega (arith, three));
+  starved = λ six. absurd (omega (arith, six));
+  refuses = λ number bad. absurd (whole_not_bad before.input after.input played.text played.said number played.read played.script bad);
+  completes = λ script. inl refl;
+}
+
+-- What counted no fault may end with 6.
+pub starved_end : {S K R : Type 0} (before after : Outside S K R) (books : List (ℕ × History)) (status : ℕ) → status ≡ 6 → AreFaultless before after → IsEndOfBoth before after books status
+starved_end before after books status is faultless = record {
+  known = inr (inr (inr (inr is)));
+  played = λ zero. absurd (omega (arith, zero, is));
+  refused = λ one. absurd (omega (arith, one, is));
+  unread = λ two. absurd (omega (arith, two, is));
+  unwritten = λ three. absurd (omega (arith, three, is));
+  starved = λ six. faultless;
+  refuses = λ number bad. inr (inr is);
+  completes = λ script. inr (inr (inr is));
+}
+
+-- A refusal ends with 1, when its last line is said.
+refused_end : {S K R : Type 0} (before after : Outside S K R) (books : List (ℕ × History)) (status : ℕ) → status ≡ 1 → RefusesScript before after books → IsEndOfBoth before after books status
+refused_end before after books status is refused = record {
+  known = inr (inl is);
+  played = λ zero. absurd (omega (arith, zero, is));
+  refused = λ one. refused;
+  unread = λ two. absurd (omega (arith, two, is));
+  unwritten = λ three. absurd (omega (arith, three, is));
+  starved = λ six. absurd (omega (arith, six, is));
+  refuses = λ number bad. inl is;
+  completes = λ script. absurd (script_not_bad before.input after.input refused.bad.0 refused.number refused.bad.1 refused.bad.2 script);
+}
+
+-- a failed read ends with 2
+unread_end : {S K R : Type 0} (before after : Outside S K R) (books : List (ℕ × History)) (status : ℕ) → status ≡ 2 → StoppedPlaying before after books stop.Input → IsEndOfBoth before after books status
+unread_end before after books status is stopped = record {
+  known = inr (inr (inl is));
+  played = λ zero. absurd (omega (arith, zero, is));
+  refused = λ one. absurd (omega (arith, one, is));
+  unread = λ two. stopped;
+  unwritten = λ three. absurd (omega (arith, three, is));
+  starved = λ six. absurd (omega (arith, six, is));
+  refuses = λ number bad. inr (inl is);
+  completes = λ script. inr (inl is);
+}
+
+-- a failed write ends with 3
+unwritten_end : {S K R : Type 0} (before after : Outside S K R) (books : List (ℕ × History)) (status : ℕ) (said : Said) → status ≡ 3 → ReadsScript before.input after.input said
+    → StoppedPlaying before after books stop.Recording ⊎ StoppedPlaying before after books stop.Output → IsEndOfBoth before after books status
+unwritten_end before after books status said is reads stopped = record {
+  known = inr (inr (inr (inl is)));
+  played = λ zero. absurd (omega (arith, zero, is));
+  refused = λ one. absurd (omega (arith, one, is));
+  unread = λ two. absurd (omega (arith, two, is));
+  unwritten = λ three. stopped;
+  starved = λ six. absurd (omega (arith, six, is));
+  refuses = λ number bad. absurd (whole_not_bad before.input after.input reads.text said number reads.read reads.script bad);
+  completes = λ script. inr (inr (inl is));
+}
+
+-- the outside with another output
+abbrev pub with_output : {S K R : Type 0} → Outside S K R → Stream K → Outside S K R
+with_output o output = record { input = o.input; output = output; recording = o.recording }
+
+-- faults of an outside whose output is still the same
+still_faultless : {S K R : Type 0} (before middle : Outside S K R) (output : Stream K) → AreFaultless before middle → output ≡ middle.output → AreFaultless before (with_output middle output)
+still_faultless before middle output faultless same =
+    record { input = faultless.input; output = ap (λ (o : Stream _). o.faults) same ∙ faultless.output; recording = faultless.recording }
+
+-- nothing was touched but an input, which counted no fault
+untouched_faultless : {S K R : Type 0} (before after : Outside S K R) → IsFaultless before.input after.input → after.output ≡ before.output → after.recording ≡ before.recording → AreFaultless before after
+untouched_faultless before after input output recording =
+    record { input = input; output = ap (λ (o : Stream _). o.faults) output; recording = ap (λ (o : Stream _). o.faults) recording }
+
+-- A refused line, which is said, or can't be put together.
+line_end : {S K R : Type 0} (before middle : Outside S K R) (output : Stream K) (books : List (ℕ × History)) (number status : ℕ) → ReadsBadLine before.input middle.input number → middle.output ≡ before.output → middle.recording ≡ before.recording → books ≡ []
+    → EndsWith (stop.Line number) middle.output output status → IsEndOfBoth before (with_output middle output) books status
+line_end before middle output books number status bad silent unrecorded unstored (inl said) =
+    let says = subst (λ (o : Stream _). EndsWith (stop.Line number) o output 1) silent (inl (refl, said.1)) in
+    refused_end before (with_output middle output) books status said.0 (record { number = number; bad = bad; says = says; unrecorded = unrecorded; unstored = unstored })
+line_end before middle output books number status bad silent unrecorded unstored (inr starved) =
+    starved_end before (with_output middle output) books status starved.0 (untouched_faultless before (with_output middle output) bad.1.read.faultless (starved.1 ∙ silent) unrecorded)
+
+-- How the command ends, from how it stopped and what was said of it.
+pub stopped_end : {S K R : Type 0} (before middle : Outside S K R) (output : Stream K) (books : List (ℕ × History)) (s : Stop) (status : ℕ)
+    → StoppedPlaying before middle books s → EndsWith s middle.output output status → IsEndOfBoth before (with_output middle output) books status
+stopped_end before middle output books (stop.Line number) status stopped said = line_end before middle output books number status stopped.0 stopped.1 stopped.2 stopped.3 said
+stopped_end before middle output books stop.Input status stopped said = unread_end before (with_output middle output) books status said.0 (stopped.0, said.1 ∙ stopped.1, stopped.2, stopped.3)
+stopped_end before middle output books stop.Recording status stopped said =
+    unwritten_end before (with_output middle output) books status stopped.0 said.0 stopped.1 (inl (stopped.0, stopped.1, stopped.2, said.1 ∙ stopped.3, stopped.4))
+stopped_end before middle output books stop.Output status stopped said =
+    let report = subst (λ (o : Stream _). FailedToReport stopped.0 before (with_output middle o) books) (sym said.1) stopped.2 in
+    unwritten_end before (with_output middle output) books status stopped.0 said.0 stopped.1 (inr (stopped.0, stopped.1, report))
+stopped_end before middle output books stop.Memory status stopped said = starved_end before (with_output middle output) books status said.0 (still_faultless before middle output stopped said.1)
+stopped_end before middle output books stop.Words status stopped said = absurd stopped
+stopped_end before middle output books (stop.Fault fault) status stopped said = absurd stopped
+stopped_end before middle output books stop.Long status stopped said = absurd stopped

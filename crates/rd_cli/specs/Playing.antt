@@ -1,0 +1,113 @@
+-- How the command `both` ends: with which status, what it has done by then, and which event, the first, gave the status.
+use Rattle.std.specs.Prelude.{◌≡◌, ℕ, ◌≤◌, ◌⊎◌, List, [], length, Option, Some, Result, Ok, Err}
+use Rattle.rd_base.specs.History.{History}
+use Rattle.rd_base.specs.declared.journal.Item.{Item}
+use Rattle.std.specs.Io.KnownBytes.{IsAtEnd}
+use Rattle.rd_script.specs.declared.outcome.Outcome.{Outcome}
+use Rattle.rd_script.specs.Grammar.{IsFirstBad, IsScript, Said, max_bytes}
+use Rattle.rd_script.specs.Report.{journals_in, report_of}
+use Rattle.rd_cli.specs.Outside.{AreFaultless, FailedToWrite, HasOneFault, IsFaultless, Outside, Read, ReadToEnd, Stream}
+use Rattle.rd_cli.specs.Headline.{IsPlayed, Played, PlayedToEnd}
+use Rattle.rd_cli.specs.Stops.{EndsWith}
+use Rattle.rd_cli.specs.declared.stop.Stop.{Stop}
+use Rattle.rd_cli.specs.declared.stop.Stop.TheVariants as stop
+
+-- This text was read. It is all of the input, unless it is longer than a script may be.
+pub record HasRead {S : Type 0} (before after : Stream S) (text : List ℕ) : Type 0 where
+  pub read : Read before after text
+  pub whole : length text ≤ max_bytes → IsAtEnd after.bytes
+
+-- The input was read to its end and is a script.
+pub record ReadsScript {S : Type 0} (before after : Stream S) (said : Said) : Type 0 where
+  pub text : List ℕ
+  pub read : ReadToEnd before after text
+  pub script : IsScript text said
+
+-- This line of what was read is the first outside the grammar.
+abbrev pub ReadsBadLine : {S : Type 0} → (before after : Stream S) → ℕ → Type 0
+ReadsBadLine before after number = (text : List ℕ) × HasRead before after text × IsFirstBad text number
+
+-- The recording failed: a prefix of the recording of a session of this script was written.
+pub record FailedToRecord {R : Type 0} (said : Said) (before after : Stream R) : Type 0 where
+  pub outcomes : List Outcome
+  pub books : List (ℕ × List Item)
+  pub whole : List ℕ
+  pub played : IsPlayed said outcomes whole books
+  pub failed : FailedToWrite before after whole
+
+-- The output failed, after the script was played and recorded: a prefix of the report was written.
+pub record FailedToReport {S K R : Type 0} (said : Said) (before after : Outside S K R) (books : List (ℕ × History)) : Type 0 where
+  pub outcomes : List Outcome
+  pub played : Played said outcomes before.recording after.recording books
+  pub failed : FailedToWrite before.output after.output (report_of outcomes (journals_in books))
+
+-- What the command has done when it stopped, before a last line says so: the first event that stops it ends it.
+abbrev pub StoppedPlaying : {S K R : Type 0} → (before after : Outside S K R) → List (ℕ × History) → Stop → Type 0
+StoppedPlaying before after books (stop.Line number) =
+    ReadsBadLine before.input after.input number × (after.output ≡ before.output) × (after.recording ≡ before.recording) × (books ≡ [])
+StoppedPlaying before after books stop.Input =
+    HasOneFault before.input after.input × (after.output ≡ before.output) × (after.recording ≡ before.recording) × (books ≡ [])
+StoppedPlaying before after books stop.Recording =
+    (said : Said) × ReadsScript before.input after.input said × FailedToRecord said before.recording after.recording × (after.output ≡ before.output) × (books ≡ [])
+StoppedPlaying before after books stop.Output =
+    (said : Said) × ReadsScript before.input after.input said × FailedToReport said before after books
+StoppedPlaying before after books stop.Memory = AreFaultless before after
+StoppedPlaying before after books _ = ⊥
+
+-- a stop of the reading of an input: for its first fault, or for want of memory
+abbrev pub StopsForInput : {S : Type 0} → (before after : Stream S) → Stop → Type 0
+StopsForInput before after stop.Input = HasOneFault before after
+StopsForInput before after stop.Memory = IsFaultless before after
+StopsForInput before after _ = ⊥
+
+-- a stop of the reading of a script: for its first bad line, or for want of memory
+abbrev pub StopsForText : List ℕ → Stop → Type 0
+StopsForText text (stop.Line number) = IsFirstBad text number
+StopsForText text stop.Memory = Unit {0}
+StopsForText text _ = ⊥
+
+-- a stop of the playing of a script: for the recording, when no journal was stored, or for want of memory
+abbrev pub StopsForRecording : {R : Type 0} → Said → (before after : Stream R) → List (ℕ × History) → Stop → Type 0
+StopsForRecording said before after books stop.Recording = FailedToRecord said before after × (books ≡ [])
+StopsForRecording said before after books stop.Memory = IsFaultless before after
+StopsForRecording said before after books _ = ⊥
+
+-- How the command came out, before a last line: it came to its end, or it stopped.
+abbrev pub ComesOutOfBoth : {T S K R : Type 0} → (before after : Outside S K R) → List (ℕ × History) → Result T Stop → Type 0
+ComesOutOfBoth before after books (Ok done) = PlayedToEnd before after books
+ComesOutOfBoth before after books (Err s) = StoppedPlaying before after books s
+
+-- What the input has left can be told and is a script.
+abbrev pub GivesScript : Option (List ℕ) → Type 0
+GivesScript left = (text : List ℕ) × (said : Said) × (left ≡ Some text) × IsScript text said
+
+-- What the input has left can be told and has this first line outside the grammar.
+abbrev pub GivesBadLine : Option (List ℕ) → ℕ → Type 0
+GivesBadLine left number = (text : List ℕ) × (left ≡ Some text) × IsFirstBad text number
+
+-- The script was refused for a line, which the output says, and nothing was recorded.
+pub record RefusesScript {S K R : Type 0} (before after : Outside S K R) (books : List (ℕ × History)) : Type 0 where
+  pub number : ℕ
+  pub bad : ReadsBadLine before.input after.input number
+  pub says : EndsWith (stop.Line number) before.output after.output 1
+  pub unrecorded : after.recording ≡ before.recording
+  pub unstored : books ≡ []
+
+-- How the command ends with a status. The first fault of the outside, want of memory, or a refused line ends it, and nothing else gives its
+-- status; what else failed before, or was touched, the fields say.
+pub record IsEndOfBoth {S K R : Type 0} (before after : Outside S K R) (books : List (ℕ × History)) (status : ℕ) : Type 0 where
+  pub known : (status ≡ 0) ⊎ ((status ≡ 1) ⊎ ((status ≡ 2) ⊎ ((status ≡ 3) ⊎ (status ≡ 6))))
+  -- 0: the session of the script came to its end, with no fault
+  pub played : status ≡ 0 → PlayedToEnd before after books
+  -- 1: a line of the script was refused
+  pub refused : status ≡ 1 → RefusesScript before after books
+  -- 2: the first fault was the input's, and nothing was done
+  pub unread : status ≡ 2 → StoppedPlaying before after books stop.Input
+  -- 3: the first fault was the recording's, or the output's
+  pub unwritten : status ≡ 3 → StoppedPlaying before after books stop.Recording ⊎ StoppedPlaying before after books stop.Output
+  -- 6: memory ran out before any fault
+  pub starved : status ≡ 6 → AreFaultless before after
+  -- A bad line is refused, unless a read fails or memory runs out.
+  pub refuses : (number : ℕ) → GivesBadLine before.input.bytes number → (status ≡ 1) ⊎ ((status ≡ 2) ⊎ (status ≡ 6))
+  -- A script comes to its end, unless a read or a write fails or memory runs out. It is never refused.
+  pub completes : GivesScript before.input.bytes → (status ≡ 0) ⊎ ((status ≡ 2) ⊎ ((status ≡ 3) ⊎ (status ≡ 6)))

@@ -1,0 +1,80 @@
+-- What a stop is answered with: a status, and a last line on the output.
+use Rattle.std.specs.Prelude.{◌≡◌, ℕ, ◌⊎◌, List, ◌++◌, Option, Some, None, codes, decimal}
+use Rattle.rd_base.specs.declared.bad.Why.{Why}
+use Rattle.rd_base.specs.declared.bad.Why.TheVariants as field
+use Rattle.rd_chunk.specs.declared.fault.ChunkWhy.{ChunkWhy}
+use Rattle.rd_chunk.specs.declared.fault.ChunkWhy.TheVariants as chunk
+use Rattle.rd_decode.specs.declared.fault.Fault.{Fault}
+use Rattle.rd_decode.specs.declared.fault.FaultWhy.{FaultWhy}
+use Rattle.rd_decode.specs.declared.fault.FaultWhy.TheVariants as fault
+use Rattle.rd_cli.specs.Outside.{FailedToWrite, Stream, Wrote}
+use Rattle.rd_cli.specs.declared.stop.Stop.{Stop}
+use Rattle.rd_cli.specs.declared.stop.Stop.TheVariants as stop
+
+-- the exit status of each cause
+abbrev pub status_of : Stop → ℕ
+status_of stop.Words = 1
+status_of (stop.Line number) = 1
+status_of stop.Input = 2
+status_of stop.Output = 3
+status_of stop.Recording = 3
+status_of (stop.Fault fault) = 4
+status_of stop.Memory = 6
+status_of stop.Long = 7
+
+-- the word for what is wrong with a field
+abbrev pub field_word : Why → List ℕ
+field_word field.Short = codes "Short"
+field_word field.Component = codes "Component"
+field_word field.Packet = codes "Packet"
+field_word field.Count = codes "Count"
+field_word field.Length = codes "Length"
+field_word field.Value = codes "Value"
+
+-- the word for what is wrong with a frame
+abbrev pub chunk_word : ChunkWhy → List ℕ
+chunk_word chunk.Empty = codes "Empty"
+chunk_word chunk.Size = codes "Size"
+chunk_word chunk.Compressed = codes "Compressed"
+chunk_word chunk.NoFirst = codes "NoFirst"
+chunk_word chunk.SecondFirst = codes "SecondFirst"
+chunk_word chunk.TooLong = codes "TooLong"
+chunk_word chunk.LengthChanged = codes "LengthChanged"
+chunk_word chunk.Overrun = codes "Overrun"
+chunk_word chunk.LastEarly = codes "LastEarly"
+chunk_word chunk.NotLast = codes "NotLast"
+
+-- the word for what is wrong with a recording
+abbrev pub why_word : FaultWhy → List ℕ
+why_word (fault.Chunk why) = chunk_word why
+why_word (fault.Field why) = field_word why
+why_word fault.Stray = codes "Stray"
+
+-- the line for a fault of a recording
+abbrev pub fault_line : Fault → List ℕ
+fault_line f = codes "fault at " ++ decimal f.at ++ codes " " ++ why_word f.why ++ codes "\n"
+
+-- the line for a recording past the limit
+abbrev pub long_line : List ℕ
+long_line = codes "long\n"
+
+-- what the output says of a stop, if anything
+abbrev pub last_line : Stop → Option (List ℕ)
+last_line stop.Words = Some (codes "bad words\n")
+last_line (stop.Line number) = Some (codes "line " ++ decimal number ++ codes " words\n")
+last_line (stop.Fault fault) = Some (fault_line fault)
+last_line stop.Long = Some long_line
+last_line _ = None
+
+-- A line was written, or the first fault ended that.
+abbrev pub Says : {K : Type 0} → List ℕ → (before after : Stream K) → Type 0
+Says line before after = Wrote before after line ⊎ FailedToWrite before after line
+
+-- The status is this one, and the last line, if there is one, was said; or memory ran out before it could be, and the output wasn't touched.
+abbrev pub SaysLast : {K : Type 0} → Option (List ℕ) → ℕ → (before after : Stream K) → ℕ → Type 0
+SaysLast None own before after status = (status ≡ own) × (after ≡ before)
+SaysLast (Some line) own before after status = ((status ≡ own) × Says line before after) ⊎ ((status ≡ 6) × (after ≡ before))
+
+-- a stop ends with its status and its last line
+abbrev pub EndsWith : {K : Type 0} → Stop → (before after : Stream K) → ℕ → Type 0
+EndsWith s before after status = SaysLast (last_line s) (status_of s) before after status

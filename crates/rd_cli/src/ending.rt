@@ -1,0 +1,91 @@
+//! How a command that stopped ends: with a last line, where it has one, and its status.
+
+ghost use Rattle.std.specs.Prelude.{◌≡◌, IfOk, IsErr, IsSome, option_map, string_bytes};
+ghost use Rattle.rd_cli.specs.Outside.{stream};
+ghost use Rattle.rd_cli.specs.Stops.{EndsWith, chunk_word, fault_line, field_word, last_line, why_word};
+
+use crate::stop::Stop;
+use rd_base::{Sink, Why, write_all};
+use rd_chunk::ChunkWhy;
+use rd_decode::{Fault, FaultWhy};
+use std::alloc::{AllocError, Global};
+
+/// Says what ended a command, where that has a line, and returns the status. A failure to say it changes nothing.
+pub fn end<K: Sink>(alloc: Global, output: &mut K, stop: Stop) -> u8
+    ensures { EndsWith stop (stream K.held K.faults output.old) (stream K.held K.faults output.new) result }
+{
+    match last_line(alloc, &stop) {
+        Ok(Some(line)) => {
+            let _ = write_all(output, line.as_bytes());
+            stop.status()
+        }
+        Ok(None) => stop.status(),
+        Err(_) => Stop::Memory.status(),
+    }
+}
+
+/// The last line on the output, if any.
+fn last_line(alloc: Global, stop: &Stop) -> Result<Option<String>, AllocError>
+    ensures line { IfOk result (λ line. option_map string_bytes line ≡ last_line stop.now) }
+    ensures err { IsErr result → IsSome (last_line stop.now) }
+{
+    match stop {
+        Stop::Words => Ok(Some(String::from_str(alloc, "bad words\n")?)),
+        Stop::Line(number) => Ok(Some(format!(in alloc; "line {number} words\n")?)),
+        Stop::Fault(fault) => Ok(Some(fault_line(alloc, *fault)?)),
+        Stop::Long => Ok(Some(String::from_str(alloc, "long\n")?)),
+        Stop::Input | Stop::Output | Stop::Recording | Stop::Memory => Ok(None),
+    }
+}
+
+/// The line for a fault of a recording.
+fn fault_line(alloc: Global, fault: Fault) -> Result<String, AllocError>
+    ensures { IfOk result (λ line. string_bytes line ≡ fault_line fault) }
+{
+    let at = fault.at;
+    let word = why_word(fault.why);
+    format!(in alloc; "fault at {at} {word}\n")
+}
+
+/// The word for what is wrong with a recording.
+fn why_word(why: FaultWhy) -> &'static str
+    ensures { result.now ≡ why_word why }
+{
+    match why {
+        FaultWhy::Chunk(why) => chunk_word(why),
+        FaultWhy::Field(why) => field_word(why),
+        FaultWhy::Stray => "Stray",
+    }
+}
+
+/// The word for what is wrong with a frame.
+fn chunk_word(why: ChunkWhy) -> &'static str
+    ensures { result.now ≡ chunk_word why }
+{
+    match why {
+        ChunkWhy::Empty => "Empty",
+        ChunkWhy::Size => "Size",
+        ChunkWhy::Compressed => "Compressed",
+        ChunkWhy::NoFirst => "NoFirst",
+        ChunkWhy::SecondFirst => "SecondFirst",
+        ChunkWhy::TooLong => "TooLong",
+        ChunkWhy::LengthChanged => "LengthChanged",
+        ChunkWhy::Overrun => "Overrun",
+        ChunkWhy::LastEarly => "LastEarly",
+        ChunkWhy::NotLast => "NotLast",
+    }
+}
+
+/// The word for what is wrong with a field.
+fn field_word(why: Why) -> &'static str
+    ensures { result.now ≡ field_word why }
+{
+    match why {
+        Why::Short => "Short",
+        Why::Component => "Component",
+        Why::Packet => "Packet",
+        Why::Count => "Count",
+        Why::Length => "Length",
+        Why::Value => "Value",
+    }
+}

@@ -1,0 +1,98 @@
+//! The command that the words are.
+
+ghost use Rattle.std.specs.Prelude.{◌≡◌, ◌⊎◌, false, IfOk, IfErr, map, option_map, string_bytes};
+ghost use Rattle.std.specs.List.{list_any};
+ghost use Rattle.clap.specs.Words.{app_of};
+ghost use Rattle.rd_cli.specs.Shapes.{HasShape, StopsForWords, is_flag};
+ghost use Rattle.rd_cli.specs.declared.words.Command.{Command};
+ghost use Rattle.rd_cli.specs.Parser.{IsNamed, commands};
+
+use crate::stop::Stop;
+use clap::Command as Parser;
+use clap::error::ErrorKind;
+use std::alloc::{AllocError, Global};
+
+/// What `rdr` is asked to do.
+#[derive(Clone, Copy, Debug, PartialEq, Eq)]
+pub enum Command {
+    Both,
+    Decode,
+}
+
+/// The command whose shape the words have.
+pub fn command_of(alloc: Global, words: &[String]) -> Result<Command, Stop>
+    ensures command { IfOk result (HasShape (map string_bytes words.now)) }
+    ensures err { IfErr result (StopsForWords (map string_bytes words.now)) }
+{
+    if has_flag(words) {
+        return Err(Stop::Words);
+    }
+    parsed(alloc, words)
+}
+
+/// Whether a word is a flag, which no command has.
+fn has_flag(words: &[String]) -> bool
+    ensures { result ≡ list_any (λ word. is_flag (string_bytes word)) words.now }
+{
+    words.iter().any(|word| is_flag(word))
+}
+
+/// Whether a word begins with a hyphen.
+fn is_flag(word: &String) -> bool
+    ensures { result ≡ is_flag (string_bytes word.now) }
+{
+    match word.as_bytes() {
+        [] => false,
+        [byte, ..] => *byte == b'-',
+    }
+}
+
+/// The command that the parser finds in words of which none begins with a hyphen.
+fn parsed(alloc: Global, words: &[String]) -> Result<Command, Stop>
+    requires { list_any is_flag (map string_bytes words.now) ≡ false }
+    ensures command { IfOk result (HasShape (map string_bytes words.now)) }
+    ensures err { IfErr result (StopsForWords (map string_bytes words.now)) }
+{
+    let parser = parser(alloc)?;
+    match parser.try_get_matches_from(words) {
+        Ok(matches) => named(matches.subcommand_name()),
+        Err(error) => Err(stop_of(error.kind())),
+    }
+}
+
+/// What ends the reading of words at an error of this kind.
+fn stop_of(kind: ErrorKind) -> Stop
+    ensures memory { kind ≡ ErrorKind.OutOfMemory → result ≡ Stop.Memory }
+    ensures known { (result ≡ Stop.Words) ⊎ (result ≡ Stop.Memory) }
+{
+    match kind {
+        ErrorKind::OutOfMemory => Stop::Memory,
+        _ => Stop::Words,
+    }
+}
+
+/// The parser of the words.
+fn parser<'a>(alloc: Global) -> Result<Parser<'a>, AllocError>
+    ensures { IfOk result (λ parser. app_of parser ≡ commands) }
+{
+    let none = Parser::new(alloc, "rdr")
+        .no_binary_name(true)
+        .disable_help_flag(true)
+        .disable_help_subcommand(true)
+        .subcommand_required(true);
+    let both = Parser::new(alloc, "both");
+    let decode = Parser::new(alloc, "decode");
+    none.subcommand(both)?.subcommand(decode)
+}
+
+/// The command with this name.
+fn named(name: Option<&str>) -> Result<Command, Stop>
+    ensures command { IfOk result (IsNamed (option_map (λ s. s.now) name.entry)) }
+    ensures err { IfErr result (λ stop. (stop ≡ Stop.Words) × ((command : Command) → ¬ (IsNamed (option_map (λ s. s.now) name.entry) command))) }
+{
+    match name {
+        Some("both") => Ok(Command::Both),
+        Some("decode") => Ok(Command::Decode),
+        _ => Err(Stop::Words),
+    }
+}

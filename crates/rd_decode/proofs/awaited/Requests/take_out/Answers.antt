@@ -1,0 +1,7 @@
+use Rattle.std.proofs.Common.{None}
+use Rattle.rd_decode.proofs.AwaitedLemmas.{changed}
+use Rattle.rd_decode.proofs.awaited.Requests.take_out.Goals as goal
+
+-- src/awaited.rt:65:5
+pub returns-in-Some-clause-none : goal.returns-in-Some-clause-none
+returns-in-Some-clause-none c = changed (c.args.self.now.kinds).entries (c.remove.new.self).entries c.args.pair None (c.remove.ensures.updates.0)

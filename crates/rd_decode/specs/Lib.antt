@@ -1,0 +1,9 @@
+pub mod Lines
+pub mod Awaited
+pub mod Messages
+pub mod Kept
+pub mod Entries
+pub mod Recording
+pub mod Streams
+pub mod Ends
+pub mod Worked
