@@ -1,0 +1,16 @@
+pub mod KeyLemmas
+pub mod TreeLemmas
+pub mod ViewLemmas
+pub mod NodeLemmas
+pub mod SoundLemmas
+pub mod FileLemmas
+pub mod WayLemmas
+pub mod NameLemmas
+pub mod MadeLemmas
+pub mod PlaceLemmas
+pub mod AddLemmas
+pub mod ParentLemmas
+pub mod RemoveLemmas
+pub mod ListingLemmas
+pub mod EntryLemmas
+pub mod NextLemmas

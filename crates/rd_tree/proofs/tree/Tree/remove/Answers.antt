@@ -1,0 +1,41 @@
+use Rattle.std.proofs.Common.{◌≡◌, ◌∙◌, refl, sym, ap, subst, ℕ, true}
+use Rattle.rd_tree.specs.Places.{Places, IsLive, has_child, without}
+use Rattle.rd_tree.proofs.PlaceLemmas.{live_place}
+use Rattle.rd_tree.proofs.ParentLemmas.{childless, link_is, has_child_seen, seen_has_child}
+use Rattle.rd_tree.proofs.RemoveLemmas.{sound_taken, removed_seen}
+use Rattle.rd_tree.proofs.tree.Tree.remove.Goals as goal
+
+pub take_out-requires : goal.take_out-requires
+take_out-requires c = record {
+  other = c.requires.other;
+  live = live_place c.self.inside.naming c.self.inside.nodes c.args.node.0 (subst (λ (t : Places). IsLive t c.args.node.0) (sym c.self.view_is) c.requires.live);
+  named = c.self.invariant.names c.args.node.0;
+}
+
+pub returns-then-has_child-clause-not_empty : goal.returns-then-has_child-clause-not_empty
+returns-then-has_child-clause-not_empty c =
+    let n : ℕ = c.args.node.0 in
+    let live = live_place c.self.inside.naming c.self.inside.nodes n (subst (λ (t : Places). IsLive t n) (sym c.self.view_is) c.requires.live) in
+    (λ e. ap (λ (t : Places). has_child t n) (sym c.self.view_is) ∙ has_child_seen c.self.inside.naming c.self.inside.nodes c.self.invariant n live (c.has_child.ensures.some c.if-has_child.true), λ h. refl)
+
+pub returns-clause-not_empty : goal.returns-clause-not_empty
+returns-clause-not_empty c =
+    let n : ℕ = c.args.node.0 in
+    let live = live_place c.self.inside.naming c.self.inside.nodes n (subst (λ (t : Places). IsLive t n) (sym c.self.view_is) c.requires.live) in
+    let none = λ (h : has_child c.args.self.now n ≡ true). childless c.self.inside.nodes n (c.has_child.ensures.none c.if-has_child.false) (seen_has_child c.self.inside.naming c.self.inside.nodes c.self.invariant n live (ap (λ (t : Places). has_child t n) c.self.view_is ∙ h)) in
+    (λ e. absurd (cc), λ h. absurd (none h))
+
+pub invariant_of-self : goal.invariant_of-self
+invariant_of-self c =
+    let n : ℕ = c.args.node.0 in
+    let live = live_place c.self.inside.naming c.self.inside.nodes n (subst (λ (t : Places). IsLive t n) (sym c.self.view_is) c.requires.live) in
+    let l = link_is c.self.inside.naming c.self.inside.nodes c.self.invariant n live c.requires.other in
+    sound_taken c.self.inside.naming c.self.inside.nodes c.take_out.new.nodes c.self.invariant n l.0 l.1 l.2 (c.has_child.ensures.none c.if-has_child.false) (c.take_out.ensures l.0 l.1 l.2)
+
+pub returns-clause-removed : goal.returns-clause-removed
+returns-clause-removed c =
+    let n : ℕ = c.args.node.0 in
+    let live = live_place c.self.inside.naming c.self.inside.nodes n (subst (λ (t : Places). IsLive t n) (sym c.self.view_is) c.requires.live) in
+    let l = link_is c.self.inside.naming c.self.inside.nodes c.self.invariant n live c.requires.other in
+    removed_seen c.self.inside.naming c.self.inside.nodes c.take_out.new.nodes c.self.invariant n l.0 l.1 l.2 (c.has_child.ensures.none c.if-has_child.false) (c.take_out.ensures l.0 l.1 l.2)
+    ∙ ap (λ (t : Places). without t n) c.self.view_is

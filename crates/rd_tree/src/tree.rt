@@ -1,0 +1,190 @@
+//! The tree.
+
+ghost use Rattle.std.specs.Prelude.{◌≡◌, ◌≢◌, ◌↔◌, ◌<◌, ℕ, length, IsTrue, true, false, Some, Err, IfSome, IfNone, IfOk, IfErr, OnOk, OnErr};
+ghost use Rattle.std.specs.Option.{option_map, unwrap_or};
+ghost use Rattle.rd_contents.specs.Contents.{part, written, resized, max_len, EndsTooFar};
+ghost use Rattle.rd_contents.specs.declared.contents.SizeNo.TheVariants as SizeNo;
+ghost use Rattle.rd_tree.specs.declared.refusal.AddNo.TheVariants as AddNo;
+ghost use Rattle.rd_tree.specs.Places.{add_refusal, node_at, Adds, bytes_at, file_at, has_child, is_folder, next_name, root_alone, with_bytes, without, IsLive, IsFile};
+
+use crate::listing::next_name;
+use crate::node::{Node, NodeId};
+use crate::nodes::{ROOT, child, find, has_child, insert, locate, take_out};
+use crate::refusal::{AddNo, NotEmpty};
+use rd_base::{Bytes, Units};
+use rd_contents::{Contents, SizeNo};
+use rd_dirinfo::{Naming, Path, Pattern};
+use slab::Slab;
+use std::alloc::{AllocError, Global};
+use std::collections::BTreeMap;
+use std::marker::Model;
+
+/// The most nodes of a tree, with the root.
+pub const MAX_NODES: usize = 65_536;
+
+/// A tree of files and folders.
+#[derive(Drop)]
+pub struct Tree {
+    nodes: Slab<Node>,
+    naming: Naming,
+    alloc: Global,
+}
+
+impl Model for Tree {
+    ghost use Rattle.rd_tree.specs.Places.{Places};
+
+    ghost Value = { Places };
+
+    ghost use Rattle.rd_tree.specs.Nodes.{places_of, IsSound};
+
+    ghost view = { λ t. places_of t.naming t.nodes };
+
+    ghost invariant = { λ t. IsSound t.naming t.nodes };
+}
+
+impl Tree {
+    /// The root alone.
+    pub fn new(alloc: Global, naming: Naming) -> Result<Self, AllocError>
+        ensures { IfOk result (λ tree. tree ≡ root_alone naming) }
+    {
+        let mut nodes = Slab::new(alloc);
+        nodes.insert(Node {
+            parent: ROOT,
+            name: Units::of(Vec::new(alloc)),
+            folder: true,
+            contents: Contents::new(alloc),
+            children: BTreeMap::new(alloc),
+        })?;
+        Ok(Tree {
+            nodes,
+            naming,
+            alloc,
+        })
+    }
+
+    /// The node at a path.
+    pub fn find(&self, path: &Path) -> Option<NodeId>
+        ensures found { option_map (λ node. node.0) result ≡ node_at self.now path.now }
+        ensures live { IfSome result (λ node. IsLive self.now node.0) }
+    {
+        match find(&self.nodes, self.naming, path.names()) {
+            Some(node) => Some(NodeId(node as u32)),
+            None => None,
+        }
+    }
+
+    /// How many bytes a file has; a folder has none.
+    pub fn end(&self, node: NodeId) -> Option<u64>
+        requires { IsLive self.now node.0 }
+        ensures end { result ≡ option_map length (bytes_at self.now node.0) }
+        ensures file { IfSome result (λ _. IsFile self.now node.0) }
+        ensures folder { IfNone result (is_folder self.now node.0 ≡ Some true) }
+    {
+        let Some(node) = self.nodes.get(node.0 as usize) else {
+            return None;
+        };
+        if node.folder {
+            return None;
+        }
+        Some(node.contents.len())
+    }
+
+    /// The bytes of a file from an offset up to its end, at most `count`.
+    pub fn read(&self, node: NodeId, offset: u64, count: u32) -> Result<Bytes, AllocError>
+        requires { IsFile self.now node.0 }
+        ensures { IfOk result (λ bytes. bytes ≡ part (file_at self.now node.0) offset count) }
+    {
+        let Some(file) = self.nodes.get(node.0 as usize) else {
+            unreachable!()
+        };
+        file.contents.read(offset, count)
+    }
+
+    /// Adds a folder or an empty file. Its number is none that is live; one that was removed may come again.
+    pub fn add(&mut self, path: &Path, folder: bool) -> Result<NodeId, AddNo>
+        ensures added { IfOk result (λ node. Adds self.old self.new path.now folder node.0) }
+        ensures live { IfOk result (λ node. IsLive self.new node.0) }
+        ensures file { IfOk result (λ node. folder ≡ false → IsFile self.new node.0) }
+        ensures other { IfOk result (λ node. 0 ≢ node.0) }
+        ensures refused { IfErr result (λ no. no ≡ unwrap_or (add_refusal self.old path.now) AddNo.Memory) }
+        ensures err { OnErr result (self.new ≡ self.old) }
+    {
+        let names = path.names();
+        if names.is_empty() {
+            return Err(AddNo::Collision);
+        }
+        let Some((parent, name)) = locate(&self.nodes, self.naming, names) else {
+            return Err(AddNo::PathNotFound);
+        };
+        if child(&self.nodes, self.naming, parent, name).is_some() {
+            return Err(AddNo::Collision);
+        }
+        if self.nodes.len() >= MAX_NODES {
+            return Err(AddNo::Full);
+        }
+        let made = insert(
+            &mut self.nodes,
+            self.alloc,
+            self.naming,
+            parent,
+            name,
+            folder,
+        );
+        let Ok(node) = made else {
+            return Err(AddNo::Memory);
+        };
+        Ok(NodeId(node as u32))
+    }
+
+    /// Removes a file, or a folder without children, but not the root. Its number is live no more, and may be given again.
+    pub fn remove(&mut self, node: NodeId) -> Result<(), NotEmpty>
+        requires live { IsLive self.old node.0 }
+        requires other { 0 ≢ node.0 }
+        ensures removed { OnOk result (self.new ≡ without self.old node.0) }
+        ensures not_empty { (result ≡ Err (record {})) ↔ IsTrue (has_child self.old node.0) }
+        ensures err { OnErr result (self.new ≡ self.old) }
+    {
+        if has_child(&self.nodes, node.0 as usize) {
+            return Err(NotEmpty);
+        }
+        take_out(&mut self.nodes, self.naming, node.0 as usize);
+        Ok(())
+    }
+
+    /// The first name of a folder's children, in the order of the naming, that matches a pattern and comes after another name,
+    /// if one is given.
+    pub fn next(&self, folder: NodeId, after: Option<&Units>, pattern: &Pattern) -> Option<&Units>
+        requires { is_folder self.now folder.0 ≡ Some true }
+        ensures { option_map (λ name. name.now) result ≡ next_name self.now folder.0 (option_map (λ other. other.now) after.entry) pattern.now }
+    {
+        next_name(&self.nodes, self.naming, folder.0 as usize, after, pattern)
+    }
+
+    /// Writes bytes into a file at an offset.
+    pub fn write(&mut self, node: NodeId, offset: u64, bytes: &[u8]) -> Result<(), SizeNo>
+        requires { IsFile self.old node.0 }
+        ensures file { IsFile self.new node.0 }
+        ensures written { OnOk result (self.new ≡ with_bytes self.old node.0 (λ file. written file offset bytes.now)) }
+        ensures too_big { (result ≡ Err SizeNo.TooBig) ↔ EndsTooFar offset bytes.now }
+        ensures err { OnErr result (self.new ≡ self.old) }
+    {
+        let Some(file) = self.nodes.get_mut(node.0 as usize) else {
+            unreachable!()
+        };
+        file.contents.write(offset, bytes)
+    }
+
+    /// Cuts a file at an end, or extends it by zeros.
+    pub fn resize(&mut self, node: NodeId, end: u64) -> Result<(), SizeNo>
+        requires { IsFile self.old node.0 }
+        ensures file { IsFile self.new node.0 }
+        ensures resized { OnOk result (self.new ≡ with_bytes self.old node.0 (λ file. resized file end)) }
+        ensures too_big { (result ≡ Err SizeNo.TooBig) ↔ max_len < end }
+        ensures err { OnErr result (self.new ≡ self.old) }
+    {
+        let Some(file) = self.nodes.get_mut(node.0 as usize) else {
+            unreachable!()
+        };
+        file.contents.resize(end)
+    }
+}
