@@ -1,0 +1,21 @@
+//! The figures that are printed.
+
+use std::time::Duration;
+
+const MEGABYTE: u64 = 1_000_000;
+
+/// How often so many bytes are taken until they are so many megabytes at least.
+pub fn rounds(megabytes: u32, bytes: usize) -> u64 {
+    u64::from(megabytes) * MEGABYTE / (bytes as u64).max(1) + 1
+}
+
+/// Megabytes a second, where so many bytes were taken so often.
+pub fn speed(bytes: usize, rounds: u64, time: Duration) -> u128 {
+    let all = bytes as u128 * u128::from(rounds);
+    all / time.as_micros().max(1)
+}
+
+/// Nanoseconds of one of so many.
+pub fn time_of_one(count: u32, time: Duration) -> u128 {
+    time.as_nanos() / u128::from(count).max(1)
+}
