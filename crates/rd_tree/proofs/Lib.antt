@@ -14,3 +14,7 @@ pub mod RemoveLemmas
 pub mod ListingLemmas
 pub mod EntryLemmas
 pub mod NextLemmas
+pub mod ThroughLemmas
+pub mod RefuseLemmas
+pub mod MoveLemmas
+pub mod ShiftLemmas

@@ -1,14 +1,13 @@
 -- Listing: the first wanted name among a folder's entries, which stand in order, is the least of its children's wanted names.
-use Rattle.std.proofs.Common.{◌≡◌, ◌∙◌, refl, sym, ap, subst, ℕ, ◌<◌, ◌⊎◌, inl, inr, ⊎_elim, Bool, true, false, ◌&&◌, not, List, [], ◌∷◌, length, map, Option, Some, None, Vec, cond, arith}
+use Rattle.std.proofs.Common.{◌≡◌, ◌∙◌, refl, sym, ap, subst, ◌⊎◌, inl, inr, ⊎_elim, Bool, true, false, List, [], ◌∷◌, Option, Some, None, cond, arith}
 use Rattle.std.specs.List.{Contains, filter}
-use Rattle.std.specs.Option.{option_map, option_map_or, IsSome, is_some}
-use Rattle.std.specs.Ordering.{nat_cmp, is_lt, ordering_reverse}
-use Rattle.std.specs.Cmp.{IsTotalOrder}
+use Rattle.std.specs.Option.{option_map_or}
+use Rattle.std.specs.Ordering.{is_lt, ordering_reverse}
 use Rattle.std.specs.declared.cmp.Ordering.{Ordering}
 use Rattle.std.specs.declared.cmp.Ordering.TheVariants.{Less, Equal, Greater}
 use Rattle.slab.proofs.SlabLemmas.{Contains-cons, Contains-cons_cases}
 use Rattle.rd_dirinfo.specs.declared.naming.Naming.{Naming}
-use Rattle.rd_dirinfo.specs.Naming.{Name, seen, name_cmp}
+use Rattle.rd_dirinfo.specs.Naming.{Name, name_cmp}
 use Rattle.rd_dirinfo.proofs.NamingLemmas.{name_order}
 use Rattle.rd_tree.specs.Places.{first_of, least}
 use Rattle.rd_tree.specs.Nodes.{first_in}

@@ -27,3 +27,6 @@ path_depth path within = under (length path) 64 (left (nat_le (length path) 64) 
   where
     under : (a b : ℕ) → nat_le a b ≡ true → a ≤ b
     under a b t = grind (arith, nat_tests)
+
+pub path_limits : (names path : Names) → names ≡ path → is_path path ≡ true → is_within_limits names ≡ true
+path_limits names path same within = ap is_within_limits same ∙ right (list_all is_name path) (is_within_limits path) within

@@ -19,17 +19,17 @@ use Rattle.rd_tree.proofs.NodeLemmas.{kind_of-at, up_of-at, up_of-none, link_of-
 use Rattle.rd_tree.proofs.WayLemmas.{keys_of_way, live_above, link_live, live_node, way_step, same_true, true_same}
 use Rattle.rd_tree.proofs.PlaceLemmas.{path_seen}
 
-both_true : (a b : Bool) → (a && b) ≡ true → (a ≡ true) × (b ≡ true)
+pub both_true : (a b : Bool) → (a && b) ≡ true → (a ≡ true) × (b ≡ true)
 both_true true b e = (refl, e)
 both_true false b e = absurd (cc)
 
-equals : (a b : ℕ) → (a == b) ≡ true → a ≡ b
+pub equals : (a b : ℕ) → (a == b) ≡ true → a ≡ b
 equals a b e = grind (arith, nat_tests)
 
 is_equal : (a b : ℕ) → a ≡ b → (a == b) ≡ true
 is_equal a b e = grind (arith, nat_tests)
 
-at_most : (a b : ℕ) → a ≤ b → nat_le a b ≡ true
+pub at_most : (a b : ℕ) → a ≤ b → nat_le a b ≡ true
 at_most a b e = grind (arith, nat_tests)
 
 -- a path with one more name has the path as parent, and only paths that are the same
@@ -48,7 +48,7 @@ same_parent naming p x =
     λ i. prefix i && is_equal (length (p ++ x ∷ [])) (length p + 1) (omega (arith, length-append p (x ∷ []))) i
 
 -- ---- tests of all places
-any_from : (f : ℕ × Node → ℕ × Place) (test : ℕ × Place → Bool) (es : List (ℕ × Node)) (e : ℕ × Node) → Contains es e → test (f e) ≡ true → list_any test (map f es) ≡ true
+pub any_from : (f : ℕ × Node → ℕ × Place) (test : ℕ × Place → Bool) (es : List (ℕ × Node)) (e : ℕ × Node) → Contains es e → test (f e) ≡ true → list_any test (map f es) ≡ true
 any_from f test [] e c t = absurd (omega (arith, c.1))
 any_from f test (d ∷ es) e c t = by (any_from f test es e) (Contains-cons_cases d e es c)
   where
@@ -60,7 +60,7 @@ any_from f test (d ∷ es) e c t = by (any_from f test es e) (Contains-cons_case
     by more (inl same) = ap (λ b. b || list_any test (map f es)) (ap (λ x. test (f x)) same ∙ t)
     by more (inr later) = ap (λ b. test (f d) || b) (more later t) ∙ or_true (test (f d))
 
-from_any : (f : ℕ × Node → ℕ × Place) (test : ℕ × Place → Bool) (es : List (ℕ × Node)) → list_any test (map f es) ≡ true → (e : ℕ × Node) × Contains es e × (test (f e) ≡ true)
+pub from_any : (f : ℕ × Node → ℕ × Place) (test : ℕ × Place → Bool) (es : List (ℕ × Node)) → list_any test (map f es) ≡ true → (e : ℕ × Node) × Contains es e × (test (f e) ≡ true)
 from_any f test [] t = absurd (cc)
 from_any f test (d ∷ es) t = by (from_any f test es) (test (f d)) refl t
   where

@@ -103,6 +103,27 @@ pub record Removes (old new : Slab Node) (folder : ℕ) (key : Key) (m : ℕ) : 
   pub file : file_of new m ≡ None
   pub files : (n : ℕ) → (n ≡ m → ⊥) → file_of new n ≡ file_of old n
 
+-- A node has another link, and a number, if there is one, is no longer live. All other links and bytes are as before.
+pub record Relinks (old new : Slab Node) (m folder : ℕ) (name : Name) (gone : Option ℕ) : Type 0 where
+  pub link : link_of new m ≡ Some (folder, name)
+  pub links : (n : ℕ) → (n ≡ m → ⊥) → (gone ≡ Some n → ⊥) → link_of new n ≡ link_of old n
+  pub unlinked : (n : ℕ) → gone ≡ Some n → link_of new n ≡ None
+  pub files : (n : ℕ) → (gone ≡ Some n → ⊥) → file_of new n ≡ file_of old n
+  pub dead : (n : ℕ) → gone ≡ Some n → file_of new n ≡ None
+
+-- A node has a new name for the same key.
+pub record Retitles (old new : Slab Node) (m folder : ℕ) (name : Name) : Type 0 where
+  pub children : (n : ℕ) (x : Key) → child_of new n x ≡ child_of old n x
+  pub steps : Relinks old new m folder name None
+
+-- A child is another folder's, in the place of a node that goes, if there is one.
+pub record Shifts (naming : Naming) (old new : Slab Node) (m a : ℕ) (x : Name) (folder : ℕ) (name : Name) (gone : Option ℕ) : Type 0 where
+  pub here : child_of new folder (seen naming name) ≡ Some m
+  pub left : child_of new a (seen naming x) ≡ None
+  pub others : (n : ℕ) (y : Key) → ((n ≡ a) × (y ≡ seen naming x) → ⊥) → ((n ≡ folder) × (y ≡ seen naming name) → ⊥) → (gone ≡ Some n → ⊥) → child_of new n y ≡ child_of old n y
+  pub bare : (n : ℕ) (y : Key) → gone ≡ Some n → child_of new n y ≡ None
+  pub steps : Relinks old new m folder name gone
+
 -- a node has a child
 abbrev pub HasChild : Slab Node → ℕ → Type 0
 HasChild nodes n = (x : Key) × IsSome (child_of nodes n x)

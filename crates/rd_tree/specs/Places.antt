@@ -1,5 +1,5 @@
 -- What a tree is to its callers: of each live number, the path that its node stands at and, for a file, the bytes.
-use Rattle.std.specs.Prelude.{◌≡◌, ℕ, nat_le, ◌&&◌, ◌||◌, Bool, false, not, if◌then◌else◌, List, [], ◌∷◌, ◌++◌, length, Option, Some, None, ◌==◌, true, drop, map}
+use Rattle.std.specs.Prelude.{◌≡◌, ℕ, nat_le, ◌&&◌, ◌||◌, Bool, false, not, if◌then◌else◌, List, [], ◌∷◌, ◌++◌, length, Option, Some, None, ◌==◌, true, drop, map, Result, Ok, Err}
 use Rattle.std.specs.List.{list_any, filter}
 use Rattle.std.specs.Option.{IsSome, is_some, option_map, option_map_or, option_and_then, unwrap_or}
 use Rattle.std.specs.Ordering.{nat_cmp, eq_by_cmp, is_lt}
@@ -167,6 +167,11 @@ moved tree n to =
     record tree {
       list = map (λ (e : ℕ × Place). (e.0, record { path = moved_path tree.naming (own_path tree n) (asked_path tree to) e.1.path; bytes = e.1.bytes })) (cleared tree n to).list;
     }
+
+-- What a rename answers, and what it leaves. It fails by the table, and else only where there is no memory; a failure changes nothing.
+abbrev pub Renames : Places → Places → ℕ → Names → Bool → Result (Unit {0}) MoveNo → Type 0
+Renames old new n to replace (Ok done) = (move_refusal old n to replace ≡ None) × (new ≡ moved old n to)
+Renames old new n to replace (Err why) = (why ≡ unwrap_or (move_refusal old n to replace) move.Memory) × (new ≡ old)
 
 -- ---- listing
 

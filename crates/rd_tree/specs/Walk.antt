@@ -1,6 +1,7 @@
 -- Ways in a tree of numbered nodes, by the keys of names: a key is what the naming sees of a name.
 use Prim.Native.Nat.{zero, suc}
-use Rattle.std.specs.Prelude.{◌≡◌, ℕ, List, [], ◌∷◌, ◌++◌, Option, Some, None, Bool, true, false}
+use Rattle.std.specs.Prelude.{◌≡◌, ℕ, ◌+◌, ◌≤◌, ◌<◌, List, [], ◌∷◌, ◌++◌, length, Option, Some, None, Bool, true, false}
+use mathlib.Core.Logic.{◌⊎◌}
 use Rattle.std.specs.Option.{option_map_or, option_and_then, IsSome}
 
 abbrev pub Key : Type 0
@@ -62,3 +63,20 @@ pub record IsTree (child : Child) (up : Up) (kind : ℕ → Option Bool) : Type 
 -- what is where some keys lead: nothing, a file or a folder
 abbrev pub kind_at : Child → (ℕ → Option Bool) → Keys → Option Bool
 kind_at child kind path = option_and_then kind (down child 0 path)
+
+-- some keys lead from a node to another one or through it
+abbrev pub LeadsThrough : Child → ℕ → ℕ → Keys → Type 0
+LeadsThrough child n m path = (front : Keys) × (rest : Keys) × (path ≡ front ++ rest) × (down child n front ≡ Some m)
+
+-- how many units some keys add to a path before them: their own, and a backslash each
+abbrev pub added_units : Keys → ℕ
+added_units [] = 0
+added_units (x ∷ path) = length x + 1 + added_units path
+
+-- no way down from a node has more keys, or adds more units, than there is room for
+abbrev pub Fits : Child → ℕ → ℕ → ℕ → Type 0
+Fits child n names units = (q : Keys) (j : ℕ) → down child n q ≡ Some j → (length q ≤ names) × (added_units q ≤ units)
+
+-- some way down does
+abbrev pub IsDeep : Child → ℕ → ℕ → ℕ → Type 0
+IsDeep child n names units = (q : Keys) × (j : ℕ) × (down child n q ≡ Some j) × ((names < length q) ⊎ (units < added_units q))

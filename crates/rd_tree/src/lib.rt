@@ -4,13 +4,14 @@
 //! use one contract of it: a tree is the list of its live numbers with their paths and bytes (`specs/Places`), each call finds what
 //! that list has, or makes of it what a definition says, or refuses by a table and changes nothing.
 //!
-//! Cost: a name on the way to a node is looked up once in an ordered map of its folder. `add` copies the new name twice, as
-//! asked and as the naming sees it. `find`, `end` and `remove` take no memory.
+//! Cost: a name on the way to a node is looked up once in an ordered map of its folder. `add` and `rename` copy the new name twice,
+//! as asked and as the naming sees it. `find`, `end` and `remove` take no memory.
 #![tactic(auto)]
 
 mod keys;
 mod laws;
 mod listing;
+mod moving;
 mod node;
 mod nodes;
 mod refusal;

@@ -92,7 +92,12 @@ pub fn locate<'a>(
 }
 
 /// Gives a folder a child.
-fn link(nodes: &mut Slab<Node>, folder: usize, key: Vec<u16>, node: usize) -> Result<(), AllocError>
+pub fn link(
+    nodes: &mut Slab<Node>,
+    folder: usize,
+    key: Vec<u16>,
+    node: usize,
+) -> Result<(), AllocError>
     requires { IsSome (kind_of nodes.old folder) }
     ensures here { OnOk result (child_of nodes.new folder key.items ≡ Some node) }
     ensures others { (n : ℕ) (x : Key) → ((n ≡ folder) × (x ≡ key.items) → ⊥) → child_of nodes.new n x ≡ child_of nodes.old n x }
@@ -122,7 +127,7 @@ fn unlink_at(nodes: &mut Slab<Node>, folder: usize, key: &[u16])
 }
 
 /// Takes the child with a name from a folder.
-fn unlink(nodes: &mut Slab<Node>, naming: Naming, folder: usize, name: &[u16])
+pub fn unlink(nodes: &mut Slab<Node>, naming: Naming, folder: usize, name: &[u16])
     requires { is_name name.now ≡ true }
     ensures gone { child_of nodes.new folder (seen naming name.now) ≡ None }
     ensures others { (n : ℕ) (x : Key) → ((n ≡ folder) × (x ≡ seen naming name.now) → ⊥) → child_of nodes.new n x ≡ child_of nodes.old n x }
@@ -140,7 +145,7 @@ fn unlink(nodes: &mut Slab<Node>, naming: Naming, folder: usize, name: &[u16])
 }
 
 /// Takes a node away, which no folder has.
-fn delete(nodes: &mut Slab<Node>, node: usize)
+pub fn delete(nodes: &mut Slab<Node>, node: usize)
     ensures bare { (x : Key) → child_of nodes.new node x ≡ None }
     ensures children { (n : ℕ) (x : Key) → (n ≡ node → ⊥) → child_of nodes.new n x ≡ child_of nodes.old n x }
     ensures link { link_of nodes.new node ≡ None }

@@ -5,12 +5,13 @@ ghost use Rattle.std.specs.Option.{option_map, unwrap_or};
 ghost use Rattle.rd_contents.specs.Contents.{part, written, resized, max_len, EndsTooFar};
 ghost use Rattle.rd_contents.specs.declared.contents.SizeNo.TheVariants as SizeNo;
 ghost use Rattle.rd_tree.specs.declared.refusal.AddNo.TheVariants as AddNo;
-ghost use Rattle.rd_tree.specs.Places.{add_refusal, node_at, Adds, bytes_at, file_at, has_child, is_folder, next_name, root_alone, with_bytes, without, IsLive, IsFile};
+ghost use Rattle.rd_tree.specs.Places.{add_refusal, node_at, Adds, bytes_at, file_at, has_child, is_folder, next_name, root_alone, with_bytes, without, IsLive, IsFile, Renames};
 
 use crate::listing::next_name;
+use crate::moving::{fits, is_taken, leads_through, retitle, shift, units_left};
 use crate::node::{Node, NodeId};
 use crate::nodes::{ROOT, child, find, has_child, insert, locate, take_out};
-use crate::refusal::{AddNo, NotEmpty};
+use crate::refusal::{AddNo, MoveNo, NotEmpty};
 use rd_base::{Bytes, Units};
 use rd_contents::{Contents, SizeNo};
 use rd_dirinfo::{Naming, Path, Pattern};
@@ -21,6 +22,9 @@ use std::marker::Model;
 
 /// The most nodes of a tree, with the root.
 pub const MAX_NODES: usize = 65_536;
+
+/// The most names of a path.
+const MAX_NAMES: usize = 64;
 
 /// A tree of files and folders.
 #[derive(Drop)]
@@ -149,6 +153,57 @@ impl Tree {
         }
         take_out(&mut self.nodes, self.naming, node.0 as usize);
         Ok(())
+    }
+
+    /// Gives a node that isn't the root, with all that is below it, a new path, which isn't the root's. A file that is there is
+    /// replaced, if that is asked for. Its own path, as the naming sees it, is never refused; it is then kept as asked.
+    pub fn rename(&mut self, node: NodeId, to: &Path, replace: bool) -> Result<(), MoveNo>
+        requires live { IsLive self.old node.0 }
+        requires other { 0 ≢ node.0 }
+        requires target { 0 < length to.now }
+        ensures { Renames self.old self.new node.0 to.now replace result }
+    {
+        let names = to.names();
+        let node = node.0 as usize;
+        let target = find(&self.nodes, self.naming, names);
+        if target == Some(node) {
+            let Some((folder, name)) = locate(&self.nodes, self.naming, names) else {
+                return Err(MoveNo::PathNotFound);
+            };
+            return match retitle(&mut self.nodes, self.alloc, node, folder, name) {
+                Ok(()) => Ok(()),
+                Err(_) => Err(MoveNo::Memory),
+            };
+        }
+        if leads_through(&self.nodes, self.naming, node, names) {
+            return Err(MoveNo::Inside);
+        }
+        let Some((folder, name)) = locate(&self.nodes, self.naming, names) else {
+            return Err(MoveNo::PathNotFound);
+        };
+        if !fits(
+            &self.nodes,
+            node,
+            MAX_NAMES - names.len(),
+            units_left(names),
+        ) {
+            return Err(MoveNo::TooDeep);
+        }
+        if is_taken(&self.nodes, target, replace) {
+            return Err(MoveNo::Collision);
+        }
+        match shift(
+            &mut self.nodes,
+            self.alloc,
+            self.naming,
+            node,
+            folder,
+            name,
+            target,
+        ) {
+            Ok(()) => Ok(()),
+            Err(_) => Err(MoveNo::Memory),
+        }
     }
 
     /// The first name of a folder's children, in the order of the naming, that matches a pattern and comes after another name,

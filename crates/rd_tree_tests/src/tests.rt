@@ -2,7 +2,7 @@
 use rd_base::Units;
 use rd_contents::SizeNo;
 use rd_dirinfo::{Naming, Path, Pattern};
-use rd_tree::{AddNo, NodeId, NotEmpty, Tree};
+use rd_tree::{AddNo, MoveNo, NodeId, NotEmpty, Tree};
 use std::process::Abort;
 
 /// The path that an ASCII text spells.
@@ -158,4 +158,55 @@ fn lists_by_each_naming(rt: HostRuntime) {
     assert_eq!(rt; listed(&rt, Naming::Folded, None), Some(0x61));
     assert_eq!(rt; listed(&rt, Naming::Exact, Some(&other)), Some(0x63));
     assert_eq!(rt; listed(&rt, Naming::Folded, Some(&other)), Some(0x42));
+}
+
+/// The first unit of the root's first name.
+fn first_unit(rt: &(impl Abort + AllocGlobal), tree: &Tree) -> Option<u16> {
+    let root = tree.find(&path(rt, b"\\")).expect(rt, "the root");
+    if tree.end(root).is_some() {
+        return None;
+    }
+    let name = tree.next(root, None, &Pattern::any(rt.alloc()))?;
+    name.as_slice().first().copied()
+}
+
+/// What renaming the node at a path returns; neither path is the root's.
+fn rename(
+    rt: &(impl Abort + AllocGlobal),
+    tree: &mut Tree,
+    from: &[u8],
+    to: &[u8],
+    replace: bool,
+) -> Result<(), MoveNo> {
+    let to = path(rt, to);
+    assert!(rt; !to.names().is_empty(), "the root");
+    let node = tree.find(&path(rt, from)).expect(rt, "a node");
+    assert!(rt; node.0 != 0, "the root");
+    tree.rename(node, &to, replace)
+}
+
+#[test]
+fn renames_by_folding(rt: HostRuntime) {
+    let mut tree = Tree::new(rt.alloc(), Naming::Folded).expect(&rt, "memory for a tree");
+    for (text, folder) in [
+        (b"\\d".as_slice(), true),
+        (b"\\d\\f".as_slice(), false),
+        (b"\\g".as_slice(), false),
+    ] {
+        let made = tree.add(&path(&rt, text), folder);
+        assert_eq!(rt; made.err(), None);
+    }
+    let inside = rename(&rt, &mut tree, b"\\d", b"\\d\\e", false);
+    assert_eq!(rt; inside, Err(MoveNo::Inside));
+    assert_eq!(rt; first_unit(&rt, &tree), Some(0x64));
+    let other_case = rename(&rt, &mut tree, b"\\d", b"\\D", false);
+    assert_eq!(rt; other_case, Ok(()));
+    assert_eq!(rt; first_unit(&rt, &tree), Some(0x44));
+    let moved = at(&rt, &tree, b"\\g");
+    let taken = rename(&rt, &mut tree, b"\\g", b"\\d\\F", false);
+    assert_eq!(rt; taken, Err(MoveNo::Collision));
+    let replaced = rename(&rt, &mut tree, b"\\g", b"\\d\\F", true);
+    assert_eq!(rt; replaced, Ok(()));
+    assert_eq!(rt; at(&rt, &tree, b"\\g"), None);
+    assert_eq!(rt; at(&rt, &tree, b"\\d\\f"), moved);
 }

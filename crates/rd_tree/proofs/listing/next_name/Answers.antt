@@ -1,4 +1,4 @@
-use Rattle.std.proofs.Common.{◌≡◌, ◌∙◌, sym, ap, ℕ, List, Option, Some, None, Vec, Global}
+use Rattle.std.proofs.Common.{◌≡◌, ◌∙◌, sym, ap, ℕ, List, Option, Some, Vec, Global}
 use Rattle.std.specs.Option.{option_map}
 use Rattle.rd_dirinfo.specs.Naming.{Name, seen}
 use Rattle.rd_tree.specs.Places.{is_wanted, next_name}

@@ -1,4 +1,4 @@
-use Rattle.std.proofs.Common.{◌≡◌, ◌∙◌, sym, ap, true, Bool, Option, Some}
+use Rattle.std.proofs.Common.{◌∙◌, sym, ap}
 use Rattle.std.specs.Option.{is_some}
 use Rattle.rd_tree.specs.Places.{Places, is_folder}
 use Rattle.rd_tree.proofs.PlaceLemmas.{folder_kind}
