@@ -1,7 +1,7 @@
-//! How fast frames, recordings, the contents of files and locks are, beside a plain copy where bytes are moved.
+//! How fast frames, recordings, the contents of files, locks and trees are, beside a plain copy where bytes are moved.
 //!
 //! Without words each subject runs once, in little, and says so. `frames`, `decode` and `contents`, with a number of
-//! megabytes, and `locks` measure one subject each and print its figures; a number alone measures frames.
+//! megabytes, `locks` and `tree` measure one subject each and print its figures; a number alone measures frames.
 #![tactic(auto)]
 
 mod contents;
@@ -9,6 +9,7 @@ mod decode;
 mod figures;
 mod frames;
 mod locks;
+mod tree;
 
 use anyhow::{Context, Result};
 use std::env;
@@ -29,6 +30,7 @@ fn main(rt: HostRuntime) -> Result<()> {
         "decode" => decode::measure(&rt, megabytes),
         "contents" => contents::measure(&rt, megabytes),
         "locks" => locks::measure(&rt),
+        "tree" => tree::measure(&rt),
         "frames" => frames::measure(&rt, megabytes),
         number => frames::measure(&rt, parse_megabytes(number)?),
     }
@@ -43,5 +45,6 @@ fn try_all(rt: &HostRuntime) -> Result<()> {
     frames::try_once(rt)?;
     decode::try_once(rt)?;
     contents::try_once(rt)?;
-    locks::try_once(rt)
+    locks::try_once(rt)?;
+    tree::try_once(rt)
 }
