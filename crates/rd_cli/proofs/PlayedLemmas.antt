@@ -10,7 +10,7 @@ use Rattle.rd_base.specs.Faults.{one_more}
 use Rattle.rd_base.specs.Prefixes.{AppendsPrefix}
 use Rattle.rd_base.specs.History.{History}
 use Rattle.rd_base.specs.declared.journal.Item.{Item}
-use Rattle.rd_drive.specs.DriveState.{DriveState, opening}
+use Rattle.rd_plain_drive.specs.DriveState.{DriveState, opening}
 use Rattle.rd_script.specs.declared.outcome.Outcome.{Outcome}
 use Rattle.rd_script.specs.Asks.{HandleOp, CanBeSent}
 use Rattle.rd_script.specs.Grammar.{Said, nothing_said}

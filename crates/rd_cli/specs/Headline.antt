@@ -2,7 +2,7 @@
 use Rattle.std.specs.Prelude.{◌≡◌, ℕ, List, [], ◌∷◌, unwrap_or, MatchOption}
 use Rattle.rd_base.specs.History.{History}
 use Rattle.rd_base.specs.declared.journal.Item.{Item}
-use Rattle.rd_drive.specs.DriveState.{opening}
+use Rattle.rd_plain_drive.specs.DriveState.{opening}
 use Rattle.rd_script.specs.declared.outcome.Outcome.{Outcome}
 use Rattle.rd_session.specs.Recording.{Entry, begins, recording_of}
 use Rattle.rd_session.specs.Session.{IsSession}

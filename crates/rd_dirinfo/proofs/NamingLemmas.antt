@@ -10,7 +10,7 @@ use Rattle.std.proofs.lemmas.Map.Lookups.{exact_bytes}
 use Rattle.rd_dirinfo.specs.declared.naming.Naming.{Naming}
 use Rattle.rd_dirinfo.specs.declared.naming.Naming.TheVariants.{Exact, Folded}
 use Rattle.rd_dirinfo.specs.Naming.{Name, seen, seen_unit, fold_unit, name_cmp, IsSame, IsBefore}
-use Rattle.rd_dirinfo.specs.Paths.{Names, path_cmp, seen_path, IsSamePath}
+use Rattle.rd_dirinfo.specs.Paths.{Names, path_cmp, IsSamePath}
 
 -- ---- what a naming sees
 

@@ -1,5 +1,5 @@
 -- Paths: which units spell one, and how one path stands to another.
-use Rattle.std.specs.Prelude.{◌≡◌, ℕ, ◌+◌, ◌-◌, ◌==◌, ◌&&◌, ◌||◌, Bool, not, nat_le, nat_lt, if◌then◌else◌, List, [], ◌∷◌, ◌++◌, length, take, map, flat_map, sum_by, codes, bytes_eq, Option, Some, None}
+use Rattle.std.specs.Prelude.{◌≡◌, ℕ, ◌+◌, ◌-◌, ◌==◌, ◌&&◌, ◌||◌, Bool, not, nat_le, nat_lt, if◌then◌else◌, List, [], ◌∷◌, ◌++◌, length, take, drop, map, flat_map, sum_by, codes, bytes_eq, Option, Some, None}
 use Rattle.std.specs.List.{list_all, list_any, last_or}
 use Rattle.std.specs.Option.{unwrap_or}
 use Rattle.std.specs.Ordering.{is_eq}
@@ -174,3 +174,7 @@ is_below naming folder path = is_prefix naming folder path && not (length folder
 -- the first path is that of the folder in which the last name of the second stands
 abbrev pub is_parent : Naming → Names → Names → Bool
 is_parent naming folder path = is_prefix naming folder path && length path == length folder + 1
+
+-- A path at or below one gets another beginning. Any other path stays.
+abbrev pub moved_path : Naming → Names → Names → Names → Names
+moved_path naming from to path = if is_prefix naming from path then to ++ drop (length from) path else path

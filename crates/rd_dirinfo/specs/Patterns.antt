@@ -1,9 +1,10 @@
 -- The patterns of directory queries.
-use Rattle.std.specs.Prelude.{◌≡◌, ℕ, ◌==◌, ◌&&◌, ◌||◌, ◌⊎◌, Bool, false, nat_le, min, if◌then◌else◌, List, [], ◌∷◌, ◌++◌, length, codes, bytes_eq, Option, Some, None}
+use Rattle.std.specs.Prelude.{◌≡◌, ℕ, ◌==◌, ◌&&◌, ◌||◌, ◌⊎◌, Bool, true, false, nat_le, min, if◌then◌else◌, List, [], ◌∷◌, ◌++◌, length, codes, bytes_eq, Option, Some, None}
 use Rattle.std.specs.List.{list_any, last_or}
 use Rattle.std.specs.Option.{unwrap_or}
 use Rattle.rd_dirinfo.specs.declared.naming.Naming.{Naming}
-use Rattle.rd_dirinfo.specs.Naming.{Name, seen}
+use Rattle.std.specs.Ordering.{is_lt}
+use Rattle.rd_dirinfo.specs.Naming.{Name, seen, name_cmp}
 use Rattle.rd_dirinfo.specs.Paths.{Part, parts_of, placed, most_name_units}
 
 -- `*`
@@ -82,3 +83,14 @@ is_cut_by (p ∷ ps) name =
 -- the name matches the pattern in a naming
 abbrev pub matches : Naming → List ℕ → Name → Bool
 matches naming pattern name = is_cut_by (seen naming pattern) (seen naming name)
+
+-- ---- listing
+
+-- whether a name comes after another, if there is one
+abbrev pub is_after : Naming → Option Name → Name → Bool
+is_after naming None name = true
+is_after naming (Some other) name = is_lt (name_cmp naming other name)
+
+-- whether a name matches a pattern and comes after another name, if one is given
+abbrev pub is_wanted : Naming → Option Name → List ℕ → Name → Bool
+is_wanted naming after pattern name = is_after naming after name && matches naming pattern name

@@ -25,5 +25,5 @@ pub use laws::{
     patterns_are_as_listed,
 };
 pub use naming::Naming;
-pub use path::{Path, PathNo};
+pub use path::{MOST_NAMES, MOST_PATH_UNITS, Path, PathNo};
 pub use pattern::Pattern;

@@ -68,7 +68,7 @@ impl Naming {
     }
 
     /// What the naming sees of a unit.
-    pub(crate) fn see(self, unit: u16) -> u16
+    pub fn see(self, unit: u16) -> u16
         ensures { result ≡ seen_unit self unit }
     {
         match self {

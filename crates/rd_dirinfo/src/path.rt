@@ -14,13 +14,13 @@ use thiserror::Error;
 pub const BACKSLASH: u16 = 0x5c;
 
 /// The most names of a path.
-const MOST_NAMES: u32 = 64;
+pub const MOST_NAMES: u32 = 64;
 
 /// The most units of a name, and of a pattern.
 pub const MOST_NAME_UNITS: usize = 255;
 
-/// The most units of a path.
-const MOST_PATH_UNITS: u32 = 4096;
+/// The most units of a path, with those between its names.
+pub const MOST_PATH_UNITS: u32 = 4096;
 
 /// Why units are no path, or no pattern.
 #[derive(Clone, Copy, Debug, PartialEq, Eq, Error)]

@@ -220,9 +220,10 @@ fn matches_any_name(rt: HostRuntime) {
 #[test]
 fn folds_names(rt: HostRuntime) {
     // Two names, and whether they are the same but for case. CaseFolding.txt has the foldings.
-    let rows: [(&[u16], &[u16], bool); 9] = [
+    let rows: [(&[u16], &[u16], bool); 10] = [
         (&[0x3a3], &[0x3c3], true),
         (&[0x3a3], &[0x3c2], true),
+        (&[0x3c2], &[0x3c3], true),
         (&[0x52, 0x2e, 0x6d], &[0x72, 0x2e, 0x4d], true),
         (&[0x212a], &[0x6b], true),
         (&[0x130], &[0x69], false),

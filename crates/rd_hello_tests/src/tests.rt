@@ -1,8 +1,8 @@
 //! Messages that a captured channel and worked examples give, and channels that open in each order.
 use rd_base::{Bad, ReadNo, Why};
 use rd_hello::{
-    Cap, ClientShake, ClientState, General, Hello, HostShake, HostState, ShakeNo, can_write_hello,
-    put_hello, read_hello, write_hello,
+    Cap, ClientShake, ClientState, General, Hello, HostShake, HostState, ShakeNo, Version,
+    can_write_hello, put_hello, read_hello, write_hello,
 };
 use std::process::Abort;
 
@@ -76,6 +76,20 @@ fn host_begins(rt: HostRuntime) {
     let mut host = HostShake::new(1);
     is_written(&rt, &Some(host.begin()), ANNOUNCE);
     assert_eq!(rt; host.state(), HostState::Start);
+}
+
+#[test]
+fn reads_an_announce(rt: HostRuntime) {
+    let version = Version {
+        minor: 12,
+        client: 1,
+    };
+    assert!(rt;
+        matches!(
+            read_hello(rt.alloc(), ANNOUNCE),
+            Ok((Hello::Announce(read), 0)) if read == version
+        )
+    );
 }
 
 #[test]

@@ -165,7 +165,7 @@ impl Locks {
 
     /// The first lock in the way of a request, each of its ranges tested against the locks that stand and the ranges before
     /// it.
-    fn conflict(&self, node: u32, file: u32, exclusive: bool, ranges: &[Range]) -> Option<Held>
+    pub fn conflict(&self, node: u32, file: u32, exclusive: bool, ranges: &[Range]) -> Option<Held>
         ensures { result ≡ conflict self.now.locks (wanted_locks node file exclusive ranges.now) }
     {
         for (i, range) in ranges.iter().enumerate() {

@@ -143,6 +143,14 @@ fn names_the_lock_in_the_way(rt: HostRuntime) {
     let wanted = [bytes(30, 9), bytes(10, 9)];
     let answer = locks.lock(1, 2, false, &wanted);
     assert_eq!(rt; answer, Err(LockNo::Conflict(held)));
+    let last = locks.lock(1, 2, false, &[bytes(9, 1)]);
+    assert_eq!(rt;
+        last,
+        Err(LockNo::Conflict(Held {
+            range: ranges[0],
+            ..held
+        }))
+    );
     assert_eq!(rt; locks.unlock(1, 1, &[ranges[0], wanted[0]]), Err(wanted[0]));
     assert_eq!(rt;
         locks.lock(1, 1, true, &[wanted[0], wanted[0]]),

@@ -15,7 +15,7 @@ use Rattle.hex.specs.Hex.{encode_lower}
 use Rattle.rd_irp.specs.Fits.{Fits}
 use Rattle.rd_irp.specs.declared.op.Op.{Op}
 use Rattle.rd_irp.specs.declared.op.Op.TheVariants as op
-use Rattle.rd_drive.specs.PlainPath.{IsPlainPath, is_plain_name, is_plain_unit, is_dots}
+use Rattle.rd_plain_drive.specs.PlainPath.{IsPlainPath, is_plain_name, is_plain_unit, is_dots}
 use Rattle.rd_script.specs.Asks.{HandleOp}
 use Rattle.rd_script.specs.declared.grammar.Line.{Line}
 use Rattle.rd_script.specs.declared.grammar.Line.TheVariants as line

@@ -12,11 +12,11 @@ use Rattle.std.proofs.lemmas.List.Elements.{All-cons, All-nil, All-head, All-tai
 use Rattle.std.proofs.lemmas.List.Sums.{fold-append}
 use Rattle.std.proofs.lemmas.Map.Text.{is_eq-slice_cmp}
 use Rattle.std.proofs.lemmas.Slice.Eq.{bytes_eq-Decides}
-use Rattle.rd_drive.specs.PlainPath.{IsPlainPath, is_plain_path}
-use Rattle.rd_drive.specs.DriveState.{DriveState, Path, path_cmp, node_at, with_file, opening, empty_drive}
-use Rattle.rd_drive.specs.AddsFile.{AddsFile, add_refusal, max_nodes}
-use Rattle.rd_drive.specs.declared.drive.AddNo.{AddNo}
-use Rattle.rd_drive.specs.declared.drive.AddNo.TheVariants.{PathNotFound, Collision, Full, Memory}
+use Rattle.rd_plain_drive.specs.PlainPath.{IsPlainPath, is_plain_path}
+use Rattle.rd_plain_drive.specs.DriveState.{DriveState, Path, path_cmp, node_at, with_file, opening, empty_drive}
+use Rattle.rd_plain_drive.specs.AddsFile.{AddsFile, add_refusal, max_nodes}
+use Rattle.rd_plain_drive.specs.declared.drive.AddNo.{AddNo}
+use Rattle.rd_plain_drive.specs.declared.drive.AddNo.TheVariants.{PathNotFound, Collision, Full, Memory}
 
 -- ---- maps by their entries
 

@@ -1,7 +1,7 @@
 -- `Script::read_line`: what a line adds to a script.
 use Rattle.std.proofs.Common.{◌≡◌, refl, sym, ap, subst, ℕ, inl, inr, List, Bool, true, false, Option, Some, None, Result, Ok, Err}
 use Rattle.std.specs.Prelude.{IfOk, IsTrue, ◌↔◌}
-use Rattle.rd_drive.specs.PlainPath.{IsPlainPath}
+use Rattle.rd_plain_drive.specs.PlainPath.{IsPlainPath}
 use Rattle.rd_script.specs.declared.grammar.Line.{Line}
 use Rattle.rd_script.specs.declared.grammar.Line.TheVariants as line
 use Rattle.rd_script.specs.declared.script.Script.{Script}

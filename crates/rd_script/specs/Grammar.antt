@@ -4,8 +4,8 @@ use Rattle.std.specs.List.{concat, join_with_byte, onto_first}
 use Rattle.hex.specs.Hex.{encode_lower}
 use Rattle.rd_irp.specs.declared.op.Op.{Op}
 use Rattle.rd_irp.specs.declared.op.Op.TheVariants as op
-use Rattle.rd_drive.specs.PlainPath.{IsPlainPath}
-use Rattle.rd_drive.specs.DriveStep.{generic_read, share_all, open_existing}
+use Rattle.rd_plain_drive.specs.PlainPath.{IsPlainPath}
+use Rattle.rd_plain_drive.specs.DriveStep.{generic_read, share_all, open_existing}
 use Rattle.rd_script.specs.Asks.{HandleOp}
 use Rattle.rd_script.specs.declared.grammar.Line.{Line}
 use Rattle.rd_script.specs.declared.grammar.Line.TheVariants as line

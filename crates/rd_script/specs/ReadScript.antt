@@ -1,6 +1,6 @@
 -- What the reader of scripts returns.
 use Rattle.std.specs.Prelude.{◌≡◌, ℕ, ◌≤◌, List, length, Bool, MatchBool, Some}
-use Rattle.rd_drive.specs.DriveState.{opening}
+use Rattle.rd_plain_drive.specs.DriveState.{opening}
 use Rattle.rd_script.specs.Grammar.{Said, nothing_said, Adds, MayFollow, max_lines, with_line}
 use Rattle.rd_script.specs.declared.grammar.Line.{Line}
 use Rattle.rd_script.specs.declared.script.Script.{Script}

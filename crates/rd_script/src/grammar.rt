@@ -10,8 +10,8 @@ ghost use Rattle.rd_script.specs.declared.grammar.Line.TheVariants as line;
 
 use crate::ask::Ask;
 use rd_base::{Bytes, Units};
-use rd_drive::{GENERIC_READ, OPEN_EXISTING, SHARE_ALL, is_plain_path};
 use rd_irp::Op;
+use rd_plain_drive::{GENERIC_READ, OPEN_EXISTING, SHARE_ALL, is_plain_path};
 use std::alloc::{AllocError, Global};
 use std::str;
 

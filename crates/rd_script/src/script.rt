@@ -1,7 +1,7 @@
 //! A script, and the first line outside the grammar.
 
 ghost use Rattle.std.specs.Prelude.{◌≡◌, ◌≢◌, ◌-◌, ◌↔◌, All, IfOk, IfErr, IsTrue, length, take};
-ghost use Rattle.rd_drive.specs.PlainPath.{IsPlainPath};
+ghost use Rattle.rd_plain_drive.specs.PlainPath.{IsPlainPath};
 ghost use Rattle.rd_script.specs.Grammar.{IsFirstBad, IsScript, IsSkipped, Said, text_of};
 ghost use Rattle.rd_script.specs.ReadScript.{HoldsSaid, IsBadLine, ReadsLine, TakesLine};
 ghost use Rattle.rd_script.specs.declared.grammar.Line.TheVariants as line;
@@ -10,7 +10,7 @@ use crate::ask::Ask;
 use crate::grammar::{Line, line_of};
 use crate::script_no::ScriptNo;
 use rd_base::{Bytes, Units};
-use rd_drive::{AddNo, MemoryDrive};
+use rd_plain_drive::{AddNo, MemoryDrive};
 use std::alloc::{AllocError, Global};
 
 /// The most lines of a script.

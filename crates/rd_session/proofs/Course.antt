@@ -5,7 +5,7 @@ use Rattle.rd_base.specs.declared.journal.Key.{Key}
 use Rattle.rd_base.specs.declared.journal.Item.{Item}
 use Rattle.rd_irp.specs.declared.completion.Reply.{Reply}
 use Rattle.rd_irp.specs.declared.request.Request.{Request}
-use Rattle.rd_drive.specs.DriveState.{DriveState}
+use Rattle.rd_plain_drive.specs.DriveState.{DriveState}
 use Rattle.rd_session.specs.Channel.{Exchange, IsExchange, Runs, stored_under}
 use Rattle.rd_session.specs.Session.{key_at}
 

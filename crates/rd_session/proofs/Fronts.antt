@@ -11,9 +11,9 @@ use Rattle.std.proofs.lemmas.List.Elements.{All-head, All-tail}
 use Rattle.rd_base.specs.declared.journal.Item.{Item}
 use Rattle.rd_base.specs.Prefixes.{AppendsPrefix}
 use Rattle.rd_irp.specs.declared.request.Request.{Request}
-use Rattle.rd_drive.specs.DriveState.{DriveState}
-use Rattle.rd_drive.specs.DriveStep.{drive_step}
-use Rattle.rd_drive.proofs.DriveStepLemmas.{is_starved-drive_step}
+use Rattle.rd_plain_drive.specs.DriveState.{DriveState}
+use Rattle.rd_plain_drive.specs.DriveStep.{drive_step}
+use Rattle.rd_plain_drive.proofs.DriveStepLemmas.{is_starved-drive_step}
 use Rattle.rd_script.specs.declared.outcome.Outcome.{Outcome}
 use Rattle.rd_script.specs.declared.outcome.Outcome.TheVariants as outcome
 use Rattle.rd_script.specs.Asks.{HandleOp, CanBeSent}

@@ -19,10 +19,10 @@ use Rattle.rd_irp.specs.Written.{IsBodyInRange, body_bytes, body_tail, head_byte
 use Rattle.rd_irp.proofs.OpLemmas.{length-op_bytes}
 use Rattle.rd_irp.proofs.WrittenLemmas.{body_after_head, body_spelled, head_spelled, length-body_bytes, request_spelled}
 use Rattle.rd_chunk.specs.Carrier.{IsMessage}
-use Rattle.rd_drive.specs.DriveState.{DriveState}
-use Rattle.rd_drive.specs.DriveStep.{drive_step}
-use Rattle.rd_drive.specs.Starved.{Gives, is_starved, unless_starved}
-use Rattle.rd_drive.proofs.DriveStepLemmas.{IsProper, fault_proper, is_starved-drive_step, proper-drive_step}
+use Rattle.rd_plain_drive.specs.DriveState.{DriveState}
+use Rattle.rd_plain_drive.specs.DriveStep.{drive_step}
+use Rattle.rd_plain_drive.specs.Starved.{Gives, is_starved, unless_starved}
+use Rattle.rd_plain_drive.proofs.DriveStepLemmas.{IsProper, fault_proper, is_starved-drive_step, proper-drive_step}
 use Rattle.rd_script.specs.declared.outcome.Outcome.{Outcome}
 use Rattle.rd_script.specs.declared.outcome.Outcome.TheVariants as outcome
 use Rattle.rd_script.specs.Asks.{HandleOp, CanBeSent}

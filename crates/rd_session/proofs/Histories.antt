@@ -11,10 +11,10 @@ use Rattle.rd_base.specs.Lawful.{IsUnparked, named_key}
 use Rattle.rd_irp.specs.declared.op.Op.TheVariants.{Close}
 use Rattle.rd_irp.specs.declared.completion.Reply.{Reply}
 use Rattle.rd_irp.specs.declared.request.Request.{Request}
-use Rattle.rd_drive.specs.DriveState.{DriveState}
-use Rattle.rd_drive.specs.DriveStep.{drive_step}
-use Rattle.rd_drive.specs.Replies.{replies_of, StarvesNoClose}
-use Rattle.rd_drive.specs.Starved.{is_starved, unless_starved}
+use Rattle.rd_plain_drive.specs.DriveState.{DriveState}
+use Rattle.rd_plain_drive.specs.DriveStep.{drive_step}
+use Rattle.rd_plain_drive.specs.Replies.{replies_of, StarvesNoClose}
+use Rattle.rd_plain_drive.specs.Starved.{is_starved, unless_starved}
 use Rattle.rd_session.specs.Session.{IsHistory, IsUncut, RunsAt, key_at}
 use Rattle.rd_session.specs.Channel.{Exchange, stored_under}
 use Rattle.rd_session.specs.Told.{Told, CompletesKey, Completes, sent_keys}

@@ -24,7 +24,7 @@ use Rattle.rd_irp.specs.Completion.{completion_head, completion_body, SpellsHead
 use Rattle.rd_chunk.proofs.CarriedLemmas.{carried_one}
 use Rattle.rd_base.proofs.LayoutLemmas.{one_value, not_both}
 use Rattle.rd_irp.proofs.RequestLemmas.{request_one_value, request_not_both}
-use Rattle.rd_drive.specs.DriveState.{DriveState}
+use Rattle.rd_plain_drive.specs.DriveState.{DriveState}
 use Rattle.rd_script.specs.Asks.{ReplyOfKind}
 use Rattle.rd_irp.specs.declared.completion.Reply.{Reply}
 use Rattle.std.specs.List.{flat_map}

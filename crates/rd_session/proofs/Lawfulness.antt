@@ -14,7 +14,7 @@ use Rattle.rd_base.specs.declared.journal.Item.{Item}
 use Rattle.rd_base.specs.declared.journal.Item.TheVariants.{Came, Ran, Cancelled, Sent, Cut}
 use Rattle.rd_base.specs.Lawful.{IsLawful, EachAfter, IsBefore, named_key, NoneAboveChannel, Settles, RisesAbove, SettlesFirst, SendsFirst, RunsUncut, CancelsRemoved, NamesRemembered, CutsFewUnsent, FewUnsent, sends, is_unsent}
 use Rattle.rd_base.proofs.JournalLemmas.{EachInTurn, EachAfter-from_turns}
-use Rattle.rd_drive.specs.Starved.{is_starved}
+use Rattle.rd_plain_drive.specs.Starved.{is_starved}
 use Rattle.rd_session.specs.Channel.{Exchange}
 use Rattle.rd_session.specs.Session.{key_at}
 use Rattle.rd_session.proofs.Course.{stored_from}

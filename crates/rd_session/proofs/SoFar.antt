@@ -10,9 +10,9 @@ use Rattle.std.proofs.lemmas.List.{append-nil, length-append, length-map, map_pu
 use Rattle.rd_base.specs.declared.journal.Item.{Item}
 use Rattle.rd_base.specs.declared.journal.Key.{Key}
 use Rattle.rd_irp.specs.declared.completion.Reply.{Reply}
-use Rattle.rd_drive.specs.Replies.{replies_of}
+use Rattle.rd_plain_drive.specs.Replies.{replies_of}
 use Rattle.rd_irp.specs.declared.request.Request.{Request}
-use Rattle.rd_drive.specs.DriveState.{DriveState}
+use Rattle.rd_plain_drive.specs.DriveState.{DriveState}
 use Rattle.rd_session.specs.Session.{IsHistory, IsSession, first_keys, in_turn, key_at}
 use Rattle.rd_script.specs.declared.outcome.Outcome.{Outcome}
 use Rattle.rd_script.specs.declared.outcome.Outcome.TheVariants as outcome

@@ -19,9 +19,9 @@ use Rattle.rd_irp.specs.Request.{SpellsRequest}
 use Rattle.rd_irp.specs.Completion.{SpellsHead, SpellsBody}
 use Rattle.rd_irp.specs.Written.{request_bytes}
 use Rattle.rd_chunk.specs.Carrier.{IsMessage}
-use Rattle.rd_drive.specs.DriveState.{DriveState}
-use Rattle.rd_drive.specs.DriveStep.{drive_step}
-use Rattle.rd_drive.specs.Starved.{Gives, is_starved, unless_starved}
+use Rattle.rd_plain_drive.specs.DriveState.{DriveState}
+use Rattle.rd_plain_drive.specs.DriveStep.{drive_step}
+use Rattle.rd_plain_drive.specs.Starved.{Gives, is_starved, unless_starved}
 use Rattle.rd_chunk.specs.Frames.{One}
 use Rattle.rd_chunk.specs.Standing.{Held, StandsFor}
 use Rattle.rd_session.specs.declared.run_no.RunNo.{RunNo}

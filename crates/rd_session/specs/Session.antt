@@ -12,8 +12,8 @@ use Rattle.rd_irp.specs.Fits.{kind_of}
 use Rattle.rd_irp.specs.Request.{SpellsRequest}
 use Rattle.rd_irp.specs.Written.{request_bytes}
 use Rattle.rd_chunk.specs.Carrier.{IsMessage}
-use Rattle.rd_drive.specs.DriveState.{DriveState}
-use Rattle.rd_drive.specs.Replies.{replies_of, StarvesNoClose}
+use Rattle.rd_plain_drive.specs.DriveState.{DriveState}
+use Rattle.rd_plain_drive.specs.Replies.{replies_of, StarvesNoClose}
 use Rattle.rd_session.specs.declared.recording.Side.TheVariants.{Host, Client}
 use Rattle.rd_script.specs.declared.outcome.Outcome.{Outcome}
 use Rattle.rd_script.specs.Asks.{HandleOp, ReplyOfKind}

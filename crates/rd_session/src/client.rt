@@ -12,8 +12,8 @@ use crate::frames::join;
 use crate::run_no::RunNo;
 use rd_base::{Bytes, Item, Journal, Key, ReadNo, Status};
 use rd_chunk::Joiner;
-use rd_drive::{Device, Job, MemoryDrive, prepare};
 use rd_irp::{Head, Request, kind_of, read_request, write_completion};
+use rd_plain_drive::{Device, Job, MemoryDrive, prepare};
 use std::alloc::{AllocError, Global};
 
 /// The number of the one channel.

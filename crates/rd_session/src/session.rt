@@ -17,8 +17,8 @@ use crate::recording::{Side, record};
 use crate::run_no::RunNo;
 use rd_base::{Journal, Sink};
 use rd_chunk::split;
-use rd_drive::MemoryDrive;
 use rd_irp::{Request, kind_of, write_request};
+use rd_plain_drive::MemoryDrive;
 use rd_script::{Answer, Ask, Outcome};
 use std::alloc::Global;
 

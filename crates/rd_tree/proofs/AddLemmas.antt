@@ -18,7 +18,7 @@ use Rattle.rd_tree.proofs.NodeLemmas.{up_of-at, up_of-same, kind_of-same}
 use Rattle.rd_tree.proofs.ViewLemmas.{place_seen, placed_at, unchanged}
 use Rattle.rd_tree.proofs.WayLemmas.{same_way, live_above, way_step}
 use Rattle.rd_tree.proofs.SoundLemmas.{sound_kept}
-use Rattle.rd_tree.proofs.PlaceLemmas.{place_kept, live_file, asked_is, folder_seen, located_folder, located_node, nodes_seen}
+use Rattle.rd_tree.proofs.PlaceLemmas.{place_kept, live_file, asked_is, folder_seen, located_folder, located_node, nodes_seen, lacks_folder}
 
 -- the refusal, by its three tests
 pub refusal_is : (tree : Places) (path : Names) (folder there full : Bool) → 0 < length path → is_folder_at tree (parent path) ≡ folder → is_some (node_at tree path) ≡ there → nat_le most_nodes (length tree.list) ≡ full
@@ -37,12 +37,7 @@ some_names n b is none = grind (arith, nat_tests)
 module _ (naming : Naming) (nodes : Slab Node) (s : IsSound naming nodes) (names : Names) where
   pub refused_lost : 0 < length names → LacksFolder naming nodes names → add_refusal (places_of naming nodes) names ≡ Some add.PathNotFound
   refused_lost some lacks = refusal_is (places_of naming nodes) names false (is_some (node_at (places_of naming nodes) names)) (nat_le most_nodes (length (places_of naming nodes).list)) some
-      (folder_seen naming nodes s (parent names) ∙ not_folder (kind_at (child_of nodes) (kind_of nodes) (seen_path naming (parent names))) lacks) refl refl
-    where
-      not_folder : (o : Option Bool) → (o ≡ Some true → ⊥) → unwrap_or o false ≡ false
-      not_folder None h = refl
-      not_folder (Some true) h = absurd (h refl)
-      not_folder (Some false) h = refl
+      (lacks_folder naming nodes s names lacks) refl refl
 
   module _ (folder : ℕ) (name : Name) (l : Locates naming nodes names folder name) where
     some : 0 < length names

@@ -18,3 +18,5 @@ pub mod ThroughLemmas
 pub mod RefuseLemmas
 pub mod MoveLemmas
 pub mod ShiftLemmas
+pub mod WholeLemmas
+pub mod AccessLemmas

@@ -15,7 +15,8 @@ use Rattle.rd_dirinfo.specs.Naming.{Name, seen}
 use Rattle.rd_dirinfo.specs.Paths.{Names, is_name, seen_path, parent, is_prefix}
 use Rattle.rd_tree.specs.declared.node.Node.{Node}
 use Rattle.rd_tree.specs.Walk.{Key, Keys, onward, down, path_of, Starts}
-use Rattle.rd_tree.specs.Places.{Place, Places, place, without, own_path, asked_path, moved_path, cleared, moved}
+use Rattle.rd_tree.specs.Places.{Place, Places, place, without, own_path, asked_path, cleared, moved}
+use Rattle.rd_dirinfo.specs.Paths.{moved_path}
 use Rattle.rd_tree.specs.Nodes.{child_of, link_of, up_of, file_of, kind_of, placed, places_of, Locates, LacksFolder, Relinks, Retitles, IsSound}
 use Rattle.rd_tree.proofs.KeyLemmas.{one_path, down_on}
 use Rattle.rd_tree.proofs.TreeLemmas.{not_some, inside, sound_same}

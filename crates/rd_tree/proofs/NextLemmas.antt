@@ -17,7 +17,8 @@ use Rattle.rd_dirinfo.specs.Paths.{Names, is_parent, last_name}
 use Rattle.rd_dirinfo.specs.Patterns.{matches}
 use Rattle.rd_tree.specs.declared.node.Node.{Node}
 use Rattle.rd_tree.specs.Walk.{Key, path_of}
-use Rattle.rd_tree.specs.Places.{Place, child_names, is_wanted, next_name}
+use Rattle.rd_dirinfo.specs.Patterns.{is_wanted}
+use Rattle.rd_tree.specs.Places.{Place, child_names, next_name}
 use Rattle.rd_tree.specs.Nodes.{child_of, link_of, up_of, kind_of, node_bytes, placed, places_of, to_kept, get_key, key_cmp, name_of, names_in, first_in, IsSound}
 use Rattle.rd_tree.proofs.TreeLemmas.{some_is, inside}
 use Rattle.rd_tree.proofs.NodeLemmas.{child_of-at, kind_of-at, up_of-at}

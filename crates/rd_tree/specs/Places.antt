@@ -11,8 +11,8 @@ use Rattle.rd_tree.specs.declared.refusal.MoveNo.{MoveNo}
 use Rattle.rd_tree.specs.declared.refusal.MoveNo.TheVariants as move
 use Rattle.rd_dirinfo.specs.declared.naming.Naming.{Naming}
 use Rattle.rd_dirinfo.specs.Naming.{Name, name_cmp}
-use Rattle.rd_dirinfo.specs.Paths.{Names, parent, last_name, is_below, is_parent, is_prefix, is_same_path, is_within_limits}
-use Rattle.rd_dirinfo.specs.Patterns.{matches}
+use Rattle.rd_dirinfo.specs.Paths.{Names, parent, last_name, is_below, is_parent, is_prefix, is_same_path, is_within_limits, moved_path}
+use Rattle.rd_dirinfo.specs.Patterns.{is_wanted}
 
 -- where a node stands, by the names that are kept, and the bytes of a file; a folder has none
 pub record Place : Type 0 where
@@ -33,6 +33,10 @@ place tree n = find nat_cmp n tree.list
 -- the path of a number
 abbrev pub path_at : Places → ℕ → Option Names
 path_at tree n = option_map (λ (p : Place). p.path) (place tree n)
+
+-- the path of a live number
+abbrev pub own_path : Places → ℕ → Names
+own_path tree n = unwrap_or (path_at tree n) []
 
 -- the bytes of a number that is a file's
 abbrev pub bytes_at : Places → ℕ → Option (List ℕ)
@@ -75,9 +79,13 @@ kept_path tree path = unwrap_or (option_and_then (path_at tree) (node_at tree pa
 abbrev pub asked_path : Places → Names → Names
 asked_path tree path = kept_path tree (parent path) ++ last_name path ∷ []
 
+-- the folder in which the last name of a path stands, if one is there
+abbrev pub folder_of : Places → Names → Option ℕ
+folder_of tree path = if is_folder_at tree (parent path) then node_at tree (parent path) else None
+
 -- whether a number's node has children
 abbrev pub has_child : Places → ℕ → Bool
-has_child tree n = list_any (λ (e : ℕ × Place). is_parent tree.naming (unwrap_or (path_at tree n) []) e.1.path) tree.list
+has_child tree n = list_any (λ (e : ℕ × Place). is_parent tree.naming (own_path tree n) e.1.path) tree.list
 
 -- ---- what calls make of a tree
 
@@ -97,6 +105,14 @@ with_bytes tree n change =
 -- without a number
 abbrev pub without : Places → ℕ → Places
 without tree n = record tree { list = where_key nat_cmp (λ k. not (eq_by_cmp nat_cmp n k)) tree.list }
+
+-- ---- what every tree is
+
+-- The root is a folder at the number 0; no two live numbers have paths that are the same; and each other path has a folder at its parent.
+pub record IsWhole (tree : Places) : Type 0 where
+  pub root : place tree 0 ≡ Some (record { path = []; bytes = None })
+  pub apart : (n m : ℕ) → IsLive tree n → IsLive tree m → is_same_path tree.naming (own_path tree n) (own_path tree m) ≡ true → n ≡ m
+  pub parents : (n : ℕ) → IsLive tree n → (0 ≡ n → ⊥) → is_folder_at tree (parent (own_path tree n)) ≡ true
 
 -- ---- adding
 
@@ -125,17 +141,9 @@ pub record Adds (old new : Places) (path : Names) (folder : Bool) (n : ℕ) : Ty
 
 -- ---- renaming
 
--- the path of a live number
-abbrev pub own_path : Places → ℕ → Names
-own_path tree n = unwrap_or (path_at tree n) []
-
 -- whether a target is the node's own path
 abbrev pub is_own : Places → ℕ → Names → Bool
 is_own tree n to = is_same_path tree.naming (own_path tree n) to
-
--- A path at or below one gets another beginning. Any other path stays.
-abbrev pub moved_path : Naming → Names → Names → Names → Names
-moved_path naming from to path = if is_prefix naming from path then to ++ drop (length from) path else path
 
 -- whether some path at or below a node's would pass the limits
 abbrev pub is_too_deep : Places → ℕ → Names → Bool
@@ -179,11 +187,6 @@ Renames old new n to replace (Err why) = (why ≡ unwrap_or (move_refusal old n 
 abbrev pub child_names : Places → ℕ → List Name
 child_names tree n = map (λ (e : ℕ × Place). last_name e.1.path) (filter (λ (e : ℕ × Place). is_parent tree.naming (own_path tree n) e.1.path) tree.list)
 
--- whether a name comes after another, if there is one
-abbrev pub is_after : Naming → Option Name → Name → Bool
-is_after naming None name = true
-is_after naming (Some other) name = is_lt (name_cmp naming other name)
-
 -- the first of two names in the order of a naming
 abbrev pub first_of : Naming → Name → Name → Name
 first_of naming x y = if is_lt (name_cmp naming y x) then y else x
@@ -192,10 +195,6 @@ first_of naming x y = if is_lt (name_cmp naming y x) then y else x
 abbrev pub least : Naming → List Name → Option Name
 least naming [] = None
 least naming (x ∷ xs) = Some (option_map_or (first_of naming x) (least naming xs) x)
-
--- whether a name matches a pattern and comes after another name, if one is given
-abbrev pub is_wanted : Naming → Option Name → List ℕ → Name → Bool
-is_wanted naming after pattern name = is_after naming after name && matches naming pattern name
 
 -- the first name of a child that is wanted
 abbrev pub next_name : Places → ℕ → Option Name → List ℕ → Option Name

@@ -7,7 +7,8 @@ ghost use Rattle.std.specs.List.Sorted.{IsStrictlySortedBy};
 ghost use Rattle.std.specs.Map.{keys_of};
 ghost use Rattle.rd_tree.specs.Nodes.{key_cmp, kind_of, places_of, IsSound};
 ghost use Rattle.rd_dirinfo.specs.Naming.{seen};
-ghost use Rattle.rd_tree.specs.Places.{is_wanted, next_name};
+ghost use Rattle.rd_dirinfo.specs.Patterns.{is_wanted};
+ghost use Rattle.rd_tree.specs.Places.{next_name};
 ghost use Rattle.rd_tree.specs.Nodes.{first_in, names_in};
 
 use crate::keys::fold_into;

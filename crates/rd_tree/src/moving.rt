@@ -12,13 +12,10 @@ use crate::keys::key_of;
 use crate::node::Node;
 use crate::nodes::{ROOT, child, delete, kind, link, unlink};
 use rd_base::Units;
-use rd_dirinfo::Naming;
+use rd_dirinfo::{MOST_PATH_UNITS, Naming};
 use slab::Slab;
 use std::alloc::{AllocError, Global};
 use std::mem;
-
-/// The most units of a path.
-const MOST_PATH_UNITS: usize = 4096;
 
 /// Whether the way along some names leads to a node, or through it.
 pub fn leads_through(nodes: &Slab<Node>, naming: Naming, node: usize, names: &[Units]) -> bool
@@ -44,7 +41,7 @@ pub fn units_left(names: &[Units]) -> usize
     requires { added_units names.now ≤ 4097 }
     ensures { result ≡ 4097 - added_units names.now }
 {
-    let mut left = MOST_PATH_UNITS + 1;
+    let mut left = MOST_PATH_UNITS as usize + 1;
     for name in names {
         left -= name.as_slice().len() + 1;
     }

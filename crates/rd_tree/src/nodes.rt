@@ -206,14 +206,18 @@ pub fn has_child(nodes: &Slab<Node>, node: usize) -> bool
     }
 }
 
-/// Takes a node out of its folder, and away.
-pub fn take_out(nodes: &mut Slab<Node>, naming: Naming, node: usize)
+/// Takes a node out of its folder, and away. What is left of it is its name.
+pub fn take_out(nodes: &mut Slab<Node>, naming: Naming, node: usize) -> Units
     requires other { 0 ≢ node }
     requires live { IsSome (kind_of nodes.old node) }
     requires named { (a : ℕ) (x : Name) → link_of nodes.old node ≡ Some (a, x) → is_name x ≡ true }
-    ensures { (a : ℕ) (x : Name) → link_of nodes.old node ≡ Some (a, x) → Removes nodes.old nodes.new a (seen naming x) node }
+    ensures removed { (a : ℕ) (x : Name) → link_of nodes.old node ≡ Some (a, x) → Removes nodes.old nodes.new a (seen naming x) node }
+    ensures name { (a : ℕ) (x : Name) → link_of nodes.old node ≡ Some (a, x) → result ≡ x }
 {
-    if let Some(taken) = nodes.try_remove(node) {
-        unlink(nodes, naming, taken.parent, taken.name.as_slice());
-    }
+    let Some(taken) = nodes.try_remove(node) else {
+        unreachable!()
+    };
+    let Node { parent, name, .. } = taken;
+    unlink(nodes, naming, parent, name.as_slice());
+    name
 }

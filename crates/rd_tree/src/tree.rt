@@ -1,11 +1,12 @@
 //! The tree.
 
-ghost use Rattle.std.specs.Prelude.{◌≡◌, ◌≢◌, ◌↔◌, ◌<◌, ℕ, length, IsTrue, true, false, Some, Err, IfSome, IfNone, IfOk, IfErr, OnOk, OnErr};
+ghost use Rattle.std.specs.Prelude.{◌≡◌, ◌≢◌, ◌↔◌, ◌<◌, ℕ, [], ◌∷◌, ◌++◌, length, IsTrue, true, false, Some, Err, IfSome, IfNone, IfOk, IfErr, OnOk, OnErr};
 ghost use Rattle.std.specs.Option.{option_map, unwrap_or};
+ghost use Rattle.rd_dirinfo.specs.Paths.{is_name, last_name, parent};
 ghost use Rattle.rd_contents.specs.Contents.{part, written, resized, max_len, EndsTooFar};
 ghost use Rattle.rd_contents.specs.declared.contents.SizeNo.TheVariants as SizeNo;
 ghost use Rattle.rd_tree.specs.declared.refusal.AddNo.TheVariants as AddNo;
-ghost use Rattle.rd_tree.specs.Places.{add_refusal, node_at, Adds, bytes_at, file_at, has_child, is_folder, next_name, root_alone, with_bytes, without, IsLive, IsFile, Renames};
+ghost use Rattle.rd_tree.specs.Places.{add_refusal, node_at, Adds, bytes_at, file_at, folder_of, has_child, is_folder, next_name, own_path, root_alone, with_bytes, without, IsLive, IsFile, IsWhole, Renames};
 
 use crate::listing::next_name;
 use crate::moving::{fits, is_taken, leads_through, retitle, shift, units_left};
@@ -14,7 +15,7 @@ use crate::nodes::{ROOT, child, find, has_child, insert, locate, take_out};
 use crate::refusal::{AddNo, MoveNo, NotEmpty};
 use rd_base::{Bytes, Units};
 use rd_contents::{Contents, SizeNo};
-use rd_dirinfo::{Naming, Path, Pattern};
+use rd_dirinfo::{MOST_NAMES, Naming, Path, Pattern};
 use slab::Slab;
 use std::alloc::{AllocError, Global};
 use std::collections::BTreeMap;
@@ -22,9 +23,6 @@ use std::marker::Model;
 
 /// The most nodes of a tree, with the root.
 pub const MAX_NODES: usize = 65_536;
-
-/// The most names of a path.
-const MAX_NAMES: usize = 64;
 
 /// A tree of files and folders.
 #[derive(Drop)]
@@ -66,15 +64,88 @@ impl Tree {
         })
     }
 
+    /// What every tree is, whatever made it: its paths differ and lead from the root through folders. It does nothing, and is called for
+    /// what it promises.
+    pub fn whole(&self)
+        ensures { IsWhole self.now }
+    {
+        let _ = &self.nodes;
+    }
+
     /// The node at a path.
     pub fn find(&self, path: &Path) -> Option<NodeId>
         ensures found { option_map (λ node. node.0) result ≡ node_at self.now path.now }
         ensures live { IfSome result (λ node. IsLive self.now node.0) }
+        ensures root { IfSome result (λ node. 0 ≡ node.0 → path.now ≡ []) }
     {
         match find(&self.nodes, self.naming, path.names()) {
             Some(node) => Some(NodeId(node as u32)),
             None => None,
         }
+    }
+
+    /// The folder in which the last name of a path stands, if one is there; of the root's path the root itself.
+    pub fn folder_of(&self, path: &Path) -> Option<NodeId>
+        ensures found { option_map (λ node. node.0) result ≡ folder_of self.now path.now }
+        ensures live { IfSome result (λ node. IsLive self.now node.0) }
+    {
+        let nodes = &self.nodes;
+        let names = path.names();
+        if names.is_empty() {
+            return Some(NodeId(ROOT as u32));
+        }
+        match locate(nodes, self.naming, names) {
+            Some((folder, _)) => Some(NodeId(folder as u32)),
+            None => None,
+        }
+    }
+
+    /// The node with a name in a folder.
+    pub fn child(&self, folder: NodeId, name: &[u16]) -> Option<NodeId>
+        requires folder { is_folder self.now folder.0 ≡ Some true }
+        requires name { is_name name.now ≡ true }
+        ensures found { option_map (λ node. node.0) result ≡ node_at self.now (own_path self.now folder.0 ++ name.now ∷ []) }
+        ensures live { IfSome result (λ node. IsLive self.now node.0) }
+    {
+        match child(&self.nodes, self.naming, folder.0 as usize, name) {
+            Some(node) => Some(NodeId(node as u32)),
+            None => None,
+        }
+    }
+
+    /// The folder in which a node stands that isn't the root.
+    pub fn parent(&self, node: NodeId) -> NodeId
+        requires live { IsLive self.now node.0 }
+        requires other { 0 ≢ node.0 }
+        ensures above { own_path self.now result.0 ≡ parent (own_path self.now node.0) }
+        ensures live { IsLive self.now result.0 }
+        ensures folder { is_folder self.now result.0 ≡ Some true }
+    {
+        match self.nodes.get(node.0 as usize) {
+            Some(node) => NodeId(node.parent as u32),
+            None => unreachable!(),
+        }
+    }
+
+    /// The name of a node that isn't the root, as it was made or last renamed.
+    pub fn name(&self, node: NodeId) -> &Units
+        requires live { IsLive self.now node.0 }
+        requires other { 0 ≢ node.0 }
+        ensures last { result.now ≡ last_name (own_path self.now node.0) }
+        ensures name { is_name result.now ≡ true }
+    {
+        match self.nodes.get(node.0 as usize) {
+            Some(node) => &node.name,
+            None => unreachable!(),
+        }
+    }
+
+    /// Whether something stands in a folder.
+    pub fn has_child(&self, node: NodeId) -> bool
+        requires { IsLive self.now node.0 }
+        ensures { result ≡ has_child self.now node.0 }
+    {
+        has_child(&self.nodes, node.0 as usize)
     }
 
     /// How many bytes a file has; a folder has none.
@@ -102,6 +173,24 @@ impl Tree {
             unreachable!()
         };
         file.contents.read(offset, count)
+    }
+
+    /// Appends the bytes of a file from an offset up to its end, at most `count`.
+    pub fn read_into(
+        &self,
+        node: NodeId,
+        out: &mut Vec<u8>,
+        offset: u64,
+        count: u32,
+    ) -> Result<(), AllocError>
+        requires { IsFile self.now node.0 }
+        ensures read { OnOk result (out.new.items ≡ out.old.items ++ part (file_at self.now node.0) offset count) }
+        ensures err { OnErr result (out.new.items ≡ out.old.items) }
+    {
+        let Some(file) = self.nodes.get(node.0 as usize) else {
+            unreachable!()
+        };
+        file.contents.read_into(out, offset, count)
     }
 
     /// Adds a folder or an empty file. Its number is none that is live; one that was removed may come again.
@@ -140,10 +229,12 @@ impl Tree {
         Ok(NodeId(node as u32))
     }
 
-    /// Removes a file, or a folder without children, but not the root. Its number is live no more, and may be given again.
-    pub fn remove(&mut self, node: NodeId) -> Result<(), NotEmpty>
+    /// Removes a file, or a folder without children, but not the root; its name is left. Its number is live no more, and may be given
+    /// again.
+    pub fn remove(&mut self, node: NodeId) -> Result<Units, NotEmpty>
         requires live { IsLive self.old node.0 }
         requires other { 0 ≢ node.0 }
+        ensures name { IfOk result (λ name. name ≡ last_name (own_path self.old node.0)) }
         ensures removed { OnOk result (self.new ≡ without self.old node.0) }
         ensures not_empty { (result ≡ Err (record {})) ↔ IsTrue (has_child self.old node.0) }
         ensures err { OnErr result (self.new ≡ self.old) }
@@ -151,8 +242,11 @@ impl Tree {
         if has_child(&self.nodes, node.0 as usize) {
             return Err(NotEmpty);
         }
-        take_out(&mut self.nodes, self.naming, node.0 as usize);
-        Ok(())
+        Ok(take_out(
+            &mut self.nodes,
+            self.naming,
+            node.0 as usize,
+        ))
     }
 
     /// Gives a node that isn't the root, with all that is below it, a new path, which isn't the root's. A file that is there is
@@ -184,7 +278,7 @@ impl Tree {
         if !fits(
             &self.nodes,
             node,
-            MAX_NAMES - names.len(),
+            MOST_NAMES as usize - names.len(),
             units_left(names),
         ) {
             return Err(MoveNo::TooDeep);

@@ -37,6 +37,12 @@ const ROWS: &[Row] = &[
         folded: None,
     },
     Row {
+        path: b"\\Dir",
+        folder: false,
+        exact: Some(AddNo::Collision),
+        folded: Some(AddNo::Collision),
+    },
+    Row {
         path: b"\\dir",
         folder: false,
         exact: None,

@@ -1,6 +1,6 @@
 use Rattle.std.proofs.Common.{◌≡◌, sym, ◌∙◌, subst, ℕ, List}
 use Rattle.std.specs.Prelude.{codes, ◌∷◌, [], ◌↔◌}
-use Rattle.rd_drive.specs.PlainPath.{IsPlainPath}
+use Rattle.rd_plain_drive.specs.PlainPath.{IsPlainPath}
 use Rattle.rd_script.specs.Grammar.{AreWordsOf}
 use Rattle.rd_script.specs.declared.grammar.Line.{Line}
 use Rattle.rd_script.proofs.LineLemmas.{found_same, IsAskLine, open_of, open_words}

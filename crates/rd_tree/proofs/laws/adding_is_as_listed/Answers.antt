@@ -12,6 +12,8 @@ returns c = record {
   free = refl;
   no_folder = refl;
   under_a_file = refl;
+  full = refl;
+  one_more = refl;
   kept_parent = refl;
   new = refl;
 }

@@ -13,5 +13,7 @@ returns c = record {
   after = refl;
   last = refl;
   matching = refl;
+  matching_folded = refl;
+  matching_exact = refl;
   children_alone = refl;
 }

@@ -1,6 +1,6 @@
 use Rattle.std.proofs.Common.{◌≡◌}
 use Rattle.std.specs.Option.{option_map}
-use Rattle.rd_tree.specs.Places.{is_wanted}
+use Rattle.rd_dirinfo.specs.Patterns.{is_wanted}
 use Rattle.rd_tree.specs.Nodes.{first_in, names_in}
 use Rattle.rd_tree.proofs.listing.first_wanted.Given as goal
 

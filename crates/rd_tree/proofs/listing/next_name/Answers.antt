@@ -1,7 +1,8 @@
 use Rattle.std.proofs.Common.{◌≡◌, ◌∙◌, sym, ap, ℕ, List, Option, Some, Vec, Global}
 use Rattle.std.specs.Option.{option_map}
 use Rattle.rd_dirinfo.specs.Naming.{Name, seen}
-use Rattle.rd_tree.specs.Places.{is_wanted, next_name}
+use Rattle.rd_dirinfo.specs.Patterns.{is_wanted}
+use Rattle.rd_tree.specs.Places.{next_name}
 use Rattle.rd_tree.specs.Nodes.{kind_of, names_in, first_in, places_of}
 use Rattle.rd_tree.proofs.TreeLemmas.{not_some}
 use Rattle.rd_tree.proofs.NodeLemmas.{kind_of-none}

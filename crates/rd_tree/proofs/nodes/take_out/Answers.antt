@@ -13,8 +13,8 @@ pub unlink-requires : goal.unlink-requires
 unlink-requires c =
     ap is_name c.as_slice.ensures ∙ c.requires.named c.in-Some.taken.parent c.in-Some.taken.name (link_of-at c.args.nodes.now c.args.node c.in-Some.taken c.requires.other (sym c.in-Some.ensures.value))
 
-pub returns-in-Some : goal.returns-in-Some
-returns-in-Some c a x linked =
+pub returns-clause-removed : goal.returns-clause-removed
+returns-clause-removed c a x linked =
     let old = c.args.nodes.now in
     let mid = c.try_remove.new.self in
     let new = c.unlink.new.nodes in
@@ -38,5 +38,9 @@ returns-in-Some c a x linked =
     } in
     subst (λ (q : ℕ × Name). Removes old new q.0 (seen c.args.naming q.1) m) place (subst (λ (y : Name). Removes old new c.in-Some.taken.parent (seen c.args.naming y) m) c.as_slice.ensures first)
 
-pub returns-in_default : goal.returns-in_default
-returns-in_default c a x linked = absurd (not_some (kind_of c.args.nodes.now c.args.node) (kind_of-none c.args.nodes.now c.args.node (sym c.in_default.ensures.value)) c.requires.live)
+pub returns-clause-name : goal.returns-clause-name
+returns-clause-name c a x linked =
+    ap (λ (q : ℕ × Name). q.1) (inside (c.in-Some.taken.parent, c.in-Some.taken.name) (a, x) (sym (link_of-at c.args.nodes.now c.args.node c.in-Some.taken c.requires.other (sym c.in-Some.ensures.value)) ∙ linked))
+
+pub unreachable-requires : goal.unreachable-requires
+unreachable-requires c = not_some (kind_of c.args.nodes.now c.args.node) (kind_of-none c.args.nodes.now c.args.node (sym c.in_default.ensures.value)) c.requires.live

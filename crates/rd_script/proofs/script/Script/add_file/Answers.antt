@@ -2,8 +2,8 @@ use Rattle.std.proofs.Common.{◌≡◌, sym, ap, ◌∙◌, subst, [], arith, l
 use Rattle.std.specs.Prelude.{Some, None, is_some, IsSome}
 use Rattle.std.proofs.lemmas.Bool.{eqb-true}
 use Rattle.std.proofs.lemmas.List.{nil_from_length}
-use Rattle.rd_drive.specs.DriveState.{DriveState, with_file}
-use Rattle.rd_drive.specs.AddsFile.{add_refusal}
+use Rattle.rd_plain_drive.specs.DriveState.{DriveState, with_file}
+use Rattle.rd_plain_drive.specs.AddsFile.{add_refusal}
 use Rattle.rd_script.specs.declared.script.Script.TheVariants as script
 use Rattle.rd_script.specs.ReadScript.{HoldsSaid}
 use Rattle.rd_script.proofs.OpeningLemmas.{opening-push, added_other, refused_same, cause_is}

@@ -5,7 +5,7 @@ use Rattle.rd_irp.specs.declared.completion.Head.{Head}
 use Rattle.rd_irp.specs.Completion.{SpellsHead}
 use Rattle.rd_irp.specs.Fits.{kind_of}
 use Rattle.rd_irp.specs.Written.{body_tail}
-use Rattle.rd_drive.specs.Starved.{is_starved}
+use Rattle.rd_plain_drive.specs.Starved.{is_starved}
 use Rattle.rd_session.proofs.client.Client.serve.Goals as goal
 
 -- three entries, one behind another

@@ -1,4 +1,4 @@
-use Rattle.std.proofs.Common.{◌∙◌, ◌<◌, ◌^◌, sym, ap, subst, arith}
+use Rattle.std.proofs.Common.{ℕ, ◌∙◌, Some, ◌<◌, ◌^◌, sym, ap, subst, arith}
 use Rattle.rd_dirinfo.specs.Paths.{Names, seen_path}
 use Rattle.rd_tree.specs.Walk.{down}
 use Rattle.rd_tree.specs.Places.{Places, IsLive, node_at}
@@ -6,6 +6,7 @@ use Rattle.rd_tree.specs.Nodes.{child_of, up_of, kind_of}
 use Rattle.rd_tree.proofs.NameLemmas.{path_names}
 use Rattle.rd_tree.proofs.PlaceLemmas.{live_seen}
 use Rattle.rd_tree.proofs.WayLemmas.{found_live, node_found}
+use Rattle.rd_tree.proofs.WholeLemmas.{root_alone_at}
 use Rattle.rd_tree.proofs.tree.Tree.find.Goals as goal
 
 pub find-requires : goal.find-requires
@@ -32,3 +33,7 @@ returns-in-Some-clause-live c =
     let nodes = c.self.inside.nodes in
     subst (λ (t : Places). IsLive t c.in-Some.node) c.self.view_is
     (live_seen c.self.inside.naming nodes c.in-Some.node (found_live (child_of nodes) (up_of c.self.inside.naming nodes) (kind_of nodes) c.self.invariant.tree (seen_path c.self.inside.naming c.names.result.now) c.in-Some.node (sym c.in-Some.ensures)))
+
+pub returns-in-Some-clause-root : goal.returns-in-Some-clause-root
+returns-in-Some-clause-root c e =
+    sym c.names.ensures.names ∙ root_alone_at c.self.inside.naming c.self.inside.nodes c.self.invariant c.names.result.now (sym c.in-Some.ensures ∙ ap (λ (n : ℕ). Some n) (sym e))

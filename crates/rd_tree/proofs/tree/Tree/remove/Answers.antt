@@ -1,6 +1,11 @@
 use Rattle.std.proofs.Common.{◌≡◌, ◌∙◌, refl, sym, ap, subst, ℕ, true}
-use Rattle.rd_tree.specs.Places.{Places, IsLive, has_child, without}
-use Rattle.rd_tree.proofs.PlaceLemmas.{live_place}
+use Rattle.rd_dirinfo.specs.Paths.{last_name}
+use Rattle.rd_tree.specs.Walk.{path_of}
+use Rattle.rd_tree.specs.Nodes.{link_of}
+use Rattle.rd_tree.specs.Places.{Places, IsLive, has_child, own_path, without}
+use Rattle.rd_tree.proofs.PlaceLemmas.{last_of, live_place}
+use Rattle.rd_tree.proofs.WayLemmas.{way_step}
+use Rattle.rd_tree.proofs.WholeLemmas.{own_seen}
 use Rattle.rd_tree.proofs.ParentLemmas.{childless, link_is, has_child_seen, seen_has_child}
 use Rattle.rd_tree.proofs.RemoveLemmas.{sound_taken, removed_seen}
 use Rattle.rd_tree.proofs.tree.Tree.remove.Goals as goal
@@ -30,12 +35,20 @@ invariant_of-self c =
     let n : ℕ = c.args.node.0 in
     let live = live_place c.self.inside.naming c.self.inside.nodes n (subst (λ (t : Places). IsLive t n) (sym c.self.view_is) c.requires.live) in
     let l = link_is c.self.inside.naming c.self.inside.nodes c.self.invariant n live c.requires.other in
-    sound_taken c.self.inside.naming c.self.inside.nodes c.take_out.new.nodes c.self.invariant n l.0 l.1 l.2 (c.has_child.ensures.none c.if-has_child.false) (c.take_out.ensures l.0 l.1 l.2)
+    sound_taken c.self.inside.naming c.self.inside.nodes c.take_out.new.nodes c.self.invariant n l.0 l.1 l.2 (c.has_child.ensures.none c.if-has_child.false) (c.take_out.ensures.removed l.0 l.1 l.2)
 
 pub returns-clause-removed : goal.returns-clause-removed
 returns-clause-removed c =
     let n : ℕ = c.args.node.0 in
     let live = live_place c.self.inside.naming c.self.inside.nodes n (subst (λ (t : Places). IsLive t n) (sym c.self.view_is) c.requires.live) in
     let l = link_is c.self.inside.naming c.self.inside.nodes c.self.invariant n live c.requires.other in
-    removed_seen c.self.inside.naming c.self.inside.nodes c.take_out.new.nodes c.self.invariant n l.0 l.1 l.2 (c.has_child.ensures.none c.if-has_child.false) (c.take_out.ensures l.0 l.1 l.2)
+    removed_seen c.self.inside.naming c.self.inside.nodes c.take_out.new.nodes c.self.invariant n l.0 l.1 l.2 (c.has_child.ensures.none c.if-has_child.false) (c.take_out.ensures.removed l.0 l.1 l.2)
     ∙ ap (λ (t : Places). without t n) c.self.view_is
+
+pub returns-clause-name : goal.returns-clause-name
+returns-clause-name c =
+    let n : ℕ = c.args.node.0 in
+    let live = live_place c.self.inside.naming c.self.inside.nodes n (subst (λ (t : Places). IsLive t n) (sym c.self.view_is) c.requires.live) in
+    let l = link_is c.self.inside.naming c.self.inside.nodes c.self.invariant n live c.requires.other in
+    c.take_out.ensures.name l.0 l.1 l.2 ∙ sym (ap last_name (own_seen c.self.inside.naming c.self.inside.nodes c.self.invariant n live ∙ way_step c.self.inside.naming c.self.inside.nodes c.self.invariant n l.0 l.1 l.2) ∙ last_of (path_of (link_of c.self.inside.nodes) l.0) l.1)
+    ∙ ap (λ (t : Places). last_name (own_path t n)) c.self.view_is
