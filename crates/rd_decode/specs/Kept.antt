@@ -96,6 +96,10 @@ TakesAll at channel bytes next after_channel before text (Err other) = ⊥
 abbrev pub Flushed : {K : Type 0} → (before after : Stream K) → (text kept : List ℕ) → Type 0
 Flushed before after text kept = (written : List ℕ) × (text ≡ written ++ kept) × Wrote before after written
 
+-- how many bytes of lines are written at once, or more, unless they are the last; fewer wait for others
+abbrev pub piece_len : ℕ
+piece_len = 65536
+
 -- a read failed, or memory ran out, after a piece was read or before
 abbrev pub FailsToRead : {S : Type 0} → (before after : Stream S) → DecodeNo → Type 0
 FailsToRead before after decode_no.Input = HasOneFault before after × Keeps before.bytes after.bytes

@@ -1,16 +1,16 @@
 //! Writing lines in pieces.
 
-ghost use Rattle.std.specs.Prelude.{◌≡◌, ◌++◌, [], OnOk, IfErr};
+ghost use Rattle.std.specs.Prelude.{◌≡◌, ◌<◌, ◌++◌, [], length, OnOk, IfErr};
 ghost use Rattle.std.specs.String.{string_bytes};
 ghost use Rattle.rd_decode.specs.declared.fault.DecodeNo.TheVariants as no;
-ghost use Rattle.rd_decode.specs.Kept.{Flushed, PrintsBefore, PrintsUnread};
+ghost use Rattle.rd_decode.specs.Kept.{Flushed, PrintsBefore, PrintsUnread, piece_len};
 ghost use Rattle.rd_decode.specs.Streams.{FailedToWrite, stream};
 
 use crate::fault::DecodeNo;
 use rd_base::{Sink, write_all};
 
 /// How long the lines are at least that one write has, unless they are the last.
-const PIECE: usize = 65_536;
+const PIECE_LEN: usize = 65_536;
 
 /// Writes all lines that aren't printed yet.
 pub fn flush<K: Sink>(output: &mut K, text: &mut String) -> Result<(), DecodeNo>
@@ -30,9 +30,10 @@ pub fn flush<K: Sink>(output: &mut K, text: &mut String) -> Result<(), DecodeNo>
 /// Writes them where they are long enough.
 pub fn flush_full<K: Sink>(output: &mut K, text: &mut String) -> Result<(), DecodeNo>
     ensures flushed { OnOk result (Flushed (stream K.held K.faults output.old) (stream K.held K.faults output.new) (string_bytes text.old) (string_bytes text.new)) }
+    ensures few { OnOk result (length (string_bytes text.new) < piece_len) }
     ensures failed { IfErr result (λ e. (e ≡ no.Output) × FailedToWrite (stream K.held K.faults output.old) (stream K.held K.faults output.new) (string_bytes text.old)) }
 {
-    if text.len() < PIECE {
+    if text.len() < PIECE_LEN {
         return Ok(());
     }
     flush(output, text)

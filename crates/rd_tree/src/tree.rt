@@ -242,11 +242,7 @@ impl Tree {
         if has_child(&self.nodes, node.0 as usize) {
             return Err(NotEmpty);
         }
-        Ok(take_out(
-            &mut self.nodes,
-            self.naming,
-            node.0 as usize,
-        ))
+        Ok(take_out(&mut self.nodes, self.naming, node.0 as usize))
     }
 
     /// Gives a node that isn't the root, with all that is below it, a new path, which isn't the root's. A file that is there is

@@ -115,15 +115,26 @@ fn keeps_bytes(rt: HostRuntime) {
     assert_eq!(rt; cut, Ok(()));
     let bytes = tree.read(file, 0, 9).expect(&rt, "memory for the bytes");
     assert_eq!(rt; bytes.as_slice(), b"\0\0a".as_slice());
+    let mut out = Vec::new(rt.alloc());
+    tree.read_into(file, &mut out, 1, 9)
+        .expect(&rt, "memory for the bytes");
+    assert_eq!(rt; out.as_slice(), b"\0a".as_slice());
 }
 
-/// What removing the node at a path returns, which isn't the root's.
-fn remove(rt: &(impl Abort + AllocGlobal), tree: &mut Tree, text: &[u8]) -> Result<(), NotEmpty> {
+/// The first unit of the name that is left when the node at a path goes, which isn't the root's.
+fn remove(
+    rt: &(impl Abort + AllocGlobal),
+    tree: &mut Tree,
+    text: &[u8],
+) -> Result<Option<u16>, NotEmpty> {
     let Some(node) = tree.find(&path(rt, text)) else {
-        return Ok(());
+        return Ok(None);
     };
     assert!(rt; node.0 != 0, "the root");
-    tree.remove(node)
+    match tree.remove(node) {
+        Ok(name) => Ok(name.as_slice().first().copied()),
+        Err(no) => Err(no),
+    }
 }
 
 #[test]
@@ -136,9 +147,9 @@ fn removes_leaves(rt: HostRuntime) {
     let full = remove(&rt, &mut tree, b"\\D");
     assert_eq!(rt; full, Err(NotEmpty));
     let leaf = remove(&rt, &mut tree, b"\\D\\E");
-    assert_eq!(rt; leaf, Ok(()));
+    assert_eq!(rt; leaf, Ok(Some(0x65)));
     let empty = remove(&rt, &mut tree, b"\\D");
-    assert_eq!(rt; empty, Ok(()));
+    assert_eq!(rt; empty, Ok(Some(0x64)));
     assert_eq!(rt; at(&rt, &tree, b"\\d"), None);
 }
 
