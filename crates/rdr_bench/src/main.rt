@@ -1,7 +1,7 @@
-//! How fast frames, recordings, the contents of files, locks and trees are, beside a plain copy where bytes are moved.
+//! How fast frames, recordings, the contents of files, locks, trees and turns are, beside a plain copy where bytes are moved.
 //!
 //! Without words each subject runs once, in little, and says so. `frames`, `decode` and `contents`, with a number of
-//! megabytes, `locks` and `tree` measure one subject each and print its figures; a number alone measures frames.
+//! megabytes, `locks`, `tree` and `turn` measure one subject each and print its figures; a number alone measures frames.
 #![tactic(auto)]
 
 mod contents;
@@ -10,6 +10,7 @@ mod figures;
 mod frames;
 mod locks;
 mod tree;
+mod turn;
 
 use anyhow::{Context, Result};
 use std::env;
@@ -20,7 +21,9 @@ const MEGABYTES: u32 = 500;
 fn main(rt: HostRuntime) -> Result<()> {
     let mut words = env::args(&rt)?.skip(1);
     let Some(subject) = words.next() else {
-        return try_all(&rt);
+        try_all(&rt)?;
+        // The handle to wait is here alone.
+        return turn::try_once(&rt, rt.alloc());
     };
     let megabytes = match words.next() {
         Some(word) => parse_megabytes(word.as_str())?,
@@ -31,6 +34,7 @@ fn main(rt: HostRuntime) -> Result<()> {
         "contents" => contents::measure(&rt, megabytes),
         "locks" => locks::measure(&rt),
         "tree" => tree::measure(&rt),
+        "turn" => turn::measure(&rt, rt.alloc()),
         "frames" => frames::measure(&rt, megabytes),
         number => frames::measure(&rt, parse_megabytes(number)?),
     }

@@ -1,0 +1,71 @@
+-- What a file and the volume tell of themselves (MS-RDPEFS 2.2.3.3.8 and 2.2.3.3.6, MS-FSCC 2.4 and 2.5).
+use Rattle.std.specs.Prelude.{ℕ, ◌==◌, [], ◌∷◌, length, codes, Option}
+use Rattle.std.specs.Map.{lookup}
+use Rattle.std.specs.Int.{next_multiple_of}
+use Rattle.rd_base.specs.Fields.{flag_number}
+use Rattle.rd_irp.specs.declared.completion.Body.TheVariants.{Buffer}
+use Rattle.rd_dirinfo.specs.declared.naming.Naming.{Naming}
+use Rattle.rd_dirinfo.specs.declared.naming.Naming.TheVariants.{Exact, Folded}
+use Rattle.rd_fileinfo.specs.declared.file_info.FileInfo.{FileInfo}
+use Rattle.rd_fileinfo.specs.declared.file_info.FileInfo.TheVariants as file
+use Rattle.rd_fileinfo.specs.declared.volume_info.VolumeInfo.{VolumeInfo}
+use Rattle.rd_fileinfo.specs.declared.volume_info.VolumeInfo.TheVariants as of_volume
+use Rattle.rd_fileinfo.specs.FileInfo.{basic, standard, attribute_tag, file_info_bytes}
+use Rattle.rd_fileinfo.specs.VolumeInfo.{volume, size, device, attribute, full_size, volume_info_bytes}
+use Rattle.rd_drive.specs.DriveState.{DriveState, Handle, Node, is_folder, bytes_of}
+use Rattle.rd_drive.specs.Access.{shown_attributes}
+use Rattle.rd_drive.specs.Outcome.{Outcome, no_news, given, succeeded}
+use Rattle.rd_drive.specs.Statuses.{invalid_info_class}
+
+-- the bytes of a file; a folder has none
+abbrev pub end_of : Node → ℕ
+end_of node = length (bytes_of node)
+
+-- the bytes that are kept for them: whole clusters of 4,096
+abbrev pub allocation_of : Node → ℕ
+allocation_of node = next_multiple_of (end_of node) 4096
+
+-- what a node tells of itself, by class
+abbrev pub node_info : Node → ℕ → Option FileInfo
+node_info node class =
+    lookup (◌==◌ class)
+    ((basic, file.Basic node.moments (shown_attributes node))
+    ∷ (standard, file.Standard (allocation_of node) (end_of node) 1 (flag_number node.pending) (flag_number (is_folder node)))
+    ∷ (attribute_tag, file.Tag (shown_attributes node) 0)
+    ∷ [])
+
+-- QueryFile
+abbrev pub query_file : DriveState → ℕ → Handle → Node → Outcome
+query_file s class handle node =
+    given s (node_info node class) invalid_info_class (λ info. succeeded s (Buffer (file_info_bytes info)) no_news)
+
+-- ---- the volume
+
+-- VolumeSerialNumber
+abbrev pub serial_number : ℕ
+serial_number = 0x5244_5231
+
+-- the allocation units of a volume, all of which are free
+abbrev pub volume_units : ℕ
+volume_units = 268435456
+
+-- FILE_CASE_PRESERVED_NAMES and FILE_UNICODE_ON_DISK, and where names aren't folded FILE_CASE_SENSITIVE_SEARCH
+abbrev pub volume_flags : Naming → ℕ
+volume_flags Exact = 7
+volume_flags Folded = 6
+
+-- what the volume tells of itself, by class
+abbrev pub drive_info : DriveState → ℕ → Option VolumeInfo
+drive_info s class =
+    lookup (◌==◌ class)
+    ((volume, of_volume.Volume 0 serial_number 0 s.label)
+    ∷ (size, of_volume.Size volume_units volume_units 8 512)
+    ∷ (device, of_volume.Device 7 0)
+    ∷ (attribute, of_volume.Attribute (volume_flags s.naming) 255 (codes "RDFS"))
+    ∷ (full_size, of_volume.FullSize volume_units volume_units volume_units 8 512)
+    ∷ [])
+
+-- QueryVolume
+abbrev pub query_volume : DriveState → ℕ → Handle → Node → Outcome
+query_volume s class handle node =
+    given s (drive_info s class) invalid_info_class (λ info. succeeded s (Buffer (volume_info_bytes info)) no_news)
