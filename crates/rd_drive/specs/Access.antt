@@ -1,4 +1,4 @@
--- What a handle may do and lets others do, and the attributes of nodes (MS-RDPEFS 2.2.1.4.1, MS-SMB2 2.2.13.1, MS-FSCC 2.6).
+-- What a handle may do and lets others do, and the attributes of nodes (MS-RDPEFS 2.2.1.4.1, MS-SMB2 2.2.13 and 2.2.13.1, MS-FSCC 2.6).
 use Rattle.std.specs.Prelude.{ℕ, ◌+◌, ◌==◌, ◌&&◌, ◌||◌, Bool, not, if◌then◌else◌, bit_and, bit_or}
 use Rattle.rd_drive.specs.declared.access.Use.{Use}
 use Rattle.rd_drive.specs.DriveState.{Node, is_folder}
@@ -11,7 +11,7 @@ has_any bits number = not (bit_and number bits == 0)
 abbrev pub generic_all : ℕ
 generic_all = 0x1000_0000
 
--- FILE_READ_DATA, GENERIC_EXECUTE, GENERIC_READ
+-- FILE_READ_DATA, GENERIC_READ, and by this project's choice GENERIC_EXECUTE
 abbrev pub reads : ℕ → Bool
 reads access = has_any (0x1 + 0x2000_0000 + 0x8000_0000 + generic_all) access
 
@@ -72,7 +72,7 @@ new_file_attributes asked = bit_or (bit_and asked 7) 0x20
 abbrev pub new_folder_attributes : ℕ → ℕ
 new_folder_attributes asked = bit_and asked 7
 
--- what a node stores of attributes that are set
+-- what a node stores of attributes that are set: READONLY, HIDDEN and SYSTEM, and for a file ARCHIVE
 abbrev pub set_attributes : Node → ℕ → ℕ
 set_attributes node asked = if is_folder node then bit_and asked 7 else bit_and asked 0x27
 

@@ -16,11 +16,11 @@ added node = record { action = 1; path = node.path; bits = name_bit node }
 abbrev pub removed : Node → Change
 removed node = record { action = 2; path = node.path; bits = name_bit node }
 
--- FILE_ACTION_MODIFIED with FILE_NOTIFY_CHANGE_SIZE and FILE_NOTIFY_CHANGE_LAST_WRITE: the bytes of a file changed
+-- FILE_ACTION_MODIFIED with FILE_NOTIFY_CHANGE_SIZE and FILE_NOTIFY_CHANGE_LAST_WRITE: the bytes of a file were set
 abbrev pub modified : Names → Change
 modified path = record { action = 3; path = path; bits = 0x18 }
 
--- FILE_ACTION_MODIFIED with FILE_NOTIFY_CHANGE_ATTRIBUTES: attributes or moments changed
+-- FILE_ACTION_MODIFIED with FILE_NOTIFY_CHANGE_ATTRIBUTES: attributes or moments were set
 abbrev pub marked : Names → Change
 marked path = record { action = 3; path = path; bits = 4 }
 

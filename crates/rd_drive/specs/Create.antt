@@ -49,7 +49,7 @@ overwrite_if = 5
 abbrev pub replaces : Asked → Bool
 replaces asked = asked.disposition == supersede || asked.disposition == overwrite || asked.disposition == overwrite_if
 
--- what can't be asked: a disposition that there isn't, a folder that is none, or a folder that is replaced
+-- what can't be asked: a disposition that there isn't, a folder that is to be no folder, or one that is to be replaced
 abbrev pub is_contradictory : Asked → Bool
 is_contradictory asked =
     nat_lt overwrite_if asked.disposition || (wants_folder asked && wants_file asked) || (wants_folder asked && replaces asked)
@@ -87,7 +87,7 @@ abbrev pub is_in_use : DriveState → Asked → Names → Bool
 is_in_use s asked path =
     list_any (λ entry. has_open s path entry && clash (asked_use asked) (use_of (entry.1).access (entry.1).share)) s.handles
 
--- the file without its bytes, with the attributes of a new one
+-- the file without its bytes, with the attributes of a new one, written at this moment
 abbrev pub replaced : Asked → ℕ → Node → Node
 replaced asked moment node = record node {
   bytes = Some [];
@@ -95,7 +95,7 @@ replaced asked moment node = record node {
   moments = record node.moments { write = moment; change = moment };
 }
 
--- FILE_SUPERSEDED, FILE_OVERWRITTEN or FILE_OPENED
+-- FILE_SUPERSEDED (0), FILE_OVERWRITTEN (3) or FILE_OPENED (1); a new node has the first
 abbrev pub found_information : Asked → ℕ
 found_information asked = if asked.disposition == supersede then 0 else (if replaces asked then 3 else 1)
 

@@ -13,7 +13,7 @@ use Rattle.rd_dirinfo.specs.Naming.{Name}
 use Rattle.rd_dirinfo.specs.Paths.{Names, path_cmp, is_same_path, is_parent, parent, last_name}
 
 -- What stands at a path: a folder, or a file, which has bytes. The attributes are as they are stored, which isn't as they are shown. A
--- pending node goes with its last handle.
+-- pending node goes with its last handle, unless it is a folder in which something stands.
 pub record Node : Type 0 where
   pub path : Names
   pub bytes : Option (List ℕ)
@@ -21,8 +21,8 @@ pub record Node : Type 0 where
   pub moments : Moments
   pub pending : Bool
 
--- What a file id has open: the path of its node, what it may do and lets others do, and for listings the pattern and the name that was
--- listed last.
+-- What a file id has open: the path of its node, what it may do and lets others do, whether closing it makes the node pending, and for listings
+-- the pattern and the name that was listed last.
 pub record Handle : Type 0 where
   pub path : Names
   pub access : ℕ
@@ -42,7 +42,7 @@ pub data Wish : Type 0 where
   -- all of these ranges, locked exclusively or shared
   Ranges : (exclusive : Bool) → List Range → Wish
   -- a change that shares a bit with the filter, in the folder or with `deep` anywhere below it
-  Change : (deep : Bool) → (filter : ℕ) → Wish
+  Notice : (deep : Bool) → (filter : ℕ) → Wish
 
 -- a request that waits, and the file id that it names
 pub record Waiting : Type 0 where
@@ -105,7 +105,7 @@ is_at_path naming path node = is_same_path naming node.path path
 abbrev pub node_at : DriveState → Names → Option Node
 node_at s path = find (is_at_path s.naming path) s.nodes
 
--- a path as the drive has it; one where no node is as it is
+-- a path as the drive has it; a path where no node stands stays as it is
 abbrev pub kept_path : DriveState → Names → Names
 kept_path s path = option_map_or (λ (node : Node). node.path) (node_at s path) path
 
@@ -177,7 +177,7 @@ has_open s path entry = is_same_path s.naming (entry.1).path path
 abbrev pub is_open : DriveState → Names → Bool
 is_open s path = list_any (has_open s path) s.handles
 
--- the path that a file id has open, if it is one
+-- the path that a file id has open, if it is open
 abbrev pub open_path : DriveState → ℕ → Option Names
 open_path s file = option_map (λ (handle : Handle). handle.path) (handle_at s file)
 
@@ -200,10 +200,10 @@ abbrev pub opening_attributes : Option (List ℕ) → ℕ
 opening_attributes None = 0
 opening_attributes (Some bytes) = 0x20
 
--- the same drive with a folder, or a file with bytes, at a path
-abbrev pub with_entry : DriveState → Names × Option (List ℕ) → DriveState
-with_entry s entry = with_new_node s (new_node (asked_path s entry.0) entry.1 (opening_attributes entry.1) 0)
+-- the same drive with a folder, or a file with bytes, at a path where nothing stands
+abbrev pub holding : DriveState → Names × Option (List ℕ) → DriveState
+holding s first = with_new_node s (new_node (asked_path s first.0) first.1 (opening_attributes first.1) 0)
 
--- what a drive begins with: its naming, its label, and folders and files in the order in which they are named
+-- what a drive begins with: its naming, its label, and folders and files, each after its folder, and no path twice
 abbrev pub opening : Naming → List ℕ → List (Names × Option (List ℕ)) → DriveState
-opening naming label entries = fold with_entry (empty_drive naming label) entries
+opening naming label nodes = fold holding (empty_drive naming label) nodes

@@ -57,7 +57,7 @@ step_of outcome =
 abbrev pub drive_step : DriveState → Key → ℕ → Op → ℕ → Stepped
 drive_step s key file op moment = step_of (outcome_of s key file op moment)
 
--- what a request does for which no memory was found
+-- What a request does for which no memory was found. A Close needs none.
 abbrev pub starved_step : DriveState → Stepped
 starved_step s = record { state = s; answer = step.Reply (fault no_memory); ends = [] }
 
@@ -68,9 +68,9 @@ abbrev pub cancelled_end : Waiting → End
 cancelled_end w = record { key = w.key; reply = fault cancelled }
 
 -- a file is closed, and no request waits
-abbrev pub closed : DriveState → ℕ → DriveState
-closed s file = (on_handle s file (close s file)).state
+abbrev pub with_closed : DriveState → ℕ → DriveState
+with_closed s file = (on_handle s file (close s file)).state
 
 -- The requests that wait are cancelled, in their order, and then every file is closed, in the order of the file ids.
 abbrev pub drive_cut : DriveState → Settled
-drive_cut s = record { state = fold closed (record s { waiting = [] }) (keys_of s.handles); ends = map cancelled_end s.waiting }
+drive_cut s = record { state = fold with_closed (record s { waiting = [] }) (keys_of s.handles); ends = map cancelled_end s.waiting }

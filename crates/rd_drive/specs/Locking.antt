@@ -8,7 +8,7 @@ use Rattle.rd_irp.specs.declared.completion.Body.TheVariants.{Locked}
 use Rattle.rd_dirinfo.specs.Paths.{Names, is_same_path}
 use Rattle.rd_locks.specs.Locks.{overlaps}
 use Rattle.rd_drive.specs.declared.step.Step.TheVariants as step
-use Rattle.rd_drive.specs.DriveState.{DriveState, Handle, Node, Lock, Wish, Ranges, Change, Waiting, open_path, is_folder, max_locks, max_waiting}
+use Rattle.rd_drive.specs.DriveState.{DriveState, Handle, Node, Lock, Wish, Ranges, Notice, Waiting, open_path, is_folder, max_locks, max_waiting}
 use Rattle.rd_drive.specs.Access.{reads, writes}
 use Rattle.rd_drive.specs.Outcome.{Outcome, News, no_news, fault, one_of, checked, given, succeeded}
 use Rattle.rd_drive.specs.Statuses.{invalid_device_request, access_denied, invalid_parameter, lock_not_granted, insufficient_resources, range_not_locked}
@@ -59,7 +59,7 @@ with_locks s wanted = record s { locks = s.locks ++ wanted }
 -- how many ranges a request waits for
 abbrev pub range_count : Wish → ℕ
 range_count (Ranges exclusive ranges) = length ranges
-range_count (Change deep filter) = 0
+range_count (Notice deep filter) = 0
 
 -- the locks that stand, and the ranges that requests wait for
 abbrev pub lock_count : DriveState → ℕ
@@ -103,10 +103,10 @@ without_lock file range [] = []
 without_lock file range (lock ∷ locks) = if is_lock_of file range lock then locks else lock ∷ without_lock file range locks
 
 -- without the first such lock of each range in turn, if all are there
-abbrev pub unlocked : ℕ → List Lock → List Range → Option (List Lock)
-unlocked file locks [] = Some locks
-unlocked file locks (range ∷ ranges) =
-    if list_any (is_lock_of file range) locks then unlocked file (without_lock file range locks) ranges else None
+abbrev pub without_locks : ℕ → List Lock → List Range → Option (List Lock)
+without_locks file locks [] = Some locks
+without_locks file locks (range ∷ ranges) =
+    if list_any (is_lock_of file range) locks then without_locks file (without_lock file range locks) ranges else None
 
 -- the news that a file may have fewer locks
 abbrev pub unlocking : Names → News
@@ -115,7 +115,7 @@ unlocking path = record { closed = None; unlocked = Some path; changes = [] }
 -- All ranges are unlocked, or none.
 abbrev pub unlock_ranges : DriveState → ℕ → Names → List Range → Outcome
 unlock_ranges s file path ranges =
-    given s (unlocked file s.locks ranges) range_not_locked (λ locks. succeeded (record s { locks = locks }) Locked (unlocking path))
+    given s (without_locks file s.locks ranges) range_not_locked (λ locks. succeeded (record s { locks = locks }) Locked (unlocking path))
 
 -- whether a range goes past 2^64
 abbrev pub is_past_end : Range → Bool

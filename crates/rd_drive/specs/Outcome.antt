@@ -70,7 +70,7 @@ unfoldable pub given : {X : Type 0} → DriveState → Option X → Status → (
 given s None status outcome = refused s status
 given s (Some x) status outcome = outcome x
 
--- An operation on an open file: its handle, and the node that it has open. Every open file has one.
+-- An operation on what a file id has open: its handle and the node. In a drive as requests make it each handle has its node.
 abbrev pub on_handle : DriveState → ℕ → (Handle → Node → Outcome) → Outcome
 on_handle s file outcome =
     given s (handle_at s file) invalid_handle (λ handle. given s (node_at s handle.path) invalid_handle (outcome handle))

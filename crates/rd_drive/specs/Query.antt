@@ -17,11 +17,11 @@ use Rattle.rd_drive.specs.Access.{shown_attributes}
 use Rattle.rd_drive.specs.Outcome.{Outcome, no_news, given, succeeded}
 use Rattle.rd_drive.specs.Statuses.{invalid_info_class}
 
--- the bytes of a file; a folder has none
+-- how many bytes a file has; a folder has none
 abbrev pub end_of : Node → ℕ
 end_of node = length (bytes_of node)
 
--- the bytes that are kept for them: whole clusters of 4,096
+-- how many bytes are kept for them: whole clusters of 4,096
 abbrev pub allocation_of : Node → ℕ
 allocation_of node = next_multiple_of (end_of node) 4096
 
@@ -45,7 +45,7 @@ query_file s class handle node =
 abbrev pub serial_number : ℕ
 serial_number = 0x5244_5231
 
--- the allocation units of a volume, all of which are free
+-- the allocation units of a volume, all of which are free; one has 8 sectors of 512 bytes, and the volume is a FILE_DEVICE_DISK (7)
 abbrev pub volume_units : ℕ
 volume_units = 268435456
 

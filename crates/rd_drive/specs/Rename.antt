@@ -1,4 +1,4 @@
--- Renaming (MS-FSCC 2.4.42).
+-- Renaming (MS-FSCC 2.4.37, in the form of MS-RDPEFS 2.2.3.3.9.1).
 use Rattle.std.specs.Prelude.{ℕ, ◌==◌, ◌&&◌, ◌||◌, Bool, false, not, List, [], ◌∷◌, ◌++◌, length, drop, map, bytes_eq, Option, Some, None, is_some}
 use Rattle.std.specs.List.{list_any}
 use Rattle.std.specs.Option.{option_map_or}

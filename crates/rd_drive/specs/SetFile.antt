@@ -66,7 +66,7 @@ with_basic node moments attributes moment = record node {
   moments = set_moments node.moments moments moment;
 }
 
--- the node is marked, or its mark is taken away
+-- the node becomes pending, or is pending no more
 abbrev pub set_pending : DriveState → ℕ → Node → Bool → Outcome
 set_pending s count node pending =
     checked s
@@ -83,7 +83,7 @@ set_end s moment count node asked end =
     ∷ [])
     (succeeded (with_node s (with_bytes node moment (resized (bytes_of node) end))) (Count count) (changed (modified node.path ∷ [])))
 
--- what a value sets: the end of a file may be anything, its allocation only cuts
+-- what a value sets: the end of a file cuts or extends it, its allocation only cuts
 abbrev pub sets : DriveState → ℕ → ℕ → Node → SetInfo → Outcome
 sets s moment count node (set.Basic moments attributes) =
     succeeded (with_node s (with_basic node moments attributes moment)) (Count count) (changed (marked node.path ∷ []))

@@ -10,8 +10,8 @@ use Rattle.rd_drive.specs.Outcome.{Outcome, no_news, fault, checked, given, succ
 use Rattle.rd_drive.specs.Statuses.{invalid_info_class, invalid_parameter}
 
 -- FileFsLabelInformation, the one class that is set
-abbrev pub label : ℕ
-label = 2
+abbrev pub label_class : ℕ
+label_class = 2
 
 -- the label that was read
 abbrev pub label_read : Result (List ℕ × Position) Bad → Option (List ℕ)
@@ -26,6 +26,6 @@ label_of buffer = label_read (met label_set (record { at = 0; left = buffer }))
 abbrev pub set_volume : DriveState → ℕ → List ℕ → Handle → Node → Outcome
 set_volume s class buffer handle node =
     checked s
-    ((not (class == label), fault invalid_info_class)
+    ((not (class == label_class), fault invalid_info_class)
     ∷ [])
     (given s (label_of buffer) invalid_parameter (λ units. succeeded (record s { label = units }) (Count (length buffer)) no_news))

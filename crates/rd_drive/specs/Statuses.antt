@@ -5,7 +5,7 @@ use Rattle.rd_base.specs.declared.status.Status.{Status}
 abbrev pub success : Status
 success = record { 0 = 0 }
 
--- the folder that was watched is closed
+-- the handle that watched a folder is closed
 abbrev pub notify_cleanup : Status
 notify_cleanup = record { 0 = 0x0000_010b }
 
@@ -41,11 +41,11 @@ end_of_file = record { 0 = 0xc000_0011 }
 abbrev pub no_memory : Status
 no_memory = record { 0 = 0xc000_0017 }
 
--- the handle, or an attribute, doesn't allow it
+-- the handle's access or an attribute doesn't allow it, it is the root, or what is in the way can't be replaced
 abbrev pub access_denied : Status
 access_denied = record { 0 = 0xc000_0022 }
 
--- the units are no path, or no pattern
+-- the units are no path, or no pattern, or a moved path would be past the limits
 abbrev pub object_name_invalid : Status
 object_name_invalid = record { 0 = 0xc000_0033 }
 
@@ -61,7 +61,7 @@ object_name_collision = record { 0 = 0xc000_0035 }
 abbrev pub object_path_not_found : Status
 object_path_not_found = record { 0 = 0xc000_003a }
 
--- another handle doesn't share the node so
+-- the handle and another one on the node don't share it so
 abbrev pub sharing_violation : Status
 sharing_violation = record { 0 = 0xc000_0043 }
 
@@ -69,11 +69,11 @@ sharing_violation = record { 0 = 0xc000_0043 }
 abbrev pub file_lock_conflict : Status
 file_lock_conflict = record { 0 = 0xc000_0054 }
 
--- a lock is in the way of the lock
+-- a lock is in the way of the lock, or the handle that waits for it is closed
 abbrev pub lock_not_granted : Status
 lock_not_granted = record { 0 = 0xc000_0055 }
 
--- the node goes with its last handle
+-- the node, or the folder of a new one, goes with its last handle
 abbrev pub delete_pending : Status
 delete_pending = record { 0 = 0xc000_0056 }
 
@@ -109,6 +109,6 @@ not_a_directory = record { 0 = 0xc000_0103 }
 abbrev pub too_many_opened_files : Status
 too_many_opened_files = record { 0 = 0xc000_011f }
 
--- the drive went while the request waited
+-- the drive was cut off while the request waited
 abbrev pub cancelled : Status
 cancelled = record { 0 = 0xc000_0120 }

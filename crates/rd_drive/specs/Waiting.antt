@@ -7,8 +7,7 @@ use Rattle.rd_irp.specs.declared.completion.Reply.{Reply}
 use Rattle.rd_irp.specs.declared.completion.Body.TheVariants.{Buffer, Locked}
 use Rattle.rd_dirinfo.specs.Paths.{Names, is_same_path, is_parent, is_below, joined}
 use Rattle.rd_drive.specs.declared.step.End.{End}
-use Rattle.rd_drive.specs.DriveState.{DriveState, Waiting, Wish, Ranges, open_path}
-use Rattle.rd_drive.specs.DriveState as wish
+use Rattle.rd_drive.specs.DriveState.{DriveState, Waiting, Wish, Ranges, Notice, open_path}
 use Rattle.rd_drive.specs.Access.{has_any}
 use Rattle.rd_drive.specs.Outcome.{Change, News, done, fault}
 use Rattle.rd_drive.specs.Locking.{locks_on, wanted_locks, conflicts, with_locks}
@@ -37,7 +36,7 @@ is_closed news w = option_map_or (λ file. w.file == file) news.closed false
 -- what a request that waits is answered where its handle is closed
 abbrev pub closing_reply : Wish → Reply
 closing_reply (Ranges exclusive ranges) = fault lock_not_granted
-closing_reply (wish.Change deep filter) = fault notify_cleanup
+closing_reply (Notice deep filter) = fault notify_cleanup
 
 -- a drive, and the requests that it ended, in the order in which they began to wait
 pub record Settled : Type 0 where
@@ -71,7 +70,7 @@ settles_change news old w path deep filter =
 -- a request whose handle is open still
 abbrev pub settles_open : News → Settled → Waiting → Names → Wish → Settled
 settles_open news old w path (Ranges exclusive ranges) = settles_ranges news old w path exclusive ranges
-settles_open news old w path (wish.Change deep filter) = settles_change news old w path deep filter
+settles_open news old w path (Notice deep filter) = settles_change news old w path deep filter
 
 -- what the news does to one request that waits
 abbrev pub settles : News → Settled → Waiting → Settled

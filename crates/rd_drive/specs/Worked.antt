@@ -12,7 +12,7 @@ use Rattle.rd_dirinfo.specs.Patterns.{any_name}
 use Rattle.rd_drive.specs.declared.step.Step.{Step}
 use Rattle.rd_drive.specs.declared.step.Step.TheVariants as step
 use Rattle.rd_drive.specs.declared.step.End.{End}
-use Rattle.rd_drive.specs.DriveState.{DriveState, Change, opening}
+use Rattle.rd_drive.specs.DriveState.{DriveState, Notice, opening}
 use Rattle.rd_drive.specs.Outcome.{done, fault}
 use Rattle.rd_drive.specs.DriveStep.{drive_step}
 
@@ -83,7 +83,7 @@ with_handles s count = record s {
 
 -- the drive with so many requests that wait for a change in the folder of a file id
 abbrev pub with_waiting : DriveState → ℕ → ℕ → DriveState
-with_waiting s file count = record s { waiting = map (λ n. record { key = key n; file = file; wish = Change false 1 }) (range_with_len 0 count) }
+with_waiting s file count = record s { waiting = map (λ n. record { key = key n; file = file; wish = Notice false 1 }) (range_with_len 0 count) }
 
 -- the drive with so many shared locks of a file id on one byte
 abbrev pub with_locks : DriveState → ℕ → ℕ → DriveState

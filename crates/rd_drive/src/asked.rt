@@ -75,7 +75,7 @@ impl Asked {
         matches!(self.disposition, SUPERSEDE | OVERWRITE | OVERWRITE_IF)
     }
 
-    /// What can't be asked: a disposition that there isn't, a folder that is none, or a folder that is replaced.
+    /// What can't be asked: a disposition that there isn't, a folder that is to be no folder, or one that is to be replaced.
     pub fn is_contradictory(&self) -> bool
         ensures { result ≡ is_contradictory self.now }
     {
