@@ -12,7 +12,10 @@ use Rattle.rd_tree.specs.Nodes.{child_of, link_of, up_of, file_of, kind_of, plac
 use Rattle.rd_tree.proofs.KeyLemmas.{one_path}
 use Rattle.rd_tree.proofs.TreeLemmas.{not_some}
 use Rattle.rd_tree.proofs.NodeLemmas.{link_of-root, up_of-at}
-use Rattle.rd_tree.proofs.ViewLemmas.{place_seen, naming_seen}
+use Rattle.rd_tree.proofs.ViewLemmas.{place_seen, naming_seen, seen_sorted}
+use Rattle.std.specs.Prelude.{T}
+use Rattle.std.specs.Ordering.{nat_cmp}
+use Rattle.std.specs.FinMap.{is_sorted}
 use Rattle.rd_tree.proofs.WayLemmas.{keys_of_way, live_above, way_step, true_same}
 use Rattle.rd_tree.proofs.PlaceLemmas.{live_place, path_seen, folder_seen, parent_of}
 use Rattle.rd_tree.proofs.ParentLemmas.{link_is, one_node}
@@ -20,6 +23,10 @@ use Rattle.rd_tree.proofs.ParentLemmas.{link_is, one_node}
 no_keys : (naming : Naming) (path : Names) → seen_path naming path ≡ [] → path ≡ []
 no_keys naming [] e = refl
 no_keys naming (x ∷ path) e = absurd (cc)
+
+is_true : (b : Bool) → T b → b ≡ true
+is_true true t = refl
+is_true false t = absurd t
 
 module _ (naming : Naming) (nodes : Slab Node) (s : IsSound naming nodes) where
   -- no way leads to the root but the one without names
@@ -54,6 +61,7 @@ module _ (naming : Naming) (nodes : Slab Node) (s : IsSound naming nodes) where
 
   pub whole : IsWhole (places_of naming nodes)
   whole = record {
+    rising = is_true (is_sorted nat_cmp (places_of naming nodes).list) (seen_sorted naming nodes);
     root = place_seen naming nodes 0 ∙ ap (option_map (placed (link_of nodes) 0)) root_file ∙ ap (λ (p : Names). Some (record { path = p; bytes = None })) root_way;
     apart = apart;
     parents = parents;

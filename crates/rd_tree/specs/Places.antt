@@ -1,9 +1,9 @@
 -- What a tree is to its callers: of each live number, the path that its node stands at and, for a file, the bytes.
-use Rattle.std.specs.Prelude.{◌≡◌, ℕ, nat_le, ◌&&◌, ◌||◌, Bool, false, not, if◌then◌else◌, List, [], ◌∷◌, ◌++◌, length, Option, Some, None, ◌==◌, true, drop, map, Result, Ok, Err}
+use Rattle.std.specs.Prelude.{◌≡◌, ℕ, nat_le, ◌&&◌, ◌||◌, Bool, false, not, if◌then◌else◌, List, [], ◌∷◌, ◌++◌, length, Option, Some, None, ◌==◌, true, drop, map, Result, Ok, Err, IsTrue}
 use Rattle.std.specs.List.{list_any, filter}
 use Rattle.std.specs.Option.{IsSome, is_some, option_map, option_map_or, option_and_then, unwrap_or}
 use Rattle.std.specs.Ordering.{nat_cmp, eq_by_cmp, is_lt}
-use Rattle.std.specs.FinMap.{find, put}
+use Rattle.std.specs.FinMap.{find, put, is_sorted}
 use Rattle.std.specs.FinMap.Entries.{where_key}
 use Rattle.rd_tree.specs.declared.refusal.AddNo.{AddNo}
 use Rattle.rd_tree.specs.declared.refusal.AddNo.TheVariants as add
@@ -108,8 +108,10 @@ without tree n = record tree { list = where_key nat_cmp (λ k. not (eq_by_cmp na
 
 -- ---- what every tree is
 
--- The root is a folder at the number 0; no two live numbers have paths that are the same; and each other path has a folder at its parent.
+-- The numbers rise; the root is a folder at the number 0; no two live numbers have paths that are the same; and each other path has a folder
+-- at its parent.
 pub record IsWhole (tree : Places) : Type 0 where
+  pub rising : IsTrue (is_sorted nat_cmp tree.list)
   pub root : place tree 0 ≡ Some (record { path = []; bytes = None })
   pub apart : (n m : ℕ) → IsLive tree n → IsLive tree m → is_same_path tree.naming (own_path tree n) (own_path tree m) ≡ true → n ≡ m
   pub parents : (n : ℕ) → IsLive tree n → (0 ≡ n → ⊥) → is_folder_at tree (parent (own_path tree n)) ≡ true

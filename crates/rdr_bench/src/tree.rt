@@ -24,10 +24,11 @@ pub fn try_once(rt: &HostRuntime) -> Result<()> {
     Ok(())
 }
 
-/// Prints how long each step takes on average, for trees of two sizes.
+/// Prints how long each step takes on average, for trees of two sizes: so many nodes below the root, the folders among them.
 pub fn measure(rt: &HostRuntime) -> Result<()> {
     for depth in [1, 60] {
-        for count in [1000, 65_000] {
+        for nodes in [1000_u32, 65_535] {
+            let count = nodes.saturating_sub(depth);
             let times = times_of(rt, count, depth)?;
             ensure!(
                 times.listed == count,

@@ -1,0 +1,12 @@
+pub mod ListLemmas
+pub mod NumberLemmas
+pub mod WordLemmas
+pub mod TextLemmas
+pub mod KeptLemmas
+pub mod SaidLemmas
+pub mod PathLemmas
+pub mod ScriptLemmas
+pub mod StatusDigitsLemmas
+pub mod ReportLemmas
+pub mod LoadLemmas
+pub mod RowLemmas

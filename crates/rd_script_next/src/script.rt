@@ -1,0 +1,182 @@
+//! A script, and the first line outside the grammar.
+
+ghost use Rattle.std.specs.Prelude.{◌≡◌, IfOk, IfErr};
+ghost use Rattle.rd_script_next.specs.Script.{is_end, is_skipped, script_of, size_with, IsBadLine};
+
+use crate::keyword::Mode;
+use crate::known::Known;
+use crate::line::{Line, Lines, NumberedLine};
+use crate::reading::read_line;
+use crate::why::{LineNo, LineWhy, ScriptNo};
+use crate::words::cut;
+use std::alloc::Global;
+use std::marker::Model;
+
+/// The most lines of a script.
+pub const MAX_LINES: u32 = 1_000_000;
+
+/// The most bytes of a script.
+pub const MAX_BYTES: usize = 67_108_864;
+
+/// What a script says: its lines in order, without those that are skipped.
+#[derive(Debug, Drop)]
+pub struct Script {
+    pub mode: Mode,
+    pub lines: Lines,
+}
+
+/// Empty lines and remarks.
+fn is_skipped(text: &[u8]) -> bool
+    ensures { result ≡ is_skipped text.now }
+{
+    match text {
+        [] => true,
+        [byte, ..] => *byte == b'#',
+    }
+}
+
+/// What was read so far.
+#[derive(Drop)]
+struct Reader {
+    known: Known,
+    lines: Vec<NumberedLine>,
+    number: u32,
+    bytes: usize,
+}
+
+impl Model for Reader {
+    ghost use Rattle.std.specs.Prelude.{◌≤◌};
+    ghost use Rattle.rd_script_next.specs.Script.{max_bytes, max_lines, Reading};
+
+    ghost Value = { Reading };
+
+    ghost view = { λ r. record { said = r.known; lines = r.lines.items; number = r.number; bytes = r.bytes } };
+
+    ghost invariant = { λ r. (r.number ≤ max_lines) × (r.bytes ≤ max_bytes) };
+}
+
+impl Reader {
+    ghost use Rattle.std.specs.Prelude.{◌≡◌, ◌+◌, true, OnOk, IfErr};
+    ghost use Rattle.rd_script_next.specs.declared.why.ScriptNo.TheVariants as no;
+    ghost use Rattle.rd_script_next.specs.Script.{at_start, bad_line, fits, reading, skipping, Steps, TextLine};
+
+    fn new(alloc: Global, mode: Mode) -> Self
+        ensures { result ≡ at_start mode }
+    {
+        Reader {
+            known: Known::new(alloc, mode),
+            lines: Vec::new(alloc),
+            number: 0,
+            bytes: 0,
+        }
+    }
+
+    /// Whether one more line of so many bytes is within the limits.
+    fn fits(&self, size: usize) -> bool
+        ensures { result ≡ fits self.now size }
+    {
+        self.number < MAX_LINES && size <= MAX_BYTES - self.bytes
+    }
+
+    /// Passes over a line that is skipped.
+    fn skip(&mut self, size: usize)
+        requires { fits self.old size ≡ true }
+        ensures { self.new ≡ skipping self.old size }
+    {
+        self.number += 1;
+        self.bytes += size;
+    }
+
+    /// Keeps a line that was read.
+    fn keep(&mut self, alloc: Global, line: Line, size: usize) -> Result<(), ScriptNo>
+        requires { fits self.old size ≡ true }
+        ensures kept { OnOk result (self.new ≡ reading self.old size line) }
+        ensures memory { IfErr result (λ why. why ≡ no.Memory) }
+    {
+        self.known.take(alloc, &line)?;
+        self.number += 1;
+        self.bytes += size;
+        let number = self.number;
+        self.lines.push(NumberedLine { number, line })?;
+        Ok(())
+    }
+
+    /// The next line is bad.
+    fn bad(&self, why: LineWhy) -> ScriptNo
+        ensures { result ≡ no.BadLine (self.now.number + 1) why }
+    {
+        ScriptNo::BadLine {
+            line: self.number + 1,
+            why,
+        }
+    }
+
+    /// Reads one more line, which has so many bytes with its line feed.
+    #[tactic(auto, unfolding(crate::specs::Script::step))]
+    fn step(&mut self, alloc: Global, text: &[u8], size: usize) -> Result<(), ScriptNo>
+        ensures { Steps self.old self.new (record { text = text.now; size = size }) result }
+    {
+        if !self.fits(size) {
+            return Err(self.bad(LineWhy::Many));
+        }
+        if is_skipped(text) {
+            self.skip(size);
+            return Ok(());
+        }
+        match read_line(alloc, &self.known, text) {
+            Ok(line) => self.keep(alloc, line, size),
+            Err(LineNo::Why(why)) => Err(self.bad(why)),
+            Err(LineNo::Memory) => Err(ScriptNo::Memory),
+        }
+    }
+
+    fn into_script(self, mode: Mode) -> Script
+        ensures { result ≡ record { mode = mode; lines = self.lines } }
+    {
+        let Reader { lines, .. } = self;
+        Script {
+            mode,
+            lines: Lines::of(lines),
+        }
+    }
+}
+
+/// An empty line at the end is none.
+fn is_end(line: &[u8], others: Option<&[u8]>) -> bool
+    ensures { result ≡ is_end line.now others.entry }
+{
+    match others {
+        Some(_) => false,
+        None => line.is_empty(),
+    }
+}
+
+/// How many bytes a line has with its line feed, which it has where something comes after it.
+fn size_of(line: &[u8], others: Option<&[u8]>) -> usize
+    ensures { result ≡ size_with line.now others.entry }
+{
+    match others {
+        Some(_) => line.len() + 1,
+        None => line.len(),
+    }
+}
+
+/// Reads a script. The first line that is outside the grammar, or past a limit, is `ScriptNo::BadLine`.
+#[tactic(auto, using(crate::proofs::ScriptLemmas::read_next, crate::proofs::ScriptLemmas::read_bad, crate::proofs::ScriptLemmas::read_end))]
+pub fn read_script(alloc: Global, mode: Mode, bytes: &[u8]) -> Result<Script, ScriptNo>
+    ensures script { IfOk result (λ script. script_of mode bytes.now ≡ Ok script) }
+    ensures bad { IfErr result (IsBadLine (λ bad. script_of mode bytes.now ≡ Err bad)) }
+{
+    let mut reader = Reader::new(alloc, mode);
+    let mut left = Some(bytes);
+    while let Some(text) = left {
+        let (line, others) = cut(text, b'\n');
+        if is_end(line, others) {
+            return Ok(reader.into_script(mode));
+        }
+        let size = size_of(line, others);
+        reader.step(alloc, line, size)?;
+        left = others;
+    }
+    Ok(reader.into_script(mode))
+}
