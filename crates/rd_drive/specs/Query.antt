@@ -1,5 +1,5 @@
 -- What a file and the volume tell of themselves (MS-RDPEFS 2.2.3.3.8 and 2.2.3.3.6, MS-FSCC 2.4 and 2.5).
-use Rattle.std.specs.Prelude.{ℕ, ◌==◌, [], ◌∷◌, length, codes, Option}
+use Rattle.std.specs.Prelude.{ℕ, ◌==◌, List, [], ◌∷◌, length, codes, Option}
 use Rattle.std.specs.Map.{lookup}
 use Rattle.std.specs.Int.{next_multiple_of}
 use Rattle.rd_base.specs.Fields.{flag_number}
@@ -26,13 +26,16 @@ abbrev pub allocation_of : Node → ℕ
 allocation_of node = next_multiple_of (end_of node) 4096
 
 -- what a node tells of itself, by class
-abbrev pub node_info : Node → ℕ → Option FileInfo
-node_info node class =
-    lookup (◌==◌ class)
-    ((basic, file.Basic node.moments (shown_attributes node))
+abbrev pub node_infos : Node → List (ℕ × FileInfo)
+node_infos node =
+    (basic, file.Basic node.moments (shown_attributes node))
     ∷ (standard, file.Standard (allocation_of node) (end_of node) 1 (flag_number node.pending) (flag_number (is_folder node)))
     ∷ (attribute_tag, file.Tag (shown_attributes node) 0)
-    ∷ [])
+    ∷ []
+
+-- what it tells in a class, if it does
+abbrev pub node_info : Node → ℕ → Option FileInfo
+node_info node class = lookup (◌==◌ class) (node_infos node)
 
 -- QueryFile
 abbrev pub query_file : DriveState → ℕ → Handle → Node → Outcome
@@ -55,15 +58,18 @@ volume_flags Exact = 7
 volume_flags Folded = 6
 
 -- what the volume tells of itself, by class
-abbrev pub drive_info : DriveState → ℕ → Option VolumeInfo
-drive_info s class =
-    lookup (◌==◌ class)
-    ((volume, of_volume.Volume 0 serial_number 0 s.label)
+abbrev pub drive_infos : DriveState → List (ℕ × VolumeInfo)
+drive_infos s =
+    (volume, of_volume.Volume 0 serial_number 0 s.label)
     ∷ (size, of_volume.Size volume_units volume_units 8 512)
     ∷ (device, of_volume.Device 7 0)
     ∷ (attribute, of_volume.Attribute (volume_flags s.naming) 255 (codes "RDFS"))
     ∷ (full_size, of_volume.FullSize volume_units volume_units volume_units 8 512)
-    ∷ [])
+    ∷ []
+
+-- what it tells in a class, if it does
+abbrev pub drive_info : DriveState → ℕ → Option VolumeInfo
+drive_info s class = lookup (◌==◌ class) (drive_infos s)
 
 -- QueryVolume
 abbrev pub query_volume : DriveState → ℕ → Handle → Node → Outcome

@@ -21,17 +21,20 @@ use Rattle.rd_drive.specs.Rename.{rename_to}
 use Rattle.rd_drive.specs.Statuses.{invalid_info_class, access_denied, invalid_parameter, invalid_device_request, disk_full, directory_not_empty}
 
 -- what the handle and the node have to be, by class: the checks that come before the buffer is read
-abbrev pub set_checks : Handle → Node → ℕ → Option (List (Bool × Reply))
-set_checks handle node class =
+abbrev pub checks_by_class : Handle → Node → List (ℕ × List (Bool × Reply))
+checks_by_class handle node =
     let may_delete = (not (deletes handle.access) || length node.path == 0, fault access_denied) ∷ [] in
     let may_write = (is_folder node, fault invalid_device_request) ∷ (not (writes handle.access), fault access_denied) ∷ [] in
-    lookup (◌==◌ class)
-    ((basic, (not (marks handle.access), fault access_denied) ∷ [])
+    (basic, (not (marks handle.access), fault access_denied) ∷ [])
     ∷ (rename, may_delete)
     ∷ (disposition, may_delete)
     ∷ (allocation, may_write)
     ∷ (end_of_file, may_write)
-    ∷ [])
+    ∷ []
+
+-- the checks of a class that can be set
+abbrev pub set_checks : Handle → Node → ℕ → Option (List (Bool × Reply))
+set_checks handle node class = lookup (◌==◌ class) (checks_by_class handle node)
 
 -- the value that was read
 abbrev pub value_read : Result (SetInfo × Position) InfoNo → Option SetInfo

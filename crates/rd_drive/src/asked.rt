@@ -1,8 +1,9 @@
 //! What a Create asks for beside the path (MS-RDPEFS 2.2.1.4.1).
 
-ghost use Rattle.std.specs.Prelude.{◌≡◌};
+ghost use Rattle.std.specs.Prelude.{◌≡◌, ◌==◌};
 ghost use Rattle.rd_drive.specs.Access.{new_file_attributes, new_folder_attributes};
-ghost use Rattle.rd_drive.specs.Create.{asked_use, deletes_on_close, found_information, is_contradictory, made_attributes, replaces, wants_file, wants_folder};
+ghost use Rattle.rd_drive.specs.Create.{asked_use, create_new, deletes_on_close, found_information, is_contradictory, made_attributes, replaces, wants_file, wants_folder};
+ghost use Rattle.rd_drive.specs.Made.{needs_node};
 
 use crate::access::{Use, has_any, use_of};
 
@@ -19,13 +20,13 @@ const DELETE_ON_CLOSE: u32 = 0x1000;
 const SUPERSEDE: u32 = 0;
 
 /// FILE_OPEN
-pub const OPEN_EXISTING: u32 = 1;
+const OPEN_EXISTING: u32 = 1;
 
 /// FILE_CREATE
-pub const CREATE_NEW: u32 = 2;
+const CREATE_NEW: u32 = 2;
 
 /// FILE_OVERWRITE
-pub const OVERWRITE: u32 = 4;
+const OVERWRITE: u32 = 4;
 
 /// FILE_OVERWRITE_IF, the last of the dispositions.
 const OVERWRITE_IF: u32 = 5;
@@ -73,6 +74,20 @@ impl Asked {
         ensures { result ≡ replaces self.now }
     {
         matches!(self.disposition, SUPERSEDE | OVERWRITE | OVERWRITE_IF)
+    }
+
+    /// Whether only a node that is there is asked for.
+    pub fn needs_node(&self) -> bool
+        ensures { result ≡ needs_node self.now }
+    {
+        matches!(self.disposition, OPEN_EXISTING | OVERWRITE)
+    }
+
+    /// Whether only a new node is asked for.
+    pub fn needs_none(&self) -> bool
+        ensures { result ≡ (self.now.disposition == create_new) }
+    {
+        self.disposition == CREATE_NEW
     }
 
     /// What can't be asked: a disposition that there isn't, a folder that is to be no folder, or one that is to be replaced.

@@ -1,12 +1,20 @@
 //! The definitions at work, as contracts of functions that do nothing: the checker computes each case.
 
-ghost use Rattle.std.specs.Prelude.{◌≡◌, [], ◌∷◌, ◌++◌, ◌^◌, ◌-◌, codes, replicate, map, length, true, false, Some, None};
+ghost use Rattle.std.specs.Prelude.{◌≡◌, ℕ, [], ◌∷◌, ◌++◌, ◌^◌, ◌-◌, codes, replicate, map, length, true, false, Some, None};
 ghost use Rattle.rd_base.specs.Fields.{bytes8, bytes32, bytes64, path_bytes, text_bytes};
 ghost use Rattle.rd_dirinfo.specs.declared.naming.Naming.TheVariants as Naming;
 ghost use Rattle.rd_irp.specs.declared.op.Op.TheVariants as Op;
 ghost use Rattle.rd_irp.specs.declared.completion.Body.TheVariants as Body;
-ghost use Rattle.rd_drive.specs.DriveState.{Node, node_at};
-ghost use Rattle.rd_drive.specs.DriveStep.{drive_cut, drive_step};
+ghost use Rattle.rd_base.specs.declared.journal.Key.{Key};
+ghost use Rattle.rd_irp.specs.declared.op.Op.{Op};
+ghost use Rattle.rd_dirinfo.specs.Paths.{is_within_limits};
+ghost use Rattle.rd_drive.specs.Answered.{drive_parked, IsAnswered, IsFitting};
+ghost use Rattle.rd_drive.specs.Device.{AreEnded};
+ghost use Rattle.rd_drive.specs.Outcome.{Change, News};
+ghost use Rattle.rd_drive.specs.Waiting.{settled};
+ghost use Rattle.std.specs.List.{AllByRecursion};
+ghost use Rattle.rd_drive.specs.DriveState.{DriveState, Node, node_at};
+ghost use Rattle.rd_drive.specs.DriveStep.{drive_cut, drive_step, outcome_of};
 ghost use Rattle.rd_drive.specs.Statuses.{access_denied, cancelled, disk_full, insufficient_resources, lock_not_granted, notify_cleanup, object_path_not_found, too_many_opened_files};
 ghost use Rattle.rd_drive.specs.Worked.{bytes, creates, ended, ended_with, key, no_but, ok, ok_with, opens, parked, played, sample, state_from, with_handles, with_locks, with_waiting};
 
@@ -53,4 +61,17 @@ pub fn limits_are_as_listed()
     ensures waiting { (drive_step (with_waiting (with_handles (sample Naming.Exact) 1) 1 64) (key 64) 1 (Op.Notify false 1) 1).answer ≡ (no_but insufficient_resources).0 }
     ensures too_far { played (sample Naming.Exact) (opens (codes "\\a") ∷ (1, Op.Write (2 ^ 40) (codes "x")) ∷ []) ≡ ok (Body.Created 1 1) ∷ no_but disk_full ∷ [] }
     ensures root_stays { played (sample Naming.Exact) (creates 1 0x1000 [] ∷ []) ≡ no_but access_denied ∷ [] }
+{}
+
+/// Whatever is asked of a drive, it answers by a reply of the operation's layout that can be sent, and never says that it found no memory; or the
+/// request waits after the others.
+pub fn requests_are_answered()
+    ensures { (s : DriveState) (key : Key) (file : ℕ) (operation : Op) (moment : ℕ) → IsFitting s → IsAnswered s key operation (outcome_of s key file operation moment) }
+{}
+
+/// Of the requests that wait in a drive some are ended by what the news says, each by a reply of its own layout that can be sent; the others wait
+/// on. Both keep their order.
+pub fn ends_are_of_those_that_wait()
+    ensures { (s : DriveState) (news : News) → AllByRecursion (λ (change : Change). is_within_limits change.path ≡ true) news.changes
+        → AreEnded (drive_parked s) (settled s news).ends (drive_parked (settled s news).state) }
 {}

@@ -1,19 +1,40 @@
-//! The memory drive: what a request does to the files of a drive, and the reply to it, as one definition (`specs/DriveStep`), and what a
-//! device is given and returns. Its body is to come.
-//!
-//! It stands on `rd_irp` for requests and replies, and on the words of `rd_dirinfo`, `rd_fileinfo`, `rd_contents` and `rd_locks`.
+//! The memory drive: what a request does to the files of a drive, and the reply to it.
 #![tactic(auto)]
 
 mod access;
 mod asked;
+mod close;
+mod create;
+mod cut;
+mod device;
+mod drive;
 mod ends;
+mod handle;
 mod laws;
+mod locking;
+mod news;
+mod node;
+mod opening;
 mod plan;
+mod query;
+mod query_dir;
+mod read_write;
+mod rename;
+mod serve;
+mod set_file;
+mod settle;
+mod status;
 mod step;
+mod store;
+mod telling;
+mod uses;
+mod waiting;
 
-pub use access::{Use, deletes, has_any, marks, reads, use_of, writes};
-pub use asked::{Asked, CREATE_NEW, OPEN_EXISTING, OVERWRITE, SUPERSEDED};
+pub use device::Device;
+pub use drive::MemoryDrive;
 pub use ends::{Ends, MAX_WAITING};
-pub use laws::{limits_are_as_listed, waiting_is_as_listed};
+pub use laws::{
+    ends_are_of_those_that_wait, limits_are_as_listed, requests_are_answered, waiting_is_as_listed,
+};
 pub use plan::{Job, MAX_READ, Plan, prepare};
-pub use step::{End, Step, fault, success};
+pub use step::{End, Step};

@@ -1,5 +1,8 @@
 //! What a device answers to a request, and the ends of requests that waited.
 
+ghost use Rattle.std.specs.Prelude.{◌≡◌};
+ghost use Rattle.rd_drive.specs.Outcome.{done, fault};
+
 use rd_base::{Key, Status};
 use rd_irp::{Body, Reply};
 
@@ -19,7 +22,9 @@ pub struct End {
 }
 
 /// A reply that the request is done.
-pub fn success(body: Body) -> Reply {
+pub fn success(body: Body) -> Reply
+    ensures { result ≡ done body }
+{
     Reply {
         status: Status::SUCCESS,
         body,
@@ -27,7 +32,9 @@ pub fn success(body: Body) -> Reply {
 }
 
 /// A reply that the request isn't done.
-pub fn fault(status: Status) -> Reply {
+pub fn fault(status: Status) -> Reply
+    ensures { result ≡ fault status }
+{
     Reply {
         status,
         body: Body::Fault,

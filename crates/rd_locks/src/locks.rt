@@ -323,6 +323,13 @@ impl Locks {
     {
         self.reserved -= count as usize;
     }
+
+    /// Gives back all places that were reserved.
+    pub fn give_back_all(&mut self)
+        ensures { self.new ≡ record self.old { reserved = 0 } }
+    {
+        self.reserved = 0;
+    }
 }
 
 /// The first range in the way of a wanted lock of the same request.

@@ -4,7 +4,7 @@ use Rattle.std.specs.Option.{option_map, option_map_or, option_and_then, unwrap_
 use Rattle.slab.specs.Slab.{Slab}
 use Rattle.rd_dirinfo.specs.declared.naming.Naming.{Naming}
 use Rattle.rd_dirinfo.specs.Naming.{Name, seen}
-use Rattle.rd_dirinfo.specs.Paths.{Names, seen_path, parent, is_same_path}
+use Rattle.rd_dirinfo.specs.Paths.{Names, is_name, last_name, seen_path, parent, is_same_path}
 use Rattle.rd_tree.specs.declared.node.Node.{Node}
 use Rattle.rd_tree.specs.Walk.{Key, down, up_path, path_of}
 use Rattle.rd_tree.specs.Places.{own_path, is_folder_at, IsLive, IsWhole}
@@ -17,7 +17,7 @@ use Rattle.std.specs.Prelude.{T}
 use Rattle.std.specs.Ordering.{nat_cmp}
 use Rattle.std.specs.FinMap.{is_sorted}
 use Rattle.rd_tree.proofs.WayLemmas.{keys_of_way, live_above, way_step, true_same}
-use Rattle.rd_tree.proofs.PlaceLemmas.{live_place, path_seen, folder_seen, parent_of}
+use Rattle.rd_tree.proofs.PlaceLemmas.{live_place, path_seen, folder_seen, last_of, parent_of}
 use Rattle.rd_tree.proofs.ParentLemmas.{link_is, one_node}
 
 no_keys : (naming : Naming) (path : Names) → seen_path naming path ≡ [] → path ≡ []
@@ -65,6 +65,7 @@ module _ (naming : Naming) (nodes : Slab Node) (s : IsSound naming nodes) where
     root = place_seen naming nodes 0 ∙ ap (option_map (placed (link_of nodes) 0)) root_file ∙ ap (λ (p : Names). Some (record { path = p; bytes = None })) root_way;
     apart = apart;
     parents = parents;
+    named = named;
   }
     where
       apart : (n m : ℕ) → IsLive (places_of naming nodes) n → IsLive (places_of naming nodes) m → is_same_path (places_of naming nodes).naming (own_path (places_of naming nodes) n) (own_path (places_of naming nodes) m) ≡ true → n ≡ m
@@ -83,3 +84,9 @@ module _ (naming : Naming) (nodes : Slab Node) (s : IsSound naming nodes) where
           let there : down (child_of nodes) 0 (seen_path naming (path_of (link_of nodes) a)) ≡ Some a = ap (down (child_of nodes) 0) (keys_of_way naming nodes a) ∙ s.tree.rooted a (live_above naming nodes s n a l.1 l.2) in
           ap (is_folder_at (places_of naming nodes)) above ∙ folder_seen naming nodes s (path_of (link_of nodes) a)
           ∙ ap (λ (o : Option Bool). unwrap_or o false) (ap (option_and_then (kind_of nodes)) there ∙ folder_above n a l.1 l.2)
+
+      named : (n : ℕ) → IsLive (places_of naming nodes) n → (0 ≡ n → ⊥) → is_name (last_name (own_path (places_of naming nodes) n)) ≡ true
+      named n live other =
+          let here = live_place naming nodes n live in
+          let l = link_is naming nodes s n here other in
+          ap is_name (ap last_name (own_seen n here ∙ way_step naming nodes s n l.0 l.1 l.2) ∙ last_of (path_of (link_of nodes) l.0) l.1) ∙ s.names n l.0 l.1 l.2

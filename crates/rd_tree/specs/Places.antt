@@ -11,7 +11,7 @@ use Rattle.rd_tree.specs.declared.refusal.MoveNo.{MoveNo}
 use Rattle.rd_tree.specs.declared.refusal.MoveNo.TheVariants as move
 use Rattle.rd_dirinfo.specs.declared.naming.Naming.{Naming}
 use Rattle.rd_dirinfo.specs.Naming.{Name, name_cmp}
-use Rattle.rd_dirinfo.specs.Paths.{Names, parent, last_name, is_below, is_parent, is_prefix, is_same_path, is_within_limits, moved_path}
+use Rattle.rd_dirinfo.specs.Paths.{Names, is_name, parent, last_name, is_below, is_parent, is_prefix, is_same_path, is_within_limits, moved_path}
 use Rattle.rd_dirinfo.specs.Patterns.{is_wanted}
 
 -- where a node stands, by the names that are kept, and the bytes of a file; a folder has none
@@ -108,13 +108,14 @@ without tree n = record tree { list = where_key nat_cmp (λ k. not (eq_by_cmp na
 
 -- ---- what every tree is
 
--- The numbers rise; the root is a folder at the number 0; no two live numbers have paths that are the same; and each other path has a folder
--- at its parent.
+-- The numbers rise; the root is a folder at the number 0; no two live numbers have paths that are the same; and each other path ends in a
+-- name and has a folder at its parent.
 pub record IsWhole (tree : Places) : Type 0 where
   pub rising : IsTrue (is_sorted nat_cmp tree.list)
   pub root : place tree 0 ≡ Some (record { path = []; bytes = None })
   pub apart : (n m : ℕ) → IsLive tree n → IsLive tree m → is_same_path tree.naming (own_path tree n) (own_path tree m) ≡ true → n ≡ m
   pub parents : (n : ℕ) → IsLive tree n → (0 ≡ n → ⊥) → is_folder_at tree (parent (own_path tree n)) ≡ true
+  pub named : (n : ℕ) → IsLive tree n → (0 ≡ n → ⊥) → is_name (last_name (own_path tree n)) ≡ true
 
 -- ---- adding
 

@@ -1,6 +1,6 @@
 //! The tree.
 
-ghost use Rattle.std.specs.Prelude.{◌≡◌, ◌≢◌, ◌↔◌, ◌<◌, ℕ, [], ◌∷◌, ◌++◌, length, IsTrue, true, false, Some, Err, IfSome, IfNone, IfOk, IfErr, OnOk, OnErr};
+ghost use Rattle.std.specs.Prelude.{◌≡◌, ◌≢◌, ◌↔◌, ◌<◌, ◌≤◌, ℕ, [], ◌∷◌, ◌++◌, length, IsTrue, true, false, Some, Err, IfSome, IfNone, IfOk, IfErr, OnOk, OnErr};
 ghost use Rattle.std.specs.Option.{option_map, unwrap_or};
 ghost use Rattle.rd_dirinfo.specs.Paths.{is_name, last_name, parent};
 ghost use Rattle.rd_contents.specs.Contents.{part, written, resized, max_len, EndsTooFar};
@@ -152,6 +152,7 @@ impl Tree {
     pub fn end(&self, node: NodeId) -> Option<u64>
         requires { IsLive self.now node.0 }
         ensures end { result ≡ option_map length (bytes_at self.now node.0) }
+        ensures most { IfSome result (λ end. end ≤ max_len) }
         ensures file { IfSome result (λ _. IsFile self.now node.0) }
         ensures folder { IfNone result (is_folder self.now node.0 ≡ Some true) }
     {

@@ -1,0 +1,142 @@
+-- A handle lists on: its pattern and the name that was listed last change, and nothing else of a store does.
+use Rattle.std.proofs.Common.{◌≡◌, ◌∙◌, refl, sym, ap, subst, ℕ, ◌≤◌, ◌<◌, ◌==◌, Bool, true, false, cond, List, [], ◌∷◌, map, length, Option, Some, None, arith}
+use Rattle.std.specs.List.{AllByRecursion}
+use Rattle.std.specs.Option.{option_map, IsSome}
+use Rattle.std.specs.Ordering.{nat_cmp}
+use Rattle.std.specs.Map.{lookup, set_value}
+use Rattle.std.specs.BTreeMap.{is_at}
+use Rattle.rd_dirinfo.specs.Naming.{Name}
+use Rattle.rd_locks.specs.declared.held.Held.{Held}
+use Rattle.rd_tree.specs.Places.{Places, IsLive}
+use Rattle.rd_drive.specs.declared.access.Use.{Use}
+use Rattle.rd_drive.specs.declared.handle.Handle as kept
+use Rattle.rd_drive.specs.declared.waiting.Waiting as kept_waiting
+use Rattle.rd_drive.specs.declared.store.Store.{Store}
+use Rattle.rd_drive.specs.Access.{use_of}
+use Rattle.rd_drive.specs.Uses.{uses_of}
+use Rattle.rd_drive.specs.QueryDir.{with_listing}
+use Rattle.rd_drive.specs.Relisted.{relisted, Relists}
+use Rattle.rd_drive.specs.Store.{drive_of, handle_of, kept_handle, uses_on, Handles, HasRoom, IsSound}
+use Rattle.rd_drive.proofs.StoreLemmas.{none_is_some, some_inside}
+
+abbrev use_by : kept.Handle → Use
+use_by h = use_of h.access h.share
+
+module _ (pattern : List ℕ) (last : Option Name) (test : ℕ → Bool) (h : kept.Handle) where
+  abbrev now : kept.Handle
+  now = relisted h pattern last
+
+  -- what doesn't look at the listing sees the same handles
+  same_seen : {X : Type 0} (g : kept.Handle → X) → g now ≡ g h → (q : ℕ → Bool) (es : List (ℕ × kept.Handle)) → lookup test es ≡ Some h → option_map g (lookup q (set_value test es now)) ≡ option_map g (lookup q es)
+  same_seen g same q [] is = absurd (none_is_some h is)
+  same_seen g same q (e ∷ es) is = by (λ there. same_seen g same q es there) (test e.0) is
+    where
+      here : e.1 ≡ h → (b : Bool) → option_map g (cond b (Some now) (lookup q es)) ≡ option_map g (cond b (Some e.1) (lookup q es))
+      here one true = ap (λ x. Some x) (same ∙ sym (ap g one))
+      here one false = refl
+
+      rest : option_map g (lookup q (set_value test es now)) ≡ option_map g (lookup q es) → (b : Bool) → option_map g (cond b (Some e.1) (lookup q (set_value test es now))) ≡ option_map g (cond b (Some e.1) (lookup q es))
+      rest later true = refl
+      rest later false = later
+
+      by : (lookup test es ≡ Some h → option_map g (lookup q (set_value test es now)) ≡ option_map g (lookup q es)) → (b : Bool) → cond b (Some e.1) (lookup test es) ≡ Some h
+          → option_map g (lookup q (cond b ((e.0, now) ∷ es) (e ∷ set_value test es now))) ≡ option_map g (cond (q e.0) (Some e.1) (lookup q es))
+      by later true one = here (some_inside e.1 h one) (q e.0)
+      by later false there = rest (later there) (q e.0)
+
+  same_uses : (n : ℕ) (es : List (ℕ × kept.Handle)) → lookup test es ≡ Some h → uses_on n (set_value test es now) ≡ uses_on n es
+  same_uses n [] is = absurd (none_is_some h is)
+  same_uses n (e ∷ es) is = by (λ there. same_uses n es there) (test e.0) is
+    where
+      rest : uses_on n (set_value test es now) ≡ uses_on n es → (b : Bool) → cond b (use_by e.1 ∷ uses_on n (set_value test es now)) (uses_on n (set_value test es now)) ≡ cond b (use_by e.1 ∷ uses_on n es) (uses_on n es)
+      rest later true = ap (◌∷◌ (use_by e.1)) later
+      rest later false = later
+
+      by : (lookup test es ≡ Some h → uses_on n (set_value test es now) ≡ uses_on n es) → (b : Bool) → cond b (Some e.1) (lookup test es) ≡ Some h
+          → uses_on n (cond b ((e.0, now) ∷ es) (e ∷ set_value test es now)) ≡ uses_on n (e ∷ es)
+      by later true one = ap (λ (x : kept.Handle). uses_on n ((e.0, relisted x pattern last) ∷ es)) (sym (some_inside e.1 h one))
+      by later false there = rest (later there) ((e.1).node.0 == n)
+
+  same_length : (es : List (ℕ × kept.Handle)) → length (set_value test es now) ≡ length es
+  same_length [] = refl
+  same_length (e ∷ es) = by (same_length es) (test e.0)
+    where
+      by : length (set_value test es now) ≡ length es → (b : Bool) → length (cond b ((e.0, now) ∷ es) (e ∷ set_value test es now)) ≡ length (e ∷ es)
+      by later true = omega arith
+      by later false = omega (arith, later)
+
+  seen_set : (tree : Places) (es : List (ℕ × kept.Handle)) → map (λ (e : ℕ × kept.Handle). (e.0, handle_of tree e.1)) (set_value test es now) ≡ set_value test (map (λ (e : ℕ × kept.Handle). (e.0, handle_of tree e.1)) es) (handle_of tree now)
+  seen_set tree [] = refl
+  seen_set tree (e ∷ es) = by (seen_set tree es) (test e.0)
+    where
+      by : map (λ (x : ℕ × kept.Handle). (x.0, handle_of tree x.1)) (set_value test es now) ≡ set_value test (map (λ (x : ℕ × kept.Handle). (x.0, handle_of tree x.1)) es) (handle_of tree now) → (b : Bool)
+          → map (λ (x : ℕ × kept.Handle). (x.0, handle_of tree x.1)) (cond b ((e.0, now) ∷ es) (e ∷ set_value test es now))
+          ≡ cond b ((e.0, handle_of tree now) ∷ map (λ (x : ℕ × kept.Handle). (x.0, handle_of tree x.1)) es) ((e.0, handle_of tree e.1) ∷ set_value test (map (λ (x : ℕ × kept.Handle). (x.0, handle_of tree x.1)) es) (handle_of tree now))
+      by later true = refl
+      by later false = ap (◌∷◌ (e.0, handle_of tree e.1)) later
+
+-- what an option has, seen through a function
+through : {X Y : Type 0} (g : X → Y) (o : Option X) (y : Y) → option_map g o ≡ Some y → (x : X) × (o ≡ Some x) × (g x ≡ y)
+through g None y e = absurd (none_is_some y e)
+through g (Some x) y e = (x, refl, some_inside (g x) y e)
+
+module _ (s : Store) (sound : IsSound s) (file : ℕ) (h : kept.Handle) (is : kept_handle s file ≡ Some h) (pattern : List ℕ) (last : Option Name) (handles : Handles)
+    (entries : handles.entries ≡ set_value (is_at (nat_cmp file)) s.handles.entries (relisted h pattern last)) where
+  abbrev pub after : Store
+  after = record s { handles = handles }
+
+  same_handles : {X : Type 0} (g : kept.Handle → X) → g (relisted h pattern last) ≡ g h → (other : ℕ) → option_map g (kept_handle after other) ≡ option_map g (kept_handle s other)
+  same_handles g same other = ap (λ es. option_map g (lookup (is_at (nat_cmp other)) es)) entries ∙ same_seen pattern last (is_at (nat_cmp file)) h g same (is_at (nat_cmp other)) s.handles.entries is
+
+  abbrev nodes_told : kept.Handle → ℕ × Bool
+  nodes_told x = (x.node.0, x.delete_on_close)
+
+  opened_still : (other : ℕ) (x : kept.Handle) → kept_handle after other ≡ Some x → IsLive s.tree x.node.0 × (other < s.next) × (x.node.0 ≡ 0 → x.delete_on_close ≡ false)
+  opened_still other x e =
+      let before = through nodes_told (kept_handle s other) (nodes_told x) (sym (same_handles nodes_told refl other) ∙ ap (option_map nodes_told) e) in
+      let was = sound.opened other before.0 before.1 in
+      subst (λ (y : ℕ × Bool). IsLive s.tree y.0 × (other < s.next) × (y.0 ≡ 0 → y.1 ≡ false)) before.2 was
+
+  some_still : (other : ℕ) → IsSome (kept_handle s other) → IsSome (kept_handle after other)
+  some_still other some = by (kept_handle after other) (kept_handle s other) (same_handles (λ x. x.node.0) refl other) some
+    where
+      by : (a b : Option kept.Handle) → option_map (λ (x : kept.Handle). x.node.0) a ≡ option_map (λ (x : kept.Handle). x.node.0) b → IsSome b → IsSome a
+      by None None e some = some
+      by None (Some b) e some = absurd (none_is_some b.node.0 e)
+      by (Some a) b e some = refl
+
+  locked_still : (l : List Held) → AllByRecursion (λ (held : Held). option_map (λ (x : kept.Handle). x.node.0) (kept_handle s held.file) ≡ Some held.node) l
+      → AllByRecursion (λ (held : Held). option_map (λ (x : kept.Handle). x.node.0) (kept_handle after held.file) ≡ Some held.node) l
+  locked_still [] all = tt
+  locked_still (held ∷ l) all = (same_handles (λ x. x.node.0) refl held.file ∙ all.0, locked_still l all.1)
+
+  waits_still : (l : List kept_waiting.Waiting) → AllByRecursion (λ (w : kept_waiting.Waiting). (false ≡ false → IsSome (kept_handle s w.file)) × HasRoom w.wish) l
+      → AllByRecursion (λ (w : kept_waiting.Waiting). (false ≡ false → IsSome (kept_handle after w.file)) × HasRoom w.wish) l
+  waits_still [] all = tt
+  waits_still (w ∷ l) all = ((λ e. some_still w.file ((all.0).0 e), (all.0).1), waits_still l all.1)
+
+  pub relisted_sound : IsSound after
+  relisted_sound = record {
+    naming = sound.naming;
+    label = sound.label;
+    states = sound.states;
+    root = sound.root;
+    fitting = sound.fitting;
+    opened = opened_still;
+    uses = λ n live. sound.uses n live ∙ ap uses_of (sym (ap (uses_on n) entries ∙ same_uses pattern last (is_at (nat_cmp file)) h n s.handles.entries is));
+    locked = locked_still s.locks.locks sound.locked;
+    waits = waits_still s.waiting.items sound.waits;
+    reserved = sound.reserved;
+    few = (subst (λ n. n ≤ 4096) (sym (ap (length {A = ℕ × kept.Handle}) entries ∙ same_length pattern last (is_at (nat_cmp file)) h s.handles.entries)) sound.few.0, sound.few.1, sound.few.2);
+    ids = sound.ids;
+  }
+
+  pub relisted_seen : drive_of after ≡ with_listing (drive_of s) file (handle_of s.tree h) pattern last
+  relisted_seen = ap (λ hs. record (drive_of s) { handles = hs }) (ap (map (λ (e : ℕ × kept.Handle). (e.0, handle_of s.tree e.1))) entries ∙ seen_set pattern last (is_at (nat_cmp file)) h s.tree s.handles.entries)
+
+-- the same, of a store that was left so
+pub relists_sound : (s new : Store) → IsSound s → (file : ℕ) (h : kept.Handle) → kept_handle s file ≡ Some h → (pattern : List ℕ) (last : Option Name) → Relists s file h pattern last new
+    → IsSound new × (drive_of new ≡ with_listing (drive_of s) file (handle_of s.tree h) pattern last)
+relists_sound s new sound file h is pattern last relists =
+    subst (λ (x : Store). IsSound x × (drive_of x ≡ with_listing (drive_of s) file (handle_of s.tree h) pattern last)) (sym relists.rest)
+    (relisted_sound s sound file h is pattern last new.handles relists.handles, relisted_seen s sound file h is pattern last new.handles relists.handles)
