@@ -5,9 +5,10 @@ use Rattle.std.specs.Prelude.{◌⊎◌, Result, Ok, Err, IfErr, IsErrAnd}
 use Rattle.std.specs.Io.KnownBytes.{Consumes, IsAtEnd}
 use Rattle.std.proofs.lemmas.Option.{same_Some}
 use Rattle.rd_base.specs.History.{History}
-use Rattle.rd_script.specs.Grammar.{IsFirstBad, IsScript, Said}
-use Rattle.rd_script.proofs.TextLemmas.{script_short}
-use Rattle.rd_script.proofs.ScriptLemmas.{cut_bad, never_both}
+use Rattle.rd_script.specs.declared.script.Script.{Script}
+use Rattle.rd_script.specs.Script.{BadLine, max_bytes}
+use Rattle.rd_session.specs.Served.{served_of}
+use Rattle.rd_session.proofs.LimitLemmas.{served_cut, served_short}
 use Rattle.rd_cli.specs.declared.stop.Stop.{Stop}
 use Rattle.rd_cli.specs.declared.stop.Stop.TheVariants as stop
 use Rattle.rd_cli.specs.Outside.{AreFaultless, IsFaultless, Outside, Read, ReadToEnd, Stream}
@@ -26,48 +27,52 @@ stopped_with before after books (Ok x) s is stopped = absurd is
 stopped_with before after books (Err e) s is stopped = subst (λ (e : Stop). StoppedPlaying before after books e) (sym is) stopped
 
 -- a script that is short enough to be one was read to the input's end
-pub read_whole : {S : Type 0} (before after : Stream S) (text : List ℕ) (said : Said) → Read before after text → (length text ≤ 65536 → IsAtEnd after.bytes) → IsScript text said → ReadsScript before after said
-read_whole before after text said read whole script = record { text = text; read = record { read = read; ended = whole (script_short text said script) }; script = script }
+pub read_whole : {S : Type 0} (before after : Stream S) (text : List ℕ) (script : Script) → Read before after text → (length text ≤ max_bytes → IsAtEnd after.bytes) → served_of text ≡ Ok script → ReadsScript before after script
+read_whole before after text script read whole is = record { text = text; read = record { read = read; ended = whole (served_short text script is) }; served = is }
 
 -- a stop of the playing of a script that was read
-pub stopped_playing : {S K R : Type 0} (before after : Outside S K R) (books : List (ℕ × History)) (said : Said) (s : Stop) → ReadsScript before.input after.input said → after.output ≡ before.output
-    → StopsForRecording said before.recording after.recording books s → StoppedPlaying before after books s
-stopped_playing before after books said stop.Recording reads silent (failed, none) = (said, reads, failed, silent, none)
-stopped_playing before after books said stop.Memory reads silent faultless =
+pub stopped_playing : {S K R : Type 0} (before after : Outside S K R) (books : List (ℕ × History)) (script : Script) (s : Stop) → ReadsScript before.input after.input script → after.output ≡ before.output
+    → StopsForRecording script before.recording after.recording books s → StoppedPlaying before after books s
+stopped_playing before after books script stop.Recording reads silent (failed, none) = (script, reads, failed, silent, none)
+stopped_playing before after books script stop.Memory reads silent faultless =
     record { input = reads.read.read.faultless; output = ap (λ (o : Stream _). o.faults) silent; recording = faultless }
-stopped_playing before after books said stop.Words reads silent other = absurd other
-stopped_playing before after books said (stop.Line number) reads silent other = absurd other
-stopped_playing before after books said stop.Input reads silent other = absurd other
-stopped_playing before after books said stop.Output reads silent other = absurd other
-stopped_playing before after books said (stop.Fault fault) reads silent other = absurd other
-stopped_playing before after books said stop.Long reads silent other = absurd other
+stopped_playing before after books script stop.Words reads silent other = absurd other
+stopped_playing before after books script (stop.Line line cause) reads silent other = absurd other
+stopped_playing before after books script stop.Input reads silent other = absurd other
+stopped_playing before after books script stop.Output reads silent other = absurd other
+stopped_playing before after books script (stop.Fault fault) reads silent other = absurd other
+stopped_playing before after books script stop.Long reads silent other = absurd other
 
 -- ---- scripts and bad lines
--- A text that was read of a script has no first bad line.
-script_not_bad : {S : Type 0} (before after : Stream S) (text : List ℕ) (number : ℕ) → HasRead before after text → IsFirstBad text number → GivesScript before.bytes → ⊥
-script_not_bad before after text number read bad (whole, said, is, script) = go before.bytes after.bytes is read.read.taken read.whole
+-- No text is both.
+never_both : (text : List ℕ) (script : Script) (bad : BadLine) → served_of text ≡ Ok script → served_of text ≡ Err bad → ⊥
+never_both text script bad is refused = cc (is, refused)
+
+-- A text that was read of a script has no line that is refused.
+script_not_bad : {S : Type 0} (before after : Stream S) (text : List ℕ) (bad : BadLine) → HasRead before after text → served_of text ≡ Err bad → GivesScript before.bytes → ⊥
+script_not_bad before after text bad read refused (whole, script, is, played) = go before.bytes after.bytes is read.read.taken read.whole
   where
-    go : (left rest : Option (List ℕ)) → left ≡ Some whole → Consumes left rest text → (length text ≤ 65536 → IsAtEnd rest) → ⊥
+    go : (left rest : Option (List ℕ)) → left ≡ Some whole → Consumes left rest text → (length text ≤ max_bytes → IsAtEnd rest) → ⊥
     go None rest is taken ended = absurd (cc)
     go (Some xs) None is taken ended = absurd taken
     go (Some xs) (Some ys) is taken ended =
         let same : xs ≡ whole = same_Some _ _ is in
         let parts : whole ≡ text ++ ys = sym same ∙ taken in
-        elim (cases_lt 65536 (length text)) [
-          | inl long ↦ never_both (text ++ ys) said number (subst (λ (t : List ℕ). IsScript t said) parts script) (cut_bad text ys number long bad)
-          | inr short ↦ never_both text said number (subst (λ (t : List ℕ). IsScript t said) (parts ∙ ap (λ (l : List ℕ). text ++ l) (ended short) ∙ append-nil text) script) bad
+        elim (cases_lt max_bytes (length text)) [
+          | inl long ↦ never_both whole script bad played (ap served_of parts ∙ served_cut text ys long ∙ refused)
+          | inr short ↦ never_both text script bad (ap served_of (sym (parts ∙ ap (λ (l : List ℕ). text ++ l) (ended short) ∙ append-nil text)) ∙ played) refused
         ]
 
--- A script that was read to the input's end is all of the input, which then has no bad line.
-whole_not_bad : {S : Type 0} (before after : Stream S) (text : List ℕ) (said : Said) (number : ℕ) → ReadToEnd before after text → IsScript text said → GivesBadLine before.bytes number → ⊥
-whole_not_bad before after text said number read script (whole, is, bad) = go before.bytes after.bytes is read.read.taken read.ended
+-- A script that was read to the input's end is all of the input, of which then no line is refused.
+whole_not_bad : {S : Type 0} (before after : Stream S) (text : List ℕ) (script : Script) (bad : BadLine) → ReadToEnd before after text → served_of text ≡ Ok script → GivesBadLine before.bytes bad → ⊥
+whole_not_bad before after text script bad read played (whole, is, refused) = go before.bytes after.bytes is read.read.taken read.ended
   where
     go : (left rest : Option (List ℕ)) → left ≡ Some whole → Consumes left rest text → IsAtEnd rest → ⊥
     go None rest is taken ended = absurd (cc)
     go (Some xs) None is taken ended = absurd taken
     go (Some xs) (Some ys) is taken ended =
         let text_is : whole ≡ text = sym (same_Some _ _ is) ∙ taken ∙ ap (λ (l : List ℕ). text ++ l) ended ∙ append-nil text in
-        never_both text said number script (subst (λ (t : List ℕ). IsFirstBad t number) text_is bad)
+        never_both text script bad played (ap served_of (sym text_is) ∙ refused)
 
 -- ---- the end, by the status
 -- A session that came to its end ends with 0.
@@ -79,7 +84,7 @@ played_end before after books played = record {
   unread = λ two. absurd (omega (arith, two));
   unwritten = λ three. absurd (omega (arith, three));
   starved = λ six. absurd (omega (arith, six));
-  refuses = λ number bad. absurd (whole_not_bad before.input after.input played.text played.said number played.read played.script bad);
+  refuses = λ bad gives. absurd (whole_not_bad before.input after.input played.text played.script bad played.read played.served gives);
   completes = λ script. inl refl;
 }
 
@@ -92,7 +97,7 @@ starved_end before after books status is faultless = record {
   unread = λ two. absurd (omega (arith, two, is));
   unwritten = λ three. absurd (omega (arith, three, is));
   starved = λ six. faultless;
-  refuses = λ number bad. inr (inr is);
+  refuses = λ bad gives. inr (inr is);
   completes = λ script. inr (inr (inr is));
 }
 
@@ -105,8 +110,8 @@ refused_end before after books status is refused = record {
   unread = λ two. absurd (omega (arith, two, is));
   unwritten = λ three. absurd (omega (arith, three, is));
   starved = λ six. absurd (omega (arith, six, is));
-  refuses = λ number bad. inl is;
-  completes = λ script. absurd (script_not_bad before.input after.input refused.bad.0 refused.number refused.bad.1 refused.bad.2 script);
+  refuses = λ bad gives. inl is;
+  completes = λ script. absurd (script_not_bad before.input after.input refused.reads.0 refused.bad refused.reads.1 refused.reads.2 script);
 }
 
 -- a failed read ends with 2
@@ -118,22 +123,22 @@ unread_end before after books status is stopped = record {
   unread = λ two. stopped;
   unwritten = λ three. absurd (omega (arith, three, is));
   starved = λ six. absurd (omega (arith, six, is));
-  refuses = λ number bad. inr (inl is);
+  refuses = λ bad gives. inr (inl is);
   completes = λ script. inr (inl is);
 }
 
 -- a failed write ends with 3
-unwritten_end : {S K R : Type 0} (before after : Outside S K R) (books : List (ℕ × History)) (status : ℕ) (said : Said) → status ≡ 3 → ReadsScript before.input after.input said
+unwritten_end : {S K R : Type 0} (before after : Outside S K R) (books : List (ℕ × History)) (status : ℕ) (script : Script) → status ≡ 3 → ReadsScript before.input after.input script
     → StoppedPlaying before after books stop.Recording ⊎ StoppedPlaying before after books stop.Output → IsEndOfBoth before after books status
-unwritten_end before after books status said is reads stopped = record {
+unwritten_end before after books status script is reads stopped = record {
   known = inr (inr (inr (inl is)));
   played = λ zero. absurd (omega (arith, zero, is));
   refused = λ one. absurd (omega (arith, one, is));
   unread = λ two. absurd (omega (arith, two, is));
   unwritten = λ three. stopped;
   starved = λ six. absurd (omega (arith, six, is));
-  refuses = λ number bad. absurd (whole_not_bad before.input after.input reads.text said number reads.read reads.script bad);
-  completes = λ script. inr (inr (inl is));
+  refuses = λ bad gives. absurd (whole_not_bad before.input after.input reads.text script bad reads.read reads.served gives);
+  completes = λ gives. inr (inr (inl is));
 }
 
 -- the outside with another output
@@ -151,18 +156,18 @@ untouched_faultless before after input output recording =
     record { input = input; output = ap (λ (o : Stream _). o.faults) output; recording = ap (λ (o : Stream _). o.faults) recording }
 
 -- A refused line, which is said, or can't be put together.
-line_end : {S K R : Type 0} (before middle : Outside S K R) (output : Stream K) (books : List (ℕ × History)) (number status : ℕ) → ReadsBadLine before.input middle.input number → middle.output ≡ before.output → middle.recording ≡ before.recording → books ≡ []
-    → EndsWith (stop.Line number) middle.output output status → IsEndOfBoth before (with_output middle output) books status
-line_end before middle output books number status bad silent unrecorded unstored (inl said) =
-    let says = subst (λ (o : Stream _). EndsWith (stop.Line number) o output 1) silent (inl (refl, said.1)) in
-    refused_end before (with_output middle output) books status said.0 (record { number = number; bad = bad; says = says; unrecorded = unrecorded; unstored = unstored })
-line_end before middle output books number status bad silent unrecorded unstored (inr starved) =
-    starved_end before (with_output middle output) books status starved.0 (untouched_faultless before (with_output middle output) bad.1.read.faultless (starved.1 ∙ silent) unrecorded)
+line_end : {S K R : Type 0} (before middle : Outside S K R) (output : Stream K) (books : List (ℕ × History)) (bad : BadLine) (status : ℕ) → ReadsBadLine before.input middle.input bad → middle.output ≡ before.output → middle.recording ≡ before.recording → books ≡ []
+    → EndsWith (stop.Line bad.line bad.why) middle.output output status → IsEndOfBoth before (with_output middle output) books status
+line_end before middle output books bad status reads silent unrecorded unstored (inl said) =
+    let says = subst (λ (o : Stream _). EndsWith (stop.Line bad.line bad.why) o output 1) silent (inl (refl, said.1)) in
+    refused_end before (with_output middle output) books status said.0 (record { bad = bad; reads = reads; says = says; unrecorded = unrecorded; unstored = unstored })
+line_end before middle output books bad status reads silent unrecorded unstored (inr starved) =
+    starved_end before (with_output middle output) books status starved.0 (untouched_faultless before (with_output middle output) reads.1.read.faultless (starved.1 ∙ silent) unrecorded)
 
 -- How the command ends, from how it stopped and what was said of it.
 pub stopped_end : {S K R : Type 0} (before middle : Outside S K R) (output : Stream K) (books : List (ℕ × History)) (s : Stop) (status : ℕ)
     → StoppedPlaying before middle books s → EndsWith s middle.output output status → IsEndOfBoth before (with_output middle output) books status
-stopped_end before middle output books (stop.Line number) status stopped said = line_end before middle output books number status stopped.0 stopped.1 stopped.2 stopped.3 said
+stopped_end before middle output books (stop.Line line cause) status stopped said = line_end before middle output books (record { line = line; why = cause }) status stopped.0 stopped.1 stopped.2 stopped.3 said
 stopped_end before middle output books stop.Input status stopped said = unread_end before (with_output middle output) books status said.0 (stopped.0, said.1 ∙ stopped.1, stopped.2, stopped.3)
 stopped_end before middle output books stop.Recording status stopped said =
     unwritten_end before (with_output middle output) books status stopped.0 said.0 stopped.1 (inl (stopped.0, stopped.1, stopped.2, said.1 ∙ stopped.3, stopped.4))

@@ -29,7 +29,7 @@ no_command words before output books stop.Memory status bad unstored said = reco
   refuses = λ none. record { says = inr (said.0, said.1); unread = refl; unrecorded = refl; unstored = unstored };
   runs = λ c shape. starved before output books status said.0 said.1 unstored c;
 }
-no_command words before output books (stop.Line number) status bad unstored said = absurd bad
+no_command words before output books (stop.Line line cause) status bad unstored said = absurd bad
 no_command words before output books stop.Input status bad unstored said = absurd bad
 no_command words before output books stop.Output status bad unstored said = absurd bad
 no_command words before output books stop.Recording status bad unstored said = absurd bad

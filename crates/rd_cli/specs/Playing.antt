@@ -4,10 +4,13 @@ use Rattle.rd_base.specs.History.{History}
 use Rattle.rd_base.specs.declared.journal.Item.{Item}
 use Rattle.std.specs.Io.KnownBytes.{IsAtEnd}
 use Rattle.rd_script.specs.declared.outcome.Outcome.{Outcome}
-use Rattle.rd_script.specs.Grammar.{IsFirstBad, IsScript, Said, max_bytes}
-use Rattle.rd_script.specs.Report.{journals_in, report_of}
+use Rattle.rd_script.specs.declared.outcome.Outcomes.{Outcomes}
+use Rattle.rd_script.specs.declared.script.Script.{Script}
+use Rattle.rd_script.specs.Report.{report_of}
+use Rattle.rd_script.specs.Script.{BadLine, max_bytes}
+use Rattle.rd_session.specs.Served.{served_of}
 use Rattle.rd_cli.specs.Outside.{AreFaultless, FailedToWrite, HasOneFault, IsFaultless, Outside, Read, ReadToEnd, Stream}
-use Rattle.rd_cli.specs.Headline.{IsPlayed, Played, PlayedToEnd}
+use Rattle.rd_cli.specs.Headline.{IsPlayed, Played, PlayedToEnd, Tells}
 use Rattle.rd_cli.specs.Stops.{EndsWith}
 use Rattle.rd_cli.specs.declared.stop.Stop.{Stop}
 use Rattle.rd_cli.specs.declared.stop.Stop.TheVariants as stop
@@ -17,40 +20,46 @@ pub record HasRead {S : Type 0} (before after : Stream S) (text : List ℕ) : Ty
   pub read : Read before after text
   pub whole : length text ≤ max_bytes → IsAtEnd after.bytes
 
--- The input was read to its end and is a script.
-pub record ReadsScript {S : Type 0} (before after : Stream S) (said : Said) : Type 0 where
+-- The input was read to its end and is a script whose lines are all played.
+pub record ReadsScript {S : Type 0} (before after : Stream S) (script : Script) : Type 0 where
   pub text : List ℕ
   pub read : ReadToEnd before after text
-  pub script : IsScript text said
+  pub served : served_of text ≡ Ok script
 
--- This line of what was read is the first outside the grammar.
-abbrev pub ReadsBadLine : {S : Type 0} → (before after : Stream S) → ℕ → Type 0
-ReadsBadLine before after number = (text : List ℕ) × HasRead before after text × IsFirstBad text number
+-- This line of what was read is the first that is refused, for this reason.
+abbrev pub ReadsBadLine : {S : Type 0} → (before after : Stream S) → BadLine → Type 0
+ReadsBadLine before after bad = (text : List ℕ) × HasRead before after text × (served_of text ≡ Err bad)
+
+-- a script that some text is, whose lines are all played
+abbrev pub IsPlayable : Script → Type 0
+IsPlayable script = (text : List ℕ) × (served_of text ≡ Ok script)
 
 -- The recording failed: a prefix of the recording of a session of this script was written.
-pub record FailedToRecord {R : Type 0} (said : Said) (before after : Stream R) : Type 0 where
+pub record FailedToRecord {R : Type 0} (script : Script) (before after : Stream R) : Type 0 where
   pub outcomes : List Outcome
   pub books : List (ℕ × List Item)
   pub whole : List ℕ
-  pub played : IsPlayed said outcomes whole books
+  pub played : IsPlayed script outcomes whole books
   pub failed : FailedToWrite before after whole
 
 -- The output failed, after the script was played and recorded: a prefix of the report was written.
-pub record FailedToReport {S K R : Type 0} (said : Said) (before after : Outside S K R) (books : List (ℕ × History)) : Type 0 where
+pub record FailedToReport {S K R : Type 0} (script : Script) (before after : Outside S K R) (books : List (ℕ × History)) : Type 0 where
   pub outcomes : List Outcome
-  pub played : Played said outcomes before.recording after.recording books
-  pub failed : FailedToWrite before.output after.output (report_of outcomes (journals_in books))
+  pub told : Outcomes
+  pub played : Played script outcomes before.recording after.recording books
+  pub tells : Tells told outcomes
+  pub failed : FailedToWrite before.output after.output (report_of script told books)
 
 -- What the command has done when it stopped, before a last line says so: the first event that stops it ends it.
 abbrev pub StoppedPlaying : {S K R : Type 0} → (before after : Outside S K R) → List (ℕ × History) → Stop → Type 0
-StoppedPlaying before after books (stop.Line number) =
-    ReadsBadLine before.input after.input number × (after.output ≡ before.output) × (after.recording ≡ before.recording) × (books ≡ [])
+StoppedPlaying before after books (stop.Line line cause) =
+    ReadsBadLine before.input after.input (record { line = line; why = cause }) × (after.output ≡ before.output) × (after.recording ≡ before.recording) × (books ≡ [])
 StoppedPlaying before after books stop.Input =
     HasOneFault before.input after.input × (after.output ≡ before.output) × (after.recording ≡ before.recording) × (books ≡ [])
 StoppedPlaying before after books stop.Recording =
-    (said : Said) × ReadsScript before.input after.input said × FailedToRecord said before.recording after.recording × (after.output ≡ before.output) × (books ≡ [])
+    (script : Script) × ReadsScript before.input after.input script × FailedToRecord script before.recording after.recording × (after.output ≡ before.output) × (books ≡ [])
 StoppedPlaying before after books stop.Output =
-    (said : Said) × ReadsScript before.input after.input said × FailedToReport said before after books
+    (script : Script) × ReadsScript before.input after.input script × FailedToReport script before after books
 StoppedPlaying before after books stop.Memory = AreFaultless before after
 StoppedPlaying before after books _ = ⊥
 
@@ -60,36 +69,36 @@ StopsForInput before after stop.Input = HasOneFault before after
 StopsForInput before after stop.Memory = IsFaultless before after
 StopsForInput before after _ = ⊥
 
--- a stop of the reading of a script: for its first bad line, or for want of memory
+-- a stop of the reading of a script: for its first refused line, or for want of memory
 abbrev pub StopsForText : List ℕ → Stop → Type 0
-StopsForText text (stop.Line number) = IsFirstBad text number
+StopsForText text (stop.Line line cause) = served_of text ≡ Err (record { line = line; why = cause })
 StopsForText text stop.Memory = Unit {0}
 StopsForText text _ = ⊥
 
 -- a stop of the playing of a script: for the recording, when no journal was stored, or for want of memory
-abbrev pub StopsForRecording : {R : Type 0} → Said → (before after : Stream R) → List (ℕ × History) → Stop → Type 0
-StopsForRecording said before after books stop.Recording = FailedToRecord said before after × (books ≡ [])
-StopsForRecording said before after books stop.Memory = IsFaultless before after
-StopsForRecording said before after books _ = ⊥
+abbrev pub StopsForRecording : {R : Type 0} → Script → (before after : Stream R) → List (ℕ × History) → Stop → Type 0
+StopsForRecording script before after books stop.Recording = FailedToRecord script before after × (books ≡ [])
+StopsForRecording script before after books stop.Memory = IsFaultless before after
+StopsForRecording script before after books _ = ⊥
 
 -- How the command came out, before a last line: it came to its end, or it stopped.
 abbrev pub ComesOutOfBoth : {T S K R : Type 0} → (before after : Outside S K R) → List (ℕ × History) → Result T Stop → Type 0
 ComesOutOfBoth before after books (Ok done) = PlayedToEnd before after books
 ComesOutOfBoth before after books (Err s) = StoppedPlaying before after books s
 
--- What the input has left can be told and is a script.
+-- What the input has left can be told and is a script whose lines are all played.
 abbrev pub GivesScript : Option (List ℕ) → Type 0
-GivesScript left = (text : List ℕ) × (said : Said) × (left ≡ Some text) × IsScript text said
+GivesScript left = (text : List ℕ) × (script : Script) × (left ≡ Some text) × (served_of text ≡ Ok script)
 
--- What the input has left can be told and has this first line outside the grammar.
-abbrev pub GivesBadLine : Option (List ℕ) → ℕ → Type 0
-GivesBadLine left number = (text : List ℕ) × (left ≡ Some text) × IsFirstBad text number
+-- What the input has left can be told, and this is its first line that is refused, and why.
+abbrev pub GivesBadLine : Option (List ℕ) → BadLine → Type 0
+GivesBadLine left bad = (text : List ℕ) × (left ≡ Some text) × (served_of text ≡ Err bad)
 
 -- The script was refused for a line, which the output says, and nothing was recorded.
 pub record RefusesScript {S K R : Type 0} (before after : Outside S K R) (books : List (ℕ × History)) : Type 0 where
-  pub number : ℕ
-  pub bad : ReadsBadLine before.input after.input number
-  pub says : EndsWith (stop.Line number) before.output after.output 1
+  pub bad : BadLine
+  pub reads : ReadsBadLine before.input after.input bad
+  pub says : EndsWith (stop.Line bad.line bad.why) before.output after.output 1
   pub unrecorded : after.recording ≡ before.recording
   pub unstored : books ≡ []
 
@@ -108,6 +117,6 @@ pub record IsEndOfBoth {S K R : Type 0} (before after : Outside S K R) (books : 
   -- 6: memory ran out before any fault
   pub starved : status ≡ 6 → AreFaultless before after
   -- A bad line is refused, unless a read fails or memory runs out.
-  pub refuses : (number : ℕ) → GivesBadLine before.input.bytes number → (status ≡ 1) ⊎ ((status ≡ 2) ⊎ (status ≡ 6))
+  pub refuses : (bad : BadLine) → GivesBadLine before.input.bytes bad → (status ≡ 1) ⊎ ((status ≡ 2) ⊎ (status ≡ 6))
   -- A script comes to its end, unless a read or a write fails or memory runs out. It is never refused.
   pub completes : GivesScript before.input.bytes → (status ≡ 0) ⊎ ((status ≡ 2) ⊎ ((status ≡ 3) ⊎ (status ≡ 6)))

@@ -7,6 +7,8 @@ use Rattle.rd_chunk.specs.declared.fault.ChunkWhy.TheVariants as chunk
 use Rattle.rd_decode.specs.declared.fault.Fault.{Fault}
 use Rattle.rd_decode.specs.declared.fault.FaultWhy.{FaultWhy}
 use Rattle.rd_decode.specs.declared.fault.FaultWhy.TheVariants as fault
+use Rattle.rd_script.specs.declared.why.LineWhy.{LineWhy}
+use Rattle.rd_script.specs.declared.why.LineWhy.TheVariants as why
 use Rattle.rd_cli.specs.Outside.{FailedToWrite, Stream, Wrote}
 use Rattle.rd_cli.specs.declared.stop.Stop.{Stop}
 use Rattle.rd_cli.specs.declared.stop.Stop.TheVariants as stop
@@ -14,7 +16,7 @@ use Rattle.rd_cli.specs.declared.stop.Stop.TheVariants as stop
 -- the exit status of each cause
 abbrev pub status_of : Stop → ℕ
 status_of stop.Words = 1
-status_of (stop.Line number) = 1
+status_of (stop.Line line cause) = 1
 status_of stop.Input = 2
 status_of stop.Output = 3
 status_of stop.Recording = 3
@@ -54,6 +56,20 @@ why_word fault.Stray = codes "Stray"
 abbrev pub fault_line : Fault → List ℕ
 fault_line f = codes "fault at " ++ decimal f.at ++ codes " " ++ why_word f.why ++ codes "\n"
 
+-- the word for what is wrong with a line of a script
+abbrev pub line_word : LineWhy → List ℕ
+line_word why.Words = codes "words"
+line_word why.Number = codes "number"
+line_word why.Name = codes "name"
+line_word why.Path = codes "path"
+line_word why.Hex = codes "hex"
+line_word why.Device = codes "device"
+line_word why.Many = codes "many"
+
+-- the line for a refused line of a script
+abbrev pub refused_line : ℕ → LineWhy → List ℕ
+refused_line line cause = codes "line " ++ decimal line ++ codes " " ++ line_word cause ++ codes "\n"
+
 -- the line for a recording past the limit
 abbrev pub long_line : List ℕ
 long_line = codes "long\n"
@@ -61,7 +77,7 @@ long_line = codes "long\n"
 -- what the output says of a stop, if anything
 abbrev pub last_line : Stop → Option (List ℕ)
 last_line stop.Words = Some (codes "bad words\n")
-last_line (stop.Line number) = Some (codes "line " ++ decimal number ++ codes " words\n")
+last_line (stop.Line line cause) = Some (refused_line line cause)
 last_line (stop.Fault fault) = Some (fault_line fault)
 last_line stop.Long = Some long_line
 last_line _ = None

@@ -2,12 +2,13 @@
 
 ghost use Rattle.std.specs.Prelude.{◌≡◌, IfOk, IsErr, IsSome, option_map, string_bytes};
 ghost use Rattle.rd_cli.specs.Outside.{stream};
-ghost use Rattle.rd_cli.specs.Stops.{EndsWith, chunk_word, fault_line, field_word, last_line, why_word};
+ghost use Rattle.rd_cli.specs.Stops.{EndsWith, chunk_word, fault_line, field_word, last_line, line_word, refused_line, why_word};
 
 use crate::stop::Stop;
 use rd_base::{Sink, Why, write_all};
 use rd_chunk::ChunkWhy;
 use rd_decode::{Fault, FaultWhy};
+use rd_script::LineWhy;
 use std::alloc::{AllocError, Global};
 
 /// Says what ended a command, where that has a line, and returns the status. A failure to say it changes nothing.
@@ -31,10 +32,33 @@ fn last_line(alloc: Global, stop: &Stop) -> Result<Option<String>, AllocError>
 {
     match stop {
         Stop::Words => Ok(Some(String::from_str(alloc, "bad words\n")?)),
-        Stop::Line(number) => Ok(Some(format!(in alloc; "line {number} words\n")?)),
+        Stop::Line { line, why } => Ok(Some(refused_line(alloc, *line, *why)?)),
         Stop::Fault(fault) => Ok(Some(fault_line(alloc, *fault)?)),
         Stop::Long => Ok(Some(String::from_str(alloc, "long\n")?)),
         Stop::Input | Stop::Output | Stop::Recording | Stop::Memory => Ok(None),
+    }
+}
+
+/// The line for a refused line of a script.
+fn refused_line(alloc: Global, line: u32, why: LineWhy) -> Result<String, AllocError>
+    ensures { IfOk result (λ text. string_bytes text ≡ refused_line line why) }
+{
+    let word = line_word(why);
+    format!(in alloc; "line {line} {word}\n")
+}
+
+/// The word for what is wrong with a line of a script.
+fn line_word(why: LineWhy) -> &'static str
+    ensures { result.now ≡ line_word why }
+{
+    match why {
+        LineWhy::Words => "words",
+        LineWhy::Number => "number",
+        LineWhy::Name => "name",
+        LineWhy::Path => "path",
+        LineWhy::Hex => "hex",
+        LineWhy::Device => "device",
+        LineWhy::Many => "many",
     }
 }
 

@@ -10,6 +10,7 @@
 mod both;
 mod decoding;
 mod ending;
+mod forms;
 mod input;
 mod notes;
 mod stop;

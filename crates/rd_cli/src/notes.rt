@@ -1,9 +1,11 @@
 //! What the notes say to a person: how the command is used, and what is wrong with a line. No contract speaks of it, and where it can't
 //! be said it is left out.
 
+use crate::forms::{FORMS, meaning, word_at};
 use rd_base::{Sink, write_all};
-use rd_script::FORMS;
+use rd_script::{BadWord, LineWhy, Mode, bad_word};
 use std::alloc::{AllocError, Global};
+use std::slice::EscapeAscii;
 
 /// How many bytes of a refused line are shown.
 const SHOWN: usize = 64;
@@ -21,30 +23,96 @@ pub fn note_usage<N: Sink>(notes: &mut N) {
     let _ = write_all(notes, USAGE.as_bytes());
 }
 
-/// Says what the line with this number, counted from 1, is, and which lines begin with its first word.
+/// Says what is wrong with the line with this number, counted from 1: which of its words, and what is expected there.
 pub fn note_line<N: Sink>(alloc: Global, notes: &mut N, text: &[u8], number: u32) {
-    let line = text
-        .split(|byte| *byte == b'\n')
-        .nth((number as usize).saturating_sub(1));
-    if let Ok(note) = line_note(alloc, line.unwrap_or_default(), number) {
+    if let Ok(note) = line_note(alloc, text, number) {
         let _ = write_all(notes, note.as_bytes());
     }
 }
 
-fn line_note(alloc: Global, line: &[u8], number: u32) -> Result<String, AllocError> {
-    let shown = line.get(..SHOWN).unwrap_or(line).escape_ascii();
-    let cut = if line.len() > SHOWN { ".." } else { "" };
-    let mut note = format!(in alloc; "rdr: line {number} can't stand here: {shown}{cut}\n")?;
-    let first = line.split(|byte| *byte == b' ').next().unwrap_or_default();
-    let mut known = false;
-    for form in FORMS {
-        if form.as_bytes().split(|byte| *byte == b' ').next() == Some(first) {
-            writeln!(note, "rdr: lines that begin so: {form}")?;
-            known = true;
-        }
+fn line_note(alloc: Global, text: &[u8], number: u32) -> Result<String, AllocError> {
+    match bad_word(alloc, Mode::Both, text) {
+        Some(bad) if bad.line == number => bad_line_note(alloc, bad),
+        _ => unplayed_note(alloc, text, number),
     }
-    if !known {
-        note.push_str("rdr: no line begins with that word; docs/SCRIPT.md has all lines\n")?;
+}
+
+/// A line that is in the grammar, but isn't played.
+fn unplayed_note(alloc: Global, text: &[u8], number: u32) -> Result<String, AllocError> {
+    let line = text
+        .split(|byte| *byte == b'\n')
+        .nth((number as usize).saturating_sub(1))
+        .unwrap_or_default();
+    let (shown, cut) = shown(line);
+    format!(in alloc;
+        "rdr: line {number} isn't played yet: {shown}{cut}\nrdr: docs/SCRIPT.md says which lines are\n"
+    )
+}
+
+/// A line that is outside the grammar.
+fn bad_line_note(alloc: Global, bad: BadWord<'_>) -> Result<String, AllocError> {
+    let number = bad.line;
+    let (line, cut) = shown(bad.text);
+    let mut note = format!(in alloc; "rdr: line {number}: {line}{cut}\n")?;
+    match bad.text.split(|byte| *byte == b' ').nth(bad.place) {
+        Some(word) => {
+            let (word, cut) = shown(word);
+            writeln!(note, "rdr: {word}{cut} can't stand there")?;
+        }
+        None => writeln!(note, "rdr: a word is missing")?,
+    }
+    if let Some(said) = reason(bad.why) {
+        writeln!(note, "rdr: {said}")?;
+    }
+    match bad.why {
+        LineWhy::Many => {}
+        LineWhy::Words if bad.place == 0 => {
+            note.push_str("rdr: no line begins with that word; docs/SCRIPT.md has all lines\n")?;
+        }
+        _ if bad.place == 0 => {
+            note.push_str(
+                "rdr: a line that begins with a digit begins with an application, from 1 to 64\n",
+            )?;
+        }
+        _ => put_expected(&mut note, &bad)?,
     }
     Ok(note)
+}
+
+/// What a reason doesn't say of itself.
+fn reason(why: LineWhy) -> Option<&'static str> {
+    match why {
+        LineWhy::Device => Some(
+            "a device is declared once, before the lines that name it, and a printer has no files",
+        ),
+        LineWhy::Path => Some("nothing else stands at a path, and its folder is made before it"),
+        LineWhy::Many => Some("a limit is passed there: docs/SCRIPT.md has them"),
+        LineWhy::Words | LineWhy::Number | LineWhy::Name | LineWhy::Hex => None,
+    }
+}
+
+/// Says what each form that begins like the line has where it is wrong.
+fn put_expected(note: &mut String, bad: &BadWord<'_>) -> Result<(), AllocError> {
+    let mut ends = true;
+    for form in FORMS {
+        if let Some(word) = word_at(form, bad.text, bad.place) {
+            ends = false;
+            match meaning(word) {
+                Some(said) => writeln!(note, "rdr: expected {word} of: {form} ({said})")?,
+                None => writeln!(note, "rdr: expected {word} of: {form}")?,
+            }
+        }
+    }
+    if ends {
+        note.push_str("rdr: expected no further word\n")?;
+    }
+    Ok(())
+}
+
+/// Bytes as they can be shown, and what stands behind them where they were cut.
+fn shown(bytes: &[u8]) -> (EscapeAscii<'_>, &'static str) {
+    match bytes.get(..SHOWN) {
+        Some(front) => (front.escape_ascii(), ".."),
+        None => (bytes.escape_ascii(), ""),
+    }
 }

@@ -4,14 +4,15 @@ ghost use Rattle.std.specs.Prelude.{◌≡◌};
 ghost use Rattle.rd_cli.specs.declared.stop.Stop.TheVariants as stop;
 
 use rd_decode::Fault;
+use rd_script::LineWhy;
 use std::alloc::{AllocError, AllocFailed};
 
 #[derive(Debug, Drop)]
 pub enum Stop {
     /// The words are no command.
     Words,
-    /// This line of the script, counted from 1, is the first outside the grammar.
-    Line(u32),
+    /// This line of the script, counted from 1, is the first that is refused.
+    Line { line: u32, why: LineWhy },
     /// A read of the input failed.
     Input,
     /// A write to the output failed.
@@ -33,7 +34,7 @@ impl Stop {
         ensures { result ≡ status_of self.now }
     {
         match self {
-            Stop::Words | Stop::Line(_) => 1,
+            Stop::Words | Stop::Line { .. } => 1,
             Stop::Input => 2,
             Stop::Output | Stop::Recording => 3,
             Stop::Fault(_) => 4,

@@ -23,7 +23,7 @@ use std::alloc::Global;
 /// | status | comes where |
 /// |---|---|
 /// | 0 | the script was played to its end; the input is a recording |
-/// | 1 | the words are no command (`bad words` on `output`), or a line of the script is outside the grammar (`line N words`) |
+/// | 1 | the words are no command (`bad words` on `output`), or a line of the script is refused (`line N WHY`) |
 /// | 2 | a read of the input failed |
 /// | 3 | a write to the output or the recording failed |
 /// | 4 | what should be a recording has a fault (`fault at A WHY`) |

@@ -7,7 +7,7 @@ use Rattle.std.proofs.lemmas.List.{append-nil, take-map}
 use Rattle.std.proofs.lemmas.List.Folds.{list_all-map}
 use Rattle.rd_dirinfo.specs.declared.naming.Naming.{Naming}
 use Rattle.rd_dirinfo.specs.Naming.{Name, seen}
-use Rattle.rd_dirinfo.specs.Paths.{Names, seen_path, parent, is_parent, is_prefix, is_same_path, IsSamePath}
+use Rattle.rd_dirinfo.specs.Paths.{Names, last_name, seen_path, parent, is_parent, is_prefix, is_same_path, IsSamePath}
 use Rattle.rd_tree.specs.Places.{Place, Places, place, own_path, first_at, node_at, has_child, is_folder, is_folder_at, IsWhole}
 use Rattle.rd_tree.proofs.PlaceLemmas.{parent_of}
 use Rattle.rd_tree.proofs.WayLemmas.{same_true, true_same}
@@ -48,6 +48,11 @@ parent_more y z zs = ap (λ k. take k (y ∷ z ∷ zs)) (longer (length (z ∷ z
   where
     longer : (k n : ℕ) → n ≡ k + 1 → 1 ≤ k → n - 1 ≡ suc (k - 1)
     longer k n e h = omega arith
+
+-- a path that isn't the root's is its parent's and the last name
+pub path_joined : (y : Name) (ys : Names) → parent (y ∷ ys) ++ last_name (y ∷ ys) ∷ [] ≡ y ∷ ys
+path_joined y [] = refl
+path_joined y (z ∷ zs) = ap (λ (p : Names). p ++ last_name (z ∷ zs) ∷ []) (parent_more y z zs) ∙ ap (◌∷◌ y) (path_joined z zs)
 
 and_true : (b : Bool) → (b && true) ≡ b
 and_true true = refl

@@ -1,4 +1,5 @@
--- The path that a new node gets: it is within the limits where the asked one is, and nothing else is at it.
+-- The path that a new node gets: it is the asked one as the naming sees it, and nothing else is at it; and that the drive sees paths as its tree
+-- does.
 use Rattle.std.proofs.Common.{◌≡◌, ◌∙◌, refl, sym, ap, subst, ℕ, ◌+◌, ◌-◌, ◌==◌, Bool, true, false, ◌&&◌, [], ◌∷◌, ◌++◌, take, length, Option, Some, None, find, sum_by, arith}
 use Rattle.std.specs.Prelude.{nat_le}
 use Rattle.std.specs.List.{list_any}
@@ -16,8 +17,7 @@ use Rattle.rd_drive.specs.declared.store.Store.{Store}
 use Rattle.rd_drive.specs.DriveState as drive
 use Rattle.rd_drive.specs.DriveState.{Node, is_at_path}
 use Rattle.rd_drive.specs.Store.{state_of, node_with, nodes_of, drive_of, IsSound}
-use Rattle.rd_drive.proofs.AboveLemmas.{both_true, node_same, seen_count, some_child}
-use Rattle.rd_drive.proofs.CloseLemmas.{path_joined}
+use Rattle.rd_drive.proofs.AboveLemmas.{both_true, node_same, path_joined, seen_count, some_child}
 use Rattle.rd_drive.proofs.GrownLemmas.{grown_here, grown_other}
 use Rattle.rd_drive.proofs.KeptLemmas.{lived}
 use Rattle.rd_drive.proofs.LockLemmas.{equal_numbers}
@@ -37,8 +37,8 @@ same_limits naming p q same =
     let units : sum_by (λ (name : Name). length name) p ≡ sum_by (λ (name : Name). length name) q = sym (sum_seen naming p) ∙ ap (sum_by (λ (name : Name). length name)) same ∙ sum_seen naming q in
     λ i. nat_le (count i) most_names && nat_le (units i + (count i - 1)) most_path_units
 
-seen_more : (naming : Naming) (p : Names) (x : Name) → seen_path naming (p ++ x ∷ []) ≡ seen_path naming p ++ seen naming x ∷ []
-seen_more naming p x = map-append (seen naming) p (x ∷ [])
+pub seen_joined : (naming : Naming) (p q : Names) → seen_path naming (p ++ q) ≡ seen_path naming p ++ seen_path naming q
+seen_joined naming p q = map-append (seen naming) p q
 
 module _ (tree : Places) (whole : IsWhole tree) where
   kept_same : (p : Names) → IsSamePath tree.naming (places.kept_path tree p) p
@@ -56,9 +56,9 @@ module _ (tree : Places) (whole : IsWhole tree) where
   -- it is the asked one, as the naming sees it
   pub asked_same : (y : Name) (ys : Names) → IsSamePath tree.naming (places.asked_path tree (y ∷ ys)) (y ∷ ys)
   asked_same y ys =
-      seen_more tree.naming (places.kept_path tree (parent (y ∷ ys))) (last_name (y ∷ ys))
+      seen_joined tree.naming (places.kept_path tree (parent (y ∷ ys))) (last_name (y ∷ ys) ∷ [])
       ∙ ap (λ (q : Names). q ++ seen tree.naming (last_name (y ∷ ys)) ∷ []) (kept_same (parent (y ∷ ys)))
-      ∙ sym (seen_more tree.naming (parent (y ∷ ys)) (last_name (y ∷ ys)))
+      ∙ sym (seen_joined tree.naming (parent (y ∷ ys)) (last_name (y ∷ ys) ∷ []))
       ∙ ap (seen_path tree.naming) (path_joined y ys)
 
   pub asked_fits : (y : Name) (ys : Names) → is_within_limits (y ∷ ys) ≡ true → is_within_limits (places.asked_path tree (y ∷ ys)) ≡ true

@@ -33,7 +33,7 @@ use Rattle.rd_drive.specs.Uses.{uses_of}
 use Rattle.rd_drive.specs.UseCounts.{more}
 use Rattle.rd_drive.specs.Kept.{IsKept}
 use Rattle.rd_drive.specs.Store.{States, Handles, state_of, node_with, handle_of, drive_of, kept_handle, uses_on, IsSound, Serves}
-use Rattle.rd_drive.proofs.AboveLemmas.{child_folder, children_seen, parent_more}
+use Rattle.rd_drive.proofs.AboveLemmas.{child_folder, children_seen, parent_more, path_joined}
 use Rattle.rd_drive.proofs.CheckLemmas.{one_true, one_false}
 use Rattle.rd_drive.proofs.ClosedLemmas.{gone_drive, gone_sound, left_drive, left_sound, own_other, place_other, without_it}
 use Rattle.rd_drive.proofs.HandleLemmas.{on_open}
@@ -41,11 +41,6 @@ use Rattle.rd_drive.proofs.HandlesLemmas.{all_kept, kept_fewer, open_counted, re
 use Rattle.rd_drive.proofs.LockLemmas.{equal_numbers, same_number}
 use Rattle.rd_drive.proofs.StoreLemmas.{own_is}
 use Rattle.rd_drive.proofs.UsesLemmas.{any_handle, on_removed, use_by}
-
--- a path that isn't the root's is its parent's and the last name
-pub path_joined : (y : Name) (ys : Names) → parent (y ∷ ys) ++ last_name (y ∷ ys) ∷ [] ≡ y ∷ ys
-path_joined y [] = refl
-path_joined y (z ∷ zs) = ap (λ (p : Names). p ++ last_name (z ∷ zs) ∷ []) (parent_more y z zs) ∙ ap (◌∷◌ y) (path_joined z zs)
 
 -- the parent of such a path is another
 pub parent_apart : (y : Name) (ys : Names) → parent (y ∷ ys) ≡ y ∷ ys → ⊥

@@ -12,7 +12,8 @@ use Rattle.rd_drive.specs.declared.step.End.{End}
 use Rattle.rd_drive.specs.DriveState.{DriveState, Waiting, Wish, Ranges, Notice}
 use Rattle.rd_drive.specs.Outcome.{Change, News, Outcome, done, fault, no_news, refused}
 use Rattle.rd_drive.specs.DriveStep.{outcome_of, step_of, drive_step}
-use Rattle.rd_drive.specs.Waiting.{Settled, settled, settles}
+use Rattle.rd_drive.specs.Stepped.{Settled}
+use Rattle.rd_drive.specs.Waiting.{settled, settles}
 use Rattle.rd_drive.specs.Device.{AreEnded, IsAnswerTo, Parked, Parks, is_starved}
 use Rattle.rd_drive.specs.Answered.{drive_parked, parked_of, IsAnswered, IsAnsweredBy, IsFitting}
 use Rattle.rd_drive.proofs.EndLemmas.{settled_ends}
@@ -20,12 +21,12 @@ use Rattle.rd_drive.proofs.OperationLemmas.{outcome_answered}
 
 -- ---- nothing to tell
 
-abbrev waited : DriveState → List Waiting → Settled
+abbrev waited : DriveState → List Waiting → Settled DriveState
 waited s ws = record { state = record s { waiting = ws }; ends = [] }
 
 quiet_from : (s : DriveState) (done : List Waiting) (ws : List Waiting) → fold (settles no_news) (waited s done) ws ≡ waited s (done ++ ws)
 quiet_from s done [] = ap (waited s) (sym (append-nil done))
-quiet_from s done (w ∷ ws) = ap (λ (x : Settled). fold (settles no_news) x ws) (waits w.wish) ∙ quiet_from s (done ++ w ∷ []) ws ∙ ap (waited s) (append_assoc done (w ∷ []) ws)
+quiet_from s done (w ∷ ws) = ap (λ (x : Settled DriveState). fold (settles no_news) x ws) (waits w.wish) ∙ quiet_from s (done ++ w ∷ []) ws ∙ ap (waited s) (append_assoc done (w ∷ []) ws)
   where
     waits : (wish : Wish) → settles no_news (waited s done) (record { key = w.key; file = w.file; wish = wish }) ≡ waited s (done ++ record { key = w.key; file = w.file; wish = wish } ∷ [])
     waits (Ranges exclusive ranges) = refl
@@ -75,7 +76,7 @@ module _ (old : DriveState) (fitting : IsFitting old) (job : Job) (moment : ℕ)
         answers = answer.0;
         parks = record {
           left = drive_parked new;
-          ended = subst (λ (x : Settled). AreEnded (drive_parked old) x.ends (drive_parked x.state)) settles
+          ended = subst (λ (x : Settled DriveState). AreEnded (drive_parked old) x.ends (drive_parked x.state)) settles
               (subst (λ (ws : List Waiting). AreEnded (map parked_of ws) (settled middle news).ends (drive_parked (settled middle news).state)) answer.2 (settled_ends news fits middle));
           waits = sym (append-nil (drive_parked new));
           few = few_parked new few;
@@ -89,7 +90,7 @@ module _ (old : DriveState) (fitting : IsFitting old) (job : Job) (moment : ℕ)
       record {
         fed = refl;
         runs = stepped new new no_news step.Parked is [] (settled_quiet new);
-        answers = tt;
+        answers = answer.3;
         parks = record {
           left = drive_parked old;
           ended = none_ended (drive_parked old);

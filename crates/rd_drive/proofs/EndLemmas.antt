@@ -10,7 +10,8 @@ use Rattle.rd_drive.specs.declared.step.End.{End}
 use Rattle.rd_drive.specs.DriveState.{DriveState, Waiting, Wish, Ranges, Notice, open_path}
 use Rattle.rd_drive.specs.Outcome.{Change, News, done}
 use Rattle.rd_drive.specs.Locking.{locks_on, wanted_locks, conflicts, with_locks}
-use Rattle.rd_drive.specs.Waiting.{Settled, change_bytes, closing_reply, ends_with, is_closed, is_told, is_tried, settled, settles, settles_open, waits_on}
+use Rattle.rd_drive.specs.Stepped.{Settled}
+use Rattle.rd_drive.specs.Waiting.{change_bytes, closing_reply, ends_with, is_closed, is_told, is_tried, settled, settles, settles_open, waits_on}
 use Rattle.rd_drive.specs.Device.{AreEnded, Completes, IsEndOf}
 use Rattle.rd_drive.specs.Answered.{drive_parked, parked_of, wish_kind}
 use Rattle.rd_drive.proofs.AnswerLemmas.{found_has}
@@ -18,7 +19,7 @@ use Rattle.rd_drive.proofs.LengthLemmas.{can_count, change_length}
 
 module _ (news : News) (fitting : AllByRecursion (λ (c : Change). is_within_limits c.path ≡ true) news.changes) where
   -- one request ends, or waits on
-  Goes : Settled → Waiting → Settled → Type 0
+  Goes : Settled DriveState → Waiting → Settled DriveState → Type 0
   Goes old w new =
       ((ended : End) × (new.ends ≡ old.ends ++ ended ∷ []) × IsEndOf (parked_of w) ended × ((new.state).waiting ≡ (old.state).waiting))
       ⊎ ((new.ends ≡ old.ends) × ((new.state).waiting ≡ (old.state).waiting ++ w ∷ []))
@@ -27,7 +28,7 @@ module _ (news : News) (fitting : AllByRecursion (λ (c : Change). is_within_lim
   closes (Ranges exclusive ranges) = ((refl, tt), tt)
   closes (Notice deep filter) = ((refl, tt), tt)
 
-  goes : (old : Settled) (w : Waiting) → Goes old w (settles news old w)
+  goes : (old : Settled DriveState) (w : Waiting) → Goes old w (settles news old w)
   unfolding Goes
   goes old w = by (is_closed news w)
     where
@@ -57,11 +58,11 @@ module _ (news : News) (fitting : AllByRecursion (λ (c : Change). is_within_lim
       by false = open_goes w.wish
 
   -- all of them, one after the other
-  Ended : List Waiting → Settled → Settled → Type 0
+  Ended : List Waiting → Settled DriveState → Settled DriveState → Type 0
   Ended ws old new =
       (ends : List End) × (left : List Waiting) × (new.ends ≡ old.ends ++ ends) × ((new.state).waiting ≡ (old.state).waiting ++ left) × AreEnded (map parked_of ws) ends (map parked_of left)
 
-  all_go : (ws : List Waiting) (old : Settled) → Ended ws old (fold (settles news) old ws)
+  all_go : (ws : List Waiting) (old : Settled DriveState) → Ended ws old (fold (settles news) old ws)
   unfolding Goes Ended
   all_go [] old = ([], [], sym (append-nil old.ends), sym (append-nil (old.state).waiting), (refl, refl))
   all_go (w ∷ ws) old = by (goes old w) (all_go ws (settles news old w))

@@ -54,3 +54,4 @@ pub mod RespelledLemmas
 pub mod ReplacedLemmas
 pub mod ProtectedLemmas
 pub mod PathedLemmas
+pub mod TurnLemmas

@@ -1,5 +1,6 @@
 -- Each operation is answered by a reply of its layout, or its request waits.
-use Rattle.std.proofs.Common.{◌≡◌, refl, ℕ, ◌≤◌, ◌==◌, Bool, true, false, List, [], drop, length, length-take, Option, Some, None, min, if◌then◌else◌, arith}
+use Rattle.std.proofs.Common.{◌≡◌, refl, sym, subst, ℕ, ◌+◌, ◌≤◌, ◌==◌, ◌&&◌, ◌||◌, Bool, true, false, not, List, [], ◌∷◌, drop, length, length-take, Option, Some, None, min, if◌then◌else◌, arith}
+use Rattle.std.specs.Prelude.{nat_lt}
 use Rattle.std.proofs.Math.Nat.{min-le_left, min-le_right}
 use Rattle.rd_base.specs.declared.journal.Key.{Key}
 use Rattle.rd_irp.specs.declared.op.Op.{Op}
@@ -20,22 +21,23 @@ use Rattle.rd_fileinfo.specs.declared.set_info.SetInfo.{SetInfo}
 use Rattle.rd_fileinfo.specs.declared.set_info.SetInfo.TheVariants as set
 use Rattle.rd_dirinfo.specs.Paths.{Names, path_of, is_within_limits}
 use Rattle.rd_drive.specs.declared.asked.Asked.{Asked}
-use Rattle.rd_drive.specs.DriveState.{DriveState, Handle, Node, node_at, asked_path, bytes_of}
+use Rattle.rd_drive.specs.DriveState.{DriveState, Handle, Lock, Node, Ranges, max_locks, node_at, asked_path, bytes_of}
 use Rattle.rd_base.specs.declared.status.Status.{Status}
-use Rattle.rd_drive.specs.Outcome.{News, fault, no_news, refused, succeeded}
+use Rattle.rd_drive.specs.Outcome.{News, checked, fault, no_news, one_of, refused, succeeded}
 use Rattle.rd_drive.specs.Create.{create, open_or_make}
 use Rattle.rd_drive.specs.Close.{close}
 use Rattle.rd_drive.specs.ReadWrite.{read, write, max_read}
 use Rattle.rd_drive.specs.SetFile.{set_file, checks_by_class, set_checks, set_info_of, sets, set_end}
 use Rattle.rd_drive.specs.SetVolume.{set_volume, label_of}
 use Rattle.rd_drive.specs.Rename.{rename_to, relocate, without_target}
-use Rattle.rd_drive.specs.Locking.{lock, without_locks}
+use Rattle.rd_drive.specs.Locking.{lock, conflicts, exclusive_lock, is_waiting_full, lock_count, locks_on, wanted_locks, waits, with_locks, without_locks}
 use Rattle.rd_drive.specs.Notify.{notify}
 use Rattle.rd_drive.specs.Query.{query_file, query_volume, node_info, drive_info}
 use Rattle.rd_drive.specs.QueryDir.{query_dir, lists, next_node, entry_of}
 use Rattle.rd_drive.specs.DriveStep.{outcome_of}
 use Rattle.rd_drive.specs.Statuses as status
 use Rattle.rd_drive.specs.Answered.{IsAnswered, IsFitting}
+use Rattle.rd_drive.proofs.CheckLemmas.{check_applies, one_false, one_true}
 use Rattle.rd_drive.proofs.AnswerLemmas.{Suits, SuitsAll, suits_fault, is_answered, is_done, after_checks, one_or_other, where_given, on_any_handle, lookup_has, found_has}
 use Rattle.rd_drive.proofs.LengthLemmas.{can_count, file_info_length, volume_info_length, entry_length, last_length}
 
@@ -150,18 +152,32 @@ module _ (s : DriveState) (key : Key) where
       after_checks s key o _ (bad status.invalid_device_request refl refl, (bad status.access_denied refl refl, (bad status.invalid_parameter refl refl, tt))) _
       (one_or_other s key o _ _ _
       (where_given s key o (without_locks file s.locks ranges) status.range_not_locked _ (bad status.range_not_locked refl refl) (λ locks e. is_done s key o _ _ _ tt tt tt refl))
-      (after_checks s key o _ (bad status.lock_not_granted refl refl, (bad status.insufficient_resources refl refl, (bad status.insufficient_resources refl refl, tt))) _
-      (one_or_other s key o _ _ _ (record { by = (_, refl, refl) }) (is_done s key o _ _ _ tt tt tt refl))))
+      (by wait refl (conflicts (locks_on s node.path) wanted) (conflicts [] wanted) (is_waiting_full s) (nat_lt max_locks (lock_count s + length ranges))))
     where
       o : Op
       o = op.Lock operation wait ranges
 
+      wanted : List Lock
+      wanted = wanted_locks file (operation == exclusive_lock) ranges
+
       bad : (st : Status) → (st.0 == 0) ≡ false → (st.0 == (status.no_memory).0) ≡ false → Suits s key o (fault st)
       bad st failed fed = suits_fault s key o st failed fed
 
+      -- what is in the way of locks that don't wait refuses them
+      by : (w : Bool) → wait ≡ w → (blocked own full past : Bool)
+          → IsAnswered s key o (checked s ((blocked && (not w || own), fault status.lock_not_granted) ∷ (blocked && full, fault status.insufficient_resources) ∷ (past, fault status.insufficient_resources) ∷ [])
+          (one_of blocked (waits s key file (Ranges (operation == exclusive_lock) ranges)) (succeeded (with_locks s wanted) body.Locked no_news)))
+      by false is true own full past = subst (IsAnswered s key o) (sym (check_applies s _ _ _ refl)) (is_answered s key o _ (bad status.lock_not_granted refl refl))
+      by w is false own full past =
+          after_checks s key o _ (bad status.lock_not_granted refl refl, (bad status.insufficient_resources refl refl, (bad status.insufficient_resources refl refl, tt))) _
+          (subst (IsAnswered s key o) (sym (one_false false _ _ refl)) (is_done s key o _ _ _ tt tt tt refl))
+      by true is true own full past =
+          after_checks s key o _ (bad status.lock_not_granted refl refl, (bad status.insufficient_resources refl refl, (bad status.insufficient_resources refl refl, tt))) _
+          (subst (IsAnswered s key o) (sym (one_true true _ _ refl)) (record { by = (_, refl, refl, is) }))
+
   pub notify_answered : (deep : Bool) (filter file : ℕ) (handle : Handle) (node : Node) → IsAnswered s key (op.Notify deep filter) (notify s key file deep filter handle node)
   notify_answered deep filter file handle node =
-      after_checks s key o _ (suits_fault s key o status.invalid_parameter refl refl, (suits_fault s key o status.insufficient_resources refl refl, tt)) _ (record { by = (_, refl, refl) })
+      after_checks s key o _ (suits_fault s key o status.invalid_parameter refl refl, (suits_fault s key o status.insufficient_resources refl refl, tt)) _ (record { by = (_, refl, refl, refl) })
     where
       o : Op
       o = op.Notify deep filter

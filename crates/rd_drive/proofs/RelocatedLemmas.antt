@@ -25,7 +25,7 @@ use Rattle.rd_drive.specs.Store.{state_of, node_of, drive_of, IsSound, Serves}
 use Rattle.rd_drive.proofs.MovedLemmas.{live_after, moved_fits}
 use Rattle.rd_drive.proofs.RefusalLemmas.{moves_as, refused_as, serves_no, shallow_at}
 use Rattle.rd_drive.proofs.RenameLemmas.{serves_moved}
-use Rattle.rd_drive.proofs.TargetLemmas.{asked_seen_at}
+use Rattle.rd_drive.proofs.AskedLemmas.{asked_seen}
 
 -- nothing goes
 pub cleared_none : (tree : Places) (n : ℕ) (to : Names) → node_at tree to ≡ None → cleared tree n to ≡ tree
@@ -74,6 +74,6 @@ module _ (s : Store) (sound : IsSound s) (whole : IsWhole s.tree) (node : NodeId
         serves_moved s sound whole order node live other to after (λ k _. same k) (free_lives n live) s.states (λ k _. refl) (λ file h found. free_lives h.node.0 (sound.opened file h found).0)
         (moved_fits s.tree whole n to after (λ k _. same k) some sound.fitting (shallow_at s.tree n to m.shallow))
         folder above (free_lives folder.0 above.live) old named_so moment new.states now count None [] tt refl comes_free
-        (m.served ∙ (λ i. succeeded (renamed (sym (drive_left s (cleared s.tree n to) (cleared_none s.tree n to free)) i) moment (own_node s n) (asked_seen_at s sound whole to i)) (Count count)
-        (changed (renamed_from (own_path s.tree n) (own_node s n) ∷ renamed_to (asked_seen_at s sound whole to i) (own_node s n) ∷ []))))
+        (m.served ∙ (λ i. succeeded (renamed (sym (drive_left s (cleared s.tree n to) (cleared_none s.tree n to free)) i) moment (own_node s n) (asked_seen s sound whole to i)) (Count count)
+        (changed (renamed_from (own_path s.tree n) (own_node s n) ∷ renamed_to (asked_seen s sound whole to i) (own_node s n) ∷ []))))
         new is returns told

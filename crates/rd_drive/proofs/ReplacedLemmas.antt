@@ -37,7 +37,8 @@ use Rattle.rd_drive.proofs.RefusalLemmas.{Moves, moves_as, refused_as, serves_no
 use Rattle.rd_drive.proofs.RenameLemmas.{serves_moved}
 use Rattle.rd_drive.proofs.ServesLemmas.{serves_no_memory}
 use Rattle.rd_drive.proofs.StoreLemmas.{all_listed, first_listed, some_inside}
-use Rattle.rd_drive.proofs.TargetLemmas.{asked_seen_at, below_alike, folder_at, joined_at, one_at, own_some, parent_below}
+use Rattle.rd_drive.proofs.AskedLemmas.{asked_seen}
+use Rattle.rd_drive.proofs.TargetLemmas.{below_alike, folder_at, joined_at, one_at, own_some, parent_below}
 
 equal : (a b : ℕ) → (a == b) ≡ true → a ≡ b
 equal a b e = grind (arith, nat_tests)
@@ -162,6 +163,6 @@ module _ (s : Store) (sound : IsSound s) (whole : IsWhole s.tree) (order : IsStr
             (λ file h found. stays h.node.0 (not_opened s sound whole order t there free file h found) (sound.opened file h found).0)
             (moved_fits s.tree whole n to after same some sound.fitting (shallow_at s.tree n to passes.shallow))
             folder above (folder_stays folder above.folds above.live) old named_so moment new.states now count (Some (going s.tree t place_of)) (removed (own_node s t) ∷ []) heard tells comes_over
-            (passes.served ∙ (λ i. succeeded (renamed (sym (drive_without s sound whole t x.0 x.1 (cleared s.tree n to) gone_alone) i) moment (own_node s n) (asked_seen_at s sound whole to i)) (Count count)
-            (changed (removed (own_node s t) ∷ renamed_from (own_path s.tree n) (own_node s n) ∷ renamed_to (asked_seen_at s sound whole to i) (own_node s n) ∷ []))))
+            (passes.served ∙ (λ i. succeeded (renamed (sym (drive_without s sound whole t x.0 x.1 (cleared s.tree n to) gone_alone) i) moment (own_node s n) (asked_seen s sound whole to i)) (Count count)
+            (changed (removed (own_node s t) ∷ renamed_from (own_path s.tree n) (own_node s n) ∷ renamed_to (asked_seen s sound whole to i) (own_node s n) ∷ []))))
             new is returns told_so

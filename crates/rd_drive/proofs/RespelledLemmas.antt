@@ -31,7 +31,7 @@ use Rattle.rd_drive.proofs.RelocatedLemmas.{drive_left}
 use Rattle.rd_drive.proofs.RenameLemmas.{serves_moved}
 use Rattle.rd_drive.proofs.ServesLemmas.{serves_no_memory, serves_quiet}
 use Rattle.rd_drive.proofs.StoreLemmas.{all_listed, first_listed}
-use Rattle.rd_drive.proofs.TargetLemmas.{alike_limits, asked_seen_at, seen_joined}
+use Rattle.rd_drive.proofs.AskedLemmas.{asked_seen, same_limits, seen_joined}
 
 same_number : (n : ℕ) → (n == n) ≡ true
 same_number n = grind (arith, nat_tests)
@@ -77,7 +77,7 @@ module _ (s : Store) (sound : IsSound s) (whole : IsWhole s.tree) (node : NodeId
     -- a path at or below the node is as long with its own path as it is asked
     shallow_own : (k : ℕ) → IsLive s.tree k → is_prefix s.tree.naming from (own_path s.tree k) ≡ true → is_within_limits (to ++ drop (length from) (own_path s.tree k)) ≡ true
     shallow_own k there below =
-        alike_limits s.tree.naming (to ++ drop (length from) (own_path s.tree k)) (own_path s.tree k)
+        same_limits s.tree.naming (to ++ drop (length from) (own_path s.tree k)) (own_path s.tree k)
         (seen_joined s.tree.naming to (drop (length from) (own_path s.tree k)) ∙ ap (λ (p : Names). p ++ seen_path s.tree.naming (drop (length from) (own_path s.tree k))) (sym own_alike) ∙ sym (prefix_split s.tree.naming from (own_path s.tree k) below))
         ∙ sound.fitting k there
 
@@ -91,6 +91,6 @@ module _ (s : Store) (sound : IsSound s) (whole : IsWhole s.tree) (node : NodeId
         (one_false (bytes_eq (last_name from) (last_name (asked_path (drive_of s) to))) (succeeded (drive_of s) (Count count) no_news)
         (succeeded (renamed (drive_of s) moment (own_node s n) (asked_path (drive_of s) to)) (Count count) (changed (renamed_from from (own_node s n) ∷ renamed_to (asked_path (drive_of s) to) (own_node s n) ∷ [])))
         (test_is old named_so ∙ differs)
-        ∙ (λ i. succeeded (renamed (sym (drive_left s (cleared s.tree n to) (cleared_own s.tree n to at)) i) moment (own_node s n) (asked_seen_at s sound whole to i)) (Count count)
-        (changed (renamed_from (own_path s.tree n) (own_node s n) ∷ renamed_to (asked_seen_at s sound whole to i) (own_node s n) ∷ []))))
+        ∙ (λ i. succeeded (renamed (sym (drive_left s (cleared s.tree n to) (cleared_own s.tree n to at)) i) moment (own_node s n) (asked_seen s sound whole to i)) (Count count)
+        (changed (renamed_from (own_path s.tree n) (own_node s n) ∷ renamed_to (asked_seen s sound whole to i) (own_node s n) ∷ []))))
         new is returns told

@@ -13,7 +13,8 @@ use Rattle.rd_drive.specs.declared.news.News as told_news
 use Rattle.rd_drive.specs.declared.store.Store.{Store}
 use Rattle.rd_drive.specs.DriveState.{DriveState}
 use Rattle.rd_drive.specs.Outcome.{Outcome, done, fault, no_news, refused}
-use Rattle.rd_drive.specs.DriveStep.{drive_step, outcome_of, starved_step}
+use Rattle.rd_drive.specs.Stepped.{starved_step}
+use Rattle.rd_drive.specs.DriveStep.{drive_step, outcome_of}
 use Rattle.rd_drive.specs.Waiting.{settled}
 use Rattle.rd_drive.specs.Statuses.{no_memory}
 use Rattle.rd_drive.specs.Device.{Parks}

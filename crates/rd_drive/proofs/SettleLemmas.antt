@@ -23,11 +23,12 @@ use Rattle.rd_drive.specs.declared.store.Store.{Store}
 use Rattle.rd_drive.specs.declared.news.News as told_news
 use Rattle.rd_drive.specs.declared.step.End.{End}
 use Rattle.rd_drive.specs.DriveState as drive
-use Rattle.rd_drive.specs.DriveState.{open_path}
+use Rattle.rd_drive.specs.DriveState.{DriveState, open_path}
 use Rattle.rd_drive.specs.Outcome as outcome
 use Rattle.rd_drive.specs.Outcome.{done}
 use Rattle.rd_drive.specs.Locking.{conflicts, locks_on, wanted_locks, with_locks}
-use Rattle.rd_drive.specs.Waiting.{Settled, change_bytes, closing_reply, ends_with, is_told, is_tried, settles, settles_open, waits_on}
+use Rattle.rd_drive.specs.Stepped.{Settled}
+use Rattle.rd_drive.specs.Waiting.{change_bytes, closing_reply, ends_with, is_told, is_tried, settles, settles_open, waits_on}
 use Rattle.rd_drive.specs.Settling.{is_closed_file, settled_from, settled_to, IsHalfway, Settles}
 use Rattle.rd_drive.specs.Telling.{tells}
 use Rattle.rd_drive.specs.Store.{changes_of, drive_of, kept_handle, lock_of, news_of, ranges_of, waiting_of, wish_of, HasRoom, IsSound}
@@ -82,7 +83,7 @@ module _ (s : Store) (news : told_news.News) (at : ℕ) (half : IsHalfway s news
     },
     λ ends.
         (λ i. fold (settles told) (record { state = record (drive_of s) { waiting = (ap (map waiting_of) before ∙ map-append waiting_of (take at ws) (w ∷ [])) i }; ends = ends }) (map waiting_of (drop (add-one at i) ws)))
-        ∙ ap (λ (t : Settled). fold (settles told) t (map waiting_of (drop (suc at) ws))) (sym (on ends))
+        ∙ ap (λ (t : Settled DriveState). fold (settles told) t (map waiting_of (drop (suc at) ws))) (sym (on ends))
         ∙ sym (goes ends),
   )
 
@@ -130,7 +131,7 @@ module _ (s : Store) (news : told_news.News) (at : ℕ) (half : IsHalfway s news
       fewer,
       λ ends.
           (λ i. fold (settles told) (record { state = record (drive_of s) { locks = map lock_of locks.locks; waiting = map waiting_of (after_before i) }; ends = ends ++ end ∷ [] }) (map waiting_of (after_behind i)))
-          ∙ ap (λ (t : Settled). fold (settles told) t (map waiting_of (drop (suc at) ws))) (sym (out ends))
+          ∙ ap (λ (t : Settled DriveState). fold (settles told) t (map waiting_of (drop (suc at) ws))) (sym (out ends))
           ∙ sym (goes ends),
     )
       where

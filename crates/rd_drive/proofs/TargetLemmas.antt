@@ -1,14 +1,11 @@
 -- The path that a renamed node gets: what is above it, how long it is, and that the drive sees it as its tree does.
-use Rattle.std.proofs.Common.{◌≡◌, ◌∙◌, refl, sym, ap, subst, ℕ, ◌+◌, ◌-◌, ◌<◌, ◌≤◌, ◌==◌, Bool, true, false, not, ◌&&◌, ◌||◌, nat_le, List, [], ◌∷◌, ◌++◌, map, length, take, drop, find, sum_by, Option, Some, None, arith, append_assoc, length-append}
+use Rattle.std.proofs.Common.{◌≡◌, ◌∙◌, refl, sym, ap, subst, ℕ, ◌+◌, ◌<◌, ◌≤◌, ◌==◌, Bool, true, false, not, ◌&&◌, ◌||◌, nat_le, List, [], ◌∷◌, ◌++◌, map, length, take, drop, find, Option, Some, None, arith, append_assoc, length-append}
 use Rattle.std.specs.List.{list_any}
 use Rattle.std.specs.Option.{option_map, option_map_or, option_and_then, unwrap_or, is_some}
-use Rattle.std.proofs.lemmas.List.{map-append}
-use Rattle.std.proofs.lemmas.List.Sums.{sum_by-cons}
 use Rattle.std.proofs.lemmas.Bool.Decides.{nat_tests}
 use Rattle.rd_dirinfo.specs.declared.naming.Naming.{Naming}
 use Rattle.rd_dirinfo.specs.Naming.{Name, seen}
-use Rattle.rd_dirinfo.specs.Paths.{Names, IsSamePath, is_below, is_prefix, is_same_path, is_within_limits, last_name, most_names, most_path_units, parent, seen_path}
-use Rattle.rd_dirinfo.proofs.NamingLemmas.{seen_length}
+use Rattle.rd_dirinfo.specs.Paths.{Names, IsSamePath, is_below, is_prefix, is_same_path, is_within_limits, last_name, parent, seen_path}
 use Rattle.rd_tree.specs.Places as places
 use Rattle.rd_tree.specs.Places.{Place, Places, place, path_at, own_path, node_at, IsLive, IsWhole}
 use Rattle.rd_tree.proofs.ParentLemmas.{both_true}
@@ -20,43 +17,22 @@ use Rattle.rd_drive.specs.DriveState.{Node, is_at_path}
 use Rattle.rd_drive.specs.Kept.{own_node}
 use Rattle.rd_drive.specs.Rename as renaming
 use Rattle.rd_drive.specs.Store.{state_of, node_of, node_with, nodes_of, drive_of, IsSound}
-use Rattle.rd_drive.proofs.AboveLemmas.{folder_seen, node_same, parent_more, seen_count}
+use Rattle.rd_drive.proofs.AboveLemmas.{folder_seen, node_same, path_joined, seen_count}
+use Rattle.rd_drive.proofs.AskedLemmas.{asked_same, node_seen, same_limits, seen_joined}
 use Rattle.rd_drive.proofs.KeptLemmas.{lived}
 use Rattle.rd_drive.proofs.LockLemmas.{alike}
 use Rattle.rd_drive.proofs.NodeLemmas.{place_here}
 use Rattle.rd_drive.proofs.OrderLemmas.{order_any}
-use Rattle.rd_drive.proofs.StoreLemmas.{all_listed, first_listed, node_at_seen, node_of_number, number_at_own, own_is}
+use Rattle.rd_drive.proofs.StoreLemmas.{node_of_number, number_at_own}
 
 -- ---- paths
 
--- a path that isn't the root's is its parent's and the last name
-joined_path : (y : Name) (ys : Names) → parent (y ∷ ys) ++ last_name (y ∷ ys) ∷ [] ≡ y ∷ ys
-joined_path y [] = refl
-joined_path y (z ∷ zs) = ap (λ (p : Names). p ++ last_name (z ∷ zs) ∷ []) (parent_more y z zs) ∙ ap (◌∷◌ y) (joined_path z zs)
-
 pub joined_at : (p : Names) → (p ≡ [] → ⊥) → parent p ++ last_name p ∷ [] ≡ p
 joined_at [] some = absurd (some refl)
-joined_at (y ∷ ys) some = joined_path y ys
+joined_at (y ∷ ys) some = path_joined y ys
 
 pub parent_shorter : (p : Names) → (p ≡ [] → ⊥) → length p ≡ length (parent p) + 1
 parent_shorter p some = ap (length {A = Name}) (sym (joined_at p some)) ∙ length-append (parent p) (last_name p ∷ [])
-
-sum_seen : (naming : Naming) (p : Names) → sum_by (λ (name : Name). length name) (seen_path naming p) ≡ sum_by (λ (name : Name). length name) p
-sum_seen naming [] = refl
-sum_seen naming (x ∷ p) =
-    sum_by-cons (λ (name : Name). length name) (seen naming x) (seen_path naming p)
-    ∙ (λ i. seen_length naming x i + sum_seen naming p i)
-    ∙ sym (sum_by-cons (λ (name : Name). length name) x p)
-
--- paths that are the same are as long
-pub alike_limits : (naming : Naming) (p q : Names) → IsSamePath naming p q → is_within_limits p ≡ is_within_limits q
-alike_limits naming p q same =
-    let count : length p ≡ length q = sym (seen_count naming p) ∙ ap (length {A = Name}) same ∙ seen_count naming q in
-    let units : sum_by (λ (name : Name). length name) p ≡ sum_by (λ (name : Name). length name) q = sym (sum_seen naming p) ∙ ap (sum_by (λ (name : Name). length name)) same ∙ sum_seen naming q in
-    λ i. nat_le (count i) most_names && nat_le (units i + (count i - 1)) most_path_units
-
-pub seen_joined : (naming : Naming) (p q : Names) → seen_path naming (p ++ q) ≡ seen_path naming p ++ seen_path naming q
-seen_joined naming p q = map-append (seen naming) p q
 
 -- what is below is it by the naming alone
 prefix_on : (naming : Naming) (from p q : Names) → IsSamePath naming p q → is_prefix naming from p ≡ true → is_prefix naming from q ≡ true
@@ -100,29 +76,14 @@ parent_above naming p some = bool_false (is_prefix naming p (parent p)) (λ t.
 -- a path that begins as another one, with that beginning replaced by one that is the same as a third
 pub carried_limits : (naming : Naming) (to asked rest : Names) → IsSamePath naming asked to → is_within_limits (asked ++ rest) ≡ is_within_limits (to ++ rest)
 carried_limits naming to asked rest same =
-    alike_limits naming (asked ++ rest) (to ++ rest) (seen_joined naming asked rest ∙ ap (λ (k : Names). k ++ seen_path naming rest) same ∙ sym (seen_joined naming to rest))
+    same_limits naming (asked ++ rest) (to ++ rest) (seen_joined naming asked rest ∙ ap (λ (k : Names). k ++ seen_path naming rest) same ∙ sym (seen_joined naming to rest))
 
 -- ---- the tree
 module _ (tree : Places) (whole : IsWhole tree) where
-  kept_alike : (p : Names) → IsSamePath tree.naming (places.kept_path tree p) p
-  kept_alike p = by (node_at tree p) refl
-    where
-      by : (o : Option ℕ) → node_at tree p ≡ o → IsSamePath tree.naming (unwrap_or (option_and_then (path_at tree) o) p) p
-      by None e = refl
-      by (Some n) e =
-          let there = first_listed tree whole p n tree.list (all_listed tree whole) e in
-          let x = lived tree n there.0 in
-          ap (λ (o : Option Place). seen_path tree.naming (unwrap_or (option_map (λ (q : Place). q.path) o) p)) x.1
-          ∙ ap (seen_path tree.naming) (sym (own_is tree whole n x.0 x.1))
-          ∙ true_same tree.naming (own_path tree n) p there.1
-
   -- the path that a node gets is the asked one, as the naming sees it
   pub asked_alike : (p : Names) → (p ≡ [] → ⊥) → IsSamePath tree.naming (places.asked_path tree p) p
-  asked_alike p some =
-      seen_joined tree.naming (places.kept_path tree (parent p)) (last_name p ∷ [])
-      ∙ ap (λ (q : Names). q ++ seen tree.naming (last_name p) ∷ []) (kept_alike (parent p))
-      ∙ sym (seen_joined tree.naming (parent p) (last_name p ∷ []))
-      ∙ ap (seen_path tree.naming) (joined_at p some)
+  asked_alike [] some = absurd (some refl)
+  asked_alike (y ∷ ys) some = asked_same tree whole y ys
 
   -- the number at a path is the only one whose path is the same
   pub only_at : (n : ℕ) → IsLive tree n → (p : Names) → is_same_path tree.naming (own_path tree n) p ≡ true → node_at tree p ≡ Some n
@@ -135,32 +96,14 @@ module _ (tree : Places) (whole : IsWhole tree) where
 
 -- ---- as callers see it
 module _ (s : Store) (sound : IsSound s) (whole : IsWhole s.tree) where
-  -- the node at a path
-  node_seen_at : (p : Names) → drive.node_at (drive_of s) p ≡ option_and_then (node_of_number s.tree whole s.states) (node_at s.tree p)
-  node_seen_at p = subst (λ naming. find (is_at_path naming p) (nodes_of s.tree s.states) ≡ option_and_then (node_of_number s.tree whole s.states) (node_at s.tree p)) sound.naming (node_at_seen s.tree whole s.states p)
-
   pub none_at : (p : Names) → node_at s.tree p ≡ None → drive.node_at (drive_of s) p ≡ None
-  none_at p e = node_seen_at p ∙ ap (option_and_then (node_of_number s.tree whole s.states)) e
+  none_at p e = node_seen s sound whole p ∙ ap (option_and_then (node_of_number s.tree whole s.states)) e
 
   pub one_at : (p : Names) (t : ℕ) → IsLive s.tree t → node_at s.tree p ≡ Some t → drive.node_at (drive_of s) p ≡ Some (own_node s t)
   one_at p t live e =
       let x = lived s.tree t live in
-      node_seen_at p ∙ ap (option_and_then (node_of_number s.tree whole s.states)) e ∙ ap (option_map (node_with (state_of s.states t))) x.1
+      node_seen s sound whole p ∙ ap (option_and_then (node_of_number s.tree whole s.states)) e ∙ ap (option_map (node_with (state_of s.states t))) x.1
       ∙ ap (λ (y : Place). Some (node_with (state_of s.states t) y)) (sym (place_here s.tree whole t x.0 x.1))
-
-  kept_seen_at : (p : Names) → drive.kept_path (drive_of s) p ≡ places.kept_path s.tree p
-  kept_seen_at p = ap (λ (o : Option Node). option_map_or (λ (node : Node). node.path) o p) (node_seen_at p) ∙ by (node_at s.tree p)
-    where
-      by : (o : Option ℕ) → option_map_or (λ (node : Node). node.path) (option_and_then (node_of_number s.tree whole s.states) o) p ≡ unwrap_or (option_and_then (path_at s.tree) o) p
-      by None = refl
-      by (Some n) = at (place s.tree n)
-        where
-          at : (o : Option Place) → option_map_or (λ (node : Node). node.path) (option_map (node_with (state_of s.states n)) o) p ≡ unwrap_or (option_map (λ (q : Place). q.path) o) p
-          at None = refl
-          at (Some x) = refl
-
-  pub asked_seen_at : (p : Names) → drive.asked_path (drive_of s) p ≡ places.asked_path s.tree p
-  asked_seen_at p = ap (λ (q : Names). q ++ last_name p ∷ []) (kept_seen_at (parent p))
 
   pub folder_at : (p : Names) → drive.is_folder_at (drive_of s) p ≡ places.is_folder_at s.tree p
   folder_at p = subst (λ naming. option_map_or drive.is_folder (find (is_at_path naming p) (nodes_of s.tree s.states)) false ≡ places.is_folder_at s.tree p) sound.naming (folder_seen s.tree whole s.states p)

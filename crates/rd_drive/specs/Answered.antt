@@ -1,5 +1,5 @@
 -- What a drive answers, whatever its state: a reply of the operation's layout, or the request waits.
-use Rattle.std.specs.Prelude.{◌≡◌, ℕ, ◌≤◌, Bool, true, false, if◌then◌else◌, List, [], ◌∷◌, ◌++◌, map, length}
+use Rattle.std.specs.Prelude.{◌≡◌, ℕ, ◌≤◌, Bool, true, false, List, [], ◌∷◌, ◌++◌, map, length}
 use Rattle.std.specs.List.{AllByRecursion}
 use Rattle.rd_base.specs.declared.journal.Key.{Key}
 use Rattle.rd_irp.specs.declared.op.Op.{Op}
@@ -14,8 +14,9 @@ use Rattle.rd_drive.specs.declared.step.Step.{Step}
 use Rattle.rd_drive.specs.declared.step.Step.TheVariants as step
 use Rattle.rd_drive.specs.DriveState.{DriveState, Node, Wish, Ranges, Notice, Waiting}
 use Rattle.rd_drive.specs.Outcome.{Outcome}
-use Rattle.rd_drive.specs.DriveStep.{Stepped, drive_cut, drive_step, starved_step}
-use Rattle.rd_drive.specs.Device.{IsAnswerTo, Parked, Parks, is_starved}
+use Rattle.rd_drive.specs.Stepped.{Stepped, ran_step}
+use Rattle.rd_drive.specs.DriveStep.{drive_cut, drive_step}
+use Rattle.rd_drive.specs.Device.{IsAnswerTo, Parked, Parks, is_starved, may_wait}
 
 -- the layout of the completion of a request with this wish
 abbrev pub wish_kind : Wish → Kind
@@ -35,18 +36,19 @@ pub record IsFitting (s : DriveState) : Type 0 where
   pub paths : AllByRecursion (λ (node : Node). is_within_limits node.path ≡ true) s.nodes
 
 -- A reply is of the operation's layout, and never says that no memory was found; then those that wait are as before. Otherwise the request waits
--- after them.
+-- after them, and is one that may.
 abbrev pub IsAnsweredBy : DriveState → Key → Op → Step → DriveState → Type 0
 IsAnsweredBy s key op (step.Reply reply) new = IsReplyTo op reply × (is_starved (step.Reply reply) ≡ false) × (new.waiting ≡ s.waiting)
-IsAnsweredBy s key op step.Parked new = (w : Waiting) × (parked_of w ≡ record { key = key; kind = kind_of op }) × (new.waiting ≡ s.waiting ++ w ∷ [])
+IsAnsweredBy s key op step.Parked new =
+    (w : Waiting) × (parked_of w ≡ record { key = key; kind = kind_of op }) × (new.waiting ≡ s.waiting ++ w ∷ []) × (may_wait op ≡ true)
 
 -- what an operation comes to is such an answer
 pub record IsAnswered (s : DriveState) (key : Key) (op : Op) (outcome : Outcome) : Type 0 where
   pub by : IsAnsweredBy s key op outcome.answer outcome.state
 
 -- what a job comes to at a moment, or nothing where no memory was found
-abbrev pub drive_ran : DriveState → Job → ℕ → Bool → Stepped
-drive_ran s job moment starved = if starved then starved_step s else drive_step s job.key job.file job.op moment
+abbrev pub drive_ran : DriveState → Job → ℕ → Bool → Stepped DriveState
+drive_ran s job moment starved = ran_step drive_step s job.key job.file job.op moment starved
 
 -- A drive runs a job: its state after it, the answer, and the ends of requests that waited are what the job comes to, or nothing came of it
 -- where it says that no memory was found.

@@ -1,7 +1,8 @@
 -- What a request does to those that wait in a device, whatever the device is.
-use Rattle.std.specs.Prelude.{◌≡◌, ◌≤◌, ◌==◌, ◌⊎◌, Bool, false, List, [], ◌∷◌, ◌++◌, length}
+use Rattle.std.specs.Prelude.{◌≡◌, ◌≤◌, ◌==◌, ◌⊎◌, Bool, true, false, List, [], ◌∷◌, ◌++◌, length}
 use Rattle.rd_base.specs.declared.journal.Key.{Key}
 use Rattle.rd_irp.specs.declared.op.Op.{Op}
+use Rattle.rd_irp.specs.declared.op.Op.TheVariants as op
 use Rattle.rd_irp.specs.declared.completion.Kind.{Kind}
 use Rattle.rd_irp.specs.declared.completion.Reply.{Reply}
 use Rattle.rd_irp.specs.Fits.{kind_of, BodyFits, IsReplyTo, IsSendable}
@@ -36,9 +37,15 @@ abbrev pub parked_by : Job → Step → List Parked
 parked_by job step.Parked = record { key = job.key; kind = kind_of job.op } ∷ []
 parked_by job (step.Reply reply) = []
 
--- an answer that is a reply is one to the operation
+-- whether an operation may wait: it asks to be told of a change (MS-RDPEFS 2.2.3.3.11), or for locks as soon as it can get them (2.2.3.3.12)
+abbrev pub may_wait : Op → Bool
+may_wait (op.Notify deep filter) = true
+may_wait (op.Lock operation wait ranges) = wait
+may_wait _ = false
+
+-- an answer that is a reply is one to the operation; only one that may wait is left waiting
 abbrev pub IsAnswerTo : Op → Step → Type 0
-IsAnswerTo op step.Parked = Unit {0}
+IsAnswerTo op step.Parked = may_wait op ≡ true
 IsAnswerTo op (step.Reply reply) = IsReplyTo op reply
 
 -- What a job does to the requests that wait: some end, and where it isn't answered it waits after the others. At most 64 wait.
@@ -52,3 +59,8 @@ pub record Parks (job : Job) (before : List Parked) (answer : Step) (ends : List
 abbrev pub is_starved : Step → Bool
 is_starved step.Parked = false
 is_starved (step.Reply reply) = reply.status.0 == no_memory.0
+
+-- whether an answer says that the request waits
+abbrev pub is_parked : Step → Bool
+is_parked step.Parked = true
+is_parked (step.Reply reply) = false

@@ -1,12 +1,10 @@
 -- What a drive does with a request (MS-RDPEFS 2.2.1.4, 2.2.1.5, 2.2.3.3, 2.2.3.4; the statuses and the order of the checks are this project's
 -- choice), and what is left when it is cut off.
-use Rattle.std.specs.Prelude.{ℕ, List, [], map, fold}
+use Rattle.std.specs.Prelude.{ℕ, [], map, fold}
 use Rattle.std.specs.Map.{keys_of}
 use Rattle.rd_base.specs.declared.journal.Key.{Key}
 use Rattle.rd_irp.specs.declared.op.Op.{Op}
 use Rattle.rd_irp.specs.declared.op.Op.TheVariants as op
-use Rattle.rd_drive.specs.declared.step.Step.{Step}
-use Rattle.rd_drive.specs.declared.step.Step.TheVariants as step
 use Rattle.rd_drive.specs.declared.step.End.{End}
 use Rattle.rd_drive.specs.DriveState.{DriveState, Waiting}
 use Rattle.rd_drive.specs.Outcome.{Outcome, fault, refused, on_handle}
@@ -19,15 +17,9 @@ use Rattle.rd_drive.specs.SetVolume.{set_volume}
 use Rattle.rd_drive.specs.QueryDir.{query_dir}
 use Rattle.rd_drive.specs.Locking.{lock}
 use Rattle.rd_drive.specs.Notify.{notify}
-use Rattle.rd_drive.specs.Waiting.{Settled, settled}
-use Rattle.rd_drive.specs.Statuses.{invalid_parameter, not_supported, no_memory, cancelled}
-
--- What comes of a request: the state after it, the answer, and the ends of the requests that waited and that it ends, in the order in which they
--- began to wait.
-pub record Stepped : Type 0 where
-  pub state : DriveState
-  pub answer : Step
-  pub ends : List End
+use Rattle.rd_drive.specs.Stepped.{Stepped, Settled}
+use Rattle.rd_drive.specs.Waiting.{settled}
+use Rattle.rd_drive.specs.Statuses.{invalid_parameter, not_supported, cancelled}
 
 -- what an operation with a key and a file id comes to at a moment
 abbrev pub outcome_of : DriveState → Key → ℕ → Op → ℕ → Outcome
@@ -48,18 +40,14 @@ outcome_of s key file (op.Control output code bytes) moment = on_handle s file (
 outcome_of s key file (op.Lock operation wait ranges) moment = on_handle s file (lock s key file operation wait ranges)
 
 -- the outcome, and what its news does to the requests that wait
-abbrev pub step_of : Outcome → Stepped
+abbrev pub step_of : Outcome → Stepped DriveState
 step_of outcome =
     let left = settled outcome.state outcome.news in
     record { state = left.state; answer = outcome.answer; ends = left.ends }
 
 -- what a request does
-abbrev pub drive_step : DriveState → Key → ℕ → Op → ℕ → Stepped
+abbrev pub drive_step : DriveState → Key → ℕ → Op → ℕ → Stepped DriveState
 drive_step s key file op moment = step_of (outcome_of s key file op moment)
-
--- What a request does for which no memory was found. A Close needs none.
-abbrev pub starved_step : DriveState → Stepped
-starved_step s = record { state = s; answer = step.Reply (fault no_memory); ends = [] }
 
 -- ---- the cut
 
@@ -72,5 +60,5 @@ abbrev pub with_closed : DriveState → ℕ → DriveState
 with_closed s file = (on_handle s file (close s file)).state
 
 -- The requests that wait are cancelled, in their order, and then every file is closed, in the order of the file ids.
-abbrev pub drive_cut : DriveState → Settled
+abbrev pub drive_cut : DriveState → Settled DriveState
 drive_cut s = record { state = fold with_closed (record s { waiting = [] }) (keys_of s.handles); ends = map cancelled_end s.waiting }

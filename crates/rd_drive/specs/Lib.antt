@@ -3,6 +3,7 @@ pub mod Statuses
 pub mod DriveState
 pub mod Access
 pub mod Outcome
+pub mod Stepped
 pub mod Changes
 pub mod Create
 pub mod Close
@@ -21,6 +22,8 @@ pub mod Store
 pub mod Worked
 pub mod Device
 pub mod Answered
+pub mod Replies
+pub mod Turns
 pub mod Kept
 pub mod Relisted
 pub mod Waits

@@ -6,15 +6,17 @@ use Rattle.rd_drive.specs.declared.waiting.Waiting as kept_waiting
 use Rattle.rd_drive.specs.declared.store.Store.{Store}
 use Rattle.rd_drive.specs.declared.news.News as told_news
 use Rattle.rd_drive.specs.declared.step.End.{End}
+use Rattle.rd_drive.specs.DriveState.{DriveState}
 use Rattle.rd_drive.specs.Store.{drive_of, news_of, waiting_of, IsHeard, IsSoundBut}
-use Rattle.rd_drive.specs.Waiting.{Settled, settles}
+use Rattle.rd_drive.specs.Stepped.{Settled}
+use Rattle.rd_drive.specs.Waiting.{settles}
 
 -- the drive as it stands where the requests before a place wait on and these have ended
-abbrev pub settled_to : Store → ℕ → List End → Settled
+abbrev pub settled_to : Store → ℕ → List End → Settled DriveState
 settled_to s at ends = record { state = record (drive_of s) { waiting = map waiting_of (take at s.waiting.items) }; ends = ends }
 
 -- what comes of it when the news has done what it does to the others too
-abbrev pub settled_from : Store → told_news.News → ℕ → List End → Settled
+abbrev pub settled_from : Store → told_news.News → ℕ → List End → Settled DriveState
 settled_from s news at ends = fold (settles (news_of s.tree news)) (settled_to s at ends) (map waiting_of (drop at s.waiting.items))
 
 -- whether a file id is the one that was closed

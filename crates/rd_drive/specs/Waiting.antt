@@ -6,7 +6,7 @@ use Rattle.rd_irp.specs.declared.op.Range.{Range}
 use Rattle.rd_irp.specs.declared.completion.Reply.{Reply}
 use Rattle.rd_irp.specs.declared.completion.Body.TheVariants.{Buffer, Locked}
 use Rattle.rd_dirinfo.specs.Paths.{Names, is_same_path, is_parent, is_below, joined}
-use Rattle.rd_drive.specs.declared.step.End.{End}
+use Rattle.rd_drive.specs.Stepped.{Settled}
 use Rattle.rd_drive.specs.DriveState.{DriveState, Waiting, Wish, Ranges, Notice, open_path}
 use Rattle.rd_drive.specs.Access.{has_any}
 use Rattle.rd_drive.specs.Outcome.{Change, News, done, fault}
@@ -38,23 +38,18 @@ abbrev pub closing_reply : Wish → Reply
 closing_reply (Ranges exclusive ranges) = fault lock_not_granted
 closing_reply (Notice deep filter) = fault notify_cleanup
 
--- a drive, and the requests that it ended, in the order in which they began to wait
-pub record Settled : Type 0 where
-  pub state : DriveState
-  pub ends : List End
-
 -- the request ends with a reply, and this state
-abbrev pub ends_with : Settled → DriveState → Waiting → Reply → Settled
+abbrev pub ends_with : Settled DriveState → DriveState → Waiting → Reply → Settled DriveState
 ends_with old s w reply = record { state = s; ends = old.ends ++ record { key = w.key; reply = reply } ∷ [] }
 
 -- the request waits on
-abbrev pub waits_on : Settled → Waiting → Settled
+abbrev pub waits_on : Settled DriveState → Waiting → Settled DriveState
 waits_on old w =
     let s = old.state in
     record { state = record s { waiting = s.waiting ++ w ∷ [] }; ends = old.ends }
 
 -- A request for locks on the file at a path: it gets them where the file may have fewer, and none is in the way any more.
-abbrev pub settles_ranges : News → Settled → Waiting → Names → Bool → List Range → Settled
+abbrev pub settles_ranges : News → Settled DriveState → Waiting → Names → Bool → List Range → Settled DriveState
 settles_ranges news old w path exclusive ranges =
     let s = old.state in
     let wanted = wanted_locks w.file exclusive ranges in
@@ -62,23 +57,23 @@ settles_ranges news old w path exclusive ranges =
     else waits_on old w
 
 -- A request for a change in the folder at a path: it ends at the first that it is told.
-abbrev pub settles_change : News → Settled → Waiting → Names → Bool → ℕ → Settled
+abbrev pub settles_change : News → Settled DriveState → Waiting → Names → Bool → ℕ → Settled DriveState
 settles_change news old w path deep filter =
     let s = old.state in
     option_map_or (λ change. ends_with old s w (done (Buffer (change_bytes path change)))) (find (is_told s path deep filter) news.changes) (waits_on old w)
 
 -- a request whose handle is open still
-abbrev pub settles_open : News → Settled → Waiting → Names → Wish → Settled
+abbrev pub settles_open : News → Settled DriveState → Waiting → Names → Wish → Settled DriveState
 settles_open news old w path (Ranges exclusive ranges) = settles_ranges news old w path exclusive ranges
 settles_open news old w path (Notice deep filter) = settles_change news old w path deep filter
 
 -- what the news does to one request that waits
-abbrev pub settles : News → Settled → Waiting → Settled
+abbrev pub settles : News → Settled DriveState → Waiting → Settled DriveState
 settles news old w =
     let s = old.state in
     if is_closed news w then ends_with old s w (closing_reply w.wish)
     else settles_open news old w (unwrap_or (open_path s w.file) []) w.wish
 
 -- What the news does to all of them, in the order in which they began to wait. The drive is as the operation leaves it.
-abbrev pub settled : DriveState → News → Settled
+abbrev pub settled : DriveState → News → Settled DriveState
 settled s news = fold (settles news) (record { state = record s { waiting = [] }; ends = [] }) s.waiting

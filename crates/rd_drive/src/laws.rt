@@ -1,6 +1,6 @@
 //! The definitions at work, as contracts of functions that do nothing: the checker computes each case.
 
-ghost use Rattle.std.specs.Prelude.{◌≡◌, ℕ, [], ◌∷◌, ◌++◌, ◌^◌, ◌-◌, codes, replicate, map, length, true, false, Some, None};
+ghost use Rattle.std.specs.Prelude.{◌≡◌, ℕ, List, [], ◌∷◌, ◌++◌, ◌^◌, ◌-◌, codes, replicate, map, length, true, false, Some, None};
 ghost use Rattle.rd_base.specs.Fields.{bytes8, bytes32, bytes64, path_bytes, text_bytes};
 ghost use Rattle.rd_dirinfo.specs.declared.naming.Naming.TheVariants as Naming;
 ghost use Rattle.rd_irp.specs.declared.op.Op.TheVariants as Op;
@@ -8,13 +8,15 @@ ghost use Rattle.rd_irp.specs.declared.completion.Body.TheVariants as Body;
 ghost use Rattle.rd_base.specs.declared.journal.Key.{Key};
 ghost use Rattle.rd_irp.specs.declared.op.Op.{Op};
 ghost use Rattle.rd_dirinfo.specs.Paths.{is_within_limits};
-ghost use Rattle.rd_drive.specs.Answered.{drive_parked, IsAnswered, IsFitting};
+ghost use Rattle.rd_irp.specs.declared.request.Request.{Request};
+ghost use Rattle.rd_drive.specs.Answered.{drive_cuts, drive_parked, drive_runs, IsAnswered, IsFitting};
 ghost use Rattle.rd_drive.specs.Device.{AreEnded};
 ghost use Rattle.rd_drive.specs.Outcome.{Change, News};
 ghost use Rattle.rd_drive.specs.Waiting.{settled};
 ghost use Rattle.std.specs.List.{AllByRecursion};
 ghost use Rattle.rd_drive.specs.DriveState.{DriveState, Node, node_at};
 ghost use Rattle.rd_drive.specs.DriveStep.{drive_cut, drive_step, outcome_of};
+ghost use Rattle.rd_drive.specs.Turns.{RunsItsRequest, TakesAll, TellsTurns, Turn};
 ghost use Rattle.rd_drive.specs.Statuses.{access_denied, cancelled, disk_full, insufficient_resources, lock_not_granted, notify_cleanup, object_path_not_found, too_many_opened_files};
 ghost use Rattle.rd_drive.specs.Worked.{bytes, creates, ended, ended_with, key, no_but, ok, ok_with, opens, parked, played, sample, state_from, with_handles, with_locks, with_waiting};
 
@@ -74,4 +76,11 @@ pub fn requests_are_answered()
 pub fn ends_are_of_those_that_wait()
     ensures { (s : DriveState) (news : News) → AllByRecursion (λ (change : Change). is_within_limits change.path ≡ true) news.changes
         → AreEnded (drive_parked s) (settled s news).ends (drive_parked (settled s news).state) }
+{}
+
+/// Whatever jobs a drive runs and however often it is cut off, one after the other, the journal tells it: it leaves the drive in the same state,
+/// gives the same replies, and its marks are right.
+pub fn journals_tell_what_was_done()
+    ensures { (old new : DriveState) (turns : List Turn) (requests : Key → Request) → TakesAll drive_runs drive_parked drive_cuts old turns new
+        → AllByRecursion (RunsItsRequest requests) turns → TellsTurns old new requests turns }
 {}

@@ -5,3 +5,4 @@ pub mod Own
 pub mod ClientTable
 pub mod HostTable
 pub mod Worked
+pub mod Moves

@@ -12,6 +12,7 @@
 
 mod capability;
 mod client;
+mod end_fault;
 mod hello;
 mod host;
 mod laws;
@@ -20,6 +21,7 @@ mod replies;
 
 pub use capability::{Cap, Caps, General, MAX_SETS};
 pub use client::{ClientShake, ClientState};
+pub use end_fault::EndFault;
 pub use hello::{
     Hello, MAX_NAME_BYTES, Version, can_write_hello, put_hello, read_hello, write_hello,
 };

@@ -1,2 +1,5 @@
 pub mod Notice
+pub mod Cache
+pub mod Printer
+pub mod Printing
 pub mod Worked

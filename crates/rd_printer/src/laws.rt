@@ -1,16 +1,36 @@
 //! The law of a notice, and notices worked by hand. Each is a function that does nothing: its contract is the law.
 
-ghost use Rattle.std.specs.Prelude.{◌≡◌, [], IsOkAnd};
+ghost use Rattle.std.specs.Prelude.{◌≡◌, [], ◌∷◌, codes, IsOkAnd};
 ghost use Rattle.rd_base.specs.declared.bad.Why.TheVariants as why;
 ghost use Rattle.rd_base.specs.Layout.{met};
 ghost use Rattle.rd_base.specs.Position.{at_start};
 ghost use Rattle.rd_base.specs.Reading.{IsOneOf};
 ghost use Rattle.rd_printer.specs.Notice.{notice, notice_bytes, SpellsNotice, FirstFaultOfNotice};
+ghost use Rattle.rd_irp.specs.declared.op.Op.TheVariants as Op;
+ghost use Rattle.rd_irp.specs.declared.completion.Body.TheVariants as Body;
+ghost use Rattle.rd_drive.specs.Statuses.{invalid_device_request, invalid_handle};
+ghost use Rattle.rd_printer.specs.declared.notice.Notice.TheVariants as Notice;
+ghost use Rattle.rd_printer.specs.Cache.{heard_all};
+ghost use Rattle.rd_printer.specs.Printer.{new_printer, printer_cut, printer_step};
+ghost use Rattle.rd_printer.specs.Printing.{addition_of, after, done, key, opening, opening_at, refused, writing};
 ghost use Rattle.rd_printer.specs.Worked as worked;
 
 /// Bytes begin with one notice, with one tail, or have one first fault, never both.
 pub fn notice_is_decided(bytes: &[u8])
     ensures { IsOneOf SpellsNotice FirstFaultOfNotice bytes.now }
+{}
+
+/// What a printer does with requests, and what a client keeps of notices.
+pub fn printers_are_as_listed()
+    ensures opens { (printer_step new_printer (key 0) 0 opening 0).answer ≡ done (Body.Created 1 0) }
+    ensures appends { (after (opening_at 0 ∷ writing 1 (codes "a") ∷ writing 1 (codes "b") ∷ (1, Op.Close) ∷ [])).finished ≡ codes "ab" ∷ [] }
+    ensures counts { (printer_step (after (opening_at 0 ∷ [])) (key 1) 1 (Op.Write 7 (codes "abc")) 0).answer ≡ done (Body.Count 3) }
+    ensures closed { (printer_step new_printer (key 0) 1 Op.Close 0).answer ≡ refused invalid_handle }
+    ensures reads { (printer_step (after (opening_at 0 ∷ [])) (key 1) 1 (Op.Read 0 1) 0).answer ≡ refused invalid_device_request }
+    ensures cut { (printer_cut (after (opening_at 0 ∷ []))).state ≡ record new_printer { next = 2 } }
+    ensures renames { heard_all [] (addition_of (codes "a") (codes "x") ∷ addition_of (codes "b") (codes "y") ∷ Notice.Rename (codes "a") (codes "b") ∷ []) ≡ (codes "b", codes "x") ∷ [] }
+    ensures updates { heard_all [] (Notice.Update (codes "a") (codes "x") ∷ addition_of (codes "b") (codes "y") ∷ Notice.Update (codes "b") (codes "z") ∷ []) ≡ (codes "b", codes "z") ∷ [] }
+    ensures deletes { heard_all [] (addition_of (codes "a") (codes "x") ∷ Notice.Delete (codes "a") ∷ []) ≡ [] }
 {}
 
 /// The definitions at notices that were worked by hand.

@@ -10,5 +10,5 @@
 mod laws;
 mod notice;
 
-pub use laws::{notice_is_decided, worked_notices};
+pub use laws::{notice_is_decided, printers_are_as_listed, worked_notices};
 pub use notice::{Notice, can_write_notice, put_notice, read_notice, write_notice};

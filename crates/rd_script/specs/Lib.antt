@@ -1,5 +1,12 @@
-pub mod Asks
-pub mod Words
-pub mod Grammar
-pub mod ReadScript
+pub mod Keywords
+pub mod Row
+pub mod Numbers
+pub mod Texts
+pub mod Said
+pub mod Kept
+pub mod Rows
+pub mod Script
+pub mod Asking
 pub mod Report
+pub mod Load
+pub mod Spelled

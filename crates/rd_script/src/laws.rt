@@ -1,13 +1,13 @@
-//! What holds of every script. These functions do nothing: their clauses are laws.
+//! What holds of every line. This function does nothing: its clause is the law.
 
-ghost use Rattle.std.specs.Prelude.{◌≡◌, ℕ, ◌<◌, List, ◌++◌, length};
-ghost use Rattle.rd_script.specs.Grammar.{IsFirstBad, IsScript, Said, max_bytes};
+ghost use Rattle.std.specs.Prelude.{ℕ, List};
+ghost use Rattle.rd_script.specs.Row.{words_of};
+ghost use Rattle.rd_script.specs.Rows.{line_row};
+ghost use Rattle.rd_script.specs.Said.{Said};
+ghost use Rattle.rd_script.specs.Script.{is_application};
+ghost use Rattle.rd_script.specs.Spelled.{IsDecided};
 
-/// A script says one thing, a text has one first bad line at most, and none is both. What comes after a text that is longer than
-/// a script may be doesn't change its first bad line.
-pub fn script_has_one_reading()
-    ensures said { (text : List ℕ) (said other : Said) → IsScript text said → IsScript text other → said ≡ other }
-    ensures never_both { (text : List ℕ) (said : Said) (number : ℕ) → IsScript text said → IsFirstBad text number → ⊥ }
-    ensures number { (text : List ℕ) (number other : ℕ) → IsFirstBad text number → IsFirstBad text other → number ≡ other }
-    ensures cut { (text rest : List ℕ) (number : ℕ) → max_bytes < length text → IsFirstBad text number → IsFirstBad (text ++ rest) number }
+/// Whatever was said before a line, its words spell one line or have one first wrong word, and never both.
+pub fn lines_are_decided()
+    ensures { (said : Said) (text : List ℕ) → IsDecided (line_row said (is_application text)) (words_of text) }
 {}

@@ -1,27 +1,41 @@
-//! A script: what it says, the outcomes of its lines, and the report of them.
+//! A script: its lines as values, the first line outside the grammar, the script of a load, the outcomes of a session, and the report
+//! of them.
 //!
-//! It stands on the drive below, which a script opens, and on requests and completions. The layers above use two contracts of it:
-//! `read_script` gives what a text says, or the first line outside the grammar, and `report` is the text of the outcomes. What holds of
-//! every script, whoever reads it, are the clauses of a function that does nothing, `script_has_one_reading`.
+//! It stands on `rd_dirinfo`, `rd_irp` and `rd_base`, and on no drive: a script is data. The layers above use three contracts of it:
+//! `read_script` gives the script that bytes are, or its first bad line and why; `report` is the text of a script's outcomes; and
+//! `load_script` is the script of a load. What holds of every line, whoever reads it, is the clause of a function that does nothing,
+//! `lines_are_decided`.
 //!
-//! Cost: each line of a script is looked at once, and its bytes are moved into the drive; a report is put together in memory.
+//! Cost: a text is gone over once for its line feeds, once for the spaces of each line and once for each word. A line's value has 64 bytes,
+//! with its handle or its short name in it; a path or a field of bytes is copied once, into memory of its own.
 #![tactic(auto)]
 
-mod answer;
-mod ask;
-mod forms;
-mod grammar;
+mod asking;
+mod asks;
+mod controls;
+mod devices;
+mod inline;
+mod keys;
+mod keyword;
+mod known;
 mod laws;
+mod line;
+mod load;
+mod numbers;
 mod outcome;
+mod reading;
 mod report_text;
 mod script;
-mod script_no;
+mod texts;
+mod why;
+mod words;
 
-pub use answer::Answer;
-pub use ask::Ask;
-pub use forms::FORMS;
-pub use laws::script_has_one_reading;
-pub use outcome::Outcome;
+pub use inline::{BoxedUnits, ShortName};
+pub use keyword::Mode;
+pub use laws::lines_are_decided;
+pub use line::{Errand, Line, Lines, NumberedLine};
+pub use load::load_script;
+pub use outcome::{Outcome, Outcomes, Refusal};
 pub use report_text::report;
-pub use script::{MAX_BYTES, Script, read_script};
-pub use script_no::ScriptNo;
+pub use script::{BadWord, MAX_BYTES, MAX_LINES, Script, bad_word, read_script};
+pub use why::{LineWhy, ScriptNo};

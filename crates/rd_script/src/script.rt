@@ -1,122 +1,214 @@
 //! A script, and the first line outside the grammar.
 
-ghost use Rattle.std.specs.Prelude.{◌≡◌, ◌≢◌, ◌-◌, ◌↔◌, All, IfOk, IfErr, IsTrue, length, take};
-ghost use Rattle.rd_plain_drive.specs.PlainPath.{IsPlainPath};
-ghost use Rattle.rd_script.specs.Grammar.{IsFirstBad, IsScript, IsSkipped, Said, text_of};
-ghost use Rattle.rd_script.specs.ReadScript.{HoldsSaid, IsBadLine, ReadsLine, TakesLine};
-ghost use Rattle.rd_script.specs.declared.grammar.Line.TheVariants as line;
+ghost use Rattle.std.specs.Prelude.{◌≡◌, IfOk, IfErr};
+ghost use Rattle.rd_script.specs.Script.{is_end, is_skipped, script_of, size_with, IsBadLine};
 
-use crate::ask::Ask;
-use crate::grammar::{Line, line_of};
-use crate::script_no::ScriptNo;
-use rd_base::{Bytes, Units};
-use rd_plain_drive::{AddNo, MemoryDrive};
-use std::alloc::{AllocError, Global};
+use crate::keyword::Mode;
+use crate::known::Known;
+use crate::line::{Line, Lines, NumberedLine};
+use crate::reading::{read_line, wrong_place};
+use crate::why::{LineNo, LineWhy, ScriptNo};
+use crate::words::cut_line;
+use std::alloc::Global;
+use std::marker::Model;
 
 /// The most lines of a script.
-const MAX_LINES: usize = 1000;
+pub const MAX_LINES: u32 = 1_000_000;
 
 /// The most bytes of a script.
-pub const MAX_BYTES: usize = 65_536;
+pub const MAX_BYTES: usize = 67_108_864;
 
-/// What a script says.
-#[derive(Drop)]
-pub enum Script {
-    Empty,
-    /// The drive of device 1 at its opening, and what one application asks of it.
-    Drive { drive: MemoryDrive, asks: Vec<Ask> },
-}
-
-/// Reads a script. The first line that is outside the grammar, or past a limit, is `ScriptNo::BadLine`.
-pub fn read_script(alloc: Global, bytes: &[u8]) -> Result<Script, ScriptNo>
-    ensures script { IfOk result (λ script. (said : Said) × IsScript bytes.now said × HoldsSaid said script) }
-    ensures bad { IfErr result (IsBadLine (IsFirstBad bytes.now)) }
-{
-    let mut script = Script::Empty;
-    let mut reached = 0usize;
-    for (index, piece) in bytes.split_inclusive(|byte| *byte == b'\n').enumerate() {
-        reached = reached.saturating_add(piece.len());
-        let fits = index < MAX_LINES && reached <= MAX_BYTES;
-        if !fits || !script.read_line(alloc, without_line_feed(piece))? {
-            let number = u32::try_from(index).unwrap_or(u32::MAX).saturating_add(1);
-            return Err(ScriptNo::BadLine { line: number });
-        }
-    }
-    Ok(script)
-}
-
-fn without_line_feed(piece: &[u8]) -> &[u8]
-    ensures { All (λ byte. byte ≢ 0x0a) (take (length piece.now - 1) piece.now) → result.now ≡ text_of piece.now }
-{
-    match piece {
-        [text @ .., b'\n'] => text,
-        text => text,
-    }
+/// What a script says: its lines in order, without those that are skipped.
+#[derive(Debug, Drop)]
+pub struct Script {
+    pub mode: Mode,
+    pub lines: Lines,
 }
 
 /// Empty lines and remarks.
 fn is_skipped(text: &[u8]) -> bool
-    ensures { IsTrue result ↔ IsSkipped text.now }
+    ensures { result ≡ is_skipped text.now }
 {
-    matches!(text, [] | [b'#', ..])
+    match text {
+        [] => true,
+        [byte, ..] => *byte == b'#',
+    }
 }
 
-impl Script {
-    /// Adds a line, or skips it where it is empty or a remark, and returns whether it may stand here.
-    fn read_line(&mut self, alloc: Global, text: &[u8]) -> Result<bool, AllocError>
-        ensures { IfOk result (λ fits. ReadsLine self.old text.now fits self.new) }
+/// What is wrong with the first bad line of a text, for a person to read: the contract of `read_script` says what is promised.
+#[derive(Clone, Copy, Debug)]
+pub struct BadWord<'a> {
+    /// Counted from 1.
+    pub line: u32,
+    pub why: LineWhy,
+    /// The line without its line feed.
+    pub text: &'a [u8],
+    /// Which of its words is wrong, counted from 0, or missing.
+    pub place: usize,
+}
+
+/// What was read so far.
+#[derive(Drop)]
+struct Reader {
+    known: Known,
+    lines: Vec<NumberedLine>,
+    number: u32,
+    bytes: usize,
+}
+
+impl Model for Reader {
+    ghost use Rattle.std.specs.Prelude.{◌≤◌};
+    ghost use Rattle.rd_script.specs.Script.{max_bytes, max_lines, Reading};
+
+    ghost Value = { Reading };
+
+    ghost view = { λ r. record { said = r.known; lines = r.lines.items; number = r.number; bytes = r.bytes } };
+
+    ghost invariant = { λ r. (r.number ≤ max_lines) × (r.bytes ≤ max_bytes) };
+}
+
+impl Reader {
+    ghost use Rattle.std.specs.Prelude.{◌≡◌, ◌+◌, true, OnOk, IfErr};
+    ghost use Rattle.rd_script.specs.declared.why.ScriptNo.TheVariants as no;
+    ghost use Rattle.rd_script.specs.Script.{at_start, bad_line, fits, reading, skipping, Steps, TextLine};
+
+    fn new(alloc: Global, mode: Mode) -> Self
+        ensures { result ≡ at_start mode }
     {
+        Reader {
+            known: Known::new(alloc, mode),
+            lines: Vec::new(alloc),
+            number: 0,
+            bytes: 0,
+        }
+    }
+
+    /// Whether one more line of so many bytes is within the limits.
+    fn fits(&self, size: usize) -> bool
+        ensures { result ≡ fits self.now size }
+    {
+        self.number < MAX_LINES && size <= MAX_BYTES - self.bytes
+    }
+
+    /// Passes over a line that is skipped.
+    fn skip(&mut self, size: usize)
+        requires { fits self.old size ≡ true }
+        ensures { self.new ≡ skipping self.old size }
+    {
+        self.number += 1;
+        self.bytes += size;
+    }
+
+    /// Keeps a line that was read.
+    fn keep(&mut self, alloc: Global, line: Line, size: usize) -> Result<(), ScriptNo>
+        requires { fits self.old size ≡ true }
+        ensures kept { OnOk result (self.new ≡ reading self.old size line) }
+        ensures memory { IfErr result (λ why. why ≡ no.Memory) }
+    {
+        self.known.take(alloc, &line)?;
+        self.number += 1;
+        self.bytes += size;
+        let number = self.number;
+        self.lines.push(NumberedLine { number, line })?;
+        Ok(())
+    }
+
+    /// The next line is bad.
+    fn bad(&self, why: LineWhy) -> ScriptNo
+        ensures { result ≡ no.BadLine (self.now.number + 1) why }
+    {
+        ScriptNo::BadLine {
+            line: self.number + 1,
+            why,
+        }
+    }
+
+    /// Reads one more line, which has so many bytes with its line feed.
+    #[tactic(auto, unfolding(crate::specs::Script::step))]
+    fn step(&mut self, alloc: Global, text: &[u8], size: usize) -> Result<(), ScriptNo>
+        ensures { Steps self.old self.new (record { text = text.now; size = size }) result }
+    {
+        if !self.fits(size) {
+            return Err(self.bad(LineWhy::Many));
+        }
         if is_skipped(text) {
-            return Ok(true);
+            self.skip(size);
+            return Ok(());
         }
-        match line_of(alloc, text)? {
-            Some(Line::Drive { label }) => self.add_drive(alloc, label),
-            Some(Line::File { path, bytes }) => self.add_file(&path, bytes),
-            Some(Line::Ask(ask)) => self.add_ask(ask),
-            None => Ok(false),
-        }
-    }
-
-    /// The drive comes first, and once.
-    fn add_drive(&mut self, alloc: Global, label: Units) -> Result<bool, AllocError>
-        ensures { IfOk result (λ fits. TakesLine self.old (line.Drive label) fits self.new) }
-    {
-        if matches!(self, Script::Drive { .. }) {
-            return Ok(false);
-        }
-        *self = Script::Drive {
-            drive: MemoryDrive::new(alloc, label)?,
-            asks: Vec::new(alloc),
-        };
-        Ok(true)
-    }
-
-    /// Files come after the drive and before all that the application asks, each path once.
-    fn add_file(&mut self, path: &Units, bytes: Bytes) -> Result<bool, AllocError>
-        ensures { IfOk result (λ fits. IsPlainPath path.now → TakesLine self.old (line.File path.now bytes) fits self.new) }
-    {
-        let Script::Drive { drive, asks } = self else {
-            return Ok(false);
-        };
-        if !asks.is_empty() {
-            return Ok(false);
-        }
-        match drive.add_file(path, bytes) {
-            Ok(()) => Ok(true),
-            Err(cause) => match cause {
-                AddNo::Memory => Err(AllocError),
-                _ => Ok(false),
-            },
+        match read_line(alloc, &self.known, text) {
+            Ok(line) => self.keep(alloc, line, size),
+            Err(LineNo::Why(why)) => Err(self.bad(why)),
+            Err(LineNo::Memory) => Err(ScriptNo::Memory),
         }
     }
 
-    fn add_ask(&mut self, ask: Ask) -> Result<bool, AllocError>
-        ensures { IfOk result (λ fits. TakesLine self.old (line.Ask ask) fits self.new) }
+    fn into_script(self, mode: Mode) -> Script
+        ensures { result ≡ record { mode = mode; lines = self.lines } }
     {
-        let Script::Drive { asks, .. } = self else {
-            return Ok(false);
-        };
-        asks.push(ask)?;
-        Ok(true)
+        let Reader { lines, .. } = self;
+        Script {
+            mode,
+            lines: Lines::of(lines),
+        }
     }
+}
+
+/// An empty line at the end is none.
+fn is_end(line: &[u8], others: Option<&[u8]>) -> bool
+    ensures { result ≡ is_end line.now others.entry }
+{
+    match others {
+        Some(_) => false,
+        None => line.is_empty(),
+    }
+}
+
+/// How many bytes a line has with its line feed, which it has where something comes after it.
+fn size_of(line: &[u8], others: Option<&[u8]>) -> usize
+    ensures { result ≡ size_with line.now others.entry }
+{
+    match others {
+        Some(_) => line.len() + 1,
+        None => line.len(),
+    }
+}
+
+/// Reads a script. The first line that is outside the grammar, or past a limit, is `ScriptNo::BadLine`.
+#[tactic(auto, using(crate::proofs::ScriptLemmas::read_next, crate::proofs::ScriptLemmas::read_bad, crate::proofs::ScriptLemmas::read_end))]
+pub fn read_script(alloc: Global, mode: Mode, bytes: &[u8]) -> Result<Script, ScriptNo>
+    ensures script { IfOk result (λ script. script_of mode bytes.now ≡ Ok script) }
+    ensures bad { IfErr result (IsBadLine (λ bad. script_of mode bytes.now ≡ Err bad)) }
+{
+    let mut reader = Reader::new(alloc, mode);
+    let mut left = Some(bytes);
+    while let Some(text) = left {
+        let (line, others) = cut_line(text);
+        if is_end(line, others) {
+            return Ok(reader.into_script(mode));
+        }
+        let size = size_of(line, others);
+        reader.step(alloc, line, size)?;
+        left = others;
+    }
+    Ok(reader.into_script(mode))
+}
+
+/// What is wrong with the first bad line of a text, if it has one and memory is found.
+pub fn bad_word(alloc: Global, mode: Mode, bytes: &[u8]) -> Option<BadWord<'_>> {
+    let mut reader = Reader::new(alloc, mode);
+    for text in bytes.split(|byte| *byte == b'\n') {
+        match reader.step(alloc, text, text.len().saturating_add(1)) {
+            Ok(()) => {}
+            Err(ScriptNo::BadLine { line, why }) => {
+                return Some(BadWord {
+                    line,
+                    why,
+                    text,
+                    place: wrong_place(alloc, &reader.known, text),
+                });
+            }
+            Err(ScriptNo::Memory) => return None,
+        }
+    }
+    None
 }

@@ -5,14 +5,14 @@ use Rattle.rd_base.specs.declared.journal.Key.{Key}
 use Rattle.rd_base.specs.declared.journal.Item.{Item}
 use Rattle.rd_irp.specs.declared.completion.Reply.{Reply}
 use Rattle.rd_irp.specs.declared.request.Request.{Request}
-use Rattle.rd_plain_drive.specs.DriveState.{DriveState}
+use Rattle.rd_drive.specs.DriveState.{DriveState}
 use Rattle.rd_session.specs.Channel.{Exchange, IsExchange, Runs, stored_under}
 use Rattle.rd_session.specs.Session.{key_at}
 
--- the entries of the journal, where the first exchange has the key at n
-abbrev pub stored_from : ℕ → List Exchange → List Item
-stored_from n [] = []
-stored_from n (e ∷ es) = stored_under (key_at n) e.reply ++ stored_from (suc n) es
+-- the entries of the journal, all runs at one moment, where the first exchange has the key at n
+abbrev pub stored_from : ℕ → ℕ → List Exchange → List Item
+stored_from moment n [] = []
+stored_from moment n (e ∷ es) = stored_under moment (key_at n) e.reply ++ stored_from moment (suc n) es
 
 -- the keys of the exchanges, where the first has the one at n
 abbrev pub keys_from : ℕ → List Exchange → List Key
@@ -29,15 +29,16 @@ abbrev pub NamesFrom : (Key → Request) → ℕ → List Exchange → Type 0
 NamesFrom requests n [] = Unit {0}
 NamesFrom requests n (e ∷ es) = (requests (key_at n) ≡ e.request) × NamesFrom requests (suc n) es
 
--- the drive runs the exchanges one behind another
-abbrev pub RunsAll : DriveState → List Exchange → DriveState → Type 0
-RunsAll drive [] left = left ≡ drive
-RunsAll drive (e ∷ es) left = (middle : DriveState) × Runs e.request e.reply drive middle × RunsAll middle es left
+-- the drive runs the exchanges one behind another, where the first has the key at n
+abbrev pub RunsAll : ℕ → ℕ → DriveState → List Exchange → DriveState → Type 0
+RunsAll moment n drive [] left = left ≡ drive
+RunsAll moment n drive (e ∷ es) left =
+    (middle : DriveState) × Runs moment (key_at n) e.request e.reply drive middle × RunsAll moment (suc n) middle es left
 
--- an exchange of this session: of device 1, under the completion id 0
-abbrev pub IsOwn : Exchange → Type 0
-IsOwn e = IsExchange e × (e.request.device ≡ 1) × (e.request.completion ≡ 0)
+-- an exchange of this session: of its device, under the completion id 0
+abbrev pub IsOwn : ℕ → Exchange → Type 0
+IsOwn device e = IsExchange e × (e.request.device ≡ device) × (e.request.completion ≡ 0)
 
 -- all exchanges are
-abbrev pub AreOwn : List Exchange → Type 0
-AreOwn es = AllByRecursion IsOwn es
+abbrev pub AreOwn : ℕ → List Exchange → Type 0
+AreOwn device es = AllByRecursion (IsOwn device) es

@@ -1,8 +1,7 @@
--- A session that goes on: each further line can be run to its end, whatever ended before.
-use Rattle.std.proofs.Common.{◌≡◌, ◌≤◌, ◌<◌, ◌^◌, ℕ, ◌+◌, List, ◌++◌, length, Bool, true, false, drop, Option, Some, None, refl, sym, ap, subst, ◌∙◌, lit<, arith}
+-- A session that goes on: each further line can be run to its end, whatever ended before, since a request may find no memory.
+use Rattle.std.proofs.Common.{◌≡◌, ◌≤◌, ◌<◌, ◌^◌, ℕ, ◌+◌, List, [], ◌++◌, length, Bool, true, false, drop, Option, Some, refl, sym, ap, subst, ◌∙◌, lit<, arith}
 use Rattle.std.specs.Prelude.{◌&&◌, if◌then◌else◌, IfSome, IsFalse, bytes_eq}
 use Rattle.std.specs.List.{flat_map}
-use Rattle.std.specs.Io.KnownBytes.{Appends, append_known}
 use Rattle.std.proofs.lemmas.List.{length-append}
 use Rattle.rd_irp.specs.declared.op.Op.{Op}
 use Rattle.rd_irp.specs.declared.op.Op.TheVariants as op
@@ -15,23 +14,22 @@ use Rattle.rd_irp.specs.declared.completion.Reply.{Reply}
 use Rattle.rd_irp.specs.declared.request.Request.{Request}
 use Rattle.rd_irp.specs.Fits.{Fits, IsSendable, body_length, fault_length, op_length, kind_of}
 use Rattle.rd_irp.specs.Completion.{SpellsBody}
-use Rattle.rd_irp.specs.Written.{IsBodyInRange, body_bytes, body_tail, head_bytes, op_bytes, request_bytes, request_head_bytes}
+use Rattle.rd_irp.specs.Written.{body_bytes, body_tail, head_bytes, op_bytes, request_bytes, request_head_bytes}
 use Rattle.rd_irp.proofs.OpLemmas.{length-op_bytes}
 use Rattle.rd_irp.proofs.WrittenLemmas.{body_after_head, body_spelled, head_spelled, length-body_bytes, request_spelled}
 use Rattle.rd_chunk.specs.Carrier.{IsMessage}
-use Rattle.rd_plain_drive.specs.DriveState.{DriveState}
-use Rattle.rd_plain_drive.specs.DriveStep.{drive_step}
-use Rattle.rd_plain_drive.specs.Starved.{Gives, is_starved, unless_starved}
-use Rattle.rd_plain_drive.proofs.DriveStepLemmas.{IsProper, fault_proper, is_starved-drive_step, proper-drive_step}
+use Rattle.rd_drive.specs.DriveState.{DriveState}
 use Rattle.rd_script.specs.declared.outcome.Outcome.{Outcome}
 use Rattle.rd_script.specs.declared.outcome.Outcome.TheVariants as outcome
-use Rattle.rd_script.specs.Asks.{HandleOp, CanBeSent}
-use Rattle.rd_session.specs.Channel.{Ends, EndsIn, Exchange, Exchanges, IsExchange, Runs, answer_in, recorded_in, stored_under}
+use Rattle.rd_session.specs.declared.scene.Scene.{Scene}
+use Rattle.rd_session.specs.Asking.{HandleOp, CanBeSent}
+use Rattle.rd_session.specs.Channel.{Ends, EndsIn, Exchange, Exchanges, IsExchange, recorded_in, starves, stored_under}
 use Rattle.rd_session.specs.Outcomes.{file_named, given_file, opens, request_to}
 use Rattle.rd_session.specs.Recording.{entry_bytes}
 use Rattle.rd_session.specs.Session.{key_at}
 use Rattle.rd_session.specs.Told.{Completes, completion_written}
 use Rattle.rd_session.proofs.Joined.{request_is_message}
+use Rattle.rd_session.proofs.Replied.{IsProper, Replied}
 
 -- ---- the exchange of a request with a reply
 -- what passes for it, as this program writes it
@@ -74,47 +72,25 @@ completes_own request reply device completion proper =
     }
 
 -- a request that can be sent, with a reply that may answer it
-own_exchange : (o : Op) (file : ℕ) (handle : List ℕ) (reply : Reply) → CanBeSent (record { handle = handle; op = o }) → file < 2 ^ 32 → IsProper o reply → (o ≡ op.Close → IsFalse (is_starved reply))
-    → IsExchange (exchange_for (request_to o file) reply)
-own_exchange o file handle reply can small proper fed =
-    let request : Request = request_to o file in
+own_exchange : (device : ℕ) (o : Op) (file : ℕ) (handle : List ℕ) (reply : Reply) → device < 2 ^ 32 → CanBeSent (record { handle = handle; op = o }) → file < 2 ^ 32 → IsProper o reply → (o ≡ op.Close → IsFalse (starves reply))
+    → IsExchange (exchange_for (request_to device o file) reply)
+own_exchange device o file handle reply known can small proper fed =
+    let request : Request = request_to device o file in
     record {
       sent_fits = request_is_message o (request_bytes request) can.0 (length-request_bytes request can.0);
-      completion_fits = completion_is_message (record { device = 1; completion = 0; status = reply.status }) (kind_of o) reply.body proper.is_reply.1;
-      spelled = request_spelled request can.0 can.1 (lit< tt) small (lit< tt);
-      completes = completes_own request reply (lit< tt) (lit< tt) proper;
+      completion_fits = completion_is_message (record { device = device; completion = 0; status = reply.status }) (kind_of o) reply.body proper.is_reply.1;
+      spelled = request_spelled request can.0 can.1 known small (lit< tt);
+      completes = completes_own request reply known (lit< tt) proper;
       sent_bytes = refl;
       completion_bytes = refl;
+      answers = proper.is_reply;
       close_fed = fed;
     }
-
--- ---- what the drive replies
-proper_unless : (starved : Bool) (s left : DriveState) (outcome : DriveState × Reply) (o : Op) (reply : Reply) → IsProper o outcome.1 → Gives (unless_starved s starved outcome) left reply → IsProper o reply
-proper_unless true s left outcome o reply proper gives = subst (λ (r : Reply). IsProper o r) gives.1 (fault_proper o 0xc000_0017 refl (lit< tt))
-proper_unless false s left outcome o reply proper gives = subst (λ (r : Reply). IsProper o r) gives.1 proper
-
--- a reply that the drive gave may answer its request
-pub proper_reply : (request : Request) (reply : Reply) (drive left : DriveState) → Runs request reply drive left → IsProper request.op reply
-proper_reply request reply drive left runs = proper_unless (is_starved reply) drive left (drive_step drive request.file request.op 0) request.op reply (proper-drive_step drive request.file request.op 0) runs
-
--- the drive can run every request
-pub runs_step : (drive : DriveState) (request : Request) → Runs request (drive_step drive request.file request.op 0).1 drive (drive_step drive request.file request.op 0).0
-runs_step drive request =
-    let outcome : DriveState × Reply = drive_step drive request.file request.op 0 in
-    subst (λ (b : Bool). Gives (unless_starved drive b outcome) outcome.0 outcome.1) (sym (is_starved-drive_step drive request.file request.op 0)) (refl, refl)
 
 -- ---- the files that handles hold
 -- each file that a name holds is a number of 32 bits
 abbrev pub HoldSmall : (List ℕ → Option ℕ) → Type 0
 HoldSmall files = (name : List ℕ) → IfSome (files name) (λ file. file < 2 ^ 32)
-
-pub given_small : (b : Body) → IsBodyInRange b → IfSome (given_file b) (λ file. file < 2 ^ 32)
-given_small (body.Created file information) range = range.0
-given_small body.Closed range = tt
-given_small (body.Count count) range = tt
-given_small (body.Buffer bytes) range = tt
-given_small body.Locked range = tt
-given_small body.Fault range = tt
 
 pub small_either : (b : Bool) (given held : Option ℕ) → IfSome given (λ file. file < 2 ^ 32) → IfSome held (λ file. file < 2 ^ 32) → IfSome (if b then given else held) (λ file. file < 2 ^ 32)
 small_either true given held of_given of_held = of_given
@@ -126,54 +102,46 @@ named_small opening held file small named =
     there
 
 -- ---- one line
--- what is known to be held grows by any bytes
-pub Appends-known : (held : Option (List ℕ)) (bytes : List ℕ) → Appends held (append_known held bytes) bytes
-Appends-known None bytes = tt
-Appends-known (Some xs) bytes = refl
-
 -- both ends behind a line that was answered so
-abbrev pub ends_behind : Ends → HandleOp → ℕ → Reply → DriveState → Ends
-ends_behind before asked file reply left = record {
+abbrev pub ends_behind : Scene → Ends → HandleOp → ℕ → Reply → DriveState → Ends
+ends_behind scene before asked file reply left = record {
   files = λ name. if opens asked.op && bytes_eq asked.handle name then given_file reply.body else before.files name;
   asked = before.asked + 1;
   drive = left;
-  journal = before.journal ++ stored_under (key_at before.asked) reply;
-  held = append_known before.held (flat_map entry_bytes (recorded_in (exchange_for (request_to asked.op file) reply)));
+  journal = before.journal ++ stored_under scene.moment (key_at before.asked) reply;
+  gathered = before.gathered ++ flat_map entry_bytes (recorded_in (exchange_for (request_to scene.device asked.op file) reply));
 }
-
--- a line whose request the drive can answer so
-pub line_with : (before : Ends) (asked : HandleOp) (file : ℕ) (reply : Reply) (left : DriveState) → CanBeSent asked → HoldSmall before.files → file_named before.files asked ≡ Some file
-    → Runs (request_to asked.op file) reply before.drive left → (asked.op ≡ op.Close → IsFalse (is_starved reply))
-    → EndsIn asked (outcome.Done (answer_in (exchange_for (request_to asked.op file) reply))) before (ends_behind before asked file reply left)
-line_with before asked file reply left can small named runs fed =
-    let proper : IsProper asked.op reply = proper_reply (request_to asked.op file) reply before.drive left runs in
-    let file_small : file < 2 ^ 32 = named_small (opens asked.op) (before.files asked.handle) file (small asked.handle) named in
-    let exchanged : Exchanges (request_to asked.op file) (answer_in (exchange_for (request_to asked.op file) reply)) before (ends_behind before asked file reply left) = record {
-      exchange = exchange_for (request_to asked.op file) reply;
-      request_is = refl;
-      sound = own_exchange asked.op file asked.handle reply can file_small proper fed;
-      ran = runs;
-      counted = refl;
-      kept = refl;
-      recorded = Appends-known before.held (flat_map entry_bytes (recorded_in (exchange_for (request_to asked.op file) reply)));
-      answer = refl;
-    } in
-    (file, named, exchanged, λ name. refl)
 
 -- How a line ends and where, with what is recorded of it.
-pub record Goes (before : Ends) (asked : HandleOp) : Type 0 where
+pub record Goes (scene : Scene) (before : Ends) (asked : HandleOp) : Type 0 where
   pub ending : Outcome
   pub after : Ends
-  pub ends : EndsIn asked ending before after
+  pub ends : EndsIn scene asked ending before after
   pub bytes : List ℕ
-  pub recorded : Appends before.held after.held bytes
+  pub recorded : after.gathered ≡ before.gathered ++ bytes
+  pub quiet : after.drive.waiting ≡ []
 
-unfoldable pub goes_with : (before : Ends) (asked : HandleOp) (file : ℕ) (reply : Reply) (left : DriveState) → CanBeSent asked → HoldSmall before.files → file_named before.files asked ≡ Some file
-    → Runs (request_to asked.op file) reply before.drive left → (asked.op ≡ op.Close → IsFalse (is_starved reply)) → Goes before asked
-goes_with before asked file reply left can small named runs fed = record {
-  ending = outcome.Done (answer_in (exchange_for (request_to asked.op file) reply));
-  after = ends_behind before asked file reply left;
-  ends = line_with before asked file reply left can small named runs fed;
-  bytes = flat_map entry_bytes (recorded_in (exchange_for (request_to asked.op file) reply));
-  recorded = Appends-known before.held (flat_map entry_bytes (recorded_in (exchange_for (request_to asked.op file) reply)));
-}
+-- a line whose request is replied so
+pub goes_with : (scene : Scene) (before : Ends) (asked : HandleOp) (file : ℕ) → scene.device < 2 ^ 32 → CanBeSent asked → HoldSmall before.files → file_named before.files asked ≡ Some file
+    → Replied scene.moment (key_at before.asked) (request_to scene.device asked.op file) before.drive → Goes scene before asked
+goes_with scene before asked file known can small named replied =
+    let request : Request = request_to scene.device asked.op file in
+    let file_small : file < 2 ^ 32 = named_small (opens asked.op) (before.files asked.handle) file (small asked.handle) named in
+    let exchanged : Exchanges scene.moment request replied.reply before (ends_behind scene before asked file replied.reply replied.left) = record {
+      exchange = exchange_for request replied.reply;
+      request_is = refl;
+      sound = own_exchange scene.device asked.op file asked.handle replied.reply known can file_small replied.proper replied.fed;
+      ran = replied.ran;
+      counted = refl;
+      kept = refl;
+      recorded = refl;
+      answer_is = refl;
+    } in
+    record {
+      ending = outcome.Done replied.reply;
+      after = ends_behind scene before asked file replied.reply replied.left;
+      ends = (file, named, exchanged, λ name. refl);
+      bytes = flat_map entry_bytes (recorded_in (exchange_for request replied.reply));
+      recorded = refl;
+      quiet = replied.ran.quiet;
+    }

@@ -1,5 +1,5 @@
 -- What a joiner makes of the frames of one message, and a request that goes to the drive and back.
-use Rattle.std.proofs.Common.{◌≡◌, ℕ, ◌+◌, ◌<◌, ◌≤◌, List, [], ◌∷◌, ◌++◌, length, take, drop, ◌-◌, Option, Some, None, refl, sym, ap, subst, ◌∙◌, inl, inr, arith}
+use Rattle.std.proofs.Common.{◌≡◌, ℕ, ◌+◌, ◌<◌, ◌≤◌, List, [], ◌∷◌, ◌++◌, length, take, drop, ◌-◌, false, Option, Some, None, refl, sym, ap, subst, ◌∙◌, append_assoc, inl, inr, arith}
 use Rattle.std.specs.Prelude.{◌↔◌, IsSome}
 use Rattle.std.proofs.lemmas.Bool.{cases_lt}
 use Rattle.std.proofs.lemmas.List.{append-nil, take-append-drop, take_all}
@@ -24,12 +24,10 @@ use Rattle.rd_irp.specs.Completion.{completion_head, completion_body, SpellsHead
 use Rattle.rd_chunk.proofs.CarriedLemmas.{carried_one}
 use Rattle.rd_base.proofs.LayoutLemmas.{one_value, not_both}
 use Rattle.rd_irp.proofs.RequestLemmas.{request_one_value, request_not_both}
-use Rattle.rd_plain_drive.specs.DriveState.{DriveState}
-use Rattle.rd_script.specs.Asks.{ReplyOfKind}
+use Rattle.rd_drive.specs.Device.{may_wait}
+use Rattle.rd_drive.specs.DriveState.{DriveState}
 use Rattle.rd_irp.specs.declared.completion.Reply.{Reply}
 use Rattle.std.specs.List.{flat_map}
-use Rattle.std.specs.Io.KnownBytes.{Appends}
-use Rattle.std.proofs.KnownBytes.{Appends-trans}
 use Rattle.std.proofs.lemmas.Grind.{flat_map-append}
 use Rattle.rd_session.specs.declared.recording.Side.TheVariants.{Host, Client}
 use Rattle.rd_session.specs.Recording.{Entry, entry_bytes, entries_of, recorded_bytes}
@@ -100,26 +98,32 @@ body_read kind frames message head bad carries one spelled fault =
     not_both (completion_body kind carries.1.status) 0 (drop 16 carries.0) (carries.2, carries.4, carries.7)
     (bad, subst (λ (s : Status). FirstFaultOfBody kind s (drop 16 carries.0) bad) same_status there)
 
+-- A carried request that was read never waits.
+pub read_prompt : (frames message : List ℕ) (read : Request) (tail : ℕ) → CarriesRequest frames → One message frames → SpellsRequest read tail message → may_wait read.op ≡ false
+read_prompt frames message read tail carries one spelled =
+    let same = same_message message carries.0 frames one carries.2 in
+    let same_request : read ≡ carries.1 = (request_one_value read carries.1 tail 0 carries.0 (subst (λ (m : List ℕ). SpellsRequest read tail m) same spelled) carries.3).0 in
+    ap (λ (r : Request). may_wait r.op) same_request ∙ carries.4
+
 -- A request that is carried to the client is the one that it serves.
-pub served : (request read : Request) (key : Key) (drive left : DriveState) (journal stored : List Item) (sent asked completion message : List ℕ) (tail : ℕ)
-    → SpellsRequest request 0 sent → One sent asked → One message asked → SpellsRequest read tail message → Serves read key drive left journal stored completion
-    → Serves request key drive left journal stored completion
-served request read key drive left journal stored sent asked completion message tail spelled one_sent one_read read_spelled serves =
+pub served : (moment : ℕ) (request read : Request) (key : Key) (drive left : DriveState) (journal stored : List Item) (sent asked completion message : List ℕ) (tail : ℕ)
+    → SpellsRequest request 0 sent → One sent asked → One message asked → SpellsRequest read tail message → Serves moment read key drive left journal stored completion
+    → Serves moment request key drive left journal stored completion
+served moment request read key drive left journal stored sent asked completion message tail spelled one_sent one_read read_spelled serves =
     let same = same_message message sent asked one_read one_sent in
     let same_request : read ≡ request = (request_one_value read request tail 0 sent (subst (λ (m : List ℕ). SpellsRequest read tail m) same read_spelled) spelled).0 in
-    subst (λ (r : Request). Serves r key drive left journal stored completion) same_request serves
+    subst (λ (r : Request). Serves moment r key drive left journal stored completion) same_request serves
 
 -- The frames of the completion of a request that was served carry a completion of its kind.
-pub carries_reply : (request : Request) (key : Key) (drive left : DriveState) (journal stored : List Item) (completion answered : List ℕ)
-    → Serves request key drive left journal stored completion → One completion answered → CarriesCompletion (kind_of request.op) answered
-carries_reply request key drive left journal stored completion answered own one =
+pub carries_reply : (moment : ℕ) (request : Request) (key : Key) (drive left : DriveState) (journal stored : List Item) (completion answered : List ℕ)
+    → Serves moment request key drive left journal stored completion → One completion answered → CarriesCompletion (kind_of request.op) answered
+carries_reply moment request key drive left journal stored completion answered own one =
     let done = own.completes in
     (completion, record { device = request.device; completion = request.completion; status = own.reply.status }, own.reply.body, length (drop 16 completion), done.tail, one, done.head, done.body)
 
 -- What is heard in the frames of a completion of a request is its reply.
-pub reply_heard : (request : Request) (reply : Reply) (completion answered : List ℕ) (kind : Kind) (heard : ReplyOfKind)
-    → Completes request reply completion → One completion answered → HearsIn kind answered heard → kind ≡ kind_of request.op
-    → heard ≡ record { kind = kind_of request.op; status = reply.status; body = reply.body }
+pub reply_heard : (request : Request) (reply : Reply) (completion answered : List ℕ) (kind : Kind) (heard : Reply)
+    → Completes request reply completion → One completion answered → HearsIn kind answered heard → kind ≡ kind_of request.op → heard ≡ reply
 reply_heard request reply completion answered kind heard own one_completion hears kind_is =
     let same_completion = same_message hears.message completion answered hears.carried one_completion in
     let heard_head : SpellsHead (record { device = hears.device; completion = hears.completion; status = heard.status }) (length completion - 16) completion =
@@ -131,8 +135,7 @@ reply_heard request reply completion answered kind heard own one_completion hear
     (subst (λ (s : Status). SpellsBody (kind_of request.op) s heard.body hears.tail (drop 16 hears.message)) same_status
     (subst (λ (k : Kind). SpellsBody k heard.status heard.body hears.tail (drop 16 hears.message)) kind_is hears.body)) in
     let same_body : heard.body ≡ reply.body = (one_value (completion_body (kind_of request.op) reply.status) 0 (drop 16 completion) _ _ _ _ heard_body own.body).0 in
-    let same_kind : heard.kind ≡ kind_of request.op = hears.kind_is ∙ kind_is in
-    λ i. record { kind = same_kind i; status = same_status i; body = same_body i }
+    λ i. record { status = same_status i; body = same_body i }
 
 -- The frames of an exchange are those of its request and those of its completion, one behind the other.
 pub exchange_frames : (e : Exchange) → flat_map entry_bytes (recorded_in e) ≡ recorded_bytes Host e.sent ++ recorded_bytes Client e.completion
@@ -141,9 +144,11 @@ exchange_frames e =
     let told : List Entry = entries_of (Client, e.completion) in
     flat_map-append entry_bytes sent (told ++ []) ∙ ap (λ (l : List Entry). flat_map entry_bytes sent ++ flat_map entry_bytes l) (append-nil told)
 
-both_recorded : (old middle new : Option (List ℕ)) (e : Exchange) → Appends old middle (recorded_bytes Host e.sent) → Appends middle new (recorded_bytes Client e.completion) → Appends old new (flat_map entry_bytes (recorded_in e))
+both_recorded : (old middle new : List ℕ) (e : Exchange) → middle ≡ old ++ recorded_bytes Host e.sent → new ≡ middle ++ recorded_bytes Client e.completion → new ≡ old ++ flat_map entry_bytes (recorded_in e)
 both_recorded old middle new e first second =
-    subst (λ (bytes : List ℕ). Appends old new bytes) (sym (exchange_frames e)) (Appends-trans old middle new (recorded_bytes Host e.sent) (recorded_bytes Client e.completion) first second)
+    second ∙ ap (λ (l : List ℕ). l ++ recorded_bytes Client e.completion) first
+    ∙ append_assoc old (recorded_bytes Host e.sent) (recorded_bytes Client e.completion)
+    ∙ ap (λ (l : List ℕ). old ++ l) (sym (exchange_frames e))
 
 -- a request that fits is within the limit of a message
 request_most : (op : Op) → Fits op → 24 + op_length op ≤ 1052672
@@ -157,12 +162,12 @@ pub request_is_message : (op : Op) (message : List ℕ) → Fits op → length m
 request_is_message op message fits long = (omega (arith, long), omega (arith, long, request_most op fits))
 
 -- A request that went to the drive and back: its own message was read there, and what is heard in the frames of the completion is the reply.
-pub exchanged : (request : Request) (kind : Kind) (sent asked completion answered : List ℕ) (before after : Ends) (middle : Option (List ℕ)) (heard : ReplyOfKind)
-    → IsMessage sent → SpellsRequest request 0 sent → sent ≡ request_bytes request → IsMessage completion → Serves request (key_at before.asked) before.drive after.drive before.journal after.journal completion
+pub exchanged : (moment : ℕ) (request : Request) (kind : Kind) (sent completion answered : List ℕ) (before after : Ends) (middle : List ℕ) (heard : Reply)
+    → IsMessage sent → SpellsRequest request 0 sent → sent ≡ request_bytes request → IsMessage completion → Serves moment request (key_at before.asked) before.drive after.drive before.journal after.journal completion
     → One completion answered → HearsIn kind answered heard → kind ≡ kind_of request.op → after.asked ≡ before.asked + 1
-    → Appends before.held middle (recorded_bytes Host sent) → Appends middle after.held (recorded_bytes Client completion)
-    → Exchanges request heard before after
-exchanged request kind sent asked completion answered before after middle heard sent_fits spelled sent_bytes completion_fits own one hears kind_is counted first second =
+    → middle ≡ before.gathered ++ recorded_bytes Host sent → after.gathered ≡ middle ++ recorded_bytes Client completion
+    → Exchanges moment request heard before after
+exchanged moment request kind sent completion answered before after middle heard sent_fits spelled sent_bytes completion_fits own one hears kind_is counted first second =
     let e : Exchange = record { request = request; reply = own.reply; sent = sent; completion = completion } in
     record {
       exchange = e;
@@ -174,11 +179,12 @@ exchanged request kind sent asked completion answered before after middle heard 
         completes = own.completes;
         sent_bytes = sent_bytes;
         completion_bytes = own.written;
+        answers = own.answers;
         close_fed = own.close_fed;
       };
       ran = own.ran;
       counted = counted;
       kept = own.kept;
-      recorded = both_recorded before.held middle after.held e first second;
-      answer = reply_heard request own.reply completion answered kind heard own.completes one hears kind_is;
+      recorded = both_recorded before.gathered middle after.gathered e first second;
+      answer_is = reply_heard request own.reply completion answered kind heard own.completes one hears kind_is;
     }

@@ -1,5 +1,5 @@
 -- The first bytes of a message: its header, and the pair that a completion names.
-use Rattle.std.proofs.Common.{◌≡◌, ℕ, ◌<◌, List, [], ◌++◌, take, drop, sym, ap, ◌∙◌}
+use Rattle.std.proofs.Common.{◌≡◌, ℕ, ◌<◌, List, [], ◌++◌, take, drop, sym, ap, subst, ◌∙◌}
 use Rattle.std.specs.Prelude.{◌==◌, ◌&&◌, ◌^◌}
 use Rattle.std.specs.Int.{w16, w32, to_le_bytes, from_le_bytes}
 use Rattle.std.proofs.lemmas.Bool.{and_parts, eqb-true}
@@ -101,6 +101,17 @@ pair_is head tail bytes s =
     let b = begins_more (header_bytes IoCompletion ++ pair_bytes head.device head.completion) s.0 s.1 bytes (head_begins head s.0 s.1 s.4) s.2 in
     ap (λ (y : List ℕ). take 8 (drop 4 y)) b.1
 
+-- a completion's device and completion id are numbers of 32 bits
+pair_small : (head : Head) (field behind : List ℕ) → IsSpelled completion_head head field behind → (head.device < 2 ^ 32) × (head.completion < 2 ^ 32)
+unfolding completion_head
+pair_small head field behind s =
+    let d = s.5 in
+    let c = d.5 in
+    let same = sym c.5.5.0 in (
+      subst (λ (h : Head). h.device < 2 ^ 32) same d.4.1,
+      subst (λ (h : Head). h.completion < 2 ^ 32) same c.4.1,
+    )
+
 -- two pairs with the same bytes are the same pair
 pair_again : (a b c d : ℕ) → a < 2 ^ 32 → b < 2 ^ 32 → c < 2 ^ 32 → d < 2 ^ 32 → pair_bytes a b ≡ pair_bytes c d → (a ≡ c) × (b ≡ d)
 pair_again a b c d la lb lc ld e =
@@ -111,13 +122,14 @@ pair_again a b c d la lb lc ld e =
     )
 
 -- a completion names a pair exactly where it is its own
-pub names_own : (head : Head) (tail device completion : ℕ) (bytes : List ℕ) → head.device < 2 ^ 32 → head.completion < 2 ^ 32 → device < 2 ^ 32 → completion < 2 ^ 32
+pub names_own : (head : Head) (tail device completion : ℕ) (bytes : List ℕ) → device < 2 ^ 32 → completion < 2 ^ 32
     → SpellsHead head tail bytes → names_pair device completion bytes ≡ (head.device == device && head.completion == completion)
-names_own head tail device completion bytes own_device own_completion fits_device fits_completion s =
+names_own head tail device completion bytes fits_device fits_completion s =
+    let small = pair_small head s.0 s.1 s.4 in
     let itself = bytes_eq-Decides (take 8 (drop 4 bytes)) (pair_bytes device completion) in
     let own = pair_is head tail bytes s in
     same_from_decides {P = (head.device ≡ device) × (head.completion ≡ completion)} (names_pair device completion bytes) (head.device == device && head.completion == completion) (
-      (λ yes. pair_again head.device head.completion device completion own_device own_completion fits_device fits_completion (sym own ∙ itself.0 yes)),
+      (λ yes. pair_again head.device head.completion device completion small.0 small.1 fits_device fits_completion (sym own ∙ itself.0 yes)),
       (λ same. itself.1 (own ∙ ap (λ (n : ℕ). pair_bytes n head.completion) same.0 ∙ ap (λ (n : ℕ). pair_bytes device n) same.1)),
     )
     (Decides-and (head.device == device) (head.completion == completion) (Decides-eqb head.device device) (Decides-eqb head.completion completion))

@@ -15,7 +15,7 @@ use Rattle.rd_base.specs.declared.packet.Packet.TheVariants.{IoRequest}
 use Rattle.rd_base.specs.Header.{header_bytes}
 use Rattle.rd_session.specs.declared.recording.Side.TheVariants.{Host, Client}
 use Rattle.rd_chunk.specs.Carrier.{IsMessage}
-use Rattle.rd_session.specs.Channel.{Exchange, answer_in, recorded_in}
+use Rattle.rd_session.specs.Channel.{Exchange, recorded_in}
 use Rattle.rd_session.specs.Recording.{Entry, Passed, entries_of}
 use Rattle.rd_session.specs.Session.{Asks, key_at, in_turn, first_keys, Hears}
 use Rattle.rd_session.specs.Told.{Counted, InOrder, Completes, CompletesKey, RanAt, completes, is_request, has_pair, names_pair}
@@ -42,23 +42,23 @@ wire (e ∷ es) =
     joined (entries_of (Host, e.sent)) (entries_of (Client, e.completion)) (flat_map recorded_in es)
     ∙ ap (λ (x : List Entry). entries_of (Host, e.sent) ++ (entries_of (Client, e.completion) ++ x)) (wire es)
 
-fit_each : (es : List Exchange) → AreOwn es → AllByRecursion (λ p. IsMessage p.1) (in_turn (zip (sents es) (completions es)))
-fit_each [] own = tt
-fit_each (e ∷ es) own = (own.0.0.sent_fits, (own.0.0.completion_fits, fit_each es own.1))
+fit_each : (device : ℕ) (es : List Exchange) → AreOwn device es → AllByRecursion (λ p. IsMessage p.1) (in_turn (zip (sents es) (completions es)))
+fit_each device [] own = tt
+fit_each device (e ∷ es) own = (own.0.0.sent_fits, (own.0.0.completion_fits, fit_each device es own.1))
 
 -- frames can carry each message
-pub fit : (es : List Exchange) → AreOwn es → All (λ p. IsMessage p.1) (in_turn (zip (sents es) (completions es)))
-fit es own = All-from_recursion (λ (p : Passed). IsMessage p.1) _ (fit_each es own)
+pub fit : (device : ℕ) (es : List Exchange) → AreOwn device es → All (λ p. IsMessage p.1) (in_turn (zip (sents es) (completions es)))
+fit device es own = All-from_recursion (λ (p : Passed). IsMessage p.1) _ (fit_each device es own)
 
 -- each request is spelled
-pub spelled : (es : List Exchange) → AreOwn es → AllZip Asks (map (λ e. e.request) es) (sents es)
-spelled [] own = tt
-spelled (e ∷ es) own = ((own.0.0.spelled, own.0.0.sent_bytes), spelled es own.1)
+pub spelled : (device : ℕ) (es : List Exchange) → AreOwn device es → AllZip Asks (map (λ e. e.request) es) (sents es)
+spelled device [] own = tt
+spelled device (e ∷ es) own = ((own.0.0.spelled, own.0.0.sent_bytes), spelled device es own.1)
 
 -- each answer is heard in its completion
-pub heard : (es : List Exchange) → AreOwn es → AllZip Hears (zip (map (λ e. e.request) es) (map answer_in es)) (completions es)
-heard [] own = tt
-heard (e ∷ es) own = ((refl, own.0.0.completes, own.0.0.completion_bytes), heard es own.1)
+pub heard : (device : ℕ) (es : List Exchange) → AreOwn device es → AllZip Hears (zip (map (λ e. e.request) es) (map (λ e. e.reply) es)) (completions es)
+heard device [] own = tt
+heard device (e ∷ es) own = ((own.0.0.completes, own.0.0.completion_bytes), heard device es own.1)
 
 -- the first keys, and those behind them
 keys_first : (n : ℕ) (es : List Exchange) (m : ℕ) → m ≡ n + length es → first_keys m ≡ first_keys n ++ keys_from n es
@@ -80,17 +80,17 @@ index_below (suc m) n (e ∷ es) k (suc i, lt, is) =
     omega (arith, below)
 
 -- the place of a key's run
-ran_place : (n : ℕ) (es : List Exchange) (i : ℕ) (k : Key) → RanAt (stored_from n es) i k → i + 3 * n ≡ 3 * k.index + 1
-ran_place n [] i k r = absurd cc
-ran_place n (e ∷ es) zero k r = absurd cc
-ran_place n (e ∷ es) (suc zero) k r =
+ran_place : (moment n : ℕ) (es : List Exchange) (i : ℕ) (k : Key) → RanAt (stored_from moment n es) i k → i + 3 * n ≡ 3 * k.index + 1
+ran_place moment n [] i k r = absurd cc
+ran_place moment n (e ∷ es) zero k r = absurd cc
+ran_place moment n (e ∷ es) (suc zero) k r =
     let ran = r.3 in
     let same : key_at n ≡ k = cc in
     let index : n ≡ k.index = ap (λ (x : Key). x.index) same in
     omega (arith, index)
-ran_place n (e ∷ es) (suc (suc zero)) k r = absurd cc
-ran_place n (e ∷ es) (suc (suc (suc i))) k r =
-    let there : i + 3 * suc n ≡ 3 * k.index + 1 = ran_place (suc n) es i k r in
+ran_place moment n (e ∷ es) (suc (suc zero)) k r = absurd cc
+ran_place moment n (e ∷ es) (suc (suc (suc i))) k r =
+    let there : i + 3 * suc n ≡ 3 * k.index + 1 = ran_place moment (suc n) es i k r in
     omega (arith, there)
 
 -- ---- the order
@@ -109,46 +109,46 @@ at_most_one true = omega arith
 at_most_one false = omega arith
 
 -- a request, and one that completes at most one, in front of others
-two_more : (x y : Passed) (before : List Passed) → completes 1 x ≡ false → is_request x ≡ true → count_by (completes 1) before ≤ count_by is_request before
-    → count_by (completes 1) (x ∷ y ∷ before) ≤ count_by is_request (x ∷ y ∷ before)
-two_more x y before silent asks most =
-    let none : ◌≡◌ {A = ℕ} (cond (completes 1 x) 1 0) 0 = ap (λ (b : Bool). cond b 1 0) silent in
+two_more : (device : ℕ) (x y : Passed) (before : List Passed) → completes device x ≡ false → is_request x ≡ true → count_by (completes device) before ≤ count_by is_request before
+    → count_by (completes device) (x ∷ y ∷ before) ≤ count_by is_request (x ∷ y ∷ before)
+two_more device x y before silent asks most =
+    let none : ◌≡◌ {A = ℕ} (cond (completes device x) 1 0) 0 = ap (λ (b : Bool). cond b 1 0) silent in
     let one : ◌≡◌ {A = ℕ} (cond (is_request x) 1 0) 1 = ap (λ (b : Bool). cond b 1 0) asks in
     omega (
       arith,
       none,
       one,
       most,
-      at_most_one (completes 1 y),
-      counts (completes 1) x (y ∷ before),
-      counts (completes 1) y before,
+      at_most_one (completes device y),
+      counts (completes device) x (y ∷ before),
+      counts (completes device) y before,
       counts is_request x (y ∷ before),
       counts is_request y before,
     )
 
 -- no front has more completions than requests
-fronts : (es : List Exchange) → AreOwn es → (before behind : List Passed) → in_turn (zip (sents es) (completions es)) ≡ before ++ behind → count_by (completes 1) before ≤ count_by is_request before
-fronts es own [] behind is = omega arith
-fronts [] own (x ∷ xs) behind is = absurd cc
-fronts (e ∷ es) own (x ∷ []) behind is =
+fronts : (device : ℕ) (es : List Exchange) → AreOwn device es → (before behind : List Passed) → in_turn (zip (sents es) (completions es)) ≡ before ++ behind → count_by (completes device) before ≤ count_by is_request before
+fronts device es own [] behind is = omega arith
+fronts device [] own (x ∷ xs) behind is = absurd cc
+fronts device (e ∷ es) own (x ∷ []) behind is =
     let first : (Host, e.sent) ≡ x = cc in
     rw (← first) (omega arith)
-fronts (e ∷ es) own (x ∷ y ∷ before) behind is =
+fronts device (e ∷ es) own (x ∷ y ∷ before) behind is =
     let first : (Host, e.sent) ≡ x = cc in
     let rest : in_turn (zip (sents es) (completions es)) ≡ before ++ behind = cc in
-    let silent : completes 1 x ≡ false = ap (completes 1) (sym first) in
+    let silent : completes device x ≡ false = ap (completes device) (sym first) in
     let asks : is_request x ≡ true = ap is_request (sym first) ∙ spells_counts e.request 0 e.sent own.0.0.spelled in
-    two_more x y before silent asks (fronts es own.1 before behind rest)
+    two_more device x y before silent asks (fronts device es own.1 before behind rest)
 
 -- What was completed ran before what was asked behind it.
-pub in_order : (es : List Exchange) → AreOwn es → InOrder 1 1 (in_turn (zip (sents es) (completions es))) (stored_from 0 es)
-in_order es own before behind k l is completed channel asked i j ran_i ran_j =
-    let among : Contains (take (count_by (completes 1) before) (keys_from 0 es)) k =
-    subst (λ (ks : List Key). Contains (take (count_by (completes 1) before) ks) k) (sent_keys-stored_from 0 es) completed in
-    let below : k.index < 0 + count_by (completes 1) before = index_below (count_by (completes 1) before) 0 es k among in
-    let most : count_by (completes 1) before ≤ count_by is_request before = fronts es own before behind is in
-    let at_k : i + 3 * 0 ≡ 3 * k.index + 1 = ran_place 0 es i k ran_i in
-    let at_l : j + 3 * 0 ≡ 3 * l.index + 1 = ran_place 0 es j l ran_j in
+pub in_order : (moment device : ℕ) (es : List Exchange) → AreOwn device es → InOrder device 1 (in_turn (zip (sents es) (completions es))) (stored_from moment 0 es)
+in_order moment device es own before behind k l is completed channel asked i j ran_i ran_j =
+    let among : Contains (take (count_by (completes device) before) (keys_from 0 es)) k =
+    subst (λ (ks : List Key). Contains (take (count_by (completes device) before) ks) k) (sent_keys-stored_from moment 0 es) completed in
+    let below : k.index < 0 + count_by (completes device) before = index_below (count_by (completes device) before) 0 es k among in
+    let most : count_by (completes device) before ≤ count_by is_request before = fronts device es own before behind is in
+    let at_k : i + 3 * 0 ≡ 3 * k.index + 1 = ran_place moment 0 es i k ran_i in
+    let at_l : j + 3 * 0 ≡ 3 * l.index + 1 = ran_place moment 0 es j l ran_j in
     omega (arith, below, most, asked, at_k, at_l)
 
 -- ---- the pairs
@@ -160,38 +160,38 @@ filter_same test true (x ∷ xs) same = rw same.0 (ap (λ ys. x ∷ ys) (filter_
 filter_same test false (x ∷ xs) same = rw same.0 (filter_same test false xs same.1)
 
 -- whether a pair is that of this session
-abbrev is_own_pair : ℕ → ℕ → Bool
-is_own_pair device completion = 1 == device && 0 == completion
+abbrev is_own_pair : ℕ → ℕ → ℕ → Bool
+is_own_pair own device completion = own == device && 0 == completion
 
-keys_pair : (requests : Key → Request) (device completion n : ℕ) (es : List Exchange) → AreOwn es → NamesFrom requests n es
-    → AllByRecursion (λ key. has_pair device completion (requests key) ≡ is_own_pair device completion) (keys_from n es)
-keys_pair requests device completion n [] own named = tt
-keys_pair requests device completion n (e ∷ es) own named = (
-  ap (has_pair device completion) named.0 ∙ ap (λ (m : ℕ). m == device && e.request.completion == completion) own.0.1 ∙ ap (λ (m : ℕ). 1 == device && m == completion) own.0.2,
-  keys_pair requests device completion (suc n) es own.1 named.1,
+keys_pair : (requests : Key → Request) (own device completion n : ℕ) (es : List Exchange) → AreOwn own es → NamesFrom requests n es
+    → AllByRecursion (λ key. has_pair device completion (requests key) ≡ is_own_pair own device completion) (keys_from n es)
+keys_pair requests own device completion n [] all named = tt
+keys_pair requests own device completion n (e ∷ es) all named = (
+  ap (has_pair device completion) named.0 ∙ ap (λ (m : ℕ). m == device && e.request.completion == completion) all.0.1 ∙ ap (λ (m : ℕ). own == device && m == completion) all.0.2,
+  keys_pair requests own device completion (suc n) es all.1 named.1,
 )
 
-names_itself : (r : Request) (reply : Reply) (device completion : ℕ) (message : List ℕ) → r.device ≡ 1 → r.completion ≡ 0 → device < 2 ^ 32 → completion < 2 ^ 32 → Completes r reply message
-    → names_pair device completion message ≡ is_own_pair device completion
-names_itself r reply device completion message one none fits_device fits_completion done =
-    names_own _ _ device completion message (omega (arith, one)) (omega (arith, none)) fits_device fits_completion done.head
-    ∙ ap (λ (m : ℕ). m == device && r.completion == completion) one ∙ ap (λ (m : ℕ). 1 == device && m == completion) none
+names_itself : (r : Request) (reply : Reply) (own device completion : ℕ) (message : List ℕ) → r.device ≡ own → r.completion ≡ 0 → device < 2 ^ 32 → completion < 2 ^ 32 → Completes r reply message
+    → names_pair device completion message ≡ is_own_pair own device completion
+names_itself r reply own device completion message one none fits_device fits_completion done =
+    names_own _ _ device completion message fits_device fits_completion done.head
+    ∙ ap (λ (m : ℕ). m == device && r.completion == completion) one ∙ ap (λ (m : ℕ). own == device && m == completion) none
 
-messages_pair : (device completion : ℕ) (es : List Exchange) → device < 2 ^ 32 → completion < 2 ^ 32 → AreOwn es
-    → AllByRecursion (λ message. names_pair device completion message ≡ is_own_pair device completion) (completions es)
-messages_pair device completion [] fits_device fits_completion own = tt
-messages_pair device completion (e ∷ es) fits_device fits_completion own = (
-  names_itself e.request e.reply device completion e.completion own.0.1 own.0.2 fits_device fits_completion own.0.0.completes,
-  messages_pair device completion es fits_device fits_completion own.1,
+messages_pair : (own device completion : ℕ) (es : List Exchange) → device < 2 ^ 32 → completion < 2 ^ 32 → AreOwn own es
+    → AllByRecursion (λ message. names_pair device completion message ≡ is_own_pair own device completion) (completions es)
+messages_pair own device completion [] fits_device fits_completion all = tt
+messages_pair own device completion (e ∷ es) fits_device fits_completion all = (
+  names_itself e.request e.reply own device completion e.completion all.0.1 all.0.2 fits_device fits_completion all.0.0.completes,
+  messages_pair own device completion es fits_device fits_completion all.1,
 )
 
 -- each completion answers its key
-each_answers : (requests : Key → Request) (replies : List (Key × Reply)) (journal : List Item) (n : ℕ) (es : List Exchange) → AreOwn es → NamesFrom requests n es
+each_answers : (requests : Key → Request) (replies : List (Key × Reply)) (journal : List Item) (device n : ℕ) (es : List Exchange) → AreOwn device es → NamesFrom requests n es
     → AllByRecursion (Contains replies) (replies_from n es) → AllZip (CompletesKey requests replies journal) (keys_from n es) (completions es)
-each_answers requests replies journal n [] own named among = tt
-each_answers requests replies journal n (e ∷ es) own named among = (
+each_answers requests replies journal device n [] own named among = tt
+each_answers requests replies journal device n (e ∷ es) own named among = (
   (e.reply, inl among.0, subst (λ (r : Request). Completes r e.reply e.completion) (sym named.0) own.0.0.completes),
-  each_answers requests replies journal (suc n) es own.1 named.1 among.1,
+  each_answers requests replies journal device (suc n) es own.1 named.1 among.1,
 )
 
 -- two lists place by place, of which the second leaves nothing of the first
@@ -208,14 +208,15 @@ told_of R true xs asked ys told h asked_is told_is = rw (asked_is, told_is) (all
 told_of R false xs asked ys told h asked_is told_is = rw (asked_is, told_is) (omega arith, tt)
 
 -- Of each pair, the completions answer the requests in turn.
-pub counted : (requests : Key → Request) (es : List Exchange) → AreOwn es → NamesFrom requests 0 es
-    → Counted requests (replies_from 0 es) (stored_from 0 es) (first_keys (length es)) (completions es)
-counted requests es own named device completion fits_device fits_completion =
-    let each : AllZip (CompletesKey requests (replies_from 0 es) (stored_from 0 es)) (keys_from 0 es) (completions es) =
-    each_answers requests (replies_from 0 es) (stored_from 0 es) 0 es own named (recursion_from_All (Contains (replies_from 0 es)) (replies_from 0 es) (All-contains_itself (replies_from 0 es))) in
-    told_of (CompletesKey requests (replies_from 0 es) (stored_from 0 es)) (is_own_pair device completion) (keys_from 0 es) _ (completions es) _ each
+pub counted : (requests : Key → Request) (moment own : ℕ) (es : List Exchange) → AreOwn own es → NamesFrom requests 0 es
+    → Counted requests (replies_from 0 es) (stored_from moment 0 es) (first_keys (length es)) (completions es)
+counted requests moment own es all named device completion fits_device fits_completion =
+    let journal = stored_from moment 0 es in
+    let each : AllZip (CompletesKey requests (replies_from 0 es) journal) (keys_from 0 es) (completions es) =
+    each_answers requests (replies_from 0 es) journal own 0 es all named (recursion_from_All (Contains (replies_from 0 es)) (replies_from 0 es) (All-contains_itself (replies_from 0 es))) in
+    told_of (CompletesKey requests (replies_from 0 es) journal) (is_own_pair own device completion) (keys_from 0 es) _ (completions es) _ each
     (
     ap (filter (λ key. has_pair device completion (requests key))) (first_are es)
-    ∙ filter_same (λ key. has_pair device completion (requests key)) (is_own_pair device completion) (keys_from 0 es) (keys_pair requests device completion 0 es own named)
+    ∙ filter_same (λ key. has_pair device completion (requests key)) (is_own_pair own device completion) (keys_from 0 es) (keys_pair requests own device completion 0 es all named)
     )
-    (filter_same (names_pair device completion) (is_own_pair device completion) (completions es) (messages_pair device completion es fits_device fits_completion own))
+    (filter_same (names_pair device completion) (is_own_pair own device completion) (completions es) (messages_pair own device completion es fits_device fits_completion all))

@@ -4,34 +4,50 @@ use Rattle.std.specs.Prelude.{codes, All}
 use Rattle.rd_base.specs.declared.journal.Item.TheVariants.{Came, Cancelled, Sent, Cut}
 use Rattle.rd_base.specs.declared.journal.Cause.TheVariants.{Removed}
 use Rattle.rd_irp.specs.declared.op.Op.TheVariants as op
-use Rattle.rd_script.proofs.Worked.{open_a, read_five, close_it, opened, hello, closed}
+use Rattle.rd_irp.specs.declared.completion.Body.{Body}
+use Rattle.rd_irp.specs.declared.completion.Body.TheVariants as body
+use Rattle.rd_irp.specs.declared.completion.Reply.{Reply}
+use Rattle.rd_session.specs.Asking.{HandleOp, asked, generic_read, open_existing, share_all}
 use Rattle.rd_session.specs.Session.{IsUncut, first_keys, in_turn, key_at}
 use Rattle.rd_session.specs.declared.recording.Side.TheVariants.{Host, Client}
 use Rattle.rd_script.specs.declared.outcome.Outcome.TheVariants as outcome
-use Rattle.rd_session.specs.Outcomes.{held_file, requests_of}
+use Rattle.rd_session.specs.Outcomes.{held_file, no_handle, requests_of}
 use Rattle.rd_session.specs.Recording.{recording_of, begins, sends}
 use Rattle.rd_session.specs.Told.{names_pair, completes, is_request}
 
+-- What some lines ask for, and how they are answered.
+open_a : HandleOp
+open_a = asked (codes "h") (op.Create generic_read 0 0 share_all open_existing 0 (codes "\\a"))
+
+read_five : HandleOp
+read_five = asked (codes "h") (op.Read 0 5)
+
+close_it : HandleOp
+close_it = asked (codes "h") op.Close
+
+done : Body → Reply
+done b = record { status = record { 0 = 0 }; body = b }
+
 -- A handle holds what its last open gave, and nothing where that failed or another name was opened.
-holds_one : held_file (codes "h") ((open_a, outcome.Done opened) ∷ []) ≡ Some 1
-unfolding open_a opened
+holds_one : held_file (codes "h") ((open_a, outcome.Done (done (body.Created 1 1))) ∷ []) ≡ Some 1
+unfolding open_a done
 holds_one = refl
 
-holds_none : held_file (codes "k") ((open_a, outcome.Done opened) ∷ []) ≡ None
-unfolding open_a opened
+holds_none : held_file (codes "k") ((open_a, outcome.Done (done (body.Created 1 1))) ∷ []) ≡ None
+unfolding open_a done
 holds_none = refl
 
 -- The requests that the lines send: an open names no file, the others the one that was opened.
-three_requests : requests_of [] ((open_a, outcome.Done opened) ∷ (read_five, outcome.Done hello) ∷ (close_it, outcome.Done closed) ∷ [])
+three_requests : requests_of 1 [] ((open_a, outcome.Done (done (body.Created 1 1))) ∷ (read_five, outcome.Done (done (body.Buffer (codes "hello")))) ∷ (close_it, outcome.Done (done body.Closed)) ∷ [])
     ≡ record { device = 1; file = 0; completion = 0; op = op.Create 0x8000_0000 0 0 7 1 0 (codes "\\a") }
     ∷ record { device = 1; file = 1; completion = 0; op = op.Read 0 5 }
     ∷ record { device = 1; file = 1; completion = 0; op = op.Close }
     ∷ []
-unfolding open_a read_five close_it opened hello closed
+unfolding open_a read_five close_it done
 three_requests = refl
 
 -- A read before any open sends nothing.
-no_request : requests_of [] ((read_five, outcome.NoHandle) ∷ []) ≡ []
+no_request : requests_of 1 [] ((read_five, no_handle) ∷ []) ≡ []
 unfolding read_five
 no_request = refl
 

@@ -1,3 +1,6 @@
+pub mod Asking
+pub mod Opening
+pub mod Served
 pub mod Outcomes
 pub mod Recording
 pub mod Told

@@ -98,7 +98,7 @@ mod tests {
         assert!(rt; matches!(recording, Err(ErrorKind::NotFound)));
         for (script, status, printed) in [
             (SCRIPT, 0, REPORT),
-            (b"drive 2 DATA\n", 1, b"line 1 words\n".as_slice()),
+            (b"drive 1 DATABASE\n", 1, b"line 1 name\n".as_slice()),
         ] {
             let (ended, output) = ended(&rt, "both", script)?;
             assert_eq!(rt; (ended, output.bytes()), (status, printed));

@@ -12,6 +12,9 @@ const PIECE: usize = 4096;
 /// How many pieces a file has.
 const PIECES: u32 = 4096;
 
+/// The bytes of a file.
+const FILE: usize = PIECE * PIECES as usize;
+
 /// The pieces lie in pages of their own, or each in two.
 const FIRSTS: [u64; 2] = [0, 1];
 
@@ -30,37 +33,46 @@ pub fn try_once(rt: &HostRuntime) -> Result<()> {
 /// Prints how fast so many megabytes are copied, and written to files and read from them, piece by piece.
 pub fn measure(rt: &HostRuntime, megabytes: u32) -> Result<()> {
     let piece = [0x5a; PIECE];
-    let size = PIECE * PIECES as usize;
-    let rounds = rounds(megabytes, size);
+    let rounds = rounds(megabytes, FILE);
+    measure_copies(rt, &piece, rounds)?;
+    for first in FIRSTS {
+        measure_file(rt, &piece, first, rounds)?;
+    }
+    Ok(())
+}
+
+fn measure_copies(rt: &HostRuntime, piece: &[u8; PIECE], rounds: u64) -> Result<()> {
     let started = Instant::now(rt)?;
     for _ in 0..rounds {
-        copy_in(rt.alloc(), &piece)?;
+        copy_in(rt.alloc(), piece)?;
     }
-    let copied_in = speed(size, rounds, started.elapsed(rt)?);
-    let bytes = vec![in rt.alloc(); 0x5a; size]?;
+    let copied_in = speed(FILE, rounds, started.elapsed(rt)?);
+    let bytes = vec![in rt.alloc(); 0x5a; FILE]?;
     let started = Instant::now(rt)?;
     for _ in 0..rounds {
         copy_out(rt.alloc(), bytes.as_slice())?;
     }
-    let copied_out = speed(size, rounds, started.elapsed(rt)?);
+    let copied_out = speed(FILE, rounds, started.elapsed(rt)?);
     println!(rt; "copy in {copied_in} MB/s, copy out {copied_out} MB/s")?;
-    for first in FIRSTS {
-        let started = Instant::now(rt)?;
-        for _ in 0..rounds {
-            write_whole(rt.alloc(), &piece, first, PIECES)?;
-        }
-        let written = speed(size, rounds, started.elapsed(rt)?);
-        let contents = write_whole(rt.alloc(), &piece, first, PIECES)?;
-        let started = Instant::now(rt)?;
-        for _ in 0..rounds {
-            read_whole(&contents, &piece, first, PIECES)?;
-        }
-        let read = speed(size, rounds, started.elapsed(rt)?);
-        let kept = thousandths(contents.pages(), contents.len());
-        println!(rt;
-            "from {first} on: write {written} MB/s, read {read} MB/s, kept {kept} thousandths"
-        )?;
+    Ok(())
+}
+
+fn measure_file(rt: &HostRuntime, piece: &[u8; PIECE], first: u64, rounds: u64) -> Result<()> {
+    let started = Instant::now(rt)?;
+    for _ in 0..rounds {
+        write_whole(rt.alloc(), piece, first, PIECES)?;
     }
+    let written = speed(FILE, rounds, started.elapsed(rt)?);
+    let contents = write_whole(rt.alloc(), piece, first, PIECES)?;
+    let started = Instant::now(rt)?;
+    for _ in 0..rounds {
+        read_whole(&contents, piece, first, PIECES)?;
+    }
+    let read = speed(FILE, rounds, started.elapsed(rt)?);
+    let kept = thousandths(contents.pages(), contents.len());
+    println!(rt;
+        "from {first} on: write {written} MB/s, read {read} MB/s, kept {kept} thousandths"
+    )?;
     Ok(())
 }
 
@@ -79,7 +91,7 @@ fn copy_out(alloc: Global, bytes: &[u8]) -> Result<()> {
 
 /// Copies a piece to each place of a new list that has room for all.
 fn copy_in(alloc: Global, piece: &[u8; PIECE]) -> Result<()> {
-    let mut bytes = Vec::with_capacity(alloc, PIECE * PIECES as usize)?;
+    let mut bytes = Vec::with_capacity(alloc, FILE)?;
     for _ in 0..PIECES {
         bytes.extend_from_slice(piece)?;
     }

@@ -1,14 +1,17 @@
-//! How fast frames, recordings, the contents of files, locks, trees and turns are, beside a plain copy where bytes are moved.
+//! How fast frames, recordings, the contents of files, locks, trees, drives, scripts and turns are, beside a plain copy or a plain split
+//! where there is one.
 //!
-//! Without words each subject runs once, in little, and says so. `frames`, `decode` and `contents`, with a number of
-//! megabytes, `locks`, `tree` and `turn` measure one subject each and print its figures; a number alone measures frames.
+//! Without words each subject runs once, in little, and says so. `frames`, `decode` and `contents`, with a number of megabytes, `locks`,
+//! `tree`, `drive`, `script` and `turn` measure one subject each and print its figures; a number alone measures frames.
 #![tactic(auto)]
 
 mod contents;
 mod decode;
+mod drive;
 mod figures;
 mod frames;
 mod locks;
+mod script;
 mod tree;
 mod turn;
 
@@ -29,14 +32,23 @@ fn main(rt: HostRuntime) -> Result<()> {
         Some(word) => parse_megabytes(word.as_str())?,
         None => MEGABYTES,
     };
-    match subject.as_str() {
-        "decode" => decode::measure(&rt, megabytes),
-        "contents" => contents::measure(&rt, megabytes),
-        "locks" => locks::measure(&rt),
-        "tree" => tree::measure(&rt),
-        "turn" => turn::measure(&rt, rt.alloc()),
-        "frames" => frames::measure(&rt, megabytes),
-        number => frames::measure(&rt, parse_megabytes(number)?),
+    if subject.as_str() == "turn" {
+        return turn::measure(&rt, rt.alloc());
+    }
+    measure(&rt, subject.as_str(), megabytes)
+}
+
+/// Prints the figures of a subject, or of frames where only a number is given.
+fn measure(rt: &HostRuntime, subject: &str, megabytes: u32) -> Result<()> {
+    match subject {
+        "decode" => decode::measure(rt, megabytes),
+        "contents" => contents::measure(rt, megabytes),
+        "drive" => drive::measure(rt),
+        "locks" => locks::measure(rt),
+        "script" => script::measure(rt),
+        "tree" => tree::measure(rt),
+        "frames" => frames::measure(rt, megabytes),
+        number => frames::measure(rt, parse_megabytes(number)?),
     }
 }
 
@@ -50,5 +62,7 @@ fn try_all(rt: &HostRuntime) -> Result<()> {
     decode::try_once(rt)?;
     contents::try_once(rt)?;
     locks::try_once(rt)?;
-    tree::try_once(rt)
+    tree::try_once(rt)?;
+    drive::try_once(rt)?;
+    script::try_once(rt)
 }

@@ -63,6 +63,28 @@ fn times_of(rt: &HostRuntime, count: u32, depth: u32) -> Result<Times> {
     for level in 1..=depth {
         tree.add(&path(rt, level, None)?, true)?;
     }
+    let (add, find) = add_files(rt, &mut tree, count, depth)?;
+    let folder = path(rt, depth, None)?;
+    let started = Instant::now(rt)?;
+    let listed = list(rt, &tree, &folder)?;
+    let next = started.elapsed(rt)?;
+    let rename = rename_topmost(rt, &mut tree)?;
+    Ok(Times {
+        add,
+        find,
+        next,
+        rename,
+        listed,
+    })
+}
+
+/// Adds so many files to the deepest folder, and finds each. Returns how long each of the two takes.
+fn add_files(
+    rt: &HostRuntime,
+    tree: &mut Tree,
+    count: u32,
+    depth: u32,
+) -> Result<(Duration, Duration)> {
     let mut add = Duration::ZERO;
     let mut find = Duration::ZERO;
     for block in 0..count.div_ceil(BLOCK) {
@@ -79,10 +101,11 @@ fn times_of(rt: &HostRuntime, count: u32, depth: u32) -> Result<Times> {
         }
         find = find.saturating_add(started.elapsed(rt)?);
     }
-    let folder = path(rt, depth, None)?;
-    let started = Instant::now(rt)?;
-    let listed = list(rt, &tree, &folder)?;
-    let next = started.elapsed(rt)?;
+    Ok((add, find))
+}
+
+/// Renames the topmost folder, and returns how long it takes.
+fn rename_topmost(rt: &HostRuntime, tree: &mut Tree) -> Result<Duration> {
     let top = tree
         .find(&path(rt, 1, None)?)
         .context("the topmost folder")?;
@@ -92,13 +115,7 @@ fn times_of(rt: &HostRuntime, count: u32, depth: u32) -> Result<Times> {
     tree.rename(top, &to, false)?;
     let rename = started.elapsed(rt)?;
     ensure!(tree.find(&to) == Some(top), "the folder did not move");
-    Ok(Times {
-        add,
-        find,
-        next,
-        rename,
-        listed,
-    })
+    Ok(rename)
 }
 
 /// Lists a folder, a name after another, and counts the names.
@@ -141,7 +158,8 @@ fn path(rt: &HostRuntime, depth: u32, file: Option<u32>) -> Result<Path> {
     Ok(Path::split(rt.alloc(), units(rt, text.as_str())?.as_slice())?)
 }
 
-fn units(rt: &HostRuntime, text: &str) -> Result<Units> {
+/// The units of an ASCII text.
+pub fn units(rt: &HostRuntime, text: &str) -> Result<Units> {
     let mut units = Vec::new(rt.alloc());
     for byte in text.as_bytes() {
         units.push(u16::from(*byte))?;

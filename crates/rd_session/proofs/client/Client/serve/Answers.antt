@@ -1,11 +1,14 @@
 use Rattle.std.proofs.lemmas.List.{length-drop}
-use Rattle.std.proofs.Common.{◌≡◌, ℕ, List, [], ◌∷◌, ◌++◌, ap, subst, ◌∙◌, arith, append_assoc}
+use Rattle.std.proofs.Common.{◌≡◌, ℕ, List, [], ◌∷◌, ◌++◌, false, ap, subst, ◌∙◌, arith, append_assoc}
 use Rattle.rd_base.specs.declared.journal.Item.{Item}
 use Rattle.rd_irp.specs.declared.completion.Head.{Head}
 use Rattle.rd_irp.specs.Completion.{SpellsHead}
 use Rattle.rd_irp.specs.Fits.{kind_of}
 use Rattle.rd_irp.specs.Written.{body_tail}
-use Rattle.rd_plain_drive.specs.Starved.{is_starved}
+use Rattle.rd_base.specs.History.{History}
+use Rattle.rd_base.specs.declared.journal.Item.TheVariants.{Ran}
+use Rattle.rd_session.specs.Channel.{starves}
+use Rattle.rd_session.specs.Session.{key_at}
 use Rattle.rd_session.proofs.client.Client.serve.Goals as goal
 
 -- three entries, one behind another
@@ -16,16 +19,18 @@ three_added a b c d e x y z p q r s =
 
 pub returns-clause-served : goal.returns-clause-served
 returns-clause-served c =
-    let reply = c.apply-reply.result in
+    let reply = c.run-reply.result in
     let completion = c.in_ok-completion.completion in
     let made = c.in_ok-completion.ensures in
     let head : Head = record { device = c.args.request.device; completion = c.args.request.completion; status = reply.status } in
-    let starved : c.eq.result ≡ is_starved reply = c.eq.ensures in
+    let starved : c.eq.result ≡ starves reply = c.eq.ensures in
+    let ran = (rw starved at c.add-2.ensures.items) ∙ ap (λ (h : History). h.items ++ Ran (key_at c.args.self.now.asked) c.args.moment (starves reply) false ∷ []) c.run-reply.ensures.journal in
     record {
       reply = reply;
-      ran = rw c.prepare.ensures.job at c.apply-reply.ensures.steps;
-      close_fed = rw c.prepare.ensures.job at c.apply-reply.ensures.close;
-      kept = three_added _ _ _ _ _ _ _ _ c.reserve.ensures.items c.add.ensures.items (rw starved at c.add-2.ensures.items) c.add-3.ensures.items;
+      ran = c.run-reply.ensures.runs;
+      answers = c.run-reply.ensures.answers;
+      close_fed = c.run-reply.ensures.close;
+      kept = three_added _ _ _ _ _ _ _ _ c.reserve.ensures.items c.add.ensures.items ran c.add-3.ensures.items;
       completes = record {
         head = subst (λ (n : ℕ). SpellsHead head n completion) (omega (arith, made.length, length-drop 16 completion)) made.head;
         tail = body_tail (kind_of c.args.request.op) reply.body;

@@ -1,7 +1,6 @@
-use Rattle.std.proofs.Common.{◌≡◌, ◌-◌, length, take, drop, sym, subst, arith}
+use Rattle.std.proofs.Common.{◌≡◌, ◌-◌, length, take, drop, arith}
 use Rattle.std.proofs.lemmas.List.{take_all, length-drop}
-use Rattle.rd_base.specs.declared.status.Status.{Status}
-use Rattle.rd_irp.specs.Completion.{SpellsHead, SpellsBody}
+use Rattle.rd_irp.specs.Completion.{SpellsHead}
 use Rattle.rd_session.proofs.Joined.{head_read, body_read}
 use Rattle.rd_session.proofs.host.Host.hear.Goals as goal
 
@@ -16,26 +15,23 @@ unreachable-requires-in-Err-Bad c =
     let bytes_are = c.as_slice-bytes.ensures in
     let spelled : SpellsHead c.in-Ok.head (length message - 16) message = rw bytes_are at c.in-Ok.ensures.spelled in
     let whole : take (length message - 16) (drop 16 message) ≡ drop 16 message = take_all (length message - 16) (drop 16 message) (omega (arith, length-drop 16 message)) in
-    let refused = rw (c.in-Err-Bad.is, c.in-Err-Bad.field-0-is, bytes_are, whole) at c.read.ensures.refused in
+    let refused = rw (c.in-Err-Bad.is, c.in-Err-Bad.field-0-is, bytes_are, whole) at c.read_body.ensures.refused in
     body_read c.args.kind c.args.frames.now message c.in-Ok.head c.in-Err-Bad.field-0-0 c.requires.carried c.in_ok-message.ensures.joined spelled refused
 
-pub returns-in-Ok-read-clause-heard : goal.returns-in-Ok-read-clause-heard
-returns-in-Ok-read-clause-heard c =
+pub returns-in-Ok-read_body-clause-heard : goal.returns-in-Ok-read_body-clause-heard
+returns-in-Ok-read_body-clause-heard c =
     let message = c.in_ok-message.message in
-    let answer = c.in-Ok-read.answer in
     let head = c.in-Ok.head in
     let bytes_are = c.as_slice-bytes.ensures in
-    let same : answer.status ≡ head.status = c.in-Ok-read.ensures.status in
     let spelled : SpellsHead head (length message - 16) message = rw bytes_are at c.in-Ok.ensures.spelled in
     let whole : take (length message - 16) (drop 16 message) ≡ drop 16 message = take_all (length message - 16) (drop 16 message) (omega (arith, length-drop 16 message)) in
-    let body = rw (bytes_are, whole) at c.in-Ok-read.ensures.body in
+    let body = rw (bytes_are, whole) at c.in-Ok-read_body.ensures.spelled in
     record {
       message = message;
       carried = c.in_ok-message.ensures.joined;
       device = head.device;
       completion = head.completion;
-      head = subst (λ (s : Status). SpellsHead (record { device = head.device; completion = head.completion; status = s }) (length message - 16) message) (sym same) spelled;
+      head = spelled;
       tail = body.0;
-      body = subst (λ (s : Status). SpellsBody c.args.kind s answer.body body.0 (drop 16 message)) (sym same) body.1;
-      kind_is = c.in-Ok-read.ensures.kind;
+      body = body.2;
     }

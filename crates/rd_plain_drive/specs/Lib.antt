@@ -1,9 +1,0 @@
-pub mod Planned
-pub mod Statuses
-pub mod PlainPath
-pub mod DriveState
-pub mod Seen
-pub mod AddsFile
-pub mod DriveStep
-pub mod Starved
-pub mod Replies

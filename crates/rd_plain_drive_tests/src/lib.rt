@@ -1,5 +1,0 @@
-//! The tests of `rd_plain_drive`, by its public calls. They stand beside it, since a crate with tests of its own is proved twice.
-#![tactic(auto)]
-
-#[cfg(test)]
-mod tests;

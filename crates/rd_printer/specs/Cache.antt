@@ -1,0 +1,46 @@
+-- What a client keeps for printers, by what it is told of them (MS-RDPEPC 2.2.2.3 to 2.2.2.6).
+use Rattle.std.specs.Prelude.{ℕ, List, Option, Some, None, fold}
+use Rattle.std.specs.Map.{lookup, remove_entry}
+use Rattle.std.specs.Ordering.{nat_cmp}
+use Rattle.std.specs.Cmp.Lexicographic.{slice_cmp}
+use Rattle.std.specs.declared.cmp.Ordering.{Ordering}
+use Rattle.std.specs.BTreeMap.{insert_entry, is_at}
+use Rattle.rd_printer.specs.declared.notice.Notice.{Notice}
+use Rattle.rd_printer.specs.declared.notice.Notice.TheVariants.{Add, Update, Delete, Rename, UsingXps}
+
+-- the configuration bytes of each printer, by the bytes of its name
+abbrev pub CacheState : Type 0
+CacheState = List (List ℕ × List ℕ)
+
+-- names in the order of their bytes
+abbrev pub name_cmp : List ℕ → List ℕ → Ordering
+name_cmp = slice_cmp nat_cmp
+
+abbrev pub kept_for : CacheState → List ℕ → Option (List ℕ)
+kept_for cache name = lookup (is_at (name_cmp name)) cache
+
+abbrev pub keeping : CacheState → List ℕ → List ℕ → CacheState
+keeping cache name bytes = insert_entry name_cmp cache name bytes
+
+abbrev pub forgetting : CacheState → List ℕ → CacheState
+forgetting cache name = remove_entry (is_at (name_cmp name)) cache
+
+-- A notice sets a printer's bytes, sets them where there are some, forgets them, or moves them to another name where there are some.
+abbrev pub heard : CacheState → Notice → CacheState
+heard cache (Add port pnp driver name config) = keeping cache name config
+heard cache (Update name config) = by (kept_for cache name)
+  where
+    by : Option (List ℕ) → CacheState
+    by None = cache
+    by (Some old) = keeping cache name config
+heard cache (Delete name) = forgetting cache name
+heard cache (Rename old new) = by (kept_for cache old)
+  where
+    by : Option (List ℕ) → CacheState
+    by None = cache
+    by (Some bytes) = keeping (forgetting cache old) new bytes
+heard cache (UsingXps printer flags) = cache
+
+-- what is kept after notices, in order
+abbrev pub heard_all : CacheState → List Notice → CacheState
+heard_all cache notices = fold heard cache notices

@@ -1,8 +1,0 @@
-use Rattle.rd_script_next.specs.Row.{words_of}
-use Rattle.rd_script_next.specs.Rows.{line_row}
-use Rattle.rd_script_next.specs.Script.{is_application}
-use Rattle.rd_script_next.proofs.RowLemmas.{row_is_decided}
-use Rattle.rd_script_next.proofs.laws.lines_are_decided.Goals as goal
-
-pub returns : goal.returns
-returns c said text = row_is_decided (line_row said (is_application text)) (words_of text)

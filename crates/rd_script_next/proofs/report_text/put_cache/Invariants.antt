@@ -1,9 +1,0 @@
-use Rattle.std.proofs.Common.{◌≡◌, ◌++◌}
-use Rattle.std.specs.List.{flat_map}
-use Rattle.std.specs.String.{string_bytes}
-use Rattle.rd_script_next.specs.Report.{cache_line}
-use Rattle.rd_script_next.proofs.report_text.put_cache.Given as goal
-
--- what is written, and the lines that are left
-abbrev pub invariant-loop-name : goal.invariant-loop-name
-invariant-loop-name l = string_bytes l.text ++ flat_map cache_line l.name-iterator ≡ string_bytes l.fn.text ++ flat_map cache_line l.cache.entries
