@@ -1,0 +1,78 @@
+-- A client on a channel, for worked cases.
+use Rattle.std.specs.Prelude.{ℕ, false, List, [], ◌∷◌, ◌++◌, codes, replicate, fold, Option}
+use Rattle.rd_devices.specs.declared.list.Announce.{Announce}
+use Rattle.rd_devices.specs.DeviceList.{list_bytes}
+use Rattle.rd_hello.specs.declared.client.ClientState.TheVariants.{Ready}
+use Rattle.rd_hello.specs.declared.hello.Hello.TheVariants.{Confirm, LoggedOn}
+use Rattle.rd_hello.specs.Hello.{hello_bytes}
+use Rattle.rd_hello.specs.Moves.{Move, reads, writes}
+use Rattle.rd_hello.specs.Own.{client_confirm, client_name, client_sets, host_announce, host_sets}
+use Rattle.rd_irp.specs.declared.op.Op.TheVariants as op
+use Rattle.rd_irp.specs.declared.request.Request.{Request}
+use Rattle.rd_irp.specs.Written.{request_bytes}
+use Rattle.rd_client.specs.Core.{ClientCoreState, begin, hear, new_client}
+use Rattle.rd_client.specs.Order.{Stand, at_first, stand_after}
+
+-- a drive as it is announced
+abbrev pub drive : ℕ → Announce
+drive id = record { kind = 8; id = id; dos = codes "DATA" ++ replicate 4 0; body = [] }
+
+-- a client with two drives on the first channel
+abbrev pub client : ClientCoreState
+client = begin (new_client (drive 1 ∷ drive 2 ∷ [])) 1
+
+-- what is left of it by messages of the host
+abbrev pub after : ClientCoreState → List (List ℕ) → ClientCoreState
+after c messages = fold (λ at message. (hear at message).0) c messages
+
+-- the host's messages, in the order of this project
+abbrev pub announced : List ℕ
+announced = hello_bytes (host_announce 1)
+
+abbrev pub offered : List ℕ
+offered = hello_bytes host_sets
+
+abbrev pub confirmed : List ℕ
+confirmed = hello_bytes (Confirm (record { minor = 12; client = 1 }))
+
+abbrev pub logged_on : List ℕ
+logged_on = hello_bytes LoggedOn
+
+abbrev pub opening : List (List ℕ)
+opening = announced ∷ offered ∷ confirmed ∷ logged_on ∷ []
+
+abbrev pub ready : ClientCoreState
+ready = after client opening
+
+-- a Close of a file of device 1
+abbrev pub close : ℕ → Request
+close completion = record { device = 1; file = 3; completion = completion; op = op.Close }
+
+abbrev pub close_bytes : ℕ → List ℕ
+close_bytes completion = request_bytes (close completion)
+
+-- the client's own messages
+abbrev pub own_confirm : List ℕ
+own_confirm = hello_bytes (client_confirm (record { minor = 12; client = 1 }))
+
+abbrev pub own_name : List ℕ
+own_name = hello_bytes client_name
+
+abbrev pub own_sets : List ℕ
+own_sets = hello_bytes client_sets
+
+abbrev pub own_list : List ℕ
+own_list = list_bytes (drive 1 ∷ drive 2 ∷ [])
+
+-- where the client stands behind moves on a channel
+abbrev pub stand_behind : List Move → Option Stand
+stand_behind moves = stand_after client.devices at_first moves
+
+-- how a channel opens, up to the list
+abbrev pub opened : List Move
+opened =
+    reads announced ∷ writes own_confirm ∷ writes own_name ∷ reads offered ∷ reads confirmed ∷ writes own_sets ∷ reads logged_on ∷ []
+
+-- a ready client whose devices with these ids are announced
+abbrev pub listed_stand : List ℕ → Stand
+listed_stand ids = record { shake = Ready; owed = []; lists = false; told = ids }

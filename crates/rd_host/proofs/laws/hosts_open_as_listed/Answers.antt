@@ -1,0 +1,25 @@
+use Rattle.std.proofs.Common.{refl}
+use Rattle.rd_base.specs.Counted.{count_to, counted, counted_bytes}
+use Rattle.rd_base.specs.Header.{component_field, header, header_among}
+use Rattle.rd_devices.specs.DeviceList.{announce, device_list}
+use Rattle.rd_devices.specs.Removal.{removal}
+use Rattle.rd_hello.specs.Capability.{special, general, other, body_of, capability, sets}
+use Rattle.rd_hello.specs.Hello.{version, name, hello}
+use Rattle.rd_irp.specs.Completion.{completion_head}
+use Rattle.rd_host.proofs.laws.hosts_open_as_listed.Goals as goal
+
+pub returns-clause-announces : goal.returns-clause-announces
+unfolding component_field header header_among count_to counted counted_bytes version name hello special general other body_of capability sets announce device_list removal completion_head
+returns-clause-announces c = refl
+
+pub returns-clause-ready : goal.returns-clause-ready
+unfolding component_field header header_among count_to counted counted_bytes version name hello special general other body_of capability sets announce device_list removal completion_head
+returns-clause-ready c = refl
+
+pub returns-clause-writes : goal.returns-clause-writes
+unfolding component_field header header_among count_to counted counted_bytes version name hello special general other body_of capability sets announce device_list removal completion_head
+returns-clause-writes c = refl
+
+pub returns-clause-replies : goal.returns-clause-replies
+unfolding component_field header header_among count_to counted counted_bytes version name hello special general other body_of capability sets announce device_list removal completion_head
+returns-clause-replies c = refl

@@ -1,0 +1,4 @@
+pub mod Core
+pub mod Served
+pub mod Order
+pub mod Worked

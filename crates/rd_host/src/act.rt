@@ -1,0 +1,17 @@
+//! What a host makes of a message that it hears.
+
+use rd_base::Bytes;
+use rd_devices::{DeviceList, Removal};
+use rd_irp::Head;
+
+/// What a message of the client asks of a host.
+#[derive(Debug, Drop)]
+pub enum Act {
+    Nothing,
+    /// A completion, and the bytes behind its head.
+    Complete { head: Head, body: Bytes },
+    /// Devices that are there from now on.
+    Announced(DeviceList),
+    /// Devices that are gone.
+    Removed(Removal),
+}

@@ -1,0 +1,14 @@
+pub mod MapLemmas
+pub mod AcceptedLemmas
+pub mod SlotLemmas
+pub mod Effects
+pub mod CountLemmas
+pub mod CourseLemmas
+pub mod Sound
+pub mod Steps
+pub mod RequestSteps
+pub mod EndSteps
+pub mod CompleteSteps
+pub mod Histories
+pub mod Neutral
+pub mod Tame

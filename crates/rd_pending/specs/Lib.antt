@@ -1,0 +1,4 @@
+pub mod Table
+pub mod Outcomes
+pub mod History
+pub mod Worked

@@ -1,0 +1,73 @@
+//! The definitions at work, as contracts of functions that do nothing: the checker computes each case.
+
+ghost use Rattle.std.specs.Prelude.{◌≡◌, ◌∷◌, [], false, true, List, None, Some, Ok, Err};
+ghost use Rattle.rd_base.specs.declared.journal.Cause.TheVariants as Cause;
+ghost use Rattle.rd_base.specs.declared.bad.Why.TheVariants as Why;
+ghost use Rattle.rd_irp.specs.declared.op.Op.TheVariants as Op;
+ghost use Rattle.rd_pending.specs.declared.calls.CompleteNo.TheVariants as CompleteNo;
+ghost use Rattle.rd_pending.specs.declared.calls.Completed.TheVariants as Completed;
+ghost use Rattle.rd_pending.specs.declared.calls.LiveNo.TheVariants as LiveNo;
+ghost use Rattle.rd_pending.specs.declared.calls.Outcome.TheVariants as Outcome;
+ghost use Rattle.rd_pending.specs.declared.calls.SubmitNo.TheVariants as SubmitNo;
+ghost use Rattle.rd_pending.specs.declared.calls.TakeNo.TheVariants as TakeNo;
+ghost use Rattle.rd_pending.specs.declared.calls.Target.TheVariants as Target;
+ghost use Rattle.rd_pending.specs.History.{Call, Holds, after, told_by};
+ghost use Rattle.rd_pending.specs.Outcomes.{AreOutcomes, outcome_of};
+ghost use Rattle.rd_pending.specs.Table.{AreSlots, begin, complete, drop_channel, drop_sent, live, new_table, next_id, remove, stage, submit, take};
+ghost use Rattle.rd_pending.specs.Worked.{asked_of, first, full_table, handle_of, hears_begin, hears_refusal, hears_removal, open_table, opening, refusal_of, refused, success_of};
+
+/// What a table accepts, and what it makes of what comes back.
+pub fn tables_are_as_listed()
+    ensures no_channel { (submit new_table 1 (Target.Device 1) opening).1 ≡ Err SubmitNo.NoChannel }
+    ensures no_life { (live new_table 1).1 ≡ Err LiveNo.NoChannel }
+    ensures open { (begin open_table 2).1 ≡ false }
+    ensures already { (live open_table 1).1 ≡ Err LiveNo.Already }
+    ensures lives { (live open_table 3).1 ≡ Ok 3 }
+    ensures no_device { (submit open_table 1 (Target.Device 3) opening).1 ≡ Err SubmitNo.NoDevice }
+    ensures stale { (submit open_table 1 (handle_of 2 1) Op.Close).1 ≡ Err (SubmitNo.StaleHandle 1 2) }
+    ensures numbers { (submit open_table 1 (Target.Device 1) opening).1 ≡ Ok 1 }
+    // A removed device's request is lost, and its completion id is held until its completion came.
+    ensures lost { (take (remove (asked_of 1 1 open_table) 1).0 1).1 ≡ Ok (record { device = 1; life = 1; outcome = Outcome.Lost Cause.Removed }) }
+    ensures once { (take (take (remove (asked_of 1 1 open_table) 1).0 1).0 1).1 ≡ Err TakeNo.Unknown }
+    ensures held { next_id (remove (asked_of 1 1 open_table) 1).0 ≡ 1 }
+    ensures late { (complete (remove (asked_of 1 1 open_table) 1).0 (refusal_of 1 0) []).1 ≡ Ok (Completed.Late 1) }
+    ensures free { next_id (complete (remove (asked_of 1 1 open_table) 1).0 (refusal_of 1 0) []).0 ≡ 0 }
+    // A completion is that of the request with its device and completion id.
+    ensures stray { (complete (asked_of 1 1 open_table) (refusal_of 1 1) []).1 ≡ Err (CompleteNo.Stray 1 1) }
+    ensures other { (complete (asked_of 1 1 open_table) (refusal_of 2 0) []).1 ≡ Err (CompleteNo.Stray 2 0) }
+    ensures short { (complete (asked_of 1 1 open_table) (success_of 1 0) []).1 ≡ Err (CompleteNo.BodyBad (record { at = 0; why = Why.Short })) }
+    ensures gave { (complete (asked_of 1 1 open_table) (refusal_of 1 0) []).1 ≡ Ok (Completed.Gave 1) }
+    ensures done { (take (complete (asked_of 1 1 open_table) (refusal_of 1 0) []).0 1).1 ≡ Ok (record { device = 1; life = 1; outcome = Outcome.Done refused }) }
+    ensures not_yet { (take (asked_of 1 1 open_table) 1).1 ≡ Err TakeNo.NotYet }
+    // The channel's end loses what isn't completed, and frees all.
+    ensures dropped { (take (drop_channel (asked_of 1 1 open_table)) 1).1 ≡ Ok (record { device = 1; life = 1; outcome = Outcome.Lost Cause.Dropped }) }
+    ensures all_free { next_id (drop_channel (asked_of 1 1 open_table)) ≡ 0 }
+    ensures unsent { (drop_sent (asked_of 1 1 open_table)).1 ≡ false }
+    ensures counts { stage open_table ≡ record { channel = true; lives = 2 } }
+{}
+
+/// No further completion id than 1,024.
+pub fn slots_are_few()
+    ensures full { (submit full_table 1 (Target.Device 1) opening).1 ≡ Err (SubmitNo.Full 1024) }
+    ensures freed { next_id (complete full_table (refusal_of 1 7) []).0 ≡ 7 }
+{}
+
+/// What came of a request, by what was heard.
+pub fn outcomes_are_as_listed()
+    ensures done { outcome_of [] first 0 (hears_begin ∷ hears_refusal ∷ hears_removal ∷ []) true ≡ Some (Outcome.Done refused) }
+    ensures removed { outcome_of [] first 0 (hears_begin ∷ hears_removal ∷ hears_refusal ∷ []) true ≡ Some (Outcome.Lost Cause.Removed) }
+    ensures dropped { outcome_of [] first 0 (hears_begin ∷ []) true ≡ Some (Outcome.Lost Cause.Dropped) }
+    ensures awaited { outcome_of [] first 0 (hears_begin ∷ []) false ≡ None }
+    // The first completion is that of an earlier request with the same id.
+    ensures second { outcome_of (first ∷ []) first 0 (hears_begin ∷ hears_refusal ∷ []) true ≡ Some (Outcome.Lost Cause.Dropped) }
+    // A removal before the life began ends another life.
+    ensures next_life { outcome_of [] first 0 (hears_begin ∷ hears_removal ∷ hears_begin ∷ hears_refusal ∷ []) true ≡ Some (Outcome.Lost Cause.Removed) }
+    ensures own_life { outcome_of [] (record first { life = 2 }) 0 (hears_begin ∷ hears_removal ∷ hears_begin ∷ hears_refusal ∷ []) true ≡ Some (Outcome.Done refused) }
+{}
+
+/// Whatever was called, in its order: each slot is of its request, and each request has the outcome that the lives, removals and completions
+/// heard on its channel, and the channel's end, give it.
+pub fn histories_tell_outcomes()
+    ensures slots { (h : List Call) → Holds h → AreSlots (after h) }
+    ensures outcomes { (h : List Call) → Holds h → AreOutcomes (after h).accepted (told_by h) }
+{}

@@ -1,0 +1,12 @@
+//! A host's table: what it asked of devices, and what came of each request.
+#![tactic(auto)]
+
+mod calls;
+mod laws;
+
+pub use calls::{
+    CompleteNo, Completed, Handle, LiveNo, Outcome, Stage, SubmitNo, TakeNo, Taken, Target,
+};
+pub use laws::{
+    histories_tell_outcomes, outcomes_are_as_listed, slots_are_few, tables_are_as_listed,
+};

@@ -1,0 +1,42 @@
+-- What ties a station to its journal, in every state.
+use Rattle.std.specs.Prelude.{◌≡◌, ◌⊎◌, ℕ, List, All, Contains, map}
+use Rattle.rd_base.specs.declared.journal.Key.{Key}
+use Rattle.rd_base.specs.declared.journal.Item.{Item}
+use Rattle.rd_base.specs.declared.journal.Item.TheVariants.{Cancelled}
+use Rattle.rd_base.specs.Lawful.{IsLawful}
+use Rattle.rd_irp.specs.declared.completion.Reply.{Reply}
+use Rattle.rd_irp.specs.declared.op.Op.{Op}
+use Rattle.rd_irp.specs.declared.request.Request.{Request}
+use Rattle.rd_drive.specs.Device.{Parked}
+use Rattle.rd_drive.specs.Replies.{AreToldBy, KeyedReply, last_state_by, replies_by}
+use Rattle.rd_drive.specs.Stepped.{Settled, Stepped}
+use Rattle.rd_station.specs.declared.answers.Completion.{Completion}
+use Rattle.rd_station.specs.Station.{DidRun, ParkedJob, StationCall, StationState, applies, cancellation}
+
+-- the answer to a key that came: the reply that the journal gives it, or CANCELLED where it was cancelled before it ran
+abbrev pub IsAnswer : List KeyedReply → List Item → Key → Reply → Type 0
+IsAnswer replies journal key reply = Contains replies (key, reply) ⊎ (Contains journal (Cancelled key) × (reply ≡ cancellation))
+
+-- a parked job, as the device tells it
+abbrev pub as_parked : ParkedJob → Parked
+as_parked p = record { key = p.key; kind = p.kind }
+
+-- What holds of a station over any device, which tells what is parked in it: the journal is lawful, and the parked jobs are those of the device. A station
+-- may be made where nothing is parked.
+pub record IsKept {S : Type 0} (parked_in : S → List Parked) (s : StationState S) : Type 0 where
+  pub lawful : IsLawful s.journal
+  pub parked : map as_parked s.parked ≡ parked_in s.device
+
+-- A job that was run is that of its key's request.
+abbrev pub RunsOwn : (Key → Request) → StationCall → Type 0
+RunsOwn requests (applies planned moment answer) = DidRun answer → let r = requests planned.job.key in (planned.job.file ≡ r.file) × (planned.job.op ≡ r.op)
+RunsOwn requests _ = Unit {0}
+
+-- A device with states of the type S, by what a request comes to and what a cut comes to. Each key names a request.
+module _ {S : Type 0} (step : S → Key → ℕ → Op → ℕ → Stepped S) (cut : S → Settled S) (requests : Key → Request) where
+  -- The marks of the journal are those of the device, which is as its journal leaves it, and what is ready is the answer to its key: so it stays where
+  -- each job that is run is that of its key's request.
+  pub record IsTied (opening : S) (s : StationState S) : Type 0 where
+    pub marked : AreToldBy step cut requests opening s.journal
+    pub device : s.device ≡ last_state_by step cut requests opening s.journal
+    pub ready : All (λ (c : Completion). IsAnswer (replies_by step cut requests opening s.journal) s.journal c.key c.reply) s.ready

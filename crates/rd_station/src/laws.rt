@@ -1,0 +1,45 @@
+//! The definitions at work, as contracts of functions that do nothing: the checker computes each case.
+
+ghost use Rattle.std.specs.Prelude.{◌≡◌, ◌++◌, ◌∷◌, [], false, true, None, Some, Err};
+ghost use Rattle.rd_base.specs.declared.journal.Cause.TheVariants as Cause;
+ghost use Rattle.rd_base.specs.declared.journal.Item.TheVariants as Item;
+ghost use Rattle.rd_irp.specs.declared.completion.Kind.TheVariants as Kind;
+ghost use Rattle.rd_station.specs.declared.answers.Applied.TheVariants as Applied;
+ghost use Rattle.rd_station.specs.declared.answers.Given.TheVariants as Given;
+ghost use Rattle.rd_station.specs.declared.refusals.AnnounceNo.TheVariants as AnnounceNo;
+ghost use Rattle.rd_station.specs.declared.refusals.PutWhy.TheVariants as PutWhy;
+ghost use Rattle.rd_station.specs.Station.{announce, apply, collect, drop_channel, end, put, remove, take};
+ghost use Rattle.rd_station.specs.Worked.{both_ready, close, closed, closes, closes_to, given_up, key, notified, removed, told, untold, waiting, waits, with_jobs, with_taken};
+
+/// What a station takes, keeps and hands out.
+pub fn stations_are_as_listed()
+    // The host is told of a device once; without that no job comes.
+    ensures live { (announce told).1 ≡ Err AnnounceNo.Live }
+    ensures gone { (put untold (close 0 7)).1 ≡ Some PutWhy.Gone }
+    // Two jobs that are held don't have the same completion id.
+    ensures duplicate { (put (with_jobs told (close 0 7 ∷ [])) (close 1 7)).1 ≡ Some (PutWhy.Duplicate (key 0)) }
+    // 128 jobs are held, and no more.
+    ensures last { (put (with_jobs told (closes_to 127)) (close 127 127)).1 ≡ None }
+    ensures full { (put (with_jobs told (closes_to 128)) (close 128 128)).1 ≡ Some (PutWhy.Full 128) }
+    // What came first is taken first.
+    ensures takes { (take (with_jobs told (close 0 7 ∷ close 1 8 ∷ []))).1 ≡ Given.Job (close 0 7) }
+    ensures nothing { (take told).1 ≡ Given.Nothing }
+    ensures over { (take (end told 0)).1 ≡ Given.Over }
+    // What waits in the device has no completion until a later job ends it; that job's own completion is ready before.
+    ensures waits { waiting.ready ≡ [] }
+    ensures ends { both_ready.ready ≡ closed 1 8 ∷ notified 0 7 ∷ [] }
+    ensures none_parked { both_ready.parked ≡ [] }
+    ensures told { both_ready.journal ≡ Item.Came (key 0) ∷ Item.Came (key 1) ∷ Item.Ran (key 0) 5 false true ∷ Item.Ran (key 1) 6 false false ∷ [] }
+    ensures collects { (collect both_ready).1 ≡ Some (closed 1 8) }
+    // A removal cancels what waits in the device, then what no hand took; what is in a hand is cancelled when it comes back.
+    ensures cancels { removed.ready ≡ given_up 0 7 Kind.Buffer ∷ given_up 2 9 Kind.Close ∷ [] }
+    ensures cuts { removed.device ≡ 10 }
+    ensures late { (apply removed (close 1 8) 6 (closes 2 [])).1 ≡ Applied.Cancelled }
+    ensures unrun { (apply removed (close 1 8) 6 (closes 2 [])).0.device ≡ 10 }
+    ensures once { (apply (apply removed (close 1 8) 6 (closes 2 [])).0 (close 1 8) 6 (closes 2 [])).1 ≡ Applied.Stale }
+    // Where the channel ended nothing is held any more.
+    ensures stale { (apply (drop_channel waiting 10) (close 1 8) 6 (closes 2 [])).1 ≡ Applied.Stale }
+    ensures dropped { (collect (drop_channel both_ready 10)).1 ≡ None }
+    ensures cut { (drop_channel waiting 10).journal ≡ waiting.journal ++ Item.Cut Cause.Dropped ∷ [] }
+    ensures removed_before { (drop_channel removed 10).journal ≡ removed.journal }
+{}
