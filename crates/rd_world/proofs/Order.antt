@@ -1,0 +1,203 @@
+-- Requests run in the order in which the host saw them complete, and no request is read while one with its pair is held.
+use Rattle.std.proofs.Common.{◌≡◌, ◌⊎◌, ◌∙◌, refl, sym, ap, subst, inl, inr, ℕ, ◌<◌, ◌≤◌, ◌==◌, ◌&&◌, Bool, true, false, cond, List, [], ◌∷◌, ◌++◌, length, Some, None, arith, append_assoc, length-append, eq-eqb, eqb-true}
+use Rattle.std.specs.Prelude.{filter}
+use Rattle.std.specs.List.{cons_option}
+use Rattle.std.proofs.lemmas.List.Elements.{filter_map-append}
+use Rattle.rd_base.specs.declared.journal.Item.{Item}
+use Rattle.rd_base.specs.declared.journal.Item.TheVariants.{Came, Ran, Cancelled, Sent}
+use Rattle.rd_base.specs.declared.journal.Key.{Key}
+use Rattle.rd_irp.specs.declared.request.Request.{Request}
+use Rattle.rd_world.specs.Joining.{InOrder, IsAlone, IsCarried, Stands, requests_written}
+use Rattle.rd_world.specs.Talk.{AtEachPoint, Deed, EachAfter, Has, adds, answered, asked, client_read, client_reads, client_writes, completes, has_pair, host_begins, host_ends, host_reads, host_writes, host_wrote, is_request, journal, removes, request_in, stored_by, stores, submits, takes, tells}
+use Rattle.rd_world.proofs.Calls.{Does}
+use Rattle.rd_world.proofs.Counting.{all_of, fewer_in_end}
+use Rattle.rd_world.proofs.Joined.{at_most_one, carried_now, counted}
+use Rattle.rd_world.proofs.Journals.{HasRun, IsPlain}
+use Rattle.rd_world.proofs.Messages.{request_is}
+use Rattle.rd_world.proofs.Telling.{Tells, each_end, option_cases, request_within}
+
+-- ---- lists
+
+pub point_end : (P : List Deed → Type 0) (xs ys : List Deed) → AtEachPoint P (xs ++ ys) → AtEachPoint P ys
+point_end P [] ys each = each
+point_end P (x ∷ xs) ys each = point_end P xs ys each.1
+
+pub has_later : {A : Type 0} (x : A) (xs ys : List A) → Has x ys → Has x (xs ++ ys)
+has_later x [] ys has = has
+has_later x (y ∷ xs) ys has = inr (has_later x xs ys has)
+
+pub has_split : {A : Type 0} (x : A) (xs ys : List A) → Has x (xs ++ x ∷ ys)
+has_split x xs ys = has_later x xs (x ∷ ys) (inl refl)
+
+-- a member of a list in two parts stands in the second part, or in the first
+pub split_cases : {A : Type 0} (a b xs : List A) (x : A) (ys : List A) → a ++ b ≡ xs ++ x ∷ ys → ((zs : List A) × (b ≡ zs ++ x ∷ ys)) ⊎ ((zs : List A) × (a ≡ xs ++ x ∷ zs) × (ys ≡ zs ++ b))
+split_cases [] b xs x ys e = inl (xs, e)
+split_cases {A} (y ∷ a) b [] x ys e = let same : y ≡ x = cc e in inr (a, ap (λ (x : A). x ∷ a) same, sym (cc e))
+split_cases {A} (y ∷ a) b (z ∷ xs) x ys e =
+    let same : y ≡ z = cc e in
+    elim (split_cases a b xs x ys (cc e)) [ inl (zs, h) ↦ inl (zs, h) | inr (zs, g, h) ↦ inr (zs, rw (same, g) refl, h) ]
+
+-- ---- journals
+
+never_both : (k : Key) (items : List Item) → EachAfter IsPlain items → HasRun k items → Has (Cancelled k) items → ⊥
+never_both k [] plain ran cancelled = cancelled
+never_both k (item ∷ items) plain (m, s, p, ran) cancelled =
+    elim ran [
+      | inl r ↦ elim cancelled [ inl c ↦ cc (r, c) | inr c ↦ (subst (IsPlain items) (sym r) plain.0).2 c ]
+      | inr r ↦ elim cancelled [ inl c ↦ (subst (IsPlain items) (sym c) plain.0).1 (m, s, p, r) | inr c ↦ never_both k items plain.1 (m, s, p, r) c ]
+    ]
+
+came_first : (k : Key) (items : List Item) → EachAfter IsPlain items → HasRun k items → Has (Came k) items
+came_first k [] plain (m, s, p, ran) = absurd ran
+came_first k (item ∷ items) plain (m, s, p, ran) =
+    elim ran [ inl same ↦ inr (subst (IsPlain items) (sym same) plain.0).0 | inr later ↦ inr (came_first k items plain.1 (m, s, p, later)) ]
+
+run_later : (k : Key) (item : Item) (items : List Item) → HasRun k items → HasRun k (item ∷ items)
+run_later k item items (m, s, p, ran) = (m, s, p, inr ran)
+
+sent_ran : (k : Key) (items : List Item) → EachAfter IsPlain items → Has (Sent k) items → HasRun k items ⊎ Has (Cancelled k) items
+sent_ran k [] plain sent = absurd sent
+sent_ran k (item ∷ items) plain sent =
+    elim sent [
+      | inl same ↦ elim (subst (IsPlain items) (sym same) plain.0).0 [ inl h ↦ inl (run_later k item items h) | inr h ↦ inr (inr h) ]
+      | inr later ↦ elim (sent_ran k items plain.1 later) [ inl h ↦ inl (run_later k item items h) | inr h ↦ inr (inr h) ]
+    ]
+
+no_fewer : (b : Bool) (m : List ℕ) (ms : List (List ℕ)) → length (filter is_request ms) ≤ length (filter is_request (cons_option (cond b (Some m) None) ms))
+no_fewer true m ms = go (is_request m)
+  where
+    go : (q : Bool) → length (filter is_request ms) ≤ length (cond q (m ∷ filter is_request ms) (filter is_request ms))
+    go true = omega arith
+    go false = omega arith
+no_fewer false m ms = omega arith
+
+stored : (b : Bool) (x item : Item) (items : List Item) → Has x (cons_option (cond b (Some item) None) items) → (x ≡ item) ⊎ Has x items
+stored true x item items has = has
+stored false x item items has = inr has
+
+-- a key that came was read
+came_read : (deeds whole : List Deed) (d : ℕ) (k : Key) → EachAfter (Stands whole) deeds → Has (Came k) (journal d deeds) → k.index < length (filter is_request (client_read k.channel deeds))
+came_read [] whole d k stands came = absurd came
+came_read (stores device item ∷ before) whole d k stands came =
+    elim (stored (device == d) (Came k) item (journal d before) came) [
+      | inl same ↦ let read = subst (λ (item : Item). Stands whole before (stores device item)) (sym same) stands.0 in request_within k.index read.0 (client_read k.channel before) read.1
+      | inr later ↦ came_read before whole d k stands.1 later
+    ]
+came_read (client_reads c m ∷ before) whole d k stands came = omega (arith, came_read before whole d k stands.1 came, no_fewer (c == k.channel) m (client_read k.channel before))
+came_read (host_begins c ∷ before) whole d k stands came = came_read before whole d k stands.1 came
+came_read (host_ends c ∷ before) whole d k stands came = came_read before whole d k stands.1 came
+came_read (removes e ∷ before) whole d k stands came = came_read before whole d k stands.1 came
+came_read (adds e ∷ before) whole d k stands came = came_read before whole d k stands.1 came
+came_read (submits x named o ∷ before) whole d k stands came = came_read before whole d k stands.1 came
+came_read (takes n ∷ before) whole d k stands came = came_read before whole d k stands.1 came
+came_read (tells n ∷ before) whole d k stands came = came_read before whole d k stands.1 came
+came_read (host_writes c m ∷ before) whole d k stands came = came_read before whole d k stands.1 came
+came_read (host_reads c m ∷ before) whole d k stands came = came_read before whole d k stands.1 came
+came_read (client_writes c m ∷ before) whole d k stands came = came_read before whole d k stands.1 came
+came_read (completes key m ∷ before) whole d k stands came = came_read before whole d k stands.1 came
+
+-- what ran was written before
+ran_written : (deeds whole : List Deed) (d : ℕ) (k : Key) → IsCarried deeds → EachAfter (Stands whole) deeds → EachAfter IsPlain (journal d deeds) → HasRun k (journal d deeds) → k.index < requests_written k.channel deeds
+ran_written deeds whole d k carried stands plain ran =
+    omega (arith, came_read deeds whole d k stands (came_first k (journal d deeds) plain ran), fewer_in_end is_request (host_wrote k.channel deeds) (client_read k.channel deeds) (carried.to_client k.channel))
+
+run_in : (k : Key) (front back : List Item) → HasRun k back → HasRun k (front ++ back)
+run_in k front back (m, s, p, ran) = (m, s, p, has_later _ front back ran)
+
+pub in_order : (deeds : List Deed) → AtEachPoint IsCarried deeds → EachAfter (Stands deeds) deeds → ((device : ℕ) → EachAfter IsPlain (journal device deeds)) → InOrder deeds
+in_order deeds all_carried all_stand plain k l answer asking r s after between before same index asks found devices moment later starved parked later_starved later_parked behind_k before_k behind_l before_l k_ran l_ran =
+    let d : ℕ = r.device in
+    let middle : List Deed = between ++ completes k answer ∷ before in
+    let newer : List Deed = after ++ host_writes l.channel asking ∷ [] in
+    let all : deeds ≡ newer ++ middle = same ∙ sym (append_assoc after (host_writes l.channel asking ∷ []) middle) in
+    let items : journal d deeds ≡ journal d newer ++ journal d middle = ap (journal d) all ∙ filter_map-append (stored_by d) newer middle in
+    let plain_then : EachAfter IsPlain (journal d middle) = each_end IsPlain (journal d newer) (journal d middle) (subst (EachAfter IsPlain) items (plain d)) in
+    let stands : EachAfter (Stands deeds) middle = each_end (Stands deeds) newer middle (subst (EachAfter (Stands deeds)) all all_stand) in
+    let carried : IsCarried middle = carried_now middle (point_end IsCarried newer middle (subst (AtEachPoint IsCarried) all all_carried)) in
+    let not_l : ¬ (HasRun l (journal d middle)) = λ ran. omega (arith, ran_written middle deeds d l carried stands plain_then ran, index) in
+    let items_then : journal d middle ≡ journal d between ++ journal d before = filter_map-append (stored_by d) between (completes k answer ∷ before) in
+    let ran : HasRun k (journal d deeds) = (moment, starved, parked, rw k_ran (has_split (Ran k moment starved parked) behind_k before_k)) in
+    let completed : EachAfter (Stands deeds) (completes k answer ∷ before) = each_end (Stands deeds) between (completes k answer ∷ before) stands in
+    let sent : Has (Sent k) (journal d before) = completed.0 d (came_first k (journal d deeds) (plain d) ran) in
+    let plain_before : EachAfter IsPlain (journal d before) = each_end IsPlain (journal d between) (journal d before) (subst (EachAfter IsPlain) items_then plain_then) in
+    let ran_k : HasRun k (journal d middle) =
+    elim (sent_ran k (journal d before) plain_before sent) [
+      | inl h ↦ subst (HasRun k) (sym items_then) (run_in k (journal d between) (journal d before) h)
+      | inr h ↦ absurd (never_both k (journal d deeds) (plain d) ran (rw (items, items_then) (has_later (Cancelled k) (journal d newer) _ (has_later (Cancelled k) (journal d between) (journal d before) h))))
+    ] in
+    let k_before : length before_k < length (journal d middle) =
+    elim (split_cases (journal d newer) (journal d middle) behind_k (Ran k moment starved parked) before_k (sym items ∙ k_ran)) [
+      | inl (zs, e) ↦ omega (arith, ap length e, length-append {A = Item} zs (Ran k moment starved parked ∷ before_k))
+      | inr (zs, g, e) ↦ absurd ((each_end IsPlain behind_k (Ran k moment starved parked ∷ before_k) (subst (EachAfter IsPlain) k_ran (plain d))).0.1 (subst (HasRun k) (sym e) (run_in k zs (journal d middle) ran_k)))
+    ] in
+    elim (split_cases (journal d newer) (journal d middle) behind_l (Ran l later later_starved later_parked) before_l (sym items ∙ l_ran)) [
+      | inl (zs, e) ↦ absurd (not_l (later, later_starved, later_parked, rw e (has_split (Ran l later later_starved later_parked) zs before_l)))
+      | inr (zs, g, e) ↦ omega (arith, k_before, ap length e, length-append {A = Item} zs (journal d middle))
+    ]
+
+-- ---- what is answered was sent
+
+stored_before : (b : Bool) (x item : Item) (items : List Item) → Has x items → Has x (cons_option (cond b (Some item) None) items)
+stored_before true x item items has = inr has
+stored_before false x item items has = has
+
+abbrev key_at : ℕ → ℕ → Key
+key_at c k = record { channel = c; index = k }
+
+answered_sent : (before deeds : List Deed) (c d i k : ℕ) → EachAfter (Stands deeds) before → Has k (answered c d i before) → Has (Came (key_at c k)) (journal d deeds) → Has (Sent (key_at c k)) (journal d before)
+answered_sent [] deeds c d i k stands has came = absurd has
+answered_sent (completes key m ∷ before) deeds c d i k stands has came =
+    elim (option_cases (key.channel == c && has_pair d i m) k key.index (answered c d i before) has) [
+      | inl (test, same) ↦ here (key.channel == c) refl (has_pair d i m) test same
+      | inr h ↦ answered_sent before deeds c d i k stands.1 h came
+    ]
+  where
+    here : (p : Bool) → (key.channel == c) ≡ p → (q : Bool) → (p && q) ≡ true → k ≡ key.index → Has (Sent (key_at c k)) (journal d before)
+    here true e q test same =
+        let key_is : key ≡ key_at c k = ap (λ (x : ℕ). key_at x key.index) (eqb-true key.channel c e) ∙ ap (λ (x : ℕ). key_at c x) (sym same) in
+        subst (λ (x : Key). Has (Sent x) (journal d before)) key_is (stands.0 d (subst (λ (x : Key). Has (Came x) (journal d deeds)) (sym key_is) came))
+    here false e q test same = absurd (cc test)
+answered_sent (stores device item ∷ before) deeds c d i k stands has came = stored_before (device == d) _ item (journal d before) (answered_sent before deeds c d i k stands.1 has came)
+answered_sent (host_begins e ∷ before) deeds c d i k stands has came = answered_sent before deeds c d i k stands.1 has came
+answered_sent (host_ends e ∷ before) deeds c d i k stands has came = answered_sent before deeds c d i k stands.1 has came
+answered_sent (removes e ∷ before) deeds c d i k stands has came = answered_sent before deeds c d i k stands.1 has came
+answered_sent (adds e ∷ before) deeds c d i k stands has came = answered_sent before deeds c d i k stands.1 has came
+answered_sent (submits x named o ∷ before) deeds c d i k stands has came = answered_sent before deeds c d i k stands.1 has came
+answered_sent (takes n ∷ before) deeds c d i k stands has came = answered_sent before deeds c d i k stands.1 has came
+answered_sent (tells n ∷ before) deeds c d i k stands has came = answered_sent before deeds c d i k stands.1 has came
+answered_sent (host_writes e m ∷ before) deeds c d i k stands has came = answered_sent before deeds c d i k stands.1 has came
+answered_sent (host_reads e m ∷ before) deeds c d i k stands has came = answered_sent before deeds c d i k stands.1 has came
+answered_sent (client_reads e m ∷ before) deeds c d i k stands has came = answered_sent before deeds c d i k stands.1 has came
+answered_sent (client_writes e m ∷ before) deeds c d i k stands has came = answered_sent before deeds c d i k stands.1 has came
+
+-- where a request is read, each earlier one with its pair is answered
+pub all_answered : (client : ℕ) (whole before : List Deed) (c : ℕ) (m : List ℕ) (r : Request) → Does client (client_reads c m ∷ before) → IsCarried (client_reads c m ∷ before)
+    → AtEachPoint IsCarried before → EachAfter (Stands whole) (client_reads c m ∷ before) → EachAfter Tells (client_reads c m ∷ before) → request_in m ≡ Some r
+    → asked c r.device r.completion before ≡ answered c r.device r.completion before
+all_answered client whole before c m r may carried all_carried stands told asks =
+    let one : asked c r.device r.completion (client_reads c m ∷ before) ≡ length (filter is_request (client_read c before)) ∷ asked c r.device r.completion before =
+    rw (eq-eqb c c refl, request_is m r asks, asks, eq-eqb r.device r.device refl, eq-eqb r.completion r.completion refl) refl in
+    all_of (asked c r.device r.completion before) (answered c r.device r.completion before) (counted client whole before may.1 all_carried stands.1 told.1 c r.device r.completion)
+    (omega (arith, ap length one, at_most_one client whole (client_reads c m ∷ before) may carried stands c r.device r.completion))
+
+alone_one : (client : ℕ) (whole before : List Deed) (deed : Deed) → Does client (deed ∷ before) → IsCarried (deed ∷ before) → AtEachPoint IsCarried before → EachAfter (Stands whole) (deed ∷ before)
+    → EachAfter Tells (deed ∷ before) → IsAlone whole before deed
+alone_one client whole before (client_reads c m) may carried all_carried stands told =
+    λ r index asks has came. answered_sent before whole c r.device r.completion index stands.1 (subst (Has index) (all_answered client whole before c m r may carried all_carried stands told asks) has) came
+alone_one client whole before (host_begins e) may carried all_carried stands told = tt
+alone_one client whole before (host_ends e) may carried all_carried stands told = tt
+alone_one client whole before (removes e) may carried all_carried stands told = tt
+alone_one client whole before (adds e) may carried all_carried stands told = tt
+alone_one client whole before (submits x named o) may carried all_carried stands told = tt
+alone_one client whole before (takes n) may carried all_carried stands told = tt
+alone_one client whole before (tells n) may carried all_carried stands told = tt
+alone_one client whole before (host_writes e m) may carried all_carried stands told = tt
+alone_one client whole before (host_reads e m) may carried all_carried stands told = tt
+alone_one client whole before (client_writes e m) may carried all_carried stands told = tt
+alone_one client whole before (completes key m) may carried all_carried stands told = tt
+alone_one client whole before (stores device item) may carried all_carried stands told = tt
+
+pub each_alone : (client : ℕ) (whole deeds : List Deed) → Does client deeds → AtEachPoint IsCarried deeds → EachAfter (Stands whole) deeds → EachAfter Tells deeds → EachAfter (IsAlone whole) deeds
+each_alone client whole [] may carried stands told = tt
+each_alone client whole (deed ∷ before) may carried stands told =
+    (alone_one client whole before deed may carried.0 carried.1 stands told, each_alone client whole before may.1 carried.1 stands.1 told.1)

@@ -1,0 +1,69 @@
+use Rattle.std.proofs.Common.{refl}
+use Rattle.std.specs.Fmt.{digits}
+use Rattle.hex.specs.Hex.{encode_with}
+use Rattle.rd_base.specs.Counted.{count_to, counted, counted_bytes, two_fields, four_fields, two_fields_bytes, four_fields_bytes}
+use Rattle.rd_base.specs.Fields.{bytes8, bytes16, bytes32, bytes64}
+use Rattle.rd_base.specs.Header.{component_field, header, header_among}
+use Rattle.rd_chunk.specs.Carrier.{carrier_frame}
+use Rattle.rd_chunk.specs.Frames.{size_of, length_of, flags_of}
+use Rattle.rd_devices.specs.DeviceList.{announce, device_list}
+use Rattle.rd_devices.specs.DeviceReply.{device_reply}
+use Rattle.rd_devices.specs.Removal.{removal}
+use Rattle.rd_drive.specs.Outcome.{checked, one_of, given}
+use Rattle.rd_hello.specs.Capability.{special, general, other, body_of, capability, sets}
+use Rattle.rd_hello.specs.Hello.{version, name, hello}
+use Rattle.rd_irp.specs.Completion.{completion_head, success_body, completion_body}
+use Rattle.rd_irp.specs.Op.{create_body, close_body, read_body, write_body, notify_body, range, lock_body, directory_body, op_body}
+use Rattle.rd_irp.specs.Request.{request_head}
+use Rattle.rd_printer.specs.Notice.{add_event, update_event, delete_event, rename_event, event_body, cache_data, using_xps, notice}
+use Rattle.rd_world.specs.Devices.{declaring, furnishing}
+use Rattle.rd_world.specs.Run.{asked_by, notice_of, controls, setting}
+use Rattle.rd_world.proofs.laws.sessions_run_as_listed.Goals as goal
+
+pub returns-clause-idle_control_lines : goal.returns-clause-idle_control_lines
+unfolding digits encode_with count_to counted counted_bytes two_fields four_fields two_fields_bytes four_fields_bytes bytes8 bytes16 bytes32 bytes64 component_field header header_among carrier_frame size_of length_of flags_of announce device_list device_reply removal checked one_of given special general other body_of capability sets version name hello completion_head success_body completion_body create_body close_body read_body write_body notify_body range lock_body directory_body op_body request_head add_event update_event delete_event rename_event event_body cache_data using_xps notice declaring furnishing asked_by notice_of controls setting
+returns-clause-idle_control_lines c = refl
+
+pub returns-clause-printer_cache_renamed : goal.returns-clause-printer_cache_renamed
+unfolding digits encode_with count_to counted counted_bytes two_fields four_fields two_fields_bytes four_fields_bytes bytes8 bytes16 bytes32 bytes64 component_field header header_among carrier_frame size_of length_of flags_of announce device_list device_reply removal checked one_of given special general other body_of capability sets version name hello completion_head success_body completion_body create_body close_body read_body write_body notify_body range lock_body directory_body op_body request_head add_event update_event delete_event rename_event event_body cache_data using_xps notice declaring furnishing asked_by notice_of controls setting
+returns-clause-printer_cache_renamed c = refl
+
+pub returns-clause-cached_bytes_announced : goal.returns-clause-cached_bytes_announced
+unfolding digits encode_with count_to counted counted_bytes two_fields four_fields two_fields_bytes four_fields_bytes bytes8 bytes16 bytes32 bytes64 component_field header header_among carrier_frame size_of length_of flags_of announce device_list device_reply removal checked one_of given special general other body_of capability sets version name hello completion_head success_body completion_body create_body close_body read_body write_body notify_body range lock_body directory_body op_body request_head add_event update_event delete_event rename_event event_body cache_data using_xps notice declaring furnishing asked_by notice_of controls setting
+returns-clause-cached_bytes_announced c = refl
+
+pub returns-clause-removal_under_work : goal.returns-clause-removal_under_work
+unfolding digits encode_with count_to counted counted_bytes two_fields four_fields two_fields_bytes four_fields_bytes bytes8 bytes16 bytes32 bytes64 component_field header header_among carrier_frame size_of length_of flags_of announce device_list device_reply removal checked one_of given special general other body_of capability sets version name hello completion_head success_body completion_body create_body close_body read_body write_body notify_body range lock_body directory_body op_body request_head add_event update_event delete_event rename_event event_body cache_data using_xps notice declaring furnishing asked_by notice_of controls setting
+returns-clause-removal_under_work c = refl
+
+pub returns-clause-removal_before_sent_request : goal.returns-clause-removal_before_sent_request
+unfolding digits encode_with count_to counted counted_bytes two_fields four_fields two_fields_bytes four_fields_bytes bytes8 bytes16 bytes32 bytes64 component_field header header_among carrier_frame size_of length_of flags_of announce device_list device_reply removal checked one_of given special general other body_of capability sets version name hello completion_head success_body completion_body create_body close_body read_body write_body notify_body range lock_body directory_body op_body request_head add_event update_event delete_event rename_event event_body cache_data using_xps notice declaring furnishing asked_by notice_of controls setting
+returns-clause-removal_before_sent_request c = refl
+
+pub returns-clause-drop_and_reconnect : goal.returns-clause-drop_and_reconnect
+unfolding digits encode_with count_to counted counted_bytes two_fields four_fields two_fields_bytes four_fields_bytes bytes8 bytes16 bytes32 bytes64 component_field header header_among carrier_frame size_of length_of flags_of announce device_list device_reply removal checked one_of given special general other body_of capability sets version name hello completion_head success_body completion_body create_body close_body read_body write_body notify_body range lock_body directory_body op_body request_head add_event update_event delete_event rename_event event_body cache_data using_xps notice declaring furnishing asked_by notice_of controls setting
+returns-clause-drop_and_reconnect c = refl
+
+pub returns-clause-device_removed_and_added : goal.returns-clause-device_removed_and_added
+unfolding digits encode_with count_to counted counted_bytes two_fields four_fields two_fields_bytes four_fields_bytes bytes8 bytes16 bytes32 bytes64 component_field header header_among carrier_frame size_of length_of flags_of announce device_list device_reply removal checked one_of given special general other body_of capability sets version name hello completion_head success_body completion_body create_body close_body read_body write_body notify_body range lock_body directory_body op_body request_head add_event update_event delete_event rename_event event_body cache_data using_xps notice declaring furnishing asked_by notice_of controls setting
+returns-clause-device_removed_and_added c = refl
+
+pub returns-clause-removed_device_not_announced_again : goal.returns-clause-removed_device_not_announced_again
+unfolding digits encode_with count_to counted counted_bytes two_fields four_fields two_fields_bytes four_fields_bytes bytes8 bytes16 bytes32 bytes64 component_field header header_among carrier_frame size_of length_of flags_of announce device_list device_reply removal checked one_of given special general other body_of capability sets version name hello completion_head success_body completion_body create_body close_body read_body write_body notify_body range lock_body directory_body op_body request_head add_event update_event delete_event rename_event event_body cache_data using_xps notice declaring furnishing asked_by notice_of controls setting
+returns-clause-removed_device_not_announced_again c = refl
+
+pub returns-clause-waiting_lock : goal.returns-clause-waiting_lock
+unfolding digits encode_with count_to counted counted_bytes two_fields four_fields two_fields_bytes four_fields_bytes bytes8 bytes16 bytes32 bytes64 component_field header header_among carrier_frame size_of length_of flags_of announce device_list device_reply removal checked one_of given special general other body_of capability sets version name hello completion_head success_body completion_body create_body close_body read_body write_body notify_body range lock_body directory_body op_body request_head add_event update_event delete_event rename_event event_body cache_data using_xps notice declaring furnishing asked_by notice_of controls setting
+returns-clause-waiting_lock c = refl
+
+pub returns-clause-notification_of_new_file : goal.returns-clause-notification_of_new_file
+unfolding digits encode_with count_to counted counted_bytes two_fields four_fields two_fields_bytes four_fields_bytes bytes8 bytes16 bytes32 bytes64 component_field header header_among carrier_frame size_of length_of flags_of announce device_list device_reply removal checked one_of given special general other body_of capability sets version name hello completion_head success_body completion_body create_body close_body read_body write_body notify_body range lock_body directory_body op_body request_head add_event update_event delete_event rename_event event_body cache_data using_xps notice declaring furnishing asked_by notice_of controls setting
+returns-clause-notification_of_new_file c = refl
+
+pub returns-clause-notification_never_ended : goal.returns-clause-notification_never_ended
+unfolding digits encode_with count_to counted counted_bytes two_fields four_fields two_fields_bytes four_fields_bytes bytes8 bytes16 bytes32 bytes64 component_field header header_among carrier_frame size_of length_of flags_of announce device_list device_reply removal checked one_of given special general other body_of capability sets version name hello completion_head success_body completion_body create_body close_body read_body write_body notify_body range lock_body directory_body op_body request_head add_event update_event delete_event rename_event event_body cache_data using_xps notice declaring furnishing asked_by notice_of controls setting
+returns-clause-notification_never_ended c = refl
+
+pub returns-clause-sharing_violation : goal.returns-clause-sharing_violation
+unfolding digits encode_with count_to counted counted_bytes two_fields four_fields two_fields_bytes four_fields_bytes bytes8 bytes16 bytes32 bytes64 component_field header header_among carrier_frame size_of length_of flags_of announce device_list device_reply removal checked one_of given special general other body_of capability sets version name hello completion_head success_body completion_body create_body close_body read_body write_body notify_body range lock_body directory_body op_body request_head add_event update_event delete_event rename_event event_body cache_data using_xps notice declaring furnishing asked_by notice_of controls setting
+returns-clause-sharing_violation c = refl

@@ -1,0 +1,123 @@
+-- The devices of a session: memory drives and printers, as a script declares them.
+use Rattle.std.specs.Prelude.{ℕ, ◌-◌, ◌==◌, nat_le, if◌then◌else◌, List, [], ◌∷◌, ◌++◌, length, map, replicate, Option, Some, None}
+use Rattle.std.specs.Option.{option_map_or}
+use Rattle.std.specs.Ordering.{nat_cmp}
+use Rattle.std.specs.BTreeMap.{insert_entry}
+use Rattle.rd_base.specs.declared.journal.Key.{Key}
+use Rattle.rd_base.specs.Fields.{text_bytes}
+use Rattle.rd_devices.specs.declared.list.Announce.{Announce}
+use Rattle.rd_devices.specs.PrinterInfo.{printer_bytes}
+use Rattle.rd_dirinfo.specs.declared.naming.Naming.{Naming}
+use Rattle.rd_dirinfo.specs.declared.naming.Naming.TheVariants as naming
+use Rattle.rd_dirinfo.specs.Paths.{Names}
+use Rattle.rd_drive.specs.Answered.{drive_parked}
+use Rattle.rd_drive.specs.Device.{Parked}
+use Rattle.rd_drive.specs.DriveState.{DriveState, empty_drive, holding}
+use Rattle.rd_drive.specs.DriveStep.{drive_cut, drive_step}
+use Rattle.rd_drive.specs.Stepped.{Settled, Stepped}
+use Rattle.rd_host.specs.Served.{file_system, print}
+use Rattle.rd_irp.specs.declared.op.Op.{Op}
+use Rattle.rd_printer.specs.Cache.{CacheState, kept_for}
+use Rattle.rd_printer.specs.Printer.{PrinterState, new_printer, printer_cut, printer_step}
+use Rattle.rd_script.specs.declared.line.Line.{Line}
+use Rattle.rd_script.specs.declared.line.Line.TheVariants as line
+
+-- a device of a session
+pub data DeviceState : Type 0 where
+  as_drive : DriveState → DeviceState
+  as_printer : PrinterState → DeviceState
+
+-- what a request does to it
+abbrev pub of_drive : Stepped DriveState → Stepped DeviceState
+of_drive came = record { state = as_drive came.state; answer = came.answer; ends = came.ends }
+
+abbrev pub of_printer : Stepped PrinterState → Stepped DeviceState
+of_printer came = record { state = as_printer came.state; answer = came.answer; ends = came.ends }
+
+abbrev pub device_step : DeviceState → Key → ℕ → Op → ℕ → Stepped DeviceState
+device_step (as_drive s) key file op moment = of_drive (drive_step s key file op moment)
+device_step (as_printer s) key file op moment = of_printer (printer_step s key file op moment)
+
+-- what is left of it when it is cut off, and the requests that end by that
+abbrev pub device_cut : DeviceState → Settled DeviceState
+device_cut (as_drive s) = let cut = drive_cut s in record { state = as_drive cut.state; ends = cut.ends }
+device_cut (as_printer s) = let cut = printer_cut s in record { state = as_printer cut.state; ends = cut.ends }
+
+-- the requests that wait in it, in the order in which they began to wait; none waits in a printer
+abbrev pub device_parked : DeviceState → List Parked
+device_parked (as_drive s) = drive_parked s
+device_parked (as_printer s) = []
+
+-- ---- as a script declares them
+
+-- a printer's driver and name
+pub record PrinterNames : Type 0 where
+  pub driver : List ℕ
+  pub printer : List ℕ
+
+-- a device of a script: as it begins, the number of its type (MS-RDPEFS 2.2.1.3), its name, and a printer's names
+pub record Declared : Type 0 where
+  pub id : ℕ
+  pub state : DeviceState
+  pub kind : ℕ
+  pub name : List ℕ
+  pub printer : Option PrinterNames
+
+abbrev pub declared_drive : ℕ → Naming → List ℕ → Declared
+declared_drive id how name = record { id = id; state = as_drive (empty_drive how name); kind = file_system; name = name; printer = None }
+
+-- with the device that a line declares
+unfoldable pub declaring : List (ℕ × Declared) → Line → List (ℕ × Declared)
+declaring devices (line.Drive device name) = insert_entry nat_cmp devices device (declared_drive device naming.Exact name)
+declaring devices (line.DriveFold device name) = insert_entry nat_cmp devices device (declared_drive device naming.Folded name)
+declaring devices (line.Printer device name driver printer) =
+    insert_entry nat_cmp devices device (record { id = device; state = as_printer new_printer; kind = print; name = name; printer = Some (record { driver = driver; printer = printer }) })
+declaring devices _ = devices
+
+-- a folder, or a file with bytes, on a drive; a printer has none
+abbrev pub with_first : Names × Option (List ℕ) → Declared → Declared
+with_first first d = record d { state = by d.state }
+  where
+    by : DeviceState → DeviceState
+    by (as_drive s) = as_drive (holding s first)
+    by (as_printer s) = as_printer s
+
+abbrev pub holding_at : List (ℕ × Declared) → ℕ → Names × Option (List ℕ) → List (ℕ × Declared)
+holding_at devices device first = map (λ (e : ℕ × Declared). (e.0, if e.0 == device then with_first first e.1 else e.1)) devices
+
+-- with the folder or the file that a line makes
+unfoldable pub furnishing : List (ℕ × Declared) → Line → List (ℕ × Declared)
+furnishing devices (line.Folder device path) = holding_at devices device (path, None)
+furnishing devices (line.File device path bytes) = holding_at devices device (path, Some bytes)
+furnishing devices (line.Fill device path len byte) = holding_at devices device (path, Some (replicate len byte))
+furnishing devices _ = devices
+
+-- ---- how they are announced
+
+-- a name, filled with zeros to eight bytes
+abbrev pub dos_name : List ℕ → List ℕ
+dos_name name = name ++ replicate (8 - length name) 0
+
+-- the bytes of a text with a zero unit behind it
+abbrev pub zero_text : List ℕ → List ℕ
+zero_text units = text_bytes (units ++ 0 ∷ [])
+
+-- the most bytes of a configuration that is announced
+abbrev pub max_config : ℕ
+max_config = 16384
+
+-- the configuration that is kept for a printer, where it isn't too long
+abbrev pub config_of : CacheState → List ℕ → List ℕ
+config_of cache name = option_map_or (λ (bytes : List ℕ). if nat_le (length bytes) max_config then bytes else []) (kept_for cache (zero_text name)) []
+
+-- the data of a printer's announcement
+abbrev pub printer_data : CacheState → PrinterNames → List ℕ
+printer_data cache names =
+    printer_bytes (record { flags = 0; page = 0; pnp = []; driver = zero_text names.driver; name = zero_text names.printer; config = config_of cache names.printer })
+
+-- the data of a device's announcement; a drive has none
+abbrev pub device_data : CacheState → Declared → List ℕ
+device_data cache d = option_map_or (printer_data cache) d.printer []
+
+abbrev pub announce_of : CacheState → Declared → Announce
+announce_of cache d = record { kind = d.kind; id = d.id; dos = dos_name d.name; body = device_data cache d }

@@ -1,0 +1,301 @@
+-- What can happen in a session, when it can, and what comes of it.
+use Rattle.std.specs.Prelude.{◌≡◌, ℕ, ◌+◌, ◌-◌, ◌==◌, ◌&&◌, Bool, true, false, not, nat_lt, nat_le, if◌then◌else◌, List, [], ◌∷◌, ◌++◌, length, map, reverse, take, drop, fold, Option, Some, None, is_some, is_none, Result, Ok, Err, slice_get}
+use Rattle.std.specs.Map.{lookup}
+use Rattle.std.specs.Option.{option_and_then, option_map_or, unwrap_or}
+use Rattle.rd_base.specs.declared.journal.Key.{Key}
+use Rattle.rd_client.specs.Core as client
+use Rattle.rd_client.specs.Core.{ClientCoreState}
+use Rattle.rd_drive.specs.declared.plan.Job.{Job}
+use Rattle.rd_hello.specs.declared.client.ClientState.{ClientState}
+use Rattle.rd_hello.specs.declared.client.ClientState.TheVariants as client_state
+use Rattle.rd_hello.specs.declared.host.HostState.{HostState}
+use Rattle.rd_hello.specs.declared.host.HostState.TheVariants as host_state
+use Rattle.rd_drive.specs.Stepped.{Stepped, ran_step}
+use Rattle.rd_irp.specs.declared.completion.Head.{Head}
+use Rattle.rd_irp.specs.declared.op.Op.{Op}
+use Rattle.rd_irp.specs.declared.op.Op.TheVariants as op
+use Rattle.rd_irp.specs.Written.{completion_bytes}
+use Rattle.rd_pending.specs.declared.calls.Handle.{Handle}
+use Rattle.rd_pending.specs.declared.calls.SubmitNo.{SubmitNo}
+use Rattle.rd_pending.specs.declared.calls.SubmitNo.TheVariants as submit_no
+use Rattle.rd_pending.specs.declared.calls.Target.{Target}
+use Rattle.rd_pending.specs.declared.calls.Target.TheVariants as target
+use Rattle.rd_pending.specs.Table as table
+use Rattle.rd_pending.specs.Table.{TableState}
+use Rattle.rd_printer.specs.declared.notice.Notice.{Notice}
+use Rattle.rd_script.specs.declared.outcome.Outcome.TheVariants as outcome
+use Rattle.rd_script.specs.declared.outcome.Refusal.{Refusal}
+use Rattle.rd_script.specs.declared.outcome.Refusal.TheVariants as refusal
+use Rattle.rd_station.specs.declared.answers.Completion.{Completion}
+use Rattle.rd_station.specs.declared.answers.Given.{Given}
+use Rattle.rd_station.specs.declared.answers.Given.TheVariants as given
+use Rattle.rd_station.specs.Station as station
+use Rattle.rd_station.specs.Station.{StationState}
+use Rattle.rd_world.specs.Devices.{Declared, DeviceState, device_cut, device_data, device_step}
+use Rattle.rd_world.specs.Host.{begins_on, ends_channel, next_message, sends, tells_of}
+use Rattle.rd_world.specs.Talk.{Deed, adds, answered, asked, client_writes, completes, head_in, host_begins, host_ends, removes, submits, tells}
+use Rattle.rd_world.specs.World.{Application, Asked, WorldState, application_at, begins, client_sends, ends, handle_at, host_sends, new_joined, station_at, with_application, with_deed, with_station, with_table}
+use Rattle.rd_world.specs.Hearing.{all_take, announcing, client_takes, ends_line, host_takes, tries_kept, with_client}
+
+-- an event; a device and a hand by their numbers, a hand counted from 1, and a read by how many bytes it takes
+pub data Event : Type 0 where
+  issue : ℕ → Event
+  host_send : Event
+  client_read : ℕ → Event
+  client_send : Event
+  collect : ℕ → Event
+  host_read : ℕ → Event
+  take_job : ℕ → ℕ → Event
+  apply_job : ℕ → Event
+  remove add : ℕ → Event
+  drop_channel connect : Event
+  tell : Notice → Event
+
+-- ---- when it can happen
+
+abbrev pub is_open : WorldState → Bool
+is_open w = is_some ((w.side).table).channel
+
+abbrev pub is_client_ready : ClientState → Bool
+is_client_ready client_state.Ready = true
+is_client_ready _ = false
+
+abbrev pub is_host_ready : HostState → Bool
+is_host_ready host_state.Ready = true
+is_host_ready _ = false
+
+-- a channel is ready
+abbrev pub is_ready : WorldState → Bool
+is_ready w = is_open w && is_client_ready (w.client).shake
+
+abbrev pub is_empty : {A : Type 0} → List A → Bool
+is_empty [] = true
+is_empty (x ∷ xs) = false
+
+-- whether the host, and whether the client, has a message that can be sent before all completions
+abbrev pub host_has_message : WorldState → Bool
+host_has_message w = is_some (next_message w.side)
+
+abbrev pub client_has_message : WorldState → Bool
+client_has_message w = not (is_empty (w.client).outbox)
+
+-- what a hand holds: nothing where there is no such hand
+abbrev pub hand_at : WorldState → ℕ → Option (Option (ℕ × Job))
+hand_at w hand = if hand == 0 then None else slice_get w.hands (hand - 1)
+
+abbrev pub is_hand_free : WorldState → ℕ → Bool
+is_hand_free w hand = option_map_or is_none (hand_at w hand) false
+
+abbrev pub is_hand_full : WorldState → ℕ → Bool
+is_hand_full w hand = option_map_or is_some (hand_at w hand) false
+
+-- whether a job of a device waits for a hand, and whether it has a completion
+abbrev pub job_waits : WorldState → ℕ → Bool
+job_waits w device = option_map_or (λ (s : StationState DeviceState). not (is_empty s.waiting)) (station_at w device) false
+
+abbrev pub has_completion : WorldState → ℕ → Bool
+has_completion w device = option_map_or (λ (s : StationState DeviceState). not (is_empty s.ready)) (station_at w device) false
+
+abbrev pub is_read : List ℕ → ℕ → Bool
+is_read pipe n = nat_lt 0 n && nat_le n (length pipe)
+
+abbrev pub may_issue : Application → Bool
+may_issue a = not (is_empty a.queue) && is_none a.awaits
+
+abbrev pub is_enabled : WorldState → Event → Bool
+is_enabled w (issue a) = may_issue (application_at w a)
+is_enabled w host_send = host_has_message w
+is_enabled w (client_read n) = is_read w.to_client n && is_none w.kept
+is_enabled w client_send = client_has_message w
+is_enabled w (collect device) = not (client_has_message w) && has_completion w device
+is_enabled w (host_read n) = is_read w.to_host n
+is_enabled w (take_job device hand) = is_hand_free w hand && job_waits w device
+is_enabled w (apply_job hand) = is_hand_full w hand
+is_enabled w (remove device) = is_ready w && (client.has_device w.client device && not (client.is_gone w.client device))
+is_enabled w (add device) = is_ready w && client.is_gone w.client device
+is_enabled w drop_channel = is_open w
+is_enabled w connect = not (is_open w)
+is_enabled w (tell n) = is_open w && is_host_ready ((w.side).core).shake
+
+-- ---- what comes of it
+
+abbrev pub refusal_of : SubmitNo → Refusal
+refusal_of submit_no.NoChannel = refusal.NoChannel
+refusal_of submit_no.NoDevice = refusal.NoDevice
+refusal_of (submit_no.StaleHandle was now) = refusal.StaleHandle
+refusal_of (submit_no.Full held) = refusal.Full
+refusal_of (submit_no.Worn count) = refusal.Worn
+refusal_of submit_no.Memory = refusal.NoChannel
+
+-- what a line names: the device that it opens a file of, or what its handle holds
+abbrev pub target_of : Application → Asked → Option Target
+target_of a asked = by asked.device
+  where
+    by : Option ℕ → Option Target
+    by (Some device) = Some (target.Device device)
+    by None = option_map_or (λ (h : Handle). Some (target.Handle h)) (handle_at a asked.handle) None
+
+-- An application issues its next line: its request is accepted, or the line is refused at once.
+abbrev pub issues : WorldState → ℕ → WorldState
+issues w a = by (application_at w a).queue
+  where
+    asks : WorldState → Asked → Target → WorldState
+    asks x asked named = from (table.submit (x.side).table a named asked.op)
+      where
+        from : TableState × Result ℕ SubmitNo → WorldState
+        from (t, Ok number) =
+            let application = application_at x a in
+            with_application (with_deed (with_table x t) (submits a named asked.op)) a (record application { awaits = Some (number, asked) })
+        from (t, Err cause) = ends_line x a asked (outcome.Refused (refusal_of cause)) None
+
+    names : WorldState → Asked → Option Target → WorldState
+    names x asked (Some named) = asks x asked named
+    names x asked None = ends_line x a asked (outcome.Refused refusal.NoHandle) None
+
+    by : List Asked → WorldState
+    by [] = w
+    by (asked ∷ queue) =
+        let application = application_at w a in
+        names (with_application w a (record application { queue = queue; issued = application.issued + 1 })) asked (target_of application asked)
+
+-- the host sends the message that is next
+abbrev pub host_sends_next : WorldState → WorldState
+host_sends_next w = option_map_or (host_sends (record w { side = sends w.side })) (next_message w.side) w
+
+-- The key that a completion without its device answers: of the requests with its pair, the first that isn't answered.
+abbrev pub direct_key : WorldState → Head → Key
+direct_key w head =
+    let asked_so = asked w.channels head.device head.completion w.deeds in
+    let index = slice_get (reverse asked_so) (length (answered w.channels head.device head.completion w.deeds)) in
+    record { channel = w.channels; index = unwrap_or index 0 }
+
+-- what the client does with a message of its own: it completes a request, or writes it
+abbrev pub own_deed : WorldState → List ℕ → Deed
+own_deed w message = option_map_or (λ head. completes (direct_key w head) message) (head_in message) (client_writes w.channels message)
+
+abbrev pub client_sends_next : WorldState → WorldState
+client_sends_next w = by (client.send w.client)
+  where
+    by : ClientCoreState × Option (List ℕ) → WorldState
+    by (c, None) = w
+    by (c, Some message) = client_sends (with_client w c) (own_deed w message) message
+
+-- the bytes of a device's completion
+abbrev pub bytes_of : ℕ → Completion → List ℕ
+bytes_of device c = completion_bytes c.kind (record { device = device; completion = c.completion; status = (c.reply).status }) (c.reply).body
+
+-- a completion of a device is collected and sent, and a job that was kept back is tried again
+abbrev pub collects : WorldState → ℕ → WorldState
+collects w device = by (station_at w device)
+  where
+    from : StationState DeviceState × Option Completion → WorldState
+    from (s, None) = w
+    from (s, Some c) = let bytes = bytes_of device c in tries_kept (client_sends (with_station w device s) (completes c.key bytes) bytes) device
+
+    by : Option (StationState DeviceState) → WorldState
+    by None = w
+    by (Some s) = from (station.collect s)
+
+-- a hand holds this, or nothing
+abbrev pub with_hand : WorldState → ℕ → Option (ℕ × Job) → WorldState
+with_hand w hand held = record w { hands = take (hand - 1) w.hands ++ held ∷ drop hand w.hands }
+
+abbrev pub takes_job : WorldState → ℕ → ℕ → WorldState
+takes_job w device hand = by (station_at w device)
+  where
+    from : StationState DeviceState × Given → WorldState
+    from (s, given.Job job) = with_hand (with_station w device s) hand (Some (device, job))
+    from (s, given.Nothing) = w
+    from (s, given.Over) = w
+
+    by : Option (StationState DeviceState) → WorldState
+    by None = w
+    by (Some s) = from (station.take s)
+
+abbrev pub is_close : Op → Bool
+is_close op.Close = true
+is_close _ = false
+
+-- what a job comes to at a device, or nothing where no memory is found for it
+abbrev pub came_of : WorldState → Job → DeviceState → Stepped DeviceState
+came_of w job s = ran_step device_step s job.key job.file job.op w.moment (w.starves job.key && not (is_close job.op))
+
+-- A hand's job is run at the moment of the session, unless its station has it no more.
+abbrev pub applies_job : WorldState → ℕ → WorldState
+applies_job w hand = by (option_and_then (λ held. held) (hand_at w hand))
+  where
+    at : ℕ → Job → Option (StationState DeviceState) → WorldState
+    at device job None = with_hand w hand None
+    at device job (Some s) =
+        with_hand (with_station w device (station.apply s job w.moment (came_of w job s.device)).0) hand None
+
+    by : Option (ℕ × Job) → WorldState
+    by None = w
+    by (Some (device, job)) = at device job (station_at w device)
+
+-- the client tells that a device is gone, and its station is removed
+abbrev pub removes_device : WorldState → ℕ → WorldState
+removes_device w device =
+    let told = with_deed (with_client w (client.tell_removed w.client device)) (removes device) in
+    tries_kept (option_map_or (λ (s : StationState DeviceState). with_station told device (station.remove s (device_cut s.device).state).0) (station_at told device) told) device
+
+-- the data of a printer's announcement is that of what is kept for it now
+abbrev pub refreshing : WorldState → ℕ → WorldState
+refreshing w device =
+    option_map_or (λ (d : Declared). with_client w (client.refresh w.client device (device_data w.cache d))) (lookup (λ n. n == device) w.devices) w
+
+abbrev pub adds_device : WorldState → ℕ → WorldState
+adds_device w device =
+    let fresh = refreshing w device in
+    announcing (with_deed (with_client fresh (client.tell_added fresh.client device)) (adds device)) device
+
+abbrev pub dropping : WorldState → ℕ → WorldState
+dropping w device =
+    option_map_or (λ (s : StationState DeviceState). with_station w device (station.drop_channel s (device_cut s.device).state)) (station_at w device) w
+
+-- the channel ends: nothing is under way or to be sent any more, and no job is kept back
+abbrev pub drops : WorldState → WorldState
+drops w =
+    let cut = fold dropping w (map (λ (e : ℕ × StationState DeviceState). e.0) w.stations) in
+    all_take (record (with_deed cut (host_ends cut.channels)) {
+      side = ends_channel cut.side;
+      client = record cut.client { outbox = [] };
+      to_client = [];
+      to_host = [];
+      kept = None;
+      wire = cut.wire ++ ends ∷ [];
+    })
+
+-- a channel begins
+abbrev pub connects : WorldState → WorldState
+connects w =
+    let fresh = fold refreshing w (map (λ (e : ℕ × Declared). e.0) w.devices) in
+    let channel = w.channels + 1 in
+    record (with_deed fresh (host_begins channel)) {
+      channels = channel;
+      client = client.begin fresh.client channel;
+      side = begins_on w.side channel;
+      client_joined = new_joined;
+      host_joined = new_joined;
+      wire = w.wire ++ begins ∷ [];
+    }
+
+-- what comes of an event that can happen
+abbrev pub act : WorldState → Event → WorldState
+act w (issue a) = issues w a
+act w host_send = host_sends_next w
+act w (client_read n) = client_takes (record w { to_client = drop n w.to_client }) (take n w.to_client)
+act w client_send = client_sends_next w
+act w (collect device) = collects w device
+act w (host_read n) = host_takes (record w { to_host = drop n w.to_host }) (take n w.to_host)
+act w (take_job device hand) = takes_job w device hand
+act w (apply_job hand) = applies_job w hand
+act w (remove device) = removes_device w device
+act w (add device) = adds_device w device
+act w drop_channel = drops w
+act w connect = connects w
+act w (tell n) = with_deed (record w { side = tells_of w.side n }) (tells n)
+
+-- One step of a session: an event that can happen, and what comes of it.
+abbrev pub WorldStep : WorldState → Event → WorldState → Type 0
+WorldStep old e new = (is_enabled old e ≡ true) × (new ≡ act old e)

@@ -1,0 +1,15 @@
+pub mod Devices
+pub mod Host
+pub mod Talk
+pub mod World
+pub mod Hearing
+pub mod Events
+pub mod Run
+pub mod Report
+pub mod Told
+pub mod HostDeeds
+pub mod Joining
+pub mod Example
+pub mod Control
+pub mod Session
+pub mod Worked

@@ -1,0 +1,294 @@
+-- The session of a script: its lines one after the other, and draws among what can happen.
+use Rattle.std.specs.Prelude.{◌≡◌, ℕ, zero, suc, ◌+◌, ◌*◌, ◌^◌, ◌/◌, ◌%◌, ◌==◌, ◌&&◌, Bool, false, not, if◌then◌else◌, List, [], ◌∷◌, ◌++◌, length, map, fold, replicate, Option, Some, None, slice_get, min}
+use Rattle.std.specs.List.{flat_map, list_any, range_with_len}
+use Rattle.std.specs.Option.{option_map_or, unwrap_or}
+use Rattle.rd_base.specs.declared.journal.Key.{Key}
+use Rattle.rd_base.specs.declared.journal.Item.{Item}
+use Rattle.rd_base.specs.declared.journal.Item.TheVariants.{Ran}
+use Rattle.rd_base.specs.Lawful.{sends}
+use Rattle.rd_client.specs.Core as client
+use Rattle.rd_irp.specs.declared.op.Op.{Op}
+use Rattle.rd_irp.specs.declared.op.Op.TheVariants as op
+use Rattle.rd_printer.specs.declared.notice.Notice.{Notice}
+use Rattle.rd_printer.specs.declared.notice.Notice.TheVariants as notice
+use Rattle.rd_script.specs.declared.line.Errand.{Errand}
+use Rattle.rd_script.specs.declared.line.Errand.TheVariants as errand
+use Rattle.rd_script.specs.declared.line.Line.{Line}
+use Rattle.rd_script.specs.declared.line.Line.TheVariants as line
+use Rattle.rd_script.specs.declared.line.NumberedLine.{NumberedLine}
+use Rattle.rd_station.specs.Station.{StationState, new_station}
+use Rattle.rd_world.specs.Devices.{Declared, DeviceState, announce_of, declaring, dos_name, furnishing, zero_text}
+use Rattle.rd_world.specs.Host.{new_side}
+use Rattle.rd_world.specs.World.{Application, Asked, WorldState, application_at, new_joined, with_application}
+use Rattle.rd_world.specs.Events.{Event, act, add, apply_job, client_has_message, client_read, client_send, collect, connect, drop_channel, host_has_message, host_read, host_send, is_empty, is_enabled, is_open, issue, remove, take_job, tell}
+
+-- ---- the draws
+
+-- the next number of the draws, and the place of a choice among so many
+abbrev pub next_draw : ℕ → ℕ
+next_draw x = (x * 6364136223846793005 + 1442695040888963407) % 2 ^ 64
+
+abbrev pub picked : ℕ → ℕ → ℕ
+picked x choices = (x / 2 ^ 33) % choices
+
+-- what settling may draw: an event, or a read of a pipe, whose count is drawn too
+pub data Choice : Type 0 where
+  event : Event → Choice
+  reads_client reads_host : Choice
+
+abbrev pub where_true : Bool → Choice → List Choice
+where_true b c = if b then c ∷ [] else []
+
+-- the applications, the devices and the hands by their numbers
+abbrev pub application_ids : WorldState → List ℕ
+application_ids w = map (λ (e : ℕ × Application). e.0) w.applications
+
+abbrev pub device_ids : WorldState → List ℕ
+device_ids w = map (λ (e : ℕ × StationState DeviceState). e.0) w.stations
+
+abbrev pub hand_numbers : WorldState → List ℕ
+hand_numbers w = map suc (range_with_len 0 (length w.hands))
+
+abbrev pub takes_of : WorldState → ℕ → List Choice
+takes_of w device = flat_map (λ hand. where_true (is_enabled w (take_job device hand)) (event (take_job device hand))) (hand_numbers w)
+
+-- what can happen by itself, in its order
+abbrev pub choices : WorldState → List Choice
+choices w =
+    flat_map (λ a. where_true (is_enabled w (issue a)) (event (issue a))) (application_ids w)
+    ++ where_true (host_has_message w) (event host_send)
+    ++ where_true (is_enabled w (client_read (length w.to_client))) reads_client
+    ++ where_true (client_has_message w) (event client_send)
+    ++ flat_map (λ device. where_true (is_enabled w (collect device)) (event (collect device))) (device_ids w)
+    ++ where_true (is_enabled w (host_read (length w.to_host))) reads_host
+    ++ flat_map (takes_of w) (device_ids w)
+    ++ flat_map (λ hand. where_true (is_enabled w (apply_job hand)) (event (apply_job hand))) (hand_numbers w)
+
+-- how many bytes a read takes: one, and a further draw
+abbrev pub drawn_count : WorldState → List ℕ → ℕ
+drawn_count w pipe = 1 + picked w.draws (min w.piece (length pipe))
+
+abbrev pub drawing : WorldState → WorldState
+drawing w = record w { draws = next_draw w.draws }
+
+-- what comes of a choice
+abbrev pub chosen : WorldState → Choice → WorldState
+chosen w (event e) = act w e
+chosen w reads_client = let x = drawing w in act x (client_read (drawn_count x x.to_client))
+chosen w reads_host = let x = drawing w in act x (host_read (drawn_count x x.to_host))
+
+-- Draws until nothing can happen by itself; at most so many. Where that is too few there is no such world.
+abbrev pub settled : ℕ → WorldState → Option WorldState
+settled zero w = None
+settled (suc most) w = by (choices w) (settled most)
+  where
+    by : List Choice → (WorldState → Option WorldState) → Option WorldState
+    by [] on = Some w
+    by (c ∷ cs) on =
+        let x = drawing w in
+        on (chosen x (unwrap_or (slice_get (c ∷ cs) (picked x.draws (length (c ∷ cs)))) c))
+
+-- ---- all of one kind at once
+
+-- an event again and again, while it can happen; at most so often
+abbrev pub while_enabled : ℕ → Event → WorldState → WorldState
+while_enabled zero e w = w
+while_enabled (suc most) e w = if is_enabled w e then while_enabled most e (act w e) else w
+
+-- how many messages each end has to send
+abbrev pub host_count : WorldState → ℕ
+host_count w = length ((w.side).core).outbox + length ((w.side).table).outbox
+
+abbrev pub all_host_sends : WorldState → WorldState
+all_host_sends w = while_enabled (host_count w) host_send w
+
+abbrev pub all_client_sends : WorldState → WorldState
+all_client_sends w = while_enabled (length (w.client).outbox) client_send w
+
+-- all bytes that a pipe holds are read at once, where there are some
+abbrev pub when_enabled : Event → WorldState → WorldState
+when_enabled e w = if is_enabled w e then act w e else w
+
+abbrev pub client_reads_all : WorldState → WorldState
+client_reads_all w = when_enabled (client_read (length w.to_client)) w
+
+abbrev pub host_reads_all : WorldState → WorldState
+host_reads_all w = when_enabled (host_read (length w.to_host)) w
+
+abbrev pub is_quiet : WorldState → Bool
+is_quiet w = not (host_has_message w) && not (client_has_message w) && is_empty w.to_client && is_empty w.to_host
+
+-- rounds of both ends, until nothing is to be sent or read; at most so many
+abbrev pub rounds : ℕ → WorldState → Option WorldState
+rounds zero w = None
+rounds (suc most) w = if is_quiet w then Some w else rounds most (host_reads_all (client_reads_all (all_client_sends (all_host_sends w))))
+
+-- ---- the lines
+
+-- GENERIC_READ, all that can be shared, and FILE_OPEN: what an `open` asks for
+abbrev pub open_op : List ℕ → Op
+open_op path = op.Create 0x8000_0000 0 0 7 1 0 path
+
+abbrev pub on_handle : List ℕ → Op → Asked
+on_handle handle o = record { handle = handle; device = None; op = o }
+
+abbrev pub on_device : List ℕ → ℕ → Op → Asked
+on_device handle device o = record { handle = handle; device = Some device; op = o }
+
+-- the application of a line and what it asks for, if it is one's
+unfoldable pub asked_by : Line → Option (ℕ × Asked)
+asked_by (line.Open a handle device path) = Some (a, on_device handle device (open_op path))
+asked_by (line.Create a handle device path disposition access share options attributes) =
+    Some (a, on_device handle device (op.Create access 0 attributes share disposition options path))
+asked_by (line.Close a handle) = Some (a, on_handle handle op.Close)
+asked_by (line.Read a handle offset len) = Some (a, on_handle handle (op.Read offset len))
+asked_by (line.Write a handle offset bytes) = Some (a, on_handle handle (op.Write offset bytes))
+asked_by (line.Query a handle class) = Some (a, on_handle handle (op.QueryFile class))
+asked_by (line.Set a handle class bytes) = Some (a, on_handle handle (op.SetFile class bytes))
+asked_by (line.Volume a handle class) = Some (a, on_handle handle (op.QueryVolume class))
+asked_by (line.SetVolume a handle class bytes) = Some (a, on_handle handle (op.SetVolume class bytes))
+asked_by (line.Dir a handle class initial path) = Some (a, on_handle handle (op.QueryDir class initial path))
+asked_by (line.Lock a handle operation wait ranges) = Some (a, on_handle handle (op.Lock operation wait ranges))
+asked_by (line.Control a handle code output bytes) = Some (a, on_handle handle (op.Control output code bytes))
+asked_by (line.Notify a handle tree filters) = Some (a, on_handle handle (op.Notify tree filters))
+asked_by _ = None
+
+-- a line of an application waits behind the others of that one
+abbrev pub queueing : WorldState → ℕ × Asked → WorldState
+queueing w asked =
+    let application = application_at w asked.0 in
+    with_application w asked.0 (record application { queue = application.queue ++ asked.1 ∷ [] })
+
+-- the notice of a `cache` line: names with a zero unit, no PnP name
+unfoldable pub notice_of : Line → Option Notice
+notice_of (line.CacheAdd port driver printer bytes) = Some (notice.Add (dos_name port) [] (zero_text driver) (zero_text printer) bytes)
+notice_of (line.CacheUpdate printer bytes) = Some (notice.Update (zero_text printer) bytes)
+notice_of (line.CacheDelete printer) = Some (notice.Delete (zero_text printer))
+notice_of (line.CacheRename old new) = Some (notice.Rename (zero_text old) (zero_text new))
+notice_of _ = None
+
+-- The event of a `do` line; of `send`, `answer`, `read` and `back` the one that has to be possible.
+abbrev pub event_of : WorldState → Errand → Event
+event_of w (errand.Issue a) = issue a
+event_of w errand.Send = host_send
+event_of w errand.Read = client_read (length w.to_client)
+event_of w (errand.Take device hand) = take_job device hand
+event_of w (errand.Apply hand) = apply_job hand
+event_of w (errand.Collect device) = collect device
+event_of w errand.Answer = client_send
+event_of w errand.Back = host_read (length w.to_host)
+
+-- what comes of such a line, where its event can happen
+abbrev pub does : WorldState → Errand → WorldState
+does w errand.Send = all_host_sends w
+does w errand.Answer = all_client_sends w
+does w e = act w (event_of w e)
+
+-- a line that did nothing
+abbrev pub idles : WorldState → ℕ → WorldState
+idles w number = record w { idle = w.idle ++ number ∷ [] }
+
+-- the most steps that a settling and the rounds of a channel's begin are given
+pub record Most : Type 0 where
+  pub draws : ℕ
+  pub rounds : ℕ
+
+-- an event of a line, where it can happen; else the line did nothing
+abbrev pub by_event : WorldState → ℕ → Event → WorldState
+by_event w number e = if is_enabled w e then act w e else idles w number
+
+abbrev pub connects_on : Most → WorldState → Option WorldState
+connects_on most w = rounds most.rounds (act w connect)
+
+-- what a control line does; any other does nothing, and its queue or its setting was seen to before
+unfoldable pub controls : Most → WorldState → ℕ → Line → Option WorldState
+controls most w number line.Settle = settled most.draws w
+controls most w number (line.Remove device) = Some (by_event w number (remove device))
+controls most w number (line.Add device) = Some (by_event w number (add device))
+controls most w number line.Drop = Some (by_event w number drop_channel)
+controls most w number line.Connect = if is_enabled w connect then connects_on most w else Some (idles w number)
+controls most w number (line.Do e) = Some (if is_enabled w (event_of w e) then does w e else idles w number)
+controls most w number l = Some (option_map_or (λ n. by_event w number (tell n)) (notice_of l) w)
+
+-- a line: an application's is queued, and any other does what it says
+abbrev pub plays_line : Most → WorldState → NumberedLine → Option WorldState
+plays_line most w l = option_map_or (λ asked. Some (queueing w asked)) (asked_by l.line) (controls most w l.number l.line)
+
+abbrev pub and_then : Option WorldState → (WorldState → Option WorldState) → Option WorldState
+and_then None on = None
+and_then (Some w) on = on w
+
+abbrev pub plays : Most → List NumberedLine → WorldState → Option WorldState
+plays most [] w = Some w
+plays most (l ∷ ls) w = and_then (plays_line most w l) (plays most ls)
+
+-- ---- the beginning and the end
+
+-- the settings that a line gives
+unfoldable pub setting : WorldState → Line → WorldState
+setting w (line.Seed number) = record w { draws = number }
+setting w (line.Clock moment) = record w { moment = moment }
+setting w (line.Piece most) = record w { piece = most }
+setting w (line.Workers count) = record w { hands = replicate count None }
+setting w _ = w
+
+abbrev pub station_of : ℕ × Declared → ℕ × StationState DeviceState
+station_of e = (e.0, new_station (e.1).state)
+
+-- the devices that lines declare, with what is on them, by their ids
+abbrev pub devices_of : List Line → List (ℕ × Declared)
+devices_of lines = fold furnishing (fold declaring [] lines) lines
+
+-- a session before its first channel
+abbrev pub new_world : List (ℕ × Declared) → WorldState
+new_world devices = record {
+  moment = 0;
+  piece = 4096;
+  starves = λ key. false;
+  draws = 0;
+  client = client.new_client (map (λ (e : ℕ × Declared). announce_of [] e.1) devices);
+  side = new_side 1;
+  stations = map station_of devices;
+  devices = devices;
+  cache = [];
+  applications = [];
+  hands = replicate 1 None;
+  to_client = [];
+  to_host = [];
+  client_joined = new_joined;
+  host_joined = new_joined;
+  kept = None;
+  channels = 0;
+  wire = [];
+  outcomes = [];
+  idle = [];
+  deeds = [];
+}
+
+-- the session that lines begin
+abbrev pub world_of : List NumberedLine → WorldState
+world_of lines = let ls = map (λ (l : NumberedLine). l.line) lines in fold setting (new_world (devices_of ls)) ls
+
+-- whether an entry says that a request on a channel was left waiting, whose completion wasn't handed out
+abbrev pub is_left : List Item → ℕ → Item → Bool
+is_left journal channel (Ran key moment starved parked) = parked && (key.channel == channel && not (list_any (sends key) journal))
+is_left journal channel _ = false
+
+-- whether some device has such a request of the last channel
+abbrev pub some_left : WorldState → Bool
+some_left w = list_any (λ (e : ℕ × StationState DeviceState). let s = e.1 in list_any (is_left s.journal w.channels) s.journal) w.stations
+
+-- behind the last settling a channel on which a request waits is dropped, and what is queued then is issued
+abbrev pub ends_session : Most → WorldState → Option WorldState
+ends_session most w = if is_open w && some_left w then settled most.draws (act w drop_channel) else Some w
+
+-- The session of a script's lines, in which these runs find no memory: a channel begins, the lines are played, and the session settles. There is none
+-- where so few draws and rounds don't do.
+abbrev pub run_of : Most → (Key → Bool) → List NumberedLine → Option WorldState
+run_of most starves lines =
+    let begun = connects_on most (record (world_of lines) { starves = starves }) in
+    and_then (and_then (and_then begun (plays most lines)) (settled most.draws)) (ends_session most)
+
+-- The world that the session of a script's lines comes to, in which these runs find no memory.
+abbrev pub WorldRun : List NumberedLine → (Key → Bool) → WorldState → Type 0
+WorldRun lines starves w = (most : Most) × (run_of most starves lines ≡ Some w)

@@ -1,0 +1,159 @@
+-- Both sides of a session in one state: a host with its applications, a client with its devices and its hands, and the bytes between them.
+use Rattle.std.specs.Prelude.{ℕ, zero, Bool, suc, ◌+◌, nat_lt, if◌then◌else◌, List, [], ◌∷◌, ◌++◌, length, map, reverse, take, drop, Option, Some, None}
+use Rattle.std.specs.Map.{lookup}
+use Rattle.std.specs.Ordering.{nat_cmp}
+use Rattle.std.specs.Cmp.Lexicographic.{slice_cmp}
+use Rattle.std.specs.declared.cmp.Ordering.{Ordering}
+use Rattle.std.specs.BTreeMap.{insert_entry, is_at}
+use Rattle.std.specs.Option.{option_map_or, unwrap_or}
+use Rattle.rd_base.specs.declared.journal.Key.{Key}
+use Rattle.rd_chunk.specs.Carrier.{carrier_of, frames_for}
+use Rattle.rd_chunk.specs.Frames.{data_of, is_last, size_of}
+use Rattle.rd_client.specs.Core.{ClientCoreState}
+use Rattle.rd_drive.specs.declared.plan.Job.{Job}
+use Rattle.rd_irp.specs.declared.op.Op.{Op}
+use Rattle.rd_pending.specs.declared.calls.Handle.{Handle}
+use Rattle.rd_pending.specs.Table.{TableState}
+use Rattle.rd_printer.specs.Cache.{CacheState}
+use Rattle.rd_script.specs.declared.outcome.Outcome.{Outcome}
+use Rattle.rd_station.specs.Station.{StationState}
+use Rattle.rd_world.specs.Devices.{Declared, DeviceState}
+use Rattle.rd_world.specs.Host.{HostSide}
+use Rattle.rd_world.specs.Talk.{Deed, host_writes, stores}
+
+-- what stands in a recording: a channel begins, it ended, the host sent a frame, or the client did
+pub data Entry : Type 0 where
+  begins ends : Entry
+  from_host from_client : List ℕ → Entry
+
+-- What an application asks for by a line: the name of its handle, the device of a line that opens it, and the operation.
+pub record Asked : Type 0 where
+  pub handle : List ℕ
+  pub device : Option ℕ
+  pub op : Op
+
+-- An application: the lines that it didn't issue yet, how many it did, the number of the request whose outcome it awaits with the line that asked for
+-- it, and what its handles hold.
+pub record Application : Type 0 where
+  pub queue : List Asked
+  pub issued : ℕ
+  pub awaits : Option (ℕ × Asked)
+  pub handles : List (List ℕ × Handle)
+
+abbrev pub new_application : Application
+new_application = record { queue = []; issued = 0; awaits = None; handles = [] }
+
+-- An end's joiner: the bytes that it handled since its last message, and how many it handled on the channel.
+pub record Joined : Type 0 where
+  pub part : List ℕ
+  pub taken : ℕ
+
+abbrev pub new_joined : Joined
+new_joined = record { part = []; taken = 0 }
+
+-- a job that the client keeps back, since its station is full, and the bytes that came behind it
+pub record Kept : Type 0 where
+  pub device : ℕ
+  pub job : Job
+  pub behind : List ℕ
+
+pub record WorldState : Type 0 where
+  -- the script's settings
+  pub moment : ℕ
+  pub piece : ℕ
+  -- the runs that find no memory; a Close needs none
+  pub starves : Key → Bool
+  -- where the draws stand
+  pub draws : ℕ
+  -- the two ends
+  pub client : ClientCoreState
+  pub side : HostSide
+  pub stations : List (ℕ × StationState DeviceState)
+  pub devices : List (ℕ × Declared)
+  pub cache : CacheState
+  pub applications : List (ℕ × Application)
+  -- the job that each hand holds, and its device
+  pub hands : List (Option (ℕ × Job))
+  -- the bytes that are under way
+  pub to_client : List ℕ
+  pub to_host : List ℕ
+  pub client_joined : Joined
+  pub host_joined : Joined
+  pub kept : Option Kept
+  -- how many channels began
+  pub channels : ℕ
+  -- what came of it: the recording, the outcomes by application and line, and the numbers of the lines that did nothing
+  pub wire : List Entry
+  pub outcomes : List ((ℕ × ℕ) × Outcome)
+  pub idle : List ℕ
+  -- what both ends did, the newest first
+  pub deeds : List Deed
+
+-- ---- messages of a stream
+
+-- the first frame of a stream, and what stands behind it, where it is whole
+abbrev pub first_frame : List ℕ → Option (List ℕ × List ℕ)
+first_frame bytes =
+    if nat_lt (length bytes) 12 then None
+    else (if nat_lt (length bytes) (size_of bytes + 4) then None
+    else Some (take (size_of bytes + 4) bytes, drop (size_of bytes + 4) bytes))
+
+-- the first message of a stream of frames, of which these data came before, and what stands behind it, where it is whole; at most so many frames are
+-- looked at
+abbrev pub message_in : ℕ → List ℕ → List ℕ → Option (List ℕ × List ℕ)
+message_in zero joined bytes = None
+message_in (suc most) joined bytes = by (first_frame bytes) (message_in most)
+  where
+    by : Option (List ℕ × List ℕ) → (List ℕ → List ℕ → Option (List ℕ × List ℕ)) → Option (List ℕ × List ℕ)
+    by None on = None
+    by (Some (frame, rest)) on = if is_last frame then Some (joined ++ data_of frame, rest) else on (joined ++ data_of frame) rest
+
+abbrev pub first_message : List ℕ → Option (List ℕ × List ℕ)
+first_message bytes = message_in (length bytes) [] bytes
+
+-- ---- lookups
+
+abbrev pub station_at : WorldState → ℕ → Option (StationState DeviceState)
+station_at w device = lookup (is_at (nat_cmp device)) w.stations
+
+-- what a station stored beyond so many entries, the newest first
+abbrev pub stored_beyond : ℕ → ℕ → StationState DeviceState → List Deed
+stored_beyond count device s = map (stores device) (reverse (drop count s.journal))
+
+abbrev pub with_station : WorldState → ℕ → StationState DeviceState → WorldState
+with_station w device s =
+    let count = option_map_or (λ (old : StationState DeviceState). length old.journal) (station_at w device) 0 in
+    record w { stations = insert_entry nat_cmp w.stations device s; deeds = stored_beyond count device s ++ w.deeds }
+
+-- an end did this
+abbrev pub with_deed : WorldState → Deed → WorldState
+with_deed w deed = record w { deeds = deed ∷ w.deeds }
+
+abbrev pub application_at : WorldState → ℕ → Application
+application_at w a = unwrap_or (lookup (is_at (nat_cmp a)) w.applications) new_application
+
+abbrev pub with_application : WorldState → ℕ → Application → WorldState
+with_application w a application = record w { applications = insert_entry nat_cmp w.applications a application }
+
+-- the handle that a name holds
+abbrev pub name_cmp : List ℕ → List ℕ → Ordering
+name_cmp = slice_cmp nat_cmp
+
+abbrev pub handle_at : Application → List ℕ → Option Handle
+handle_at a name = lookup (is_at (name_cmp name)) a.handles
+
+-- the host's table
+abbrev pub with_table : WorldState → TableState → WorldState
+with_table w t = record w { side = record w.side { table = t } }
+
+-- ---- what is sent
+
+-- a message of the host goes on its way, and into the recording
+abbrev pub host_sends : WorldState → List ℕ → WorldState
+host_sends w message =
+    with_deed (record w { to_client = w.to_client ++ carrier_of message; wire = w.wire ++ map from_host (frames_for message) }) (host_writes w.channels message)
+
+-- a message of the client, by what the client does with it
+abbrev pub client_sends : WorldState → Deed → List ℕ → WorldState
+client_sends w deed message =
+    with_deed (record w { to_host = w.to_host ++ carrier_of message; wire = w.wire ++ map from_client (frames_for message) }) deed

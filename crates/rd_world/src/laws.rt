@@ -1,0 +1,63 @@
+//! The definitions at work, as contracts of functions that do nothing: the checker computes each case; and what holds of joined sides.
+
+ghost use Rattle.std.specs.Prelude.{◌≡◌, ◌≢◌, ◌++◌, ◌∷◌, ℕ, List, [], Some, codes, filter_map, map};
+ghost use Rattle.rd_base.specs.declared.journal.Cause.TheVariants.{Dropped, Removed};
+ghost use Rattle.rd_drive.specs.Statuses.{cancelled};
+ghost use Rattle.rd_irp.specs.declared.completion.Reply.{Reply};
+ghost use Rattle.rd_pending.specs.declared.calls.Outcome.TheVariants.{Done, Lost};
+ghost use Rattle.rd_pending.specs.Table.{Accepted};
+ghost use Rattle.rd_world.specs.Devices.{Declared};
+ghost use Rattle.rd_world.specs.Example.{close_reply, example_deeds, example_outcomes, example_replies, left_waiting, read_reply, watch, watch_reply};
+ghost use Rattle.rd_world.specs.Hearing.{no_such_device};
+ghost use Rattle.rd_world.specs.Joining.{AreJoined, CameTo, Joins};
+ghost use Rattle.rd_world.specs.Session.{replies_in};
+ghost use Rattle.rd_world.specs.Talk.{Deed, journal};
+ghost use Rattle.rd_world.specs.Told.{Replies};
+ghost use Rattle.rd_world.specs.Worked.{cached_bytes_announced, device_removed_and_added, drop_and_reconnect, idle_control_lines, notification_never_ended, notification_of_new_file, printer_cache_renamed, removal_before_sent_request, removal_under_work, removed_device_not_announced_again, sharing_violation, waiting_lock, done_in, reported, said_in, scripts, standing, told_by_deeds};
+
+/// What sessions come to.
+pub fn sessions_run_as_listed()
+    ensures idle_control_lines { reported idle_control_lines ≡ Some (codes "line 2 idle\n" ++ codes "line 4 idle\n" ++ codes "line 5 idle\n" ++ codes "device 1 ran 0\n") }
+    ensures printer_cache_renamed { reported printer_cache_renamed ≡ Some (codes "device 2 ran 0\n" ++ codes "cache 4400650073006b000000 03\n") }
+    ensures cached_bytes_announced { reported cached_bytes_announced ≡ Some (codes "device 2 ran 0\n" ++ codes "cache 4f00660066006900630065000000 0102\n") }
+    ensures removal_under_work { reported removal_under_work ≡ Some (codes "1.1 done 00000000 0100000001\n" ++ codes "1.2 lost removed\n" ++ codes "1.3 done 00000000 0100000001\n" ++ codes "1.4 done 00000000 0100000062\n" ++ codes "2.1 done 00000000 0200000001\n" ++ codes "2.2 lost removed\n" ++ codes "device 1 ran 3\n" ++ codes "device 2 ran 2\n") }
+    ensures removal_before_sent_request { reported removal_before_sent_request ≡ Some (codes "1.1 done 00000000 0100000001\n" ++ codes "1.2 lost removed\n" ++ codes "device 1 ran 1\n") }
+    ensures drop_and_reconnect { reported drop_and_reconnect ≡ Some (codes "1.1 done 00000000 0100000001\n" ++ codes "1.2 lost dropped\n" ++ codes "1.3 refused stalehandle\n" ++ codes "1.4 done 00000000 0200000001\n" ++ codes "1.5 done c0000011 00000000\n" ++ codes "device 1 ran 3\n") }
+    ensures device_removed_and_added { reported device_removed_and_added ≡ Some (codes "1.1 done 00000000 0100000001\n" ++ codes "1.2 refused nodevice\n" ++ codes "1.3 refused stalehandle\n" ++ codes "1.4 done 00000000 0200000001\n" ++ codes "device 1 ran 2\n") }
+    ensures removed_device_not_announced_again { reported removed_device_not_announced_again ≡ Some (codes "1.1 refused nodevice\n" ++ codes "1.2 done 00000000 0100000001\n" ++ codes "device 1 ran 1\n") }
+    ensures waiting_lock { reported waiting_lock ≡ Some (codes "1.1 done 00000000 0100000001\n" ++ codes "1.2 done 00000000 0000000000\n" ++ codes "1.3 done 00000000 0000000000\n" ++ codes "2.1 done 00000000 0200000001\n" ++ codes "2.2 done 00000000 0000000000\n" ++ codes "2.3 done 00000000 0100000061\n" ++ codes "device 1 ran 6\n") }
+    ensures notification_of_new_file { reported notification_of_new_file ≡ Some (codes "1.1 done 00000000 0100000001\n" ++ codes "1.2 done 00000000 0e0000000000000001000000020000006e00\n" ++ codes "2.1 done 00000000 0200000000\n" ++ codes "device 1 ran 3\n") }
+    ensures notification_never_ended { reported notification_never_ended ≡ Some (codes "1.1 done 00000000 0100000001\n" ++ codes "1.2 lost dropped\n" ++ codes "device 1 ran 2\n") }
+    ensures sharing_violation { reported sharing_violation ≡ Some (codes "1.1 done 00000000 0100000001\n" ++ codes "1.2 done 00000000 00000000\n" ++ codes "2.1 done c0000043 0000000000\n" ++ codes "2.2 done 00000000 0200000001\n" ++ codes "device 1 ran 4\n") }
+{}
+
+/// What both ends did in them tells their hosts, recordings and journals.
+pub fn deeds_tell_sessions()
+    ensures { map standing scripts ≡ map told_by_deeds scripts }
+{}
+
+/// Their control lines did what follows from the lines alone.
+pub fn control_lines_act()
+    ensures { map done_in scripts ≡ map said_in scripts }
+{}
+
+/// The joining law: whatever both ends do whose messages are carried, whose host keeps its table and whose client tells what its journals say,
+/// completions answer their own requests and are taken, what was completed before a request was written ran before it, the host hands out what came of
+/// each request, and one that is done has the reply that its device's journal gives to it, and none that a cut alone gives.
+pub fn joined_sides_agree()
+    ensures { (client : ℕ) (replies : Replies) (deeds : List Deed) → AreJoined client replies deeds → Joins client replies deeds }
+{}
+
+/// So over the devices of a script no request is done by a reply that says that it was cancelled, or that its device isn't there.
+pub fn losses_are_no_replies()
+    ensures { (client : ℕ) (devices : List (ℕ × Declared)) (deeds : List Deed) → AreJoined client (replies_in devices deeds) deeds → (a : Accepted) (reply : Reply) → CameTo client deeds a (Done reply) → (reply.status ≢ cancelled) × (reply.status ≢ no_such_device) }
+{}
+
+/// What that law takes is met by a session with two devices and two channels, a request that waits, a removal under work, and a drop.
+pub fn a_session_is_joined()
+    ensures joined { AreJoined 1 example_replies example_deeds }
+    // Of each request the channel and the device, and what came of it.
+    ensures outcomes { example_outcomes ≡ (1, 1, Some (Done read_reply)) ∷ (1, 2, Some (Done watch_reply)) ∷ (1, 2, Some (Done close_reply)) ∷ (1, 1, Some (Lost Removed)) ∷ (1, 1, Some (Lost Removed)) ∷ (1, 2, Some (Lost Dropped)) ∷ (2, 2, Some (Done read_reply)) ∷ [] }
+    // The second one was left waiting inside its device when it ran.
+    ensures waiting { filter_map left_waiting (journal 2 example_deeds) ≡ watch.key ∷ [] }
+{}
