@@ -1,89 +1,57 @@
 -- The order of a client's messages on a channel (MS-RDPEFS 3.2.5), said of what it reads and what it writes.
 use Rattle.std.specs.List.{list_any}
 use Rattle.std.specs.Prelude.{ℕ, ◌==◌, ◌&&◌, ◌||◌, Bool, true, false, not, if◌then◌else◌, List, [], ◌∷◌, ◌++◌, map, filter, Option, Some, None, IsSome, bytes_eq, is_ok, Result, Ok, Err}
-use Rattle.std.specs.Option.{option_and_then, option_map_or, option_to_list}
+use Rattle.std.specs.Option.{option_map}
 use Rattle.rd_base.specs.declared.bad.Bad.{Bad}
-use Rattle.rd_base.specs.declared.packet.Packet.{Packet}
-use Rattle.rd_base.specs.declared.packet.Packet.TheVariants as packet
 use Rattle.rd_base.specs.Layout.{met}
 use Rattle.rd_base.specs.Position.{Position, at_start}
+use Rattle.rd_core.specs.Order as order
+use Rattle.rd_core.specs.Order.{Part}
 use Rattle.rd_devices.specs.declared.list.Announce.{Announce}
 use Rattle.rd_devices.specs.DeviceList.{device_list}
-use Rattle.rd_devices.specs.DeviceReply.{device_reply}
 use Rattle.rd_devices.specs.Removal.{removal}
 use Rattle.rd_hello.specs.declared.client.ClientState.{ClientState}
 use Rattle.rd_hello.specs.declared.client.ClientState.TheVariants.{Start, Ready}
-use Rattle.rd_hello.specs.declared.hello.Hello.{Hello}
-use Rattle.rd_hello.specs.ClientTable.{client_step}
-use Rattle.rd_hello.specs.Hello.{hello, hello_bytes}
-use Rattle.rd_hello.specs.Moves.{Move, packet_in, reads, writes}
-use Rattle.rd_hello.specs.Rows.{Row}
+use Rattle.rd_hello.specs.Moves.{Move}
 use Rattle.rd_irp.specs.Completion.{completion_head}
-use Rattle.rd_irp.specs.Request.{request_head}
-use Rattle.rd_printer.specs.Notice.{notice}
-use Rattle.rd_client.specs.Core.{becomes_ready, is_read_in, may_be_asked}
+use Rattle.rd_client.specs.Core.{HostSays, becomes_ready, client_side, may_be_asked}
 
--- where a client stands: the state of the opening, the messages of the opening that it has to write next, whether it has to announce its devices
--- behind these, and the ids of those that it announced and didn't remove since
-pub record Stand : Type 0 where
-  pub shake : ClientState
-  pub owed : List (List ℕ)
+-- the client's part: whether it has to announce its devices, and the ids of those that it announced and didn't remove since
+pub record Telling : Type 0 where
   pub lists : Bool
   pub told : List ℕ
 
+abbrev pub Stand : Type 0
+Stand = order.Stand ClientState Telling
+
 abbrev pub at_first : Stand
-at_first = record { shake = Start; owed = []; lists = false; told = [] }
+at_first = record { shake = Start; owed = []; own = record { lists = false; told = [] } }
 
--- behind the reading of a message of the opening
-abbrev pub behind_row : Stand → Row ClientState → Stand
-behind_row s row = record s {
-  shake = row.next;
-  owed = s.owed ++ map hello_bytes (option_to_list row.first ++ option_to_list row.second);
-  lists = s.lists || becomes_ready s.shake row.next;
-}
+-- whether a device is announced as it is, whatever its data
+abbrev pub is_same : Announce → Announce → Bool
+is_same own a = own.id == a.id && (own.kind == a.kind && bytes_eq own.dos a.dos)
 
-abbrev pub is_hello : Packet → Bool
-is_hello packet.ServerAnnounce = true
-is_hello packet.ClientIdConfirm = true
-is_hello packet.ServerCapability = true
-is_hello packet.UserLoggedOn = true
-is_hello _ = false
-
-abbrev pub behind_hello : Stand → List ℕ → Option Stand
-behind_hello s bytes = by (met hello (at_start bytes))
-  where
-    by : Result (Hello × Position) Bad → Option Stand
-    by (Ok read) = option_map_or (λ row. Some (behind_row s row)) (client_step s.shake read.0) None
-    by (Err bad) = None
-
--- whether a message of a packet that isn't of the opening has its layout
-abbrev pub is_whole : Packet → List ℕ → Bool
-is_whole packet.IoRequest bytes = is_ok (met request_head (at_start bytes))
-is_whole packet.DeviceReply bytes = is_ok (met device_reply (at_start bytes))
-is_whole _ bytes = is_ok (met notice (at_start bytes))
-
--- A message is read whose packet the client reads in its state, and which has its layout; one of the opening has a row there.
-abbrev pub behind_read : Stand → List ℕ → Option Stand
-behind_read s bytes = option_and_then by (packet_in bytes)
-  where
-    by : Packet → Option Stand
-    by p =
-        if not (is_read_in s.shake p) then None
-        else (if is_hello p then behind_hello s bytes
-        else (if is_whole p bytes then Some s
-        else None))
-
--- whether a device is announced that is the client's, whatever its data
+-- whether it is one of these
 abbrev pub is_own : List Announce → Announce → Bool
-is_own devices a = list_any (λ (own : Announce). own.id == a.id && (own.kind == a.kind && bytes_eq own.dos a.dos)) devices
+is_own devices a = list_any (λ own. is_same own a) devices
 
--- behind an announcement of devices, each of which is the client's and isn't announced already
+-- whether just these are announced, in order
+abbrev pub are_all : List Announce → List Announce → Bool
+are_all [] [] = true
+are_all (own ∷ devices) (a ∷ announced) = is_same own a && are_all devices announced
+are_all _ _ = false
+
+-- the devices that the first list has: those that aren't gone
+abbrev pub first_list : List Announce → (ℕ → Bool) → List Announce
+first_list devices gone = filter (λ (a : Announce). not (gone a.id)) devices
+
+-- after an announcement of devices, each of which is the client's and isn't announced already
 abbrev pub with_all : List Announce → List ℕ → List Announce → Option (List ℕ)
 with_all devices told [] = Some told
 with_all devices told (a ∷ others) =
     if is_own devices a && not (list_any (λ id. id == a.id) told) then with_all devices (told ++ a.id ∷ []) others else None
 
--- behind a removal of devices, each of which is announced
+-- after a removal of devices, each of which is announced
 abbrev pub without_all : List ℕ → List ℕ → Option (List ℕ)
 without_all told [] = Some told
 without_all told (device ∷ others) =
@@ -93,59 +61,60 @@ abbrev pub is_ready : ClientState → Bool
 is_ready Ready = true
 is_ready _ = false
 
+-- what a message of this layout says, if it is one
+abbrev pub value_of : {A : Type 0} → Result (A × Position) Bad → Option A
+value_of (Ok read) = Some read.0
+value_of (Err bad) = None
+
 -- the devices that a message announces, and those that it removes, if it is such a message
 abbrev pub list_in : List ℕ → Option (List Announce)
-list_in bytes = by (met device_list (at_start bytes))
-  where
-    by : Result (List Announce × Position) Bad → Option (List Announce)
-    by (Ok read) = Some read.0
-    by (Err bad) = None
+list_in bytes = value_of (met device_list (at_start bytes))
 
 abbrev pub removal_in : List ℕ → Option (List ℕ)
-removal_in bytes = by (met removal (at_start bytes))
-  where
-    by : Result (List ℕ × Position) Bad → Option (List ℕ)
-    by (Ok read) = Some read.0
-    by (Err bad) = None
+removal_in bytes = value_of (met removal (at_start bytes))
 
--- the client's devices
-module _ (devices : List Announce) where
-  -- A list is written: the first that is owed, or a further one.
-  abbrev pub behind_list : Stand → List Announce → Option Stand
-  behind_list s announced = option_map_or (λ told. Some (record s { lists = false; told = told })) (with_all devices s.told announced) None
+-- the client has announced its devices, and these are the ones that are told of
+abbrev pub telling : List ℕ → Telling
+telling ids = record { lists = false; told = ids }
 
-  -- A removal is written, behind the first list.
-  abbrev pub behind_removal : Stand → List ℕ → Option Stand
-  behind_removal s ids = if s.lists then None else option_map_or (λ told. Some (record s { told = told })) (without_all s.told ids) None
+-- the client's devices, and which of them are gone when the channel begins
+module _ (devices : List Announce) (gone : ℕ → Bool) where
+  -- A list is written: the first, which has all that aren't gone, or a further one.
+  abbrev pub after_list : Telling → List Announce → Option Telling
+  after_list t announced =
+      if t.lists then (if are_all (first_list devices gone) announced then Some (telling (map (λ (a : Announce). a.id) announced)) else None)
+      else option_map telling (with_all devices t.told announced)
+
+  -- A removal is written, after the first list.
+  abbrev pub after_removal : Telling → List ℕ → Option Telling
+  after_removal t ids = if t.lists then None else option_map telling (without_all t.told ids)
+
+  abbrev pub after_telling : Telling → Option (List Announce) → Option (List ℕ) → Option Telling
+  after_telling t (Some announced) removed = after_list t announced
+  after_telling t None (Some ids) = after_removal t ids
+  after_telling t None None = None
 
   -- What a client writes of itself: completions as soon as it may be asked, and once it is ready lists and removals.
-  abbrev pub behind_own : Stand → List ℕ → Option Stand
-  behind_own s bytes =
-      if may_be_asked s.shake && is_ok (met completion_head (at_start bytes)) then Some s
-      else (if not (is_ready s.shake) then None
-      else by (list_in bytes) (removal_in bytes))
-    where
-      by : Option (List Announce) → Option (List ℕ) → Option Stand
-      by (Some announced) removed = behind_list s announced
-      by None (Some ids) = behind_removal s ids
-      by None None = None
+  abbrev pub after_own : ClientState → List ℕ → Telling → Option Telling
+  after_own state bytes t =
+      if may_be_asked state && is_ok (met completion_head (at_start bytes)) then Some t
+      else (if not (is_ready state) then None
+      else after_telling t (list_in bytes) (removal_in bytes))
 
-  -- A message is written: the one of the opening that is owed next, or one of the client's own.
-  abbrev pub behind_write : Stand → List ℕ → Option Stand
-  behind_write s bytes = by s.owed
-    where
-      by : List (List ℕ) → Option Stand
-      by (message ∷ others) = if bytes_eq message bytes then Some (record s { owed = others }) else None
-      by [] = behind_own s bytes
+  -- Where the client becomes ready it has to announce its devices; what the host asks of it changes nothing.
+  abbrev pub client_part : Part ClientState HostSays Telling
+  client_part = record {
+    opened = λ state next t. record t { lists = t.lists || becomes_ready state next };
+    read = λ says t. t;
+    written = after_own;
+  }
 
-  abbrev pub behind : Stand → Move → Option Stand
-  behind s (reads bytes) = behind_read s bytes
-  behind s (writes bytes) = behind_write s bytes
+  -- after the reading of a message, and after moves, if they are in order
+  abbrev pub after_read : Stand → List ℕ → Option Stand
+  after_read s bytes = order.after_read client_side client_part s bytes
 
-  -- where a client stands behind moves, if they are in order
   abbrev pub stand_after : Stand → List Move → Option Stand
-  stand_after s [] = Some s
-  stand_after s (move ∷ moves) = option_and_then (λ t. stand_after t moves) (behind s move)
+  stand_after s moves = order.stand_after client_side client_part s moves
 
   -- The moves of a client on a channel, the oldest first, are in order.
   abbrev pub ClientOrder : List Move → Type 0

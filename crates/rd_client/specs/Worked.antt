@@ -1,7 +1,10 @@
 -- A client on a channel, for worked cases.
-use Rattle.std.specs.Prelude.{ℕ, false, List, [], ◌∷◌, ◌++◌, codes, replicate, fold, Option}
+use Rattle.std.specs.Prelude.{ℕ, ◌==◌, Bool, false, List, [], ◌∷◌, ◌++◌, codes, map, replicate, fold, Option}
+use Rattle.rd_base.specs.declared.status.Status.{Status}
 use Rattle.rd_devices.specs.declared.list.Announce.{Announce}
 use Rattle.rd_devices.specs.DeviceList.{list_bytes}
+use Rattle.rd_devices.specs.DeviceReply.{reply_bytes}
+use Rattle.rd_drive.specs.declared.plan.Job.{Job}
 use Rattle.rd_hello.specs.declared.client.ClientState.TheVariants.{Ready}
 use Rattle.rd_hello.specs.declared.hello.Hello.TheVariants.{Confirm, LoggedOn}
 use Rattle.rd_hello.specs.Hello.{hello_bytes}
@@ -10,20 +13,30 @@ use Rattle.rd_hello.specs.Own.{client_confirm, client_name, client_sets, host_an
 use Rattle.rd_irp.specs.declared.op.Op.TheVariants as op
 use Rattle.rd_irp.specs.declared.request.Request.{Request}
 use Rattle.rd_irp.specs.Written.{request_bytes}
-use Rattle.rd_client.specs.Core.{ClientCoreState, begin, hear, new_client}
-use Rattle.rd_client.specs.Order.{Stand, at_first, stand_after}
+use Rattle.rd_client.specs.Core.{ClientCoreState, Outgoing, begin, hear, new_client}
+use Rattle.rd_client.specs.Order.{Stand, at_first, stand_after, telling}
 
 -- a drive as it is announced
 abbrev pub drive : ℕ → Announce
 drive id = record { kind = 8; id = id; dos = codes "DATA" ++ replicate 4 0; body = [] }
 
 -- a client with two drives on the first channel
+abbrev pub own_devices : List Announce
+own_devices = drive 1 ∷ drive 2 ∷ []
+
 abbrev pub client : ClientCoreState
-client = begin (new_client (drive 1 ∷ drive 2 ∷ [])) 1
+client = begin (new_client own_devices) 1
 
 -- what is left of it by messages of the host
 abbrev pub after : ClientCoreState → List (List ℕ) → ClientCoreState
 after c messages = fold (λ at message. (hear at message).0) c messages
+
+-- what it has to send, and the same client with nothing to send
+abbrev pub written : ClientCoreState → List (List ℕ)
+written c = map (λ (o : Outgoing). o.message) (c.core).outbox
+
+abbrev pub emptied : ClientCoreState → ClientCoreState
+emptied c = record c { core = record c.core { outbox = [] } }
 
 -- the host's messages, in the order of this project
 abbrev pub announced : List ℕ
@@ -51,6 +64,17 @@ close completion = record { device = 1; file = 3; completion = completion; op = 
 abbrev pub close_bytes : ℕ → List ℕ
 close_bytes completion = request_bytes (close completion)
 
+-- the same as a job, and a status that says that there is no such device
+abbrev pub close_job : Job
+close_job = record { key = record { channel = 1; index = 4 }; file = 3; completion = 5; op = op.Close }
+
+abbrev pub gone_status : Status
+gone_status = record { 0 = 0xc000_000e }
+
+-- the host's reply to device 1
+abbrev pub device_replied : List ℕ
+device_replied = reply_bytes (record { id = 1; code = record { 0 = 0 } })
+
 -- the client's own messages
 abbrev pub own_confirm : List ℕ
 own_confirm = hello_bytes (client_confirm (record { minor = 12; client = 1 }))
@@ -61,18 +85,31 @@ own_name = hello_bytes client_name
 abbrev pub own_sets : List ℕ
 own_sets = hello_bytes client_sets
 
+-- the list of both drives, and that of the second alone
 abbrev pub own_list : List ℕ
-own_list = list_bytes (drive 1 ∷ drive 2 ∷ [])
+own_list = list_bytes own_devices
 
--- where the client stands behind moves on a channel
-abbrev pub stand_behind : List Move → Option Stand
-stand_behind moves = stand_after client.devices at_first moves
+abbrev pub second_list : List ℕ
+second_list = list_bytes (drive 2 ∷ [])
+
+-- where the client stands after moves on a channel, at whose begin no device is gone, or device 1 is
+abbrev pub none_gone : ℕ → Bool
+none_gone device = false
+
+abbrev pub first_gone : ℕ → Bool
+first_gone device = device == 1
+
+abbrev pub stand_of : List Move → Option Stand
+stand_of moves = stand_after own_devices none_gone at_first moves
+
+abbrev pub stand_without : List Move → Option Stand
+stand_without moves = stand_after own_devices first_gone at_first moves
 
 -- how a channel opens, up to the list
-abbrev pub opened : List Move
-opened =
+abbrev pub opened_moves : List Move
+opened_moves =
     reads announced ∷ writes own_confirm ∷ writes own_name ∷ reads offered ∷ reads confirmed ∷ writes own_sets ∷ reads logged_on ∷ []
 
 -- a ready client whose devices with these ids are announced
 abbrev pub listed_stand : List ℕ → Stand
-listed_stand ids = record { shake = Ready; owed = []; lists = false; told = ids }
+listed_stand ids = record { shake = Ready; owed = []; own = telling ids }

@@ -5,4 +5,7 @@ mod heard;
 mod laws;
 
 pub use heard::Heard;
-pub use laws::{clients_hear_as_listed, clients_open_as_listed, clients_write_in_order};
+pub use laws::{
+    clients_answer_by_key, clients_hear_as_listed, clients_keep, clients_open_as_listed,
+    clients_read_in_order, clients_want_memory, clients_write_in_order,
+};

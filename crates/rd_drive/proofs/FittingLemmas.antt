@@ -19,7 +19,7 @@ use Rattle.rd_drive.proofs.StoreLemmas.{AreListed, all_listed, own_is}
 
 -- what each of some nodes has, each has in their order
 module _ (naming : Naming) (P : Node → Type 0) where
-  all_add : (x : Node) (l : List Node) → P x → AllByRecursion P l → AllByRecursion P (add_node naming x l)
+  pub all_add : (x : Node) (l : List Node) → P x → AllByRecursion P l → AllByRecursion P (add_node naming x l)
   all_add x [] own all = (own, tt)
   all_add x (y ∷ ys) own all = by (all_add x ys own all.1) (is_lt (path_cmp naming y.path x.path))
     where

@@ -31,7 +31,7 @@ so_many (suc count) units field after s =
     cons_length : (x : ℕ) (xs : List ℕ) → length (x ∷ xs) ≡ length xs + 1
     cons_length x xs = omega arith
 
-shorter : (units : List ℕ) → length (before_zero units) ≤ length units
+pub shorter : (units : List ℕ) → length (before_zero units) ≤ length units
 shorter [] = omega arith
 shorter (u ∷ us) = subst (λ (l : List ℕ). length l ≤ length (u ∷ us)) (sym (take_while-cons (λ v. not (v == 0)) u us)) (by (shorter us) (not (u == 0)))
   where

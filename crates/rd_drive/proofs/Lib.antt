@@ -55,3 +55,8 @@ pub mod ReplacedLemmas
 pub mod ProtectedLemmas
 pub mod PathedLemmas
 pub mod TurnLemmas
+pub mod ShapeLemmas
+pub mod StayLemmas
+pub mod BoundedLemmas
+pub mod OnceLemmas
+pub mod DriveOnceLemmas

@@ -35,3 +35,7 @@ pub mod UseCounts
 pub mod Cutting
 pub mod Adding
 pub mod Renaming
+pub mod Promise
+pub mod Ranged
+pub mod Bounded
+pub mod Once

@@ -1,11 +1,11 @@
 //! What runs requests.
 
-ghost use Rattle.std.specs.Prelude.{◌≡◌, ℕ, [], List, IsTrue, IsFalse};
-ghost use Rattle.rd_irp.specs.declared.op.Op.TheVariants as Op;
+ghost use Rattle.std.specs.Prelude.{◌≡◌, ℕ, [], List};
 ghost use Rattle.rd_drive.specs.declared.step.Step.{Step};
 ghost use Rattle.rd_drive.specs.declared.step.End.{End};
 ghost use Rattle.rd_drive.specs.Planned.{Planned};
-ghost use Rattle.rd_drive.specs.Device.{is_starved, IsAnswerTo, Parked, Parks};
+ghost use Rattle.rd_drive.specs.Device.{Parked};
+ghost use Rattle.rd_drive.specs.Promise.{Applies, CutsOff};
 
 use crate::ends::Ends;
 use crate::plan::Plan;
@@ -29,14 +29,9 @@ pub trait Device {
     /// finds none, the reply is NO_MEMORY; that to a Close never is.
     fn apply(&mut self, plan: Plan, moment: u64, ends: &mut Ends) -> Step
         requires { ends.old ≡ [] }
-        ensures runs { runs self.old plan moment result ends.new self.new }
-        ensures answers { IsAnswerTo plan.job.op result }
-        ensures parks { Parks plan.job (parked self.old) result ends.new (parked self.new) }
-        ensures starved { IsTrue plan.starved → IsTrue (is_starved result) }
-        ensures close { plan.job.op ≡ Op.Close → IsFalse (is_starved result) };
+        ensures { Applies runs parked self.old plan moment result ends.new self.new };
 
     /// Cancels the requests that wait, and closes every handle, in order of file id. It takes no memory.
     fn cut(&mut self)
-        ensures cuts { cuts self.old self.new }
-        ensures none { parked self.new ≡ [] };
+        ensures { CutsOff cuts parked self.old self.new };
 }

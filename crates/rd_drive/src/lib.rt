@@ -16,6 +16,7 @@ mod news;
 mod node;
 mod opening;
 mod plan;
+mod promises;
 mod query;
 mod query_dir;
 mod read_write;
@@ -34,7 +35,12 @@ pub use device::Device;
 pub use drive::MemoryDrive;
 pub use ends::{Ends, MAX_WAITING};
 pub use laws::{
-    ends_are_of_those_that_wait, limits_are_as_listed, requests_are_answered, waiting_is_as_listed,
+    ends_are_of_those_that_wait, journals_tell_what_was_done, limits_are_as_listed,
+    requests_are_answered, waiting_is_as_listed,
 };
 pub use plan::{Job, MAX_READ, Plan, prepare};
+pub use promises::{
+    cuts_cancel, drives_are_devices, drives_stay_fitting, replies_are_in_range,
+    requests_have_one_reply,
+};
 pub use step::{End, Step};

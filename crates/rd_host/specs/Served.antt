@@ -1,8 +1,9 @@
--- The types of devices that a host serves, and the codes that it answers an announcement with (MS-RDPEFS 2.2.1.3, 2.2.2.1).
-use Rattle.std.specs.Prelude.{ℕ, ◌==◌, ◌||◌, Bool, if◌then◌else◌, List, [], ◌∷◌}
+-- The types of devices that a host serves, and the code that it answers an announcement with (MS-RDPEFS 2.2.1.3, 2.2.2.1).
+use Rattle.std.specs.Prelude.{ℕ, ◌==◌, ◌||◌, Bool, not, nat_le, if◌then◌else◌, List, length}
 use Rattle.std.specs.List.{list_any}
 use Rattle.rd_base.specs.declared.status.Status.{Status}
 use Rattle.rd_drive.specs.Statuses as status
+use Rattle.rd_pending.specs.Table.{max_devices, max_lives}
 
 -- RDPDR_DTYP_FILESYSTEM and RDPDR_DTYP_PRINT
 abbrev pub file_system : ℕ
@@ -15,10 +16,11 @@ print = 4
 abbrev pub is_served : ℕ → Bool
 is_served kind = kind == file_system || kind == print
 
--- The codes for a device of a type: one that is served begins a life, or is there already, or has no room.
-abbrev pub codes_for : ℕ → List Status
-codes_for kind =
-    if is_served kind then status.success ∷ status.object_name_collision ∷ status.insufficient_resources ∷ [] else status.not_supported ∷ []
-
-abbrev pub is_code_for : ℕ → Status → Bool
-is_code_for kind code = list_any (λ (s : Status). s.0 == code.0) (codes_for kind)
+-- The code for a device of a type, where the devices with these ids have a life, and so many lives were given: one that is served begins a life, unless it
+-- has one already, or there is no room.
+abbrev pub code_for : List ℕ → ℕ → (kind device : ℕ) → Status
+code_for alive given kind device =
+    if not (is_served kind) then status.not_supported
+    else (if list_any (λ id. id == device) alive then status.object_name_collision
+    else (if nat_le max_devices (length alive) || nat_le max_lives given then status.insufficient_resources
+    else status.success))

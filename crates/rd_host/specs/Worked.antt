@@ -1,8 +1,14 @@
 -- A host on a channel, for worked cases.
-use Rattle.std.specs.Prelude.{ℕ, List, [], ◌∷◌, ◌++◌, codes, replicate, fold}
+use Rattle.std.specs.Prelude.{ℕ, List, [], ◌∷◌, ◌++◌, codes, replicate, fold, Option}
+use Rattle.std.specs.List.{range_with_len}
+use Rattle.rd_base.specs.declared.packet.Packet.TheVariants as packet
+use Rattle.rd_base.specs.Header.{header_bytes}
 use Rattle.rd_devices.specs.declared.list.Announce.{Announce}
 use Rattle.rd_devices.specs.DeviceList.{list_bytes}
 use Rattle.rd_devices.specs.DeviceReply.{reply_bytes}
+use Rattle.rd_devices.specs.Removal.{removal_bytes}
+use Rattle.rd_drive.specs.Statuses as status
+use Rattle.rd_hello.specs.declared.host.HostState.TheVariants.{Ready}
 use Rattle.rd_hello.specs.declared.hello.Hello.TheVariants.{Confirm, LoggedOn}
 use Rattle.rd_hello.specs.Hello.{hello_bytes}
 use Rattle.rd_hello.specs.Moves.{Move, reads, writes}
@@ -12,6 +18,7 @@ use Rattle.rd_irp.specs.declared.completion.Head.{Head}
 use Rattle.rd_irp.specs.declared.completion.Kind.TheVariants as kind
 use Rattle.rd_irp.specs.Written.{completion_bytes}
 use Rattle.rd_host.specs.Core.{HostCoreState, begin, hear, new_host}
+use Rattle.rd_host.specs.Order.{Stand, at_first, stand_after}
 
 -- a host whose channel began
 abbrev pub host : HostCoreState
@@ -48,16 +55,38 @@ closed_head = record { device = 1; completion = 5; status = record { 0 = 0 } }
 abbrev pub closed : List ℕ
 closed = completion_bytes kind.Close closed_head body.Closed
 
+-- a completion whose head is cut short
+abbrev pub short_head : List ℕ
+short_head = header_bytes packet.IoCompletion
+
 -- how a channel opens
 abbrev pub opening_moves : List Move
 opening_moves =
     writes (hello_bytes (host_announce 1)) ∷ reads confirmed ∷ reads named ∷ writes (hello_bytes host_sets)
     ∷ writes (hello_bytes (Confirm (record { minor = 12; client = 1 }))) ∷ reads offered ∷ writes (hello_bytes LoggedOn) ∷ []
 
--- the reply to device 1
-abbrev pub own_reply : List ℕ
-own_reply = reply_bytes (record { id = 1; code = record { 0 = 0 } })
+-- where a host stands that gave no life before, after moves once the channel is open
+abbrev pub stand_of : List Move → Option Stand
+stand_of moves = stand_after (at_first 1 0) (opening_moves ++ moves)
 
--- the reply to it as to a device of a type that isn't served
+-- a ready host that owes no reply, whose devices with these ids have a life, and that gave so many
+abbrev pub replied_stand : List ℕ → ℕ → Stand
+replied_stand alive given = record { shake = Ready; owed = []; own = record { due = []; alive = alive; given = given } }
+
+-- the removal of device 1
+abbrev pub removed : List ℕ
+removed = removal_bytes (1 ∷ [])
+
+-- the reply to device 1 that begins a life, to one that is there already, and to one of a type that isn't served
+abbrev pub own_reply : List ℕ
+own_reply = reply_bytes (record { id = 1; code = status.success })
+
+abbrev pub again : List ℕ
+again = reply_bytes (record { id = 1; code = status.object_name_collision })
+
 abbrev pub unsupported : List ℕ
-unsupported = reply_bytes (record { id = 1; code = record { 0 = 0xc000_00bb } })
+unsupported = reply_bytes (record { id = 1; code = status.not_supported })
+
+-- so many ids
+abbrev pub many : ℕ → List ℕ
+many count = range_with_len 0 count

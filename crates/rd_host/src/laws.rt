@@ -1,25 +1,28 @@
-//! The definitions at work, as contracts of functions that do nothing: the checker computes each case.
+//! The definitions at work, as contracts of functions that do nothing: the checker computes each case; and what holds of every host.
 
-ghost use Rattle.std.specs.Prelude.{◌≡◌, ◌++◌, ◌∷◌, [], replicate, None, Some, Err, Ok};
+ghost use Rattle.std.specs.Prelude.{◌≡◌, ◌++◌, ◌∷◌, ℕ, List, [], replicate, None, Some, IsOk, IsSome, Err, Ok};
 ghost use Rattle.rd_devices.specs.Removal.{removal_bytes};
 ghost use Rattle.rd_devices.specs.DeviceReply.{reply_bytes};
+ghost use Rattle.rd_drive.specs.Statuses.{insufficient_resources, not_supported, object_name_collision, success};
 ghost use Rattle.rd_hello.specs.declared.hello.Hello.TheVariants as Hello;
 ghost use Rattle.rd_hello.specs.declared.host.HostState.TheVariants as HostState;
 ghost use Rattle.rd_hello.specs.declared.end_fault.EndFault.TheVariants as EndFault;
 ghost use Rattle.rd_hello.specs.Hello.{hello_bytes};
 ghost use Rattle.rd_hello.specs.Moves.{reads, writes};
 ghost use Rattle.rd_hello.specs.Own.{host_announce, host_sets};
+ghost use Rattle.rd_pending.specs.Table.{max_devices, max_lives};
 ghost use Rattle.rd_host.specs.declared.act.Act.TheVariants as Act;
-ghost use Rattle.rd_host.specs.Core.{hear, reply};
-ghost use Rattle.rd_host.specs.Order.{at_first, stand_after};
-ghost use Rattle.rd_host.specs.Worked.{after, closed, closed_head, confirmed, drive, host, listed, named, offered, opening_moves, own_reply, ready, unsupported};
+ghost use Rattle.rd_host.specs.Core.{HostCall, HostCoreState, HostStep, IsHostKept, hear, hears, reply};
+ghost use Rattle.rd_host.specs.Order.{Stand, after_read, at_first, stand_after};
+ghost use Rattle.rd_host.specs.Served.{code_for};
+ghost use Rattle.rd_host.specs.Worked.{after, again, closed, closed_head, confirmed, drive, host, listed, many, named, offered, opening_moves, own_reply, ready, removed, replied_stand, short_head, stand_of, unsupported};
 
 /// How a host becomes ready.
 pub fn hosts_open_as_listed()
-    ensures announces { host.outbox ≡ hello_bytes (host_announce 1) ∷ [] }
-    ensures ready { ready.shake ≡ HostState.Ready }
-    ensures writes { ready.outbox ≡ hello_bytes (host_announce 1) ∷ hello_bytes host_sets ∷ hello_bytes (Hello.Confirm (record { minor = 12; client = 1 })) ∷ hello_bytes Hello.LoggedOn ∷ [] }
-    ensures replies { (reply ready 1 (record { 0 = 0 })).outbox ≡ ready.outbox ++ reply_bytes (record { id = 1; code = record { 0 = 0 } }) ∷ [] }
+    ensures announces { (host.core).outbox ≡ hello_bytes (host_announce 1) ∷ [] }
+    ensures ready { (ready.core).shake ≡ HostState.Ready }
+    ensures writes { (ready.core).outbox ≡ hello_bytes (host_announce 1) ∷ hello_bytes host_sets ∷ hello_bytes (Hello.Confirm (record { minor = 12; client = 1 })) ∷ hello_bytes Hello.LoggedOn ∷ [] }
+    ensures replies { ((reply ready 1 success).core).outbox ≡ (ready.core).outbox ++ reply_bytes (record { id = 1; code = success }) ∷ [] }
 {}
 
 /// What a host hears.
@@ -28,18 +31,51 @@ pub fn hosts_hear_as_listed()
     ensures twice { (hear (after host (confirmed ∷ [])) confirmed).1 ≡ Err (EndFault.Order 1 0x4343) }
     ensures stays { (hear (after host (listed ∷ [])) confirmed).1 ≡ Err (EndFault.Order 0 0x4441) }
     ensures announced { (hear ready listed).1 ≡ Ok (Act.Announced (drive ∷ [])) }
-    ensures removed { (hear ready (removal_bytes (1 ∷ []))).1 ≡ Ok (Act.Removed (1 ∷ [])) }
+    ensures removed { (hear ready removed).1 ≡ Ok (Act.Removed (1 ∷ [])) }
     ensures completed { (hear ready closed).1 ≡ Ok (Act.Complete closed_head (replicate 4 0)) }
 {}
 
 /// Which messages a host may read and write in which order.
 pub fn hosts_write_in_order()
-    ensures opens { stand_after (at_first 1) opening_moves ≡ Some (record { shake = HostState.Ready; owed = []; announced = [] }) }
-    ensures replies { stand_after (at_first 1) (opening_moves ++ reads listed ∷ writes own_reply ∷ []) ≡ Some (record { shake = HostState.Ready; owed = []; announced = [] }) }
+    ensures opens { stand_of [] ≡ Some (replied_stand [] 0) }
+    ensures replies { stand_of (reads listed ∷ writes own_reply ∷ []) ≡ Some (replied_stand (1 ∷ []) 1) }
     // A reply is to a device that was announced and has none yet.
-    ensures unannounced { stand_after (at_first 1) (opening_moves ++ writes own_reply ∷ []) ≡ None }
-    ensures twice { stand_after (at_first 1) (opening_moves ++ reads listed ∷ writes own_reply ∷ writes own_reply ∷ []) ≡ None }
-    // Its code is one of the device's type.
-    ensures code { stand_after (at_first 1) (opening_moves ++ reads listed ∷ writes unsupported ∷ []) ≡ None }
-    ensures silent { stand_after (at_first 1) (writes own_reply ∷ []) ≡ None }
+    ensures unannounced { stand_of (writes own_reply ∷ []) ≡ None }
+    ensures twice { stand_of (reads listed ∷ writes own_reply ∷ writes own_reply ∷ []) ≡ None }
+    // Its code is the one that is due.
+    ensures code { stand_of (reads listed ∷ writes unsupported ∷ []) ≡ None }
+    ensures no_room { stand_of (reads listed ∷ writes (reply_bytes (record { id = 1; code = insufficient_resources })) ∷ []) ≡ None }
+    // A device that has a life and is announced again owes a collision; one that was removed begins another life.
+    ensures collides { stand_of (reads listed ∷ reads listed ∷ writes own_reply ∷ writes again ∷ []) ≡ Some (replied_stand (1 ∷ []) 1) }
+    ensures no_second { stand_of (reads listed ∷ reads listed ∷ writes own_reply ∷ writes own_reply ∷ []) ≡ None }
+    ensures next_life { stand_of (reads listed ∷ reads removed ∷ reads listed ∷ writes own_reply ∷ writes own_reply ∷ []) ≡ Some (replied_stand (1 ∷ []) 2) }
+    ensures silent { stand_after (at_first 1 0) (writes own_reply ∷ []) ≡ None }
+{}
+
+/// With which code a host replies to a device, by the devices that have a life and by how many lives were given.
+pub fn hosts_reply_by_lives()
+    ensures begins { code_for [] 0 8 1 ≡ success }
+    ensures unserved { code_for [] 0 1 1 ≡ not_supported }
+    ensures again { code_for (1 ∷ []) 1 4 1 ≡ object_name_collision }
+    ensures full { code_for (many max_devices) 0 8 1000 ≡ insufficient_resources }
+    ensures worn { code_for [] max_lives 8 1 ≡ insufficient_resources }
+{}
+
+/// A message that a host hears without a fault is read in order.
+pub fn hosts_read_in_order()
+    ensures { (h : HostCoreState) (s : Stand) (bytes : List ℕ) →
+        s.shake ≡ (h.core).shake → IsOk (hear h bytes).1 → IsSome (after_read s bytes) }
+{}
+
+/// Each call keeps what always holds of a host: what it has to send fits a message.
+pub fn hosts_keep()
+    ensures { (old new : HostCoreState) (call : HostCall) → IsHostKept old → HostStep old call new → IsHostKept new }
+{}
+
+/// Where memory may be wanting while a message is heard.
+pub fn hosts_want_memory()
+    ensures list { HostStep ready (hears listed (Err EndFault.Memory)) ready }
+    // The head of a completion is read before memory is asked for, and a packet that isn't read in the state asks for none.
+    ensures short_head { HostStep ready (hears short_head (Err EndFault.Memory)) ready → ⊥ }
+    ensures unread { HostStep host (hears listed (Err EndFault.Memory)) host → ⊥ }
 {}

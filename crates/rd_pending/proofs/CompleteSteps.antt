@@ -1,25 +1,27 @@
 -- A completion that is taken keeps what holds of a table and its history.
 use Rattle.std.proofs.Common.{◌≡◌, ◌≢◌, ◌⊎◌, ◌∙◌, refl, sym, ap, subst, inl, inr, ℕ, suc, ◌+◌, ◌==◌, ◌&&◌, Bool, true, false, cond, List, [], ◌∷◌, take, Some, None, Option, arith, eq-eqb, ne_eqb, eqb-true}
 use Rattle.std.specs.Prelude.{slice_get, IsOk}
+use Rattle.std.specs.Option.{option_map}
 use Rattle.std.specs.Ordering.{nat_cmp}
-use Rattle.std.specs.Map.{lookup, remove_entry}
+use Rattle.std.specs.Map.{lookup, remove_entry, set_value}
 use Rattle.std.specs.BTreeMap.{is_at}
 use Rattle.rd_irp.specs.declared.completion.Head.{Head}
+use Rattle.rd_irp.specs.Fits.{kind_of}
 use Rattle.rd_pending.specs.declared.calls.Outcome.{Outcome}
-use Rattle.rd_pending.specs.declared.calls.Outcome.TheVariants.{Done, Lost}
+use Rattle.rd_pending.specs.declared.calls.Outcome.TheVariants.{Done}
 use Rattle.rd_pending.specs.Outcomes as tidings
-use Rattle.rd_pending.specs.Outcomes.{Course, ended_in, going_on, has_pair, or_else}
-use Rattle.rd_pending.specs.Table.{Accepted, Fate, IsSlotOf, Slot, TableState, awaited, complete, freed, is_awaited, known, mark_of, slot_at, taken, with_fate}
-use Rattle.rd_pending.proofs.CountLemmas.{AreAlike, alike_pairs, alike_same, alike_take, fate_alike, pairs}
+use Rattle.rd_pending.specs.Outcomes.{Accepted, Agrees, Course, ended_in, going_on, has_pair, or_else}
+use Rattle.rd_pending.specs.Table.{Fate, Slot, TableState, Untaken, awaits, complete, fate_at, freed, is_awaited, known, slot_at, untaken_at, with_fate}
+use Rattle.rd_pending.specs.History.{Call, accepted_in, after, completes}
+use Rattle.rd_pending.proofs.CountLemmas.{pairs}
 use Rattle.rd_pending.proofs.CourseLemmas.{heard_one, heard_pairs}
 use Rattle.rd_pending.proofs.Effects as effects
 use Rattle.rd_pending.proofs.Effects.{Completes, IsGiven}
-use Rattle.rd_pending.specs.History.{Call, after, completes}
-use Rattle.rd_pending.proofs.MapLemmas.{gone, kept}
+use Rattle.rd_pending.proofs.FateLemmas.{Waits, fate_of, fate_set, is_waiting, live_waits, none_awaited}
+use Rattle.rd_pending.proofs.MapLemmas.{gone, kept, same_or_other, set_beside, set_here}
 use Rattle.rd_pending.proofs.SlotLemmas as slots
-use Rattle.rd_pending.proofs.AcceptedLemmas.{at_number, fate_beside, some_of_fate}
-use Rattle.rd_pending.proofs.Sound.{IsTracked, IsWithin, Sound, alike_before, course, held, none_awaited, outcome_behind, outcome_open}
-use Rattle.rd_pending.proofs.Steps.{course_open, itself, not_open_heard, opens, own_slot, same_or_other, tracked_same}
+use Rattle.rd_pending.proofs.Sound.{IsSlotOf, IsTracked, IsWithin, Sound, alike_before, course, held, outcome_behind, outcome_open, own_slot}
+use Rattle.rd_pending.proofs.Steps.{course_open, not_open_heard, still_of, tracked_same}
 
 within_completes : (head : Head) (bytes : List ℕ) (h : List Call) → IsWithin (completes head bytes) h
 within_completes head bytes h = record { lives = λ c. refl; ended = λ c. refl }
@@ -30,10 +32,9 @@ module _ (head : Head) (bytes : List ℕ) (h : List Call) (s : Sound (after h) h
 
   -- the slot is free, and its completion counts
   still_balanced : (slot : Slot) (new : TableState) → slot_at (after h) head.completion ≡ Some slot → slot.device ≡ head.device → new.slots ≡ remove_entry (is_at (nat_cmp head.completion)) (after h).slots
-      → ((c i j : ℕ) → pairs c i j new.accepted ≡ pairs c i j (after h).accepted) → (c : ℕ) → (after h).channel ≡ Some c → (i j : ℕ)
-      → pairs c i j new.accepted ≡ heard_pairs i j (course c (completes head bytes ∷ h)) + held (slot_at new j) i
-  still_balanced slot new found named freed_one same_pairs c e i j =
-      same_pairs c i j ∙ s.balanced c e i j
+      → (c : ℕ) → (after h).channel ≡ Some c → (i j : ℕ) → pairs c i j (accepted_in h) ≡ heard_pairs i j (course c (completes head bytes ∷ h)) + held (slot_at new j) i
+  still_balanced slot new found named freed_one c e i j =
+      s.balanced c e i j
       ∙ go (same_or_other j head.completion)
       ∙ ap (λ (k : Course). heard_pairs i j k + held (slot_at new j) i) (sym (on_completion c e))
     where
@@ -81,102 +82,107 @@ module _ (head : Head) (bytes : List ℕ) (h : List Call) (s : Sound (after h) h
       go true e false e2 = refl
       go false e q e2 = refl
 
+  -- the slot of a request that is awaited
+  ends_no_awaited : (slot : Slot) → slot_at (after h) head.completion ≡ Some slot → (n : ℕ) (a : Accepted) → slice_get (accepted_in h) n ≡ Some a → awaits (after h) (suc n) ≡ true
+      → ¬ ((slot.dead ≡ false) × (slot.number ≡ suc n)) → (m : ℕ) → ended_in a m (course a.channel h) (tidings.completes head bytes ∷ []) ≡ None
+  ends_no_awaited slot found n a is none other m = ends_no_other a m (λ pair.
+      let own = (own_slot (after h) h n a s is none).1 in
+      let same : slot ≡ record { number = suc n; device = a.device; kind = kind_of a.op; dead = false } = cc (subst (λ (x : ℕ). slot_at (after h) x ≡ Some slot) pair.1 found, own) in
+      other (ap (λ (x : Slot). x.dead) same, ap (λ (x : Slot). x.number) same))
+
+  still_slots : (new : TableState) → new.slots ≡ remove_entry (is_at (nat_cmp head.completion)) (after h).slots → new.channel ≡ (after h).channel
+      → (id : ℕ) (slot : Slot) → slot_at new id ≡ Some slot → IsSlotOf new (completes head bytes ∷ h) id slot
+  still_slots new freed_one channel id slot e = elim (same_or_other id head.completion) [
+    | inl same ↦
+        let none : slot_at new id ≡ None = at_new ∙ subst (λ (x : ℕ). lookup (is_at (nat_cmp x)) (remove_entry (is_at (nat_cmp head.completion)) (after h).slots) ≡ None) (sym same) (gone head.completion (after h).slots s.slots.rising) in
+        absurd (cc (none, e))
+    | inr other ↦ still_of (completes head bytes) h new s.of_slot refl channel id slot (sym (kept head.completion id other (after h).slots) ∙ sym at_new ∙ e)
+  ]
+    where
+      at_new : slot_at new id ≡ lookup (is_at (nat_cmp id)) (remove_entry (is_at (nat_cmp head.completion)) (after h).slots)
+      at_new = ap (λ (es : List (ℕ × Slot)). lookup (is_at (nat_cmp id)) es) freed_one
+
   late_sound : (slot : Slot) → slot_at (after h) head.completion ≡ Some slot → slot.device ≡ head.device → slot.dead ≡ true → Sound (freed (after h) head.completion) (completes head bytes ∷ h)
   late_sound slot found named dead = record {
     slots = slots.freed_slots (after h) head.completion slot s.slots found dead;
+    count = s.count;
     below = s.below;
     fresh = λ c le. let old = s.fresh c le in (not_open_heard (completes head bytes) h s c le ∙ old.0, old.1, old.2);
     shut = s.shut;
     lives = λ c e. let old = s.lives c e in (ap (λ (k : Course). k.lives) (on_completion c e) ∙ old.0, ap (λ (k : Course). k.given) (on_completion c e) ∙ old.1);
-    balanced = still_balanced slot (freed (after h) head.completion) found named refl (λ c i j. refl);
-    requests = λ n a is. tracked_same (completes head bytes) h (freed (after h) head.completion) n a a (within_completes head bytes h) s (s.requests n a is) (itself a) refl refl
-        (alike_same (after h).accepted) (opens (after h) n a s.slots is)
-        (λ none m m_is. ends_no_other a m (λ pair.
-        let own = own_slot (after h) n a s.slots is none in
-        let same : slot ≡ record { number = suc n; device = a.device; kind = a.kind; dead = false } = cc (subst (λ (x : ℕ). slot_at (after h) x ≡ Some slot) pair.1 found, own) in
-        cc (ap (λ (x : Slot). x.dead) same, dead)))
-        ((s.requests n a is).alive);
+    balanced = still_balanced slot (freed (after h) head.completion) found named refl;
+    of_slot = still_slots (freed (after h) head.completion) refl refl;
+    requests = λ n a is. tracked_same (completes head bytes) h (freed (after h) head.completion) n a (within_completes head bytes h) s is refl refl refl
+        (λ none m. ends_no_awaited slot found n a is none (λ both. cc (both.0, dead)) m) (s.requests n a is).alive;
   }
 
   given_sound : (slot : Slot) → slot_at (after h) head.completion ≡ Some slot → slot.device ≡ head.device → (effect : IsGiven (after h) head bytes slot)
       → Sound (with_fate (freed (after h) head.completion) slot.number (known (Done effect.reply))) (completes head bytes ∷ h)
-  given_sound slot found named effect = subst (λ (k : ℕ). Sound (with_fate (freed t head.completion) k (known (Done effect.reply))) (completes head bytes ∷ h)) (sym number.1) (record {
-    slots = slots.done_slots t head.completion p slot (Done effect.reply) s.slots found number.1;
+  given_sound slot found named effect = subst (λ (y : TableState). Sound y (completes head bytes ∷ h)) (sym (fate_set (freed t head.completion) slot.number waits.one done waits.is)) (record {
+    slots = slots.done_slots t head.completion slot waits.one (Done effect.reply) s.slots found waits.is waits.fate;
+    count = s.count;
     below = s.below;
-    fresh = λ c le. let old = s.fresh c le in (not_open_heard (completes head bytes) h s c le ∙ old.0, old.1, λ i j. same_pairs c i j ∙ old.2 i j);
+    fresh = λ c le. let old = s.fresh c le in (not_open_heard (completes head bytes) h s c le ∙ old.0, old.1, old.2);
     shut = s.shut;
     lives = λ c e. let old = s.lives c e in (ap (λ (k : Course). k.lives) (on_completion c e) ∙ old.0, ap (λ (k : Course). k.given) (on_completion c e) ∙ old.1);
-    balanced = still_balanced slot new found named refl same_pairs;
+    balanced = still_balanced slot new found named refl;
+    of_slot = still_slots new refl refl;
     requests = tracked;
   })
     where
       t : TableState
       t = after h
 
-      own : IsSlotOf t head.completion slot
-      own = s.slots.of_request head.completion slot found
+      done : Fate
+      done = known (Done effect.reply)
 
-      number : (n : ℕ) × (slot.number ≡ suc n) × (slice_get t.accepted n ≡ Some own.request)
-      number = at_number t slot.number own.request own.is
+      own : IsSlotOf t h head.completion slot
+      own = s.of_slot head.completion slot found
 
-      p : ℕ
-      p = number.0
+      waits : Waits (untaken_at t slot.number)
+      waits = live_waits (untaken_at t slot.number) ((s.slots.of_slot head.completion slot found).mark ∙ ap Some effect.alive)
 
       new : TableState
-      new = with_fate (freed t head.completion) (suc p) (known (Done effect.reply))
+      new = record (freed t head.completion) { untaken = set_value (is_at (nat_cmp slot.number)) t.untaken (record waits.one { fate = done }) }
 
-      alike : AreAlike t.accepted new.accepted
-      alike = fate_alike p (known (Done effect.reply)) t.accepted
-
-      same_pairs : (c i j : ℕ) → pairs c i j new.accepted ≡ pairs c i j t.accepted
-      same_pairs c i j = alike_pairs c i j t.accepted new.accepted alike
-
-      -- the slot's request is awaited
-      none_own : is_awaited own.request.fate ≡ true
-      none_own = go own.request.fate (own.mark ∙ ap Some effect.alive)
-        where
-          go : (f : Fate) → mark_of f ≡ Some false → is_awaited f ≡ true
-          go awaited e = refl
-          go (known (Done reply)) e = absurd (cc e)
-          go (known (Lost cause)) e = absurd (cc e)
-          go taken e = absurd (cc e)
-
-      tracked : (n : ℕ) (b : Accepted) → slice_get new.accepted n ≡ Some b → IsTracked new (completes head bytes ∷ h) n b
-      tracked n b is = elim (same_or_other n p) [
-        | inl same ↦
-            let is_new : b ≡ record own.request { fate = known (Done effect.reply) } =
-            some_of_fate t.accepted p (known (Done effect.reply)) own.request b number.2 (subst (λ (k : ℕ). slice_get new.accepted k ≡ Some b) same is) in
-            subst (λ (k : ℕ). IsTracked new (completes head bytes ∷ h) k b) (sym same) (subst (IsTracked new (completes head bytes ∷ h) p) (sym is_new) done_one)
-        | inr other ↦
-            let is_old : slice_get t.accepted n ≡ Some b = sym (fate_beside p n (known (Done effect.reply)) t.accepted other) ∙ is in
-            tracked_same (completes head bytes) h new n b b (within_completes head bytes h) s (s.requests n b is_old) (itself b) refl refl alike (opens t n b s.slots is_old)
-            (λ none m m_is. ends_no_other b m (λ pair.
-            let its = own_slot t n b s.slots is_old none in
-            let same : slot ≡ record { number = suc n; device = b.device; kind = b.kind; dead = false } = cc (subst (λ (x : ℕ). slot_at t x ≡ Some slot) pair.1 found, its) in
-            let numbers : suc p ≡ suc n = sym number.1 ∙ ap (λ (x : Slot). x.number) same in
-            other (omega (arith, numbers))))
-            ((s.requests n b is_old).alive)
+      tracked : (n : ℕ) (a : Accepted) → slice_get (accepted_in h) n ≡ Some a → IsTracked new (completes head bytes ∷ h) n a
+      tracked n a is = elim (same_or_other (suc n) slot.number) [
+        | inl same ↦ done_one same
+        | inr other ↦ tracked_same (completes head bytes) h new n a (within_completes head bytes h) s is refl refl (set_beside slot.number (suc n) (record waits.one { fate = done }) other t.untaken)
+            (λ none m. ends_no_awaited slot found n a is none (λ both. other (sym both.1)) m) (s.requests n a is).alive
       ]
         where
-          done_one : IsTracked new (completes head bytes ∷ h) p (record own.request { fate = known (Done effect.reply) })
-          done_one =
-              let a = own.request in
-              let was = s.requests p a number.2 in
-              let m : ℕ = alike_before (take p t.accepted) a in
-              let opened : t.channel ≡ Some a.channel = opens t p a s.slots number.2 none_own in
-              let m_same : alike_before (take p new.accepted) a ≡ m = alike_pairs a.channel a.device a.id (take p t.accepted) (take p new.accepted) (alike_take p t.accepted new.accepted alike) in
-              let held_one : held (slot_at t a.id) a.device ≡ 1 = rw (own_slot t p a s.slots number.2 none_own, eq-eqb a.device a.device refl) refl in
-              let count : heard_pairs a.device a.id (course a.channel h) ≡ m = omega (arith, s.balanced a.channel opened a.device a.id, was.last none_own, held_one) in
-              let pair : has_pair a.device a.id head ≡ true = rw (eq-eqb head.device a.device (sym named ∙ sym own.device), eq-eqb head.completion a.id (sym own.own_id)) refl in
+          done_one : suc n ≡ slot.number → IsTracked new (completes head bytes ∷ h) n a
+          done_one same =
+              let was = s.requests n a is in
+              let m : ℕ = alike_before (take n (accepted_in h)) a in
+              let before : untaken_at t (suc n) ≡ Some waits.one = subst (λ (k : ℕ). untaken_at t k ≡ Some waits.one) (sym same) waits.is in
+              let now : untaken_at new (suc n) ≡ Some (record waits.one { fate = done }) =
+              subst (λ (k : ℕ). untaken_at new k ≡ Some (record waits.one { fate = done })) (sym same) (set_here slot.number (record waits.one { fate = done }) waits.one t.untaken waits.is) in
+              let none : awaits t (suc n) ≡ true = ap (λ (o : Option Untaken). is_waiting (option_map fate_of o)) before ∙ ap is_awaited waits.fate in
+              let over : awaits new (suc n) ≡ false = ap (λ (o : Option Untaken). is_waiting (option_map fate_of o)) now in
+              let place : n ≡ own.before = cc (own.numbered) in
+              let one : own.request ≡ a = cc (own.is, subst (λ (k : ℕ). slice_get (accepted_in h) k ≡ Some a) place is) in
+              let device : a.device ≡ slot.device = ap (λ (b : Accepted). b.device) (sym one) ∙ own.device in
+              let id : a.id ≡ head.completion = ap (λ (b : Accepted). b.id) (sym one) ∙ own.own_id in
+              let kind : kind_of a.op ≡ slot.kind = ap (λ (b : Accepted). kind_of b.op) (sym one) ∙ own.kind in
+              let its = own_slot t h n a s is none in
+              let held_one : held (slot_at t a.id) a.device ≡ 1 = rw (its.1, eq-eqb a.device a.device refl) refl in
+              let count : heard_pairs a.device a.id (course a.channel h) ≡ m = omega (arith, s.balanced a.channel its.0 a.device a.id, was.last none, held_one) in
+              let pair : has_pair a.device a.id head ≡ true = rw (eq-eqb head.device a.device (sym named ∙ sym device), eq-eqb head.completion a.id (sym id)) refl in
               let ends : outcome_behind m a (completes head bytes ∷ h) ≡ Some (Done effect.reply) =
-              outcome_open (completes head bytes) h m a (within_completes head bytes h) opened (s.shut a.channel opened)
-              ∙ ap (λ (o : Option Outcome). or_else o (ended_in a m (course a.channel h) (tidings.completes head bytes ∷ []))) (none_awaited a.fate (outcome_behind m a h) was.agrees none_own)
-              ∙ rw (pair, eq-eqb (heard_pairs a.device a.id (course a.channel h)) m count) (ap (λ (o : Option Outcome). or_else o None) (effect.reads a own.kind)) in
+              outcome_open (completes head bytes) h m a (within_completes head bytes h) its.0 (s.shut a.channel its.0)
+              ∙ ap (λ (o : Option Outcome). or_else o (ended_in a m (course a.channel h) (tidings.completes head bytes ∷ []))) (none_awaited (fate_at t (suc n)) (outcome_behind m a h) was.agrees none)
+              ∙ rw (pair, eq-eqb (heard_pairs a.device a.id (course a.channel h)) m count) (ap (λ (o : Option Outcome). or_else o None) (effect.reads a kind)) in
               record {
                 below = was.below;
-                agrees = ap (λ (k : ℕ). outcome_behind k a (completes head bytes ∷ h)) m_same ∙ ends;
-                alive = λ over. absurd (cc over);
-                last = λ over. absurd (cc over);
+                agrees = subst (λ (f : Option Fate). Agrees f (outcome_behind m a (completes head bytes ∷ h))) (sym (ap (option_map fate_of) now)) ends;
+                named = λ u e.
+                    let is_new : record waits.one { fate = done } ≡ u = cc (now, e) in
+                    let names = was.named waits.one before in
+                    (ap (λ (v : Untaken). v.device) (sym is_new) ∙ names.0, ap (λ (v : Untaken). v.life) (sym is_new) ∙ names.1);
+                alive = λ still. absurd (cc (over, still));
+                last = λ still. absurd (cc (over, still));
               }
 
   pub completes_sound : IsOk (complete (after h) head bytes).1 → Sound (after (completes head bytes ∷ h)) (completes head bytes ∷ h)

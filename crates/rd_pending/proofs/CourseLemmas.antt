@@ -1,5 +1,5 @@
 -- The course of a channel through what is heard on it, and what ends a request on it.
-use Rattle.std.proofs.Common.{◌≡◌, ◌≢◌, ◌⊎◌, ◌∙◌, refl, sym, ap, subst, inl, inr, ℕ, ◌+◌, ◌<◌, ◌≤◌, ◌==◌, ◌&&◌, Bool, true, false, cond, List, [], ◌∷◌, ◌++◌, length, Some, None, Option, arith, length-append, ne_eqb, eqb-true}
+use Rattle.std.proofs.Common.{◌≡◌, ◌⊎◌, ◌∙◌, refl, sym, ap, subst, inl, inr, ℕ, ◌+◌, ◌<◌, ◌≤◌, ◌==◌, ◌&&◌, Bool, true, false, cond, List, [], ◌∷◌, ◌++◌, length, Some, None, Option, arith, length-append, ne_eqb, eqb-true}
 use Rattle.std.specs.Prelude.{filter}
 use Rattle.std.specs.Option.{option_map_or}
 use Rattle.std.specs.Ordering.{nat_cmp}
@@ -9,9 +9,8 @@ use Rattle.std.specs.BTreeMap.{insert_entry, is_at}
 use Rattle.std.proofs.lemmas.List.Elements.{filter-append}
 use Rattle.rd_irp.specs.declared.completion.Head.{Head}
 use Rattle.rd_pending.specs.declared.calls.Outcome.{Outcome}
-use Rattle.rd_pending.specs.Outcomes.{Course, Tidings, begins, completes, course_from, ended_by, ended_in, going_on, has_pair, is_in_life, or_else, removes}
-use Rattle.rd_pending.specs.Table.{Accepted}
-use Rattle.rd_pending.proofs.MapLemmas.{beside, gone, inserted, kept, rises_with, rises_without}
+use Rattle.rd_pending.specs.Outcomes.{Accepted, Course, Tidings, begins, completes, course_from, ended_by, ended_in, going_on, has_pair, is_in_life, or_else, removes}
+use Rattle.rd_pending.proofs.MapLemmas.{beside, gone, inserted, kept, rises_with, rises_without, same_or_other}
 
 -- the course behind what is heard
 abbrev pub through : Course → List Tidings → Course
@@ -47,9 +46,6 @@ ended_more a m k (x ∷ xs) ys =
 pub record IsCourse (k : Course) : Type 0 where
   pub rising : IsStrictlySortedBy nat_cmp (keys_of k.lives)
   pub bounded : (d l : ℕ) → lookup (is_at (nat_cmp d)) k.lives ≡ Some l → l ≤ k.given
-
-same_or_other : (a b : ℕ) → (a ≡ b) ⊎ (a ≢ b)
-same_or_other a b = grind arith
 
 pub course_begins : (given : ℕ) → IsCourse (course_from given)
 unfolding IsStrictlySortedBy

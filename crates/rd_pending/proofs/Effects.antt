@@ -1,6 +1,6 @@
 -- What a call of a table does that isn't refused.
-use Rattle.std.proofs.Common.{◌≡◌, ◌⊎◌, refl, ap, inl, inr, ℕ, zero, suc, ◌+◌, ◌<◌, ◌==◌, Bool, true, false, List, length, map, Some, None, Option, arith, eqb-true}
-use Rattle.std.specs.Prelude.{Result, Ok, Err, IsOk, is_ok, is_some, nat_le, slice_get}
+use Rattle.std.proofs.Common.{◌≡◌, ◌⊎◌, refl, ap, inl, inr, ℕ, ◌+◌, ◌<◌, ◌==◌, Bool, true, false, List, length, map, Some, None, Option, arith, eqb-true}
+use Rattle.std.specs.Prelude.{Result, Ok, Err, IsOk, is_ok, is_some, nat_le}
 use Rattle.std.specs.Ordering.{nat_cmp}
 use Rattle.std.specs.Map.{remove_entry}
 use Rattle.std.specs.BTreeMap.{insert_entry, is_at}
@@ -14,13 +14,14 @@ use Rattle.rd_irp.specs.declared.completion.Head.{Head}
 use Rattle.rd_irp.specs.declared.completion.Reply.{Reply}
 use Rattle.rd_irp.specs.declared.op.Op.{Op}
 use Rattle.rd_irp.specs.Completion.{completion_body}
+use Rattle.rd_irp.specs.Fits.{kind_of}
 use Rattle.rd_pending.specs.declared.calls.CompleteNo.{CompleteNo}
 use Rattle.rd_pending.specs.declared.calls.Outcome.{Outcome}
 use Rattle.rd_pending.specs.declared.calls.Outcome.TheVariants.{Done}
 use Rattle.rd_pending.specs.declared.calls.SubmitNo.{SubmitNo}
 use Rattle.rd_pending.specs.declared.calls.Target.{Target}
-use Rattle.rd_pending.specs.Outcomes.{reply_in}
-use Rattle.rd_pending.specs.Table.{Accepted, Fate, Slot, TableState, accept, awaited, complete, dead_of, device_in, freed, known, life_of, live, live_refusal, losing, max_devices, max_slots, remove, slot_at, stale, submit, submit_refusal, take, taken, with_fate}
+use Rattle.rd_pending.specs.Outcomes.{Accepted, reply_in}
+use Rattle.rd_pending.specs.Table.{Fate, Slot, TableState, Untaken, accept, awaited, complete, dead_of, device_in, freed, known, life_of, live, live_refusal, losing, max_devices, max_slots, remove, slot_at, stale, submit, submit_refusal, take, untaken_at, with_fate}
 
 -- ---- a life
 
@@ -48,7 +49,7 @@ pub record Submits (t : TableState) (application : ℕ) (named : Target) (o : Op
   pub life : ℕ
   pub present : life_of t (device_in named) ≡ Some life
   pub few : length t.slots < max_slots
-  pub new : (submit t application named o).0 ≡ accept t application named o
+  pub new : (submit t application named o).0 ≡ accept t named o
 
 pub submits : (t : TableState) (application : ℕ) (named : Target) (o : Op) → submit_refusal t named ≡ None → Submits t application named o
 submits t application named o free = go t.channel refl (life_of t (device_in named)) refl
@@ -81,7 +82,7 @@ pub record IsLate (t : TableState) (head : Head) (bytes : List ℕ) (slot : Slot
 pub record IsGiven (t : TableState) (head : Head) (bytes : List ℕ) (slot : Slot) : Type 0 where
   pub alive : slot.dead ≡ false
   pub reply : Reply
-  pub reads : (a : Accepted) → a.kind ≡ slot.kind → reply_in a head bytes ≡ Some (Done reply)
+  pub reads : (a : Accepted) → kind_of a.op ≡ slot.kind → reply_in a head bytes ≡ Some (Done reply)
   pub new : (complete t head bytes).0 ≡ with_fate (freed t head.completion) slot.number (known (Done reply))
 
 pub record Completes (t : TableState) (head : Head) (bytes : List ℕ) : Type 0 where
@@ -151,7 +152,7 @@ pub record Removes (t : TableState) (device : ℕ) : Type 0 where
   pub new : (remove t device).0 ≡ record t {
     lives = remove_entry (is_at (nat_cmp device)) t.lives;
     slots = map (dead_of device) t.slots;
-    accepted = losing (λ (a : Accepted). a.device == device) Removed t.accepted;
+    untaken = losing (λ (u : Untaken). u.device == device) Removed t.untaken;
   }
 
 pub record IsAbsent (t : TableState) (device : ℕ) : Type 0 where
@@ -168,26 +169,23 @@ removes t device = go (life_of t device) refl
 -- ---- an outcome that is handed out
 
 pub record Takes (t : TableState) (number : ℕ) : Type 0 where
-  pub before : ℕ
-  pub numbered : number ≡ suc before
-  pub request : Accepted
-  pub is : slice_get t.accepted before ≡ Some request
+  pub request : Untaken
+  pub is : untaken_at t number ≡ Some request
   pub outcome : Outcome
   pub fate : request.fate ≡ known outcome
-  pub new : (take t number).0 ≡ with_fate t number taken
+  pub given : (take t number).1 ≡ Ok (record { device = request.device; life = request.life; outcome = outcome })
+  pub new : (take t number).0 ≡ record t { untaken = remove_entry (is_at (nat_cmp number)) t.untaken }
 
 pub takes : (t : TableState) (number : ℕ) → IsOk (take t number).1 → Takes t number
-takes t zero ok = absurd (cc ok)
-takes t (suc n) ok = go (slice_get t.accepted n) refl
+takes t number ok = go (untaken_at t number) refl
   where
-    none : is_ok (take t (suc n)).1 ≡ false → {A : Type 0} → A
+    none : is_ok (take t number).1 ≡ false → {A : Type 0} → A
     none failed = absurd (cc (failed, ok))
 
-    by_fate : (a : Accepted) → slice_get t.accepted n ≡ Some a → (f : Fate) → a.fate ≡ f → Takes t (suc n)
-    by_fate a e awaited e2 = none (rw (e, e2) refl)
-    by_fate a e (known o) e2 = record { before = n; numbered = refl; request = a; is = e; outcome = o; fate = e2; new = rw (e, e2) refl }
-    by_fate a e taken e2 = none (rw (e, e2) refl)
+    by_fate : (u : Untaken) → untaken_at t number ≡ Some u → (f : Fate) → u.fate ≡ f → Takes t number
+    by_fate u e awaited e2 = none (rw (e, e2) refl)
+    by_fate u e (known o) e2 = record { request = u; is = e; outcome = o; fate = e2; given = rw (e, e2) refl; new = rw (e, e2) refl }
 
-    go : (o : Option Accepted) → slice_get t.accepted n ≡ o → Takes t (suc n)
+    go : (o : Option Untaken) → untaken_at t number ≡ o → Takes t number
     go None e = none (rw e refl)
-    go (Some a) e = by_fate a e a.fate refl
+    go (Some u) e = by_fate u e u.fate refl

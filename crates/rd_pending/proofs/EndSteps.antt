@@ -10,29 +10,31 @@ use Rattle.rd_base.specs.declared.journal.Cause.TheVariants.{Removed, Dropped}
 use Rattle.rd_pending.specs.declared.calls.Outcome.{Outcome}
 use Rattle.rd_pending.specs.declared.calls.Outcome.TheVariants.{Lost}
 use Rattle.rd_pending.specs.Outcomes as tidings
-use Rattle.rd_pending.specs.Outcomes.{Agrees, Course, course_from, ended_in, going_on, is_in_life, or_else}
-use Rattle.rd_pending.specs.Table.{Accepted, Fate, Slot, TableState, awaited, dead_of, drop_channel, is_awaited, known, life_of, losing, lost_where, max_devices, slot_at, take as take_outcome, taken, with_fate}
-use Rattle.rd_pending.proofs.CountLemmas.{AreAlike, alike_pairs, alike_same, alike_take, fate_alike, losing_alike, pairs}
+use Rattle.rd_pending.specs.Outcomes.{Accepted, Agrees, Course, course_from, ended_in, going_on, is_in_life, or_else}
+use Rattle.rd_pending.specs.Table.{Fate, Slot, TableState, Untaken, awaits, dead_of, drop_channel, fate_at, is_awaited, known, life_of, losing, max_devices, slot_at, take as take_outcome, untaken_at}
+use Rattle.rd_pending.specs.History.{Call, accepted_in, after, drops, ended_on, heard_on, is_open_on, lives_before, removes, takes}
 use Rattle.rd_pending.proofs.CourseLemmas.{heard_pairs}
 use Rattle.rd_pending.proofs.Effects as effects
 use Rattle.rd_pending.proofs.Effects.{Removes, Takes}
-use Rattle.rd_pending.specs.History.{Call, after, drops, ended_on, heard_on, is_open_on, lives_before, removes, takes}
-use Rattle.rd_pending.proofs.MapLemmas.{kept, none_removed, one_shorter}
-use Rattle.rd_pending.proofs.AcceptedLemmas.{fate_beside, lost_alike, lost_ended, mapped, not_lost, some_of, some_of_fate}
+use Rattle.rd_pending.proofs.FateLemmas.{agrees_on, fate_of, is_lost, is_waiting, kept_known, lost, lost_at, lost_device, lost_life, none_awaited, not_lost}
+use Rattle.rd_pending.proofs.MapLemmas.{gone, kept, none_removed, one_shorter, same_or_other}
 use Rattle.rd_pending.proofs.SlotLemmas as slots
-use Rattle.rd_pending.proofs.Sound.{IsTracked, IsWithin, Sound, agrees_same, alike_before, course, heard_none, held, is_open, none_awaited, open_on, outcome_alike, outcome_behind, outcome_open, outcome_quiet}
-use Rattle.rd_pending.proofs.Steps.{course_open, itself, not_open_heard, opens, same_or_other, tracked_same}
+use Rattle.rd_pending.proofs.SlotLemmas.{lost_all, some_of}
+use Rattle.rd_pending.proofs.Sound.{IsSlotOf, IsTracked, IsWithin, Sound, alike_before, course, heard_none, held, is_open, open_on, opens, outcome_behind, outcome_open, outcome_quiet}
+use Rattle.rd_pending.proofs.Steps.{course_open, not_open_heard, still_of, tracked_same}
 
 -- ---- an outcome is handed out
 
 pub takes_sound : (number : ℕ) (h : List Call) → Sound (after h) h → IsOk (take_outcome (after h) number).1 → Sound (after (takes number ∷ h)) (takes number ∷ h)
-takes_sound number h s ok = subst (λ (y : TableState). Sound y (takes number ∷ h)) (sym (effect.new ∙ ap (λ (k : ℕ). with_fate t k taken) effect.numbered)) (record {
-  slots = slots.taken_slots t effect.before effect.request effect.outcome s.slots effect.is effect.fate;
+takes_sound number h s ok = subst (λ (y : TableState). Sound y (takes number ∷ h)) (sym effect.new) (record {
+  slots = slots.taken_slots t number effect.request effect.outcome s.slots effect.is effect.fate;
+  count = s.count;
   below = s.below;
-  fresh = λ c le. let old = s.fresh c le in (same_heard c ∙ old.0, old.1, λ d i. same_pairs c d i ∙ old.2 d i);
+  fresh = λ c le. let old = s.fresh c le in (same_heard c ∙ old.0, old.1, old.2);
   shut = s.shut;
   lives = λ c e. rw (same_heard c) (s.lives c e);
-  balanced = λ c e d i. same_pairs c d i ∙ s.balanced c e d i ∙ ap (λ (k : Course). heard_pairs d i k + held (slot_at t i) d) (sym (course_same c));
+  balanced = λ c e d i. rw (same_heard c) (s.balanced c e d i);
+  of_slot = still_of (takes number) h new s.of_slot refl refl;
   requests = tracked;
 })
   where
@@ -42,77 +44,60 @@ takes_sound number h s ok = subst (λ (y : TableState). Sound y (takes number �
     effect : Takes t number
     effect = effects.takes t number ok
 
-    p : ℕ
-    p = effect.before
-
     new : TableState
-    new = with_fate t (suc p) taken
-
-    alike : AreAlike t.accepted new.accepted
-    alike = fate_alike p taken t.accepted
+    new = record t { untaken = remove_entry (is_at (nat_cmp number)) t.untaken }
 
     same_heard : (c : ℕ) → heard_on c (takes number ∷ h) ≡ heard_on c h
     same_heard c = heard_none (takes number) h c refl
 
-    course_same : (c : ℕ) → course c (takes number ∷ h) ≡ course c h
-    course_same c = rw (same_heard c) refl
-
-    same_pairs : (c d i : ℕ) → pairs c d i new.accepted ≡ pairs c d i t.accepted
-    same_pairs c d i = alike_pairs c d i t.accepted new.accepted alike
-
     within : IsWithin (takes number) h
     within = record { lives = λ c. refl; ended = λ c. refl }
 
-    tracked : (n : ℕ) (a : Accepted) → slice_get new.accepted n ≡ Some a → IsTracked new (takes number ∷ h) n a
-    tracked n a is = elim (same_or_other n p) [
+    tracked : (n : ℕ) (a : Accepted) → slice_get (accepted_in h) n ≡ Some a → IsTracked new (takes number ∷ h) n a
+    tracked n a is = elim (same_or_other (suc n) number) [
       | inl same ↦
-          let old = effect.request in
-          let was = s.requests p old effect.is in
-          let is_new : a ≡ record old { fate = taken } = some_of_fate t.accepted p taken old a effect.is (subst (λ (k : ℕ). slice_get new.accepted k ≡ Some a) same is) in
-          let m_same : alike_before (take p new.accepted) old ≡ alike_before (take p t.accepted) old = alike_pairs old.channel old.device old.id (take p t.accepted) (take p new.accepted) (alike_take p t.accepted new.accepted alike) in
-          let outcome : outcome_behind (alike_before (take p t.accepted) old) old h ≡ Some effect.outcome = subst (λ (f : Fate). Agrees f (outcome_behind (alike_before (take p t.accepted) old) old h)) effect.fate was.agrees in
-          let own : IsTracked new (takes number ∷ h) p (record old { fate = taken }) = record {
+          let was = s.requests n a is in
+          let m : ℕ = alike_before (take n (accepted_in h)) a in
+          let none : untaken_at new (suc n) ≡ None = subst (λ (k : ℕ). untaken_at new k ≡ None) (sym same) (gone number t.untaken s.slots.untaken_rising) in
+          let before : fate_at t (suc n) ≡ Some (known effect.outcome) = ap (option_map fate_of) (subst (λ (k : ℕ). untaken_at t k ≡ Some effect.request) (sym same) effect.is) ∙ ap Some effect.fate in
+          let outcome : outcome_behind m a h ≡ Some effect.outcome = subst (λ (f : Option Fate). Agrees f (outcome_behind m a h)) before was.agrees in
+          let over : awaits new (suc n) ≡ false = ap (λ (o : Option Untaken). is_waiting (option_map fate_of o)) none in
+          record {
             below = was.below;
-            agrees = (effect.outcome, ap (λ (m : ℕ). outcome_behind m old (takes number ∷ h)) m_same ∙ outcome_quiet (takes number) h (alike_before (take p t.accepted) old) old within refl ∙ outcome);
-            alive = λ none. absurd (cc none);
-            last = λ none. absurd (cc none);
-          } in
-          subst (λ (k : ℕ). IsTracked new (takes number ∷ h) k a) (sym same) (subst (IsTracked new (takes number ∷ h) p) (sym is_new) own)
-      | inr other ↦
-          let is_old : slice_get t.accepted n ≡ Some a = sym (fate_beside p n taken t.accepted other) ∙ is in
-          tracked_same (takes number) h new n a a within s (s.requests n a is_old) (itself a) refl refl alike (opens t n a s.slots is_old) (λ none m m_is. refl) ((s.requests n a is_old).alive)
+            agrees = subst (λ (f : Option Fate). Agrees f (outcome_behind m a (takes number ∷ h))) (sym (ap (option_map fate_of) none)) (effect.outcome, outcome_quiet (takes number) h m a within refl ∙ outcome);
+            named = λ u e. absurd (cc (none, e));
+            alive = λ waits. absurd (cc (over, waits));
+            last = λ waits. absurd (cc (over, waits));
+          }
+      | inr other ↦ tracked_same (takes number) h new n a within s is refl refl (kept number (suc n) other t.untaken) (λ none m. refl) (s.requests n a is).alive
     ]
 
 -- ---- the channel ends
 
 pub drops_sound : (c0 : ℕ) (h : List Call) → Sound (after h) h → (after h).channel ≡ Some c0 → Sound (after (drops ∷ h)) (drops ∷ h)
 drops_sound c0 h s is_open_one = record {
-  slots = slots.dropped_slots t;
+  slots = slots.dropped_slots t s.slots;
+  count = s.count;
   below = λ c e. absurd (cc e);
-  fresh = λ c le. let old = s.fresh c le in (same_heard c ∙ old.0, rw (not_open c le, old.1) refl, λ d i. same_pairs c d i ∙ old.2 d i);
+  fresh = λ c le. let old = s.fresh c le in (same_heard c ∙ old.0, rw (not_open c le, old.1) refl, old.2);
   shut = λ c e. absurd (cc e);
   lives = λ c e. absurd (cc e);
   balanced = λ c e. absurd (cc e);
+  of_slot = λ id slot e. absurd (cc e);
   requests = tracked;
 }
   where
     t : TableState
     t = after h
 
-    loses : Accepted → Accepted
-    loses a = lost_where (λ (b : Accepted). true) Dropped a
+    all : Untaken → Bool
+    all u = true
 
     new : TableState
     new = drop_channel t
 
-    alike : AreAlike t.accepted new.accepted
-    alike = losing_alike (λ (b : Accepted). true) Dropped t.accepted
-
     same_heard : (c : ℕ) → heard_on c (drops ∷ h) ≡ heard_on c h
     same_heard c = heard_none drops h c refl
-
-    same_pairs : (c d i : ℕ) → pairs c d i new.accepted ≡ pairs c d i t.accepted
-    same_pairs c d i = alike_pairs c d i t.accepted new.accepted alike
 
     not_open : (c : ℕ) → t.below ≤ c → is_open_on t c ≡ false
     not_open c le = go (is_open_on t c) refl
@@ -135,41 +120,49 @@ drops_sound c0 h s is_open_one = record {
         go None true false e2 = absurd (cc e2)
         go None false w e2 = e2
 
-    lost : (m : ℕ) (a : Accepted) → t.channel ≡ Some a.channel → outcome_behind m a h ≡ None → outcome_behind m a (drops ∷ h) ≡ Some (Lost Dropped)
-    lost m a e none = outcome_now m a ∙ rw (open_on t a.channel e) (go (ended_in a m (course_from (lives_before a.channel h)) (heard_on a.channel h)) (cond (ended_on a.channel h) (Some (Lost Dropped)) None) none)
+    dropped : (m : ℕ) (a : Accepted) → t.channel ≡ Some a.channel → outcome_behind m a h ≡ None → outcome_behind m a (drops ∷ h) ≡ Some (Lost Dropped)
+    dropped m a e none = outcome_now m a ∙ rw (open_on t a.channel e) (go (ended_in a m (course_from (lives_before a.channel h)) (heard_on a.channel h)) (cond (ended_on a.channel h) (Some (Lost Dropped)) None) none)
       where
         go : (x y : Option Outcome) → or_else x y ≡ None → or_else x (Some (Lost Dropped)) ≡ Some (Lost Dropped)
         go None y e2 = refl
         go (Some o) y e2 = absurd (cc e2)
 
-    tracked : (n : ℕ) (b : Accepted) → slice_get new.accepted n ≡ Some b → IsTracked new (drops ∷ h) n b
-    tracked n b is =
-        let found = some_of loses (slice_get t.accepted n) b (sym (mapped loses t.accepted n) ∙ is) in
-        let a = found.0 in
-        let was = s.requests n a found.1 in
-        subst (IsTracked new (drops ∷ h) n) found.2 (record {
-          below = rw (lost_alike (λ (x : Accepted). true) Dropped a).channel was.below;
-          agrees = subst (λ (m : ℕ). Agrees (loses a).fate (outcome_behind m (loses a) (drops ∷ h))) (sym (m_same a))
-              (agrees_same (loses a).fate (outcome_behind (m_of a) a (drops ∷ h)) (outcome_behind (m_of a) (loses a) (drops ∷ h))
-              (outcome_alike a (loses a) (m_of a) (drops ∷ h) (lost_alike (λ (x : Accepted). true) Dropped a)) (fated a a.fate refl was.agrees (opens t n a s.slots found.1)));
-          alive = λ none. absurd (cc (none, lost_ended (λ (x : Accepted). true) Dropped a refl));
-          last = λ none. absurd (cc (none, lost_ended (λ (x : Accepted). true) Dropped a refl));
-        })
+    tracked : (n : ℕ) (a : Accepted) → slice_get (accepted_in h) n ≡ Some a → IsTracked new (drops ∷ h) n a
+    tracked n a is = record {
+      below = was.below;
+      agrees = subst (λ (f : Option Fate). Agrees f (outcome_behind m a (drops ∷ h))) (sym (ap (option_map fate_of) (lost_at all Dropped (suc n) t.untaken))) (go (untaken_at t (suc n)) refl);
+      named = λ u e.
+          let old = some_of (lost all Dropped) (untaken_at t (suc n)) u (sym (lost_at all Dropped (suc n) t.untaken) ∙ e) in
+          let names = was.named old.0 old.1 in
+          (ap (λ (v : Untaken). v.device) (sym old.2) ∙ lost_device all Dropped old.0 ∙ names.0, ap (λ (v : Untaken). v.life) (sym old.2) ∙ lost_life all Dropped old.0 ∙ names.1);
+      alive = λ waits. absurd (cc (slots.none_dropped t (suc n), waits));
+      last = λ waits. absurd (cc (slots.none_dropped t (suc n), waits));
+    }
       where
-        m_of : Accepted → ℕ
-        m_of a = alike_before (take n t.accepted) a
+        was : IsTracked t h n a
+        was = s.requests n a is
 
-        m_same : (a : Accepted) → alike_before (take n new.accepted) (loses a) ≡ m_of a
-        m_same a =
-            let same = lost_alike (λ (x : Accepted). true) Dropped a in
-            rw (same.channel, same.device, same.id) (alike_pairs a.channel a.device a.id (take n t.accepted) (take n new.accepted) (alike_take n t.accepted new.accepted alike))
+        m : ℕ
+        m = alike_before (take n (accepted_in h)) a
 
-        fated : (a : Accepted) (f : Fate) → a.fate ≡ f → Agrees a.fate (outcome_behind (m_of a) a h) → (is_awaited a.fate ≡ true → t.channel ≡ Some a.channel) → Agrees (loses a).fate (outcome_behind (m_of a) a (drops ∷ h))
-        fated a awaited e agrees opened = rw e (lost (m_of a) a (opened (ap is_awaited e)) (none_awaited a.fate (outcome_behind (m_of a) a h) agrees (ap is_awaited e)))
-        fated a (known o) e agrees opened = rw e (stays (m_of a) a o (subst (λ (f : Fate). Agrees f (outcome_behind (m_of a) a h)) e agrees))
-        fated a taken e agrees opened =
-            let o = subst (λ (f : Fate). Agrees f (outcome_behind (m_of a) a h)) e agrees in
-            rw e (o.0, stays (m_of a) a o.0 o.1)
+        go : (o : Option Untaken) → untaken_at t (suc n) ≡ o → Agrees (option_map fate_of (option_map (lost all Dropped) o)) (outcome_behind m a (drops ∷ h))
+        go None e =
+            let agrees = subst (λ (o : Option Untaken). Agrees (option_map fate_of o) (outcome_behind m a h)) e was.agrees in
+            (agrees.0, stays m a agrees.0 agrees.1)
+        go (Some u) e = by (is_awaited u.fate) refl
+          where
+            was_so : fate_at t (suc n) ≡ Some u.fate
+            was_so = ap (option_map fate_of) e
+
+            by : (w : Bool) → is_awaited u.fate ≡ w → Agrees (Some (lost all Dropped u).fate) (outcome_behind m a (drops ∷ h))
+            by true none =
+                let waits : awaits t (suc n) ≡ true = ap is_waiting was_so ∙ none in
+                let ends : outcome_behind m a (drops ∷ h) ≡ Some (Lost Dropped) = dropped m a (opens t h n a s is waits) (none_awaited (fate_at t (suc n)) (outcome_behind m a h) was.agrees waits) in
+                subst (λ (v : Untaken). Agrees (Some v.fate) (outcome_behind m a (drops ∷ h))) (sym (is_lost all Dropped u none refl)) ends
+            by false over =
+                subst (λ (v : Untaken). Agrees (Some v.fate) (outcome_behind m a (drops ∷ h))) (sym (kept_known all Dropped u over))
+                (agrees_on (Some u.fate) (outcome_behind m a h) (outcome_behind m a (drops ∷ h)) (λ x. stays m a x) over
+                (subst (λ (f : Option Fate). Agrees f (outcome_behind m a h)) was_so was.agrees))
 
 -- ---- a device is gone
 
@@ -180,6 +173,7 @@ within_removes d h = record { lives = λ c. refl; ended = λ c. refl }
 absent_sound : (d : ℕ) (h : List Call) → Sound (after h) h → (c0 : ℕ) → (after h).channel ≡ Some c0 → life_of (after h) d ≡ None → Sound (after h) (removes d ∷ h)
 absent_sound d h s c0 is_open_one absent = record {
   slots = s.slots;
+  count = s.count;
   below = s.below;
   fresh = λ c le. let old = s.fresh c le in (not_open_heard (removes d) h s c le ∙ old.0, old.1, old.2);
   shut = s.shut;
@@ -188,8 +182,8 @@ absent_sound d h s c0 is_open_one absent = record {
       let none : lookup (is_at (nat_cmp d)) (course c h).lives ≡ None = ap (λ (es : List (ℕ × ℕ)). lookup (is_at (nat_cmp d)) es) old.0 ∙ absent in
       (ap (λ (k : Course). k.lives) (on_course c e) ∙ none_removed d (course c h).lives none ∙ old.0, ap (λ (k : Course). k.given) (on_course c e) ∙ old.1);
   balanced = λ c e i j. s.balanced c e i j ∙ ap (λ (k : Course). heard_pairs i j k + held (slot_at t j) i) (sym (on_course c e));
-  requests = λ n a is. tracked_same (removes d) h t n a a (within_removes d h) s (s.requests n a is) (itself a) refl refl (alike_same t.accepted) (opens t n a s.slots is)
-      (λ none m m_is. ends_none n a is none m) ((s.requests n a is).alive);
+  of_slot = still_of (removes d) h t s.of_slot refl refl;
+  requests = λ n a is. tracked_same (removes d) h t n a (within_removes d h) s is refl refl refl (λ none m. ends_none n a is none m) (s.requests n a is).alive;
 }
   where
     t : TableState
@@ -198,7 +192,7 @@ absent_sound d h s c0 is_open_one absent = record {
     on_course : (c : ℕ) → t.channel ≡ Some c → course c (removes d ∷ h) ≡ going_on (course c h) (tidings.removes d)
     on_course c e = course_open (removes d) h c (within_removes d h) e
 
-    ends_none : (n : ℕ) (a : Accepted) → slice_get t.accepted n ≡ Some a → is_awaited a.fate ≡ true → (m : ℕ) → ended_in a m (course a.channel h) (tidings.removes d ∷ []) ≡ None
+    ends_none : (n : ℕ) (a : Accepted) → slice_get (accepted_in h) n ≡ Some a → awaits t (suc n) ≡ true → (m : ℕ) → ended_in a m (course a.channel h) (tidings.removes d ∷ []) ≡ None
     ends_none n a is none m =
         let other : (d == a.device) ≡ false = ne_eqb d a.device (λ same. cc (subst (λ (x : ℕ). life_of t x ≡ None) same absent, (s.requests n a is).alive none)) in
         rw other refl
@@ -207,35 +201,31 @@ absent_sound d h s c0 is_open_one absent = record {
 gone_sound : (d : ℕ) (h : List Call) → Sound (after h) h → (c0 : ℕ) → (after h).channel ≡ Some c0 → (effect : Removes (after h) d) → Sound (after (removes d ∷ h)) (removes d ∷ h)
 gone_sound d h s c0 is_open_one effect = subst (λ (y : TableState). Sound y (removes d ∷ h)) (sym effect.new) (record {
   slots = slots.removed_slots t d (remove_entry (is_at (nat_cmp d)) t.lives) s.slots few (λ shut. absurd (cc (shut, is_open_one)));
+  count = s.count;
   below = s.below;
-  fresh = λ c le. let old = s.fresh c le in (not_open_heard (removes d) h s c le ∙ old.0, old.1, λ i j. same_pairs c i j ∙ old.2 i j);
+  fresh = λ c le. let old = s.fresh c le in (not_open_heard (removes d) h s c le ∙ old.0, old.1, old.2);
   shut = s.shut;
   lives = λ c e.
       let old = s.lives c e in
       (ap (λ (k : Course). k.lives) (on_course c e) ∙ ap (λ (es : List (ℕ × ℕ)). remove_entry (is_at (nat_cmp d)) es) old.0, ap (λ (k : Course). k.given) (on_course c e) ∙ old.1);
   balanced = λ c e i j.
-      same_pairs c i j ∙ s.balanced c e i j ∙ ap (λ (k : Course). heard_pairs i j k + held (slot_at t j) i) (sym (on_course c e))
+      s.balanced c e i j ∙ ap (λ (k : Course). heard_pairs i j k + held (slot_at t j) i) (sym (on_course c e))
       ∙ ap (λ (n : ℕ). heard_pairs i j (course c (removes d ∷ h)) + n) (sym (same_held i j));
+  of_slot = placed;
   requests = tracked;
 })
   where
     t : TableState
     t = after h
 
-    loses : Accepted → Accepted
-    loses a = lost_where (λ (b : Accepted). b.device == d) Removed a
+    test : Untaken → Bool
+    test u = u.device == d
 
     new : TableState
-    new = record t { lives = remove_entry (is_at (nat_cmp d)) t.lives; slots = map (dead_of d) t.slots; accepted = losing (λ (b : Accepted). b.device == d) Removed t.accepted }
+    new = record t { lives = remove_entry (is_at (nat_cmp d)) t.lives; slots = map (dead_of d) t.slots; untaken = losing (λ (u : Untaken). u.device == d) Removed t.untaken }
 
     few : length (remove_entry (is_at (nat_cmp d)) t.lives) ≤ max_devices
     few = omega (arith, one_shorter (is_at (nat_cmp d)) t.lives, s.slots.few_lives)
-
-    alike : AreAlike t.accepted new.accepted
-    alike = losing_alike (λ (b : Accepted). b.device == d) Removed t.accepted
-
-    same_pairs : (c i j : ℕ) → pairs c i j new.accepted ≡ pairs c i j t.accepted
-    same_pairs c i j = alike_pairs c i j t.accepted new.accepted alike
 
     on_course : (c : ℕ) → t.channel ≡ Some c → course c (removes d ∷ h) ≡ going_on (course c h) (tidings.removes d)
     on_course c e = course_open (removes d) h c (within_removes d h) e
@@ -254,48 +244,62 @@ gone_sound d h s c0 is_open_one effect = subst (λ (y : TableState). Sound y (re
             by true = refl
             by false = refl
 
-    tracked : (n : ℕ) (b : Accepted) → slice_get new.accepted n ≡ Some b → IsTracked new (removes d ∷ h) n b
-    tracked n b is =
-        let found = some_of loses (slice_get t.accepted n) b (sym (mapped loses t.accepted n) ∙ is) in
-        subst (IsTracked new (removes d ∷ h) n) found.2 (by_device found.0 found.1 (found.0.device == d) refl)
+    placed : (id : ℕ) (slot : Slot) → slot_at new id ≡ Some slot → IsSlotOf new (removes d ∷ h) id slot
+    placed id slot e =
+        let (x, found, is) = some_of marked (slot_at t id) slot (sym (lookup-map_values marked (is_at (nat_cmp id)) t.slots) ∙ e) in
+        subst (IsSlotOf new (removes d ∷ h) id) is (go x (s.of_slot id x found) (x.device == d))
       where
-        -- a request of another device
-        by_device : (a : Accepted) → slice_get t.accepted n ≡ Some a → (q : Bool) → (a.device == d) ≡ q → IsTracked new (removes d ∷ h) n (loses a)
-        by_device a at false other = subst (IsTracked new (removes d ∷ h) n) (sym (not_lost (λ (x : Accepted). x.device == d) Removed a other))
-            (tracked_same (removes d) h new n a a (within_removes d h) s (s.requests n a at) (itself a) refl refl alike (opens t n a s.slots at)
-            (λ none m m_is. rw (ne_eqb d a.device (λ same. cc (eq-eqb a.device d (sym same), other))) refl)
-            (λ none. kept d a.device (λ same. cc (eq-eqb a.device d same, other)) t.lives ∙ (s.requests n a at).alive none))
-        by_device a at true same = by_fate (is_awaited a.fate) refl
+        go : (x : Slot) → IsSlotOf t h id x → (b : Bool) → IsSlotOf new (removes d ∷ h) id (cond b (record x { dead = true }) x)
+        go x old true = record { before = old.before; numbered = old.numbered; request = old.request; is = old.is; channel = old.channel; device = old.device; own_id = old.own_id; kind = old.kind }
+        go x old false = record { before = old.before; numbered = old.numbered; request = old.request; is = old.is; channel = old.channel; device = old.device; own_id = old.own_id; kind = old.kind }
+
+    tracked : (n : ℕ) (a : Accepted) → slice_get (accepted_in h) n ≡ Some a → IsTracked new (removes d ∷ h) n a
+    tracked n a at = go (untaken_at t (suc n)) refl
+      where
+        was : IsTracked t h n a
+        was = s.requests n a at
+
+        m : ℕ
+        m = alike_before (take n (accepted_in h)) a
+
+        now : (o : Option Untaken) → untaken_at t (suc n) ≡ o → untaken_at new (suc n) ≡ option_map (lost test Removed) o
+        now o e = lost_at test Removed (suc n) t.untaken ∙ ap (option_map (lost test Removed)) e
+
+        -- what isn't lost
+        same : (o : Option Untaken) → untaken_at t (suc n) ≡ o → option_map (lost test Removed) o ≡ o → (awaits t (suc n) ≡ true → ¬ (a.device ≡ d)) → IsTracked new (removes d ∷ h) n a
+        same o e stays other = tracked_same (removes d) h new n a (within_removes d h) s at refl refl (now o e ∙ stays ∙ sym e)
+            (λ none k. rw (ne_eqb d a.device (λ here. other none (sym here))) refl)
+            (λ none. kept d a.device (other none) t.lives ∙ was.alive none)
+
+        go : (o : Option Untaken) → untaken_at t (suc n) ≡ o → IsTracked new (removes d ∷ h) n a
+        go None e = same None e refl (λ none. absurd (cc (ap (λ (o : Option Untaken). is_waiting (option_map fate_of o)) e, none)))
+        go (Some u) e = by (is_awaited u.fate) refl (u.device == d) refl
           where
-            m : ℕ
-            m = alike_before (take n t.accepted) a
+            waits_as : awaits t (suc n) ≡ is_awaited u.fate
+            waits_as = ap (λ (o : Option Untaken). is_waiting (option_map fate_of o)) e
 
-            m_same : alike_before (take n new.accepted) a ≡ m
-            m_same = alike_pairs a.channel a.device a.id (take n t.accepted) (take n new.accepted) (alike_take n t.accepted new.accepted alike)
-
-            by_fate : (w : Bool) → is_awaited a.fate ≡ w → IsTracked new (removes d ∷ h) n (loses a)
-            by_fate true none =
-                let was = s.requests n a at in
-                let opened : t.channel ≡ Some a.channel = opens t n a s.slots at none in
-                let live : lookup (is_at (nat_cmp a.device)) (course a.channel h).lives ≡ Some a.life = ap (λ (es : List (ℕ × ℕ)). lookup (is_at (nat_cmp a.device)) es) (s.lives a.channel opened).0 ∙ was.alive none in
-                let d_is : (d == a.device) ≡ true = eq-eqb d a.device (sym (eqb-true a.device d same)) in
-                let here : is_in_life (course a.channel h) a ≡ true = rw live (eq-eqb a.life a.life refl) in
-                let is_lost : loses a ≡ record a { fate = known (Lost Removed) } = rw (none, same) refl in
+            by : (w : Bool) → is_awaited u.fate ≡ w → (q : Bool) → (u.device == d) ≡ q → IsTracked new (removes d ∷ h) n a
+            by false over q e2 = same (Some u) e (ap Some (kept_known test Removed u over)) (λ none. absurd (cc (waits_as, over, none)))
+            by true none false other = same (Some u) e (ap Some (not_lost test Removed u other)) (λ waits here. cc (eq-eqb u.device d ((was.named u e).0 ∙ here), other))
+            by true none true here =
+                let waits : awaits t (suc n) ≡ true = waits_as ∙ none in
+                let opened : t.channel ≡ Some a.channel = opens t h n a s at waits in
+                let live : lookup (is_at (nat_cmp a.device)) (course a.channel h).lives ≡ Some a.life = ap (λ (es : List (ℕ × ℕ)). lookup (is_at (nat_cmp a.device)) es) (s.lives a.channel opened).0 ∙ was.alive waits in
+                let d_is : (d == a.device) ≡ true = eq-eqb d a.device (sym (eqb-true u.device d here) ∙ (was.named u e).0) in
+                let in_life : is_in_life (course a.channel h) a ≡ true = rw live (eq-eqb a.life a.life refl) in
+                let gone_one : untaken_at new (suc n) ≡ Some (record u { fate = known (Lost Removed) }) = now (Some u) e ∙ ap Some (is_lost test Removed u none here) in
                 let ends : outcome_behind m a (removes d ∷ h) ≡ Some (Lost Removed) =
                 outcome_open (removes d) h m a (within_removes d h) opened (s.shut a.channel opened)
-                ∙ ap (λ (o : Option Outcome). or_else o (ended_in a m (course a.channel h) (tidings.removes d ∷ []))) (none_awaited a.fate (outcome_behind m a h) was.agrees none)
-                ∙ rw (d_is, here) refl in
-                subst (IsTracked new (removes d ∷ h) n) (sym is_lost) (record {
+                ∙ ap (λ (o : Option Outcome). or_else o (ended_in a m (course a.channel h) (tidings.removes d ∷ []))) (none_awaited (fate_at t (suc n)) (outcome_behind m a h) was.agrees waits)
+                ∙ rw (d_is, in_life) refl in
+                let over : awaits new (suc n) ≡ false = ap (λ (o : Option Untaken). is_waiting (option_map fate_of o)) gone_one in
+                record {
                   below = was.below;
-                  agrees = ap (λ (k : ℕ). outcome_behind k a (removes d ∷ h)) m_same ∙ ends;
-                  alive = λ over. absurd (cc over);
-                  last = λ over. absurd (cc over);
-                })
-            by_fate false over =
-                let same_one : loses a ≡ a = rw over refl in
-                subst (IsTracked new (removes d ∷ h) n) (sym same_one)
-                (tracked_same (removes d) h new n a a (within_removes d h) s (s.requests n a at) (itself a) refl refl alike (opens t n a s.slots at)
-                (λ none. absurd (cc (none, over))) (λ none. absurd (cc (none, over))))
+                  agrees = subst (λ (f : Option Fate). Agrees f (outcome_behind m a (removes d ∷ h))) (sym (ap (option_map fate_of) gone_one)) ends;
+                  named = λ v e2. let is : record u { fate = known (Lost Removed) } ≡ v = cc (gone_one, e2) in (ap (λ (x : Untaken). x.device) (sym is) ∙ (was.named u e).0, ap (λ (x : Untaken). x.life) (sym is) ∙ (was.named u e).1);
+                  alive = λ still. absurd (cc (over, still));
+                  last = λ still. absurd (cc (over, still));
+                }
 
 pub removes_sound : (d : ℕ) (h : List Call) → Sound (after h) h → (c0 : ℕ) → (after h).channel ≡ Some c0 → Sound (after (removes d ∷ h)) (removes d ∷ h)
 removes_sound d h s c0 is_open_one = elim (effects.removes (after h) d) [

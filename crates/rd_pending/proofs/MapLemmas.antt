@@ -1,14 +1,17 @@
 -- A map with numbers as keys, looked up behind an insertion, a removal, and a change of its values.
-use Rattle.std.proofs.Common.{◌≡◌, ◌≢◌, ◌∙◌, refl, sym, ap, ℕ, ◌+◌, ◌<◌, ◌≤◌, ◌==◌, Bool, true, false, cond, List, [], ◌∷◌, length, suc, Some, None, Option, arith, eq-eqb, eqb-true}
+use Rattle.std.proofs.Common.{◌≡◌, ◌≢◌, ◌⊎◌, ◌∙◌, refl, sym, ap, ℕ, ◌+◌, ◌<◌, ◌≤◌, ◌==◌, Bool, true, false, cond, List, [], ◌∷◌, length, suc, Some, None, Option, arith, eq-eqb, eqb-true}
 use Rattle.std.specs.List.{AllByRecursion}
 use Rattle.std.specs.List.Sorted.{IsStrictlySortedBy}
 use Rattle.std.specs.Ordering.{nat_cmp, is_eq, match_ordering}
 use Rattle.std.specs.declared.cmp.Ordering.{Ordering}
 use Rattle.std.specs.declared.cmp.Ordering.TheVariants.{Less, Equal, Greater}
-use Rattle.std.specs.Map.{keys_of, lookup, remove_entry}
+use Rattle.std.specs.Map.{keys_of, lookup, remove_entry, set_value}
 use Rattle.std.specs.BTreeMap.{insert_entry, is_at}
 use Rattle.std.proofs.lemmas.Bool.Decides.{nat_tests}
 use Rattle.rd_pending.specs.Table.{free_from}
+
+pub same_or_other : (a b : ℕ) → (a ≡ b) ⊎ (a ≢ b)
+same_or_other a b = grind arith
 
 pub itself : (k : ℕ) → is_at (nat_cmp k) k ≡ true
 itself k = grind (arith, nat_tests)
@@ -127,6 +130,35 @@ none_removed {X} k (e ∷ es) none = by (none_removed k es) (is_at (nat_cmp k) e
         → cond b (Some e.1) (lookup (is_at (nat_cmp k)) es) ≡ None → cond b es (e ∷ remove_entry (is_at (nat_cmp k)) es) ≡ e ∷ es
     by later true here none = absurd (cc none)
     by later false here none = ap (λ (rest : List (ℕ × X)). e ∷ rest) (later none)
+
+-- ---- another value
+
+pub set_here : {X : Type 0} (k : ℕ) (w x : X) (es : List (ℕ × X)) → lookup (is_at (nat_cmp k)) es ≡ Some x → lookup (is_at (nat_cmp k)) (set_value (is_at (nat_cmp k)) es w) ≡ Some w
+set_here k w x [] there = absurd (cc)
+set_here {X} k w x (e ∷ es) there = by (set_here k w x es) (is_at (nat_cmp k) e.0) refl there
+  where
+    at : List (ℕ × X) → Option X
+    at l = lookup (is_at (nat_cmp k)) l
+
+    by : (at es ≡ Some x → at (set_value (is_at (nat_cmp k)) es w) ≡ Some w) → (b : Bool) → is_at (nat_cmp k) e.0 ≡ b → cond b (Some e.1) (at es) ≡ Some x
+        → at (cond b ((e.0, w) ∷ es) (e ∷ set_value (is_at (nat_cmp k)) es w)) ≡ Some w
+    by later true here there = rw here refl
+    by later false here there = rw here (later there)
+
+pub set_beside : {X : Type 0} (k j : ℕ) (w : X) → j ≢ k → (es : List (ℕ × X)) → lookup (is_at (nat_cmp j)) (set_value (is_at (nat_cmp k)) es w) ≡ lookup (is_at (nat_cmp j)) es
+set_beside k j w other [] = refl
+set_beside {X} k j w other (e ∷ es) = by (set_beside k j w other es) (is_at (nat_cmp k) e.0) refl
+  where
+    at : List (ℕ × X) → Option X
+    at l = lookup (is_at (nat_cmp j)) l
+
+    by : at (set_value (is_at (nat_cmp k)) es w) ≡ at es → (b : Bool) → is_at (nat_cmp k) e.0 ≡ b
+        → at (cond b ((e.0, w) ∷ es) (e ∷ set_value (is_at (nat_cmp k)) es w)) ≡ cond (is_at (nat_cmp j) e.0) (Some e.1) (at es)
+    by later true here =
+        let same : k ≡ e.0 = same_key k e.0 here in
+        let elsewhere : is_at (nat_cmp j) e.0 ≡ false = apart j e.0 (λ there. other (there ∙ sym same)) in
+        rw elsewhere refl
+    by later false here = ap (λ (o : Option X). cond (is_at (nat_cmp j) e.0) (Some e.1) o) later
 
 -- ---- the keys stay in order
 

@@ -1,5 +1,5 @@
 -- Calls that neither begin nor end a channel.
-use Rattle.std.proofs.Common.{◌≡◌, ◌∙◌, refl, sym, ap, inl, inr, ℕ, zero, suc, ◌==◌, Bool, true, false, cond, List, [], ◌∷◌, ◌++◌, Some, None, Option, append_assoc, append-nil}
+use Rattle.std.proofs.Common.{◌≡◌, ◌∙◌, refl, sym, ap, inl, inr, ℕ, ◌==◌, Bool, true, false, cond, List, [], ◌∷◌, ◌++◌, Some, None, Option, append_assoc, append-nil}
 use Rattle.std.specs.Prelude.{Result, Ok, Err}
 use Rattle.std.specs.Option.{option_map_or}
 use Rattle.rd_base.specs.declared.bad.Bad.{Bad}
@@ -16,7 +16,7 @@ use Rattle.rd_pending.specs.History as call
 use Rattle.rd_pending.specs.History.{Call, Holds, after, called, ended_on, heard_by, heard_on, is_open_on, lives_before}
 use Rattle.rd_pending.specs.Outcomes.{Tidings}
 use Rattle.rd_pending.specs.Table as table
-use Rattle.rd_pending.specs.Table.{Accepted, Fate, Slot, TableState, accepted_at, awaited, freed, known, live_refusal, slot_at, submit_refusal, taken, with_fate}
+use Rattle.rd_pending.specs.Table.{Fate, Slot, TableState, Untaken, awaited, freed, known, live_refusal, slot_at, submit_refusal, untaken_at, with_fate}
 use Rattle.rd_pending.proofs.Effects as effects
 
 abbrev pub IsNeutral : Call → Type 0
@@ -35,8 +35,11 @@ neutral_more (x ∷ xs) ys all others = (all.0, neutral_more xs ys all.1 others)
 -- ---- the channel stays
 
 fate_channel : (t : TableState) (n : ℕ) (f : Fate) → (with_fate t n f).channel ≡ t.channel
-fate_channel t zero f = refl
-fate_channel t (suc n) f = refl
+fate_channel t n f = go (untaken_at t n) refl
+  where
+    go : (o : Option Untaken) → untaken_at t n ≡ o → (with_fate t n f).channel ≡ t.channel
+    go None e = rw e refl
+    go (Some u) e = rw e refl
 
 live_channel : (t : TableState) (d : ℕ) → ((table.live t d).0).channel ≡ t.channel
 live_channel t d = go (live_refusal t d) refl
@@ -53,16 +56,15 @@ submit_channel t x named o = go (submit_refusal t named) refl
     go (Some cause) e = rw e refl
 
 take_channel : (t : TableState) (n : ℕ) → ((table.take t n).0).channel ≡ t.channel
-take_channel t n = go (accepted_at t n) refl
+take_channel t n = go (untaken_at t n) refl
   where
-    by_fate : (a : Accepted) → accepted_at t n ≡ Some a → (f : Fate) → a.fate ≡ f → ((table.take t n).0).channel ≡ t.channel
-    by_fate a e awaited e2 = rw (e, e2) refl
-    by_fate a e (known o) e2 = rw (e, e2) (fate_channel t n taken)
-    by_fate a e taken e2 = rw (e, e2) refl
+    by_fate : (u : Untaken) → untaken_at t n ≡ Some u → (f : Fate) → u.fate ≡ f → ((table.take t n).0).channel ≡ t.channel
+    by_fate u e awaited e2 = rw (e, e2) refl
+    by_fate u e (known o) e2 = rw (e, e2) refl
 
-    go : (o : Option Accepted) → accepted_at t n ≡ o → ((table.take t n).0).channel ≡ t.channel
+    go : (o : Option Untaken) → untaken_at t n ≡ o → ((table.take t n).0).channel ≡ t.channel
     go None e = rw e refl
-    go (Some a) e = by_fate a e a.fate refl
+    go (Some u) e = by_fate u e u.fate refl
 
 complete_channel : (t : TableState) (head : Head) (bytes : List ℕ) → ((table.complete t head bytes).0).channel ≡ t.channel
 complete_channel t head bytes = go (slot_at t head.completion) refl

@@ -1,240 +1,298 @@
 -- What always holds of a table's slots goes on at each call.
-use Rattle.std.proofs.Common.{◌≡◌, ◌≢◌, ◌⊎◌, ◌∙◌, refl, sym, ap, subst, inl, inr, ℕ, zero, suc, ◌<◌, ◌≤◌, ◌==◌, ◌&&◌, Bool, true, false, cond, List, [], ◌∷◌, length, map, Some, None, Option, arith}
-use Rattle.std.specs.Prelude.{slice_get}
+use Rattle.std.proofs.Common.{◌≡◌, ◌≢◌, ◌⊎◌, ◌∙◌, refl, sym, ap, subst, inl, inr, ℕ, suc, ◌<◌, ◌≤◌, ◌==◌, Bool, true, false, cond, List, [], length, map, Some, None, Option, arith}
+use Rattle.std.specs.Prelude.{All}
 use Rattle.std.specs.Option.{option_map, unwrap_or}
 use Rattle.std.specs.Ordering.{nat_cmp}
 use Rattle.std.specs.List.Sorted.{IsStrictlySortedBy}
-use Rattle.std.specs.Map.{keys_of, lookup, remove_entry}
-use Rattle.std.specs.BTreeMap.{insert_entry, is_at}
-use Rattle.std.proofs.lemmas.Map.Made.{lookup-map_values}
+use Rattle.std.specs.Map.{keys_of, lookup, remove_entry, set_value}
+use Rattle.std.specs.BTreeMap.{is_at}
+use Rattle.std.proofs.lemmas.List.Elements.{All-nil, All-push}
+use Rattle.std.proofs.lemmas.Map.{keys-set_value}
+use Rattle.std.proofs.lemmas.Map.Made.{keys_of-map_values, lookup-map_values}
+use Rattle.rd_base.specs.declared.journal.Cause.{Cause}
 use Rattle.rd_base.specs.declared.journal.Cause.TheVariants.{Removed, Dropped}
+use Rattle.rd_chunk.specs.Carrier.{IsMessage}
 use Rattle.rd_irp.specs.declared.op.Op.{Op}
-use Rattle.rd_irp.specs.Fits.{kind_of}
+use Rattle.rd_irp.specs.Fits.{kind_of, Fits}
 use Rattle.rd_pending.specs.declared.calls.Outcome.{Outcome}
 use Rattle.rd_pending.specs.declared.calls.Outcome.TheVariants.{Done, Lost}
 use Rattle.rd_pending.specs.declared.calls.Target.{Target}
-use Rattle.rd_pending.specs.Table.{Accepted, AreSlots, Fate, IsSlotOf, Slot, TableState, accept, accepted_at, awaited, dead_of, device_in, drop_channel, freed, is_awaited, known, losing, lost_where, mark_of, max_devices, max_slots, next_id, slot_at, taken, with_fate, with_fate_behind}
-use Rattle.rd_pending.proofs.MapLemmas.{beside, gone, inserted, kept, rises_with, rises_without}
-use Rattle.rd_pending.proofs.AcceptedLemmas.{at_number, fate_beside, fate_here, got_before, got_cases, got_last, lost_alike, lost_ended, mapped, same_or_other, some_of, still_awaited, with_fate_of}
+use Rattle.rd_pending.specs.Table.{AreSlots, Fate, HasSlot, IsSlotIn, Slot, TableState, Untaken, accept, awaited, awaits, dead_of, device_in, drop_channel, fate_at, file_in, freed, is_awaited, known, life_of, losing, mark_of, max_devices, max_slots, next_id, slot_at, untaken_at}
+use Rattle.rd_pending.proofs.FateLemmas.{fate_of, is_waiting, kept_known, lost, lost_at, lost_keys, still_awaited}
+use Rattle.rd_pending.proofs.MapLemmas.{beside, gone, inserted, kept, rises_with, rises_without, same_or_other, set_beside, set_here}
+use Rattle.rd_pending.proofs.MessageLemmas.{request_message}
+
+-- ---- what is there
+
+pub some_of : {A B : Type 0} (f : A → B) (o : Option A) (y : B) → option_map f o ≡ Some y → (x : A) × (o ≡ Some x) × (f x ≡ y)
+some_of f None y e = absurd (cc)
+some_of f (Some x) y e = let same : f x ≡ y = cc in (x, refl, same)
+
+-- a slot of a number that is awaited has its device
+pub own_device : (t : TableState) (id : ℕ) (x : Slot) (u : Untaken) → AreSlots t → slot_at t id ≡ Some x → untaken_at t x.number ≡ Some u → is_awaited u.fate ≡ true → x.device ≡ u.device
+own_device t id x u s held is none =
+    let its = s.of_awaited x.number u is none in
+    let slot : Slot = record { number = x.number; device = u.device; kind = its.kind; dead = false } in
+    let here : id ≡ its.id = s.apart id its.id x slot held its.held refl in
+    let same : x ≡ slot = cc (subst (λ (k : ℕ). slot_at t k ≡ Some x) here held, its.held) in
+    ap (λ (y : Slot). y.device) same
 
 -- ---- each call
 
--- what moves neither slots nor requests
-pub same_slots : (t new : TableState) → AreSlots t → new.slots ≡ t.slots → new.accepted ≡ t.accepted
-    → ((number : ℕ) (a : Accepted) → accepted_at t number ≡ Some a → is_awaited a.fate ≡ true → new.channel ≡ Some a.channel)
-    → length new.lives ≤ max_devices → (new.channel ≡ None → (new.slots ≡ []) × (new.lives ≡ []) × (new.outbox ≡ [])) → AreSlots new
-same_slots t new s slots accepted is_open few closed = record {
+-- what moves neither slots nor what waits
+pub same_slots : (t new : TableState) → AreSlots t → new.slots ≡ t.slots → new.untaken ≡ t.untaken → new.count ≡ t.count → length new.lives ≤ max_devices → All IsMessage new.outbox
+    → (new.channel ≡ None → (new.slots ≡ []) × (new.lives ≡ []) × (new.outbox ≡ []) × ((number : ℕ) → awaits new number ≡ false)) → AreSlots new
+same_slots t new s slots untaken count few messages closed = record {
   rising = subst (λ (es : List (ℕ × Slot)). IsStrictlySortedBy nat_cmp (keys_of es)) (sym slots) s.rising;
+  untaken_rising = subst (λ (es : List (ℕ × Untaken)). IsStrictlySortedBy nat_cmp (keys_of es)) (sym untaken) s.untaken_rising;
   few_lives = few;
-  of_request = λ id slot e.
-      let old = s.of_request id slot (at_slot id ∙ e) in
-      record { low = old.low; request = old.request; is = at_request slot.number ∙ old.is; device = old.device; own_id = old.own_id; kind = old.kind; mark = old.mark };
-  of_awaited = λ number a e none.
-      let e2 = sym (at_request number) ∙ e in
-      (is_open number a e2 none, sym (at_slot a.id) ∙ (s.of_awaited number a e2 none).1);
+  of_slot = λ id slot e.
+      let old = s.of_slot id slot (at_slot id ∙ e) in
+      record { low = old.low; given = (old.given.0, subst (λ (n : ℕ). slot.number ≤ n) (sym count) old.given.1); mark = ap (λ (o : Option Untaken). mark_of (option_map fate_of o)) (at_number slot.number) ∙ old.mark };
+  apart = λ i j x y e e2. s.apart i j x y (at_slot i ∙ e) (at_slot j ∙ e2);
+  numbers = λ n u e. let old = s.numbers n u (sym (at_number n) ∙ e) in (old.0, subst (λ (k : ℕ). n ≤ k) (sym count) old.1);
+  of_awaited = λ n u e none. let old = s.of_awaited n u (sym (at_number n) ∙ e) none in record { id = old.id; kind = old.kind; held = sym (at_slot old.id) ∙ old.held };
+  messages = messages;
   closed = closed;
 }
   where
     at_slot : (id : ℕ) → slot_at t id ≡ slot_at new id
     at_slot id = ap (λ (es : List (ℕ × Slot)). lookup (is_at (nat_cmp id)) es) (sym slots)
 
-    at_request : (number : ℕ) → accepted_at new number ≡ accepted_at t number
-    at_request zero = refl
-    at_request (suc n) = ap (λ (xs : List Accepted). slice_get xs n) accepted
+    at_number : (n : ℕ) → untaken_at new n ≡ untaken_at t n
+    at_number n = ap (λ (es : List (ℕ × Untaken)). lookup (is_at (nat_cmp n)) es) untaken
+
+-- a number that wasn't given isn't there
+pub none_given : (t : TableState) (n : ℕ) → AreSlots t → t.count < n → untaken_at t n ≡ None
+none_given t n s above = go (untaken_at t n) refl
+  where
+    go : (o : Option Untaken) → untaken_at t n ≡ o → o ≡ None
+    go None e = refl
+    go (Some u) e = absurd (omega (arith, above, (s.numbers n u e).1))
 
 -- a request is accepted
-pub accepted_slots : (t : TableState) (application : ℕ) (named : Target) (o : Op) (c : ℕ) → AreSlots t → t.channel ≡ Some c
-    → lookup (is_at (nat_cmp (next_id t))) t.slots ≡ None → next_id t < max_slots → AreSlots (accept t application named o)
-accepted_slots t application named o c s is_open is_free low = record {
+pub accepted_slots : (t : TableState) (named : Target) (o : Op) (c : ℕ) → AreSlots t → Fits o → t.channel ≡ Some c
+    → lookup (is_at (nat_cmp (next_id t))) t.slots ≡ None → next_id t < max_slots → AreSlots (accept t named o)
+accepted_slots t named o c s fits is_open is_free low = record {
   rising = rises_with id slot t.slots s.rising;
+  untaken_rising = rises_with number own t.untaken s.untaken_rising;
   few_lives = s.few_lives;
+  of_slot = λ j x e. placed j x e (same_or_other j id);
+  apart = λ i j x y e e2 same. one_each i j x y e e2 same (same_or_other i id) (same_or_other j id);
+  numbers = λ n u e. given n u e (same_or_other n number);
+  of_awaited = λ n u e none. waited n u e none (same_or_other n number);
+  messages = All-push IsMessage t.outbox _ s.messages (request_message (record { device = device_in named; file = file_in named; completion = id; op = o }) fits);
   closed = λ shut. absurd (cc (shut, is_open));
-  of_request = λ j x e. requested j x e (same_or_other j id);
-  of_awaited = waited;
 }
   where
     id : ℕ
     id = next_id t
 
+    number : ℕ
+    number = suc t.count
+
     slot : Slot
-    slot = record { number = suc (length t.accepted); device = device_in named; kind = kind_of o; dead = false }
+    slot = record { number = number; device = device_in named; kind = kind_of o; dead = false }
+
+    own : Untaken
+    own = record { device = device_in named; life = unwrap_or (life_of t (device_in named)) 0; fate = awaited }
 
     new : TableState
-    new = accept t application named o
+    new = accept t named o
 
-    own : Accepted
-    own = record {
-      application = application;
-      channel = unwrap_or t.channel 0;
-      index = t.asked;
-      device = device_in named;
-      life = unwrap_or (lookup (is_at (nat_cmp (device_in named))) t.lives) 0;
-      id = id;
-      kind = kind_of o;
-      fate = awaited;
-    }
+    at_else : (n : ℕ) → n ≢ number → untaken_at new n ≡ untaken_at t n
+    at_else n other = beside number own n other t.untaken
 
-    still : (x : Slot) (a : Accepted) (number : ℕ) → accepted_at t number ≡ Some a → accepted_at new number ≡ Some a
-    still x a zero e = absurd (cc)
-    still x a (suc n) e = got_before t.accepted (own ∷ []) n a e
+    at_own : untaken_at new number ≡ Some own
+    at_own = inserted number own t.untaken
 
-    requested : (j : ℕ) (x : Slot) → slot_at new j ≡ Some x → (j ≡ id) ⊎ (j ≢ id) → IsSlotOf new j x
-    requested j x e (inl same) =
-        let here : lookup (is_at (nat_cmp j)) (insert_entry nat_cmp t.slots id slot) ≡ Some slot = subst (λ (k : ℕ). lookup (is_at (nat_cmp k)) (insert_entry nat_cmp t.slots id slot) ≡ Some slot) (sym same) (inserted id slot t.slots) in
-        let is : slot ≡ x = cc (here, e) in
-        subst (IsSlotOf new j) is (record { low = subst (λ (k : ℕ). k < max_slots) (sym same) low; request = own; is = got_last t.accepted own; device = refl; own_id = sym same; kind = refl; mark = refl })
-    requested j x e (inr other) =
-        let old = s.of_request j x (sym (beside id slot j other t.slots) ∙ e) in
-        record { low = old.low; request = old.request; is = still x old.request x.number old.is; device = old.device; own_id = old.own_id; kind = old.kind; mark = old.mark }
+    slot_own : slot_at new id ≡ Some slot
+    slot_own = inserted id slot t.slots
 
-    live_slot : ℕ → Accepted → Slot
-    live_slot number a = record { number = number; device = a.device; kind = a.kind; dead = false }
+    slot_else : (j : ℕ) → j ≢ id → slot_at new j ≡ slot_at t j
+    slot_else j other = beside id slot j other t.slots
 
-    waited : (number : ℕ) (a : Accepted) → accepted_at new number ≡ Some a → is_awaited a.fate ≡ true → (t.channel ≡ Some a.channel) × (slot_at new a.id ≡ Some (live_slot number a))
-    waited zero a e none = absurd (cc)
-    waited (suc n) a e none = elim (got_cases t.accepted n own a e) [
-      | inl old ↦
-          let was = s.of_awaited (suc n) a old none in
-          let other : a.id ≢ id = λ same. cc (subst (λ (k : ℕ). lookup (is_at (nat_cmp k)) t.slots ≡ Some (live_slot (suc n) a)) same was.1, is_free) in
-          (was.0, beside id slot a.id other t.slots ∙ was.1)
-      | inr (last, same) ↦
-          subst (λ (b : Accepted). (t.channel ≡ Some b.channel) × (slot_at new b.id ≡ Some (live_slot (suc n) b))) (sym same)
-          (is_open ∙ ap (λ (x : Option ℕ). Some (unwrap_or x 0)) (sym is_open), inserted id slot t.slots ∙ ap (λ (k : ℕ). Some (live_slot (suc k) own)) (sym last))
-    ]
+    here : (j : ℕ) (x : Slot) → slot_at new j ≡ Some x → j ≡ id → slot ≡ x
+    here j x e same = let at : slot_at new j ≡ Some slot = subst (λ (k : ℕ). slot_at new k ≡ Some slot) (sym same) slot_own in cc (at, e)
 
--- a slot becomes free, whose request has an outcome
+    placed : (j : ℕ) (x : Slot) → slot_at new j ≡ Some x → (j ≡ id) ⊎ (j ≢ id) → IsSlotIn new j x
+    placed j x e (inl same) = subst (IsSlotIn new j) (here j x e same) (record {
+      low = subst (λ (k : ℕ). k < max_slots) (sym same) low;
+      given = (omega arith, omega arith);
+      mark = ap (λ (o : Option Untaken). mark_of (option_map fate_of o)) at_own;
+    })
+    placed j x e (inr other) =
+        let old = s.of_slot j x (sym (slot_else j other) ∙ e) in
+        let most : x.number ≤ t.count = old.given.1 in
+        record {
+          low = old.low;
+          given = (old.given.0, omega (arith, most));
+          mark = ap (λ (o : Option Untaken). mark_of (option_map fate_of o)) (at_else x.number (λ same. omega (arith, most, same))) ∙ old.mark;
+        }
+
+    -- an earlier slot has an earlier number
+    lower : (j : ℕ) (x : Slot) → slot_at new j ≡ Some x → j ≢ id → x.number ≤ t.count
+    lower j x e other = (s.of_slot j x (sym (slot_else j other) ∙ e)).given.1
+
+    one_each : (i j : ℕ) (x y : Slot) → slot_at new i ≡ Some x → slot_at new j ≡ Some y → x.number ≡ y.number → (i ≡ id) ⊎ (i ≢ id) → (j ≡ id) ⊎ (j ≢ id) → i ≡ j
+    one_each i j x y e e2 same (inl p) (inl q) = p ∙ sym q
+    one_each i j x y e e2 same (inl p) (inr q) =
+        let first : number ≡ x.number = ap (λ (z : Slot). z.number) (here i x e p) in
+        absurd (omega (arith, first, same, lower j y e2 q))
+    one_each i j x y e e2 same (inr p) (inl q) =
+        let first : number ≡ y.number = ap (λ (z : Slot). z.number) (here j y e2 q) in
+        absurd (omega (arith, first, same, lower i x e p))
+    one_each i j x y e e2 same (inr p) (inr q) = s.apart i j x y (sym (slot_else i p) ∙ e) (sym (slot_else j q) ∙ e2) same
+
+    given : (n : ℕ) (u : Untaken) → untaken_at new n ≡ Some u → (n ≡ number) ⊎ (n ≢ number) → (1 ≤ n) × (n ≤ number)
+    given n u e (inl same) = (omega (arith, same), omega (arith, same))
+    given n u e (inr other) = let old = s.numbers n u (sym (at_else n other) ∙ e) in (old.0, omega (arith, old.1))
+
+    waited : (n : ℕ) (u : Untaken) → untaken_at new n ≡ Some u → is_awaited u.fate ≡ true → (n ≡ number) ⊎ (n ≢ number) → HasSlot new n u
+    waited n u e none (inl same) =
+        let at : untaken_at new n ≡ Some own = subst (λ (k : ℕ). untaken_at new k ≡ Some own) (sym same) at_own in
+        let is : own ≡ u = cc (at, e) in
+        subst (λ (k : ℕ). HasSlot new k u) (sym same) (subst (HasSlot new number) is (record { id = id; kind = kind_of o; held = slot_own }))
+    waited n u e none (inr other) =
+        let old = s.of_awaited n u (sym (at_else n other) ∙ e) none in
+        let elsewhere : old.id ≢ id = λ same. cc (subst (λ (k : ℕ). slot_at t k ≡ Some (record { number = n; device = u.device; kind = old.kind; dead = false })) same old.held, is_free) in
+        record { id = old.id; kind = old.kind; held = slot_else old.id elsewhere ∙ old.held }
+
+-- a slot becomes free, which is dead
 pub freed_slots : (t : TableState) (id : ℕ) (slot : Slot) → AreSlots t → slot_at t id ≡ Some slot → slot.dead ≡ true → AreSlots (freed t id)
 freed_slots t id slot s held dead = record {
   rising = rises_without (is_at (nat_cmp id)) t.slots s.rising;
+  untaken_rising = s.untaken_rising;
   few_lives = s.few_lives;
-  closed = λ shut. let was = s.closed shut in (ap (λ (es : List (ℕ × Slot)). remove_entry (is_at (nat_cmp id)) es) was.0, was.1, was.2);
-  of_request = λ j x e. requested j x e (same_or_other j id);
-  of_awaited = waited;
+  of_slot = λ j x e. let old = s.of_slot j x (before j x e) in record { low = old.low; given = old.given; mark = old.mark };
+  apart = λ i j x y e e2. s.apart i j x y (before i x e) (before j y e2);
+  numbers = s.numbers;
+  of_awaited = λ n u e none.
+      let old = s.of_awaited n u e none in
+      let other : old.id ≢ id = λ same.
+      let is : slot ≡ record { number = n; device = u.device; kind = old.kind; dead = false } = cc (subst (λ (k : ℕ). slot_at t k ≡ Some (record { number = n; device = u.device; kind = old.kind; dead = false })) same old.held, held) in
+      cc (ap (λ (x : Slot). x.dead) is, dead) in
+      record { id = old.id; kind = old.kind; held = kept id old.id other t.slots ∙ old.held };
+  messages = s.messages;
+  closed = λ shut. let was = s.closed shut in (ap (λ (es : List (ℕ × Slot)). remove_entry (is_at (nat_cmp id)) es) was.0, was.1, was.2, was.3);
 }
   where
-    still : (number : ℕ) (a : Accepted) → accepted_at t number ≡ Some a → accepted_at (freed t id) number ≡ Some a
-    still zero a e = e
-    still (suc n) a e = e
-
-    requested : (j : ℕ) (x : Slot) → slot_at (freed t id) j ≡ Some x → (j ≡ id) ⊎ (j ≢ id) → IsSlotOf (freed t id) j x
-    requested j x e (inl same) =
-        let none : slot_at (freed t id) j ≡ None = subst (λ (k : ℕ). slot_at (freed t id) k ≡ None) (sym same) (gone id t.slots s.rising) in
-        absurd (cc (none, e))
-    requested j x e (inr other) =
-        let old = s.of_request j x (sym (kept id j other t.slots) ∙ e) in
-        record { low = old.low; request = old.request; is = still x.number old.request old.is; device = old.device; own_id = old.own_id; kind = old.kind; mark = old.mark }
-
-    waited : (number : ℕ) (a : Accepted) → accepted_at (freed t id) number ≡ Some a → is_awaited a.fate ≡ true
-        → (t.channel ≡ Some a.channel) × (slot_at (freed t id) a.id ≡ Some (record { number = number; device = a.device; kind = a.kind; dead = false }))
-    waited zero a e none = absurd (cc)
-    waited (suc n) a e none =
-        let was = s.of_awaited (suc n) a e none in
-        let other : a.id ≢ id = λ same.
-        let is : slot ≡ record { number = suc n; device = a.device; kind = a.kind; dead = false } = cc (subst (λ (k : ℕ). slot_at t k ≡ Some (record { number = suc n; device = a.device; kind = a.kind; dead = false })) same was.1, held) in
-        cc (ap (λ (x : Slot). x.dead) is, dead) in
-        (was.0, kept id a.id other t.slots ∙ was.1)
+    before : (j : ℕ) (x : Slot) → slot_at (freed t id) j ≡ Some x → slot_at t j ≡ Some x
+    before j x e = elim (same_or_other j id) [
+      | inl same ↦ let none : slot_at (freed t id) j ≡ None = subst (λ (k : ℕ). slot_at (freed t id) k ≡ None) (sym same) (gone id t.slots s.rising) in absurd (cc (none, e))
+      | inr other ↦ sym (kept id j other t.slots) ∙ e
+    ]
 
 -- a slot becomes free whose request is done
-pub done_slots : (t : TableState) (id n : ℕ) (slot : Slot) (o : Outcome) → AreSlots t → slot_at t id ≡ Some slot → slot.number ≡ suc n
-    → AreSlots (with_fate (freed t id) (suc n) (known o))
-done_slots t id n slot o s held numbered = record {
+pub done_slots : (t : TableState) (id : ℕ) (slot : Slot) (u : Untaken) (o : Outcome) → AreSlots t → slot_at t id ≡ Some slot → untaken_at t slot.number ≡ Some u → u.fate ≡ awaited
+    → AreSlots (record (freed t id) { untaken = set_value (is_at (nat_cmp slot.number)) t.untaken (record u { fate = known o }) })
+done_slots t id slot u o s held waits fate = record {
   rising = rises_without (is_at (nat_cmp id)) t.slots s.rising;
+  untaken_rising = subst (λ (ks : List ℕ). IsStrictlySortedBy nat_cmp ks) (sym (keys-set_value (is_at (nat_cmp slot.number)) t.untaken (record u { fate = known o }))) s.untaken_rising;
   few_lives = s.few_lives;
-  closed = λ shut. let was = s.closed shut in (ap (λ (es : List (ℕ × Slot)). remove_entry (is_at (nat_cmp id)) es) was.0, was.1, was.2);
-  of_request = λ j x e. requested j x e (same_or_other j id);
-  of_awaited = waited;
+  of_slot = λ j x e. placed j x e;
+  apart = λ i j x y e e2. s.apart i j x y (before i x e).0 (before j y e2).0;
+  numbers = λ n v e. given n v e (same_or_other n slot.number);
+  of_awaited = λ n v e none. waited n v e none (same_or_other n slot.number);
+  messages = s.messages;
+  closed = λ shut.
+      let was = s.closed shut in
+      let none : slot_at t id ≡ None = ap (λ (es : List (ℕ × Slot)). lookup (is_at (nat_cmp id)) es) was.0 in
+      absurd (cc (none, held));
 }
   where
     new : TableState
-    new = with_fate (freed t id) (suc n) (known o)
+    new = record (freed t id) { untaken = set_value (is_at (nat_cmp slot.number)) t.untaken (record u { fate = known o }) }
 
-    still : (number : ℕ) (a : Accepted) → number ≢ suc n → accepted_at t number ≡ Some a → accepted_at new number ≡ Some a
-    still zero a other e = e
-    still (suc m) a other e = fate_beside n m (known o) t.accepted (λ same. other (ap suc same)) ∙ e
+    at_own : untaken_at new slot.number ≡ Some (record u { fate = known o })
+    at_own = set_here slot.number (record u { fate = known o }) u t.untaken waits
 
-    requested : (j : ℕ) (x : Slot) → slot_at new j ≡ Some x → (j ≡ id) ⊎ (j ≢ id) → IsSlotOf new j x
-    requested j x e (inl same) =
-        let none : slot_at new j ≡ None = subst (λ (k : ℕ). slot_at new k ≡ None) (sym same) (gone id t.slots s.rising) in
-        absurd (cc (none, e))
-    requested j x e (inr other) =
-        let old = s.of_request j x (sym (kept id j other t.slots) ∙ e) in
-        let own = s.of_request id slot held in
-        let apart : x.number ≢ suc n = λ same.
-        let one : old.request ≡ own.request = cc (subst (λ (k : ℕ). accepted_at t k ≡ Some old.request) (same ∙ sym numbered) old.is, own.is) in
-        other (sym old.own_id ∙ ap (λ (a : Accepted). a.id) one ∙ own.own_id) in
-        record { low = old.low; request = old.request; is = still x.number old.request apart old.is; device = old.device; own_id = old.own_id; kind = old.kind; mark = old.mark }
+    at_else : (n : ℕ) → n ≢ slot.number → untaken_at new n ≡ untaken_at t n
+    at_else n other = set_beside slot.number n (record u { fate = known o }) other t.untaken
 
-    waited : (number : ℕ) (a : Accepted) → accepted_at new number ≡ Some a → is_awaited a.fate ≡ true
-        → (t.channel ≡ Some a.channel) × (slot_at new a.id ≡ Some (record { number = number; device = a.device; kind = a.kind; dead = false }))
-    waited zero a e none = absurd (cc)
-    waited (suc m) a e none = elim (same_or_other m n) [
-      | inl same ↦
-          let ended = some_of (with_fate_of (known o)) (slice_get t.accepted n) a (sym (fate_here n (known o) t.accepted) ∙ subst (λ (k : ℕ). slice_get (with_fate_behind n (known o) t.accepted) k ≡ Some a) same e) in
-          let is : is_awaited (known o) ≡ true = ap (λ (b : Accepted). is_awaited b.fate) ended.2 ∙ none in
-          absurd (cc is)
-      | inr other ↦
-          let was = s.of_awaited (suc m) a (sym (fate_beside n m (known o) t.accepted other) ∙ e) none in
-          let apart : a.id ≢ id = λ same.
-          let is : slot ≡ record { number = suc m; device = a.device; kind = a.kind; dead = false } = cc (subst (λ (k : ℕ). slot_at t k ≡ Some (record { number = suc m; device = a.device; kind = a.kind; dead = false })) same was.1, held) in
-          let numbers : suc n ≡ suc m = sym numbered ∙ ap (λ (x : Slot). x.number) is in
-          other (omega (arith, numbers)) in
-          (was.0, kept id a.id apart t.slots ∙ was.1)
+    before : (j : ℕ) (x : Slot) → slot_at new j ≡ Some x → (slot_at t j ≡ Some x) × (j ≢ id)
+    before j x e = elim (same_or_other j id) [
+      | inl same ↦ let none : slot_at new j ≡ None = subst (λ (k : ℕ). slot_at new k ≡ None) (sym same) (gone id t.slots s.rising) in absurd (cc (none, e))
+      | inr other ↦ (sym (kept id j other t.slots) ∙ e, other)
     ]
+
+    placed : (j : ℕ) (x : Slot) → slot_at new j ≡ Some x → IsSlotIn new j x
+    placed j x e =
+        let (was, other) = before j x e in
+        let old = s.of_slot j x was in
+        let elsewhere : x.number ≢ slot.number = λ same. other (s.apart j id x slot was held same) in
+        record { low = old.low; given = old.given; mark = ap (λ (o : Option Untaken). mark_of (option_map fate_of o)) (at_else x.number elsewhere) ∙ old.mark }
+
+    given : (n : ℕ) (v : Untaken) → untaken_at new n ≡ Some v → (n ≡ slot.number) ⊎ (n ≢ slot.number) → (1 ≤ n) × (n ≤ t.count)
+    given n v e (inl same) = subst (λ (k : ℕ). (1 ≤ k) × (k ≤ t.count)) (sym same) (s.numbers slot.number u waits)
+    given n v e (inr other) = s.numbers n v (sym (at_else n other) ∙ e)
+
+    waited : (n : ℕ) (v : Untaken) → untaken_at new n ≡ Some v → is_awaited v.fate ≡ true → (n ≡ slot.number) ⊎ (n ≢ slot.number) → HasSlot new n v
+    waited n v e none (inl same) =
+        let at : untaken_at new n ≡ Some (record u { fate = known o }) = subst (λ (k : ℕ). untaken_at new k ≡ Some (record u { fate = known o })) (sym same) at_own in
+        let is : record u { fate = known o } ≡ v = cc (at, e) in
+        let over : is_awaited (known o) ≡ true = ap (λ (x : Untaken). is_awaited x.fate) is ∙ none in
+        absurd (cc over)
+    waited n v e none (inr other) =
+        let old = s.of_awaited n v (sym (at_else n other) ∙ e) none in
+        let apart : old.id ≢ id = λ same.
+        let is : slot ≡ record { number = n; device = v.device; kind = old.kind; dead = false } = cc (subst (λ (k : ℕ). slot_at t k ≡ Some (record { number = n; device = v.device; kind = old.kind; dead = false })) same old.held, held) in
+        other (sym (ap (λ (x : Slot). x.number) is)) in
+        record { id = old.id; kind = old.kind; held = kept id old.id apart t.slots ∙ old.held }
 
 -- ---- a removal, and the channel's end
 
--- the mark of a fate that says that there is an outcome
-ended_mark : (a : Accepted) → is_awaited a.fate ≡ true → a.fate ≡ awaited
-ended_mark a none = go a.fate none
+-- what a removal does to a slot does to its number's mark
+lost_mark : (device : ℕ) (o : Option Untaken) (x : Slot) → ((u : Untaken) → o ≡ Some u → is_awaited u.fate ≡ true → x.device ≡ u.device) → mark_of (option_map fate_of o) ≡ Some x.dead
+    → mark_of (option_map fate_of (option_map (lost (λ (u : Untaken). u.device == device) Removed) o)) ≡ Some (cond (x.device == device) true x.dead)
+lost_mark device None x named mark = go (x.device == device) (sym (let is : true ≡ x.dead = cc mark in is))
   where
-    go : (f : Fate) → is_awaited f ≡ true → f ≡ awaited
-    go awaited is = refl
-    go (known o) is = absurd (cc is)
-    go taken is = absurd (cc is)
-
--- what a removal does to a slot does to its request's mark
-lost_mark : (device : ℕ) (a : Accepted) (x : Slot) → a.device ≡ x.device → mark_of a.fate ≡ Some x.dead
-    → mark_of (lost_where (λ (b : Accepted). b.device == device) Removed a).fate ≡ Some (cond (x.device == device) true x.dead)
-lost_mark device a x named mark = go a.fate refl (x.device == device) refl
+    go : (b : Bool) → x.dead ≡ true → Some true ≡ Some (cond b true x.dead)
+    go true is = refl
+    go false is = ap Some (sym is)
+lost_mark device (Some u) x named mark = go u.fate refl (x.device == device) refl
   where
-    here : (b : Bool) → (x.device == device) ≡ b → (a.device == device) ≡ b
-    here b e = ap (λ (d : ℕ). d == device) named ∙ e
+    test : Untaken → Bool
+    test v = v.device == device
 
-    go : (f : Fate) → a.fate ≡ f → (b : Bool) → (x.device == device) ≡ b
-        → mark_of (cond (is_awaited a.fate && (a.device == device)) (record a { fate = known (Lost Removed) }) a).fate ≡ Some (cond b true x.dead)
-    go awaited is true e = rw (is, here true e) refl
-    go awaited is false e = rw (is, here false e) (sym (ap mark_of is) ∙ mark)
-    go (known (Done reply)) is b e = absurd (cc (sym (ap mark_of is) ∙ mark))
+    go : (f : Fate) → u.fate ≡ f → (b : Bool) → (x.device == device) ≡ b → mark_of (Some (lost test Removed u).fate) ≡ Some (cond b true x.dead)
+    go awaited is b e = by b e (ap (λ (d : ℕ). d == device) (sym (named u refl (ap is_awaited is))) ∙ e)
+      where
+        by : (b : Bool) → (x.device == device) ≡ b → (u.device == device) ≡ b → mark_of (Some (lost test Removed u).fate) ≡ Some (cond b true x.dead)
+        by true e e2 = rw (is, e2) refl
+        by false e e2 = rw (is, e2) (sym (ap (λ (f : Fate). mark_of (Some f)) is) ∙ mark)
+    go (known (Done reply)) is b e = absurd (cc (sym (ap (λ (f : Fate). mark_of (Some f)) is) ∙ mark))
     go (known (Lost cause)) is true e = rw is refl
-    go (known (Lost cause)) is false e = rw is (sym (ap mark_of is) ∙ mark)
-    go taken is true e = rw is refl
-    go taken is false e = rw is (sym (ap mark_of is) ∙ mark)
+    go (known (Lost cause)) is false e = rw is (sym (ap (λ (f : Fate). mark_of (Some f)) is) ∙ mark)
 
 pub removed_slots : (t : TableState) (device : ℕ) (lives : List (ℕ × ℕ)) → AreSlots t → length lives ≤ max_devices → (t.channel ≡ None → lives ≡ [])
-    → AreSlots (record t { lives = lives; slots = map (dead_of device) t.slots; accepted = losing (λ (a : Accepted). a.device == device) Removed t.accepted })
+    → AreSlots (record t { lives = lives; slots = map (dead_of device) t.slots; untaken = losing (λ (u : Untaken). u.device == device) Removed t.untaken })
 removed_slots t device lives s few shut_lives = record {
-  rising = subst (λ (ks : List ℕ). IsStrictlySortedBy nat_cmp ks) (sym (same_keys t.slots)) s.rising;
+  rising = subst (λ (ks : List ℕ). IsStrictlySortedBy nat_cmp ks) (sym (keys_of-map_values marked t.slots)) s.rising;
+  untaken_rising = subst (λ (ks : List ℕ). IsStrictlySortedBy nat_cmp ks) (sym (lost_keys test Removed t.untaken)) s.untaken_rising;
   few_lives = few;
-  closed = λ shut. let was = s.closed shut in (ap (λ (es : List (ℕ × Slot)). map (dead_of device) es) was.0, shut_lives shut, was.2);
-  of_request = requested;
+  of_slot = placed;
+  apart = λ i j x y e e2 same. let p = before i x e in let q = before j y e2 in s.apart i j p.0 q.0 p.1 q.1 (sym (number_kept p.0 x p.2) ∙ same ∙ number_kept q.0 y q.2);
+  numbers = λ n u e. let was = some_of (lost test Removed) (untaken_at t n) u (sym (at_number n) ∙ e) in s.numbers n was.0 was.1;
   of_awaited = waited;
+  messages = s.messages;
+  closed = λ shut. let was = s.closed shut in (ap (λ (es : List (ℕ × Slot)). map (dead_of device) es) was.0, shut_lives shut, was.2, λ n. none_waits n (was.3 n));
 }
   where
-    loses : Accepted → Accepted
-    loses a = lost_where (λ (b : Accepted). b.device == device) Removed a
+    test : Untaken → Bool
+    test u = u.device == device
 
     new : TableState
-    new = record t { lives = lives; slots = map (dead_of device) t.slots; accepted = losing (λ (a : Accepted). a.device == device) Removed t.accepted }
+    new = record t { lives = lives; slots = map (dead_of device) t.slots; untaken = losing (λ (u : Untaken). u.device == device) Removed t.untaken }
 
     marked : Slot → Slot
     marked x = cond (x.device == device) (record x { dead = true }) x
 
-    same_keys : (es : List (ℕ × Slot)) → keys_of (map (dead_of device) es) ≡ keys_of es
-    same_keys [] = refl
-    same_keys (e ∷ es) = ap (λ (ks : List ℕ). e.0 ∷ ks) (same_keys es)
-
     at_slot : (id : ℕ) → slot_at new id ≡ option_map marked (slot_at t id)
     at_slot id = lookup-map_values marked (is_at (nat_cmp id)) t.slots
+
+    at_number : (n : ℕ) → untaken_at new n ≡ option_map (lost test Removed) (untaken_at t n)
+    at_number n = lost_at test Removed n t.untaken
 
     is_marked : (x : Slot) → marked x ≡ record { number = x.number; device = x.device; kind = x.kind; dead = cond (x.device == device) true x.dead }
     is_marked x = go (x.device == device)
@@ -243,115 +301,117 @@ removed_slots t device lives s few shut_lives = record {
         go true = refl
         go false = refl
 
-    at_request : (number : ℕ) (a : Accepted) → accepted_at t number ≡ Some a → accepted_at new number ≡ Some (loses a)
-    at_request zero a e = absurd (cc e)
-    at_request (suc n) a e = mapped loses t.accepted n ∙ ap (option_map loses) e
+    before : (id : ℕ) (x : Slot) → slot_at new id ≡ Some x → (y : Slot) × (slot_at t id ≡ Some y) × (marked y ≡ x)
+    before id x e = some_of marked (slot_at t id) x (sym (at_slot id) ∙ e)
 
-    requested : (id : ℕ) (slot : Slot) → slot_at new id ≡ Some slot → IsSlotOf new id slot
-    requested id slot e =
-        let was = some_of marked (slot_at t id) slot (sym (at_slot id) ∙ e) in
-        let old = s.of_request id was.0 was.1 in
-        let alike = lost_alike (λ (b : Accepted). b.device == device) Removed old.request in
-        subst (IsSlotOf new id) (sym (is_marked was.0) ∙ was.2) (record {
+    number_kept : (y x : Slot) → marked y ≡ x → x.number ≡ y.number
+    number_kept y x is = ap (λ (z : Slot). z.number) (sym is ∙ is_marked y)
+
+    placed : (id : ℕ) (slot : Slot) → slot_at new id ≡ Some slot → IsSlotIn new id slot
+    placed id slot e =
+        let was = before id slot e in
+        let old = s.of_slot id was.0 was.1 in
+        subst (IsSlotIn new id) (sym (is_marked was.0) ∙ was.2) (record {
           low = old.low;
-          request = loses old.request;
-          is = at_request was.0.number old.request old.is;
-          device = alike.device ∙ old.device;
-          own_id = alike.id ∙ old.own_id;
-          kind = alike.kind ∙ old.kind;
-          mark = lost_mark device old.request was.0 old.device old.mark;
+          given = old.given;
+          mark = ap (λ (o : Option Untaken). mark_of (option_map fate_of o)) (at_number was.0.number)
+              ∙ lost_mark device (untaken_at t was.0.number) was.0 (λ u is none. own_device t id was.0 u s was.1 is none) old.mark;
         })
 
-    live_slot : ℕ → Accepted → Slot
-    live_slot number a = record { number = number; device = a.device; kind = a.kind; dead = false }
+    waited : (n : ℕ) (u : Untaken) → untaken_at new n ≡ Some u → is_awaited u.fate ≡ true → HasSlot new n u
+    waited n u e none =
+        let was = some_of (lost test Removed) (untaken_at t n) u (sym (at_number n) ∙ e) in
+        let still = still_awaited test Removed was.0 (ap (λ (v : Untaken). is_awaited v.fate) was.2 ∙ none) in
+        let same : was.0 ≡ u = sym still.0 ∙ was.2 in
+        let old = s.of_awaited n u (was.1 ∙ ap Some same) none in
+        let elsewhere : (u.device == device) ≡ false = ap (λ (v : Untaken). v.device == device) (sym same) ∙ still.1 in
+        let slot : Slot = record { number = n; device = u.device; kind = old.kind; dead = false } in
+        record { id = old.id; kind = old.kind; held = at_slot old.id ∙ ap (option_map marked) old.held ∙ ap (λ (b : Bool). Some (cond b (record slot { dead = true }) slot)) elsewhere }
 
-    waited : (number : ℕ) (a : Accepted) → accepted_at new number ≡ Some a → is_awaited a.fate ≡ true → (t.channel ≡ Some a.channel) × (slot_at new a.id ≡ Some (live_slot number a))
-    waited zero a e none = absurd (cc e)
-    waited (suc n) a e none =
-        let was = some_of loses (slice_get t.accepted n) a (sym (mapped loses t.accepted n) ∙ e) in
-        let still = still_awaited (λ (b : Accepted). b.device == device) Removed was.0 (ap (λ (b : Accepted). is_awaited b.fate) was.2 ∙ none) in
-        let same : was.0 ≡ a = sym still.0 ∙ was.2 in
-        let old = s.of_awaited (suc n) a (was.1 ∙ ap Some same) none in
-        let elsewhere : (a.device == device) ≡ false = ap (λ (b : Accepted). b.device == device) (sym same) ∙ still.1 in
-        (old.0, at_slot a.id ∙ ap (option_map marked) old.1 ∙ ap (λ (b : Bool). Some (cond b (record (live_slot (suc n) a) { dead = true }) (live_slot (suc n) a))) elsewhere)
+    none_waits : (n : ℕ) → awaits t n ≡ false → awaits new n ≡ false
+    none_waits n none = ap (λ (o : Option Untaken). is_waiting (option_map fate_of o)) (at_number n) ∙ go (untaken_at t n) refl none
+      where
+        go : (o : Option Untaken) → untaken_at t n ≡ o → is_waiting (option_map fate_of o) ≡ false → is_waiting (option_map fate_of (option_map (lost test Removed) o)) ≡ false
+        go None e over = refl
+        go (Some u) e over = ap (λ (v : Untaken). is_awaited v.fate) (kept_known test Removed u over) ∙ over
 
--- no request has no outcome behind the channel's end
-pub dropped_slots : (t : TableState) → AreSlots (drop_channel t)
+-- nothing is awaited after the channel's end
+pub lost_all : (cause : Cause) (u : Untaken) → is_awaited (lost (λ (v : Untaken). true) cause u).fate ≡ false
+lost_all cause u = go u.fate refl
+  where
+    go : (f : Fate) → u.fate ≡ f → is_awaited (lost (λ (v : Untaken). true) cause u).fate ≡ false
+    go awaited e = rw e refl
+    go (known o) e = rw e refl
+
+pub none_dropped : (t : TableState) (n : ℕ) → awaits (drop_channel t) n ≡ false
+none_dropped t n = ap (λ (o : Option Untaken). is_waiting (option_map fate_of o)) (lost_at (λ (u : Untaken). true) Dropped n t.untaken) ∙ go (untaken_at t n)
+  where
+    go : (o : Option Untaken) → is_waiting (option_map fate_of (option_map (lost (λ (u : Untaken). true) Dropped) o)) ≡ false
+    go None = refl
+    go (Some u) = lost_all Dropped u
+
+pub dropped_slots : (t : TableState) → AreSlots t → AreSlots (drop_channel t)
 unfolding IsStrictlySortedBy
-dropped_slots t = record {
+dropped_slots t s = record {
   rising = tt;
+  untaken_rising = subst (λ (ks : List ℕ). IsStrictlySortedBy nat_cmp ks) (sym (lost_keys all Dropped t.untaken)) s.untaken_rising;
   few_lives = omega arith;
-  closed = λ shut. (refl, refl, refl);
-  of_request = λ id slot e. absurd (cc e);
-  of_awaited = ended;
+  of_slot = λ id slot e. absurd (cc e);
+  apart = λ i j x y e. absurd (cc e);
+  numbers = λ n u e. let was = some_of (lost all Dropped) (untaken_at t n) u (sym (lost_at all Dropped n t.untaken) ∙ e) in s.numbers n was.0 was.1;
+  of_awaited = λ n u e none.
+      let was = some_of (lost all Dropped) (untaken_at t n) u (sym (lost_at all Dropped n t.untaken) ∙ e) in
+      absurd (cc (sym (ap (λ (v : Untaken). is_awaited v.fate) was.2) ∙ lost_all Dropped was.0, none));
+  messages = All-nil IsMessage;
+  closed = λ shut. (refl, refl, refl, none_dropped t);
 }
   where
-    loses : Accepted → Accepted
-    loses a = lost_where (λ (b : Accepted). true) Dropped a
-
-    ended : (number : ℕ) (a : Accepted) → accepted_at (drop_channel t) number ≡ Some a → is_awaited a.fate ≡ true
-        → (None ≡ Some a.channel) × (slot_at (drop_channel t) a.id ≡ Some (record { number = number; device = a.device; kind = a.kind; dead = false }))
-    ended zero a e none = absurd (cc e)
-    ended (suc n) a e none =
-        let was = some_of loses (slice_get t.accepted n) a (sym (mapped loses t.accepted n) ∙ e) in
-        let over : is_awaited (loses was.0).fate ≡ false = lost_ended (λ (b : Accepted). true) Dropped was.0 refl in
-        absurd (cc (sym (ap (λ (b : Accepted). is_awaited b.fate) was.2) ∙ over, none))
+    all : Untaken → Bool
+    all u = true
 
 -- ---- an outcome is handed out
 
-pub taken_slots : (t : TableState) (n : ℕ) (a : Accepted) (o : Outcome) → AreSlots t → slice_get t.accepted n ≡ Some a → a.fate ≡ known o → AreSlots (with_fate t (suc n) taken)
-taken_slots t n a o s is fate = record {
+pub taken_slots : (t : TableState) (number : ℕ) (u : Untaken) (o : Outcome) → AreSlots t → untaken_at t number ≡ Some u → u.fate ≡ known o
+    → AreSlots (record t { untaken = remove_entry (is_at (nat_cmp number)) t.untaken })
+taken_slots t number u o s is fate = record {
   rising = s.rising;
+  untaken_rising = rises_without (is_at (nat_cmp number)) t.untaken s.untaken_rising;
   few_lives = s.few_lives;
-  closed = s.closed;
-  of_request = requested;
-  of_awaited = waited;
+  of_slot = λ id x e. let old = s.of_slot id x e in record { low = old.low; given = old.given; mark = mark x old.mark (same_or_other x.number number) };
+  apart = s.apart;
+  numbers = λ n v e. s.numbers n v (before n v e).0;
+  of_awaited = λ n v e none. let old = s.of_awaited n v (before n v e).0 none in record { id = old.id; kind = old.kind; held = old.held };
+  messages = s.messages;
+  closed = λ shut. let was = s.closed shut in (was.0, was.1, was.2, λ n. over n (was.3 n));
 }
   where
     new : TableState
-    new = with_fate t (suc n) taken
+    new = record t { untaken = remove_entry (is_at (nat_cmp number)) t.untaken }
 
-    requested : (id : ℕ) (slot : Slot) → slot_at new id ≡ Some slot → IsSlotOf new id slot
-    requested id slot e =
-        let old = s.of_request id slot e in
-        let number = at_number t slot.number old.request old.is in
-        elim (same_or_other number.0 n) [
-          | inl same ↦
-              let one : a ≡ old.request = cc (is, subst (λ (k : ℕ). slice_get t.accepted k ≡ Some old.request) same number.2) in
-              let dead : slot.dead ≡ true = marked o (sym (ap (λ (b : Accepted). mark_of b.fate) (sym one) ∙ ap mark_of fate) ∙ old.mark) in
-              record {
-                low = old.low;
-                request = record old.request { fate = taken };
-                is = subst (λ (k : ℕ). accepted_at new k ≡ Some (record old.request { fate = taken })) (sym number.1)
-                    (subst (λ (k : ℕ). slice_get (with_fate_behind n taken t.accepted) k ≡ Some (record old.request { fate = taken })) (sym same)
-                    (fate_here n taken t.accepted ∙ ap (option_map (with_fate_of taken)) (is ∙ ap Some one)));
-                device = old.device;
-                own_id = old.own_id;
-                kind = old.kind;
-                mark = ap Some (sym dead);
-              }
-          | inr other ↦ record {
-            low = old.low;
-            request = old.request;
-            is = subst (λ (k : ℕ). accepted_at new k ≡ Some old.request) (sym number.1) (fate_beside n number.0 taken t.accepted other ∙ number.2);
-            device = old.device;
-            own_id = old.own_id;
-            kind = old.kind;
-            mark = old.mark;
-          }
-        ]
+    at_own : untaken_at new number ≡ None
+    at_own = gone number t.untaken s.untaken_rising
+
+    at_else : (n : ℕ) → n ≢ number → untaken_at new n ≡ untaken_at t n
+    at_else n other = kept number n other t.untaken
+
+    before : (n : ℕ) (v : Untaken) → untaken_at new n ≡ Some v → (untaken_at t n ≡ Some v) × (n ≢ number)
+    before n v e = elim (same_or_other n number) [
+      | inl same ↦ let none : untaken_at new n ≡ None = subst (λ (k : ℕ). untaken_at new k ≡ None) (sym same) at_own in absurd (cc (none, e))
+      | inr other ↦ (sym (at_else n other) ∙ e, other)
+    ]
+
+    mark : (x : Slot) → mark_of (fate_at t x.number) ≡ Some x.dead → (x.number ≡ number) ⊎ (x.number ≢ number) → mark_of (fate_at new x.number) ≡ Some x.dead
+    mark x was (inr other) = ap (λ (p : Option Untaken). mark_of (option_map fate_of p)) (at_else x.number other) ∙ was
+    mark x was (inl same) =
+        ap (λ (p : Option Untaken). mark_of (option_map fate_of p)) (subst (λ (k : ℕ). untaken_at new k ≡ None) (sym same) at_own)
+        ∙ by o (sym (ap (λ (p : Option Untaken). mark_of (option_map fate_of p)) (subst (λ (k : ℕ). untaken_at t k ≡ Some u) (sym same) is) ∙ ap (λ (f : Fate). mark_of (Some f)) fate) ∙ was)
       where
-        marked : (o : Outcome) → mark_of (known o) ≡ Some slot.dead → slot.dead ≡ true
-        marked (Done reply) m = absurd (cc m)
-        marked (Lost cause) m = sym (cc m)
+        by : (o : Outcome) → mark_of (Some (known o)) ≡ Some x.dead → Some true ≡ Some x.dead
+        by (Done reply) m = absurd (cc m)
+        by (Lost cause) m = m
 
-    waited : (number : ℕ) (b : Accepted) → accepted_at new number ≡ Some b → is_awaited b.fate ≡ true
-        → (t.channel ≡ Some b.channel) × (slot_at new b.id ≡ Some (record { number = number; device = b.device; kind = b.kind; dead = false }))
-    waited zero b e none = absurd (cc e)
-    waited (suc m) b e none = elim (same_or_other m n) [
-      | inl same ↦
-          let ended = some_of (with_fate_of taken) (slice_get t.accepted n) b (sym (fate_here n taken t.accepted) ∙ subst (λ (k : ℕ). slice_get (with_fate_behind n taken t.accepted) k ≡ Some b) same e) in
-          let over : is_awaited taken ≡ true = ap (λ (x : Accepted). is_awaited x.fate) ended.2 ∙ none in
-          absurd (cc over)
-      | inr other ↦ s.of_awaited (suc m) b (sym (fate_beside n m taken t.accepted other) ∙ e) none
+    over : (n : ℕ) → awaits t n ≡ false → awaits new n ≡ false
+    over n none = elim (same_or_other n number) [
+      | inl same ↦ ap (λ (p : Option Untaken). is_waiting (option_map fate_of p)) (subst (λ (k : ℕ). untaken_at new k ≡ None) (sym same) at_own)
+      | inr other ↦ ap (λ (p : Option Untaken). is_waiting (option_map fate_of p)) (at_else n other) ∙ none
     ]

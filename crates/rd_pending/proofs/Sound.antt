@@ -1,15 +1,17 @@
 -- What holds of a table and its history, and what goes on whatever is called.
-use Rattle.std.proofs.Common.{◌≡◌, ◌∙◌, refl, sym, ap, subst, ℕ, suc, ◌+◌, ◌<◌, ◌≤◌, ◌==◌, Bool, true, false, cond, List, [], ◌∷◌, ◌++◌, take, Some, None, Option, append-nil, eq-eqb, eqb-true}
+use Rattle.std.proofs.Common.{◌≡◌, ◌∙◌, refl, sym, ap, subst, ℕ, suc, ◌+◌, ◌<◌, ◌≤◌, ◌==◌, Bool, true, false, cond, List, [], ◌∷◌, ◌++◌, length, take, Some, None, Option, append-nil, eq-eqb, eqb-true}
 use Rattle.std.specs.Prelude.{slice_get}
+use Rattle.std.specs.Option.{option_map}
 use Rattle.rd_base.specs.declared.journal.Cause.TheVariants.{Dropped}
+use Rattle.rd_irp.specs.Fits.{kind_of}
 use Rattle.rd_pending.specs.declared.calls.Outcome.{Outcome}
 use Rattle.rd_pending.specs.declared.calls.Outcome.TheVariants.{Lost}
-use Rattle.rd_pending.specs.Outcomes.{Agrees, Course, Tidings, course_from, ended_by, ended_in, going_on, or_else, begins, completes, removes}
-use Rattle.rd_pending.specs.Table.{Accepted, AreSlots, Fate, Slot, TableState, awaited, is_awaited, known, life_of, slot_at, taken}
+use Rattle.rd_pending.specs.Outcomes.{Accepted, Agrees, Course, course_from, ended_in, or_else}
+use Rattle.rd_pending.specs.Table.{AreSlots, Slot, TableState, Untaken, awaits, fate_at, is_awaited, life_of, slot_at, untaken_at}
+use Rattle.rd_pending.specs.History.{Call, accepted_in, after, ended_on, heard_by, heard_on, is_open_on, lives_before}
 use Rattle.rd_pending.proofs.CountLemmas.{pairs}
 use Rattle.rd_pending.proofs.CourseLemmas.{ended_more, heard_pairs, or_none, through}
-use Rattle.rd_pending.specs.History.{Call, after, ended_on, heard_by, heard_on, is_open_on, lives_before}
-use Rattle.rd_pending.proofs.AcceptedLemmas.{Alike}
+use Rattle.rd_pending.proofs.FateLemmas.{fate_of, is_waiting, live_waits, waiting}
 
 -- the course of a channel
 abbrev pub course : ℕ → List Call → Course
@@ -29,22 +31,64 @@ outcome_behind m a h =
 abbrev pub alike_before : List Accepted → Accepted → ℕ
 alike_before xs a = pairs a.channel a.device a.id xs
 
--- The request behind so many has the fate of what was heard. While it is awaited its device's life goes on, and no later one has its pair.
+-- A slot is of a request that was accepted on the open channel, with its number, device, id and layout.
+pub record IsSlotOf (t : TableState) (h : List Call) (id : ℕ) (slot : Slot) : Type 0 where
+  pub before : ℕ
+  pub numbered : slot.number ≡ suc before
+  pub request : Accepted
+  pub is : slice_get (accepted_in h) before ≡ Some request
+  pub channel : t.channel ≡ Some request.channel
+  pub device : request.device ≡ slot.device
+  pub own_id : request.id ≡ id
+  pub kind : kind_of request.op ≡ slot.kind
+
+-- The request behind so many has what there is of its outcome by what was heard, and the device and life that are kept of it. While it is awaited its
+-- device's life goes on, and no later one has its pair.
 pub record IsTracked (t : TableState) (h : List Call) (n : ℕ) (a : Accepted) : Type 0 where
   pub below : a.channel < t.below
-  pub agrees : Agrees a.fate (outcome_behind (alike_before (take n t.accepted) a) a h)
-  pub alive : is_awaited a.fate ≡ true → life_of t a.device ≡ Some a.life
-  pub last : is_awaited a.fate ≡ true → alike_before t.accepted a ≡ suc (alike_before (take n t.accepted) a)
+  pub agrees : Agrees (fate_at t (suc n)) (outcome_behind (alike_before (take n (accepted_in h)) a) a h)
+  pub named : (u : Untaken) → untaken_at t (suc n) ≡ Some u → (u.device ≡ a.device) × (u.life ≡ a.life)
+  pub alive : awaits t (suc n) ≡ true → life_of t a.device ≡ Some a.life
+  pub last : awaits t (suc n) ≡ true → alike_before (accepted_in h) a ≡ suc (alike_before (take n (accepted_in h)) a)
 
 -- On the open channel the requests with a pair are the completions heard with it, and one more where its slot is held.
 pub record Sound (t : TableState) (h : List Call) : Type 0 where
   pub slots : AreSlots t
+  pub count : t.count ≡ length (accepted_in h)
   pub below : (c : ℕ) → t.channel ≡ Some c → c < t.below
-  pub fresh : (c : ℕ) → t.below ≤ c → (heard_on c h ≡ []) × (ended_on c h ≡ false) × ((d i : ℕ) → pairs c d i t.accepted ≡ 0)
+  pub fresh : (c : ℕ) → t.below ≤ c → (heard_on c h ≡ []) × (ended_on c h ≡ false) × ((d i : ℕ) → pairs c d i (accepted_in h) ≡ 0)
   pub shut : (c : ℕ) → t.channel ≡ Some c → ended_on c h ≡ false
   pub lives : (c : ℕ) → t.channel ≡ Some c → ((course c h).lives ≡ t.lives) × ((course c h).given ≡ t.given)
-  pub balanced : (c : ℕ) → t.channel ≡ Some c → (d i : ℕ) → pairs c d i t.accepted ≡ heard_pairs d i (course c h) + held (slot_at t i) d
-  pub requests : (n : ℕ) (a : Accepted) → slice_get t.accepted n ≡ Some a → IsTracked t h n a
+  pub balanced : (c : ℕ) → t.channel ≡ Some c → (d i : ℕ) → pairs c d i (accepted_in h) ≡ heard_pairs d i (course c h) + held (slot_at t i) d
+  pub of_slot : (id : ℕ) (slot : Slot) → slot_at t id ≡ Some slot → IsSlotOf t h id slot
+  pub requests : (n : ℕ) (a : Accepted) → slice_get (accepted_in h) n ≡ Some a → IsTracked t h n a
+
+-- a request that is awaited is one of the open channel, and has its slot there
+pub own_slot : (t : TableState) (h : List Call) (n : ℕ) (a : Accepted) → Sound t h → slice_get (accepted_in h) n ≡ Some a → awaits t (suc n) ≡ true
+    → (t.channel ≡ Some a.channel) × (slot_at t a.id ≡ Some (record { number = suc n; device = a.device; kind = kind_of a.op; dead = false }))
+own_slot t h n a s is none =
+    let waits = waiting (untaken_at t (suc n)) none in
+    let its = s.slots.of_awaited (suc n) waits.one waits.is (ap is_awaited waits.fate) in
+    let slot : Slot = record { number = suc n; device = waits.one.device; kind = its.kind; dead = false } in
+    let own = s.of_slot its.id slot its.held in
+    let place : n ≡ own.before = cc (own.numbered) in
+    let same : own.request ≡ a = cc (own.is, subst (λ (k : ℕ). slice_get (accepted_in h) k ≡ Some a) place is) in
+    let device : waits.one.device ≡ a.device = sym own.device ∙ ap (λ (b : Accepted). b.device) same in
+    let kind : its.kind ≡ kind_of a.op = sym own.kind ∙ ap (λ (b : Accepted). kind_of b.op) same in
+    let id : its.id ≡ a.id = sym own.own_id ∙ ap (λ (b : Accepted). b.id) same in (
+      own.channel ∙ ap (λ (b : Accepted). Some b.channel) same,
+      subst (λ (k : ℕ). slot_at t k ≡ Some (record { number = suc n; device = a.device; kind = kind_of a.op; dead = false })) id
+          (its.held ∙ rw (device, kind) refl),
+    )
+
+pub opens : (t : TableState) (h : List Call) (n : ℕ) (a : Accepted) → Sound t h → slice_get (accepted_in h) n ≡ Some a → awaits t (suc n) ≡ true → t.channel ≡ Some a.channel
+opens t h n a s is none = (own_slot t h n a s is none).0
+
+-- a slot that isn't dead is of a request that is awaited
+pub slot_waits : (t : TableState) (id : ℕ) (slot : Slot) → AreSlots t → slot_at t id ≡ Some slot → slot.dead ≡ false → awaits t slot.number ≡ true
+slot_waits t id slot s held alive =
+    let waits = live_waits (untaken_at t slot.number) ((s.of_slot id slot held).mark ∙ ap Some alive) in
+    ap (λ (o : Option Untaken). is_waiting (option_map fate_of o)) waits.is ∙ ap is_awaited waits.fate
 
 -- ---- what is heard by a call
 
@@ -103,40 +147,3 @@ outcome_stays call h m a o within running known_one = go (is_open_on (after h) a
         let open_one = is_open (after h) a.channel e in
         outcome_open call h m a within open_one (running open_one) ∙ ap (λ (x : Option Outcome). or_else x (ended_in a m (course a.channel h) (heard_by call))) known_one
     go false e = outcome_else call h m a within e ∙ known_one
-
--- ---- fates
-
-pub has_outcome : (f : Fate) (o : Option Outcome) → Agrees f o → is_awaited f ≡ false → (x : Outcome) × (o ≡ Some x)
-has_outcome awaited o agrees over = absurd (cc over)
-has_outcome (known x) o agrees over = (x, agrees)
-has_outcome taken o agrees over = agrees
-
-pub none_awaited : (f : Fate) (o : Option Outcome) → Agrees f o → is_awaited f ≡ true → o ≡ None
-none_awaited awaited o agrees none = agrees
-none_awaited (known x) o agrees none = absurd (cc none)
-none_awaited taken o agrees none = absurd (cc none)
-
-pub agrees_none : (f : Fate) (o : Option Outcome) → is_awaited f ≡ true → o ≡ None → Agrees f o
-agrees_none awaited o none e = e
-agrees_none (known x) o none e = absurd (cc none)
-agrees_none taken o none e = absurd (cc none)
-
--- the same outcome goes on
-pub agrees_same : (f : Fate) (o p : Option Outcome) → p ≡ o → Agrees f o → Agrees f p
-agrees_same f o p same agrees = subst (Agrees f) (sym same) agrees
-
--- ---- what came of a request doesn't hang on its fate
-
-ended_by_alike : (a b : Accepted) (m : ℕ) (k : Course) (x : Tidings) → Alike a b → ended_by b m k x ≡ ended_by a m k x
-ended_by_alike a b m k (begins d) alike = refl
-ended_by_alike a b m k (removes d) alike = rw (alike.device, alike.life) refl
-ended_by_alike a b m k (completes head bytes) alike = rw (alike.device, alike.id, alike.kind) refl
-
-pub ended_in_alike : (a b : Accepted) (m : ℕ) (k : Course) (xs : List Tidings) → Alike a b → ended_in b m k xs ≡ ended_in a m k xs
-ended_in_alike a b m k [] alike = refl
-ended_in_alike a b m k (x ∷ xs) alike =
-    ap (λ (o : Option Outcome). or_else o (ended_in b m (going_on k x) xs)) (ended_by_alike a b m k x alike)
-    ∙ ap (or_else (ended_by a m k x)) (ended_in_alike a b m (going_on k x) xs alike)
-
-pub outcome_alike : (a b : Accepted) (m : ℕ) (h : List Call) → Alike a b → outcome_behind m b h ≡ outcome_behind m a h
-outcome_alike a b m h alike = rw (alike.channel) (ap (λ (o : Option Outcome). or_else o (cond (ended_on a.channel h) (Some (Lost Dropped)) None)) (ended_in_alike a b m (course_from (lives_before a.channel h)) (heard_on a.channel h) alike))

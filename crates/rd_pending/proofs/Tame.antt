@@ -1,87 +1,69 @@
 -- Calls that accept no request and send none.
-use Rattle.std.proofs.Common.{◌≡◌, ◌∙◌, refl, sym, ap, subst, inl, inr, ℕ, zero, suc, ◌+◌, ◌==◌, ◌&&◌, Bool, true, false, cond, List, [], ◌∷◌, ◌++◌, length, Some, None, Option, arith, append_assoc, eq-eqb, length-append}
+use Rattle.std.proofs.Common.{◌≡◌, ◌∙◌, refl, sym, ap, subst, inl, inr, ℕ, suc, ◌+◌, ◌==◌, ◌&&◌, Bool, true, false, cond, List, [], ◌∷◌, ◌++◌, length, Some, None, Option, arith, append_assoc, eq-eqb, length-append}
 use Rattle.std.specs.Prelude.{Result, Ok, Err, filter, slice_get}
 use Rattle.std.proofs.lemmas.List.Elements.{filter-append}
 use Rattle.rd_base.specs.declared.bad.Bad.{Bad}
-use Rattle.rd_base.specs.declared.journal.Cause.TheVariants.{Removed}
 use Rattle.rd_base.specs.Layout.{met}
 use Rattle.rd_base.specs.Position.{Position, at_start}
 use Rattle.rd_irp.specs.declared.completion.Body.{Body}
 use Rattle.rd_irp.specs.declared.completion.Head.{Head}
 use Rattle.rd_irp.specs.Completion.{completion_body}
 use Rattle.rd_pending.specs.declared.calls.LiveNo.{LiveNo}
-use Rattle.rd_pending.specs.Outcomes.{asks_pair}
+use Rattle.rd_pending.specs.History as call
+use Rattle.rd_pending.specs.History.{Call, accepted_in, after}
+use Rattle.rd_pending.specs.Outcomes.{Accepted, asks_pair}
 use Rattle.rd_pending.specs.Table as table
-use Rattle.rd_pending.specs.Table.{Accepted, Fate, Slot, TableState, accepted_at, awaited, freed, known, live_refusal, losing, slot_at, taken, with_fate}
-use Rattle.rd_pending.proofs.CountLemmas.{AreAlike, alike_same, fate_alike, losing_alike, pairs}
+use Rattle.rd_pending.specs.Table.{Fate, Slot, TableState, Untaken, awaited, freed, known, live_refusal, slot_at, untaken_at, with_fate}
+use Rattle.rd_pending.proofs.CountLemmas.{pairs}
 use Rattle.rd_pending.proofs.Effects as effects
-use Rattle.rd_pending.proofs.AcceptedLemmas.{Alike}
 
 pub record Tame (t new : TableState) : Type 0 where
-  pub accepted : AreAlike t.accepted new.accepted
   pub outbox : new.outbox ≡ t.outbox
   pub asked : new.asked ≡ t.asked
   pub channel : new.channel ≡ t.channel
 
-alike_then : (a b c : Accepted) → Alike a b → Alike b c → Alike a c
-alike_then a b c p q = record { channel = q.channel ∙ p.channel; index = q.index ∙ p.index; device = q.device ∙ p.device; life = q.life ∙ p.life; id = q.id ∙ p.id; kind = q.kind ∙ p.kind }
-
-pub alike_trans : (xs ys zs : List Accepted) → AreAlike xs ys → AreAlike ys zs → AreAlike xs zs
-alike_trans [] [] [] p q = tt
-alike_trans [] [] (z ∷ zs) p q = absurd q
-alike_trans [] (y ∷ ys) zs p q = absurd p
-alike_trans (x ∷ xs) [] zs p q = absurd p
-alike_trans (x ∷ xs) (y ∷ ys) [] p q = absurd q
-alike_trans (x ∷ xs) (y ∷ ys) (z ∷ zs) p q = (alike_then x y z p.0 q.0, alike_trans xs ys zs p.1 q.1)
-
 pub tame_same : (t : TableState) → Tame t t
-tame_same t = record { accepted = alike_same t.accepted; outbox = refl; asked = refl; channel = refl }
+tame_same t = record { outbox = refl; asked = refl; channel = refl }
 
 pub tame_then : (t u v : TableState) → Tame t u → Tame u v → Tame t v
-tame_then t u v p q = record {
-  accepted = alike_trans t.accepted u.accepted v.accepted p.accepted q.accepted;
-  outbox = q.outbox ∙ p.outbox;
-  asked = q.asked ∙ p.asked;
-  channel = q.channel ∙ p.channel;
-}
+tame_then t u v p q = record { outbox = q.outbox ∙ p.outbox; asked = q.asked ∙ p.asked; channel = q.channel ∙ p.channel }
 
 tame_fate : (t : TableState) (n : ℕ) (f : Fate) → Tame t (with_fate t n f)
-tame_fate t zero f = tame_same t
-tame_fate t (suc n) f = record { accepted = fate_alike n f t.accepted; outbox = refl; asked = refl; channel = refl }
+tame_fate t n f = go (untaken_at t n) refl
+  where
+    go : (o : Option Untaken) → untaken_at t n ≡ o → Tame t (with_fate t n f)
+    go None e = rw e (tame_same t)
+    go (Some u) e = rw e (record { outbox = refl; asked = refl; channel = refl })
 
 pub tame_live : (t : TableState) (d : ℕ) → Tame t (table.live t d).0
 tame_live t d = go (live_refusal t d) refl
   where
     go : (o : Option LiveNo) → live_refusal t d ≡ o → Tame t (table.live t d).0
-    go None e = rw e (record { accepted = alike_same t.accepted; outbox = refl; asked = refl; channel = refl })
-    go (Some cause) e = rw e (record { accepted = alike_same t.accepted; outbox = refl; asked = refl; channel = refl })
+    go None e = rw e (record { outbox = refl; asked = refl; channel = refl })
+    go (Some cause) e = rw e (record { outbox = refl; asked = refl; channel = refl })
 
 pub tame_remove : (t : TableState) (d : ℕ) → Tame t (table.remove t d).0
 tame_remove t d = elim (effects.removes t d) [
   | inl none ↦ subst (Tame t) (sym none.same) (tame_same t)
-  | inr effect ↦ subst (Tame t) (sym effect.new) (record { accepted = losing_alike (λ (b : Accepted). b.device == d) Removed t.accepted; outbox = refl; asked = refl; channel = refl })
+  | inr effect ↦ subst (Tame t) (sym effect.new) (record { outbox = refl; asked = refl; channel = refl })
 ]
 
 pub tame_take : (t : TableState) (n : ℕ) → Tame t (table.take t n).0
-tame_take t n = go (accepted_at t n) refl
+tame_take t n = go (untaken_at t n) refl
   where
-    none : Tame t t
-    none = tame_same t
+    by_fate : (u : Untaken) → untaken_at t n ≡ Some u → (f : Fate) → u.fate ≡ f → Tame t (table.take t n).0
+    by_fate u e awaited e2 = rw (e, e2) (tame_same t)
+    by_fate u e (known o) e2 = rw (e, e2) (record { outbox = refl; asked = refl; channel = refl })
 
-    by_fate : (a : Accepted) → accepted_at t n ≡ Some a → (f : Fate) → a.fate ≡ f → Tame t (table.take t n).0
-    by_fate a e awaited e2 = rw (e, e2) none
-    by_fate a e (known o) e2 = rw (e, e2) (tame_fate t n taken)
-    by_fate a e taken e2 = rw (e, e2) none
-
-    go : (o : Option Accepted) → accepted_at t n ≡ o → Tame t (table.take t n).0
-    go None e = rw e none
-    go (Some a) e = by_fate a e a.fate refl
+    go : (o : Option Untaken) → untaken_at t n ≡ o → Tame t (table.take t n).0
+    go None e = rw e (tame_same t)
+    go (Some u) e = by_fate u e u.fate refl
 
 pub tame_complete : (t : TableState) (head : Head) (bytes : List ℕ) → Tame t (table.complete t head bytes).0
 tame_complete t head bytes = go (slot_at t head.completion) refl
   where
     free_one : Tame t (freed t head.completion)
-    free_one = record { accepted = alike_same t.accepted; outbox = refl; asked = refl; channel = refl }
+    free_one = record { outbox = refl; asked = refl; channel = refl }
 
     reads : (slot : Slot) → slot_at t head.completion ≡ Some slot → (slot.device == head.device) ≡ true → slot.dead ≡ false → (r : Result (Body × Position) Bad)
         → met (completion_body slot.kind head.status) (at_start bytes) ≡ r → Tame t (table.complete t head bytes).0
@@ -100,6 +82,40 @@ tame_complete t head bytes = go (slot_at t head.completion) refl
     go None e = rw e (tame_same t)
     go (Some slot) e = by_device slot e (slot.device == head.device) refl
 
+-- ---- calls
+
+abbrev pub IsTame : Call → Type 0
+IsTame (call.lives d) = Unit {0}
+IsTame (call.removes d) = Unit {0}
+IsTame (call.takes number) = Unit {0}
+IsTame (call.completes head bytes) = Unit {0}
+IsTame _ = ⊥
+
+abbrev pub AreTame : List Call → Type 0
+AreTame [] = Unit {0}
+AreTame (x ∷ xs) = IsTame x × AreTame xs
+
+pub tame_more : (xs ys : List Call) → AreTame xs → AreTame ys → AreTame (xs ++ ys)
+tame_more [] ys all others = others
+tame_more (x ∷ xs) ys all others = (all.0, tame_more xs ys all.1 others)
+
+pub tame_one : (x : Call) (h : List Call) → IsTame x → Tame (after h) (after (x ∷ h)) × (accepted_in (x ∷ h) ≡ accepted_in h)
+tame_one (call.begins c) h is = absurd is
+tame_one (call.lives d) h is = (tame_live (after h) d, refl)
+tame_one (call.removes d) h is = (tame_remove (after h) d, refl)
+tame_one (call.takes number) h is = (tame_take (after h) number, refl)
+tame_one (call.submits x named o) h is = absurd is
+tame_one (call.completes head bytes) h is = (tame_complete (after h) head bytes, refl)
+tame_one call.sends h is = absurd is
+tame_one call.drops h is = absurd is
+
+pub tame_all : (xs h : List Call) → AreTame xs → Tame (after h) (after (xs ++ h)) × (accepted_in (xs ++ h) ≡ accepted_in h)
+tame_all [] h all = (tame_same (after h), refl)
+tame_all (x ∷ xs) h all =
+    let rest = tame_all xs h all.1 in
+    let one = tame_one x (xs ++ h) all.0 in
+    (tame_then (after h) (after (xs ++ h)) (after (x ∷ xs ++ h)) rest.0 one.0, one.1 ∙ rest.1)
+
 -- ---- the requests of a channel, the newest first
 
 abbrev pub newest : ℕ → List Accepted → List Accepted
@@ -115,22 +131,6 @@ newest_more c [] a = go (a.channel == c)
 newest_more c (x ∷ xs) a =
     ap (λ (ys : List Accepted). ys ++ cond (x.channel == c) (x ∷ []) []) (newest_more c xs a)
     ∙ append_assoc (cond (a.channel == c) (a ∷ []) []) (newest c xs) (cond (x.channel == c) (x ∷ []) [])
-
-alike_append : (xs ys us vs : List Accepted) → AreAlike xs ys → AreAlike us vs → AreAlike (xs ++ us) (ys ++ vs)
-alike_append [] [] us vs p q = q
-alike_append [] (y ∷ ys) us vs p q = absurd p
-alike_append (x ∷ xs) [] us vs p q = absurd p
-alike_append (x ∷ xs) (y ∷ ys) us vs p q = (p.0, alike_append xs ys us vs p.1 q)
-
-pub newest_alike : (c : ℕ) (xs ys : List Accepted) → AreAlike xs ys → AreAlike (newest c xs) (newest c ys)
-newest_alike c [] [] p = tt
-newest_alike c [] (y ∷ ys) p = absurd p
-newest_alike c (x ∷ xs) [] p = absurd p
-newest_alike c (x ∷ xs) (y ∷ ys) p = alike_append (newest c xs) (newest c ys) _ _ (newest_alike c xs ys p.1) (subst (λ (k : ℕ). AreAlike (cond (x.channel == c) (x ∷ []) []) (cond (k == c) (y ∷ []) [])) (sym p.0.channel) (go (x.channel == c)))
-  where
-    go : (b : Bool) → AreAlike (cond b (x ∷ []) []) (cond b (y ∷ []) [])
-    go true = (p.0, tt)
-    go false = tt
 
 pub newest_none : (c : ℕ) (xs : List Accepted) → ((n : ℕ) (a : Accepted) → slice_get xs n ≡ Some a → (a.channel == c) ≡ false) → newest c xs ≡ []
 newest_none c [] other = refl

@@ -1,12 +1,14 @@
 -- A table's history: the calls that did something, the newest first. No clause on a call speaks of it; it is what outcomes are told by.
-use Rattle.std.specs.Prelude.{◌≡◌, ℕ, ◌==◌, ◌||◌, if◌then◌else◌, Bool, false, List, [], ◌∷◌, ◌++◌, Some, None, IsOk}
-use Rattle.std.specs.Option.{option_map_or}
+use Rattle.std.specs.Prelude.{◌≡◌, ℕ, suc, ◌==◌, ◌||◌, if◌then◌else◌, Bool, false, List, [], ◌∷◌, ◌++◌, length, Option, Some, None, IsOk, Ok}
+use Rattle.std.specs.Option.{option_map_or, unwrap_or}
 use Rattle.rd_irp.specs.declared.completion.Head.{Head}
 use Rattle.rd_irp.specs.declared.op.Op.{Op}
+use Rattle.rd_pending.specs.declared.calls.Outcome.{Outcome}
+use Rattle.rd_pending.specs.declared.calls.Taken.{Taken}
 use Rattle.rd_pending.specs.declared.calls.Target.{Target}
 use Rattle.rd_pending.specs.Outcomes as tidings
-use Rattle.rd_pending.specs.Outcomes.{Tidings}
-use Rattle.rd_pending.specs.Table.{MayBegin, TableState, begin, complete, drop_channel, live, live_refusal, new_table, remove, send, submit, submit_refusal, take}
+use Rattle.rd_pending.specs.Outcomes.{Accepted, Agrees, Tidings, outcome_of}
+use Rattle.rd_pending.specs.Table.{MayBegin, MaySubmit, TableState, begin, complete, device_in, drop_channel, fate_at, file_in, life_of, live, live_refusal, new_table, next_id, remove, send, submit, submit_refusal, take}
 
 pub data Call : Type 0 where
   begins lives removes takes : ℕ → Call
@@ -35,7 +37,7 @@ May t (begins c) = (t.channel ≡ None) × MayBegin t c
 May t (lives device) = live_refusal t device ≡ None
 May t (removes device) = (c : ℕ) × (t.channel ≡ Some c)
 May t (takes number) = IsOk (take t number).1
-May t (submits application named o) = submit_refusal t named ≡ None
+May t (submits application named o) = MaySubmit named o × (submit_refusal t named ≡ None)
 May t (completes head bytes) = (c : ℕ) × (t.channel ≡ Some c) × IsOk (complete t head bytes).1
 May t sends = Unit {0}
 May t drops = (c : ℕ) × (t.channel ≡ Some c)
@@ -43,6 +45,25 @@ May t drops = (c : ℕ) × (t.channel ≡ Some c)
 abbrev pub Holds : List Call → Type 0
 Holds [] = Unit {0}
 Holds (call ∷ before) = May (after before) call × Holds before
+
+-- the request that is accepted of an application, where the table is this
+abbrev pub accepted_of : TableState → ℕ → Target → Op → Accepted
+accepted_of t application named o = record {
+  application = application;
+  channel = unwrap_or t.channel 0;
+  index = t.asked;
+  device = device_in named;
+  file = file_in named;
+  life = unwrap_or (life_of t (device_in named)) 0;
+  id = next_id t;
+  op = o;
+}
+
+-- the requests that were accepted, in order: the first has the number 1
+abbrev pub accepted_in : List Call → List Accepted
+accepted_in [] = []
+accepted_in (submits application named o ∷ before) = accepted_in before ++ accepted_of (after before) application named o ∷ []
+accepted_in (call ∷ before) = accepted_in before
 
 -- what was heard by a call
 abbrev pub heard_by : Call → List Tidings
@@ -71,6 +92,24 @@ ended_on c [] = false
 ended_on c (drops ∷ before) = is_open_on (after before) c || ended_on c before
 ended_on c (call ∷ before) = ended_on c before
 
--- what is told of each channel: how many lives were given before it, what was heard on it, and whether it ended
-abbrev pub told_by : List Call → ℕ → ℕ × List Tidings × Bool
-told_by h c = (lives_before c h, heard_on c h, ended_on c h)
+-- What came of a request that was accepted after these: by what was heard on its channel, how many lives were given before it, and whether it ended.
+abbrev pub outcome_in : List Call → List Accepted → Accepted → Option Outcome
+outcome_in h earlier a = outcome_of earlier a (lives_before a.channel h) (heard_on a.channel h) (ended_on a.channel h)
+
+-- Of each request that was accepted the table has what came of it: nothing yet, an outcome, or one that was handed out.
+abbrev pub AreOutcomes : List Call → Type 0
+AreOutcomes h = (earlier : List Accepted) (a : Accepted) (later : List Accepted) → accepted_in h ≡ earlier ++ a ∷ later
+    → Agrees (fate_at (after h) (suc (length earlier))) (outcome_in h earlier a)
+
+-- what came of a request, whether it was handed out or not
+pub record CameTo (h : List Call) (a : Accepted) (outcome : Outcome) : Type 0 where
+  pub earlier : List Accepted
+  pub later : List Accepted
+  pub accepted : accepted_in h ≡ earlier ++ a ∷ later
+  pub is : outcome_in h earlier a ≡ Some outcome
+
+-- What is handed out for a number, after the calls before, is what came of its request in the whole history, with its device and life: so it stays.
+abbrev pub HandsOut : List Call → List Call → Call → Type 0
+HandsOut h before (takes number) = (given : Taken) → (take (after before) number).1 ≡ Ok given
+    → (a : Accepted) × (came : CameTo h a given.outcome) × (number ≡ suc (length came.earlier)) × (given.device ≡ a.device) × (given.life ≡ a.life)
+HandsOut h before _ = Unit {0}

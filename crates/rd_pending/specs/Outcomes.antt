@@ -10,10 +10,12 @@ use Rattle.rd_base.specs.Layout.{met}
 use Rattle.rd_base.specs.Position.{at_start}
 use Rattle.rd_irp.specs.declared.completion.Body.{Body}
 use Rattle.rd_irp.specs.declared.completion.Head.{Head}
+use Rattle.rd_irp.specs.declared.op.Op.{Op}
 use Rattle.rd_irp.specs.Completion.{completion_body}
+use Rattle.rd_irp.specs.Fits.{kind_of}
 use Rattle.rd_pending.specs.declared.calls.Outcome.{Outcome}
 use Rattle.rd_pending.specs.declared.calls.Outcome.TheVariants.{Done, Lost}
-use Rattle.rd_pending.specs.Table.{Accepted, Fate, awaited, known, taken}
+use Rattle.rd_pending.specs.Table.{Fate, awaited, known}
 
 -- What a host heard on a channel and took: a device that began a life, one that is gone, or a completion by its head and the bytes behind it.
 pub data Tidings : Type 0 where
@@ -36,6 +38,18 @@ going_on c (begins device) = record c { lives = insert_entry nat_cmp c.lives dev
 going_on c (removes device) = record c { lives = remove_entry (is_at (nat_cmp device)) c.lives }
 going_on c (completes head bytes) = record c { heads = c.heads ++ head ∷ [] }
 
+-- A request that was accepted: who asked, on which channel and as which request there, counted from 0, of which device in which life, of which file of
+-- it, under which completion id, and the operation.
+pub record Accepted : Type 0 where
+  pub application : ℕ
+  pub channel : ℕ
+  pub index : ℕ
+  pub device : ℕ
+  pub file : ℕ
+  pub life : ℕ
+  pub id : ℕ
+  pub op : Op
+
 -- whether a head, and whether a request, has this device and completion id
 abbrev pub has_pair : ℕ → ℕ → Head → Bool
 has_pair device id head = head.device == device && head.completion == id
@@ -49,7 +63,7 @@ is_in_life c a = option_map_or (λ life. life == a.life) (lookup (is_at (nat_cmp
 
 -- the reply that a completion of the request spells
 abbrev pub reply_in : Accepted → Head → List ℕ → Option Outcome
-reply_in a head bytes = by (met (completion_body a.kind head.status) (at_start bytes))
+reply_in a head bytes = by (met (completion_body (kind_of a.op) head.status) (at_start bytes))
   where
     by : {R : Type 0} → Result (Body × R) Bad → Option Outcome
     by (Ok read) = Some (Done (record { status = head.status; body = read.0 }))
@@ -81,14 +95,8 @@ pairs_before earlier a = length (filter (asks_pair a.channel a.device a.id) earl
 abbrev pub outcome_of : List Accepted → Accepted → ℕ → List Tidings → Bool → Option Outcome
 outcome_of earlier a given heard ended = or_else (ended_in a (pairs_before earlier a) (course_from given) heard) (if ended then Some (Lost Dropped) else None)
 
--- a fate that agrees with an outcome, or with none; an outcome that was handed out isn't kept
-abbrev pub Agrees : Fate → Option Outcome → Type 0
-Agrees awaited outcome = outcome ≡ None
-Agrees (known o) outcome = outcome ≡ Some o
-Agrees taken outcome = (o : Outcome) × (outcome ≡ Some o)
-
--- Each request has the fate that the messages heard on its channel give it. For each channel is told how many lives were given before it, what was
--- heard on it, and whether it ended.
-abbrev pub AreOutcomes : List Accepted → (ℕ → ℕ × List Tidings × Bool) → Type 0
-AreOutcomes accepted told = (earlier : List Accepted) (a : Accepted) (later : List Accepted) → accepted ≡ earlier ++ a ∷ later →
-    Agrees a.fate (outcome_of earlier a (told a.channel).0 (told a.channel).1 (told a.channel).2)
+-- What there is of an outcome agrees with one, or with none. Of one that was handed out nothing is kept.
+abbrev pub Agrees : Option Fate → Option Outcome → Type 0
+Agrees (Some awaited) outcome = outcome ≡ None
+Agrees (Some (known o)) outcome = outcome ≡ Some o
+Agrees None outcome = (o : Outcome) × (outcome ≡ Some o)

@@ -1,21 +1,23 @@
 -- A host's table: the requests that it sends to devices, and what comes of each. No public standard has one: these are this project's own rules,
 -- beside the completion ids of MS-RDPEFS 2.2.1.4.
-use Rattle.std.specs.Prelude.{◌≡◌, ℕ, zero, suc, ◌+◌, ◌<◌, ◌≤◌, ◌^◌, ◌==◌, ◌&&◌, Bool, true, false, nat_le, if◌then◌else◌, List, [], ◌∷◌, ◌++◌, length, map, Option, Some, None, is_some, is_none, slice_get, IsOk, Result, Ok, Err}
+use Rattle.std.specs.Prelude.{◌≡◌, ℕ, suc, ◌+◌, ◌<◌, ◌≤◌, ◌^◌, ◌==◌, ◌&&◌, Bool, true, false, nat_le, if◌then◌else◌, List, [], ◌∷◌, ◌++◌, length, map, Option, Some, None, is_some, is_none, All, IsOk, Result, Ok, Err}
 use Rattle.std.specs.List.Sorted.{IsStrictlySortedBy}
-use Rattle.std.specs.Map.{keys_of, lookup, remove_entry}
+use Rattle.std.specs.Map.{keys_of, lookup, remove_entry, set_value}
 use Rattle.std.specs.Ordering.{nat_cmp}
 use Rattle.std.specs.BTreeMap.{insert_entry, is_at}
-use Rattle.std.specs.Option.{unwrap_or}
+use Rattle.std.specs.Option.{option_map, option_map_or, unwrap_or}
 use Rattle.rd_base.specs.declared.bad.Bad.{Bad}
 use Rattle.rd_base.specs.declared.journal.Cause.{Cause}
 use Rattle.rd_base.specs.declared.journal.Cause.TheVariants.{Removed, Dropped}
 use Rattle.rd_base.specs.Layout.{met}
 use Rattle.rd_base.specs.Position.{at_start}
+use Rattle.rd_chunk.specs.Carrier.{IsMessage}
 use Rattle.rd_irp.specs.declared.op.Op.{Op}
 use Rattle.rd_irp.specs.declared.op.Op.TheVariants as op
 use Rattle.rd_irp.specs.declared.completion.Body.{Body}
 use Rattle.rd_irp.specs.declared.completion.Head.{Head}
 use Rattle.rd_irp.specs.declared.completion.Kind.{Kind}
+use Rattle.rd_irp.specs.declared.completion.Kind.TheVariants as kind
 use Rattle.rd_irp.specs.Completion.{completion_body}
 use Rattle.rd_irp.specs.Fits.{kind_of, Fits}
 use Rattle.rd_irp.specs.Written.{request_bytes}
@@ -62,18 +64,11 @@ pub record Slot : Type 0 where
 pub data Fate : Type 0 where
   awaited : Fate
   known : Outcome → Fate
-  taken : Fate
 
--- A request that was accepted: who asked, on which channel and as which request there, counted from 0, of which device in which life, under which
--- completion id, the layout of its completion, and what came of it.
-pub record Accepted : Type 0 where
-  pub application : ℕ
-  pub channel : ℕ
-  pub index : ℕ
+-- A request whose outcome wasn't handed out: the device, the device's life, and what there is of its outcome.
+pub record Untaken : Type 0 where
   pub device : ℕ
   pub life : ℕ
-  pub id : ℕ
-  pub kind : Kind
   pub fate : Fate
 
 pub record TableState : Type 0 where
@@ -88,13 +83,15 @@ pub record TableState : Type 0 where
   pub begun : ℕ
   -- the slots that are held, by their completion ids
   pub slots : List (ℕ × Slot)
-  -- the requests that were accepted, in order: the first has the number 1
-  pub accepted : List Accepted
+  -- how many requests were accepted: they have the numbers from 1 to it
+  pub count : ℕ
+  -- the requests whose outcomes weren't handed out, by their numbers
+  pub untaken : List (ℕ × Untaken)
   -- the messages that aren't sent yet, in the order of submission
   pub outbox : List (List ℕ)
 
 abbrev pub new_table : TableState
-new_table = record { channel = None; below = 0; asked = 0; lives = []; given = 0; begun = 0; slots = []; accepted = []; outbox = [] }
+new_table = record { channel = None; below = 0; asked = 0; lives = []; given = 0; begun = 0; slots = []; count = 0; untaken = []; outbox = [] }
 
 -- ---- lookups
 
@@ -115,34 +112,35 @@ free_from n (entry ∷ entries) = if entry.0 == n then free_from (n + 1) entries
 abbrev pub next_id : TableState → ℕ
 next_id t = free_from 0 t.slots
 
--- the request with a number, if it was accepted; numbers count from 1
-abbrev pub accepted_at : TableState → ℕ → Option Accepted
-accepted_at t zero = None
-accepted_at t (suc before) = slice_get t.accepted before
+-- the request with a number, if it was accepted and its outcome wasn't handed out
+abbrev pub untaken_at : TableState → ℕ → Option Untaken
+untaken_at t number = lookup (is_at (nat_cmp number)) t.untaken
 
--- with another fate of the request behind so many
-abbrev pub with_fate_behind : ℕ → Fate → List Accepted → List Accepted
-with_fate_behind before fate [] = []
-with_fate_behind zero fate (a ∷ rest) = record a { fate = fate } ∷ rest
-with_fate_behind (suc before) fate (a ∷ rest) = a ∷ with_fate_behind before fate rest
-
--- with another fate of the request with a number
-abbrev pub with_fate : TableState → ℕ → Fate → TableState
-with_fate t zero fate = t
-with_fate t (suc before) fate = record t { accepted = with_fate_behind before fate t.accepted }
+-- what there is of the outcome of a number, unless it was handed out
+abbrev pub fate_at : TableState → ℕ → Option Fate
+fate_at t number = option_map (λ u. u.fate) (untaken_at t number)
 
 -- whether there is no outcome yet
 abbrev pub is_awaited : Fate → Bool
 is_awaited awaited = true
 is_awaited _ = false
 
+-- whether a number is awaited
+abbrev pub awaits : TableState → ℕ → Bool
+awaits t number = option_map_or is_awaited (fate_at t number) false
+
+-- with another fate of the request with a number
+abbrev pub with_fate : TableState → ℕ → Fate → TableState
+with_fate t number fate =
+    option_map_or (λ u. record t { untaken = set_value (is_at (nat_cmp number)) t.untaken (record u { fate = fate }) }) (untaken_at t number) t
+
 -- a request that passes a test is lost, if there is no outcome of it yet
-abbrev pub lost_where : (Accepted → Bool) → Cause → Accepted → Accepted
-lost_where test cause a = if is_awaited a.fate && test a then record a { fate = known (Lost cause) } else a
+abbrev pub lost_where : (Untaken → Bool) → Cause → ℕ × Untaken → ℕ × Untaken
+lost_where test cause entry = let u = entry.1 in (entry.0, if is_awaited u.fate && test u then record u { fate = known (Lost cause) } else u)
 
 -- the requests that pass a test and have no outcome yet are lost
-abbrev pub losing : (Accepted → Bool) → Cause → List Accepted → List Accepted
-losing test cause accepted = map (lost_where test cause) accepted
+abbrev pub losing : (Untaken → Bool) → Cause → List (ℕ × Untaken) → List (ℕ × Untaken)
+losing test cause untaken = map (lost_where test cause) untaken
 
 -- ---- the calls
 
@@ -207,7 +205,7 @@ submit_refusal t named = if is_none t.channel then Some submit_no.NoChannel else
     full : Option SubmitNo
     full =
         if nat_le max_slots (length t.slots) then Some (submit_no.Full (length t.slots))
-        else (if nat_le max_numbers (length t.accepted) then Some (submit_no.Worn (length t.accepted))
+        else (if nat_le max_numbers t.count then Some (submit_no.Worn t.count)
         else None)
 
     or_full : Option SubmitNo → Option SubmitNo
@@ -218,25 +216,17 @@ submit_refusal t named = if is_none t.channel then Some submit_no.NoChannel else
     by None = Some submit_no.NoDevice
     by (Some now) = or_full (stale named now)
 
--- A request of an application is accepted: it gets the next number and the least free completion id, and its message is to be sent.
-abbrev pub accept : TableState → ℕ → Target → Op → TableState
-accept t application named o =
-    let number = suc (length t.accepted) in
+-- A request is accepted: it gets the next number and the least free completion id, and its message is to be sent.
+abbrev pub accept : TableState → Target → Op → TableState
+accept t named o =
+    let number = suc t.count in
     let device = device_in named in
     let id = next_id t in
     record t {
       asked = t.asked + 1;
       slots = insert_entry nat_cmp t.slots id (record { number = number; device = device; kind = kind_of o; dead = false });
-      accepted = t.accepted ++ record {
-        application = application;
-        channel = unwrap_or t.channel 0;
-        index = t.asked;
-        device = device;
-        life = unwrap_or (life_of t device) 0;
-        id = id;
-        kind = kind_of o;
-        fate = awaited;
-      } ∷ [];
+      count = number;
+      untaken = insert_entry nat_cmp t.untaken number (record { device = device; life = unwrap_or (life_of t device) 0; fate = awaited });
       outbox = t.outbox ++ request_bytes (record { device = device; file = file_in named; completion = id; op = o }) ∷ [];
     }
 
@@ -245,7 +235,7 @@ submit t application named o = by (submit_refusal t named)
   where
     by : Option SubmitNo → TableState × Result ℕ SubmitNo
     by (Some cause) = (t, Err cause)
-    by None = (accept t application named o, Ok (suc (length t.accepted)))
+    by None = (accept t named o, Ok (suc t.count))
 
 -- the message that was submitted first is handed out
 abbrev pub send : TableState → TableState × Option (List ℕ)
@@ -291,14 +281,14 @@ remove t device =
       record t {
         lives = remove_entry (is_at (nat_cmp device)) t.lives;
         slots = map (dead_of device) t.slots;
-        accepted = losing (λ a. a.device == device) Removed t.accepted;
+        untaken = losing (λ u. u.device == device) Removed t.untaken;
       },
       true,
     )
 
 -- The channel ended: what isn't completed is lost, and nothing is to be sent.
 abbrev pub drop_channel : TableState → TableState
-drop_channel t = record t { channel = None; lives = []; slots = []; accepted = losing (λ a. true) Dropped t.accepted; outbox = [] }
+drop_channel t = record t { channel = None; lives = []; slots = []; untaken = losing (λ u. true) Dropped t.untaken; outbox = [] }
 
 -- the same, unless a message is to be sent
 abbrev pub drop_sent : TableState → TableState × Bool
@@ -313,45 +303,52 @@ stage t = record { channel = is_some t.channel; lives = t.begun }
 
 -- The outcome of a number is handed out, once.
 abbrev pub take : TableState → ℕ → TableState × Result Taken TakeNo
-take t number = by (accepted_at t number)
+take t number = by (untaken_at t number)
   where
-    from : Accepted → Fate → TableState × Result Taken TakeNo
-    from a awaited = (t, Err take_no.NotYet)
-    from a (known outcome) = (with_fate t number taken, Ok (record { device = a.device; life = a.life; outcome = outcome }))
-    from a taken = (t, Err take_no.Unknown)
+    from : Untaken → Fate → TableState × Result Taken TakeNo
+    from u awaited = (t, Err take_no.NotYet)
+    from u (known outcome) =
+        (record t { untaken = remove_entry (is_at (nat_cmp number)) t.untaken }, Ok (record { device = u.device; life = u.life; outcome = outcome }))
 
-    by : Option Accepted → TableState × Result Taken TakeNo
+    by : Option Untaken → TableState × Result Taken TakeNo
     by None = (t, Err take_no.Unknown)
-    by (Some a) = from a a.fate
+    by (Some u) = from u u.fate
 
 -- ---- what always holds
 
--- The mark of the slot of a request with a fate: dead where the request was lost, or its outcome was handed out. A request that is done has no slot.
-abbrev pub mark_of : Fate → Option Bool
-mark_of awaited = Some false
-mark_of (known (Done reply)) = None
-mark_of (known (Lost cause)) = Some true
-mark_of taken = Some true
+-- The mark of the slot of a number with what there is of its outcome: dead where the request was lost, or its outcome was handed out. A request that is
+-- done has no slot.
+abbrev pub mark_of : Option Fate → Option Bool
+mark_of (Some awaited) = Some false
+mark_of (Some (known (Done reply))) = None
+mark_of (Some (known (Lost cause))) = Some true
+mark_of None = Some true
 
--- The slot with a completion id, which is below the limit, is of a request that was accepted, with its device, its id, its layout and the mark of its fate.
-pub record IsSlotOf (t : TableState) (id : ℕ) (slot : Slot) : Type 0 where
+-- The slot with a completion id, which is below the limit, is of a number that was given, and has its mark: it is dead exactly where the number isn't
+-- awaited.
+pub record IsSlotIn (t : TableState) (id : ℕ) (slot : Slot) : Type 0 where
   pub low : id < max_slots
-  pub request : Accepted
-  pub is : accepted_at t slot.number ≡ Some request
-  pub device : request.device ≡ slot.device
-  pub own_id : request.id ≡ id
-  pub kind : request.kind ≡ slot.kind
-  pub mark : mark_of request.fate ≡ Some slot.dead
+  pub given : (1 ≤ slot.number) × (slot.number ≤ t.count)
+  pub mark : mark_of (fate_at t slot.number) ≡ Some slot.dead
 
--- Slots rise, and each is of its request. Each request without an outcome is one of the open channel, and has the slot of its completion id. Where no channel
--- is open nothing is held, there and to be sent.
+-- a number that is awaited has a slot, live, with its device
+pub record HasSlot (t : TableState) (number : ℕ) (u : Untaken) : Type 0 where
+  pub id : ℕ
+  pub kind : Kind
+  pub held : slot_at t id ≡ Some (record { number = number; device = u.device; kind = kind; dead = false })
+
+-- Slots rise, and no two are of one number. The numbers whose outcomes weren't handed out rise, and were given. Each that is awaited has its slot. Each
+-- message fits the limit. Where no channel is open nothing is held, there, to be sent and awaited.
 pub record AreSlots (t : TableState) : Type 0 where
   pub rising : IsStrictlySortedBy nat_cmp (keys_of t.slots)
+  pub untaken_rising : IsStrictlySortedBy nat_cmp (keys_of t.untaken)
   pub few_lives : length t.lives ≤ max_devices
-  pub of_request : (id : ℕ) (slot : Slot) → slot_at t id ≡ Some slot → IsSlotOf t id slot
-  pub of_awaited : (number : ℕ) (a : Accepted) → accepted_at t number ≡ Some a → is_awaited a.fate ≡ true
-      → (t.channel ≡ Some a.channel) × (slot_at t a.id ≡ Some (record { number = number; device = a.device; kind = a.kind; dead = false }))
-  pub closed : t.channel ≡ None → (t.slots ≡ []) × (t.lives ≡ []) × (t.outbox ≡ [])
+  pub of_slot : (id : ℕ) (slot : Slot) → slot_at t id ≡ Some slot → IsSlotIn t id slot
+  pub apart : (i j : ℕ) (x y : Slot) → slot_at t i ≡ Some x → slot_at t j ≡ Some y → x.number ≡ y.number → i ≡ j
+  pub numbers : (number : ℕ) (u : Untaken) → untaken_at t number ≡ Some u → (1 ≤ number) × (number ≤ t.count)
+  pub of_awaited : (number : ℕ) (u : Untaken) → untaken_at t number ≡ Some u → is_awaited u.fate ≡ true → HasSlot t number u
+  pub messages : All IsMessage t.outbox
+  pub closed : t.channel ≡ None → (t.slots ≡ []) × (t.lives ≡ []) × (t.outbox ≡ []) × ((number : ℕ) → awaits t number ≡ false)
 
 -- ---- the calls, with what they answer
 
@@ -366,6 +363,19 @@ pub data TableCall : Type 0 where
   takes : ℕ → Result Taken TakeNo → TableCall
   drops : TableCall
   drops_sent : Bool → TableCall
+  stages : Stage → TableCall
+  -- begin and submit are asked where they may not be
+  begins_unfit : ℕ → TableCall
+  submits_unfit : ℕ → Target → Op → TableCall
+
+-- A completion whose body has bytes to be kept: it is a success, for a slot of its device that isn't dead and has the layout of a buffer.
+pub record HasBuffer (t : TableState) (head : Head) : Type 0 where
+  pub slot : Slot
+  pub held : slot_at t head.completion ≡ Some slot
+  pub device : slot.device ≡ head.device
+  pub alive : slot.dead ≡ false
+  pub buffer : slot.kind ≡ kind.Buffer
+  pub success : (head.status).0 ≡ 0
 
 -- The table before a call, and after it. Where memory runs out nothing changes, and the call would have been answered with Ok.
 abbrev pub TableStep : TableState → TableCall → TableState → Type 0
@@ -375,9 +385,12 @@ TableStep old (lives device answer) new = live old device ≡ (new, answer)
 TableStep old (submits application named o (Err submit_no.Memory)) new = MaySubmit named o × (submit_refusal old named ≡ None) × (new ≡ old)
 TableStep old (submits application named o answer) new = MaySubmit named o × (submit old application named o ≡ (new, answer))
 TableStep old (sends answer) new = send old ≡ (new, answer)
-TableStep old (completes head bytes (Err complete_no.Memory)) new = IsOk (complete old head bytes).1 × (new ≡ old)
+TableStep old (completes head bytes (Err complete_no.Memory)) new = HasBuffer old head × IsOk (complete old head bytes).1 × (new ≡ old)
 TableStep old (completes head bytes answer) new = complete old head bytes ≡ (new, answer)
 TableStep old (removes device answer) new = remove old device ≡ (new, answer)
 TableStep old (takes number answer) new = take old number ≡ (new, answer)
 TableStep old drops new = drop_channel old ≡ new
 TableStep old (drops_sent answer) new = drop_sent old ≡ (new, answer)
+TableStep old (stages answer) new = (stage old ≡ answer) × (new ≡ old)
+TableStep old (begins_unfit channel) new = ¬ (MayBegin old channel) × (new ≡ old)
+TableStep old (submits_unfit application named o) new = ¬ (MaySubmit named o) × (new ≡ old)

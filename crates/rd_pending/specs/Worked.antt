@@ -1,5 +1,5 @@
 -- A table in use, for worked cases.
-use Rattle.std.specs.Prelude.{ℕ, zero, suc, ◌+◌, true, [], map}
+use Rattle.std.specs.Prelude.{ℕ, zero, suc, ◌+◌, true, List, [], ◌∷◌, map}
 use Rattle.std.specs.List.{range_with_len}
 use Rattle.rd_irp.specs.declared.completion.Body.TheVariants as body
 use Rattle.rd_irp.specs.declared.completion.Head.{Head}
@@ -9,8 +9,10 @@ use Rattle.rd_irp.specs.declared.op.Op.{Op}
 use Rattle.rd_irp.specs.declared.op.Op.TheVariants as op
 use Rattle.rd_pending.specs.declared.calls.Target.{Target}
 use Rattle.rd_pending.specs.declared.calls.Target.TheVariants as target
-use Rattle.rd_pending.specs.Outcomes.{Tidings, begins, completes, removes}
-use Rattle.rd_pending.specs.Table.{Accepted, Slot, TableState, awaited, begin, live, new_table, submit}
+use Rattle.rd_pending.specs.History as call
+use Rattle.rd_pending.specs.History.{Call}
+use Rattle.rd_pending.specs.Outcomes.{Accepted, Tidings, begins, completes, removes}
+use Rattle.rd_pending.specs.Table.{Slot, TableState, begin, live, new_table, submit}
 
 -- opening the root
 abbrev pub opening : Op
@@ -42,7 +44,11 @@ success_of device id = record { device = device; completion = id; status = recor
 
 -- the first request of device 1, in its first life
 abbrev pub first : Accepted
-first = record { application = 1; channel = 1; index = 0; device = 1; life = 1; id = 0; kind = kind.Create; fate = awaited }
+first = record { application = 1; channel = 1; index = 0; device = 1; file = 0; life = 1; id = 0; op = opening }
+
+-- the calls that lead there: a channel begins, device 1 is there, and an application asks for its root
+abbrev pub asked_once : List Call
+asked_once = call.submits 1 (target.Device 1) opening ∷ call.lives 1 ∷ call.begins 1 ∷ []
 
 -- what is heard: a life of device 1, its removal, and a refusal of the request with the completion id 0
 abbrev pub hears_begin : Tidings

@@ -1,6 +1,6 @@
 //! The definitions at work, as contracts of functions that do nothing: the checker computes each case.
 
-ghost use Rattle.std.specs.Prelude.{◌≡◌, ◌∷◌, [], false, true, List, None, Some, Ok, Err};
+ghost use Rattle.std.specs.Prelude.{◌≡◌, ◌∷◌, ◌++◌, [], false, true, length, List, None, Some, Ok, Err};
 ghost use Rattle.rd_base.specs.declared.journal.Cause.TheVariants as Cause;
 ghost use Rattle.rd_base.specs.declared.bad.Why.TheVariants as Why;
 ghost use Rattle.rd_irp.specs.declared.op.Op.TheVariants as Op;
@@ -11,10 +11,12 @@ ghost use Rattle.rd_pending.specs.declared.calls.Outcome.TheVariants as Outcome;
 ghost use Rattle.rd_pending.specs.declared.calls.SubmitNo.TheVariants as SubmitNo;
 ghost use Rattle.rd_pending.specs.declared.calls.TakeNo.TheVariants as TakeNo;
 ghost use Rattle.rd_pending.specs.declared.calls.Target.TheVariants as Target;
-ghost use Rattle.rd_pending.specs.History.{Call, Holds, after, told_by};
-ghost use Rattle.rd_pending.specs.Outcomes.{AreOutcomes, outcome_of};
-ghost use Rattle.rd_pending.specs.Table.{AreSlots, begin, complete, drop_channel, drop_sent, live, new_table, next_id, remove, stage, submit, take};
-ghost use Rattle.rd_pending.specs.Worked.{asked_of, first, full_table, handle_of, hears_begin, hears_refusal, hears_removal, open_table, opening, refusal_of, refused, success_of};
+ghost use Rattle.rd_pending.specs.History as Call;
+ghost use Rattle.rd_pending.specs.History.{AreOutcomes, Call, HandsOut, Holds, accepted_in, after, outcome_in};
+ghost use Rattle.rd_pending.specs.Outcomes.{outcome_of};
+ghost use Rattle.rd_pending.specs.Table as Table;
+ghost use Rattle.rd_pending.specs.Table.{AreSlots, TableCall, TableState, TableStep, begin, complete, drop_channel, drop_sent, fate_at, live, new_table, next_id, remove, stage, submit, take, untaken_at};
+ghost use Rattle.rd_pending.specs.Worked.{asked_of, asked_once, first, full_table, handle_of, hears_begin, hears_refusal, hears_removal, open_table, opening, refusal_of, refused, success_of};
 
 /// What a table accepts, and what it makes of what comes back.
 pub fn tables_are_as_listed()
@@ -43,7 +45,18 @@ pub fn tables_are_as_listed()
     ensures dropped { (take (drop_channel (asked_of 1 1 open_table)) 1).1 ≡ Ok (record { device = 1; life = 1; outcome = Outcome.Lost Cause.Dropped }) }
     ensures all_free { next_id (drop_channel (asked_of 1 1 open_table)) ≡ 0 }
     ensures unsent { (drop_sent (asked_of 1 1 open_table)).1 ≡ false }
+    // What was handed out isn't kept, and the numbers go on.
+    ensures kept { untaken_at (remove (asked_of 1 2 open_table) 1).0 1 ≡ Some (record { device = 1; life = 1; fate = Table.known (Outcome.Lost Cause.Removed) }) }
+    ensures not_kept { untaken_at (take (remove (asked_of 1 2 open_table) 1).0 1).0 1 ≡ None }
+    ensures next_number { (submit (take (remove (asked_of 1 2 open_table) 1).0 1).0 1 (Target.Device 2) opening).1 ≡ Ok 3 }
     ensures counts { stage open_table ≡ record { channel = true; lives = 2 } }
+{}
+
+/// Where a table is asked for what may not be it says so, and nothing changes.
+pub fn steps_are_as_listed()
+    ensures unfit { TableStep open_table (Table.begins_unfit 1) open_table }
+    ensures refused { TableStep open_table (Table.begins 2 false) open_table }
+    ensures staged { TableStep open_table (Table.stages (record { channel = true; lives = 2 })) open_table }
 {}
 
 /// No further completion id than 1,024.
@@ -65,9 +78,30 @@ pub fn outcomes_are_as_listed()
     ensures own_life { outcome_of [] (record first { life = 2 }) 0 (hears_begin ∷ hears_removal ∷ hears_begin ∷ hears_refusal ∷ []) true ≡ Some (Outcome.Done refused) }
 {}
 
-/// Whatever was called, in its order: each slot is of its request, and each request has the outcome that the lives, removals and completions
-/// heard on its channel, and the channel's end, give it.
+/// What a history has accepted, and what it hands out.
+pub fn histories_are_as_listed()
+    ensures first { accepted_in asked_once ≡ first ∷ [] }
+    ensures lost { outcome_in (Call.drops ∷ asked_once) [] first ≡ Some (Outcome.Lost Cause.Dropped) }
+    ensures removed { outcome_in (Call.drops ∷ Call.takes 1 ∷ Call.removes 1 ∷ asked_once) [] first ≡ Some (Outcome.Lost Cause.Removed) }
+    ensures same { accepted_in (Call.drops ∷ Call.takes 1 ∷ Call.removes 1 ∷ asked_once) ≡ first ∷ [] }
+    ensures none_kept { fate_at (after (Call.drops ∷ Call.takes 1 ∷ Call.removes 1 ∷ asked_once)) 1 ≡ None }
+{}
+
+/// What always holds of a table: of a new one, and of each after a step.
+pub fn steps_keep_slots()
+    ensures new { AreSlots new_table }
+    ensures step { (old new : TableState) (call : TableCall) → AreSlots old → TableStep old call new → AreSlots new }
+{}
+
+/// Whatever was called, in its order: what always holds of a table does, and each request that was accepted has the outcome that the lives, removals and
+/// completions heard on its channel, and the channel's end, give it.
 pub fn histories_tell_outcomes()
     ensures slots { (h : List Call) → Holds h → AreSlots (after h) }
-    ensures outcomes { (h : List Call) → Holds h → AreOutcomes (after h).accepted (told_by h) }
+    ensures outcomes { (h : List Call) → Holds h → AreOutcomes h }
+    ensures count { (h : List Call) → Holds h → (after h).count ≡ length (accepted_in h) }
+{}
+
+/// What is handed out for a number is what came of its request, with its device and life, and stays so whatever is called later.
+pub fn outcomes_are_handed_out()
+    ensures handed { (later before : List Call) (call : Call) → Holds (later ++ call ∷ before) → HandsOut (later ++ call ∷ before) before call }
 {}

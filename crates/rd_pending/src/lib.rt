@@ -8,5 +8,7 @@ pub use calls::{
     CompleteNo, Completed, Handle, LiveNo, Outcome, Stage, SubmitNo, TakeNo, Taken, Target,
 };
 pub use laws::{
-    histories_tell_outcomes, outcomes_are_as_listed, slots_are_few, tables_are_as_listed,
+    histories_are_as_listed, histories_tell_outcomes, outcomes_are_as_listed,
+    outcomes_are_handed_out, slots_are_few, steps_are_as_listed, steps_keep_slots,
+    tables_are_as_listed,
 };

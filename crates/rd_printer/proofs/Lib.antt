@@ -1,1 +1,2 @@
 pub mod NoticeLemmas
+pub mod PrinterLemmas

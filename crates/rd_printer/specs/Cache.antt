@@ -1,5 +1,6 @@
 -- What a client keeps for printers, by what it is told of them (MS-RDPEPC 2.2.2.3 to 2.2.2.6).
-use Rattle.std.specs.Prelude.{ℕ, List, Option, Some, None, fold}
+use Rattle.std.specs.Prelude.{◌≡◌, ℕ, List, Option, Result, Ok, Err, fold}
+use Rattle.std.specs.Option.{option_map_or}
 use Rattle.std.specs.Map.{lookup, remove_entry}
 use Rattle.std.specs.Ordering.{nat_cmp}
 use Rattle.std.specs.Cmp.Lexicographic.{slice_cmp}
@@ -28,18 +29,15 @@ forgetting cache name = remove_entry (is_at (name_cmp name)) cache
 -- A notice sets a printer's bytes, sets them where there are some, forgets them, or moves them to another name where there are some.
 abbrev pub heard : CacheState → Notice → CacheState
 heard cache (Add port pnp driver name config) = keeping cache name config
-heard cache (Update name config) = by (kept_for cache name)
-  where
-    by : Option (List ℕ) → CacheState
-    by None = cache
-    by (Some old) = keeping cache name config
+heard cache (Update name config) = option_map_or (λ (bytes : List ℕ). keeping cache name config) (kept_for cache name) cache
 heard cache (Delete name) = forgetting cache name
-heard cache (Rename old new) = by (kept_for cache old)
-  where
-    by : Option (List ℕ) → CacheState
-    by None = cache
-    by (Some bytes) = keeping (forgetting cache old) new bytes
+heard cache (Rename old new) = option_map_or (λ (bytes : List ℕ). keeping (forgetting cache old) new bytes) (kept_for cache old) cache
 heard cache (UsingXps printer flags) = cache
+
+-- A notice is heard, or nothing changes: where no memory was found for it.
+abbrev pub HearsNotice : {E : Type 0} → CacheState → Notice → Result (Unit {0}) E → CacheState → Type 0
+HearsNotice old notice (Ok done) new = new ≡ heard old notice
+HearsNotice old notice (Err no_memory) new = new ≡ old
 
 -- what is kept after notices, in order
 abbrev pub heard_all : CacheState → List Notice → CacheState

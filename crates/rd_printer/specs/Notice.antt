@@ -1,5 +1,5 @@
 -- What the host tells of printers (MS-RDPEPC 2.2.2.2 to 2.2.2.6).
-use Rattle.std.specs.Prelude.{ℕ, ◌<◌, ◌^◌, ◌==◌, ◌&&◌, nat_le, List, [], ◌∷◌, ◌++◌, length, Option, Some}
+use Rattle.std.specs.Prelude.{◌≡◌, ℕ, ◌<◌, ◌^◌, ◌==◌, ◌&&◌, nat_le, List, [], ◌∷◌, ◌++◌, length, Option, Some}
 use Rattle.std.specs.Int.{w32, to_le_bytes}
 use Rattle.rd_base.specs.declared.bad.Bad.{Bad}
 use Rattle.rd_base.specs.declared.bad.Why.TheVariants as why
@@ -101,3 +101,8 @@ IsWritableNotice (Update name config) = IsCountable name × IsCountable config
 IsWritableNotice (Delete name) = IsCountable name
 IsWritableNotice (Rename old new) = IsCountable old × IsCountable new
 IsWritableNotice (UsingXps printer flags) = Unit {0}
+
+-- the name of the port, where there is one, has its eight bytes
+abbrev pub HasWholePort : Notice → Type 0
+HasWholePort (Add port pnp driver name config) = length port ≡ 8
+HasWholePort _ = Unit {0}

@@ -1,5 +1,6 @@
 -- What a printer does with a request (this project's choice), and what is left when it is cut off.
-use Rattle.std.specs.Prelude.{ℕ, ◌+◌, ◌^◌, ◌-◌, ◌||◌, nat_le, nat_lt, if◌then◌else◌, List, [], ◌∷◌, ◌++◌, length, Option, Some, None}
+use Rattle.std.specs.Prelude.{ℕ, ◌+◌, ◌^◌, ◌-◌, ◌||◌, nat_le, nat_lt, if◌then◌else◌, List, [], ◌∷◌, ◌++◌, length}
+use Rattle.std.specs.Option.{option_map_or}
 use Rattle.std.specs.Map.{lookup, remove_entry}
 use Rattle.std.specs.Ordering.{nat_cmp}
 use Rattle.std.specs.BTreeMap.{insert_entry, is_at}
@@ -48,11 +49,7 @@ succeeded s b = answered s (done b)
 
 -- an operation on an open document
 abbrev pub on_document : PrinterState → ℕ → (List ℕ → Stepped PrinterState) → Stepped PrinterState
-on_document s file outcome = by (lookup (is_at (nat_cmp file)) s.documents)
-  where
-    by : Option (List ℕ) → Stepped PrinterState
-    by None = refused s status.invalid_handle
-    by (Some bytes) = outcome bytes
+on_document s file outcome = option_map_or outcome (lookup (is_at (nat_cmp file)) s.documents) (refused s status.invalid_handle)
 
 -- Create, whatever it asks for: a new document, if there is room for one
 abbrev pub open_document : PrinterState → Stepped PrinterState

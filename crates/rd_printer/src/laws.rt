@@ -1,18 +1,32 @@
 //! The law of a notice, and notices worked by hand. Each is a function that does nothing: its contract is the law.
 
-ghost use Rattle.std.specs.Prelude.{◌≡◌, [], ◌∷◌, codes, IsOkAnd};
+ghost use Rattle.std.specs.Prelude.{◌≡◌, ℕ, List, [], ◌∷◌, Ok, Err, codes, IsFalse, IsOkAnd, IsTrue};
+ghost use Rattle.rd_base.specs.declared.journal.Item.{Item};
+ghost use Rattle.rd_base.specs.declared.journal.Key.{Key};
+ghost use Rattle.rd_base.specs.Lawful.{IsLawful};
 ghost use Rattle.rd_base.specs.declared.bad.Why.TheVariants as why;
 ghost use Rattle.rd_base.specs.Layout.{met};
 ghost use Rattle.rd_base.specs.Position.{at_start};
 ghost use Rattle.rd_base.specs.Reading.{IsOneOf};
-ghost use Rattle.rd_printer.specs.Notice.{notice, notice_bytes, SpellsNotice, FirstFaultOfNotice};
+ghost use Rattle.rd_printer.specs.Notice.{notice, notice_bytes, SpellsNotice, FirstFaultOfNotice, HasWholePort};
 ghost use Rattle.rd_irp.specs.declared.op.Op.TheVariants as Op;
 ghost use Rattle.rd_irp.specs.declared.completion.Body.TheVariants as Body;
+ghost use Rattle.rd_irp.specs.declared.op.Op.{Op};
+ghost use Rattle.rd_irp.specs.declared.request.Request.{Request};
+ghost use Rattle.rd_drive.specs.declared.step.Step.{Step};
+ghost use Rattle.rd_drive.specs.declared.step.End.{End};
+ghost use Rattle.rd_drive.specs.Device.{is_starved};
+ghost use Rattle.rd_drive.specs.Once.{HaveOneReplyEach};
+ghost use Rattle.rd_drive.specs.Planned.{Planned};
+ghost use Rattle.rd_drive.specs.Promise.{Applies, CutsOff, IsDevice};
+ghost use Rattle.rd_drive.specs.Ranged.{AreEndsInRange, IsSteppedInRange, SetsFew};
+ghost use Rattle.rd_drive.specs.Replies.{replies_by};
 ghost use Rattle.rd_drive.specs.Statuses.{invalid_device_request, invalid_handle};
 ghost use Rattle.rd_printer.specs.declared.notice.Notice.TheVariants as Notice;
-ghost use Rattle.rd_printer.specs.Cache.{heard_all};
-ghost use Rattle.rd_printer.specs.Printer.{new_printer, printer_cut, printer_step};
+ghost use Rattle.rd_printer.specs.Cache.{heard_all, HearsNotice};
+ghost use Rattle.rd_printer.specs.Printer.{new_printer, printer_cut, printer_step, PrinterState};
 ghost use Rattle.rd_printer.specs.Printing.{addition_of, after, done, key, opening, opening_at, refused, writing};
+ghost use Rattle.rd_printer.specs.Running.{printer_cuts, printer_parked, printer_runs, IsAnyPrinter};
 ghost use Rattle.rd_printer.specs.Worked as worked;
 
 /// Bytes begin with one notice, with one tail, or have one first fault, never both.
@@ -31,6 +45,27 @@ pub fn printers_are_as_listed()
     ensures renames { heard_all [] (addition_of (codes "a") (codes "x") ∷ addition_of (codes "b") (codes "y") ∷ Notice.Rename (codes "a") (codes "b") ∷ []) ≡ (codes "b", codes "x") ∷ [] }
     ensures updates { heard_all [] (Notice.Update (codes "a") (codes "x") ∷ addition_of (codes "b") (codes "y") ∷ Notice.Update (codes "b") (codes "z") ∷ []) ≡ (codes "b", codes "z") ∷ [] }
     ensures deletes { heard_all [] (addition_of (codes "a") (codes "x") ∷ Notice.Delete (codes "a") ∷ []) ≡ [] }
+    ensures hears { HearsNotice {E = ℕ} [] (addition_of (codes "a") (codes "x")) (Ok tt) ((codes "a", codes "x") ∷ []) }
+    ensures hears_nothing { HearsNotice {E = ℕ} [] (addition_of (codes "a") (codes "x")) (Err 0) [] }
+{}
+
+/// A printer is a device: what it runs, and a cut, have what every device promises.
+pub fn printers_are_devices()
+    ensures applies { (old : PrinterState) (planned : Planned) (moment : ℕ) (answer : Step) (ends : List End) (new : PrinterState) → printer_runs old planned moment answer ends new
+        → (IsTrue planned.starved → IsTrue (is_starved answer)) → (planned.job.op ≡ Op.Close → IsFalse (is_starved answer)) → Applies printer_runs printer_parked old planned moment answer ends new }
+    ensures cuts { (old : PrinterState) (new : PrinterState) → printer_cuts old new → CutsOff printer_cuts printer_parked old new }
+    ensures steps { IsDevice printer_step printer_cut printer_parked IsAnyPrinter }
+{}
+
+/// The numbers of every reply of a printer are in the ranges of their fields, so that each can be written.
+pub fn printer_replies_are_in_range()
+    ensures step { (s : PrinterState) (key : Key) (file : ℕ) (operation : Op) (moment : ℕ) → SetsFew operation → IsSteppedInRange (printer_step s key file operation moment) }
+    ensures cut { (s : PrinterState) → AreEndsInRange (printer_cut s).ends }
+{}
+
+/// By a lawful journal of a printer no request has two replies.
+pub fn printer_requests_have_one_reply()
+    ensures { (opening : PrinterState) (requests : Key → Request) (journal : List Item) → IsLawful journal → HaveOneReplyEach (replies_by printer_step printer_cut requests opening journal) }
 {}
 
 /// The definitions at notices that were worked by hand.
@@ -42,4 +77,5 @@ pub fn worked_notices()
     ensures addition_bytes { notice_bytes worked.addition ≡ worked.addition_message }
     ensures renaming { IsOkAnd (met notice (at_start worked.renaming_message)) (λ m. (m.0 ≡ worked.renaming) × (m.1.left ≡ [])) }
     ensures renaming_bytes { notice_bytes worked.renaming ≡ worked.renaming_message }
+    ensures whole_port { HasWholePort worked.addition }
 {}

@@ -10,5 +10,8 @@
 mod laws;
 mod notice;
 
-pub use laws::{notice_is_decided, printers_are_as_listed, worked_notices};
+pub use laws::{
+    notice_is_decided, printer_replies_are_in_range, printer_requests_have_one_reply,
+    printers_are_as_listed, printers_are_devices, worked_notices,
+};
 pub use notice::{Notice, can_write_notice, put_notice, read_notice, write_notice};

@@ -16,10 +16,13 @@ use Rattle.rd_drive.specs.declared.step.Step.{Step}
 use Rattle.rd_drive.specs.declared.step.Step.TheVariants as step
 use Rattle.rd_drive.specs.declared.step.End.{End}
 use Rattle.rd_drive.specs.Planned.{Planned}
-use Rattle.rd_drive.specs.Device.{is_parked, is_starved}
+use Rattle.rd_drive.specs.Device.{Parked, is_parked, is_starved}
 use Rattle.rd_drive.specs.Outcome.{fault}
+use Rattle.rd_drive.specs.Promise.{Applies, CutsOff}
 use Rattle.rd_drive.specs.Stepped.{Stepped}
 use Rattle.rd_drive.specs.Statuses.{cancelled}
+use Rattle.rd_station.specs.declared.refusals.PutNo.{PutNo}
+use Rattle.rd_station.specs.declared.refusals.StationNo.{StationNo}
 use Rattle.rd_station.specs.declared.refusals.PutWhy.{PutWhy}
 use Rattle.rd_station.specs.declared.refusals.PutWhy.TheVariants as why
 use Rattle.rd_station.specs.declared.refusals.AnnounceNo.{AnnounceNo}
@@ -152,13 +155,14 @@ module _ {S : Type 0} where
       else (if nat_lt (max_entries - 3) (entry_count s) then Some (why.Worn (entry_count s))
       else None))
 
+  -- a job comes last, unless there is a cause why it can't
+  abbrev pub put_unless : StationState S → Job → Option PutWhy → StationState S × Option PutWhy
+  put_unless s job None = (record s { waiting = s.waiting ++ job ∷ []; journal = s.journal ++ Came job.key ∷ [] }, None)
+  put_unless s job (Some cause) = (s, Some cause)
+
   -- a job comes
   abbrev pub put : StationState S → Job → StationState S × Option PutWhy
-  put s job = by (put_refusal s job)
-    where
-      by : Option PutWhy → StationState S × Option PutWhy
-      by None = (record s { waiting = s.waiting ++ job ∷ []; journal = s.journal ++ Came job.key ∷ [] }, None)
-      by (Some cause) = (s, Some cause)
+  put s job = put_unless s job (put_refusal s job)
 
   -- the job of a key is held, or its completion was handed out
   abbrev pub IsKnown : StationState S → Key → Type 0
@@ -171,13 +175,14 @@ module _ {S : Type 0} where
     pub same_channel : All (λ (other : Key × ℕ). (other.0).channel ≡ key.channel) (held s)
     pub forgotten : All (λ entry. IfSome (named_key entry) (λ earlier. IsKnown s earlier ⊎ (earlier.channel < key.channel))) s.journal
 
+  -- the first of the jobs that no hand took, if there is one, goes into a hand
+  abbrev pub take_first : StationState S → List Job → StationState S × Given
+  take_first s [] = (s, given.Nothing)
+  take_first s (job ∷ jobs) = (record s { waiting = jobs; taken = s.taken ++ record { key = job.key; completion = job.completion; removed = false } ∷ [] }, given.Job job)
+
   -- the job that came first is taken
   abbrev pub take : StationState S → StationState S × Given
-  take s = if s.ended then (s, given.Over) else by s.waiting
-    where
-      by : List Job → StationState S × Given
-      by [] = (s, given.Nothing)
-      by (job ∷ jobs) = (record s { waiting = jobs; taken = s.taken ++ record { key = job.key; completion = job.completion; removed = false } ∷ [] }, given.Job job)
+  take s = if s.ended then (s, given.Over) else take_first s s.waiting
 
   -- The job in a hand was run at a moment, and this came of it: its own completion is made ready first, and then that of each end, in order.
   abbrev pub ran : StationState S → InHand → Kind → ℕ → Stepped S → StationState S
@@ -197,23 +202,25 @@ module _ {S : Type 0} where
     journal = s.journal ++ Cancelled t.key ∷ [];
   }
 
+  -- A job comes back from the hand in which it is, if it is in one: it is run, unless its device was removed.
+  abbrev pub apply_from : StationState S → Job → ℕ → Stepped S → Option InHand → StationState S × Applied
+  apply_from s job moment came None = (s, applied.Stale)
+  apply_from s job moment came (Some t) =
+      if t.removed then (cancelled_in_hand s t (kind_of job.op), applied.Cancelled)
+      else (ran s t (kind_of job.op) moment came, if is_parked came.answer then applied.Parked else applied.Ran)
+
   -- A hand gives back the job of a plan. What the device does with it is used only where the job is run.
   abbrev pub apply : StationState S → Job → ℕ → Stepped S → StationState S × Applied
-  apply s job moment came = by (find (λ (t : InHand). is_key t.key job.key) s.taken)
-    where
-      by : Option InHand → StationState S × Applied
-      by None = (s, applied.Stale)
-      by (Some t) =
-          if t.removed then (cancelled_in_hand s t (kind_of job.op), applied.Cancelled)
-          else (ran s t (kind_of job.op) moment came, if is_parked came.answer then applied.Parked else applied.Ran)
+  apply s job moment came = apply_from s job moment came (find (λ (t : InHand). is_key t.key job.key) s.taken)
+
+  -- the first of the completions that are ready, if there is one, is handed out
+  abbrev pub collect_first : StationState S → List Completion → StationState S × Option Completion
+  collect_first s [] = (s, None)
+  collect_first s (c ∷ cs) = (record s { ready = cs; journal = s.journal ++ Sent c.key ∷ [] }, Some c)
 
   -- what was ready first is handed out
   abbrev pub collect : StationState S → StationState S × Option Completion
-  collect s = by s.ready
-    where
-      by : List Completion → StationState S × Option Completion
-      by [] = (s, None)
-      by (c ∷ cs) = (record s { ready = cs; journal = s.journal ++ Sent c.key ∷ [] }, Some c)
+  collect s = collect_first s s.ready
 
   -- ---- the ends of a device and of a channel
 
@@ -255,7 +262,9 @@ module _ {S : Type 0} where
 pub data StationCall : Type 0 where
   announces : Result (Unit {0}) AnnounceNo → StationCall
   -- a job that doesn't come is given back
-  puts : Job → Option (PutWhy × Job) → StationCall
+  puts : Job → Option PutNo → StationCall
+  -- a job that may not come is given back: the second is the one that is
+  puts_unfit : Job → Job → StationCall
   takes : Given → StationCall
   applies : Planned → ℕ → Applied → StationCall
   collects : Option Completion → StationCall
@@ -269,23 +278,39 @@ DidRun applied.Parked = Unit {0}
 DidRun applied.Cancelled = ⊥
 DidRun applied.Stale = ⊥
 
--- A device with states of the type S: what a run of it relates, and what a cut relates.
-module _ {S : Type 0} (Runs : S → Planned → ℕ → Step → List End → S → Type 0) (Cuts : S → S → Type 0) where
-  -- the device ran the job, and this came of it
+module _ {S : Type 0} where
+  -- A station is made over a device. Where no memory was found for it, the device is given back as it was.
+  abbrev pub StationMade : S → Result (StationState S) (StationNo S) → Type 0
+  StationMade device (Ok made) = made ≡ new_station device
+  StationMade device (Err refusal) = refusal.device ≡ device
+
+  -- A job doesn't come for this cause, and nothing changes.
+  abbrev pub PutRefused : StationState S → Job → PutWhy → StationState S → Type 0
+  PutRefused old job why.Memory new = (put_refusal old job ≡ None) × (new ≡ old)
+  PutRefused old job cause new = put old job ≡ (new, Some cause)
+
+-- A device with states of the type S: what a run of it relates, the requests that wait in it, and what a cut relates.
+module _ {S : Type 0} (Runs : S → Planned → ℕ → Step → List End → S → Type 0) (parked : S → List Parked) (Cuts : S → S → Type 0) where
+  -- the device ran the job as it promises, and this came of it
   abbrev pub CameOf : S → Planned → ℕ → Stepped S → Type 0
-  CameOf device planned moment came = Runs device planned moment came.answer came.ends came.state
+  CameOf device planned moment came = Applies Runs parked device planned moment came.answer came.ends came.state
 
   -- The station before a call, and after it. Where memory runs out nothing changes.
   abbrev pub StationStep : StationState S → StationCall → StationState S → Type 0
   StationStep old (announces (Err no.Memory)) new = ((announce old).1 ≡ Ok tt) × (new ≡ old)
   StationStep old (announces answer) new = announce old ≡ (new, answer)
-  StationStep old (puts job (Some (why.Memory, back))) new = MayPut old job.key × (put_refusal old job ≡ None) × (new ≡ old) × (back ≡ job)
   StationStep old (puts job None) new = MayPut old job.key × (put old job ≡ (new, None))
-  StationStep old (puts job (Some (cause, back))) new = MayPut old job.key × (put old job ≡ (new, Some cause)) × (back ≡ job)
+  StationStep old (puts job (Some refusal)) new = MayPut old job.key × PutRefused old job refusal.why new × (refusal.job ≡ job)
+  StationStep old (puts_unfit job back) new = (¬ (MayPut old job.key)) × (new ≡ old) × (back ≡ job)
   StationStep old (takes answer) new = take old ≡ (new, answer)
   StationStep old (applies planned moment answer) new =
       (came : Stepped S) × (apply old planned.job moment came ≡ (new, answer)) × (DidRun answer → CameOf old.device planned moment came)
   StationStep old (collects answer) new = collect old ≡ (new, answer)
-  StationStep old (removes answer) new = (cut : S) × (remove old cut ≡ (new, answer)) × (answer ≡ true → Cuts old.device cut)
-  StationStep old drops new = (cut : S) × (drop_channel old cut ≡ new) × (old.live ≡ true → Cuts old.device cut)
-  StationStep old ends new = (cut : S) × (end old cut ≡ new) × (old.live ≡ true → Cuts old.device cut)
+  StationStep old (removes answer) new = (cut : S) × (remove old cut ≡ (new, answer)) × (answer ≡ true → CutsOff Cuts parked old.device cut)
+  StationStep old drops new = (cut : S) × (drop_channel old cut ≡ new) × (old.live ≡ true → CutsOff Cuts parked old.device cut)
+  StationStep old ends new = (cut : S) × (end old cut ≡ new) × (old.live ≡ true → CutsOff Cuts parked old.device cut)
+
+  -- The station before calls, and after the last.
+  abbrev pub StationSteps : StationState S → List StationCall → StationState S → Type 0
+  StationSteps old [] new = new ≡ old
+  StationSteps old (call ∷ calls) new = (between : StationState S) × StationStep old call between × StationSteps between calls new

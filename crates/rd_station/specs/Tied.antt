@@ -1,5 +1,5 @@
 -- What ties a station to its journal, in every state.
-use Rattle.std.specs.Prelude.{◌≡◌, ◌⊎◌, ℕ, List, All, Contains, map}
+use Rattle.std.specs.Prelude.{◌≡◌, ◌≢◌, ◌⊎◌, ◌≤◌, ℕ, List, [], All, AllPairs, Contains, length, map}
 use Rattle.rd_base.specs.declared.journal.Key.{Key}
 use Rattle.rd_base.specs.declared.journal.Item.{Item}
 use Rattle.rd_base.specs.declared.journal.Item.TheVariants.{Cancelled}
@@ -7,11 +7,14 @@ use Rattle.rd_base.specs.Lawful.{IsLawful}
 use Rattle.rd_irp.specs.declared.completion.Reply.{Reply}
 use Rattle.rd_irp.specs.declared.op.Op.{Op}
 use Rattle.rd_irp.specs.declared.request.Request.{Request}
-use Rattle.rd_drive.specs.Device.{Parked}
+use Rattle.rd_drive.specs.declared.step.End.{End}
+use Rattle.rd_drive.specs.declared.step.Step.{Step}
+use Rattle.rd_drive.specs.Device.{Completes, Parked}
+use Rattle.rd_drive.specs.Planned.{Planned}
 use Rattle.rd_drive.specs.Replies.{AreToldBy, KeyedReply, last_state_by, replies_by}
 use Rattle.rd_drive.specs.Stepped.{Settled, Stepped}
 use Rattle.rd_station.specs.declared.answers.Completion.{Completion}
-use Rattle.rd_station.specs.Station.{DidRun, ParkedJob, StationCall, StationState, applies, cancellation}
+use Rattle.rd_station.specs.Station.{DidRun, ParkedJob, StationCall, StationState, applies, cancellation, entry_count, held, max_entries, max_held, new_station, StationSteps}
 
 -- the answer to a key that came: the reply that the journal gives it, or CANCELLED where it was cancelled before it ran
 abbrev pub IsAnswer : List KeyedReply → List Item → Key → Reply → Type 0
@@ -21,11 +24,26 @@ IsAnswer replies journal key reply = Contains replies (key, reply) ⊎ (Contains
 abbrev pub as_parked : ParkedJob → Parked
 as_parked p = record { key = p.key; kind = p.kind }
 
--- What holds of a station over any device, which tells what is parked in it: the journal is lawful, and the parked jobs are those of the device. A station
--- may be made where nothing is parked.
+-- What holds of a station over any device, which tells what is parked in it. A station may be made where nothing is.
 pub record IsKept {S : Type 0} (parked_in : S → List Parked) (s : StationState S) : Type 0 where
   pub lawful : IsLawful s.journal
+  -- the parked jobs are those of the device
   pub parked : map as_parked s.parked ≡ parked_in s.device
+  -- each completion that is ready fits its layout, and can be sent
+  pub ready : All (λ (c : Completion). Completes c.kind c.reply) s.ready
+  -- few jobs are held, and no two have the same key or the same completion id
+  pub few : length (held s) ≤ max_held
+  pub keys_apart : AllPairs (λ (a : Key × ℕ) (b : Key × ℕ). a.0 ≢ b.0) (held s)
+  pub completions_apart : AllPairs (λ (a : Key × ℕ) (b : Key × ℕ). a.1 ≢ b.1) (held s)
+  -- the journal has room for each entry that a place is spoken for
+  pub room : entry_count s ≤ max_entries
+
+-- A station that came to be by calls: it was made over a device in which nothing was parked.
+pub record IsReached {S : Type 0} (Runs : S → Planned → ℕ → Step → List End → S → Type 0) (parked_in : S → List Parked) (Cuts : S → S → Type 0) (s : StationState S) : Type 0 where
+  pub device : S
+  pub nothing : parked_in device ≡ []
+  pub calls : List StationCall
+  pub steps : StationSteps Runs parked_in Cuts (new_station device) calls s
 
 -- A job that was run is that of its key's request.
 abbrev pub RunsOwn : (Key → Request) → StationCall → Type 0

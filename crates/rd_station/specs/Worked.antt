@@ -1,5 +1,5 @@
 -- A station over a device that only counts its turns, for worked cases.
-use Rattle.std.specs.Prelude.{ℕ, zero, suc, false, List, [], ◌∷◌, map}
+use Rattle.std.specs.Prelude.{◌≡◌, ℕ, zero, suc, false, List, [], ◌∷◌, map}
 use Rattle.std.specs.List.{range_with_len}
 use Rattle.rd_base.specs.declared.journal.Key.{Key}
 use Rattle.rd_irp.specs.declared.op.Op.TheVariants as op
@@ -7,9 +7,12 @@ use Rattle.rd_irp.specs.declared.completion.Kind.{Kind}
 use Rattle.rd_irp.specs.declared.completion.Kind.TheVariants as kind
 use Rattle.rd_irp.specs.declared.completion.Body.TheVariants as body
 use Rattle.rd_drive.specs.declared.plan.Job.{Job}
+use Rattle.rd_drive.specs.declared.step.Step.{Step}
 use Rattle.rd_drive.specs.declared.step.Step.TheVariants as step
 use Rattle.rd_drive.specs.declared.step.End.{End}
+use Rattle.rd_drive.specs.Device.{Parked}
 use Rattle.rd_drive.specs.Outcome.{done}
+use Rattle.rd_drive.specs.Planned.{Planned}
 use Rattle.rd_drive.specs.Stepped.{Stepped}
 use Rattle.rd_station.specs.declared.answers.Completion.{Completion}
 use Rattle.rd_station.specs.Station.{StationState, announce, apply, cancellation, completion_of, new_station, put, remove, take}
@@ -31,6 +34,16 @@ closes turns ends = record { state = turns; answer = step.Reply (done body.Close
 
 abbrev pub waits : ℕ → Stepped ℕ
 waits turns = record { state = turns; answer = step.Parked; ends = [] }
+
+-- the same device as a relation: a run and a cut each count one turn, and nothing waits in it
+abbrev pub counts_run : ℕ → Planned → ℕ → Step → List End → ℕ → Type 0
+counts_run turns planned moment answer ends new = new ≡ suc turns
+
+abbrev pub counts_parked : ℕ → List Parked
+counts_parked turns = []
+
+abbrev pub counts_cut : ℕ → ℕ → Type 0
+counts_cut turns new = new ≡ suc turns
 
 -- the end of a notification, with no bytes
 abbrev pub ended : ℕ → End

@@ -1,6 +1,6 @@
 //! The definitions at work, as contracts of functions that do nothing: the checker computes each case.
 
-ghost use Rattle.std.specs.Prelude.{◌≡◌, ◌++◌, ◌∷◌, [], false, true, None, Some, Err};
+ghost use Rattle.std.specs.Prelude.{◌≡◌, ℕ, List, ◌++◌, ◌∷◌, [], false, true, None, Some, Ok, Err};
 ghost use Rattle.rd_base.specs.declared.journal.Cause.TheVariants as Cause;
 ghost use Rattle.rd_base.specs.declared.journal.Item.TheVariants as Item;
 ghost use Rattle.rd_irp.specs.declared.completion.Kind.TheVariants as Kind;
@@ -8,8 +8,11 @@ ghost use Rattle.rd_station.specs.declared.answers.Applied.TheVariants as Applie
 ghost use Rattle.rd_station.specs.declared.answers.Given.TheVariants as Given;
 ghost use Rattle.rd_station.specs.declared.refusals.AnnounceNo.TheVariants as AnnounceNo;
 ghost use Rattle.rd_station.specs.declared.refusals.PutWhy.TheVariants as PutWhy;
-ghost use Rattle.rd_station.specs.Station.{announce, apply, collect, drop_channel, end, put, remove, take};
-ghost use Rattle.rd_station.specs.Worked.{both_ready, close, closed, closes, closes_to, given_up, key, notified, removed, told, untold, waiting, waits, with_jobs, with_taken};
+ghost use Rattle.rd_station.specs.Station.{announce, applies, apply, collect, drop_channel, end, new_station, put, puts_unfit, remove, take, PutRefused, StationCall, StationMade, StationState, StationStep, StationSteps};
+ghost use Rattle.rd_station.specs.Tied.{IsKept, IsReached};
+ghost use Rattle.rd_station.specs.Worked.{both_ready, close, closed, closes, closes_to, counts_cut, counts_parked, counts_run, given_up, key, notified, removed, told, untold, waiting, waits, with_jobs, with_taken};
+
+use rd_drive::Device;
 
 /// What a station takes, keeps and hands out.
 pub fn stations_are_as_listed()
@@ -18,6 +21,11 @@ pub fn stations_are_as_listed()
     ensures gone { (put untold (close 0 7)).1 ≡ Some PutWhy.Gone }
     // Two jobs that are held don't have the same completion id.
     ensures duplicate { (put (with_jobs told (close 0 7 ∷ [])) (close 1 7)).1 ≡ Some (PutWhy.Duplicate (key 0)) }
+    ensures refused { PutRefused (with_jobs told (close 0 7 ∷ [])) (close 1 7) (PutWhy.Duplicate (key 0)) (with_jobs told (close 0 7 ∷ [])) }
+    ensures starved { PutRefused told (close 0 7) PutWhy.Memory told }
+    // A station that isn't made gives its device back.
+    ensures made { StationMade {S = ℕ} 3 (Ok (new_station 3)) }
+    ensures not_made { StationMade {S = ℕ} 3 (Err (record { device = 3 })) }
     // 128 jobs are held, and no more.
     ensures last { (put (with_jobs told (closes_to 127)) (close 127 127)).1 ≡ None }
     ensures full { (put (with_jobs told (closes_to 128)) (close 128 128)).1 ≡ Some (PutWhy.Full 128) }
@@ -42,4 +50,23 @@ pub fn stations_are_as_listed()
     ensures dropped { (collect (drop_channel both_ready 10)).1 ≡ None }
     ensures cut { (drop_channel waiting 10).journal ≡ waiting.journal ++ Item.Cut Cause.Dropped ∷ [] }
     ensures removed_before { (drop_channel removed 10).journal ≡ removed.journal }
+{}
+
+/// A job that is run, and one that may not come, as steps of a station.
+pub fn station_steps_are_as_listed()
+    ensures runs { StationStep counts_run counts_parked counts_cut (with_taken 1 (with_jobs told (close 0 7 ∷ []))) (applies (record { job = close 0 7; starved = false }) 5 Applied.Ran)
+        (apply (with_taken 1 (with_jobs told (close 0 7 ∷ []))) (close 0 7) 5 (closes 1 [])).0 }
+    ensures unfit { StationStep counts_run counts_parked counts_cut (with_jobs told (close 1 7 ∷ [])) (puts_unfit (close 0 8) (close 0 8)) (with_jobs told (close 1 7 ∷ [])) }
+{}
+
+/// Whatever calls a station over a device is given, one after the other, what always holds of it holds.
+pub fn stations_are_kept<D: Device>()
+    ensures calls { (device : D) (calls : List StationCall) (s : StationState D) → D.parked device ≡ [] → StationSteps D.runs D.parked D.cuts (new_station device) calls s → IsKept D.parked s }
+    ensures reached { (s : StationState D) → IsReached D.runs D.parked D.cuts s → IsKept D.parked s }
+{}
+
+/// A new station over a device in which nothing is parked is reached, and where one is reached each call reaches another.
+pub fn calls_reach_stations<D: Device>()
+    ensures first { (device : D) → D.parked device ≡ [] → IsReached D.runs D.parked D.cuts (new_station device) }
+    ensures next { (old : StationState D) (new : StationState D) (call : StationCall) → IsReached D.runs D.parked D.cuts old → StationStep D.runs D.parked D.cuts old call new → IsReached D.runs D.parked D.cuts new }
 {}

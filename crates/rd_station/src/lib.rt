@@ -6,5 +6,7 @@ mod laws;
 mod refusals;
 
 pub use answers::{Applied, Completion, Given};
-pub use laws::stations_are_as_listed;
-pub use refusals::{AnnounceNo, PutWhy};
+pub use laws::{
+    calls_reach_stations, station_steps_are_as_listed, stations_are_as_listed, stations_are_kept,
+};
+pub use refusals::{AnnounceNo, PutNo, PutWhy, StationNo};

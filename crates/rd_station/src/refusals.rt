@@ -1,6 +1,7 @@
 //! Why a station refuses.
 
 use rd_base::Key;
+use rd_drive::Job;
 
 /// Why a job doesn't come.
 #[derive(Clone, Copy, Debug, PartialEq, Eq)]
@@ -14,6 +15,21 @@ pub enum PutWhy {
     /// The journal has so many entries, with the places that are spoken for, that the job's may not fit.
     Worn { count: u32 },
     Memory,
+}
+
+/// A job that doesn't come, and why.
+#[derive(Debug, Drop)]
+pub struct PutNo {
+    pub why: PutWhy,
+    /// The job as it was.
+    pub job: Job,
+}
+
+/// No memory was found for a station.
+#[derive(Debug, Drop)]
+pub struct StationNo<D> {
+    /// The device as it was.
+    pub device: D,
 }
 
 /// Why no job may come to a device that is announced.

@@ -1,7 +1,6 @@
 -- What a host does is a history of its table.
-use Rattle.std.proofs.Common.{◌≡◌, ◌∙◌, refl, sym, ap, subst, ℕ, ◌≤◌, ◌==◌, ◌||◌, Bool, true, false, cond, List, [], ◌∷◌, ◌++◌, Some, None, Option, append_assoc, append-nil}
+use Rattle.std.proofs.Common.{◌≡◌, ◌∙◌, refl, sym, ap, subst, ℕ, ◌≤◌, ◌==◌, Bool, true, false, cond, List, [], ◌∷◌, ◌++◌, Some, None, Option, append_assoc, append-nil}
 use Rattle.std.specs.Prelude.{fold, is_ok, Result, Ok, Err}
-use Rattle.std.specs.List.{flat_map}
 use Rattle.rd_devices.specs.declared.list.Announce.{Announce}
 use Rattle.rd_hello.specs.declared.end_fault.EndFault.{EndFault}
 use Rattle.rd_host.specs.Core as host
@@ -14,71 +13,19 @@ use Rattle.rd_pending.specs.declared.calls.CompleteNo.{CompleteNo}
 use Rattle.rd_pending.specs.declared.calls.Completed.{Completed}
 use Rattle.rd_pending.specs.declared.calls.LiveNo.{LiveNo}
 use Rattle.rd_pending.specs.History as call
-use Rattle.rd_pending.specs.History.{Call, Holds, after, ended_on, heard_by, is_open_on, lives_before, told_by}
-use Rattle.rd_pending.specs.Outcomes as outcomes
+use Rattle.rd_pending.specs.History.{Call, Holds, accepted_in, after, heard_by, heard_on, is_open_on}
 use Rattle.rd_pending.specs.Outcomes.{Tidings}
 use Rattle.rd_pending.specs.Table as table
 use Rattle.rd_pending.specs.Table.{TableState, live_refusal}
 use Rattle.rd_pending.proofs.Effects as effects
-use Rattle.rd_pending.proofs.Neutral.{AreNeutral, channel_all, ended_all, heard_all, heard_all_more, heard_more, lives_all, neutral_more}
+use Rattle.rd_pending.proofs.Neutral.{AreNeutral, channel_all, heard_all, heard_more, neutral_more}
+use Rattle.rd_pending.proofs.Tame.{AreTame, Tame, tame_all, tame_more}
 use Rattle.rd_world.specs.Host.{HostSide, admits, forgets, hears, sends}
-use Rattle.rd_world.specs.HostDeeds.{MayDo, admitted, heard_on, side_of, taken}
-use Rattle.rd_world.specs.Joining.{told_of}
-use Rattle.rd_world.specs.Talk.{Deed, EachAfter, adds, client_reads, client_writes, completes, has_ended, host_begins, host_ends, host_reads, host_writes, removes, stores, submits, takes, tells, until_begin}
+use Rattle.rd_world.specs.HostDeeds.{MayDo, admitted_by, admitting, admitting_one, calls_by, calls_in, calls_of, completing, forgetting, lives_by, sending, side_of}
+use Rattle.rd_world.specs.Joining.{accepted}
+use Rattle.rd_world.specs.Talk.{Deed, EachAfter, adds, client_reads, client_writes, completes, host_begins, host_ends, host_reads, host_writes, removes, stores, submits, takes, tells}
 
--- ---- the calls of a deed, the newest first
-
--- the table behind an announcement
-abbrev pub admitted_by : TableState → Announce → TableState
-admitted_by t a = cond (is_served a.kind) (table.live t a.id).0 t
-
--- a device that is announced begins a life, where it does
-abbrev pub lives_by : Option LiveNo → ℕ → List Call
-lives_by None device = call.lives device ∷ []
-lives_by (Some cause) device = []
-
-abbrev pub admitting_one : TableState → Announce → List Call
-admitting_one t a = cond (is_served a.kind) (lives_by (live_refusal t a.id) a.id) []
-
-abbrev pub admitting : TableState → List Announce → List Call
-admitting t [] = []
-admitting t (a ∷ devices) = admitting (admitted_by t a) devices ++ admitting_one t a
-
-abbrev pub forgetting : List ℕ → List Call
-forgetting [] = []
-forgetting (id ∷ ids) = forgetting ids ++ call.removes id ∷ []
-
--- a completion that is taken
-abbrev pub completing : Result Completed CompleteNo → Head → List ℕ → List Call
-completing (Ok gave) head bytes = call.completes head bytes ∷ []
-completing (Err cause) head bytes = []
-
-abbrev pub calls_in : TableState → Result Act EndFault → List Call
-calls_in t (Err fault) = []
-calls_in t (Ok act.Nothing) = []
-calls_in t (Ok (act.Announced devices)) = admitting t devices
-calls_in t (Ok (act.Removed ids)) = forgetting ids
-calls_in t (Ok (act.Complete head bytes)) = completing (table.complete t head bytes).1 head bytes
-
--- a message of the table is sent, where the end has none of its own
-abbrev pub sending : List (List ℕ) → List Call
-sending [] = call.sends ∷ []
-sending (message ∷ others) = []
-
-abbrev pub calls_by : HostSide → Deed → List Call
-calls_by s (host_begins channel) = call.begins channel ∷ []
-calls_by s (host_ends channel) = call.drops ∷ []
-calls_by s (submits application named o) = call.submits application named o ∷ []
-calls_by s (takes number) = call.takes number ∷ []
-calls_by s (host_writes channel message) = sending (s.core).outbox
-calls_by s (host_reads channel message) = calls_in s.table (host.hear s.core message).1
-calls_by s _ = []
-
-abbrev pub calls_of : ℕ → List Deed → List Call
-calls_of client [] = []
-calls_of client (deed ∷ before) = calls_by (side_of client before) deed ++ calls_of client before
-
--- ---- the table behind them
+-- ---- the table after them
 
 pub admits_table : (s : HostSide) (a : Announce) → (admits s a).table ≡ admitted_by s.table a
 admits_table s a = go (is_served a.kind) refl (live_refusal s.table a.id) refl
@@ -126,10 +73,10 @@ heard_table s message h e = go (host.hear s.core message) refl
     go (c, Ok (act.Removed ids)) e2 = rw e2 (forgot_all (record s { core = c }) ids h e)
     go (c, Ok (act.Complete head bytes)) e2 = rw e2 (completed_one s.table head bytes h e)
 
-sent_table : (s : HostSide) (h : List Call) → after h ≡ s.table → after (sending (s.core).outbox ++ h) ≡ (sends s).table
-sent_table s h e = go (s.core).outbox refl
+sent_table : (s : HostSide) (h : List Call) → after h ≡ s.table → after (sending ((s.core).core).outbox ++ h) ≡ (sends s).table
+sent_table s h e = go ((s.core).core).outbox refl
   where
-    go : (o : List (List ℕ)) → (s.core).outbox ≡ o → after (sending (s.core).outbox ++ h) ≡ (sends s).table
+    go : (o : List (List ℕ)) → ((s.core).core).outbox ≡ o → after (sending ((s.core).core).outbox ++ h) ≡ (sends s).table
     go [] e2 = rw e2 (ap (λ (t : TableState). (table.send t).0) e)
     go (message ∷ others) e2 = rw e2 e
 
@@ -203,10 +150,10 @@ calls_hold client (host_ends channel ∷ before) may = ((channel, ap (λ (x : Ta
 calls_hold client (removes device ∷ before) may = calls_hold client before may.1
 calls_hold client (adds device ∷ before) may = calls_hold client before may.1
 calls_hold client (submits application named o ∷ before) may =
-    (ap (λ (x : TableState). table.submit_refusal x named) (table_of client before) ∙ may.0.2, calls_hold client before may.1)
+    ((may.0.0, ap (λ (x : TableState). table.submit_refusal x named) (table_of client before) ∙ may.0.2), calls_hold client before may.1)
 calls_hold client (takes number ∷ before) may = (ap (λ (x : TableState). is_ok (table.take x number).1) (table_of client before) ∙ may.0, calls_hold client before may.1)
 calls_hold client (tells n ∷ before) may = calls_hold client before may.1
-calls_hold client (host_writes channel message ∷ before) may = holds_sending ((side_of client before).core).outbox (calls_of client before) (calls_hold client before may.1)
+calls_hold client (host_writes channel message ∷ before) may = holds_sending (((side_of client before).core).core).outbox (calls_of client before) (calls_hold client before may.1)
 calls_hold client (host_reads channel message ∷ before) may =
     holds_reading channel (side_of client before).table (host.hear (side_of client before).core message).1 (calls_of client before) (table_of client before) may.0 (calls_hold client before may.1)
 calls_hold client (client_reads channel message ∷ before) may = calls_hold client before may.1
@@ -247,122 +194,94 @@ pub neutral_sending : (o : List (List ℕ)) → AreNeutral (sending o)
 neutral_sending [] = (tt, tt)
 neutral_sending (message ∷ others) = tt
 
-pub heard_admitting : (s : HostSide) (devices : List Announce) → heard_all (admitting s.table devices) ≡ admitted s devices
-heard_admitting s [] = refl
-heard_admitting s (a ∷ devices) =
-    heard_all_more (admitting (admitted_by s.table a) devices) (admitting_one s.table a)
-    ∙ ap (λ (t : TableState). heard_all (admitting_one s.table a) ++ heard_all (admitting t devices)) (sym (admits_table s a))
-    ∙ ap (λ (xs : List Tidings). heard_all (admitting_one s.table a) ++ xs) (heard_admitting (admits s a) devices)
-    ∙ one (is_served a.kind) refl (live_refusal s.table a.id) refl
+-- ---- what is heard by them
+
+-- what was heard and taken by a message
+abbrev pub taken : HostSide → List ℕ → List Tidings
+taken s message = heard_all (calls_in s.table (host.hear s.core message).1)
+
+-- what is heard by a deed on a channel
+abbrev pub heard_by_deed : ℕ → ℕ → List Deed → Deed → List Tidings
+heard_by_deed client c before (host_reads channel message) = cond (channel == c) (taken (side_of client before) message) []
+heard_by_deed client c before _ = []
+
+heard_no_more : (c : ℕ) (x : Call) (h : List Call) → heard_by x ≡ [] → heard_on c (x ∷ h) ≡ heard_on c h ++ []
+heard_no_more c x h none = rw none (go (is_open_on (after h) c))
   where
-    one : (b : Bool) → is_served a.kind ≡ b → (o : Option LiveNo) → live_refusal s.table a.id ≡ o
-        → heard_all (admitting_one s.table a) ++ admitted (admits s a) devices ≡ admitted s (a ∷ devices)
-    one false e o e2 = rw e refl
-    one true e None e2 = rw (e, e2) refl
-    one true e (Some cause) e2 = rw (e, e2) refl
+    go : (b : Bool) → heard_on c h ++ cond b [] [] ≡ heard_on c h ++ []
+    go true = refl
+    go false = refl
 
-heard_forgetting : (ids : List ℕ) → heard_all (forgetting ids) ≡ flat_map (λ (id : ℕ). outcomes.removes id ∷ []) ids
-heard_forgetting [] = refl
-heard_forgetting (id ∷ ids) =
-    heard_all_more (forgetting ids) (call.removes id ∷ []) ∙ ap (λ (xs : List Tidings). outcomes.removes id ∷ xs) (heard_forgetting ids)
-
-pub heard_reading : (s : HostSide) (message : List ℕ) → heard_all (calls_in s.table (host.hear s.core message).1) ≡ taken s message
-heard_reading s message = go (host.hear s.core message).1 refl
-  where
-    completion : (head : Head) (bytes : List ℕ) (r : Result Completed CompleteNo) → (table.complete s.table head bytes).1 ≡ r → (host.hear s.core message).1 ≡ Ok (act.Complete head bytes)
-        → heard_all (completing r head bytes) ≡ taken s message
-    completion head bytes (Ok gave) e e2 = rw (e2, e) refl
-    completion head bytes (Err cause) e e2 = rw (e2, e) refl
-
-    go : (r : Result Act EndFault) → (host.hear s.core message).1 ≡ r → heard_all (calls_in s.table r) ≡ taken s message
-    go (Err fault) e = rw e refl
-    go (Ok act.Nothing) e = rw e refl
-    go (Ok (act.Announced devices)) e = heard_admitting s devices ∙ sym (rw e refl)
-    go (Ok (act.Removed ids)) e = heard_forgetting ids ∙ sym (rw e refl)
-    go (Ok (act.Complete head bytes)) e = completion head bytes (table.complete s.table head bytes).1 refl e
-
--- ---- what is told of each channel
-
-heard_no_more : (client c : ℕ) (x : Call) (before : List Deed) → heard_by x ≡ [] → call.heard_on c (x ∷ calls_of client before) ≡ call.heard_on c (calls_of client before)
-heard_no_more client c x before none = rw none (go (is_open_on (after (calls_of client before)) c))
-  where
-    go : (b : Bool) → call.heard_on c (calls_of client before) ++ cond b [] [] ≡ call.heard_on c (calls_of client before)
-    go true = append-nil (call.heard_on c (calls_of client before))
-    go false = append-nil (call.heard_on c (calls_of client before))
-
-pub heard_same : (client c : ℕ) (deeds : List Deed) → Does client deeds → call.heard_on c (calls_of client deeds) ≡ heard_on client c deeds
-heard_same client c [] may = refl
-heard_same client c (host_begins channel ∷ before) may = heard_no_more client c (call.begins channel) before refl ∙ heard_same client c before may.1
-heard_same client c (host_ends channel ∷ before) may = heard_no_more client c call.drops before refl ∙ heard_same client c before may.1
-heard_same client c (removes device ∷ before) may = heard_same client c before may.1
-heard_same client c (adds device ∷ before) may = heard_same client c before may.1
-heard_same client c (submits application named o ∷ before) may = heard_no_more client c (call.submits application named o) before refl ∙ heard_same client c before may.1
-heard_same client c (takes number ∷ before) may = heard_no_more client c (call.takes number) before refl ∙ heard_same client c before may.1
-heard_same client c (tells n ∷ before) may = heard_same client c before may.1
-heard_same client c (host_writes channel message ∷ before) may = go ((side_of client before).core).outbox ∙ heard_same client c before may.1
-  where
-    go : (o : List (List ℕ)) → call.heard_on c (sending o ++ calls_of client before) ≡ call.heard_on c (calls_of client before)
-    go [] = heard_no_more client c call.sends before refl
-    go (m ∷ ms) = refl
-heard_same client c (host_reads channel message ∷ before) may =
+pub heard_step : (client c : ℕ) (before : List Deed) (deed : Deed) → Does client (deed ∷ before) → heard_on c (calls_of client (deed ∷ before)) ≡ heard_on c (calls_of client before) ++ heard_by_deed client c before deed
+heard_step client c before (host_reads channel message) may =
     heard_more c (calls_in s.table (host.hear s.core message).1) (calls_of client before) (neutral_reading s.table (host.hear s.core message).1)
-    ∙ ap (λ (xs : List Tidings). xs ++ cond (is_open_on (after (calls_of client before)) c) (heard_all (calls_in s.table (host.hear s.core message).1)) []) (heard_same client c before may.1)
-    ∙ ap (λ (b : Bool). heard_on client c before ++ cond b (heard_all (calls_in s.table (host.hear s.core message).1)) []) opened
-    ∙ ap (λ (xs : List Tidings). heard_on client c before ++ cond (channel == c) xs []) (heard_reading s message)
+    ∙ ap (λ (b : Bool). heard_on c (calls_of client before) ++ cond b (taken s message) []) opened
   where
     s : HostSide
     s = side_of client before
 
     opened : is_open_on (after (calls_of client before)) c ≡ (channel == c)
     opened = ap (λ (t : TableState). is_open_on t c) (table_of client before) ∙ rw (may.0) refl
-heard_same client c (client_reads channel message ∷ before) may = heard_same client c before may.1
-heard_same client c (client_writes channel message ∷ before) may = heard_same client c before may.1
-heard_same client c (completes key message ∷ before) may = heard_same client c before may.1
-heard_same client c (stores device item ∷ before) may = heard_same client c before may.1
-
-pub lives_same : (client c : ℕ) (deeds : List Deed) → lives_before c (calls_of client deeds) ≡ (side_of client (until_begin c deeds)).table.given
-lives_same client c [] = refl
-lives_same client c (host_begins channel ∷ before) = go (lives_same client c before) (channel == c)
+heard_step client c before (host_writes channel message) may = go (((side_of client before).core).core).outbox
   where
-    go : lives_before c (calls_of client before) ≡ (side_of client (until_begin c before)).table.given → (b : Bool) → cond b (after (calls_of client before)).given (lives_before c (calls_of client before)) ≡ (side_of client (cond b before (until_begin c before))).table.given
-    go old true = ap (λ (t : TableState). t.given) (table_of client before)
-    go old false = old
-lives_same client c (host_ends channel ∷ before) = lives_same client c before
-lives_same client c (removes device ∷ before) = lives_same client c before
-lives_same client c (adds device ∷ before) = lives_same client c before
-lives_same client c (submits application named o ∷ before) = lives_same client c before
-lives_same client c (takes number ∷ before) = lives_same client c before
-lives_same client c (tells n ∷ before) = lives_same client c before
-lives_same client c (host_writes channel message ∷ before) =
-    lives_all c (sending ((side_of client before).core).outbox) (calls_of client before) (neutral_sending ((side_of client before).core).outbox) ∙ lives_same client c before
-lives_same client c (host_reads channel message ∷ before) =
-    lives_all c (calls_in (side_of client before).table (host.hear (side_of client before).core message).1) (calls_of client before) (neutral_reading (side_of client before).table (host.hear (side_of client before).core message).1)
-    ∙ lives_same client c before
-lives_same client c (client_reads channel message ∷ before) = lives_same client c before
-lives_same client c (client_writes channel message ∷ before) = lives_same client c before
-lives_same client c (completes key message ∷ before) = lives_same client c before
-lives_same client c (stores device item ∷ before) = lives_same client c before
+    go : (o : List (List ℕ)) → heard_on c (sending o ++ calls_of client before) ≡ heard_on c (calls_of client before) ++ []
+    go [] = heard_no_more c call.sends (calls_of client before) refl
+    go (m ∷ ms) = sym (append-nil (heard_on c (calls_of client before)))
+heard_step client c before (host_begins channel) may = heard_no_more c (call.begins channel) (calls_of client before) refl
+heard_step client c before (host_ends channel) may = heard_no_more c call.drops (calls_of client before) refl
+heard_step client c before (submits application named o) may = heard_no_more c (call.submits application named o) (calls_of client before) refl
+heard_step client c before (takes number) may = heard_no_more c (call.takes number) (calls_of client before) refl
+heard_step client c before (removes device) may = sym (append-nil (heard_on c (calls_of client before)))
+heard_step client c before (adds device) may = sym (append-nil (heard_on c (calls_of client before)))
+heard_step client c before (tells n) may = sym (append-nil (heard_on c (calls_of client before)))
+heard_step client c before (client_reads channel message) may = sym (append-nil (heard_on c (calls_of client before)))
+heard_step client c before (client_writes channel message) may = sym (append-nil (heard_on c (calls_of client before)))
+heard_step client c before (completes key message) may = sym (append-nil (heard_on c (calls_of client before)))
+heard_step client c before (stores device item) may = sym (append-nil (heard_on c (calls_of client before)))
 
-pub ended_same : (client c : ℕ) (deeds : List Deed) → Does client deeds → ended_on c (calls_of client deeds) ≡ has_ended c deeds
-ended_same client c [] may = refl
-ended_same client c (host_begins channel ∷ before) may = ended_same client c before may.1
-ended_same client c (host_ends channel ∷ before) may =
-    ap (λ (b : Bool). b || ended_on c (calls_of client before)) (ap (λ (t : TableState). is_open_on t c) (table_of client before) ∙ rw (may.0) refl)
-    ∙ ap (λ (b : Bool). (channel == c) || b) (ended_same client c before may.1)
-ended_same client c (removes device ∷ before) may = ended_same client c before may.1
-ended_same client c (adds device ∷ before) may = ended_same client c before may.1
-ended_same client c (submits application named o ∷ before) may = ended_same client c before may.1
-ended_same client c (takes number ∷ before) may = ended_same client c before may.1
-ended_same client c (tells n ∷ before) may = ended_same client c before may.1
-ended_same client c (host_writes channel message ∷ before) may =
-    ended_all c (sending ((side_of client before).core).outbox) (calls_of client before) (neutral_sending ((side_of client before).core).outbox) ∙ ended_same client c before may.1
-ended_same client c (host_reads channel message ∷ before) may =
-    ended_all c (calls_in (side_of client before).table (host.hear (side_of client before).core message).1) (calls_of client before) (neutral_reading (side_of client before).table (host.hear (side_of client before).core message).1)
-    ∙ ended_same client c before may.1
-ended_same client c (client_reads channel message ∷ before) may = ended_same client c before may.1
-ended_same client c (client_writes channel message ∷ before) may = ended_same client c before may.1
-ended_same client c (completes key message ∷ before) may = ended_same client c before may.1
-ended_same client c (stores device item ∷ before) may = ended_same client c before may.1
+-- ---- what is accepted by them
 
-pub told_same : (client : ℕ) (deeds : List Deed) → Does client deeds → (c : ℕ) → told_by (calls_of client deeds) c ≡ told_of client deeds c
-told_same client deeds may c = rw (lives_same client c deeds, heard_same client c deeds may, ended_same client c deeds may) refl
+-- the calls since a point
+pub calls_since : (client : ℕ) (late early : List Deed) → (later : List Call) × (calls_of client (late ++ early) ≡ later ++ calls_of client early)
+calls_since client [] early = ([], refl)
+calls_since client (deed ∷ late) early =
+    let (later, e) = calls_since client late early in
+    let own = calls_by (side_of client (late ++ early)) deed in
+    (own ++ later, ap (λ (xs : List Call). own ++ xs) e ∙ sym (append_assoc own later (calls_of client early)))
+
+tame_admitting : (t : TableState) (devices : List Announce) → AreTame (admitting t devices)
+tame_admitting t [] = tt
+tame_admitting t (a ∷ devices) = tame_more (admitting (admitted_by t a) devices) (admitting_one t a) (tame_admitting (admitted_by t a) devices) (one (is_served a.kind) (live_refusal t a.id))
+  where
+    one : (b : Bool) (o : Option LiveNo) → AreTame (cond b (lives_by o a.id) [])
+    one false o = tt
+    one true None = (tt, tt)
+    one true (Some cause) = tt
+
+tame_forgetting : (ids : List ℕ) → AreTame (forgetting ids)
+tame_forgetting [] = tt
+tame_forgetting (id ∷ ids) = tame_more (forgetting ids) (call.removes id ∷ []) (tame_forgetting ids) (tt, tt)
+
+tame_reading : (t : TableState) (r : Result Act EndFault) → AreTame (calls_in t r)
+tame_reading t (Err fault) = tt
+tame_reading t (Ok act.Nothing) = tt
+tame_reading t (Ok (act.Announced devices)) = tame_admitting t devices
+tame_reading t (Ok (act.Removed ids)) = tame_forgetting ids
+tame_reading t (Ok (act.Complete head bytes)) = go (table.complete t head bytes).1
+  where
+    go : (r : Result Completed CompleteNo) → AreTame (completing r head bytes)
+    go (Ok gave) = (tt, tt)
+    go (Err cause) = tt
+
+-- what the host reads accepts nothing and sends nothing
+pub read_tame : (client c : ℕ) (m : List ℕ) (before : List Deed) → Tame (side_of client before).table (hears (side_of client before) m).table
+    × (accepted client (host_reads c m ∷ before) ≡ accepted client before)
+read_tame client c m before =
+    let s = side_of client before in
+    let both = tame_all (calls_in s.table (host.hear s.core m).1) (calls_of client before) (tame_reading s.table (host.hear s.core m).1) in
+    (subst (λ (t : TableState). Tame t (hears s m).table) (table_of client before) (subst (λ (t : TableState). Tame (after (calls_of client before)) t) (table_of client (host_reads c m ∷ before)) both.0), both.1)
+
+-- nor does a message that it writes
+pub sent_same : (o : List (List ℕ)) (h : List Call) → accepted_in (sending o ++ h) ≡ accepted_in h
+sent_same [] h = refl
+sent_same (m ∷ ms) h = refl

@@ -1,39 +1,19 @@
 -- Completions answer requests in order, and no request is read while an earlier one with its pair isn't answered.
-use Rattle.std.proofs.Common.{◌≡◌, ◌∙◌, refl, sym, ap, subst, inl, inr, ℕ, suc, ◌+◌, ◌≤◌, ◌==◌, ◌&&◌, Bool, true, false, cond, List, [], ◌∷◌, ◌++◌, length, Some, None, Option, arith, length-append}
+use Rattle.std.proofs.Common.{◌≡◌, ◌∙◌, refl, sym, ap, ℕ, suc, ◌≤◌, ◌==◌, ◌&&◌, Bool, true, false, cond, List, [], ◌∷◌, ◌++◌, length, Some, None, Option, arith}
 use Rattle.std.specs.Prelude.{filter}
 use Rattle.std.specs.List.{cons_option}
-use Rattle.std.proofs.lemmas.List.Elements.{filter-append}
 use Rattle.rd_base.specs.declared.packet.Packet.TheVariants.{IoCompletion}
 use Rattle.rd_hello.specs.Moves.{is_of}
 use Rattle.rd_irp.specs.declared.completion.Head.{Head}
-use Rattle.rd_pending.specs.Table.{Accepted}
+use Rattle.rd_pending.specs.Outcomes.{Accepted}
 use Rattle.rd_pending.proofs.CountLemmas.{pairs}
 use Rattle.rd_pending.proofs.Tame.{newest, newest_pairs, with_pair}
-use Rattle.rd_world.specs.Joining.{IsCarried, Stands}
-use Rattle.rd_world.specs.HostDeeds.{side_of}
-use Rattle.rd_world.specs.Talk.{Deed, EachAfter, EndsWith, Has, adds, answered, asked, asks_pair, client_read, client_reads, client_writes, client_wrote, completes, has_pair, head_in, host_begins, host_ends, host_reads, host_writes, host_wrote, indices_of, is_request, removes, stores, submits, takes, tells}
+use Rattle.rd_world.specs.Joining.{IsCarried, Stands, accepted, request_of_accepted}
+use Rattle.rd_world.specs.Talk.{Deed, EachAfter, adds, answered, asked, asks_pair, client_read, client_reads, client_writes, client_wrote, completes, has_pair, head_in, host_begins, host_ends, host_reads, host_writes, host_wrote, indices_of, is_request, removes, stores, submits, takes, tells}
 use Rattle.rd_world.proofs.Calls.{Does}
+use Rattle.rd_world.proofs.Lists.{fewer_in_end}
 use Rattle.rd_world.proofs.Messages.{head_is, packet_is, request_is}
 use Rattle.rd_world.proofs.Written.{Matches, requests_on, written}
-
--- ---- lists
-
--- an end has no more of them than the whole
-pub fewer_in_end : {A : Type 0} (p : A → Bool) (whole part : List A) → EndsWith whole part → length (filter p part) ≤ length (filter p whole)
-fewer_in_end {A} p whole part ends =
-    rw (ends.1, filter-append p ends.0 part, length-append {A = A} (filter p ends.0) (filter p part)) (omega arith)
-
--- what is in a list, and not in its end, is the front, where that is short
-pub at_front : (whole part : List ℕ) (k : ℕ) → EndsWith whole part → length whole ≤ length part + 1 → Has k whole → ¬ (Has k part) → whole ≡ k ∷ part
-at_front whole part k ([], e) short has hasnt = absurd (hasnt (subst (Has k) e has))
-at_front whole part k (x ∷ [], e) short has hasnt =
-    elim (subst (Has k) e has) [ inl same ↦ rw (same) e | inr h ↦ absurd (hasnt h) ]
-at_front whole part k (x ∷ y ∷ zs, e) short has hasnt = absurd (omega (arith, ap length e, length-append {A = ℕ} zs part))
-
--- no end is as long but the whole
-pub all_of : {A : Type 0} (whole part : List A) → EndsWith whole part → length whole ≤ length part → whole ≡ part
-all_of whole part ([], e) short = e
-all_of {A} whole part (x ∷ xs, e) short = absurd (omega (arith, ap length e, length-append {A = A} xs part))
 
 -- ---- what is asked
 
@@ -68,13 +48,13 @@ matched_pairs d i (x ∷ xs) (m ∷ ms) p =
     ap (λ (b : Bool). length (cond b (m ∷ filter (asks d i) ms) (filter (asks d i) ms))) same ∙ one_more (with_pair d i x) m x _ _ (matched_pairs d i xs ms p.1)
   where
     same : asks d i m ≡ with_pair d i x
-    same = rw (request_is m p.0.request p.0.is, p.0.is, p.0.device, p.0.id) refl
+    same = rw (request_is m (request_of_accepted x) p.0, p.0) refl
 
-pub asked_pairs : (client : ℕ) (deeds : List Deed) → Does client deeds → IsCarried deeds → (c d i : ℕ) → length (asked c d i deeds) ≤ pairs c d i (side_of client deeds).table.accepted
+pub asked_pairs : (client : ℕ) (deeds : List Deed) → Does client deeds → IsCarried deeds → (c d i : ℕ) → length (asked c d i deeds) ≤ pairs c d i (accepted client deeds)
 asked_pairs client deeds may carried c d i =
     let w = written client deeds may c in
-    let all : length (filter (asks d i) (w.unsent ++ requests_on c deeds)) ≡ pairs c d i (side_of client deeds).table.accepted =
-    matched_pairs d i (newest c (side_of client deeds).table.accepted) (w.unsent ++ requests_on c deeds) w.matches ∙ newest_pairs c d i (side_of client deeds).table.accepted in
+    let all : length (filter (asks d i) (w.unsent ++ requests_on c deeds)) ≡ pairs c d i (accepted client deeds) =
+    matched_pairs d i (newest c (accepted client deeds)) (w.unsent ++ requests_on c deeds) w.matches ∙ newest_pairs c d i (accepted client deeds) in
     omega (
       arith,
       length-indices d i (client_read c deeds),
@@ -104,20 +84,20 @@ no_pair d i m other = go (head_in m) refl
     go None e = rw e refl
     go (Some h) e = let is : is_of IoCompletion m ≡ true = packet_is IoCompletion IoCompletion m (head_is m h e) in absurd (cc (is, other))
 
-pub length-answered : (whole : List Deed) (deeds : List Deed) → EachAfter (Stands whole) deeds → (c d i : ℕ) → length (answered c d i deeds) ≡ length (filter (has_pair d i) (client_wrote c deeds))
-length-answered whole [] stands c d i = refl
-length-answered whole (completes key m ∷ before) stands c d i =
-    answered_step (key.channel == c) (has_pair d i m) m key.index d i (client_wrote c before) (answered c d i before) refl (length-answered whole before stands.1 c d i)
-length-answered whole (client_writes channel m ∷ before) stands c d i =
-    length-answered whole before stands.1 c d i ∙ sym (written_step (channel == c) m d i (client_wrote c before) (no_pair d i m stands.0))
-length-answered whole (host_begins channel ∷ before) stands c d i = length-answered whole before stands.1 c d i
-length-answered whole (host_ends channel ∷ before) stands c d i = length-answered whole before stands.1 c d i
-length-answered whole (removes device ∷ before) stands c d i = length-answered whole before stands.1 c d i
-length-answered whole (adds device ∷ before) stands c d i = length-answered whole before stands.1 c d i
-length-answered whole (submits x named o ∷ before) stands c d i = length-answered whole before stands.1 c d i
-length-answered whole (takes number ∷ before) stands c d i = length-answered whole before stands.1 c d i
-length-answered whole (tells n ∷ before) stands c d i = length-answered whole before stands.1 c d i
-length-answered whole (host_writes channel m ∷ before) stands c d i = length-answered whole before stands.1 c d i
-length-answered whole (host_reads channel m ∷ before) stands c d i = length-answered whole before stands.1 c d i
-length-answered whole (client_reads channel m ∷ before) stands c d i = length-answered whole before stands.1 c d i
-length-answered whole (stores device item ∷ before) stands c d i = length-answered whole before stands.1 c d i
+pub length-answered : (deeds : List Deed) → EachAfter Stands deeds → (c d i : ℕ) → length (answered c d i deeds) ≡ length (filter (has_pair d i) (client_wrote c deeds))
+length-answered [] stands c d i = refl
+length-answered (completes key m ∷ before) stands c d i =
+    answered_step (key.channel == c) (has_pair d i m) m key.index d i (client_wrote c before) (answered c d i before) refl (length-answered before stands.1 c d i)
+length-answered (client_writes channel m ∷ before) stands c d i =
+    length-answered before stands.1 c d i ∙ sym (written_step (channel == c) m d i (client_wrote c before) (no_pair d i m stands.0))
+length-answered (host_begins channel ∷ before) stands c d i = length-answered before stands.1 c d i
+length-answered (host_ends channel ∷ before) stands c d i = length-answered before stands.1 c d i
+length-answered (removes device ∷ before) stands c d i = length-answered before stands.1 c d i
+length-answered (adds device ∷ before) stands c d i = length-answered before stands.1 c d i
+length-answered (submits x named o ∷ before) stands c d i = length-answered before stands.1 c d i
+length-answered (takes number ∷ before) stands c d i = length-answered before stands.1 c d i
+length-answered (tells n ∷ before) stands c d i = length-answered before stands.1 c d i
+length-answered (host_writes channel m ∷ before) stands c d i = length-answered before stands.1 c d i
+length-answered (host_reads channel m ∷ before) stands c d i = length-answered before stands.1 c d i
+length-answered (client_reads channel m ∷ before) stands c d i = length-answered before stands.1 c d i
+length-answered (stores device item ∷ before) stands c d i = length-answered before stands.1 c d i

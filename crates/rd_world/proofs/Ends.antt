@@ -1,5 +1,5 @@
 -- The completion that ends a request, and where the host heard it.
-use Rattle.std.proofs.Common.{◌≡◌, ◌⊎◌, ◌∙◌, refl, sym, ap, subst, inl, inr, ℕ, ◌==◌, ◌&&◌, Bool, true, false, cond, List, [], ◌∷◌, ◌++◌, Some, None, Option, append-nil, eqb-true}
+use Rattle.std.proofs.Common.{◌≡◌, ◌∙◌, refl, sym, ap, subst, inl, inr, ℕ, ◌==◌, ◌&&◌, Bool, true, false, cond, List, [], ◌∷◌, ◌++◌, Some, None, Option, append-nil, eqb-true}
 use Rattle.std.specs.Prelude.{Result, Ok, Err}
 use Rattle.std.specs.List.{AllByRecursion}
 use Rattle.rd_base.specs.declared.journal.Cause.TheVariants.{Removed, Dropped}
@@ -17,17 +17,18 @@ use Rattle.rd_pending.specs.declared.calls.LiveNo.{LiveNo}
 use Rattle.rd_pending.specs.declared.calls.Outcome.{Outcome}
 use Rattle.rd_pending.specs.declared.calls.Outcome.TheVariants.{Done, Lost}
 use Rattle.rd_pending.specs.History as call
-use Rattle.rd_pending.specs.History.{Call, heard_by}
+use Rattle.rd_pending.specs.History.{Call, heard_by, heard_on}
 use Rattle.rd_pending.specs.Outcomes as outcomes
-use Rattle.rd_pending.specs.Outcomes.{Course, Tidings, ended_by, ended_in, going_on, is_in_life, or_else, reply_in}
+use Rattle.rd_pending.specs.Outcomes.{Accepted, Course, Tidings, ended_by, ended_in, going_on, is_in_life, or_else, reply_in}
 use Rattle.rd_pending.specs.Table as table
-use Rattle.rd_pending.specs.Table.{Accepted, TableState, live_refusal}
+use Rattle.rd_pending.specs.Table.{TableState, live_refusal}
 use Rattle.rd_pending.proofs.CourseLemmas.{heard_pairs, through}
 use Rattle.rd_pending.proofs.Neutral.{heard_all}
 use Rattle.rd_world.specs.Host.{HostSide}
-use Rattle.rd_world.specs.HostDeeds.{heard_on, side_of, taken}
+use Rattle.rd_world.specs.HostDeeds.{admitted_by, admitting, admitting_one, calls_in, calls_of, completing, forgetting, lives_by, side_of}
 use Rattle.rd_world.specs.Talk.{Deed, adds, client_reads, client_writes, completes, host_begins, host_ends, host_reads, host_writes, removes, stores, submits, takes, tells}
-use Rattle.rd_world.proofs.Calls.{admitted_by, admitting, admitting_one, calls_in, completing, forgetting, heard_reading, lives_by}
+use Rattle.rd_world.proofs.Calls.{Does, heard_by_deed, heard_step, taken}
+use Rattle.rd_world.proofs.Lists.{all_more, split_cases}
 
 -- ---- the completion that ends a request
 
@@ -113,10 +114,6 @@ abbrev IsNoAnswer : Call → Type 0
 IsNoAnswer (call.completes head bytes) = ⊥
 IsNoAnswer _ = Unit {0}
 
-pub all_more : {A : Type 0} (P : A → Type 0) (xs ys : List A) → AllByRecursion P xs → AllByRecursion P ys → AllByRecursion P (xs ++ ys)
-all_more P [] ys all others = others
-all_more P (x ∷ xs) ys all others = (all.0, all_more P xs ys all.1 others)
-
 none_ends : (zs : List Tidings) (head : Head) (bytes : List ℕ) (back : List Tidings) → AllByRecursion IsNoEnd (zs ++ outcomes.completes head bytes ∷ back) → ⊥
 none_ends [] head bytes back all = all.0
 none_ends (z ∷ zs) head bytes back all = none_ends zs head bytes back all.1
@@ -159,7 +156,7 @@ one_there x y (z ∷ zs) back e = absurd (none_there zs y back (cc e))
 -- what is a completion among what was taken by a message is the message's
 taken_completion : (s : HostSide) (m : List ℕ) (zs : List Tidings) (head : Head) (bytes : List ℕ) (back : List Tidings) → taken s m ≡ zs ++ outcomes.completes head bytes ∷ back
     → ((host.hear s.core m).1 ≡ Ok (act.Complete head bytes)) × (zs ≡ [])
-taken_completion s m zs head bytes back e = go (host.hear s.core m).1 refl (heard_reading s m ∙ e)
+taken_completion s m zs head bytes back e = go (host.hear s.core m).1 refl e
   where
     by : (h : Head) (b : List ℕ) (r : Result Completed CompleteNo) → (host.hear s.core m).1 ≡ Ok (act.Complete h b) → heard_all (completing r h b) ≡ zs ++ outcomes.completes head bytes ∷ back
         → ((host.hear s.core m).1 ≡ Ok (act.Complete head bytes)) × (zs ≡ [])
@@ -190,19 +187,8 @@ pub record HeardAt (client c : ℕ) (deeds : List Deed) (front : List Tidings) (
   pub message : List ℕ
   pub early : List Deed
   pub parts : deeds ≡ late ++ host_reads c message ∷ early
-  pub before : heard_on client c early ≡ front
+  pub before : heard_on c (calls_of client early) ≡ front
   pub read : (host.hear (side_of client early).core message).1 ≡ Ok (act.Complete head bytes)
-
-pub split_front : {A : Type 0} (a b xs : List A) (x : A) (ys : List A) → a ++ b ≡ xs ++ x ∷ ys
-    → ((zs : List A) × (xs ≡ a ++ zs) × (b ≡ zs ++ x ∷ ys)) ⊎ ((zs : List A) × (a ≡ xs ++ x ∷ zs))
-split_front [] b xs x ys e = inl (xs, refl, e)
-split_front {A} (y ∷ a) b [] x ys e = let same : y ≡ x = cc e in inr (a, ap (λ (z : A). z ∷ a) same)
-split_front (y ∷ a) b (z ∷ xs) x ys e =
-    let same : y ≡ z = cc e in
-    elim (split_front a b xs x ys (cc e)) [
-      | inl (zs, h, g) ↦ inl (zs, rw (same, h) refl, g)
-      | inr (zs, g) ↦ inr (zs, rw (same, g) refl)
-    ]
 
 later_deed : (client c : ℕ) (deed : Deed) (before : List Deed) (front : List Tidings) (head : Head) (bytes : List ℕ) → HeardAt client c before front head bytes → HeardAt client c (deed ∷ before) front head bytes
 later_deed client c deed before front head bytes old = record {
@@ -214,15 +200,24 @@ later_deed client c deed before front head bytes old = record {
   read = old.read;
 }
 
-pub heard_at : (client c : ℕ) (deeds : List Deed) (front : List Tidings) (head : Head) (bytes : List ℕ) (back : List Tidings) → heard_on client c deeds ≡ front ++ outcomes.completes head bytes ∷ back
-    → HeardAt client c deeds front head bytes
-heard_at client c [] front head bytes back e = absurd (none_there front (outcomes.completes head bytes) back e)
-heard_at client c (host_reads channel m ∷ before) front head bytes back e = go (channel == c) refl (λ back e. later_deed client c (host_reads channel m) before front head bytes (heard_at client c before front head bytes back e)) e
+pub heard_at : (client c : ℕ) (deeds : List Deed) → Does client deeds → (front : List Tidings) (head : Head) (bytes : List ℕ) (back : List Tidings)
+    → heard_on c (calls_of client deeds) ≡ front ++ outcomes.completes head bytes ∷ back → HeardAt client c deeds front head bytes
+heard_at client c [] may front head bytes back e = absurd (none_there front (outcomes.completes head bytes) back e)
+heard_at client c (deed ∷ before) may front head bytes back e =
+    step deed may (sym (heard_step client c before deed may) ∙ e) (λ back e. later_deed client c deed before front head bytes (heard_at client c before may.1 front head bytes back e))
   where
-    go : (b : Bool) → (channel == c) ≡ b → ((back : List Tidings) → heard_on client c before ≡ front ++ outcomes.completes head bytes ∷ back → HeardAt client c (host_reads channel m ∷ before) front head bytes)
-        → heard_on client c before ++ cond b (taken (side_of client before) m) [] ≡ front ++ outcomes.completes head bytes ∷ back → HeardAt client c (host_reads channel m ∷ before) front head bytes
-    go false is later e = later back (sym (append-nil (heard_on client c before)) ∙ e)
-    go true is later e = elim (split_front (heard_on client c before) (taken (side_of client before) m) front (outcomes.completes head bytes) back e) [
+    heard : List Tidings
+    heard = heard_on c (calls_of client before)
+
+    -- what heard nothing
+    quiet : (deed : Deed) → heard ++ [] ≡ front ++ outcomes.completes head bytes ∷ back
+        → ((back : List Tidings) → heard ≡ front ++ outcomes.completes head bytes ∷ back → HeardAt client c (deed ∷ before) front head bytes) → HeardAt client c (deed ∷ before) front head bytes
+    quiet deed e later = later back (sym (append-nil heard) ∙ e)
+
+    read : (channel : ℕ) (m : List ℕ) (b : Bool) → (channel == c) ≡ b → heard ++ cond b (taken (side_of client before) m) [] ≡ front ++ outcomes.completes head bytes ∷ back
+        → ((back : List Tidings) → heard ≡ front ++ outcomes.completes head bytes ∷ back → HeardAt client c (host_reads channel m ∷ before) front head bytes) → HeardAt client c (host_reads channel m ∷ before) front head bytes
+    read channel m false is e later = later back (sym (append-nil heard) ∙ e)
+    read channel m true is e later = elim (split_cases heard (taken (side_of client before) m) front (outcomes.completes head bytes) back e) [
       | inl (zs, h, g) ↦
           let own = taken_completion (side_of client before) m zs head bytes back g in
           record {
@@ -230,20 +225,24 @@ heard_at client c (host_reads channel m ∷ before) front head bytes back e = go
             message = m;
             early = before;
             parts = ap (λ (x : ℕ). host_reads x m ∷ before) (eqb-true channel c is);
-            before = sym (h ∙ ap (λ (ys : List Tidings). heard_on client c before ++ ys) own.1 ∙ append-nil (heard_on client c before));
+            before = sym (h ∙ ap (λ (ys : List Tidings). heard ++ ys) own.1 ∙ append-nil heard);
             read = own.0;
           }
-      | inr (zs, g) ↦ later zs g
+      | inr (zs, g, rest) ↦ later zs g
     ]
-heard_at client c (host_begins channel ∷ before) front head bytes back e = later_deed client c (host_begins channel) before front head bytes (heard_at client c before front head bytes back e)
-heard_at client c (host_ends channel ∷ before) front head bytes back e = later_deed client c (host_ends channel) before front head bytes (heard_at client c before front head bytes back e)
-heard_at client c (removes device ∷ before) front head bytes back e = later_deed client c (removes device) before front head bytes (heard_at client c before front head bytes back e)
-heard_at client c (adds device ∷ before) front head bytes back e = later_deed client c (adds device) before front head bytes (heard_at client c before front head bytes back e)
-heard_at client c (submits x named o ∷ before) front head bytes back e = later_deed client c (submits x named o) before front head bytes (heard_at client c before front head bytes back e)
-heard_at client c (takes n ∷ before) front head bytes back e = later_deed client c (takes n) before front head bytes (heard_at client c before front head bytes back e)
-heard_at client c (tells n ∷ before) front head bytes back e = later_deed client c (tells n) before front head bytes (heard_at client c before front head bytes back e)
-heard_at client c (host_writes x m ∷ before) front head bytes back e = later_deed client c (host_writes x m) before front head bytes (heard_at client c before front head bytes back e)
-heard_at client c (client_reads x m ∷ before) front head bytes back e = later_deed client c (client_reads x m) before front head bytes (heard_at client c before front head bytes back e)
-heard_at client c (client_writes x m ∷ before) front head bytes back e = later_deed client c (client_writes x m) before front head bytes (heard_at client c before front head bytes back e)
-heard_at client c (completes key m ∷ before) front head bytes back e = later_deed client c (completes key m) before front head bytes (heard_at client c before front head bytes back e)
-heard_at client c (stores device item ∷ before) front head bytes back e = later_deed client c (stores device item) before front head bytes (heard_at client c before front head bytes back e)
+
+    step : (deed : Deed) → Does client (deed ∷ before) → heard ++ heard_by_deed client c before deed ≡ front ++ outcomes.completes head bytes ∷ back
+        → ((back : List Tidings) → heard ≡ front ++ outcomes.completes head bytes ∷ back → HeardAt client c (deed ∷ before) front head bytes) → HeardAt client c (deed ∷ before) front head bytes
+    step (host_reads channel m) may e later = read channel m (channel == c) refl e later
+    step (host_begins channel) may e later = quiet (host_begins channel) e later
+    step (host_ends channel) may e later = quiet (host_ends channel) e later
+    step (removes device) may e later = quiet (removes device) e later
+    step (adds device) may e later = quiet (adds device) e later
+    step (submits x named o) may e later = quiet (submits x named o) e later
+    step (takes n) may e later = quiet (takes n) e later
+    step (tells n) may e later = quiet (tells n) e later
+    step (host_writes x m) may e later = quiet (host_writes x m) e later
+    step (client_reads x m) may e later = quiet (client_reads x m) e later
+    step (client_writes x m) may e later = quiet (client_writes x m) e later
+    step (completes key m) may e later = quiet (completes key m) e later
+    step (stores device item) may e later = quiet (stores device item) e later

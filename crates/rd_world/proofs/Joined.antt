@@ -1,7 +1,7 @@
 -- Of each pair the m-th completion answers the m-th request.
 use Rattle.std.proofs.Common.{◌≡◌, ◌∙◌, refl, sym, ap, subst, inl, inr, ℕ, ◌+◌, ◌≤◌, ◌==◌, ◌&&◌, Bool, true, false, cond, List, [], ◌∷◌, ◌++◌, length, Some, None, Option, arith, eq-eqb, eqb-true}
 use Rattle.std.specs.Prelude.{filter, Result, Ok, Err}
-use Rattle.std.specs.List.{cons_option, flat_map}
+use Rattle.std.specs.List.{cons_option}
 use Rattle.std.proofs.lemmas.Bool.Decides.{nat_tests}
 use Rattle.rd_base.specs.declared.journal.Key.{Key}
 use Rattle.rd_base.specs.declared.status.Status.{Status}
@@ -18,23 +18,23 @@ use Rattle.rd_pending.specs.declared.calls.CompleteNo.{CompleteNo}
 use Rattle.rd_pending.specs.declared.calls.Completed.{Completed}
 use Rattle.rd_pending.specs.declared.calls.LiveNo.{LiveNo}
 use Rattle.rd_pending.specs.History as call
-use Rattle.rd_pending.specs.History.{lives_before}
+use Rattle.rd_pending.specs.History.{heard_on, lives_before}
 use Rattle.rd_pending.specs.Outcomes as outcomes
 use Rattle.rd_pending.specs.Outcomes.{Course, Tidings, course_from, going_on}
 use Rattle.rd_pending.specs.Table as table
 use Rattle.rd_pending.specs.Table.{TableState, live_refusal}
-use Rattle.rd_pending.proofs.CountLemmas.{pairs}
 use Rattle.rd_pending.proofs.CourseLemmas.{heard_one, heard_pairs, through}
 use Rattle.rd_pending.proofs.Histories.{past}
 use Rattle.rd_pending.proofs.Neutral.{heard_all, heard_all_more}
 use Rattle.rd_pending.proofs.Sound.{course}
 use Rattle.rd_world.specs.Host.{HostSide}
-use Rattle.rd_world.specs.HostDeeds.{admitted, heard_on, side_of, taken}
+use Rattle.rd_world.specs.HostDeeds.{admitted_by, admitting, admitting_one, calls_of, forgetting, lives_by, side_of}
 use Rattle.rd_world.specs.Joining.{Counted, IsCarried, Stands}
 use Rattle.rd_world.specs.Talk.{AtEachPoint, Deed, EachAfter, EndsWith, Has, adds, answered, asked, asks_pair, client_read, client_reads, client_writes, client_wrote, completes, has_pair, head_in, host_begins, host_ends, host_read, host_reads, host_writes, indices_of, is_request, removes, request_at, request_in, stores, submits, takes, tells}
-use Rattle.rd_world.proofs.Calls.{Does, admitted_by, admitting, admitting_one, calls_hold, calls_of, heard_admitting, heard_same, lives_by, table_of}
-use Rattle.rd_world.proofs.Counting.{asked_pairs, at_front, fewer_in_end, length-answered}
+use Rattle.rd_world.proofs.Calls.{Does, calls_hold, heard_by_deed, heard_step, taken}
+use Rattle.rd_world.proofs.Counting.{asked_pairs, length-answered}
 use Rattle.rd_world.proofs.Hearings.{Heard, heard}
+use Rattle.rd_world.proofs.Lists.{at_front, fewer_in_end}
 use Rattle.rd_world.proofs.Telling.{Tells}
 
 -- ---- completions that were taken
@@ -58,10 +58,9 @@ through_pairs d i k (outcomes.removes e ∷ xs) = through_pairs d i (going_on k 
 through_pairs d i k (outcomes.completes head bytes ∷ xs) =
     omega (arith, through_pairs d i (going_on k (outcomes.completes head bytes)) xs, heard_one d i k head bytes)
 
-pub heard_is : (client : ℕ) (deeds : List Deed) → Does client deeds → (c d i : ℕ) → heard_pairs d i (course c (calls_of client deeds)) ≡ pairs_in d i (heard_on client c deeds)
-heard_is client deeds may c d i =
-    through_pairs d i (course_from (lives_before c (calls_of client deeds))) (call.heard_on c (calls_of client deeds))
-    ∙ zero_and (pairs_in d i (call.heard_on c (calls_of client deeds))) ∙ ap (pairs_in d i) (heard_same client c deeds may)
+pub heard_is : (client : ℕ) (deeds : List Deed) (c d i : ℕ) → heard_pairs d i (course c (calls_of client deeds)) ≡ pairs_in d i (heard_on c (calls_of client deeds))
+heard_is client deeds c d i =
+    through_pairs d i (course_from (lives_before c (calls_of client deeds))) (heard_on c (calls_of client deeds)) ∙ zero_and (pairs_in d i (heard_on c (calls_of client deeds)))
   where
     zero_and : (n : ℕ) → 0 + n ≡ n
     zero_and n = omega arith
@@ -81,12 +80,9 @@ none_admitting d i t (a ∷ devices) =
     both : (x y : ℕ) → x ≡ 0 → y ≡ 0 → x + y ≡ 0
     both x y e e2 = omega (arith, e, e2)
 
-none_admitted : (d i : ℕ) (s : HostSide) (devices : List Announce) → pairs_in d i (admitted s devices) ≡ 0
-none_admitted d i s devices = ap (pairs_in d i) (sym (heard_admitting s devices)) ∙ none_admitting d i s.table devices
-
-none_removed : (d i : ℕ) (ids : List ℕ) → pairs_in d i (flat_map (λ (id : ℕ). outcomes.removes id ∷ []) ids) ≡ 0
+none_removed : (d i : ℕ) (ids : List ℕ) → pairs_in d i (heard_all (forgetting ids)) ≡ 0
 none_removed d i [] = refl
-none_removed d i (id ∷ ids) = none_removed d i ids
+none_removed d i (id ∷ ids) = ap (pairs_in d i) (heard_all_more (forgetting ids) (call.removes id ∷ [])) ∙ none_removed d i ids
 
 pub taken_pairs : (d i : ℕ) (s : HostSide) (m : List ℕ) → pairs_in d i (taken s m) ≤ cond (has_pair d i m) 1 0
 taken_pairs d i s m = go (host.hear s.core m) refl (heard s.core m)
@@ -105,49 +101,71 @@ taken_pairs d i s m = go (host.hear s.core m) refl (heard s.core m)
     go : (r : HostCoreState × Result Act EndFault) → host.hear s.core m ≡ r → Heard s.core m (host.hear s.core m) → pairs_in d i (taken s m) ≤ cond (has_pair d i m) 1 0
     go (c, Err fault) e is = rw e (low (has_pair d i m))
     go (c, Ok act.Nothing) e is = rw e (low (has_pair d i m))
-    go (c, Ok (act.Announced devices)) e is = rw (e, none_admitted d i s devices) (low (has_pair d i m))
+    go (c, Ok (act.Announced devices)) e is = rw (e, none_admitting d i s.table devices) (low (has_pair d i m))
     go (c, Ok (act.Removed ids)) e is = rw (e, none_removed d i ids) (low (has_pair d i m))
     go (c, Ok (act.Complete head bytes)) e is =
         let facts = subst (Heard s.core m) e is in
         completion head bytes (ap (λ (x : HostCoreState × Result Act EndFault). x.1) e) (rw facts.5 refl) (table.complete s.table head bytes).1 refl
 
 -- no more are taken than are read
-pub heard_read : (client c d i : ℕ) (deeds : List Deed) → pairs_in d i (heard_on client c deeds) ≤ length (filter (has_pair d i) (host_read c deeds))
-heard_read client c d i [] = omega arith
-heard_read client c d i (host_reads channel m ∷ before) = go (channel == c) (heard_read client c d i before)
+pub heard_read : (client c d i : ℕ) (deeds : List Deed) → Does client deeds → pairs_in d i (heard_on c (calls_of client deeds)) ≤ length (filter (has_pair d i) (host_read c deeds))
+heard_read client c d i [] may = omega arith
+heard_read client c d i (deed ∷ before) may = step deed may (heard_read client c d i before may.1)
   where
-    go : (b : Bool) → pairs_in d i (heard_on client c before) ≤ length (filter (has_pair d i) (host_read c before))
-        → pairs_in d i (heard_on client c before ++ cond b (taken (side_of client before) m) []) ≤ length (filter (has_pair d i) (cons_option (cond b (Some m) None) (host_read c before)))
-    go true old = rw (pairs_more d i (heard_on client c before) (taken (side_of client before) m)) (by (has_pair d i m) refl)
-      where
-        by : (b : Bool) → has_pair d i m ≡ b → pairs_in d i (heard_on client c before) + pairs_in d i (taken (side_of client before) m) ≤ length (cond (has_pair d i m) (m ∷ filter (has_pair d i) (host_read c before)) (filter (has_pair d i) (host_read c before)))
-        by true e = let one : pairs_in d i (taken (side_of client before) m) ≤ 1 = subst (λ (b : Bool). pairs_in d i (taken (side_of client before) m) ≤ cond b 1 0) e (taken_pairs d i (side_of client before) m) in rw e (omega (arith, old, one))
-        by false e = let none : pairs_in d i (taken (side_of client before) m) ≤ 0 = subst (λ (b : Bool). pairs_in d i (taken (side_of client before) m) ≤ cond b 1 0) e (taken_pairs d i (side_of client before) m) in rw e (omega (arith, old, none))
-    go false old = rw (pairs_more d i (heard_on client c before) []) (omega (arith, old))
-heard_read client c d i (host_begins channel ∷ before) = heard_read client c d i before
-heard_read client c d i (host_ends channel ∷ before) = heard_read client c d i before
-heard_read client c d i (removes device ∷ before) = heard_read client c d i before
-heard_read client c d i (adds device ∷ before) = heard_read client c d i before
-heard_read client c d i (submits x named o ∷ before) = heard_read client c d i before
-heard_read client c d i (takes n ∷ before) = heard_read client c d i before
-heard_read client c d i (tells n ∷ before) = heard_read client c d i before
-heard_read client c d i (host_writes channel m ∷ before) = heard_read client c d i before
-heard_read client c d i (client_reads channel m ∷ before) = heard_read client c d i before
-heard_read client c d i (client_writes channel m ∷ before) = heard_read client c d i before
-heard_read client c d i (completes key m ∷ before) = heard_read client c d i before
-heard_read client c d i (stores device item ∷ before) = heard_read client c d i before
+    heard : List Tidings
+    heard = heard_on c (calls_of client before)
 
-pub heard_answered : (client : ℕ) (whole deeds : List Deed) → IsCarried deeds → EachAfter (Stands whole) deeds → (c d i : ℕ) → pairs_in d i (heard_on client c deeds) ≤ length (answered c d i deeds)
-heard_answered client whole deeds carried stands c d i =
-    omega (arith, heard_read client c d i deeds, fewer_in_end (has_pair d i) (client_wrote c deeds) (host_read c deeds) (carried.to_host c), length-answered whole deeds stands c d i)
+    all : (deed : Deed) → Does client (deed ∷ before) → pairs_in d i (heard_on c (calls_of client (deed ∷ before))) ≡ pairs_in d i heard + pairs_in d i (heard_by_deed client c before deed)
+    all deed may = ap (pairs_in d i) (heard_step client c before deed may) ∙ pairs_more d i heard (heard_by_deed client c before deed)
+
+    quiet : (deed : Deed) → Does client (deed ∷ before) → heard_by_deed client c before deed ≡ [] → pairs_in d i heard ≤ length (filter (has_pair d i) (host_read c before))
+        → pairs_in d i (heard_on c (calls_of client (deed ∷ before))) ≤ length (filter (has_pair d i) (host_read c before))
+    quiet deed may none old = omega (arith, old, all deed may, ap (pairs_in d i) none)
+
+    read : (channel : ℕ) (m : List ℕ) → Does client (host_reads channel m ∷ before) → pairs_in d i heard ≤ length (filter (has_pair d i) (host_read c before))
+        → (b : Bool) → (channel == c) ≡ b → pairs_in d i (heard_on c (calls_of client (host_reads channel m ∷ before))) ≤ length (filter (has_pair d i) (cons_option (cond b (Some m) None) (host_read c before)))
+    read channel m may old false e =
+        let none : heard_by_deed client c before (host_reads channel m) ≡ [] = rw e refl in
+        omega (arith, old, all (host_reads channel m) may, ap (pairs_in d i) none)
+    read channel m may old true e = by (has_pair d i m) refl
+      where
+        own : heard_by_deed client c before (host_reads channel m) ≡ taken (side_of client before) m
+        own = rw e refl
+
+        by : (b : Bool) → has_pair d i m ≡ b
+            → pairs_in d i (heard_on c (calls_of client (host_reads channel m ∷ before))) ≤ length (cond (has_pair d i m) (m ∷ filter (has_pair d i) (host_read c before)) (filter (has_pair d i) (host_read c before)))
+        by true e2 =
+            let one : pairs_in d i (taken (side_of client before) m) ≤ 1 = subst (λ (b : Bool). pairs_in d i (taken (side_of client before) m) ≤ cond b 1 0) e2 (taken_pairs d i (side_of client before) m) in
+            rw e2 (omega (arith, old, one, all (host_reads channel m) may, ap (pairs_in d i) own))
+        by false e2 =
+            let none : pairs_in d i (taken (side_of client before) m) ≤ 0 = subst (λ (b : Bool). pairs_in d i (taken (side_of client before) m) ≤ cond b 1 0) e2 (taken_pairs d i (side_of client before) m) in
+            rw e2 (omega (arith, old, none, all (host_reads channel m) may, ap (pairs_in d i) own))
+
+    step : (deed : Deed) → Does client (deed ∷ before) → pairs_in d i heard ≤ length (filter (has_pair d i) (host_read c before))
+        → pairs_in d i (heard_on c (calls_of client (deed ∷ before))) ≤ length (filter (has_pair d i) (host_read c (deed ∷ before)))
+    step (host_reads channel m) may old = read channel m may old (channel == c) refl
+    step (host_begins channel) may old = quiet (host_begins channel) may refl old
+    step (host_ends channel) may old = quiet (host_ends channel) may refl old
+    step (removes device) may old = quiet (removes device) may refl old
+    step (adds device) may old = quiet (adds device) may refl old
+    step (submits x named o) may old = quiet (submits x named o) may refl old
+    step (takes number) may old = quiet (takes number) may refl old
+    step (tells n) may old = quiet (tells n) may refl old
+    step (host_writes channel m) may old = quiet (host_writes channel m) may refl old
+    step (client_reads channel m) may old = quiet (client_reads channel m) may refl old
+    step (client_writes channel m) may old = quiet (client_writes channel m) may refl old
+    step (completes key m) may old = quiet (completes key m) may refl old
+    step (stores device item) may old = quiet (stores device item) may refl old
+
+pub heard_answered : (client : ℕ) (deeds : List Deed) → Does client deeds → IsCarried deeds → EachAfter Stands deeds → (c d i : ℕ) → pairs_in d i (heard_on c (calls_of client deeds)) ≤ length (answered c d i deeds)
+heard_answered client deeds may carried stands c d i =
+    omega (arith, heard_read client c d i deeds may, fewer_in_end (has_pair d i) (client_wrote c deeds) (host_read c deeds) (carried.to_host c), length-answered deeds stands c d i)
 
 -- ---- the count of what is answered
 
-pub at_most_one : (client : ℕ) (whole deeds : List Deed) → Does client deeds → IsCarried deeds → EachAfter (Stands whole) deeds → (c d i : ℕ) → length (asked c d i deeds) ≤ length (answered c d i deeds) + 1
-at_most_one client whole deeds may carried stands c d i =
-    let most : pairs c d i (side_of client deeds).table.accepted ≤ heard_pairs d i (course c (calls_of client deeds)) + 1 =
-    subst (λ (t : TableState). pairs c d i t.accepted ≤ heard_pairs d i (course c (calls_of client deeds)) + 1) (table_of client deeds) (past (calls_of client deeds) (calls_hold client deeds may) c d i) in
-    omega (arith, asked_pairs client deeds may carried c d i, most, heard_is client deeds may c d i, heard_answered client whole deeds carried stands c d i)
+pub at_most_one : (client : ℕ) (deeds : List Deed) → Does client deeds → IsCarried deeds → EachAfter Stands deeds → (c d i : ℕ) → length (asked c d i deeds) ≤ length (answered c d i deeds) + 1
+at_most_one client deeds may carried stands c d i =
+    omega (arith, asked_pairs client deeds may carried c d i, past (calls_of client deeds) (calls_hold client deeds may) c d i, heard_is client deeds c d i, heard_answered client deeds may carried stands c d i)
 
 -- a request that was read is among those with its pair
 pub has_index : (r : Request) (d i k : ℕ) (ms : List (List ℕ)) → r.device ≡ d → r.completion ≡ i → request_at ms k ≡ Some r → Has k (indices_of d i ms)
@@ -173,13 +191,13 @@ own_pair d i m r s e has =
     (grind (arith, nat_tests), grind (arith, nat_tests))
 
 -- a completion answers the newest request with its pair, and the only one that isn't answered
-pub answers_newest : (client : ℕ) (whole before : List Deed) (key : Key) (m : List ℕ) (d i : ℕ) → Does client before → IsCarried before → EachAfter (Stands whole) before → Counted before
+pub answers_newest : (client : ℕ) (before : List Deed) (key : Key) (m : List ℕ) (d i : ℕ) → Does client before → IsCarried before → EachAfter Stands before → Counted before
     → Tells before (completes key m) → has_pair d i m ≡ true → asked key.channel d i before ≡ key.index ∷ answered key.channel d i before
-answers_newest client whole before key m d i may carried stands counted told has =
+answers_newest client before key m d i may carried stands counted told has =
     let r = told.0.0 in
     let pair = own_pair d i m r told.0.2 told.0.3 has in
     at_front (asked key.channel d i before) (answered key.channel d i before) key.index (counted key.channel d i)
-    (at_most_one client whole before may carried stands key.channel d i) (has_index r d i key.index (client_read key.channel before) pair.0 pair.1 told.0.1) (told.1 d i)
+    (at_most_one client before may carried stands key.channel d i) (has_index r d i key.index (client_read key.channel before) pair.0 pair.1 told.0.1) (told.1 d i)
 
 ends_more : {A : Type 0} (b : Bool) (x : A) (xs ys : List A) → EndsWith xs ys → EndsWith (cond b (x ∷ xs) xs) ys
 ends_more {A} true x xs ys ends = (x ∷ ends.0, ap (λ (zs : List A). x ∷ zs) ends.1)
@@ -189,29 +207,29 @@ pub carried_now : (deeds : List Deed) → AtEachPoint IsCarried deeds → IsCarr
 carried_now [] carried = carried
 carried_now (deed ∷ before) carried = carried.0
 
-pub counted : (client : ℕ) (whole deeds : List Deed) → Does client deeds → AtEachPoint IsCarried deeds → EachAfter (Stands whole) deeds → EachAfter Tells deeds → Counted deeds
-counted client whole [] may carried stands told c d i = ([], refl)
-counted client whole (completes key m ∷ before) may carried stands told c d i = go (key.channel == c) refl (has_pair d i m) refl (counted client whole before may.1 carried.1 stands.1 told.1)
+pub counted : (client : ℕ) (deeds : List Deed) → Does client deeds → AtEachPoint IsCarried deeds → EachAfter Stands deeds → EachAfter Tells deeds → Counted deeds
+counted client [] may carried stands told c d i = ([], refl)
+counted client (completes key m ∷ before) may carried stands told c d i = go (key.channel == c) refl (has_pair d i m) refl (counted client before may.1 carried.1 stands.1 told.1)
   where
     go : (p : Bool) → (key.channel == c) ≡ p → (q : Bool) → has_pair d i m ≡ q → Counted before → EndsWith (asked c d i before) (cons_option (cond (p && q) (Some key.index) None) (answered c d i before))
     go true e true e2 old =
-        let all = answers_newest client whole before key m d i may.1 (carried_now before carried.1) stands.1 old told.0 e2 in
+        let all = answers_newest client before key m d i may.1 (carried_now before carried.1) stands.1 old told.0 e2 in
         subst (λ (x : ℕ). EndsWith (asked x d i before) (key.index ∷ answered x d i before)) (eqb-true key.channel c e) ([], all)
     go true e false e2 old = old c d i
     go false e q e2 old = old c d i
-counted client whole (client_reads channel m ∷ before) may carried stands told c d i = go (channel == c) (counted client whole before may.1 carried.1 stands.1 told.1 c d i)
+counted client (client_reads channel m ∷ before) may carried stands told c d i = go (channel == c) (counted client before may.1 carried.1 stands.1 told.1 c d i)
   where
     go : (b : Bool) → EndsWith (asked c d i before) (answered c d i before) → EndsWith (indices_of d i (cons_option (cond b (Some m) None) (client_read c before))) (answered c d i before)
     go true old = ends_more (is_request m && asks_pair d i m) (length (filter is_request (client_read c before))) _ _ old
     go false old = old
-counted client whole (host_begins channel ∷ before) may carried stands told c d i = counted client whole before may.1 carried.1 stands.1 told.1 c d i
-counted client whole (host_ends channel ∷ before) may carried stands told c d i = counted client whole before may.1 carried.1 stands.1 told.1 c d i
-counted client whole (removes device ∷ before) may carried stands told c d i = counted client whole before may.1 carried.1 stands.1 told.1 c d i
-counted client whole (adds device ∷ before) may carried stands told c d i = counted client whole before may.1 carried.1 stands.1 told.1 c d i
-counted client whole (submits x named o ∷ before) may carried stands told c d i = counted client whole before may.1 carried.1 stands.1 told.1 c d i
-counted client whole (takes n ∷ before) may carried stands told c d i = counted client whole before may.1 carried.1 stands.1 told.1 c d i
-counted client whole (tells n ∷ before) may carried stands told c d i = counted client whole before may.1 carried.1 stands.1 told.1 c d i
-counted client whole (host_writes channel m ∷ before) may carried stands told c d i = counted client whole before may.1 carried.1 stands.1 told.1 c d i
-counted client whole (host_reads channel m ∷ before) may carried stands told c d i = counted client whole before may.1 carried.1 stands.1 told.1 c d i
-counted client whole (client_writes channel m ∷ before) may carried stands told c d i = counted client whole before may.1 carried.1 stands.1 told.1 c d i
-counted client whole (stores device item ∷ before) may carried stands told c d i = counted client whole before may.1 carried.1 stands.1 told.1 c d i
+counted client (host_begins channel ∷ before) may carried stands told c d i = counted client before may.1 carried.1 stands.1 told.1 c d i
+counted client (host_ends channel ∷ before) may carried stands told c d i = counted client before may.1 carried.1 stands.1 told.1 c d i
+counted client (removes device ∷ before) may carried stands told c d i = counted client before may.1 carried.1 stands.1 told.1 c d i
+counted client (adds device ∷ before) may carried stands told c d i = counted client before may.1 carried.1 stands.1 told.1 c d i
+counted client (submits x named o ∷ before) may carried stands told c d i = counted client before may.1 carried.1 stands.1 told.1 c d i
+counted client (takes n ∷ before) may carried stands told c d i = counted client before may.1 carried.1 stands.1 told.1 c d i
+counted client (tells n ∷ before) may carried stands told c d i = counted client before may.1 carried.1 stands.1 told.1 c d i
+counted client (host_writes channel m ∷ before) may carried stands told c d i = counted client before may.1 carried.1 stands.1 told.1 c d i
+counted client (host_reads channel m ∷ before) may carried stands told c d i = counted client before may.1 carried.1 stands.1 told.1 c d i
+counted client (client_writes channel m ∷ before) may carried stands told c d i = counted client before may.1 carried.1 stands.1 told.1 c d i
+counted client (stores device item ∷ before) may carried stands told c d i = counted client before may.1 carried.1 stands.1 told.1 c d i

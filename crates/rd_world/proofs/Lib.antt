@@ -1,3 +1,4 @@
+pub mod Lists
 pub mod Calls
 pub mod Messages
 pub mod Hearings
@@ -14,10 +15,19 @@ pub mod Lives
 pub mod Ends
 pub mod Waits
 pub mod Replied
-pub mod Handed
+pub mod Joining
 pub mod TestedJournals
 pub mod TestedDeeds
 pub mod TestedTelling
+pub mod TestedAnswers
+pub mod TestedWire
+pub mod TestedReplies
+pub mod TestedLines
+pub mod TestedActs
+pub mod FoundSides
+pub mod FoundLines
 pub mod Example
 pub mod OwnAnswers
 pub mod Unheard
+pub mod Agreeing
+pub mod Refused

@@ -1,5 +1,5 @@
 -- Which devices are there on a host's open channel, by what it read on it.
-use Rattle.std.proofs.Common.{◌≡◌, ◌≢◌, ◌⊎◌, ◌∙◌, refl, sym, ap, subst, inl, inr, ℕ, zero, suc, ◌+◌, ◌==◌, ◌||◌, Bool, true, false, cond, List, [], ◌∷◌, Some, None, Option, arith, eq-eqb, ne_eqb}
+use Rattle.std.proofs.Common.{◌≡◌, ◌⊎◌, ◌∙◌, refl, sym, ap, subst, inl, inr, ℕ, ◌+◌, ◌==◌, ◌||◌, Bool, true, false, cond, List, [], ◌∷◌, Some, None, Option, eq-eqb, ne_eqb}
 use Rattle.std.specs.Prelude.{fold, is_ok, is_some, Result, Ok, Err, IsOk}
 use Rattle.std.specs.List.{list_any}
 use Rattle.std.specs.Map.{keys_of, lookup, remove_entry}
@@ -20,18 +20,18 @@ use Rattle.rd_pending.specs.declared.calls.LiveNo.{LiveNo}
 use Rattle.rd_pending.specs.Outcomes.{course_from}
 use Rattle.rd_pending.specs.History.{heard_on, lives_before}
 use Rattle.rd_pending.specs.Table as table
-use Rattle.rd_pending.specs.Table.{Fate, TableState, freed, life_of, live_refusal, with_fate}
+use Rattle.rd_pending.specs.Table.{Fate, TableState, Untaken, freed, life_of, live_refusal, untaken_at, with_fate}
 use Rattle.rd_pending.proofs.CourseLemmas.{course_begins, through_course}
 use Rattle.rd_pending.proofs.Effects as effects
-use Rattle.rd_pending.proofs.MapLemmas.{beside, gone, kept, rises_without}
+use Rattle.rd_pending.proofs.MapLemmas.{beside, gone, kept, rises_without, same_or_other}
 use Rattle.rd_pending.proofs.Tame.{tame_take}
 use Rattle.rd_world.specs.Host.{HostSide, admits, forgets, hears, sends}
-use Rattle.rd_world.specs.HostDeeds.{side_of}
+use Rattle.rd_world.specs.HostDeeds.{calls_of, side_of}
 use Rattle.rd_world.specs.Talk.{Deed, adds, announced_in, client_reads, client_writes, completes, host_begins, host_ends, host_read, host_reads, host_writes, removed_in, removes, stores, submits, takes, tells}
 use Rattle.rd_world.specs.Told.{is_said_gone}
-use Rattle.rd_world.proofs.Calls.{Does, admits_table, calls_of}
+use Rattle.rd_world.proofs.Calls.{Does, admits_table, read_tame}
 use Rattle.rd_world.proofs.Hearings.{Heard, heard}
-use Rattle.rd_world.proofs.Written.{sound_side, tame_hears}
+use Rattle.rd_world.proofs.Written.{sound_side}
 
 abbrev pub is_there : TableState → ℕ → Bool
 is_there t d = is_some (life_of t d)
@@ -39,14 +39,14 @@ is_there t d = is_some (life_of t d)
 abbrev Rises : TableState → Type 0
 Rises t = IsStrictlySortedBy nat_cmp (keys_of t.lives)
 
-same_or_other : (a b : ℕ) → (a ≡ b) ⊎ (a ≢ b)
-same_or_other a b = grind arith
-
 -- ---- the calls of a table
 
 fate_lives : (t : TableState) (n : ℕ) (f : Fate) → (with_fate t n f).lives ≡ t.lives
-fate_lives t zero f = refl
-fate_lives t (suc n) f = refl
+fate_lives t n f = go (untaken_at t n) refl
+  where
+    go : (o : Option Untaken) → untaken_at t n ≡ o → (with_fate t n f).lives ≡ t.lives
+    go None e = rw e refl
+    go (Some u) e = rw e refl
 
 completed_lives : (t : TableState) (head : Head) (bytes : List ℕ) → ((table.complete t head bytes).0).lives ≡ t.lives
 completed_lives t head bytes = go (table.complete t head bytes).1 refl
@@ -61,7 +61,7 @@ completed_lives t head bytes = go (table.complete t head bytes).1 refl
         ]
 
 taken_lives : (t : TableState) (n : ℕ) → IsOk (table.take t n).1 → ((table.take t n).0).lives ≡ t.lives
-taken_lives t n ok = let effect = effects.takes t n ok in ap (λ (x : TableState). x.lives) effect.new ∙ fate_lives t n _
+taken_lives t n ok = ap (λ (x : TableState). x.lives) (effects.takes t n ok).new
 
 begun_one : (t : TableState) (d e : ℕ) → is_there (table.live t d).0 e ≡ true → ((d == e) ≡ true) ⊎ (is_there t e ≡ true)
 begun_one t d e there = go (live_refusal t d) refl
@@ -125,24 +125,12 @@ forgot_all s (id ∷ ids) d rising there =
     let here = removed_one s.table id d rising later.1 in
     (rw (here.0, later.0) refl, here.1)
 
-admits_fault : (s : HostSide) (a : Announce) → ((admits s a).core).fault ≡ (s.core).fault
-admits_fault s a = go (is_served a.kind) refl (live_refusal s.table a.id) refl
-  where
-    go : (b : Bool) → is_served a.kind ≡ b → (o : Option LiveNo) → live_refusal s.table a.id ≡ o → ((admits s a).core).fault ≡ (s.core).fault
-    go false e o e2 = rw e refl
-    go true e None e2 = rw (e, e2) refl
-    go true e (Some cause) e2 = rw (e, e2) refl
-
-admitted_fault : (s : HostSide) (devices : List Announce) → ((fold admits s devices).core).fault ≡ (s.core).fault
-admitted_fault s [] = refl
-admitted_fault s (a ∷ devices) = admitted_fault (admits s a) devices ∙ admits_fault s a
-
 -- a device that is there behind a message that was understood wasn't removed by it, and was there, or was announced by it
 pub record Stays (s : HostSide) (m : List ℕ) (d : ℕ) : Type 0 where
   pub unremoved : list_any (λ (id : ℕ). id == d) (removed_in m) ≡ false
   pub since : (list_any (λ (a : Announce). a.id == d) (announced_in m) ≡ true) ⊎ (is_there s.table d ≡ true)
 
-pub stays : (s : HostSide) (m : List ℕ) (d : ℕ) → Rises s.table → ((hears s m).core).fault ≡ None → is_there (hears s m).table d ≡ true → Stays s m d
+pub stays : (s : HostSide) (m : List ℕ) (d : ℕ) → Rises s.table → (((hears s m).core).core).fault ≡ None → is_there (hears s m).table d ≡ true → Stays s m d
 stays s m d rising fine there = go (host.hear s.core m) refl (heard s.core m)
   where
     told : (x : HostSide) → hears s m ≡ x → is_there x.table d ≡ true
@@ -150,9 +138,9 @@ stays s m d rising fine there = go (host.hear s.core m) refl (heard s.core m)
 
     go : (r : HostCoreState × Result Act EndFault) → host.hear s.core m ≡ r → Heard s.core m (host.hear s.core m) → Stays s m d
     go (c, Err fault) e says =
-        let faulty : is_some c.fault ≡ true = subst (Heard s.core m) e says in
+        let faulty : is_some (c.core).fault ≡ true = subst (Heard s.core m) e says in
         let same : (hears s m).core ≡ c = rw e refl in
-        absurd (cc (ap is_some (subst (λ (x : HostCoreState). x.fault ≡ None) same fine), faulty))
+        absurd (cc (ap is_some (subst (λ (x : HostCoreState). (x.core).fault ≡ None) same fine), faulty))
     go (c, Ok act.Nothing) e says =
         let (open_end, still, none, no_list, no_head) = subst (Heard s.core m) e says in
         record { unremoved = ap (list_any (λ (id : ℕ). id == d)) none; since = inr (told (record s { core = c }) (rw e refl)) }
@@ -178,14 +166,14 @@ stays s m d rising fine there = go (host.hear s.core m) refl (heard s.core m)
         }
 
 -- an end that has no fault had none
-pub was_fine : (s : HostSide) (m : List ℕ) → ((hears s m).core).fault ≡ None → (s.core).fault ≡ None
+pub was_fine : (s : HostSide) (m : List ℕ) → (((hears s m).core).core).fault ≡ None → ((s.core).core).fault ≡ None
 was_fine s m fine = go (host.hear s.core m) refl (heard s.core m)
   where
-    go : (r : HostCoreState × Result Act EndFault) → host.hear s.core m ≡ r → Heard s.core m (host.hear s.core m) → (s.core).fault ≡ None
+    go : (r : HostCoreState × Result Act EndFault) → host.hear s.core m ≡ r → Heard s.core m (host.hear s.core m) → ((s.core).core).fault ≡ None
     go (c, Err fault) e says =
-        let faulty : is_some c.fault ≡ true = subst (Heard s.core m) e says in
+        let faulty : is_some (c.core).fault ≡ true = subst (Heard s.core m) e says in
         let same : (hears s m).core ≡ c = rw e refl in
-        absurd (cc (ap is_some (subst (λ (x : HostCoreState). x.fault ≡ None) same fine), faulty))
+        absurd (cc (ap is_some (subst (λ (x : HostCoreState). (x.core).fault ≡ None) same fine), faulty))
     go (c, Ok act.Nothing) e says = (subst (Heard s.core m) e says).0
     go (c, Ok (act.Announced devices)) e says = (subst (Heard s.core m) e says).0
     go (c, Ok (act.Removed ids)) e says = (subst (Heard s.core m) e says).0
@@ -202,12 +190,12 @@ lives_rise client deeds may c is_open =
 -- where a channel is open, and its end has no fault, it was so before, unless it began
 pub record Open (client : ℕ) (deeds : List Deed) (c : ℕ) : Type 0 where
   pub channel : ((side_of client deeds).table).channel ≡ Some c
-  pub fine : ((side_of client deeds).core).fault ≡ None
+  pub fine : (((side_of client deeds).core).core).fault ≡ None
 
-sends_open : (s : HostSide) → (((sends s).table).channel ≡ (s.table).channel) × (((sends s).core).fault ≡ (s.core).fault)
-sends_open s = go (s.core).outbox refl (s.table).outbox refl
+sends_open : (s : HostSide) → (((sends s).table).channel ≡ (s.table).channel) × ((((sends s).core).core).fault ≡ ((s.core).core).fault)
+sends_open s = go ((s.core).core).outbox refl (s.table).outbox refl
   where
-    go : (o : List (List ℕ)) → (s.core).outbox ≡ o → (p : List (List ℕ)) → (s.table).outbox ≡ p → (((sends s).table).channel ≡ (s.table).channel) × (((sends s).core).fault ≡ (s.core).fault)
+    go : (o : List (List ℕ)) → ((s.core).core).outbox ≡ o → (p : List (List ℕ)) → (s.table).outbox ≡ p → (((sends s).table).channel ≡ (s.table).channel) × ((((sends s).core).core).fault ≡ ((s.core).core).fault)
     go (m ∷ ms) e p e2 = rw e (refl, refl)
     go [] e [] e2 = rw (e, e2) (refl, refl)
     go [] e (m ∷ ms) e2 = rw (e, e2) (refl, refl)
@@ -228,7 +216,7 @@ was_open client before (host_writes channel message) c may o =
     let same = sends_open (side_of client before) in
     inl (record { channel = sym same.0 ∙ o.channel; fine = sym same.1 ∙ o.fine })
 was_open client before (host_reads channel message) c may o =
-    inl (record { channel = sym (tame_hears (side_of client before) message).channel ∙ o.channel; fine = was_fine (side_of client before) message o.fine })
+    inl (record { channel = sym ((read_tame client channel message before).0).channel ∙ o.channel; fine = was_fine (side_of client before) message o.fine })
 was_open client before (tells n) c may o = inl (record { channel = o.channel; fine = o.fine })
 was_open client before (removes device) c may o = inl (record { channel = o.channel; fine = o.fine })
 was_open client before (adds device) c may o = inl (record { channel = o.channel; fine = o.fine })
@@ -254,9 +242,9 @@ nothing_begun client before channel d may =
         go (Some x) e = rw e refl
 
 sends_lives : (s : HostSide) → ((sends s).table).lives ≡ (s.table).lives
-sends_lives s = go (s.core).outbox refl (s.table).outbox refl
+sends_lives s = go ((s.core).core).outbox refl (s.table).outbox refl
   where
-    go : (o : List (List ℕ)) → (s.core).outbox ≡ o → (p : List (List ℕ)) → (s.table).outbox ≡ p → ((sends s).table).lives ≡ (s.table).lives
+    go : (o : List (List ℕ)) → ((s.core).core).outbox ≡ o → (p : List (List ℕ)) → (s.table).outbox ≡ p → ((sends s).table).lives ≡ (s.table).lives
     go (m ∷ ms) e p e2 = rw e refl
     go [] e [] e2 = rw (e, e2) refl
     go [] e (m ∷ ms) e2 = rw (e, e2) refl

@@ -1,5 +1,5 @@
 -- The host takes each completion that it reads.
-use Rattle.std.proofs.Common.{◌≡◌, ◌∙◌, refl, sym, ap, subst, ℕ, ◌==◌, Bool, true, false, cond, List, [], ◌∷◌, ◌++◌, drop, Some, None, Option, arith, eq-eqb, eqb-true}
+use Rattle.std.proofs.Common.{◌≡◌, ◌∙◌, refl, sym, ap, subst, ℕ, suc, ◌==◌, Bool, true, false, cond, List, [], ◌∷◌, ◌++◌, drop, Some, None, Option, arith, eq-eqb, eqb-true}
 use Rattle.std.specs.Prelude.{slice_get, Result, Ok, Err}
 use Rattle.rd_base.specs.declared.status.Status.{Status}
 use Rattle.rd_base.specs.Layout.{met}
@@ -19,21 +19,21 @@ use Rattle.rd_irp.specs.Completion.{completion_body, completion_head}
 use Rattle.rd_irp.specs.Fits.{kind_of}
 use Rattle.rd_pending.specs.declared.calls.Completed.{Completed}
 use Rattle.rd_pending.specs.declared.calls.Completed.TheVariants.{Gave, Late}
-use Rattle.rd_pending.specs.declared.calls.Outcome.TheVariants.{Done, Lost}
+use Rattle.rd_pending.specs.Outcomes.{Accepted}
 use Rattle.rd_pending.specs.Table as table
-use Rattle.rd_pending.specs.Table.{Accepted, Fate, Slot, TableState, awaited, is_awaited, known, mark_of, slot_at, taken as handed_out}
+use Rattle.rd_pending.specs.Table.{Slot, TableState, awaits, slot_at}
 use Rattle.rd_pending.proofs.CountLemmas.{pairs}
-use Rattle.rd_pending.proofs.AcceptedLemmas.{at_number}
-use Rattle.rd_pending.proofs.Sound.{alike_before, held}
+use Rattle.rd_pending.proofs.Sound.{alike_before, held, slot_waits}
 use Rattle.rd_world.specs.HostDeeds.{side_of}
-use Rattle.rd_world.specs.Joining.{IsCarried, IsTaken, Stands}
+use Rattle.rd_world.specs.Joining.{IsCarried, IsTaken, Stands, accepted, request_of_accepted}
 use Rattle.rd_world.specs.Talk.{AtEachPoint, Deed, EachAfter, adds, client_read, client_reads, client_writes, completes, host_begins, host_ends, host_reads, host_writes, removes, request_at, stores, submits, takes, tells}
 use Rattle.rd_world.specs.Told.{Answers, CompletesWith, Replies}
 use Rattle.rd_world.proofs.Calls.{Does}
 use Rattle.rd_world.proofs.Hearings.{Heard, heard}
+use Rattle.rd_world.proofs.Lists.{each_end}
 use Rattle.rd_world.proofs.Messages.{head_read}
 use Rattle.rd_world.proofs.Own.{Origin, counts, origin, own_request}
-use Rattle.rd_world.proofs.Telling.{Tells, each_end}
+use Rattle.rd_world.proofs.Telling.{Tells}
 use Rattle.rd_world.proofs.Written.{sound_side}
 
 -- ---- what a completion that answers says
@@ -58,8 +58,8 @@ body_reads r reply m bytes head q answers is left =
     )
 
 -- what answers at a place among what was done
-pub answers_at : (replies : Replies) (whole late early : List Deed) (x : Deed) (before : List Deed) → before ≡ late ++ x ∷ early → EachAfter (Answers replies whole) before → Answers replies whole early x
-answers_at replies whole late early x before parts all = (each_end (Answers replies whole) late (x ∷ early) (subst (EachAfter (Answers replies whole)) parts all)).0
+pub answers_at : (replies : Replies) (late early : List Deed) (x : Deed) (before : List Deed) → before ≡ late ++ x ∷ early → EachAfter (Answers replies) before → Answers replies early x
+answers_at replies late early x before parts all = (each_end (Answers replies) late (x ∷ early) (subst (EachAfter (Answers replies)) parts all)).0
 
 -- ---- slots
 
@@ -70,12 +70,6 @@ slot_held (Some slot) d e = go (slot.device == d) refl e
     go : (b : Bool) → (slot.device == d) ≡ b → cond {A = ℕ} b 1 0 ≡ 1 → (x : Slot) × (Some slot ≡ Some x) × (x.device ≡ d)
     go true of one = (slot, refl, eqb-true slot.device d of)
     go false of one = absurd (omega (arith, one))
-
-awaits : (f : Fate) → mark_of f ≡ Some false → is_awaited f ≡ true
-awaits awaited e = refl
-awaits (known (Done reply)) e = absurd (cc e)
-awaits (known (Lost cause)) e = absurd (cc e)
-awaits handed_out e = absurd (cc e)
 
 late_one : (t : TableState) (head : Head) (bytes : List ℕ) (slot : Slot) → slot_at t head.completion ≡ Some slot → slot.device ≡ head.device → slot.dead ≡ true
     → (table.complete t head bytes).1 ≡ Ok (Late slot.number)
@@ -88,54 +82,52 @@ given_one t head bytes slot read is of alive body = rw (is, eq-eqb slot.device h
 -- ---- the completion that is read
 
 -- The one that is awaited with the pair is the request that the completion answers.
-pub own_kind : (client : ℕ) (whole before : List Deed) (c : ℕ) (m : List ℕ) (head : Head) (may : Does client before) (carried : AtEachPoint IsCarried before)
-    → (is_open : ((side_of client before).table).channel ≡ Some c) → (o : Origin whole before c m head) → (k : ℕ) (a : Accepted) → slice_get (side_of client before).table.accepted k ≡ Some a
-    → is_awaited a.fate ≡ true → a.channel ≡ c → a.device ≡ head.device → a.id ≡ head.completion → (a.index ≡ (o.key).index) × (kind_of (o.request).op ≡ a.kind)
-own_kind client whole before c m head may carried is_open o k a at waits in_c of_d with_i =
-    let accepted : List Accepted = (side_of client before).table.accepted in
+pub own_kind : (client : ℕ) (before : List Deed) (c : ℕ) (m : List ℕ) (head : Head) (may : Does client before) (carried : AtEachPoint IsCarried before)
+    → (is_open : ((side_of client before).table).channel ≡ Some c) → (o : Origin before c m head) → (k : ℕ) (a : Accepted) → slice_get (accepted client before) k ≡ Some a
+    → awaits (side_of client before).table (suc k) ≡ true → a.channel ≡ c → a.device ≡ head.device → a.id ≡ head.completion → (a.index ≡ (o.key).index) × (o.request ≡ request_of_accepted a)
+own_kind client before c m head may carried is_open o k a at waits in_c of_d with_i =
     let last = ((sound_side client before may).requests k a at).last waits in
-    let all : alike_before accepted a ≡ pairs c head.device head.completion accepted = rw (in_c, of_d, with_i) refl in
-    let count = (counts client whole before c m head may carried is_open o).0 in
-    own_request client whole before c m head may carried is_open o k a at in_c of_d with_i (omega (arith, last, all, count))
+    let all : alike_before (accepted client before) a ≡ pairs c head.device head.completion (accepted client before) = rw (in_c, of_d, with_i) refl in
+    let count = (counts client before c m head may carried is_open o).0 in
+    own_request client before c m head may carried is_open o k a at in_c of_d with_i (omega (arith, last, all, count))
 
-takes_it : (client : ℕ) (replies : Replies) (whole before : List Deed) (c : ℕ) (m : List ℕ) (head : Head) (q : Position) (bytes : List ℕ) → Does client before
-    → AtEachPoint IsCarried (host_reads c m ∷ before) → EachAfter (Stands whole) before → EachAfter Tells before → EachAfter (Answers replies whole) before
+takes_it : (client : ℕ) (replies : Replies) (before : List Deed) (c : ℕ) (m : List ℕ) (head : Head) (q : Position) (bytes : List ℕ) → Does client before
+    → AtEachPoint IsCarried (host_reads c m ∷ before) → EachAfter Stands before → EachAfter Tells before → EachAfter (Answers replies) before
     → ((side_of client before).table).channel ≡ Some c → met completion_head (at_start m) ≡ Ok (head, q) → bytes ≡ q.left
     → (gave : Completed) × ((table.complete (side_of client before).table head bytes).1 ≡ Ok gave)
-takes_it client replies whole before c m head q bytes may carried stands told answers is_open is left = by (slot.0).dead refl
+takes_it client replies before c m head q bytes may carried stands told answers is_open is left = by (slot.0).dead refl
   where
     t : TableState
     t = (side_of client before).table
 
-    o : Origin whole before c m head
-    o = origin client whole before c m head may carried stands told (rw is refl)
+    o : Origin before c m head
+    o = origin client before c m head may carried stands told (rw is refl)
 
     slot : (x : Slot) × (slot_at t head.completion ≡ Some x) × (x.device ≡ head.device)
-    slot = slot_held (slot_at t head.completion) head.device (counts client whole before c m head may carried.1 is_open o).2
+    slot = slot_held (slot_at t head.completion) head.device (counts client before c m head may carried.1 is_open o).2
 
     by : (b : Bool) → (slot.0).dead ≡ b → (gave : Completed) × ((table.complete t head bytes).1 ≡ Ok gave)
     by true dead = (Late (slot.0).number, late_one t head bytes slot.0 slot.1 slot.2 dead)
     by false alive =
-        let slots = (sound_side client before may).slots in
-        let own = slots.of_request head.completion slot.0 slot.1 in
-        let (k, number, at) = at_number t (slot.0).number own.request own.is in
-        let waits : is_awaited (own.request).fate ≡ true = awaits (own.request).fate (own.mark ∙ ap Some alive) in
-        let opened = (slots.of_awaited (slot.0).number own.request own.is waits).0 in
-        let in_c : (own.request).channel ≡ c = cc (opened, is_open) in
-        let mine = own_kind client whole before c m head may carried.1 is_open o k own.request at waits in_c (own.device ∙ slot.2) own.own_id in
-        let (r, reply, found, says, why) = answers_at replies whole o.late o.early (completes o.key m) before o.parts answers in
+        let s = sound_side client before may in
+        let own = s.of_slot head.completion slot.0 slot.1 in
+        let k : ℕ = own.before in
+        let waits : awaits t (suc k) ≡ true = subst (λ (n : ℕ). awaits t n ≡ true) own.numbered (slot_waits t head.completion slot.0 s.slots slot.1 alive) in
+        let in_c : (own.request).channel ≡ c = let both : Some (own.request).channel ≡ Some c = sym own.channel ∙ is_open in cc both in
+        let mine = own_kind client before c m head may carried.1 is_open o k own.request own.is waits in_c (own.device ∙ slot.2) own.own_id in
+        let (r, reply, found, says, why) = answers_at replies o.late o.early (completes o.key m) before o.parts answers in
         let same : r ≡ o.request =
         same_request (client_read c o.early) (o.key).index r o.request (subst (λ (x : ℕ). request_at (client_read x o.early) (o.key).index ≡ Some r) o.channel found) o.found in
         let (head_is, p, body) = body_reads r reply m bytes head q says is left in
-        let kind : kind_of r.op ≡ (slot.0).kind = ap (λ (x : Request). kind_of x.op) same ∙ mine.1 ∙ own.kind in (
+        let kind : kind_of r.op ≡ (slot.0).kind = ap (λ (x : Request). kind_of x.op) (same ∙ mine.1) ∙ own.kind in (
           Gave (slot.0).number,
           given_one t head bytes slot.0 (reply.body, p) slot.1 slot.2 alive
               (subst (λ (x : Kind). met (completion_body x head.status) (at_start bytes) ≡ Ok (reply.body, p)) kind body),
         )
 
-taken_one : (client : ℕ) (replies : Replies) (whole before : List Deed) (deed : Deed) → Does client (deed ∷ before) → AtEachPoint IsCarried (deed ∷ before) → EachAfter (Stands whole) before
-    → EachAfter Tells before → EachAfter (Answers replies whole) before → IsTaken (side_of client before) deed
-taken_one client replies whole before (host_reads c m) may carried stands told answers =
+taken_one : (client : ℕ) (replies : Replies) (before : List Deed) (deed : Deed) → Does client (deed ∷ before) → AtEachPoint IsCarried (deed ∷ before) → EachAfter Stands before
+    → EachAfter Tells before → EachAfter (Answers replies) before → IsTaken (side_of client before) deed
+taken_one client replies before (host_reads c m) may carried stands told answers =
     go (host.hear (side_of client before).core m) refl (heard (side_of client before).core m)
   where
     go : (r : HostCoreState × Result Act EndFault) → host.hear (side_of client before).core m ≡ r → Heard (side_of client before).core m (host.hear (side_of client before).core m)
@@ -146,23 +138,23 @@ taken_one client replies whole before (host_reads c m) may carried stands told a
     go (x, Ok (act.Removed ids)) e says = rw e tt
     go (x, Ok (act.Complete head bytes)) e says =
         let (open_end, same, none, no_list, q, is, left) = subst (Heard (side_of client before).core m) e says in
-        let (gave, took) = takes_it client replies whole before c m head q bytes may.1 carried stands told answers may.0 is left in
+        let (gave, took) = takes_it client replies before c m head q bytes may.1 carried stands told answers may.0 is left in
         rw (e, took) tt
-taken_one client replies whole before (host_begins e) may carried stands told answers = tt
-taken_one client replies whole before (host_ends e) may carried stands told answers = tt
-taken_one client replies whole before (removes e) may carried stands told answers = tt
-taken_one client replies whole before (adds e) may carried stands told answers = tt
-taken_one client replies whole before (submits x named o) may carried stands told answers = tt
-taken_one client replies whole before (takes n) may carried stands told answers = tt
-taken_one client replies whole before (tells n) may carried stands told answers = tt
-taken_one client replies whole before (host_writes e m) may carried stands told answers = tt
-taken_one client replies whole before (client_reads e m) may carried stands told answers = tt
-taken_one client replies whole before (client_writes e m) may carried stands told answers = tt
-taken_one client replies whole before (completes key m) may carried stands told answers = tt
-taken_one client replies whole before (stores device item) may carried stands told answers = tt
+taken_one client replies before (host_begins e) may carried stands told answers = tt
+taken_one client replies before (host_ends e) may carried stands told answers = tt
+taken_one client replies before (removes e) may carried stands told answers = tt
+taken_one client replies before (adds e) may carried stands told answers = tt
+taken_one client replies before (submits x named o) may carried stands told answers = tt
+taken_one client replies before (takes n) may carried stands told answers = tt
+taken_one client replies before (tells n) may carried stands told answers = tt
+taken_one client replies before (host_writes e m) may carried stands told answers = tt
+taken_one client replies before (client_reads e m) may carried stands told answers = tt
+taken_one client replies before (client_writes e m) may carried stands told answers = tt
+taken_one client replies before (completes key m) may carried stands told answers = tt
+taken_one client replies before (stores device item) may carried stands told answers = tt
 
-pub each_taken : (client : ℕ) (replies : Replies) (whole deeds : List Deed) → Does client deeds → AtEachPoint IsCarried deeds → EachAfter (Stands whole) deeds → EachAfter Tells deeds
-    → EachAfter (Answers replies whole) deeds → EachAfter (λ before deed. IsTaken (side_of client before) deed) deeds
-each_taken client replies whole [] may carried stands told answers = tt
-each_taken client replies whole (deed ∷ before) may carried stands told answers =
-    (taken_one client replies whole before deed may carried stands.1 told.1 answers.1, each_taken client replies whole before may.1 carried.1 stands.1 told.1 answers.1)
+pub each_taken : (client : ℕ) (replies : Replies) (deeds : List Deed) → Does client deeds → AtEachPoint IsCarried deeds → EachAfter Stands deeds → EachAfter Tells deeds
+    → EachAfter (Answers replies) deeds → EachAfter (λ before deed. IsTaken (side_of client before) deed) deeds
+each_taken client replies [] may carried stands told answers = tt
+each_taken client replies (deed ∷ before) may carried stands told answers =
+    (taken_one client replies before deed may carried stands.1 told.1 answers.1, each_taken client replies before may.1 carried.1 stands.1 told.1 answers.1)

@@ -1,5 +1,5 @@
 -- What is told by whole lists is told at each deed: a completion answers a request that was read, with its pair, and that nothing answered before.
-use Rattle.std.proofs.Common.{◌≡◌, ◌⊎◌, ◌∙◌, refl, sym, ap, subst, inl, inr, ℕ, ◌<◌, ◌==◌, ◌&&◌, Bool, true, false, cond, not, List, [], ◌∷◌, ◌++◌, length, reverse, Some, None, arith, eq-eqb, eqb-true}
+use Rattle.std.proofs.Common.{◌≡◌, ◌⊎◌, ◌∙◌, refl, sym, ap, subst, inl, inr, ℕ, ◌<◌, ◌==◌, ◌&&◌, Bool, true, false, cond, not, List, [], ◌∷◌, length, reverse, Some, None, arith, eq-eqb, eqb-true}
 use Rattle.std.specs.Prelude.{filter}
 use Rattle.std.specs.List.{cons_option}
 use Rattle.std.specs.Option.{option_map_or}
@@ -13,17 +13,10 @@ use Rattle.rd_irp.specs.declared.request.Request.{Request}
 use Rattle.rd_world.specs.Talk.{Deed, EachAfter, Has, adds, answered, client_read, client_reads, client_writes, completes, has_pair, head_in, host_begins, host_ends, host_reads, host_writes, is_request, journal, removes, request_at, request_in, stores, submits, takes, tells}
 use Rattle.rd_world.specs.Told.{Answers, IsTold, Replies, came, is_of_device, requests_to, sent, told}
 use Rattle.rd_world.proofs.Journals.{IsPlain, plain_of}
+use Rattle.rd_world.proofs.Lists.{each_end, each_weaker}
 use Rattle.rd_world.proofs.Messages.{head_read}
 
 -- ---- ends of lists
-
-pub each_end : {A : Type 0} (P : List A → A → Type 0) (xs ys : List A) → EachAfter P (xs ++ ys) → EachAfter P ys
-each_end P [] ys each = each
-each_end P (x ∷ xs) ys each = each_end P xs ys each.1
-
-pub each_weaker : {A : Type 0} (P Q : List A → A → Type 0) → ((before : List A) (x : A) → P before x → Q before x) → (xs : List A) → EachAfter P xs → EachAfter Q xs
-each_weaker P Q weaker [] each = tt
-each_weaker P Q weaker (x ∷ before) each = (weaker before x each.0, each_weaker P Q weaker before each.1)
 
 -- ---- requests that were read
 
@@ -154,22 +147,22 @@ abbrev pub Tells : List Deed → Deed → Type 0
 Tells before (completes key m) = IsOwn before (completes key m) × ((d i : ℕ) → ¬ (Has key.index (answered key.channel d i before)))
 Tells before _ = Unit {0}
 
-own_of : (replies : Replies) (whole before : List Deed) (deed : Deed) → Answers replies whole before deed → IsOwn before deed
-own_of replies whole before (completes key m) (r, reply, found, with_reply, answer) =
+own_of : (replies : Replies) (before : List Deed) (deed : Deed) → Answers replies before deed → IsOwn before deed
+own_of replies before (completes key m) (r, reply, found, with_reply, answer) =
     let read = head_read (record { device = r.device; completion = r.completion; status = reply.status }) m with_reply.head in
     (r, found, reply.status, rw (read.1) refl)
-own_of replies whole before (host_begins c) a = tt
-own_of replies whole before (host_ends c) a = tt
-own_of replies whole before (removes d) a = tt
-own_of replies whole before (adds d) a = tt
-own_of replies whole before (submits x named o) a = tt
-own_of replies whole before (takes n) a = tt
-own_of replies whole before (tells n) a = tt
-own_of replies whole before (host_writes c m) a = tt
-own_of replies whole before (host_reads c m) a = tt
-own_of replies whole before (client_reads c m) a = tt
-own_of replies whole before (client_writes c m) a = tt
-own_of replies whole before (stores d item) a = tt
+own_of replies before (host_begins c) a = tt
+own_of replies before (host_ends c) a = tt
+own_of replies before (removes d) a = tt
+own_of replies before (adds d) a = tt
+own_of replies before (submits x named o) a = tt
+own_of replies before (takes n) a = tt
+own_of replies before (tells n) a = tt
+own_of replies before (host_writes c m) a = tt
+own_of replies before (host_reads c m) a = tt
+own_of replies before (client_reads c m) a = tt
+own_of replies before (client_writes c m) a = tt
+own_of replies before (stores d item) a = tt
 
 has_option : (b : Bool) (k x : ℕ) (xs : List ℕ) → Has k xs → Has k (cons_option (cond b (Some x) None) xs)
 has_option true k x xs has = inr has
@@ -248,4 +241,4 @@ all_tell (stores device item ∷ before) own distinct = (tt, all_tell before own
 
 pub each_tells : (replies : Replies) (deeds : List Deed) → IsTold replies deeds → ((device : ℕ) → IsLawful (reverse (journal device deeds))) → EachAfter Tells deeds
 each_tells replies deeds is_told lawful =
-    all_tell deeds (each_weaker (Answers replies deeds) IsOwn (own_of replies deeds) deeds is_told.answers) (told_distinct replies deeds is_told lawful)
+    all_tell deeds (each_weaker (Answers replies) IsOwn (own_of replies) deeds is_told.answers) (told_distinct replies deeds is_told lawful)

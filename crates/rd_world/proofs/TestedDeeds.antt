@@ -1,18 +1,20 @@
 -- Deeds that pass tests are carried, may be done, stand where they may, and are told in order.
-use Rattle.std.proofs.Common.{◌≡◌, ◌∙◌, refl, sym, ap, ap₂, subst, ℕ, ◌-◌, ◌^◌, ◌==◌, ◌&&◌, Bool, true, false, cond, List, [], ◌∷◌, ◌++◌, length, take, drop, ltb, leb, ltb-true, leb-true, eqb-true, take-append-drop, is_none, is_ok, Option, Some, None, bytes_eq, filter}
+use Rattle.std.proofs.Common.{◌≡◌, ◌∙◌, refl, sym, ap, ap₂, subst, ℕ, ◌-◌, ◌^◌, ◌==◌, ◌&&◌, Bool, true, false, cond, List, [], ◌∷◌, ◌++◌, length, take, drop, ltb, leb, ltb-true, leb-true, eqb-true, take-append-drop, is_none, is_ok, Option, Some, None, bytes_eq, filter, ◌≢◌, lit<, arith, ◌<◌}
 use Rattle.std.specs.Cmp.Lexicographic.{bytes_decides}
-use Rattle.std.specs.List.{cons_option}
+use Rattle.std.specs.List.{cons_option, list_all}
 use Rattle.rd_irp.specs.declared.op.Op.{Op}
 use Rattle.rd_irp.specs.declared.op.Op.TheVariants as op
 use Rattle.rd_pending.specs.declared.calls.Target.{Target}
 use Rattle.rd_pending.specs.declared.calls.Target.TheVariants as target
 use Rattle.rd_pending.specs.Table as table
 use Rattle.rd_pending.specs.Table.{MaySubmit, submit_refusal}
-use Rattle.rd_world.specs.Host.{HostSide, next_message}
-use Rattle.rd_world.specs.HostDeeds.{IsInRange, MayDo, side_of}
+use Rattle.rd_world.specs.Host.{HostSide, next_message, new_side}
+use Rattle.rd_world.specs.HostDeeds.{IsInRange, MayDo, side_of, calls_of, calls_by, side_after}
 use Rattle.rd_world.specs.Joining.{IsCarried}
 use Rattle.rd_world.specs.Talk.{AtEachPoint, Deed, EachAfter, EndsWith, client_read, client_reads, client_writes, client_wrote, completes, host_begins, host_ends, host_read, host_reads, host_writes, host_wrote, submits, takes, tells}
-use Rattle.rd_world.proofs.TestedJournals.{both}
+use Rattle.rd_world.proofs.TestedJournals.{both, all_pass}
+use Rattle.rd_irp.specs.Fits.{max_path}
+use Rattle.rd_pending.specs.History.{Call}
 
 -- ---- each deed
 
@@ -91,12 +93,23 @@ carried_by_test (x ∷ before) e =
 
 -- ---- what the host may do
 
--- of a file that is open a read, a close, or a notification
+abbrev is_unit : ℕ → Bool
+is_unit unit = ltb 0 unit && ltb unit (2 ^ 16)
+
+-- of a file that is open a read, a close, or a notification; of a device the opening of a file
 abbrev is_small : Target → Op → Bool
 is_small (target.Handle h) (op.Read offset len) = (ltb h.device (2 ^ 32) && ltb h.file (2 ^ 32)) && (ltb offset (2 ^ 64) && ltb len (2 ^ 32))
 is_small (target.Handle h) op.Close = ltb h.device (2 ^ 32) && ltb h.file (2 ^ 32)
 is_small (target.Handle h) (op.Notify tree filter) = (ltb h.device (2 ^ 32) && ltb h.file (2 ^ 32)) && ltb filter (2 ^ 32)
+is_small (target.Device device) (op.Create access allocation attributes share disposition options path) =
+    (ltb device (2 ^ 32) && (ltb access (2 ^ 32) && (ltb allocation (2 ^ 64) && (ltb attributes (2 ^ 32) && (ltb share (2 ^ 32) && (ltb disposition (2 ^ 32) && ltb options (2 ^ 32)))))))
+    && (leb (length path) max_path && list_all is_unit path)
 is_small _ _ = false
+
+unit_is : (unit : ℕ) → is_unit unit ≡ true → (unit ≢ 0) × (unit < 2 ^ 16)
+unit_is unit e =
+    let parts = both e in
+    let some = ltb-true 0 unit parts.0 in ((λ (none : unit ≡ 0). absurd (omega (arith, some, none))), ltb-true unit (2 ^ 16) parts.1)
 
 small_is : (named : Target) (o : Op) → is_small named o ≡ true → MaySubmit named o × IsInRange named o
 small_is (target.Handle h) (op.Read offset len) e =
@@ -117,6 +130,30 @@ small_is (target.Handle h) (op.Notify tree filter) e =
     let parts = both e in
     let names = both parts.0 in
     (record { fits = tt; names = refl }, record { device = ltb-true h.device (2 ^ 32) names.0; file = ltb-true h.file (2 ^ 32) names.1; op = ltb-true filter (2 ^ 32) parts.1 })
+small_is (target.Device device) (op.Create access allocation attributes share disposition options path) e =
+    let parts = both e in
+    let n0 = both parts.0 in
+    let n1 = both n0.1 in
+    let n2 = both n1.1 in
+    let n3 = both n2.1 in
+    let n4 = both n3.1 in
+    let n5 = both n4.1 in
+    let units = both parts.1 in (
+      record { fits = (leb-true (length path) max_path units.0, all_pass {P = λ unit. unit ≢ 0} is_unit (λ unit is. (unit_is unit is).0) path units.1); names = refl },
+      record {
+        device = ltb-true device (2 ^ 32) n0.0;
+        file = lit< tt;
+        op = (
+          ltb-true access (2 ^ 32) n1.0,
+          ltb-true allocation (2 ^ 64) n2.0,
+          ltb-true attributes (2 ^ 32) n3.0,
+          ltb-true share (2 ^ 32) n4.0,
+          ltb-true disposition (2 ^ 32) n5.0,
+          ltb-true options (2 ^ 32) n5.1,
+          all_pass {P = λ unit. unit < 2 ^ 16} is_unit (λ unit is. (unit_is unit is).1) path units.1,
+        );
+      },
+    )
 small_is _ _ e = absurd (cc)
 
 none_is : {A : Type 0} (o : Option A) → is_none o ≡ true → o ≡ None
@@ -169,3 +206,18 @@ may_do client before x = may (side_of client before) x
 
 pub host_by_test : (client : ℕ) (deeds : List Deed) → each (may_do client) deeds ≡ true → EachAfter (λ before deed. MayDo (side_of client before) deed) deeds
 host_by_test client = each_passes (may_do client) (λ before x. may_is (side_of client before) x)
+
+-- ---- in one pass
+
+-- a deed, after the host's side and the calls of its table
+abbrev pub goes_on : Deed → HostSide × List Call → HostSide × List Call
+goes_on deed (side, calls) = (side_after side deed, calls_by side deed ++ calls)
+
+-- the host's side after deeds with the calls of its table, in one pass
+abbrev pub along : ℕ → List Deed → HostSide × List Call
+along client [] = (new_side client, [])
+along client (deed ∷ before) = goes_on deed (along client before)
+
+pub along_is : (client : ℕ) (deeds : List Deed) → along client deeds ≡ (side_of client deeds, calls_of client deeds)
+along_is client [] = refl
+along_is client (deed ∷ before) = ap (goes_on deed) (along_is client before)

@@ -1,5 +1,5 @@
 -- Journals that pass a test are lawful.
-use Rattle.std.proofs.Common.{◌≡◌, ◌≢◌, ◌⊎◌, refl, sym, ap, ap₂, subst, inl, inr, ℕ, zero, suc, ◌<◌, ◌≤◌, ◌==◌, ◌&&◌, ◌||◌, not, Bool, true, false, List, [], ◌∷◌, ◌++◌, length, ltb, leb, ltb-true, leb-true, eqb-true, eq-eqb, arith}
+use Rattle.std.proofs.Common.{◌≡◌, ◌≢◌, ◌⊎◌, ◌∙◌, refl, sym, ap, ap₂, subst, inl, inr, ℕ, zero, suc, ◌<◌, ◌≤◌, ◌==◌, ◌&&◌, ◌||◌, not, Bool, true, false, List, [], ◌∷◌, ◌++◌, length, ltb, leb, ltb-true, leb-true, eqb-true, eq-eqb, arith}
 use Rattle.std.specs.Prelude.{All, Any, Contains, IfSome, Some, slice_get, slice_index_or}
 use Rattle.std.specs.List.{AllByRecursion, list_all, list_any}
 use Rattle.std.proofs.lemmas.List.Elements.{All-from_recursion}
@@ -10,7 +10,9 @@ use Rattle.rd_base.specs.declared.journal.Item.TheVariants.{Came, Cancelled, Cut
 use Rattle.rd_base.specs.declared.journal.Key.{Key}
 use Rattle.rd_base.proofs.JournalLemmas.{EachAfter-from_turns, EachInTurn, EndedInTurn, IsEnded-from_turns}
 use Rattle.rd_base.specs.Lawful.{CancelsRemoved, CutsFewUnsent, FewUnsent, IsBefore, IsBelow, IsLawful, MayEnd, NamesRemembered, RisesAbove, RunsUncut, SendsFirst, Settles, SettlesFirst, is_unsent, named_key}
-use Rattle.rd_world.specs.Example.{is_key}
+use Rattle.rd_drive.specs.Replies.{KeyedReply}
+use Rattle.rd_irp.specs.declared.completion.Reply.{Reply}
+use Rattle.rd_station.specs.Station.{is_key}
 
 -- ---- tests
 
@@ -35,11 +37,11 @@ same_key k l e =
 pub key_itself : (k : Key) → is_key k k ≡ true
 key_itself k = rw (eq-eqb k.channel k.channel refl, eq-eqb k.index k.index refl) refl
 
-by_recursion : {A : Type 0} {P : A → Type 0} (p : A → Bool) → ((x : A) → p x ≡ true → P x) → (xs : List A) → list_all p xs ≡ true → AllByRecursion P xs
+pub by_recursion : {A : Type 0} {P : A → Type 0} (p : A → Bool) → ((x : A) → p x ≡ true → P x) → (xs : List A) → list_all p xs ≡ true → AllByRecursion P xs
 by_recursion p sound [] e = tt
 by_recursion p sound (x ∷ xs) e = let parts = both e in (sound x parts.0, by_recursion p sound xs parts.1)
 
-all_pass : {A : Type 0} {P : A → Type 0} (p : A → Bool) → ((x : A) → p x ≡ true → P x) → (xs : List A) → list_all p xs ≡ true → All P xs
+pub all_pass : {A : Type 0} {P : A → Type 0} (p : A → Bool) → ((x : A) → p x ≡ true → P x) → (xs : List A) → list_all p xs ≡ true → All P xs
 all_pass {P = P} p sound xs e = All-from_recursion P xs (by_recursion p sound xs e)
 
 any_passes : {A : Type 0} {P : A → Type 0} (p : A → Bool) → ((x : A) → p x ≡ true → P x) → (xs : List A) → list_any p xs ≡ true → Any P xs
@@ -309,3 +311,27 @@ lawful_by_test items e =
       drop_forgets = EachAfter-from_turns NamesRemembered items (in_turn names_remembered [] items parts.1);
       few_unsent = (EachAfter-from_turns CutsFewUnsent items (in_turn cuts_few [] items parts.1), few_of_short items parts.0);
     }
+
+-- ---- replies
+
+-- no two replies are a key's
+abbrev pub are_distinct : List KeyedReply → Bool
+are_distinct [] = true
+are_distinct (x ∷ xs) = list_all (λ (y : KeyedReply). not (is_key x.0 y.0)) xs && are_distinct xs
+
+apart_from : (xs : List KeyedReply) (x y : KeyedReply) → list_all (λ (z : KeyedReply). not (is_key x.0 z.0)) xs ≡ true → Contains xs y → x.0 ≡ y.0 → ⊥
+apart_from xs x y e has same =
+    let none : not (is_key x.0 y.0) ≡ true = member_passes (λ (z : KeyedReply). not (is_key x.0 z.0)) xs y e has in
+    let is : is_key x.0 y.0 ≡ true = subst (λ (k : Key). is_key x.0 k ≡ true) same (key_itself x.0) in
+    let isnt = passes_not (is_key x.0 y.0) none in
+    cc (is, isnt)
+
+pub one_of_key : (xs : List KeyedReply) → are_distinct xs ≡ true → (key : Key) (reply other : Reply) → Contains xs (key, reply) → Contains xs (key, other) → other ≡ reply
+one_of_key [] e key reply other has has_other = absurd (omega (arith, has.1))
+one_of_key (x ∷ xs) e key reply other (zero, lt, is) (zero, lt_other, is_other) = ap (λ (y : KeyedReply). y.1) (sym is_other ∙ is)
+one_of_key (x ∷ xs) e key reply other (zero, lt, is) (suc k, lt_other, is_other) =
+    absurd (apart_from xs x (key, other) (both e).0 (k, omega (arith, lt_other), is_other) (ap (λ (y : KeyedReply). y.0) is))
+one_of_key (x ∷ xs) e key reply other (suc k, lt, is) (zero, lt_other, is_other) =
+    absurd (apart_from xs x (key, reply) (both e).0 (k, omega (arith, lt), is) (ap (λ (y : KeyedReply). y.0) is_other))
+one_of_key (x ∷ xs) e key reply other (suc k, lt, is) (suc j, lt_other, is_other) =
+    one_of_key xs (both e).1 key reply other (k, omega (arith, lt), is) (j, omega (arith, lt_other), is_other)

@@ -11,9 +11,10 @@ use Rattle.rd_hello.specs.Moves.{is_of}
 use Rattle.rd_irp.specs.declared.completion.Head.{Head}
 use Rattle.rd_irp.specs.declared.request.Request.{Request}
 use Rattle.rd_world.specs.Joining.{Stands}
-use Rattle.rd_world.specs.Talk.{Deed, EachAfter, EndsWith, Has, client_read, client_reads, client_writes, completes, head_in, is_request, journal, request_at, request_in, stores}
-use Rattle.rd_world.specs.Told.{came, is_of_device, requests_to, sent, sent_at, told, unserved}
-use Rattle.rd_world.proofs.TestedDeeds.{each, each_passes, end_is}
+use Rattle.rd_world.specs.Talk.{Deed, EachAfter, EndsWith, Has, client_read, client_reads, client_writes, completes, head_in, is_completion_of, is_request, journal, request_at, request_in, stores}
+use Rattle.rd_drive.specs.Statuses.{insufficient_resources}
+use Rattle.rd_world.specs.Told.{ComesUnworn, says_worn, came, is_of_device, requests_to, sent, sent_at, told, unserved}
+use Rattle.rd_world.proofs.TestedDeeds.{each, end_is}
 use Rattle.rd_world.proofs.TestedJournals.{both, either, is_came, is_sent, key_itself, passes_not, sent_is}
 
 -- ---- few channels and few devices
@@ -21,7 +22,7 @@ use Rattle.rd_world.proofs.TestedJournals.{both, either, is_came, is_sent, key_i
 abbrev pub among : ℕ → List ℕ → Bool
 among x xs = list_any (λ y. x == y) xs
 
-strange : (x y : ℕ) (xs : List ℕ) → among x xs ≡ true → among y xs ≡ false → (x == y) ≡ false
+pub strange : (x y : ℕ) (xs : List ℕ) → among x xs ≡ true → among y xs ≡ false → (x == y) ≡ false
 strange x y xs is isnt = go (x == y) refl
   where
     go : (b : Bool) → (x == y) ≡ b → b ≡ false
@@ -61,7 +62,7 @@ module _ (channels devices : List ℕ) where
   older_known : (x : Deed) (before : List Deed) → are_known (x ∷ before) ≡ true → are_known before ≡ true
   older_known x before e = (both e).1
 
-  no_journal : (deeds : List Deed) → are_known deeds ≡ true → (d : ℕ) → among d devices ≡ false → journal d deeds ≡ []
+  pub no_journal : (deeds : List Deed) → are_known deeds ≡ true → (d : ℕ) → among d devices ≡ false → journal d deeds ≡ []
   no_journal [] e d isnt = refl
   no_journal (stores device item ∷ before) e d isnt =
       let parts = both e in
@@ -200,14 +201,14 @@ module _ (channels devices : List ℕ) where
   is_to device (Some r) = r.device == device
   is_to device None = false
 
-  abbrev sent_if_came : List Deed → List Deed → Key → ℕ → Bool
-  sent_if_came whole before key d = not (list_any (is_came key) (journal d whole)) || list_any (is_sent key) (journal d before)
+  abbrev sent_if_came : List Deed → Key → ℕ → Bool
+  sent_if_came before key d = not (list_any (is_came key) (journal d before)) || list_any (is_sent key) (journal d before)
 
-  abbrev pub stands : List Deed → List Deed → Deed → Bool
-  stands whole before (stores device (Came key)) = is_to device (request_at (client_read key.channel before) key.index)
-  stands whole before (completes key m) = list_all (sent_if_came whole before key) devices
-  stands whole before (client_writes c m) = not (is_of IoCompletion m)
-  stands whole before _ = true
+  abbrev pub stands : List Deed → Deed → Bool
+  stands before (stores device (Came key)) = is_to device (request_at (client_read key.channel before) key.index) && not (list_any (is_completion_of key) before)
+  stands before (completes key m) = list_all (sent_if_came before key) devices
+  stands before (client_writes c m) = not (is_of IoCompletion m)
+  stands before _ = true
 
   any_has : (p : Item → Bool) (x : Item) → ((y : Item) → p y ≡ true → y ≡ x) → (items : List Item) → list_any p items ≡ true → Has x items
   any_has p x only [] e = absurd (cc)
@@ -222,31 +223,69 @@ module _ (channels devices : List ℕ) where
       go true e = refl
       go false e = e
 
-  was_sent : (whole before : List Deed) → are_known whole ≡ true → (key : Key) → list_all (sent_if_came whole before key) devices ≡ true
-      → (device : ℕ) → Has (Came key) (journal device whole) → Has (Sent key) (journal device before)
-  was_sent whole before known key e device has = go (among device devices) refl
+  was_sent : (before : List Deed) → are_known before ≡ true → (key : Key) → list_all (sent_if_came before key) devices ≡ true
+      → (device : ℕ) → Has (Came key) (journal device before) → Has (Sent key) (journal device before)
+  was_sent before known key e device has = go (among device devices) refl
     where
-      came_there : list_any (is_came key) (journal device whole) ≡ true
-      came_there = has_any (is_came key) (Came key) (key_itself key) (journal device whole) has
+      came_there : list_any (is_came key) (journal device before) ≡ true
+      came_there = has_any (is_came key) (Came key) (key_itself key) (journal device before) has
 
       go : (b : Bool) → among device devices ≡ b → Has (Sent key) (journal device before)
       go true is =
-          elim (either (of_members (sent_if_came whole before key) devices e device is)) [
-            | inl never ↦ let none = passes_not (list_any (is_came key) (journal device whole)) never in absurd (cc (none, came_there))
+          elim (either (of_members (sent_if_came before key) devices e device is)) [
+            | inl never ↦ let none = passes_not (list_any (is_came key) (journal device before)) never in absurd (cc (none, came_there))
             | inr found ↦ any_has (is_sent key) (Sent key) (sent_is key) (journal device before) found
           ]
-      go false isnt = absurd (subst (Has (Came key)) (no_journal whole known device isnt) has)
+      go false isnt = absurd (subst (Has (Came key)) (no_journal before known device isnt) has)
 
-  stand_is : (whole : List Deed) → are_known whole ≡ true → (before : List Deed) (x : Deed) → stands whole before x ≡ true → Stands whole before x
-  stand_is whole known before (stores device (Came key)) e = go (request_at (client_read key.channel before) key.index) refl e
+  stand_is : (before : List Deed) → are_known before ≡ true → (x : Deed) → stands before x ≡ true → Stands before x
+  stand_is before known (stores device (Came key)) e = go (request_at (client_read key.channel before) key.index) refl (both e).0
     where
       go : (o : Option Request) → request_at (client_read key.channel before) key.index ≡ o → is_to device o ≡ true
-          → (r : Request) × (request_at (client_read key.channel before) key.index ≡ Some r) × (r.device ≡ device)
-      go (Some r) is e = (r, is, eqb-true r.device device e)
-      go None is e = absurd (cc)
-  stand_is whole known before (completes key m) e = was_sent whole before known key e
-  stand_is whole known before (client_writes c m) e = passes_not (is_of IoCompletion m) e
-  stand_is whole known before _ e = tt
+          → (r : Request) × (request_at (client_read key.channel before) key.index ≡ Some r) × (r.device ≡ device) × (list_any (is_completion_of key) before ≡ false)
+      go (Some r) is e2 = (r, is, eqb-true r.device device e2, passes_not (list_any (is_completion_of key) before) (both e).1)
+      go None is e2 = absurd (cc)
+  stand_is before known (completes key m) e = was_sent before known key e
+  stand_is before known (client_writes c m) e = passes_not (is_of IoCompletion m) e
+  stand_is before known _ e = tt
 
-  pub stands_by_test : (deeds : List Deed) → are_known deeds ≡ true → each (stands deeds) deeds ≡ true → EachAfter (Stands deeds) deeds
-  stands_by_test deeds known e = each_passes (stands deeds) (stand_is deeds known) deeds e
+  pub stands_by_test : (deeds : List Deed) → are_known deeds ≡ true → each stands deeds ≡ true → EachAfter Stands deeds
+  stands_by_test [] known e = tt
+  stands_by_test (x ∷ before) known e =
+      let parts = both e in
+      let older = older_known x before known in
+      (stand_is before older x parts.0, stands_by_test before older parts.1)
+
+-- ---- no journal is worn
+
+abbrev says_insufficient : List ℕ → Bool
+says_insufficient m = option_map_or (λ (h : Head). (h.status).0 == insufficient_resources.0) (head_in m) false
+
+abbrev pub is_unworn : List Deed → Deed → Bool
+is_unworn before (completes key m) = not (says_insufficient m)
+is_unworn before _ = true
+
+worn_says : (d : ℕ) (m : List ℕ) → says_worn d m ≡ true → says_insufficient m ≡ true
+worn_says d m e = go (head_in m) e
+  where
+    go : (o : Option Head) → option_map_or (λ (h : Head). h.device == d && (h.status).0 == insufficient_resources.0) o false ≡ true
+        → option_map_or (λ (h : Head). (h.status).0 == insufficient_resources.0) o false ≡ true
+    go None e = e
+    go (Some h) e = (both e).1
+
+none_worn : (deeds : List Deed) → each is_unworn deeds ≡ true → (k : Key) (m : List ℕ) → Has (completes k m) deeds → says_insufficient m ≡ false
+none_worn [] e k m has = absurd has
+none_worn (x ∷ before) e k m has =
+    let parts = both e in
+    elim has [
+      | inl same ↦ passes_not (says_insufficient m) (subst (λ (y : Deed). is_unworn before y ≡ true) (sym same) parts.0)
+      | inr older ↦ none_worn before parts.1 k m older
+    ]
+
+pub comes_by_test : (deeds : List Deed) → each is_unworn deeds ≡ true → EachAfter ComesUnworn deeds
+comes_by_test [] e = tt
+comes_by_test (x ∷ before) e = (one x, comes_by_test before (both e).1)
+  where
+    one : (x : Deed) → ComesUnworn before x
+    one (stores device (Came key)) = λ k m has same worn never. let none = none_worn before (both e).1 k m has in let says = worn_says device m worn in absurd (cc (none, says))
+    one _ = tt

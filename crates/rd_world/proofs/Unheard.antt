@@ -17,12 +17,13 @@ use Rattle.rd_drive.specs.Replies.{KeyedReply, end_reply, last_state_by, own_rep
 use Rattle.rd_irp.specs.declared.completion.Reply.{Reply}
 use Rattle.rd_irp.specs.declared.request.Request.{Request}
 use Rattle.rd_pending.specs.declared.calls.Outcome.TheVariants.{Done}
-use Rattle.rd_pending.specs.Table.{Accepted}
+use Rattle.rd_pending.specs.Outcomes.{Accepted}
 use Rattle.rd_world.specs.Devices.{Declared, DeviceState, device_cut, device_step}
 use Rattle.rd_world.specs.Joining.{AreJoined, CameTo, key_of}
-use Rattle.rd_world.specs.Session.{replies_in, request_of}
+use Rattle.rd_world.specs.Recording.{request_of}
+use Rattle.rd_world.specs.Session.{replies_in}
 use Rattle.rd_world.specs.Talk.{Deed, journal}
-use Rattle.rd_world.proofs.Ends.{all_more}
+use Rattle.rd_world.proofs.Lists.{all_more}
 use Rattle.rd_world.proofs.OwnAnswers.{AreOwnEnds, IsOwn, IsOwnAnswer, is_own, run_own}
 use Rattle.rd_world.proofs.Replied.{replied, uncut}
 
@@ -87,7 +88,7 @@ pub unheard : (client : ℕ) (devices : List (ℕ × Declared)) (deeds : List De
 unheard client devices deeds is a reply came foreign = go (lookup (is_at (nat_cmp a.device)) devices) refl
   where
     has : Contains (replies_in devices deeds a.device (reverse (journal a.device deeds))) (key_of a, reply)
-    has = replied client (replies_in devices deeds) deeds is a reply came
+    has = (replied client (replies_in devices deeds) deeds is a reply came).given.has
 
     go : (o : Option Declared) → lookup (is_at (nat_cmp a.device)) devices ≡ o → ⊥
     go None e =

@@ -1,17 +1,14 @@
 -- What can happen in a session, when it can, and what comes of it.
-use Rattle.std.specs.Prelude.{◌≡◌, ℕ, ◌+◌, ◌-◌, ◌==◌, ◌&&◌, Bool, true, false, not, nat_lt, nat_le, if◌then◌else◌, List, [], ◌∷◌, ◌++◌, length, map, reverse, take, drop, fold, Option, Some, None, is_some, is_none, Result, Ok, Err, slice_get}
+use Rattle.std.specs.Prelude.{◌≡◌, ℕ, ◌+◌, ◌-◌, ◌==◌, ◌&&◌, Bool, true, false, not, nat_lt, nat_le, if◌then◌else◌, List, [], ◌∷◌, ◌++◌, length, map, take, drop, fold, Option, Some, None, is_some, is_none, Result, Ok, Err, slice_get}
 use Rattle.std.specs.Map.{lookup}
-use Rattle.std.specs.Option.{option_and_then, option_map_or, unwrap_or}
+use Rattle.std.specs.Option.{option_and_then, option_map_or}
 use Rattle.rd_base.specs.declared.journal.Key.{Key}
 use Rattle.rd_client.specs.Core as client
-use Rattle.rd_client.specs.Core.{ClientCoreState}
+use Rattle.rd_client.specs.Core.{ClientCoreState, Outgoing}
 use Rattle.rd_drive.specs.declared.plan.Job.{Job}
-use Rattle.rd_hello.specs.declared.client.ClientState.{ClientState}
-use Rattle.rd_hello.specs.declared.client.ClientState.TheVariants as client_state
 use Rattle.rd_hello.specs.declared.host.HostState.{HostState}
 use Rattle.rd_hello.specs.declared.host.HostState.TheVariants as host_state
 use Rattle.rd_drive.specs.Stepped.{Stepped, ran_step}
-use Rattle.rd_irp.specs.declared.completion.Head.{Head}
 use Rattle.rd_irp.specs.declared.op.Op.{Op}
 use Rattle.rd_irp.specs.declared.op.Op.TheVariants as op
 use Rattle.rd_irp.specs.Written.{completion_bytes}
@@ -33,9 +30,9 @@ use Rattle.rd_station.specs.Station as station
 use Rattle.rd_station.specs.Station.{StationState}
 use Rattle.rd_world.specs.Devices.{Declared, DeviceState, device_cut, device_data, device_step}
 use Rattle.rd_world.specs.Host.{begins_on, ends_channel, next_message, sends, tells_of}
-use Rattle.rd_world.specs.Talk.{Deed, adds, answered, asked, client_writes, completes, head_in, host_begins, host_ends, removes, submits, tells}
-use Rattle.rd_world.specs.World.{Application, Asked, WorldState, application_at, begins, client_sends, ends, handle_at, host_sends, new_joined, station_at, with_application, with_deed, with_station, with_table}
-use Rattle.rd_world.specs.Hearing.{all_take, announcing, client_takes, ends_line, host_takes, tries_kept, with_client}
+use Rattle.rd_world.specs.Talk.{Deed, adds, client_writes, completes, host_begins, host_ends, removes, submits, tells}
+use Rattle.rd_world.specs.World.{Application, Asked, WorldState, application_at, client_sends, handle_at, host_sends, marks_of, new_joined, station_at, with_application, with_deed, with_station, with_table}
+use Rattle.rd_world.specs.Hearing.{all_take, announcing, client_takes, ends_line, host_takes, is_client_ready, tries_kept, with_client}
 
 -- an event; a device and a hand by their numbers, a hand counted from 1, and a read by how many bytes it takes
 pub data Event : Type 0 where
@@ -56,17 +53,13 @@ pub data Event : Type 0 where
 abbrev pub is_open : WorldState → Bool
 is_open w = is_some ((w.side).table).channel
 
-abbrev pub is_client_ready : ClientState → Bool
-is_client_ready client_state.Ready = true
-is_client_ready _ = false
-
 abbrev pub is_host_ready : HostState → Bool
 is_host_ready host_state.Ready = true
 is_host_ready _ = false
 
 -- a channel is ready
 abbrev pub is_ready : WorldState → Bool
-is_ready w = is_open w && is_client_ready (w.client).shake
+is_ready w = is_open w && is_client_ready ((w.client).core).shake
 
 abbrev pub is_empty : {A : Type 0} → List A → Bool
 is_empty [] = true
@@ -77,7 +70,7 @@ abbrev pub host_has_message : WorldState → Bool
 host_has_message w = is_some (next_message w.side)
 
 abbrev pub client_has_message : WorldState → Bool
-client_has_message w = not (is_empty (w.client).outbox)
+client_has_message w = not (is_empty ((w.client).core).outbox)
 
 -- what a hand holds: nothing where there is no such hand
 abbrev pub hand_at : WorldState → ℕ → Option (Option (ℕ × Job))
@@ -115,7 +108,7 @@ is_enabled w (remove device) = is_ready w && (client.has_device w.client device 
 is_enabled w (add device) = is_ready w && client.is_gone w.client device
 is_enabled w drop_channel = is_open w
 is_enabled w connect = not (is_open w)
-is_enabled w (tell n) = is_open w && is_host_ready ((w.side).core).shake
+is_enabled w (tell n) = is_open w && is_host_ready (((w.side).core).core).shake
 
 -- ---- what comes of it
 
@@ -129,109 +122,91 @@ refusal_of submit_no.Memory = refusal.NoChannel
 
 -- what a line names: the device that it opens a file of, or what its handle holds
 abbrev pub target_of : Application → Asked → Option Target
-target_of a asked = by asked.device
-  where
-    by : Option ℕ → Option Target
-    by (Some device) = Some (target.Device device)
-    by None = option_map_or (λ (h : Handle). Some (target.Handle h)) (handle_at a asked.handle) None
+target_of a asked = option_map_or (λ device. Some (target.Device device)) asked.device (option_map_or (λ (h : Handle). Some (target.Handle h)) (handle_at a asked.handle) None)
 
--- An application issues its next line: its request is accepted, or the line is refused at once.
+-- an application's line asked for this, and its request is accepted, or the line is refused at once
+abbrev pub submitted : WorldState → ℕ → Asked → Target → TableState × Result ℕ SubmitNo → WorldState
+submitted w a asked named (t, Ok number) =
+    let application = application_at w a in
+    with_application (with_deed (with_table w t) (submits a named asked.op)) a (record application { awaits = Some (number, asked) })
+submitted w a asked named (t, Err cause) = ends_line w a asked (outcome.Refused (refusal_of cause)) None
+
+-- it asks for this of what its words name, if they name something
+abbrev pub asks : WorldState → ℕ → Asked → Option Target → WorldState
+asks w a asked (Some named) = submitted w a asked named (table.submit (w.side).table a named asked.op)
+asks w a asked None = ends_line w a asked (outcome.Refused refusal.NoHandle) None
+
+abbrev pub issues_first : WorldState → ℕ → List Asked → WorldState
+issues_first w a [] = w
+issues_first w a (asked ∷ queue) =
+    let application = application_at w a in
+    asks (with_application w a (record application { queue = queue; issued = application.issued + 1 })) a asked (target_of application asked)
+
+-- an application issues its next line
 abbrev pub issues : WorldState → ℕ → WorldState
-issues w a = by (application_at w a).queue
-  where
-    asks : WorldState → Asked → Target → WorldState
-    asks x asked named = from (table.submit (x.side).table a named asked.op)
-      where
-        from : TableState × Result ℕ SubmitNo → WorldState
-        from (t, Ok number) =
-            let application = application_at x a in
-            with_application (with_deed (with_table x t) (submits a named asked.op)) a (record application { awaits = Some (number, asked) })
-        from (t, Err cause) = ends_line x a asked (outcome.Refused (refusal_of cause)) None
-
-    names : WorldState → Asked → Option Target → WorldState
-    names x asked (Some named) = asks x asked named
-    names x asked None = ends_line x a asked (outcome.Refused refusal.NoHandle) None
-
-    by : List Asked → WorldState
-    by [] = w
-    by (asked ∷ queue) =
-        let application = application_at w a in
-        names (with_application w a (record application { queue = queue; issued = application.issued + 1 })) asked (target_of application asked)
+issues w a = issues_first w a (application_at w a).queue
 
 -- the host sends the message that is next
 abbrev pub host_sends_next : WorldState → WorldState
 host_sends_next w = option_map_or (host_sends (record w { side = sends w.side })) (next_message w.side) w
 
--- The key that a completion without its device answers: of the requests with its pair, the first that isn't answered.
-abbrev pub direct_key : WorldState → Head → Key
-direct_key w head =
-    let asked_so = asked w.channels head.device head.completion w.deeds in
-    let index = slice_get (reverse asked_so) (length (answered w.channels head.device head.completion w.deeds)) in
-    record { channel = w.channels; index = unwrap_or index 0 }
-
 -- what the client does with a message of its own: it completes a request, or writes it
-abbrev pub own_deed : WorldState → List ℕ → Deed
-own_deed w message = option_map_or (λ head. completes (direct_key w head) message) (head_in message) (client_writes w.channels message)
+abbrev pub own_deed : WorldState → Outgoing → Deed
+own_deed w o = option_map_or (λ key. completes key o.message) o.answers (client_writes w.channels o.message)
+
+abbrev pub client_sends_first : WorldState → ClientCoreState × Option Outgoing → WorldState
+client_sends_first w (c, None) = w
+client_sends_first w (c, Some o) = client_sends (with_client w c) (own_deed w o) o.message
 
 abbrev pub client_sends_next : WorldState → WorldState
-client_sends_next w = by (client.send w.client)
-  where
-    by : ClientCoreState × Option (List ℕ) → WorldState
-    by (c, None) = w
-    by (c, Some message) = client_sends (with_client w c) (own_deed w message) message
+client_sends_next w = client_sends_first w (client.send w.client)
 
 -- the bytes of a device's completion
 abbrev pub bytes_of : ℕ → Completion → List ℕ
 bytes_of device c = completion_bytes c.kind (record { device = device; completion = c.completion; status = (c.reply).status }) (c.reply).body
 
+abbrev pub collects_from : WorldState → ℕ → StationState DeviceState × Option Completion → WorldState
+collects_from w device (s, None) = w
+collects_from w device (s, Some c) = let bytes = bytes_of device c in tries_kept (client_sends (with_station w device s) (completes c.key bytes) bytes) device
+
 -- a completion of a device is collected and sent, and a job that was kept back is tried again
 abbrev pub collects : WorldState → ℕ → WorldState
-collects w device = by (station_at w device)
-  where
-    from : StationState DeviceState × Option Completion → WorldState
-    from (s, None) = w
-    from (s, Some c) = let bytes = bytes_of device c in tries_kept (client_sends (with_station w device s) (completes c.key bytes) bytes) device
-
-    by : Option (StationState DeviceState) → WorldState
-    by None = w
-    by (Some s) = from (station.collect s)
+collects w device = option_map_or (λ (s : StationState DeviceState). collects_from w device (station.collect s)) (station_at w device) w
 
 -- a hand holds this, or nothing
 abbrev pub with_hand : WorldState → ℕ → Option (ℕ × Job) → WorldState
 with_hand w hand held = record w { hands = take (hand - 1) w.hands ++ held ∷ drop hand w.hands }
 
-abbrev pub takes_job : WorldState → ℕ → ℕ → WorldState
-takes_job w device hand = by (station_at w device)
-  where
-    from : StationState DeviceState × Given → WorldState
-    from (s, given.Job job) = with_hand (with_station w device s) hand (Some (device, job))
-    from (s, given.Nothing) = w
-    from (s, given.Over) = w
+abbrev pub takes_job_from : WorldState → ℕ → ℕ → StationState DeviceState × Given → WorldState
+takes_job_from w device hand (s, given.Job job) = with_hand (with_station w device s) hand (Some (device, job))
+takes_job_from w device hand (s, given.Nothing) = w
+takes_job_from w device hand (s, given.Over) = w
 
-    by : Option (StationState DeviceState) → WorldState
-    by None = w
-    by (Some s) = from (station.take s)
+abbrev pub takes_job : WorldState → ℕ → ℕ → WorldState
+takes_job w device hand = option_map_or (λ (s : StationState DeviceState). takes_job_from w device hand (station.take s)) (station_at w device) w
 
 abbrev pub is_close : Op → Bool
 is_close op.Close = true
 is_close _ = false
 
--- what a job comes to at a device, or nothing where no memory is found for it
-abbrev pub came_of : WorldState → Job → DeviceState → Stepped DeviceState
-came_of w job s = ran_step device_step s job.key job.file job.op w.moment (w.starves job.key && not (is_close job.op))
+-- The runs for which no memory is found; a Close needs none.
+module _ (starves : Key → Bool) where
+  -- what a job comes to at a device, or nothing where no memory is found for it
+  abbrev pub came_of : WorldState → Job → DeviceState → Stepped DeviceState
+  came_of w job s = ran_step device_step s job.key job.file job.op w.moment (starves job.key && not (is_close job.op))
 
--- A hand's job is run at the moment of the session, unless its station has it no more.
-abbrev pub applies_job : WorldState → ℕ → WorldState
-applies_job w hand = by (option_and_then (λ held. held) (hand_at w hand))
-  where
-    at : ℕ → Job → Option (StationState DeviceState) → WorldState
-    at device job None = with_hand w hand None
-    at device job (Some s) =
-        with_hand (with_station w device (station.apply s job w.moment (came_of w job s.device)).0) hand None
+  -- the job of a device that a hand holds is run, unless its station has it no more
+  abbrev pub applies_at : WorldState → ℕ → ℕ → Job → Option (StationState DeviceState) → WorldState
+  applies_at w hand device job None = with_hand w hand None
+  applies_at w hand device job (Some s) = with_hand (with_station w device (station.apply s job w.moment (came_of w job s.device)).0) hand None
 
-    by : Option (ℕ × Job) → WorldState
-    by None = w
-    by (Some (device, job)) = at device job (station_at w device)
+  abbrev pub applies_held : WorldState → ℕ → Option (ℕ × Job) → WorldState
+  applies_held w hand None = w
+  applies_held w hand (Some (device, job)) = applies_at w hand device job (station_at w device)
+
+  -- a hand's job is run at the moment of the session
+  abbrev pub applies_job : WorldState → ℕ → WorldState
+  applies_job w hand = applies_held w hand (option_and_then (λ held. held) (hand_at w hand))
 
 -- the client tells that a device is gone, and its station is removed
 abbrev pub removes_device : WorldState → ℕ → WorldState
@@ -259,11 +234,10 @@ drops w =
     let cut = fold dropping w (map (λ (e : ℕ × StationState DeviceState). e.0) w.stations) in
     all_take (record (with_deed cut (host_ends cut.channels)) {
       side = ends_channel cut.side;
-      client = record cut.client { outbox = [] };
+      client = record cut.client { core = record (cut.client).core { outbox = [] } };
       to_client = [];
       to_host = [];
       kept = None;
-      wire = cut.wire ++ ends ∷ [];
     })
 
 -- a channel begins
@@ -277,25 +251,24 @@ connects w =
       side = begins_on w.side channel;
       client_joined = new_joined;
       host_joined = new_joined;
-      wire = w.wire ++ begins ∷ [];
     }
 
--- what comes of an event that can happen
-abbrev pub act : WorldState → Event → WorldState
-act w (issue a) = issues w a
-act w host_send = host_sends_next w
-act w (client_read n) = client_takes (record w { to_client = drop n w.to_client }) (take n w.to_client)
-act w client_send = client_sends_next w
-act w (collect device) = collects w device
-act w (host_read n) = host_takes (record w { to_host = drop n w.to_host }) (take n w.to_host)
-act w (take_job device hand) = takes_job w device hand
-act w (apply_job hand) = applies_job w hand
-act w (remove device) = removes_device w device
-act w (add device) = adds_device w device
-act w drop_channel = drops w
-act w connect = connects w
-act w (tell n) = with_deed (record w { side = tells_of w.side n }) (tells n)
+-- what comes of an event that can happen, where these runs find no memory
+abbrev pub act : (Key → Bool) → WorldState → Event → WorldState
+act starves w (issue a) = issues w a
+act starves w host_send = host_sends_next w
+act starves w (client_read n) = client_takes (record w { to_client = drop n w.to_client }) (take n w.to_client)
+act starves w client_send = client_sends_next w
+act starves w (collect device) = collects w device
+act starves w (host_read n) = host_takes (record w { to_host = drop n w.to_host }) (take n w.to_host)
+act starves w (take_job device hand) = takes_job w device hand
+act starves w (apply_job hand) = applies_job starves w hand
+act starves w (remove device) = removes_device w device
+act starves w (add device) = adds_device w device
+act starves w drop_channel = drops w
+act starves w connect = connects w
+act starves w (tell n) = with_deed (record w { side = tells_of w.side n }) (tells n)
 
--- One step of a session: an event that can happen, and what comes of it.
+-- One step of a session: an event that can happen, and what comes of it. The journals tell which run found no memory.
 abbrev pub WorldStep : WorldState → Event → WorldState → Type 0
-WorldStep old e new = (is_enabled old e ≡ true) × (new ≡ act old e)
+WorldStep old e new = (is_enabled old e ≡ true) × (new ≡ act (marks_of new) old e)

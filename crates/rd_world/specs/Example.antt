@@ -1,5 +1,5 @@
 -- A session as the joining law takes it: two devices, two channels, a request that waits, a removal under work, and a drop.
-use Rattle.std.specs.Prelude.{ℕ, ◌==◌, ◌&&◌, if◌then◌else◌, Bool, true, false, List, [], ◌∷◌, ◌++◌, codes, map, reverse, Option, Some, None}
+use Rattle.std.specs.Prelude.{ℕ, if◌then◌else◌, true, false, List, [], ◌∷◌, ◌++◌, codes, map, reverse, Option, Some, None}
 use Rattle.std.specs.List.{flat_map}
 use Rattle.rd_base.specs.declared.journal.Cause.TheVariants.{Dropped, Removed}
 use Rattle.rd_base.specs.declared.journal.Item.{Item}
@@ -21,12 +21,11 @@ use Rattle.rd_irp.specs.Fits.{kind_of}
 use Rattle.rd_irp.specs.Written.{completion_bytes, request_bytes}
 use Rattle.rd_pending.specs.declared.calls.Outcome.{Outcome}
 use Rattle.rd_pending.specs.declared.calls.Target.TheVariants as target
-use Rattle.rd_pending.specs.Outcomes.{Tidings, outcome_of}
-use Rattle.rd_pending.specs.Table.{Accepted}
-use Rattle.rd_station.specs.Station.{cancellation}
+use Rattle.rd_pending.specs.History.{Call, accepted_in, outcome_in}
+use Rattle.rd_pending.specs.Outcomes.{Accepted}
+use Rattle.rd_station.specs.Station.{cancellation, is_key}
 use Rattle.rd_world.specs.Hearing.{no_such_device}
-use Rattle.rd_world.specs.HostDeeds.{side_of}
-use Rattle.rd_world.specs.Joining.{told_of}
+use Rattle.rd_world.specs.HostDeeds.{calls_of}
 use Rattle.rd_world.specs.Talk.{Deed, client_reads, client_writes, completes, host_begins, host_ends, host_reads, host_writes, removes, stores, submits, takes}
 use Rattle.rd_world.specs.Told.{Replies}
 
@@ -131,9 +130,6 @@ close_reply = record { status = status.success; body = body.Closed }
 abbrev pub watch_reply : Reply
 watch_reply = fault status.notify_cleanup
 
-abbrev pub is_key : Key → Key → Bool
-is_key k l = k.channel == l.channel && k.index == l.index
-
 -- what an entry gives: the run that closes the folder ends what waits there
 abbrev pub gives : Item → List KeyedReply
 gives (Ran key moment starved true) = []
@@ -161,7 +157,7 @@ oldest_first =
     ++ goes_out close ++ arrives close ++ comes close ++ runs close ++ is_handed_out close ++ is_completed close close_reply
     ++ is_handed_out watch ++ is_completed watch watch_reply
     ++ removal_under_work
-    ++ goes_out dropped_read ++ arrives dropped_read ++ comes dropped_read ++ runs dropped_read ++ host_ends 1 ∷ stores 2 (Cut Dropped)
+    ++ goes_out dropped_read ++ arrives dropped_read ++ comes dropped_read ++ runs dropped_read ++ stores 2 (Cut Dropped) ∷ host_ends 1
     ∷ opening 2 (2 ∷ [])
     ++ goes_out last_read ++ arrives last_read ++ comes last_read ++ runs last_read ++ is_handed_out last_read ++ is_completed last_read read_reply
 
@@ -171,16 +167,16 @@ example_deeds = reverse oldest_first
 -- ---- what it comes to
 
 -- The requests behind others: of each its channel and device, and what came of it.
-abbrev pub come_to : List Accepted → List Accepted → List (ℕ × ℕ × Option Outcome)
-come_to earlier [] = []
-come_to earlier (a ∷ later) = (a.channel, a.device, by (told_of 1 example_deeds a.channel)) ∷ come_to (earlier ++ a ∷ []) later
-  where
-    by : ℕ × List Tidings × Bool → Option Outcome
-    by told = outcome_of earlier a told.0 told.1 told.2
+abbrev pub come_to : List Call → List Accepted → List Accepted → List (ℕ × ℕ × Option Outcome)
+come_to h earlier [] = []
+come_to h earlier (a ∷ later) = (a.channel, a.device, outcome_in h earlier a) ∷ come_to h (earlier ++ a ∷ []) later
+
+abbrev pub outcomes_in : List Call → List (ℕ × ℕ × Option Outcome)
+outcomes_in h = come_to h [] (accepted_in h)
 
 -- of all, in the order of their numbers
 abbrev pub example_outcomes : List (ℕ × ℕ × Option Outcome)
-example_outcomes = come_to [] (side_of 1 example_deeds).table.accepted
+example_outcomes = outcomes_in (calls_of 1 example_deeds)
 
 -- the request of an entry that it left waiting inside the device
 abbrev pub left_waiting : Item → Option Key

@@ -12,11 +12,10 @@ use Rattle.rd_devices.specs.declared.list.Announce.{Announce}
 use Rattle.rd_drive.specs.declared.plan.Job.{Job}
 use Rattle.rd_drive.specs.Statuses as status
 use Rattle.rd_hello.specs.declared.client.ClientState.{ClientState}
-use Rattle.rd_hello.specs.declared.client.ClientState.TheVariants.{Ready}
+use Rattle.rd_hello.specs.declared.client.ClientState.TheVariants as client_state
 use Rattle.rd_hello.specs.declared.end_fault.EndFault.{EndFault}
 use Rattle.rd_irp.specs.declared.completion.Body.{Body}
 use Rattle.rd_irp.specs.declared.completion.Body.TheVariants.{Created}
-use Rattle.rd_irp.specs.declared.completion.Reply.{Reply}
 use Rattle.rd_pending.specs.declared.calls.Handle.{Handle}
 use Rattle.rd_pending.specs.declared.calls.Outcome as table_outcome
 use Rattle.rd_pending.specs.declared.calls.Outcome.TheVariants as settled
@@ -42,6 +41,11 @@ use Rattle.rd_world.specs.World.{Application, Asked, Kept, WorldState, applicati
 abbrev pub no_such_device : Status
 no_such_device = record { 0 = 0xc000_000e }
 
+-- whether a client is ready
+abbrev pub is_client_ready : ClientState → Bool
+is_client_ready client_state.Ready = true
+is_client_ready _ = false
+
 abbrev pub with_client : WorldState → ClientCoreState → WorldState
 with_client w c = record w { client = c }
 
@@ -55,64 +59,68 @@ announcing w device = option_map_or (λ (s : StationState DeviceState). with_sta
 
 -- whether the host was last told that a device is there
 abbrev pub is_told : WorldState → ℕ → Bool
-is_told w device = is_ready (w.client).shake && (client.has_device w.client device && not (client.is_gone w.client device))
-  where
-    is_ready : ClientState → Bool
-    is_ready Ready = true
-    is_ready _ = false
+is_told w device = is_client_ready ((w.client).core).shake && (client.has_device w.client device && not (client.is_gone w.client device))
 
--- A job goes to its station. A device that the host was told of has a station that isn't live only where its journal is worn. Where a station is full it is kept back, with the bytes behind it.
+-- A job doesn't come to its station. A device that the host was told of has a station that isn't live only where its journal is worn. Where the station is
+-- full the job is kept back, with the bytes after it.
+abbrev pub refused_put : WorldState → ℕ → Job → List ℕ → PutWhy → WorldState
+refused_put w device job rest why.Gone = answers_directly w device job (if is_told w device then status.insufficient_resources else no_such_device)
+refused_put w device job rest (why.Full held) = record w { kept = Some (record { device = device; job = job; rest = rest }) }
+refused_put w device job rest (why.Worn count) = answers_directly w device job status.insufficient_resources
+refused_put w device job rest (why.Duplicate key) = w
+refused_put w device job rest why.Memory = w
+
+abbrev pub put_by : WorldState → ℕ → Job → List ℕ → StationState DeviceState × Option PutWhy → WorldState
+put_by w device job rest (s, None) = with_station w device s
+put_by w device job rest (s, Some cause) = refused_put w device job rest cause
+
+abbrev pub put_at : WorldState → ℕ → Job → List ℕ → Option (StationState DeviceState) → WorldState
+put_at w device job rest None = answers_directly w device job no_such_device
+put_at w device job rest (Some s) = put_by w device job rest (station.put s job)
+
+-- a job goes to its station, if there is one; these bytes came after it
 abbrev pub putting : WorldState → ℕ → Job → List ℕ → WorldState
-putting w device job behind = by (station_at w device)
-  where
-    refused : PutWhy → WorldState
-    refused why.Gone = answers_directly w device job (if is_told w device then status.insufficient_resources else no_such_device)
-    refused (why.Full held) = record w { kept = Some (record { device = device; job = job; behind = behind }) }
-    refused (why.Worn count) = answers_directly w device job status.insufficient_resources
-    refused (why.Duplicate key) = w
-    refused why.Memory = w
+putting w device job rest = put_at w device job rest (station_at w device)
 
-    came : StationState DeviceState × Option PutWhy → WorldState
-    came (s, None) = with_station w device s
-    came (s, Some cause) = refused cause
+-- where the client becomes ready, the devices that it lists are announced to their stations
+abbrev pub opened : ClientState → WorldState → WorldState
+opened shake w =
+    if client.becomes_ready shake ((w.client).core).shake then fold (λ x (a : Announce). announcing x a.id) w (listed w.client)
+    else w
 
-    by : Option (StationState DeviceState) → WorldState
-    by None = answers_directly w device job no_such_device
-    by (Some s) = came (station.put s job)
+-- what a message asks for is done, which the client heard in this state, and after which these bytes came
+abbrev pub heard_by_client : ClientState → List ℕ → WorldState → Result Heard EndFault → WorldState
+heard_by_client shake rest w (Err fault) = w
+heard_by_client shake rest w (Ok Nothing) = opened shake w
+heard_by_client shake rest w (Ok (Ask device job)) = putting w device job rest
+heard_by_client shake rest w (Ok (Print n)) = record w { cache = cache.heard w.cache n }
 
--- the client heard a message, behind which these bytes came
+-- the client heard a message, after which these bytes came
 abbrev pub client_hears : WorldState → List ℕ → List ℕ → WorldState
-client_hears w message behind = by (client.hear w.client message)
-  where
-    opened : WorldState → WorldState
-    opened x =
-        if client.becomes_ready (w.client).shake (x.client).shake then fold (λ y (a : Announce). announcing y a.id) x (listed x.client)
-        else x
+client_hears w message rest =
+    let heard = client.hear w.client message in
+    heard_by_client ((w.client).core).shake rest (with_deed (with_client w heard.0) (client_reads w.channels message)) heard.1
 
-    made : WorldState → Result Heard EndFault → WorldState
-    made x (Err fault) = x
-    made x (Ok Nothing) = opened x
-    made x (Ok (Ask device job)) = putting x device job behind
-    made x (Ok (Print n)) = record x { cache = cache.heard x.cache n }
+-- no further message is whole: these bytes are a part of one
+abbrev pub client_holds : WorldState → List ℕ → WorldState
+client_holds w bytes = record w { client_joined = record w.client_joined { part = bytes } }
 
-    by : ClientCoreState × Result Heard EndFault → WorldState
-    by (c, heard) = made (with_deed (with_client w c) (client_reads w.channels message)) heard
+-- on with the bytes after a message, unless its job is kept back
+abbrev pub on_unless_kept : WorldState → List ℕ → (WorldState → List ℕ → WorldState) → WorldState
+on_unless_kept w rest on = if is_some w.kept then client_holds w [] else on w rest
+
+abbrev pub client_handles_first : WorldState → List ℕ → Option (List ℕ × List ℕ) → (WorldState → List ℕ → WorldState) → WorldState
+client_handles_first w bytes None on = client_holds w bytes
+client_handles_first w bytes (Some (message, rest)) on = on_unless_kept (client_hears w message rest) rest on
 
 -- The client handles bytes, message by message, until none is whole, or it keeps a job back; at most so many messages.
 abbrev pub client_handles : ℕ → WorldState → List ℕ → WorldState
-client_handles zero w bytes = record w { client_joined = record w.client_joined { part = bytes } }
-client_handles (suc most) w bytes = by (first_message bytes) (client_handles most)
-  where
-    on_unless_kept : WorldState → List ℕ → (WorldState → List ℕ → WorldState) → WorldState
-    on_unless_kept x rest on = if is_some x.kept then record x { client_joined = record x.client_joined { part = [] } } else on x rest
+client_handles zero w bytes = client_holds w bytes
+client_handles (suc most) w bytes = client_handles_first w bytes (first_message bytes) (client_handles most)
 
-    by : Option (List ℕ × List ℕ) → (WorldState → List ℕ → WorldState) → WorldState
-    by None on = record w { client_joined = record w.client_joined { part = bytes } }
-    by (Some (message, rest)) on = on_unless_kept (client_hears w message rest) rest on
-
--- how many bytes wait behind a job that is kept back
+-- how many bytes wait with a job that is kept back
 abbrev pub held_back : WorldState → ℕ
-held_back w = option_map_or (λ (k : Kept). length k.behind) w.kept 0
+held_back w = option_map_or (λ (k : Kept). length k.rest) w.kept 0
 
 -- the client takes these bytes from the channel
 abbrev pub client_takes : WorldState → List ℕ → WorldState
@@ -121,16 +129,17 @@ client_takes w bytes =
     let after = client_handles (length all + 1) w all in
     record after { client_joined = record after.client_joined { taken = (w.client_joined).taken + length bytes - held_back after } }
 
--- A job of a device that was kept back is tried again, and where it has gone the bytes behind it are handled.
-abbrev pub tries_kept : WorldState → ℕ → WorldState
-tries_kept w device = by w.kept
-  where
-    on_unless_kept : Kept → WorldState → WorldState
-    on_unless_kept k x = if is_some x.kept then x else client_takes x k.behind
+-- unless a job was kept back again, the bytes that came after it are handled
+abbrev pub takes_unless_kept : WorldState → List ℕ → WorldState
+takes_unless_kept w rest = if is_some w.kept then w else client_takes w rest
 
-    by : Option Kept → WorldState
-    by None = w
-    by (Some k) = if k.device == device then on_unless_kept k (putting (record w { kept = None }) k.device k.job k.behind) else w
+abbrev pub tries : WorldState → ℕ → Option Kept → WorldState
+tries w device None = w
+tries w device (Some k) = if k.device == device then takes_unless_kept (putting (record w { kept = None }) k.device k.job k.rest) k.rest else w
+
+-- A job of a device that was kept back is tried again, and where it has gone the bytes that came after it are handled.
+abbrev pub tries_kept : WorldState → ℕ → WorldState
+tries_kept w device = tries w device w.kept
 
 -- ---- the host
 
@@ -138,40 +147,46 @@ tries_kept w device = by w.kept
 abbrev pub host_hears : WorldState → List ℕ → WorldState
 host_hears w message = with_deed (record w { side = hears w.side message }) (host_reads w.channels message)
 
+-- no further message is whole: these bytes are a part of one
+abbrev pub host_holds : WorldState → List ℕ → WorldState
+host_holds w bytes = record w { host_joined = record w.host_joined { part = bytes } }
+
+abbrev pub host_handles_first : WorldState → List ℕ → Option (List ℕ × List ℕ) → (WorldState → List ℕ → WorldState) → WorldState
+host_handles_first w bytes None on = host_holds w bytes
+host_handles_first w bytes (Some (message, rest)) on = on (host_hears w message) rest
+
 -- the host handles bytes, message by message, until none is whole; at most so many messages
 abbrev pub host_handles : ℕ → WorldState → List ℕ → WorldState
-host_handles zero w bytes = record w { host_joined = record w.host_joined { part = bytes } }
-host_handles (suc most) w bytes = by (first_message bytes) (host_handles most)
-  where
-    by : Option (List ℕ × List ℕ) → (WorldState → List ℕ → WorldState) → WorldState
-    by None on = record w { host_joined = record w.host_joined { part = bytes } }
-    by (Some (message, rest)) on = on (host_hears w message) rest
+host_handles zero w bytes = host_holds w bytes
+host_handles (suc most) w bytes = host_handles_first w bytes (first_message bytes) (host_handles most)
 
 -- ---- the applications
 
+-- the file id that a reply gives, if it opens a file
+abbrev pub file_of : Status → Body → Option ℕ
+file_of st (Created file information) = if st.0 == 0 then Some file else None
+file_of st _ = None
+
+abbrev pub file_given : table_outcome.Outcome → Option ℕ
+file_given (settled.Done reply) = file_of reply.status reply.body
+file_given (settled.Lost cause) = None
+
 -- what an open gives its handle: the file id of a device in a life
 abbrev pub given_handle : Taken → Option Handle
-given_handle t = by t.outcome
-  where
-    from : Reply → Body → Option Handle
-    from reply (Created file information) = if (reply.status).0 == 0 then Some (record { device = t.device; life = t.life; file = file }) else None
-    from reply _ = None
-
-    by : table_outcome.Outcome → Option Handle
-    by (settled.Done reply) = from reply reply.body
-    by (settled.Lost cause) = None
+given_handle t = option_map_or (λ file. Some (record { device = t.device; life = t.life; file = file })) (file_given t.outcome) None
 
 abbrev pub outcome_of : table_outcome.Outcome → Outcome
 outcome_of (settled.Done reply) = outcome.Done reply
 outcome_of (settled.Lost cause) = outcome.Lost cause
 
+-- a name holds this handle, or none
+abbrev pub holding : Application → List ℕ → Option Handle → Application
+holding a name None = record a { handles = remove_entry (is_at (name_cmp name)) a.handles }
+holding a name (Some h) = record a { handles = insert_entry name_cmp a.handles name h }
+
 -- the name of a handle holds what an open gave, or nothing where it gave none; any other line leaves it as it is
 abbrev pub holding_after : Application → Asked → Option Handle → Application
-holding_after a asked given = if is_some asked.device then by given else a
-  where
-    by : Option Handle → Application
-    by None = record a { handles = remove_entry (is_at (name_cmp asked.handle)) a.handles }
-    by (Some h) = record a { handles = insert_entry name_cmp a.handles asked.handle h }
+holding_after a asked given = if is_some asked.device then holding a asked.handle given else a
 
 -- the line that an application issued last has its outcome
 abbrev pub ends_line : WorldState → ℕ → Asked → Outcome → Option Handle → WorldState
@@ -179,17 +194,17 @@ ends_line w a asked o given =
     let application = application_at w a in
     record (with_application w a (record (holding_after application asked given) { awaits = None })) { outcomes = w.outcomes ++ ((a, application.issued), o) ∷ [] }
 
+abbrev pub takes_from : WorldState → ℕ → ℕ → Asked → TableState × Result Taken TakeNo → WorldState
+takes_from w a number asked (t, Err cause) = w
+takes_from w a number asked (t, Ok taken) = ends_line (with_deed (with_table w t) (takes number)) a asked (outcome_of taken.outcome) (given_handle taken)
+
+abbrev pub takes_awaited : WorldState → ℕ → Option (ℕ × Asked) → WorldState
+takes_awaited w a None = w
+takes_awaited w a (Some (number, asked)) = takes_from w a number asked (table.take (w.side).table number)
+
 -- an application takes the outcome that it awaits, if it is known
 abbrev pub takes_outcome : WorldState → ℕ → WorldState
-takes_outcome w a = by (application_at w a).awaits
-  where
-    from : ℕ → Asked → TableState × Result Taken TakeNo → WorldState
-    from number asked (t, Err cause) = w
-    from number asked (t, Ok taken) = ends_line (with_deed (with_table w t) (takes number)) a asked (outcome_of taken.outcome) (given_handle taken)
-
-    by : Option (ℕ × Asked) → WorldState
-    by None = w
-    by (Some (number, asked)) = from number asked (table.take (w.side).table number)
+takes_outcome w a = takes_awaited w a (application_at w a).awaits
 
 abbrev pub all_take : WorldState → WorldState
 all_take w = fold takes_outcome w (map (λ (e : ℕ × Application). e.0) w.applications)

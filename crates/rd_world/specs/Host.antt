@@ -25,12 +25,12 @@ new_side client = record { core = host.new_host client; table = table.new_table 
 
 -- ---- a channel
 
--- a channel begins, and its end; nothing is sent on it behind that
+-- a channel begins, and its end; nothing is sent on it after that
 abbrev pub begins_on : HostSide → ℕ → HostSide
 begins_on s channel = record { core = host.begin s.core; table = (table.begin s.table channel).0 }
 
 abbrev pub ends_channel : HostSide → HostSide
-ends_channel s = record { core = record s.core { outbox = [] }; table = table.drop_channel s.table }
+ends_channel s = record { core = record s.core { core = record (s.core).core { outbox = [] } }; table = table.drop_channel s.table }
 
 -- ---- what is sent
 
@@ -38,22 +38,24 @@ ends_channel s = record { core = record s.core { outbox = [] }; table = table.dr
 abbrev pub tells_of : HostSide → Notice → HostSide
 tells_of s n = record s { core = host.tell s.core n }
 
+-- the first message of two outboxes, the second of which waits for the first
+abbrev pub first_of : List (List ℕ) → List (List ℕ) → Option (List ℕ)
+first_of (message ∷ others) requests = Some message
+first_of [] (request ∷ others) = Some request
+first_of [] [] = None
+
 -- the message that is sent next, if one is to be sent: the end's own come before requests
 abbrev pub next_message : HostSide → Option (List ℕ)
-next_message s = by (s.core).outbox (s.table).outbox
-  where
-    by : List (List ℕ) → List (List ℕ) → Option (List ℕ)
-    by (message ∷ others) requests = Some message
-    by [] (request ∷ others) = Some request
-    by [] [] = None
+next_message s = first_of ((s.core).core).outbox (s.table).outbox
 
--- what is left behind that
+-- what is left of it when a message of its end is sent, or of its table where its end has none
+abbrev pub sent_from : HostSide → List (List ℕ) → HostSide
+sent_from s (message ∷ others) = record s { core = (host.send s.core).0 }
+sent_from s [] = record s { table = (table.send s.table).0 }
+
+-- what is left after that
 abbrev pub sends : HostSide → HostSide
-sends s = by (s.core).outbox
-  where
-    by : List (List ℕ) → HostSide
-    by (message ∷ others) = record s { core = (host.send s.core).0 }
-    by [] = record s { table = (table.send s.table).0 }
+sends s = sent_from s ((s.core).core).outbox
 
 -- ---- what is heard
 
@@ -61,27 +63,30 @@ abbrev pub live_status : LiveNo → Status
 live_status live_no.Already = status.object_name_collision
 live_status _ = status.insufficient_resources
 
+-- the code with which the client is told whether a device began a life
+abbrev pub live_code : Result ℕ LiveNo → Status
+live_code (Ok life) = status.success
+live_code (Err cause) = live_status cause
+
+-- what is left of it by the announcement of a device with this id that its table takes or doesn't
+abbrev pub lived : HostSide → ℕ → TableState × Result ℕ LiveNo → HostSide
+lived s id (after, life) = record { table = after; core = host.reply s.core id (live_code life) }
+
 -- A device was announced: it begins a life, and the client is told whether it did.
 abbrev pub admits : HostSide → Announce → HostSide
-admits s a = if is_served a.kind then by (table.live s.table a.id) else record s { core = host.reply s.core a.id status.not_supported }
-  where
-    by : TableState × Result ℕ LiveNo → HostSide
-    by (t, Ok life) = record { table = t; core = host.reply s.core a.id status.success }
-    by (t, Err cause) = record { table = t; core = host.reply s.core a.id (live_status cause) }
+admits s a = if is_served a.kind then lived s a.id (table.live s.table a.id) else record s { core = host.reply s.core a.id status.not_supported }
 
 abbrev pub forgets : HostSide → ℕ → HostSide
 forgets s device = record s { table = (table.remove s.table device).0 }
 
+-- what is left of it by what it heard
+abbrev pub heard : HostSide → Result Act EndFault → HostSide
+heard s (Err fault) = s
+heard s (Ok act.Nothing) = s
+heard s (Ok (act.Announced devices)) = fold admits s devices
+heard s (Ok (act.Removed ids)) = fold forgets s ids
+heard s (Ok (act.Complete head bytes)) = record s { table = (table.complete s.table head bytes).0 }
+
 -- what is left of it by a message that it hears
 abbrev pub hears : HostSide → List ℕ → HostSide
-hears s message = by (host.hear s.core message)
-  where
-    made : HostSide → Result Act EndFault → HostSide
-    made x (Err fault) = x
-    made x (Ok act.Nothing) = x
-    made x (Ok (act.Announced devices)) = fold admits x devices
-    made x (Ok (act.Removed ids)) = fold forgets x ids
-    made x (Ok (act.Complete head bytes)) = record x { table = (table.complete x.table head bytes).0 }
-
-    by : HostCoreState × Result Act EndFault → HostSide
-    by (h, heard) = made (record s { core = h }) heard
+hears s message = let made = host.hear s.core message in heard (record s { core = made.0 }) made.1

@@ -1,6 +1,7 @@
 -- The law that joins both sides: whatever two ends do whose messages are carried, whose host keeps its table and whose client tells what its journals
 -- say, completions reach their own requests.
-use Rattle.std.specs.Prelude.{◌≡◌, ℕ, suc, ◌<◌, Bool, false, List, [], ◌∷◌, ◌++◌, length, reverse, filter, Some, Result, Ok, Err, Contains}
+use Rattle.std.specs.List.{list_any}
+use Rattle.std.specs.Prelude.{◌≡◌, ℕ, ◌<◌, Bool, false, List, [], ◌∷◌, ◌++◌, length, reverse, filter, Some, Result, Ok, Err, Contains}
 use Rattle.rd_base.specs.declared.journal.Cause.{Cause}
 use Rattle.rd_base.specs.declared.journal.Item.{Item}
 use Rattle.rd_base.specs.declared.journal.Item.TheVariants.{Came, Cut, Ran, Sent}
@@ -17,15 +18,16 @@ use Rattle.rd_irp.specs.declared.completion.Reply.{Reply}
 use Rattle.rd_irp.specs.declared.request.Request.{Request}
 use Rattle.rd_pending.specs.declared.calls.Outcome.{Outcome}
 use Rattle.rd_pending.specs.declared.calls.Outcome.TheVariants.{Done}
-use Rattle.rd_pending.specs.declared.calls.Taken.{Taken}
 use Rattle.rd_pending.specs.declared.calls.CompleteNo.{CompleteNo}
 use Rattle.rd_pending.specs.declared.calls.Completed.{Completed}
-use Rattle.rd_pending.specs.Outcomes.{AreOutcomes, Tidings, outcome_of}
+use Rattle.rd_pending.specs.History as history
+use Rattle.rd_pending.specs.History.{AreOutcomes, Call, HandsOut, accepted_in}
+use Rattle.rd_pending.specs.Outcomes.{Accepted}
 use Rattle.rd_pending.specs.Table as table
-use Rattle.rd_pending.specs.Table.{Accepted}
+use Rattle.rd_pending.specs.Table.{TableState}
 use Rattle.rd_world.specs.Host.{HostSide}
-use Rattle.rd_world.specs.HostDeeds.{MayDo, heard_on, side_of}
-use Rattle.rd_world.specs.Talk.{AtEachPoint, EachAfter, EndsWith, Deed, Has, answered, asked, client_read, client_reads, client_writes, client_wrote, completes, has_ended, host_read, host_reads, host_writes, host_wrote, is_request, journal, request_at, request_in, stores, takes, until_begin}
+use Rattle.rd_world.specs.HostDeeds.{MayDo, calls_of, side_of}
+use Rattle.rd_world.specs.Talk.{AtEachPoint, EachAfter, EndsWith, Deed, Has, answered, asked, client_read, client_reads, client_writes, client_wrote, completes, host_read, host_reads, host_writes, host_wrote, is_completion_of, is_request, journal, request_at, request_in, stores}
 use Rattle.rd_world.specs.Told.{IsTold, Replies, worn_entries}
 
 -- What an end has read on a channel are the first of the messages that the other one wrote there.
@@ -33,31 +35,34 @@ pub record IsCarried (deeds : List Deed) : Type 0 where
   pub to_client : (c : ℕ) → EndsWith (host_wrote c deeds) (client_read c deeds)
   pub to_host : (c : ℕ) → EndsWith (client_wrote c deeds) (host_read c deeds)
 
--- A key comes behind the read of its request, which names the journal's device. A completion is written behind the `Sent` of its key, where the key
--- comes at all. Nothing else that a client writes is a completion.
-abbrev pub Stands : List Deed → List Deed → Deed → Type 0
-Stands deeds before (stores device (Came key)) =
-    (r : Request) × (request_at (client_read key.channel before) key.index ≡ Some r) × (r.device ≡ device)
-Stands deeds before (completes key message) =
-    (device : ℕ) → Has (Came key) (journal device deeds) → Has (Sent key) (journal device before)
-Stands deeds before (client_writes channel message) = is_of IoCompletion message ≡ false
-Stands deeds before _ = Unit {0}
-
--- how many of some pass a test
-abbrev pub count : {A : Type 0} → (A → Bool) → List A → ℕ
-count p xs = length (filter p xs)
+-- A key comes after the read of its request, which names the journal's device, and before its completion. A completion is written after the `Sent` of
+-- its key, where the key came. Nothing else that a client writes is a completion.
+abbrev pub Stands : List Deed → Deed → Type 0
+Stands before (stores device (Came key)) =
+    (r : Request) × (request_at (client_read key.channel before) key.index ≡ Some r) × (r.device ≡ device) × (list_any (is_completion_of key) before ≡ false)
+Stands before (completes key message) = (device : ℕ) → Has (Came key) (journal device before) → Has (Sent key) (journal device before)
+Stands before (client_writes channel message) = is_of IoCompletion message ≡ false
+Stands before _ = Unit {0}
 
 -- ---- what the law takes
+
+-- a key has this reply among some, and no other
+pub record HasReply (replies : List KeyedReply) (key : Key) (reply : Reply) : Type 0 where
+  pub has : Contains replies (key, reply)
+  pub alone : (other : Reply) → Contains replies (key, other) → other ≡ reply
 
 -- A host with this ClientId and a client whose devices' journals give these replies. The client's messages need be in no order for it.
 pub record AreJoined (client : ℕ) (replies : Replies) (deeds : List Deed) : Type 0 where
   pub carried : AtEachPoint IsCarried deeds
   pub host : EachAfter (λ before deed. MayDo (side_of client before) deed) deeds
   pub told : IsTold replies deeds
-  -- what the beginning of a device's journal gives stays, whatever is stored behind it
+  -- what the beginning of a device's journal gives stays, whatever is stored after it
   pub grows : (device : ℕ) (earlier more later : List Item) → reverse (journal device deeds) ≡ (earlier ++ more) ++ later
       → (reply : KeyedReply) → Contains (replies device earlier) reply → Contains (replies device (earlier ++ more)) reply
-  pub stands : EachAfter (Stands deeds) deeds
+  -- a journal gives a key one reply at most
+  pub once : (device : ℕ) (key : Key) (reply other : Reply) → Contains (replies device (reverse (journal device deeds))) (key, reply)
+      → Contains (replies device (reverse (journal device deeds))) (key, other) → other ≡ reply
+  pub stands : EachAfter Stands deeds
   pub lawful : (device : ℕ) → IsLawful (reverse (journal device deeds))
   pub unworn : (device : ℕ) → length (journal device deeds) < worn_entries
 
@@ -69,7 +74,7 @@ Counted deeds = (c device id : ℕ) → EndsWith (asked c device id deeds) (answ
 
 -- how many requests stand on a channel
 abbrev pub requests_written : ℕ → List Deed → ℕ
-requests_written c deeds = count is_request (host_wrote c deeds)
+requests_written c deeds = length (filter is_request (host_wrote c deeds))
 
 -- Where the completion of one key was written before the request of another of the same device, and both ran, the first one ran first.
 abbrev pub InOrder : List Deed → Type 0
@@ -82,51 +87,48 @@ InOrder deeds = (k l : Key) (answer asking : List ℕ) (r s : Request) (after be
     → journal r.device deeds ≡ behind_l ++ Ran l later_moment later_starved later_parked ∷ before_l
     → length before_k < length before_l
 
--- how many lives were given before a channel
-abbrev pub lives_before : ℕ → ℕ → List Deed → ℕ
-lives_before client c deeds = (side_of client (until_begin c deeds)).table.given
-
--- what is told of each channel: how many lives were given before it, what was heard on it, and whether it ended
-abbrev pub told_of : ℕ → List Deed → ℕ → ℕ × List Tidings × Bool
-told_of client deeds c = (lives_before client c deeds, heard_on client c deeds, has_ended c deeds)
+-- the requests that a host accepted, in the order of their numbers
+abbrev pub accepted : ℕ → List Deed → List Accepted
+accepted client deeds = accepted_in (calls_of client deeds)
 
 -- what came of a request, by what was heard on its channel, whether it was handed out or not
-pub record CameTo (client : ℕ) (deeds : List Deed) (a : Accepted) (outcome : Outcome) : Type 0 where
-  pub earlier : List Accepted
-  pub later : List Accepted
-  pub accepted : (side_of client deeds).table.accepted ≡ earlier ++ a ∷ later
-  pub is : let told = told_of client deeds a.channel in outcome_of earlier a told.0 told.1 told.2 ≡ Some outcome
-
--- The outcome that is handed out for a number is what came of its request, in the life of its device, and stays so.
-abbrev pub HandsOut : ℕ → List Deed → List Deed → Deed → Type 0
-HandsOut client deeds before (takes number) = (given : Taken) → (table.take (side_of client before).table number).1 ≡ Ok given
-    → (a : Accepted) × (came : CameTo client deeds a given.outcome) × (number ≡ suc (length came.earlier)) × (given.device ≡ a.device) × (given.life ≡ a.life)
-HandsOut client deeds before _ = Unit {0}
+abbrev pub CameTo : ℕ → List Deed → Accepted → Outcome → Type 0
+CameTo client deeds a outcome = history.CameTo (calls_of client deeds) a outcome
 
 -- the key of a request that was accepted
 abbrev pub key_of : Accepted → Key
 key_of a = record { channel = a.channel; index = a.index }
 
--- A request that is done has the reply that its device's journal gives to its key.
+-- the request as its message spells it: of the device and of the file that were named, with the operation
+abbrev pub request_of_accepted : Accepted → Request
+request_of_accepted a = record { device = a.device; file = a.file; completion = a.id; op = a.op }
+
+-- A request that is done was read under its key, with the device, the file and the operation that were asked for; and it has the reply that the device's journal
+-- gives to that key, which is the only one.
+pub record IsOwnReply (replies : Replies) (deeds : List Deed) (a : Accepted) (reply : Reply) : Type 0 where
+  pub read : request_at (client_read a.channel deeds) a.index ≡ Some (request_of_accepted a)
+  pub given : HasReply (replies a.device (reverse (journal a.device deeds))) (key_of a) reply
+
 abbrev pub Replied : ℕ → Replies → List Deed → Type 0
-Replied client replies deeds = (a : Accepted) (reply : Reply) → CameTo client deeds a (Done reply) → Contains (replies a.device (reverse (journal a.device deeds))) (key_of a, reply)
+Replied client replies deeds = (a : Accepted) (reply : Reply) → CameTo client deeds a (Done reply) → IsOwnReply replies deeds a reply
 
 -- No cut alone gives that reply: what a cut answers to a request that waits reaches no application.
 abbrev pub Uncut : ℕ → Replies → List Deed → Type 0
 Uncut client replies deeds = (a : Accepted) (reply : Reply) → CameTo client deeds a (Done reply) → (first last : List Item) (cause : Cause)
     → reverse (journal a.device deeds) ≡ first ++ Cut cause ∷ last → ¬ (Contains (replies a.device first) (key_of a, reply)) → ¬ (Contains (replies a.device (first ++ Cut cause ∷ [])) (key_of a, reply))
 
+-- a completion is taken
+abbrev pub IsCompleted : Result Completed CompleteNo → Type 0
+IsCompleted (Ok completed) = Unit {0}
+IsCompleted (Err cause) = ⊥
+
+abbrev pub TakesHeard : TableState → Result Act EndFault → Type 0
+TakesHeard t (Ok (act.Complete head bytes)) = IsCompleted (table.complete t head bytes).1
+TakesHeard t _ = Unit {0}
+
 -- The host finds the slot of each completion that comes to its table; where that one's request isn't lost, the body reads.
 abbrev pub IsTaken : HostSide → Deed → Type 0
-IsTaken s (host_reads channel message) = by (host.hear s.core message).1
-  where
-    done : Result Completed CompleteNo → Type 0
-    done (Ok completed) = Unit {0}
-    done (Err cause) = ⊥
-
-    by : Result Act EndFault → Type 0
-    by (Ok (act.Complete head bytes)) = done (table.complete s.table head bytes).1
-    by _ = Unit {0}
+IsTaken s (host_reads channel message) = TakesHeard s.table (host.hear s.core message).1
 IsTaken s _ = Unit {0}
 
 -- A request is read only where each earlier one on its channel with its pair, whose key comes at all, was sent before. So its device holds no job with
@@ -141,8 +143,8 @@ IsAlone deeds before _ = Unit {0}
 pub record Joins (client : ℕ) (replies : Replies) (deeds : List Deed) : Type 0 where
   pub counted : Counted deeds
   pub in_order : InOrder deeds
-  pub outcomes : AreOutcomes (side_of client deeds).table.accepted (told_of client deeds)
-  pub handed_out : EachAfter (HandsOut client deeds) deeds
+  pub outcomes : AreOutcomes (calls_of client deeds)
+  pub handed_out : (later before : List Call) (call : Call) → calls_of client deeds ≡ later ++ call ∷ before → HandsOut (calls_of client deeds) before call
   pub replied : Replied client replies deeds
   pub uncut : Uncut client replies deeds
   pub taken : EachAfter (λ before deed. IsTaken (side_of client before) deed) deeds

@@ -10,6 +10,10 @@ pub mod Told
 pub mod HostDeeds
 pub mod Joining
 pub mod Example
+pub mod Found
 pub mod Control
 pub mod Session
 pub mod Worked
+pub mod Recording
+pub mod Acts
+pub mod Lines

@@ -1,5 +1,5 @@
 -- The session of a script: its lines one after the other, and draws among what can happen.
-use Rattle.std.specs.Prelude.{◌≡◌, ℕ, zero, suc, ◌+◌, ◌*◌, ◌^◌, ◌/◌, ◌%◌, ◌==◌, ◌&&◌, Bool, false, not, if◌then◌else◌, List, [], ◌∷◌, ◌++◌, length, map, fold, replicate, Option, Some, None, slice_get, min}
+use Rattle.std.specs.Prelude.{◌≡◌, ℕ, zero, suc, ◌+◌, ◌*◌, ◌^◌, ◌/◌, ◌%◌, ◌==◌, ◌&&◌, Bool, false, not, max, if◌then◌else◌, List, [], ◌∷◌, ◌++◌, length, map, fold, replicate, Option, Some, None, slice_get, min}
 use Rattle.std.specs.List.{flat_map, list_any, range_with_len}
 use Rattle.std.specs.Option.{option_map_or, unwrap_or}
 use Rattle.rd_base.specs.declared.journal.Key.{Key}
@@ -19,7 +19,7 @@ use Rattle.rd_script.specs.declared.line.NumberedLine.{NumberedLine}
 use Rattle.rd_station.specs.Station.{StationState, new_station}
 use Rattle.rd_world.specs.Devices.{Declared, DeviceState, announce_of, declaring, dos_name, furnishing, zero_text}
 use Rattle.rd_world.specs.Host.{new_side}
-use Rattle.rd_world.specs.World.{Application, Asked, WorldState, application_at, new_joined, with_application}
+use Rattle.rd_world.specs.World.{Application, Asked, WorldState, application_at, marks_of, new_joined, with_application}
 use Rattle.rd_world.specs.Events.{Event, act, add, apply_job, client_has_message, client_read, client_send, collect, connect, drop_channel, host_has_message, host_read, host_send, is_empty, is_enabled, is_open, issue, remove, take_job, tell}
 
 -- ---- the draws
@@ -66,62 +66,65 @@ choices w =
 
 -- how many bytes a read takes: one, and a further draw
 abbrev pub drawn_count : WorldState → List ℕ → ℕ
-drawn_count w pipe = 1 + picked w.draws (min w.piece (length pipe))
+drawn_count w pipe = 1 + picked w.draws (min (max 1 w.piece) (length pipe))
 
 abbrev pub drawing : WorldState → WorldState
 drawing w = record w { draws = next_draw w.draws }
 
--- what comes of a choice
-abbrev pub chosen : WorldState → Choice → WorldState
-chosen w (event e) = act w e
-chosen w reads_client = let x = drawing w in act x (client_read (drawn_count x x.to_client))
-chosen w reads_host = let x = drawing w in act x (host_read (drawn_count x x.to_host))
-
--- Draws until nothing can happen by itself; at most so many. Where that is too few there is no such world.
-abbrev pub settled : ℕ → WorldState → Option WorldState
-settled zero w = None
-settled (suc most) w = by (choices w) (settled most)
-  where
-    by : List Choice → (WorldState → Option WorldState) → Option WorldState
-    by [] on = Some w
-    by (c ∷ cs) on =
-        let x = drawing w in
-        on (chosen x (unwrap_or (slice_get (c ∷ cs) (picked x.draws (length (c ∷ cs)))) c))
-
--- ---- all of one kind at once
-
--- an event again and again, while it can happen; at most so often
-abbrev pub while_enabled : ℕ → Event → WorldState → WorldState
-while_enabled zero e w = w
-while_enabled (suc most) e w = if is_enabled w e then while_enabled most e (act w e) else w
-
 -- how many messages each end has to send
 abbrev pub host_count : WorldState → ℕ
-host_count w = length ((w.side).core).outbox + length ((w.side).table).outbox
-
-abbrev pub all_host_sends : WorldState → WorldState
-all_host_sends w = while_enabled (host_count w) host_send w
-
-abbrev pub all_client_sends : WorldState → WorldState
-all_client_sends w = while_enabled (length (w.client).outbox) client_send w
-
--- all bytes that a pipe holds are read at once, where there are some
-abbrev pub when_enabled : Event → WorldState → WorldState
-when_enabled e w = if is_enabled w e then act w e else w
-
-abbrev pub client_reads_all : WorldState → WorldState
-client_reads_all w = when_enabled (client_read (length w.to_client)) w
-
-abbrev pub host_reads_all : WorldState → WorldState
-host_reads_all w = when_enabled (host_read (length w.to_host)) w
+host_count w = length (((w.side).core).core).outbox + length ((w.side).table).outbox
 
 abbrev pub is_quiet : WorldState → Bool
 is_quiet w = not (host_has_message w) && not (client_has_message w) && is_empty w.to_client && is_empty w.to_host
 
--- rounds of both ends, until nothing is to be sent or read; at most so many
-abbrev pub rounds : ℕ → WorldState → Option WorldState
-rounds zero w = None
-rounds (suc most) w = if is_quiet w then Some w else rounds most (host_reads_all (client_reads_all (all_client_sends (all_host_sends w))))
+-- the runs that find no memory
+module _ (starves : Key → Bool) where
+  -- what comes of a choice
+  abbrev pub chosen : WorldState → Choice → WorldState
+  chosen w (event e) = act starves w e
+  chosen w reads_client = let x = drawing w in act starves x (client_read (drawn_count x x.to_client))
+  chosen w reads_host = let x = drawing w in act starves x (host_read (drawn_count x x.to_host))
+
+  -- a draw among choices, and on; where there is none the world is settled
+  abbrev pub settles_by : WorldState → List Choice → (WorldState → Option WorldState) → Option WorldState
+  settles_by w [] on = Some w
+  settles_by w (c ∷ cs) on =
+      let x = drawing w in
+      on (chosen x (unwrap_or (slice_get (c ∷ cs) (picked x.draws (length (c ∷ cs)))) c))
+
+  -- Draws until nothing can happen by itself; at most so many. Where that is too few there is no such world.
+  abbrev pub settled : ℕ → WorldState → Option WorldState
+  settled zero w = None
+  settled (suc most) w = settles_by w (choices w) (settled most)
+
+  -- ---- all of one kind at once
+
+  -- an event again and again, while it can happen; at most so often
+  abbrev pub while_enabled : ℕ → Event → WorldState → WorldState
+  while_enabled zero e w = w
+  while_enabled (suc most) e w = if is_enabled w e then while_enabled most e (act starves w e) else w
+
+  abbrev pub all_host_sends : WorldState → WorldState
+  all_host_sends w = while_enabled (host_count w) host_send w
+
+  abbrev pub all_client_sends : WorldState → WorldState
+  all_client_sends w = while_enabled (length ((w.client).core).outbox) client_send w
+
+  -- all bytes that a pipe holds are read at once, where there are some
+  abbrev pub when_enabled : Event → WorldState → WorldState
+  when_enabled e w = if is_enabled w e then act starves w e else w
+
+  abbrev pub client_reads_all : WorldState → WorldState
+  client_reads_all w = when_enabled (client_read (length w.to_client)) w
+
+  abbrev pub host_reads_all : WorldState → WorldState
+  host_reads_all w = when_enabled (host_read (length w.to_host)) w
+
+  -- rounds of both ends, until nothing is to be sent or read; at most so many
+  abbrev pub rounds : ℕ → WorldState → Option WorldState
+  rounds zero w = None
+  rounds (suc most) w = if is_quiet w then Some w else rounds most (host_reads_all (client_reads_all (all_client_sends (all_host_sends w))))
 
 -- ---- the lines
 
@@ -153,7 +156,7 @@ asked_by (line.Control a handle code output bytes) = Some (a, on_handle handle (
 asked_by (line.Notify a handle tree filters) = Some (a, on_handle handle (op.Notify tree filters))
 asked_by _ = None
 
--- a line of an application waits behind the others of that one
+-- a line of an application waits after the others of that one
 abbrev pub queueing : WorldState → ℕ × Asked → WorldState
 queueing w asked =
     let application = application_at w asked.0 in
@@ -178,12 +181,6 @@ event_of w (errand.Collect device) = collect device
 event_of w errand.Answer = client_send
 event_of w errand.Back = host_read (length w.to_host)
 
--- what comes of such a line, where its event can happen
-abbrev pub does : WorldState → Errand → WorldState
-does w errand.Send = all_host_sends w
-does w errand.Answer = all_client_sends w
-does w e = act w (event_of w e)
-
 -- a line that did nothing
 abbrev pub idles : WorldState → ℕ → WorldState
 idles w number = record w { idle = w.idle ++ number ∷ [] }
@@ -193,34 +190,42 @@ pub record Most : Type 0 where
   pub draws : ℕ
   pub rounds : ℕ
 
--- an event of a line, where it can happen; else the line did nothing
-abbrev pub by_event : WorldState → ℕ → Event → WorldState
-by_event w number e = if is_enabled w e then act w e else idles w number
-
-abbrev pub connects_on : Most → WorldState → Option WorldState
-connects_on most w = rounds most.rounds (act w connect)
-
--- what a control line does; any other does nothing, and its queue or its setting was seen to before
-unfoldable pub controls : Most → WorldState → ℕ → Line → Option WorldState
-controls most w number line.Settle = settled most.draws w
-controls most w number (line.Remove device) = Some (by_event w number (remove device))
-controls most w number (line.Add device) = Some (by_event w number (add device))
-controls most w number line.Drop = Some (by_event w number drop_channel)
-controls most w number line.Connect = if is_enabled w connect then connects_on most w else Some (idles w number)
-controls most w number (line.Do e) = Some (if is_enabled w (event_of w e) then does w e else idles w number)
-controls most w number l = Some (option_map_or (λ n. by_event w number (tell n)) (notice_of l) w)
-
--- a line: an application's is queued, and any other does what it says
-abbrev pub plays_line : Most → WorldState → NumberedLine → Option WorldState
-plays_line most w l = option_map_or (λ asked. Some (queueing w asked)) (asked_by l.line) (controls most w l.number l.line)
-
 abbrev pub and_then : Option WorldState → (WorldState → Option WorldState) → Option WorldState
 and_then None on = None
 and_then (Some w) on = on w
 
-abbrev pub plays : Most → List NumberedLine → WorldState → Option WorldState
-plays most [] w = Some w
-plays most (l ∷ ls) w = and_then (plays_line most w l) (plays most ls)
+-- the runs that find no memory, and the most steps
+module _ (starves : Key → Bool) (most : Most) where
+  -- what comes of a `do` line, where its event can happen
+  abbrev pub does : WorldState → Errand → WorldState
+  does w errand.Send = all_host_sends starves w
+  does w errand.Answer = all_client_sends starves w
+  does w e = act starves w (event_of w e)
+
+  -- an event of a line, where it can happen; else the line did nothing
+  abbrev pub by_event : WorldState → ℕ → Event → WorldState
+  by_event w number e = if is_enabled w e then act starves w e else idles w number
+
+  abbrev pub connects_on : WorldState → Option WorldState
+  connects_on w = rounds starves most.rounds (act starves w connect)
+
+  -- what a control line does; any other does nothing, and its queue or its setting was seen to before
+  unfoldable pub controls : WorldState → ℕ → Line → Option WorldState
+  controls w number line.Settle = settled starves most.draws w
+  controls w number (line.Remove device) = Some (by_event w number (remove device))
+  controls w number (line.Add device) = Some (by_event w number (add device))
+  controls w number line.Drop = Some (by_event w number drop_channel)
+  controls w number line.Connect = if is_enabled w connect then connects_on w else Some (idles w number)
+  controls w number (line.Do e) = Some (if is_enabled w (event_of w e) then does w e else idles w number)
+  controls w number l = Some (option_map_or (λ n. by_event w number (tell n)) (notice_of l) w)
+
+  -- a line: an application's is queued, and any other does what it says
+  abbrev pub plays_line : WorldState → NumberedLine → Option WorldState
+  plays_line w l = option_map_or (λ asked. Some (queueing w asked)) (asked_by l.line) (controls w l.number l.line)
+
+  abbrev pub plays : List NumberedLine → WorldState → Option WorldState
+  plays [] w = Some w
+  plays (l ∷ ls) w = and_then (plays_line w l) (plays ls)
 
 -- ---- the beginning and the end
 
@@ -244,7 +249,6 @@ abbrev pub new_world : List (ℕ × Declared) → WorldState
 new_world devices = record {
   moment = 0;
   piece = 4096;
-  starves = λ key. false;
   draws = 0;
   client = client.new_client (map (λ (e : ℕ × Declared). announce_of [] e.1) devices);
   side = new_side 1;
@@ -259,7 +263,6 @@ new_world devices = record {
   host_joined = new_joined;
   kept = None;
   channels = 0;
-  wire = [];
   outcomes = [];
   idle = [];
   deeds = [];
@@ -278,17 +281,17 @@ is_left journal channel _ = false
 abbrev pub some_left : WorldState → Bool
 some_left w = list_any (λ (e : ℕ × StationState DeviceState). let s = e.1 in list_any (is_left s.journal w.channels) s.journal) w.stations
 
--- behind the last settling a channel on which a request waits is dropped, and what is queued then is issued
-abbrev pub ends_session : Most → WorldState → Option WorldState
-ends_session most w = if is_open w && some_left w then settled most.draws (act w drop_channel) else Some w
+-- after the last settling a channel on which a request waits is dropped, and what is queued then is issued
+abbrev pub ends_session : (Key → Bool) → Most → WorldState → Option WorldState
+ends_session starves most w = if is_open w && some_left w then settled starves most.draws (act starves w drop_channel) else Some w
 
 -- The session of a script's lines, in which these runs find no memory: a channel begins, the lines are played, and the session settles. There is none
 -- where so few draws and rounds don't do.
 abbrev pub run_of : Most → (Key → Bool) → List NumberedLine → Option WorldState
 run_of most starves lines =
-    let begun = connects_on most (record (world_of lines) { starves = starves }) in
-    and_then (and_then (and_then begun (plays most lines)) (settled most.draws)) (ends_session most)
+    let begun = connects_on starves most (world_of lines) in
+    and_then (and_then (and_then begun (plays starves most lines)) (settled starves most.draws)) (ends_session starves most)
 
--- The world that the session of a script's lines comes to, in which these runs find no memory.
-abbrev pub WorldRun : List NumberedLine → (Key → Bool) → WorldState → Type 0
-WorldRun lines starves w = (most : Most) × (run_of most starves lines ≡ Some w)
+-- The session of a script's lines comes to this world, where the runs find no memory of which its journals say so.
+abbrev pub WorldRun : List NumberedLine → WorldState → Type 0
+WorldRun lines w = (most : Most) × (run_of most (marks_of w) lines ≡ Some w)

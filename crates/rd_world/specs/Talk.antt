@@ -21,6 +21,7 @@ use Rattle.rd_irp.specs.declared.request.RequestHead.{RequestHead}
 use Rattle.rd_irp.specs.Completion.{completion_head}
 use Rattle.rd_irp.specs.Request.{body_after, request_head}
 use Rattle.rd_pending.specs.declared.calls.Target.{Target}
+use Rattle.rd_station.specs.Station.{is_key}
 use Rattle.rd_printer.specs.declared.notice.Notice.{Notice}
 use Rattle.rd_printer.specs.Notice.{notice}
 
@@ -172,6 +173,11 @@ answer_to c device id _ = None
 abbrev pub answered : ℕ → ℕ → ℕ → List Deed → List ℕ
 answered c device id deeds = filter_map (answer_to c device id) deeds
 
+-- whether a deed is the writing of a key's completion
+abbrev pub is_completion_of : Key → Deed → Bool
+is_completion_of key (completes k message) = is_key k key
+is_completion_of key _ = false
+
 -- ---- channels
 
 -- the channel that is open
@@ -180,6 +186,10 @@ open_channel [] = None
 open_channel (host_begins channel ∷ before) = Some channel
 open_channel (host_ends channel ∷ before) = None
 open_channel (deed ∷ before) = open_channel before
+
+-- whether a channel is the one that is open
+abbrev pub is_open_at : ℕ → List Deed → Bool
+is_open_at c deeds = option_map_or (λ channel. channel == c) (open_channel deeds) false
 
 -- whether a channel ended
 abbrev pub ends_on : ℕ → Deed → Bool

@@ -17,7 +17,7 @@ use Rattle.rd_irp.specs.Fits.{kind_of}
 use Rattle.rd_irp.specs.Completion.{SpellsBody, SpellsHead}
 use Rattle.rd_station.specs.Station.{cancellation}
 use Rattle.rd_world.specs.Hearing.{no_such_device}
-use Rattle.rd_world.specs.Talk.{EachAfter, EndsWith, Deed, Has, announced_in, client_read, client_wrote, client_writes, completes, head_in, is_request, journal, on, removed_in, request_at, request_in}
+use Rattle.rd_world.specs.Talk.{EachAfter, EndsWith, Deed, Has, announced_in, client_read, client_wrote, client_writes, completes, head_in, is_request, journal, on, removed_in, request_at, request_in, stores}
 
 -- The replies that a device's journal gives, the oldest entry first: by the device's id.
 abbrev pub Replies : Type 0
@@ -80,17 +80,17 @@ is_said_gone device (message ∷ older) =
     else (if list_any (λ (a : Announce). a.id == device) (announced_in message) then false
     else is_said_gone device older)
 
--- the device was removed, on the channel of the key, behind the read of its request
+-- the device was removed, on the channel of the key, after the read of its request
 abbrev pub RemovedSince : ℕ → Key → Request → List Deed → Type 0
 RemovedSince device key r before =
     (late early : List Deed) × (message : List ℕ) × (before ≡ late ++ client_writes key.channel message ∷ early)
     × (list_any (λ id. id == device) (removed_in message) ≡ true) × (request_at (client_read key.channel early) key.index ≡ Some r)
 
 -- The reply belongs to the key by what its journal says before the key was sent; where it does so by a cut alone, the device was removed since.
-pub record IsReplied (replies : Replies) (device : ℕ) (key : Key) (r : Request) (reply : Reply) (deeds before : List Deed) : Type 0 where
+pub record IsReplied (replies : Replies) (device : ℕ) (key : Key) (r : Request) (reply : Reply) (before : List Deed) : Type 0 where
   pub earlier : List Item
   pub later : List Item
-  pub stands : reverse (journal device deeds) ≡ earlier ++ Sent key ∷ later
+  pub stands : reverse (journal device before) ≡ earlier ++ Sent key ∷ later
   pub given : Contains (replies device earlier) (key, reply)
   pub cut : (first last : List Item) (cause : Cause) → earlier ≡ first ++ Cut cause ∷ last → ¬ (Contains (replies device first) (key, reply))
       → Contains (replies device (first ++ Cut cause ∷ [])) (key, reply) → RemovedSince device key r before
@@ -101,26 +101,36 @@ worn_entries = 16776957
 
 -- Why a request that never came is answered: the client said last that its device is gone, or said nothing of it; or else its journal is worn, and no
 -- later request to it on the channel came.
-abbrev pub IsDirect : ℕ → Key → Reply → List Deed → List Deed → Type 0
-IsDirect device key reply deeds before =
+abbrev pub IsDirect : ℕ → Key → Reply → List Deed → Type 0
+IsDirect device key reply before =
     ((is_said_gone device (client_wrote key.channel before) ≡ true) × (reply ≡ fault no_such_device))
     ⊎ ((is_said_gone device (client_wrote key.channel before) ≡ false) × (reply ≡ fault insufficient_resources)
-    × (worn_entries ≤ length (journal device deeds))
-    × ((later : ℕ) → came key.channel (journal device deeds) later ≡ true → later < key.index))
+    × (worn_entries ≤ length (journal device before))
+    × ((later : ℕ) → came key.channel (journal device before) later ≡ true → later < key.index))
 
 -- the answer to a key, by what was done before
-abbrev pub IsAnswerAt : Replies → ℕ → Key → Request → Reply → List Deed → List Deed → Type 0
-IsAnswerAt replies device key r reply deeds before =
-    IsReplied replies device key r reply deeds before
-    ⊎ ((Has (Cancelled key) (journal device deeds) × (reply ≡ cancellation) × RemovedSince device key r before)
-    ⊎ ((came key.channel (journal device deeds) key.index ≡ false) × IsDirect device key reply deeds before))
+abbrev pub IsAnswerAt : Replies → ℕ → Key → Request → Reply → List Deed → Type 0
+IsAnswerAt replies device key r reply before =
+    IsReplied replies device key r reply before
+    ⊎ ((Has (Cancelled key) (journal device before) × (reply ≡ cancellation) × RemovedSince device key r before)
+    ⊎ ((came key.channel (journal device before) key.index ≡ false) × IsDirect device key reply before))
 
--- A completion stands behind the read of its request, has its device, completion id and layout, and is its answer.
-abbrev pub Answers : Replies → List Deed → List Deed → Deed → Type 0
-Answers replies deeds before (completes key message) =
+-- A completion stands after the read of its request, has its device, completion id and layout, and is its answer.
+abbrev pub Answers : Replies → List Deed → Deed → Type 0
+Answers replies before (completes key message) =
     (r : Request) × (reply : Reply) × (request_at (client_read key.channel before) key.index ≡ Some r) × CompletesWith r reply message
-    × IsAnswerAt replies r.device key r reply deeds before
-Answers replies deeds before _ = Unit {0}
+    × IsAnswerAt replies r.device key r reply before
+Answers replies before _ = Unit {0}
+
+-- whether a message completes a request of a device by saying that its journal is worn
+abbrev pub says_worn : ℕ → List ℕ → Bool
+says_worn device message = option_map_or (λ (h : Head). h.device == device && (h.status).0 == insufficient_resources.0) (head_in message) false
+
+-- A request comes only where none before it on its channel was answered without its device since the journal is worn.
+abbrev pub ComesUnworn : List Deed → Deed → Type 0
+ComesUnworn before (stores device (Came key)) = (k : Key) (message : List ℕ) → Has (completes k message) before → k.channel ≡ key.channel
+    → says_worn device message ≡ true → came k.channel (journal device before) k.index ≡ false → key.index < k.index
+ComesUnworn before _ = Unit {0}
 
 -- What a client tells: of each device on each channel the completions of the keys that came are those that its journal sent, in its order; the others
 -- are answers to the requests that never came, in the order of reading, up to some; and each is the answer to its own request.
@@ -128,7 +138,8 @@ pub record IsTold (replies : Replies) (deeds : List Deed) : Type 0 where
   pub sent_in_order : (c device : ℕ) → filter (came c (journal device deeds)) (told c device deeds) ≡ sent c (journal device deeds)
   pub direct_in_order : (c device : ℕ) →
       EndsWith (unserved c device deeds (requests_to device (client_read c deeds))) (unserved c device deeds (told c device deeds))
-  pub answers : EachAfter (Answers replies deeds) deeds
+  pub answers : EachAfter (Answers replies) deeds
+  pub comes : EachAfter ComesUnworn deeds
 
 -- the messages that were read up to the last request, without it
 abbrev pub without_last : List (List ℕ) → List (List ℕ)
@@ -147,4 +158,4 @@ pub record IsHeeded (replies : Replies) (c : ℕ) (deeds : List Deed) (rest : Li
   pub left : All (IsLeft c) rest
   pub each : (device : ℕ) →
       EndsWith (unserved c device deeds (told c device (rest ++ deeds))) (unserved c device deeds (requests_to device (without_last (client_read c deeds))))
-  pub answers : EachAfter (Answers replies (rest ++ deeds)) (rest ++ deeds)
+  pub answers : EachAfter (Answers replies) (rest ++ deeds)

@@ -1,7 +1,6 @@
 -- Scripts, for worked cases.
 use Rattle.std.specs.Prelude.{ℕ, true, false, not, List, [], ◌∷◌, codes, map, reverse, filter, filter_map, Option}
-use Rattle.std.specs.List.{flat_map}
-use Rattle.std.specs.Option.{option_map}
+use Rattle.std.specs.Option.{option_map, option_map_or}
 use Rattle.rd_base.specs.declared.journal.Cause.{Cause}
 use Rattle.rd_base.specs.declared.journal.Item.{Item}
 use Rattle.rd_script.specs.declared.line.Errand.TheVariants as errand
@@ -9,15 +8,17 @@ use Rattle.rd_script.specs.declared.line.Line.{Line}
 use Rattle.rd_script.specs.declared.line.Line.TheVariants as line
 use Rattle.rd_script.specs.declared.line.NumberedLine.{NumberedLine}
 use Rattle.rd_station.specs.Station.{StationState}
-use Rattle.rd_world.specs.Control.{Act, control_of}
+use Rattle.rd_world.specs.Control.{Act}
 use Rattle.rd_world.specs.Devices.{Declared, DeviceState}
 use Rattle.rd_world.specs.Host.{HostSide}
 use Rattle.rd_world.specs.HostDeeds.{side_of}
 use Rattle.rd_world.specs.Report.{report_text}
 use Rattle.rd_world.specs.Run.{run_of}
-use Rattle.rd_world.specs.Session.{act_by, cause_in, client_id, control_at_end, entries_by, is_errand_at, of_channel}
-use Rattle.rd_world.specs.Talk.{journal}
-use Rattle.rd_world.specs.World.{Entry, WorldState}
+use Rattle.rd_world.specs.Acts.{act_by, cause_in, control_at_end, control_by, is_errand_at, left_open, of_channel}
+use Rattle.rd_world.specs.Recording.{client_id}
+use Rattle.rd_world.specs.Lines.{submitted}
+use Rattle.rd_world.specs.Talk.{client_read, client_wrote, host_read, host_wrote, is_request, journal}
+use Rattle.rd_world.specs.World.{WorldState, journals_in}
 
 abbrev pub numbered : ℕ → Line → NumberedLine
 numbered n l = record { number = n; line = l }
@@ -30,23 +31,20 @@ ran lines = run_of (record { draws = 1000000; rounds = 1000 }) (λ key. false) l
 abbrev pub reported : List NumberedLine → Option (List ℕ)
 reported lines = option_map (report_text lines) (ran lines)
 
--- the host, the recording and the journals that a session comes to, as its state has them, and as its deeds tell them
+-- the host and the journals that a session comes to, as its state has them, and as its deeds tell them
 pub record Account : Type 0 where
   pub side : HostSide
-  pub wire : List Entry
   pub journals : List (ℕ × List Item)
 
 abbrev pub as_it_stands : WorldState → Account
 as_it_stands w = record {
   side = w.side;
-  wire = w.wire;
-  journals = map (λ (e : ℕ × StationState DeviceState). let s = e.1 in (e.0, s.journal)) w.stations;
+  journals = journals_in w;
 }
 
 abbrev pub by_deeds : WorldState → Account
 by_deeds w = record {
   side = side_of client_id w.deeds;
-  wire = flat_map entries_by (reverse w.deeds);
   journals = map (λ (e : ℕ × StationState DeviceState). (e.0, reverse (journal e.0 w.deeds))) w.stations;
 }
 
@@ -56,11 +54,13 @@ standing lines = option_map as_it_stands (ran lines)
 abbrev pub told_by_deeds : List NumberedLine → Option Account
 told_by_deeds lines = option_map by_deeds (ran lines)
 
--- what was done by control lines, the cuts of some devices, and the idle lines, as the deeds have them, and by the control lines
+-- what was done by control lines, the cuts of some devices, the idle lines, and what was sent, read and heard on a channel that ends after everything,
+-- as the deeds have them, and by the control lines
 pub record Done : Type 0 where
   pub acts : List Act
   pub cuts : List (List Cause)
   pub idle : List ℕ
+  pub talk : List (List (List ℕ))
 
 abbrev pub ids_of : WorldState → List ℕ
 ids_of w = map (λ (d : ℕ × Declared). d.0) w.devices
@@ -70,15 +70,17 @@ acts_done lines w = record {
   acts = filter_map act_by (reverse w.deeds);
   cuts = map (λ device. filter_map cause_in (reverse (journal device w.deeds))) (ids_of w);
   idle = filter (λ number. not (is_errand_at lines number)) w.idle;
+  talk = option_map_or (λ c. filter is_request (host_wrote c w.deeds) ∷ client_read c w.deeds ∷ host_read c w.deeds ∷ []) (left_open w.devices w.deeds (control_by w.devices lines)) [];
 }
 
 abbrev pub acts_said : List NumberedLine → WorldState → Done
 acts_said lines w =
-    let control = control_at_end w.devices w.deeds (control_of (ids_of w) lines) in
+    let control = control_at_end w.devices w.deeds (control_by w.devices lines) in
     record {
       acts = control.acts;
       cuts = map (λ device. of_channel device control.cuts) (ids_of w);
       idle = control.idle;
+      talk = option_map_or (λ c. submitted c w.deeds ∷ host_wrote c w.deeds ∷ client_wrote c w.deeds ∷ []) (left_open w.devices w.deeds (control_by w.devices lines)) [];
     }
 
 abbrev pub done_in : List NumberedLine → Option Done

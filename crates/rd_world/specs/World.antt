@@ -1,13 +1,17 @@
--- Both sides of a session in one state: a host with its applications, a client with its devices and its hands, and the bytes between them.
-use Rattle.std.specs.Prelude.{ℕ, zero, Bool, suc, ◌+◌, nat_lt, if◌then◌else◌, List, [], ◌∷◌, ◌++◌, length, map, reverse, take, drop, Option, Some, None}
+-- Both sides of a session in one state: a host with its applications, a client with its devices and its hands, and the bytes between them. The frames
+-- that were sent are no part of it: what both sides did tells them.
+use Rattle.std.specs.Prelude.{ℕ, zero, Bool, false, suc, ◌+◌, ◌&&◌, nat_lt, if◌then◌else◌, List, [], ◌∷◌, ◌++◌, length, map, reverse, take, drop, Option, Some, None}
+use Rattle.std.specs.List.{list_any}
 use Rattle.std.specs.Map.{lookup}
 use Rattle.std.specs.Ordering.{nat_cmp}
 use Rattle.std.specs.Cmp.Lexicographic.{slice_cmp}
 use Rattle.std.specs.declared.cmp.Ordering.{Ordering}
 use Rattle.std.specs.BTreeMap.{insert_entry, is_at}
 use Rattle.std.specs.Option.{option_map_or, unwrap_or}
+use Rattle.rd_base.specs.declared.journal.Item.{Item}
+use Rattle.rd_base.specs.declared.journal.Item.TheVariants.{Ran}
 use Rattle.rd_base.specs.declared.journal.Key.{Key}
-use Rattle.rd_chunk.specs.Carrier.{carrier_of, frames_for}
+use Rattle.rd_chunk.specs.Carrier.{carrier_of}
 use Rattle.rd_chunk.specs.Frames.{data_of, is_last, size_of}
 use Rattle.rd_client.specs.Core.{ClientCoreState}
 use Rattle.rd_drive.specs.declared.plan.Job.{Job}
@@ -16,15 +20,10 @@ use Rattle.rd_pending.specs.declared.calls.Handle.{Handle}
 use Rattle.rd_pending.specs.Table.{TableState}
 use Rattle.rd_printer.specs.Cache.{CacheState}
 use Rattle.rd_script.specs.declared.outcome.Outcome.{Outcome}
-use Rattle.rd_station.specs.Station.{StationState}
+use Rattle.rd_station.specs.Station.{StationState, is_key}
 use Rattle.rd_world.specs.Devices.{Declared, DeviceState}
 use Rattle.rd_world.specs.Host.{HostSide}
 use Rattle.rd_world.specs.Talk.{Deed, host_writes, stores}
-
--- what stands in a recording: a channel begins, it ended, the host sent a frame, or the client did
-pub data Entry : Type 0 where
-  begins ends : Entry
-  from_host from_client : List ℕ → Entry
 
 -- What an application asks for by a line: the name of its handle, the device of a line that opens it, and the operation.
 pub record Asked : Type 0 where
@@ -51,18 +50,16 @@ pub record Joined : Type 0 where
 abbrev pub new_joined : Joined
 new_joined = record { part = []; taken = 0 }
 
--- a job that the client keeps back, since its station is full, and the bytes that came behind it
+-- a job that the client keeps back, since its station is full, and the bytes that came after it
 pub record Kept : Type 0 where
   pub device : ℕ
   pub job : Job
-  pub behind : List ℕ
+  pub rest : List ℕ
 
 pub record WorldState : Type 0 where
   -- the script's settings
   pub moment : ℕ
   pub piece : ℕ
-  -- the runs that find no memory; a Close needs none
-  pub starves : Key → Bool
   -- where the draws stand
   pub draws : ℕ
   -- the two ends
@@ -82,31 +79,31 @@ pub record WorldState : Type 0 where
   pub kept : Option Kept
   -- how many channels began
   pub channels : ℕ
-  -- what came of it: the recording, the outcomes by application and line, and the numbers of the lines that did nothing
-  pub wire : List Entry
+  -- what came of it: the outcomes by application and line, and the numbers of the lines that did nothing
   pub outcomes : List ((ℕ × ℕ) × Outcome)
   pub idle : List ℕ
-  -- what both ends did, the newest first
+  -- what both sides did, the newest first: a history, of which a program keeps nothing
   pub deeds : List Deed
 
 -- ---- messages of a stream
 
--- the first frame of a stream, and what stands behind it, where it is whole
+-- the first frame of a stream, and what stands after it, where it is whole
 abbrev pub first_frame : List ℕ → Option (List ℕ × List ℕ)
 first_frame bytes =
     if nat_lt (length bytes) 12 then None
     else (if nat_lt (length bytes) (size_of bytes + 4) then None
     else Some (take (size_of bytes + 4) bytes, drop (size_of bytes + 4) bytes))
 
--- the first message of a stream of frames, of which these data came before, and what stands behind it, where it is whole; at most so many frames are
+-- with the first frame of a stream, before which these data came: the message where it is the last one, else what goes on with it
+abbrev pub joined_by : List ℕ → Option (List ℕ × List ℕ) → (List ℕ → List ℕ → Option (List ℕ × List ℕ)) → Option (List ℕ × List ℕ)
+joined_by joined None on = None
+joined_by joined (Some (frame, rest)) on = if is_last frame then Some (joined ++ data_of frame, rest) else on (joined ++ data_of frame) rest
+
+-- the first message of a stream of frames, of which these data came before, and what stands after it, where it is whole; at most so many frames are
 -- looked at
 abbrev pub message_in : ℕ → List ℕ → List ℕ → Option (List ℕ × List ℕ)
 message_in zero joined bytes = None
-message_in (suc most) joined bytes = by (first_frame bytes) (message_in most)
-  where
-    by : Option (List ℕ × List ℕ) → (List ℕ → List ℕ → Option (List ℕ × List ℕ)) → Option (List ℕ × List ℕ)
-    by None on = None
-    by (Some (frame, rest)) on = if is_last frame then Some (joined ++ data_of frame, rest) else on (joined ++ data_of frame) rest
+message_in (suc most) joined bytes = joined_by joined (first_frame bytes) (message_in most)
 
 abbrev pub first_message : List ℕ → Option (List ℕ × List ℕ)
 first_message bytes = message_in (length bytes) [] bytes
@@ -148,12 +145,29 @@ with_table w t = record w { side = record w.side { table = t } }
 
 -- ---- what is sent
 
--- a message of the host goes on its way, and into the recording
+-- a message of the host goes on its way
 abbrev pub host_sends : WorldState → List ℕ → WorldState
-host_sends w message =
-    with_deed (record w { to_client = w.to_client ++ carrier_of message; wire = w.wire ++ map from_host (frames_for message) }) (host_writes w.channels message)
+host_sends w message = with_deed (record w { to_client = w.to_client ++ carrier_of message }) (host_writes w.channels message)
 
 -- a message of the client, by what the client does with it
 abbrev pub client_sends : WorldState → Deed → List ℕ → WorldState
-client_sends w deed message =
-    with_deed (record w { to_host = w.to_host ++ carrier_of message; wire = w.wire ++ map from_client (frames_for message) }) deed
+client_sends w deed message = with_deed (record w { to_host = w.to_host ++ carrier_of message }) deed
+
+-- ---- the journals
+
+-- each device's journal, by the device's id
+abbrev pub journals_in : WorldState → List (ℕ × List Item)
+journals_in w = map (λ (e : ℕ × StationState DeviceState). let s = e.1 in (e.0, s.journal)) w.stations
+
+-- whether an entry says that the request of a key found no memory when it ran
+abbrev pub starves_at : Key → Item → Bool
+starves_at key (Ran k moment starved parked) = starved && is_key k key
+starves_at key _ = false
+
+-- whether one of the journals says so
+abbrev pub starved_in : List (ℕ × List Item) → Key → Bool
+starved_in journals key = list_any (λ (j : ℕ × List Item). list_any (starves_at key) j.1) journals
+
+-- the runs that found no memory
+abbrev pub marks_of : WorldState → Key → Bool
+marks_of w = starved_in (journals_in w)

@@ -3,15 +3,27 @@
 ghost use Rattle.std.specs.Prelude.{◌≡◌, ◌≢◌, ◌++◌, ◌∷◌, ℕ, List, [], Some, codes, filter_map, map};
 ghost use Rattle.rd_base.specs.declared.journal.Cause.TheVariants.{Dropped, Removed};
 ghost use Rattle.rd_drive.specs.Statuses.{cancelled};
+ghost use Rattle.rd_base.specs.declared.journal.Item.{Item};
+ghost use Rattle.rd_base.specs.declared.journal.Key.{Key};
 ghost use Rattle.rd_irp.specs.declared.completion.Reply.{Reply};
+ghost use Rattle.rd_irp.specs.declared.request.Request.{Request};
+ghost use Rattle.std.specs.List.{AllByRecursion};
 ghost use Rattle.rd_pending.specs.declared.calls.Outcome.TheVariants.{Done, Lost};
-ghost use Rattle.rd_pending.specs.Table.{Accepted};
-ghost use Rattle.rd_world.specs.Devices.{Declared};
+ghost use Rattle.rd_pending.specs.Outcomes.{Accepted};
+ghost use Rattle.rd_base.specs.declared.journal.Item.TheVariants.{Came, Cut};
+ghost use Rattle.rd_devices.specs.DeviceList.{list_bytes};
+ghost use Rattle.rd_devices.specs.Removal.{removal_bytes};
+ghost use Rattle.rd_world.specs.Acts.{IsCutThere, IsToldInTime};
+ghost use Rattle.rd_world.specs.Devices.{Declared, announce_of};
+ghost use Rattle.rd_script.specs.declared.outcome.Outcomes.{Outcomes};
+ghost use Rattle.rd_world.specs.Found.{AreFound, found_books, found_devices, found_drive, found_output, found_recording, found_script};
+ghost use Rattle.rd_world.specs.Lines.{IsDue};
 ghost use Rattle.rd_world.specs.Example.{close_reply, example_deeds, example_outcomes, example_replies, left_waiting, read_reply, watch, watch_reply};
 ghost use Rattle.rd_world.specs.Hearing.{no_such_device};
-ghost use Rattle.rd_world.specs.Joining.{AreJoined, CameTo, Joins};
-ghost use Rattle.rd_world.specs.Session.{replies_in};
-ghost use Rattle.rd_world.specs.Talk.{Deed, journal};
+ghost use Rattle.rd_world.specs.Joining.{AreJoined, CameTo, IsCarried, Joins};
+ghost use Rattle.rd_world.specs.Recording.{request_of};
+ghost use Rattle.rd_world.specs.Session.{IsSession, IsStoredOpen, RanRead, replies_in, replies_read};
+ghost use Rattle.rd_world.specs.Talk.{Deed, client_read, client_writes, host_begins, host_ends, journal, removes, request_at, stores};
 ghost use Rattle.rd_world.specs.Told.{Replies};
 ghost use Rattle.rd_world.specs.Worked.{cached_bytes_announced, device_removed_and_added, drop_and_reconnect, idle_control_lines, notification_never_ended, notification_of_new_file, printer_cache_renamed, removal_before_sent_request, removal_under_work, removed_device_not_announced_again, sharing_violation, waiting_lock, done_in, reported, said_in, scripts, standing, told_by_deeds};
 
@@ -31,7 +43,7 @@ pub fn sessions_run_as_listed()
     ensures sharing_violation { reported sharing_violation ≡ Some (codes "1.1 done 00000000 0100000001\n" ++ codes "1.2 done 00000000 00000000\n" ++ codes "2.1 done c0000043 0000000000\n" ++ codes "2.2 done 00000000 0200000001\n" ++ codes "device 1 ran 4\n") }
 {}
 
-/// What both ends did in them tells their hosts, recordings and journals.
+/// What both sides did in them tells their hosts and journals.
 pub fn deeds_tell_sessions()
     ensures { map standing scripts ≡ map told_by_deeds scripts }
 {}
@@ -53,6 +65,13 @@ pub fn losses_are_no_replies()
     ensures { (client : ℕ) (devices : List (ℕ × Declared)) (deeds : List Deed) → AreJoined client (replies_in devices deeds) deeds → (a : Accepted) (reply : Reply) → CameTo client deeds a (Done reply) → (reply.status ≢ cancelled) × (reply.status ≢ no_such_device) }
 {}
 
+/// A key that was read names the same request by what the client read as by what the host wrote, and a device's journal whose runs are of such keys
+/// gives the same replies by both.
+pub fn requests_agree()
+    ensures named { (deeds : List Deed) → IsCarried deeds → (key : Key) (r : Request) → request_at (client_read key.channel deeds) key.index ≡ Some r → request_of deeds key ≡ r }
+    ensures replies { (devices : List (ℕ × Declared)) (deeds : List Deed) → IsCarried deeds → (device : ℕ) (items : List Item) → AllByRecursion (RanRead deeds) items → replies_in devices deeds device items ≡ replies_read devices deeds device items }
+{}
+
 /// What that law takes is met by a session with two devices and two channels, a request that waits, a removal under work, and a drop.
 pub fn a_session_is_joined()
     ensures joined { AreJoined 1 example_replies example_deeds }
@@ -60,4 +79,25 @@ pub fn a_session_is_joined()
     ensures outcomes { example_outcomes ≡ (1, 1, Some (Done read_reply)) ∷ (1, 2, Some (Done watch_reply)) ∷ (1, 2, Some (Done close_reply)) ∷ (1, 1, Some (Lost Removed)) ∷ (1, 1, Some (Lost Removed)) ∷ (1, 2, Some (Lost Dropped)) ∷ (2, 2, Some (Done read_reply)) ∷ [] }
     // The second one was left waiting inside its device when it ran.
     ensures waiting { filter_map left_waiting (journal 2 example_deeds) ≡ watch.key ∷ [] }
+{}
+
+/// A whole session that is all that is promised: a script whose first channel ends while a read is under way, and whose device is removed, on its
+/// second channel, while another one is. So of its four lines two are done, one is lost by the drop and one by the removal.
+pub fn a_session_is_there()
+    ensures { (told : Outcomes) → AreFound told → IsSession found_script found_recording found_books told found_output }
+{}
+
+/// Wrong turns of a session, each at the clause that refuses it.
+pub fn wrong_turns_are_refused()
+    // A channel ends, and the device that is there wasn't cut off, or was twice.
+    ensures uncut { ¬ (IsCutThere found_devices (host_begins 1 ∷ []) (host_ends 1)) }
+    ensures cut_twice { ¬ (IsCutThere found_devices (stores 1 (Cut Dropped) ∷ stores 1 (Cut Dropped) ∷ host_begins 1 ∷ []) (host_ends 1)) }
+    // A request comes to a device after its channel's end, or while the device is removed.
+    ensures came_late { ¬ (IsStoredOpen (host_ends 1 ∷ host_begins 1 ∷ []) (stores 1 (Came (record { channel = 1; index = 0 })))) }
+    ensures came_removed { ¬ (IsCutThere found_devices (stores 1 (Cut Removed) ∷ removes 1 ∷ host_begins 1 ∷ []) (stores 1 (Came (record { channel = 1; index = 0 })))) }
+    // A removal is told before it is done.
+    ensures told_early { ¬ (IsToldInTime (client_writes 1 (removal_bytes (1 ∷ [])) ∷ client_writes 1 (list_bytes (announce_of [] found_drive ∷ [])) ∷ host_begins 1 ∷ [])) }
+    // A line behind a `drop` line is issued before the drop, and another before the first channel is open.
+    ensures issued_early { ¬ (IsDue found_devices 2 (host_begins 1 ∷ [])) }
+    ensures issued_unopened { ¬ (IsDue found_devices 0 []) }
 {}

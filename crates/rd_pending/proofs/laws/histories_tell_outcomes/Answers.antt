@@ -6,3 +6,6 @@ returns-clause-slots c h holds = (sound h holds).slots
 
 pub returns-clause-outcomes : goal.returns-clause-outcomes
 returns-clause-outcomes c = outcomes
+
+pub returns-clause-count : goal.returns-clause-count
+returns-clause-count c h holds = (sound h holds).count

@@ -14,4 +14,5 @@ returns c = record {
   addition_bytes = refl;
   renaming = (refl, refl);
   renaming_bytes = refl;
+  whole_port = refl;
 }

@@ -1,4 +1,4 @@
-use Rattle.std.proofs.Common.{refl}
+use Rattle.std.proofs.Common.{◌∙◌, refl}
 use Rattle.rd_base.specs.Counted.{count_to, counted, counted_bytes, four_fields, four_fields_bytes, two_fields, two_fields_bytes}
 use Rattle.rd_base.specs.Fields.{bytes16, bytes32, bytes64, bytes8}
 use Rattle.rd_base.specs.Header.{component_field, header, header_among}
@@ -19,7 +19,7 @@ returns-clause-joined c = example.joined
 
 pub returns-clause-outcomes : goal.returns-clause-outcomes
 unfolding count_to counted counted_bytes two_fields four_fields two_fields_bytes four_fields_bytes bytes8 bytes16 bytes32 bytes64 component_field header header_among announce device_list device_reply removal checked one_of given special general other body_of capability sets version name hello completion_head success_body completion_body create_body close_body read_body write_body notify_body range lock_body directory_body op_body request_head
-returns-clause-outcomes c = refl
+returns-clause-outcomes c = example.outcomes_along ∙ refl
 
 pub returns-clause-waiting : goal.returns-clause-waiting
 returns-clause-waiting c = refl

@@ -19,7 +19,7 @@ use Rattle.rd_printer.specs.Notice.{add_event, update_event, delete_event, renam
 use Rattle.rd_world.specs.Devices.{declaring, furnishing}
 use Rattle.rd_world.specs.Control.{controlled}
 use Rattle.rd_world.specs.Run.{asked_by, notice_of, controls, setting}
-use Rattle.rd_world.specs.Session.{is_errand}
+use Rattle.rd_world.specs.Acts.{is_errand}
 use Rattle.rd_world.proofs.laws.deeds_tell_sessions.Goals as goal
 
 pub returns : goal.returns

@@ -1,0 +1,4 @@
+pub mod Core
+pub mod Hearing
+pub mod Order
+pub mod Worked

@@ -1,0 +1,9 @@
+pub mod Members
+pub mod Requests
+pub mod Counts
+pub mod Ending
+pub mod Unsent
+pub mod Cancelling
+pub mod Holding
+pub mod Keeping
+pub mod Calls
