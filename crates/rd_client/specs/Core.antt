@@ -167,10 +167,16 @@ host_says packet.IoRequest bytes = read_as from_head (met request_head (at_start
 host_says packet.DeviceReply bytes = read_as (λ (read : DeviceReply × Position). replies read.0) (met device_reply (at_start bytes))
 host_says _ bytes = read_as (λ (read : Notice × Position). notices read.0) (met notice (at_start bytes))
 
--- A reply to a device is read without memory.
-abbrev pub asks_memory : Packet → List ℕ → Bool
-asks_memory packet.DeviceReply bytes = false
-asks_memory _ bytes = true
+-- Where memory is asked for: for what is to be written after a message of fixed size, for sets and data after their count or kind, and for what a
+-- request keeps after its head. A reply to a device, and what is said of XPS, are read without.
+abbrev pub asks_at : Packet → Option ℕ
+asks_at packet.ServerAnnounce = Some 12
+asks_at packet.ClientIdConfirm = Some 12
+asks_at packet.ServerCapability = Some 8
+asks_at packet.UserLoggedOn = Some 4
+asks_at packet.IoRequest = Some 24
+asks_at packet.PrinterCacheData = Some 8
+asks_at _ = None
 
 -- what a client that may be asked reads beside the log-on
 abbrev pub served : List Packet
@@ -186,7 +192,7 @@ reads_in Waiting = packet.UserLoggedOn ∷ served
 reads_in Ready = packet.UserLoggedOn ∷ served
 
 abbrev pub client_side : Side ClientState Outgoing HostSays
-client_side = record { number = client_number; reads_in = reads_in; row = client_step; outgoing = plain; own = host_says; asks = asks_memory }
+client_side = record { number = client_number; reads_in = reads_in; row = client_step; outgoing = plain; own = host_says; asks_at = asks_at }
 
 -- whether the client becomes ready by a row of its table
 abbrev pub becomes_ready : ClientState → ClientState → Bool

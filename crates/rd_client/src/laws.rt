@@ -1,6 +1,6 @@
 //! The definitions at work, as contracts of functions that do nothing: the checker computes each case; and what holds of every client.
 
-ghost use Rattle.std.specs.Prelude.{◌≡◌, ◌++◌, ◌∷◌, ℕ, List, [], Bool, true, None, Some, IsOk, IsSome, Err, Ok};
+ghost use Rattle.std.specs.Prelude.{◌≡◌, ◌++◌, ◌∷◌, ℕ, List, [], Bool, true, None, Some, IsOk, IsSome, Err, Ok, take};
 ghost use Rattle.rd_base.specs.declared.bad.Why.TheVariants as Why;
 ghost use Rattle.rd_devices.specs.declared.list.Announce.{Announce};
 ghost use Rattle.rd_devices.specs.DeviceList.{list_bytes};
@@ -90,6 +90,8 @@ pub fn clients_keep()
 /// Where memory may be wanting while a message is heard.
 pub fn clients_want_memory()
     ensures request { ClientStep ready (hears (close_bytes 5) (Err EndFault.Memory)) ready }
+    // The head of a request is read before.
+    ensures short { ClientStep ready (hears (take 10 (close_bytes 5)) (Err EndFault.Memory)) ready → ⊥ }
     // A reply to a device is read without memory, and a packet that isn't read in the state asks for none.
     ensures reply { ClientStep ready (hears device_replied (Err EndFault.Memory)) ready → ⊥ }
     ensures unread { ClientStep client (hears (close_bytes 5) (Err EndFault.Memory)) client → ⊥ }

@@ -1,5 +1,5 @@
 -- How an end of a channel hears a message (MS-RDPEFS 3.2.5, 3.3.5), as both sides do it.
-use Rattle.std.specs.Prelude.{◌≡◌, ◌==◌, ◌||◌, Bool, if◌then◌else◌, ℕ, List, ◌++◌, map, Option, Some, None, IsTrue, Result, Ok, Err}
+use Rattle.std.specs.Prelude.{◌≡◌, ◌≤◌, ◌==◌, Bool, if◌then◌else◌, ℕ, List, ◌++◌, map, Option, Some, None, IsTrue, Result, Ok, Err}
 use Rattle.std.specs.List.{list_any}
 use Rattle.std.specs.Option.{option_to_list}
 use Rattle.rd_base.specs.declared.bad.Bad.{Bad}
@@ -26,8 +26,8 @@ pub record Side (S M A : Type 0) : Type 0 where
   pub outgoing : List ℕ → M
   -- what a message of any other packet says, or its first fault
   pub own : Packet → List ℕ → Result A Bad
-  -- whether memory may be asked for while such a message is heard, as far as it is read by then
-  pub asks : Packet → List ℕ → Bool
+  -- the place of a packet's message, in bytes from its first, at which memory is asked for first, where it is at all
+  pub asks_at : Packet → Option ℕ
 
 -- What a message says to an end in a state: it is wrong; it says nothing; it is of the opening and has this row; or it says something else.
 pub data Said (S A : Type 0) : Type 0 where
@@ -112,18 +112,21 @@ module _ {S M A : Type 0} (side : Side S M A) where
 
   -- ---- want of memory
 
-  -- whether memory may be asked for while a message of a packet is heard
-  abbrev pub may_ask : Packet → List ℕ → Bool
-  may_ask p bytes = is_hello p || side.asks p bytes
+  -- nothing is wrong with a message before a place of it
+  abbrev pub IsSoundTo : ℕ → Said S A → Type 0
+  IsSoundTo place (wrong (Grammar bad)) = place ≤ bad.at
+  IsSoundTo place _ = Unit {0}
 
-  -- Memory may be wanting while a message is heard: none before it was wrong, it has the header of a packet that is read in the state, and what is read of it
-  -- before memory is asked for has no fault. Of the rest nothing is known then, so what comes after may be wrong all the same.
+  -- Memory may be wanting while a message is heard: none before it was wrong, it has the header of a packet that is read in the state, and nothing is wrong
+  -- with it before the place at which memory is asked for. What stands after that may be wrong all the same.
   pub record MayLack (e : CoreState S M) (bytes : List ℕ) : Type 0 where
     pub sound : e.fault ≡ None
     pub packet : Packet
     pub named : packet_in bytes ≡ Some packet
     pub read : IsTrue (is_read_in e.shake packet)
-    pub asks : IsTrue (may_ask packet bytes)
+    pub place : ℕ
+    pub asks : side.asks_at packet ≡ Some place
+    pub none_before : IsSoundTo place (said e.shake bytes)
 
   -- A side with states of the type T, each with an end, heard a message: the state before it, the answer, and the state after it. Where memory is wanting
   -- nothing changes.

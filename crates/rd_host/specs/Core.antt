@@ -1,5 +1,5 @@
 -- A host's end: what it makes of the client's messages, and what it writes, apart from its requests (MS-RDPEFS 3.3.5).
-use Rattle.std.specs.Prelude.{◌≡◌, ℕ, Bool, true, List, [], ◌∷◌, Option, Some, None, is_ok, Result, Ok, Err}
+use Rattle.std.specs.Prelude.{◌≡◌, ℕ, List, [], ◌∷◌, Option, Some, None, Result, Ok, Err}
 use Rattle.std.specs.declared.alloc.AllocError.{AllocError}
 use Rattle.rd_base.specs.declared.bad.Bad.{Bad}
 use Rattle.rd_base.specs.declared.packet.Packet.{Packet}
@@ -68,10 +68,16 @@ client_says packet.DeviceListAnnounce bytes = read_as (λ (read : List Announce 
 client_says packet.DeviceListRemove bytes = read_as (λ (read : List ℕ × Position). act.Removed read.0) (met removal (at_start bytes))
 client_says _ bytes = read_as (λ (read : Head × Position). act.Complete read.0 (read.1).left) (met completion_head (at_start bytes))
 
--- The head of a completion is read without memory, which is asked for to keep the bytes after it.
-abbrev pub asks_memory : Packet → List ℕ → Bool
-asks_memory packet.IoCompletion bytes = is_ok (met completion_head (at_start bytes))
-asks_memory _ bytes = true
+-- Where memory is asked for: for what is to be written after a message of fixed size, for a name, sets, devices and ids after their count, and for the
+-- bytes after the head of a completion.
+abbrev pub asks_at : Packet → Option ℕ
+asks_at packet.ClientIdConfirm = Some 12
+asks_at packet.ClientName = Some 16
+asks_at packet.ClientCapability = Some 8
+asks_at packet.DeviceListAnnounce = Some 8
+asks_at packet.DeviceListRemove = Some 8
+asks_at packet.IoCompletion = Some 16
+asks_at _ = None
 
 -- the packets that a host reads in a state
 abbrev pub reads_in : HostState → List Packet
@@ -85,7 +91,7 @@ abbrev pub as_it_is : List ℕ → List ℕ
 as_it_is message = message
 
 abbrev pub host_side : Side HostState (List ℕ) Act
-host_side = record { number = host_number; reads_in = reads_in; row = host_step; outgoing = as_it_is; own = client_says; asks = asks_memory }
+host_side = record { number = host_number; reads_in = reads_in; row = host_step; outgoing = as_it_is; own = client_says; asks_at = asks_at }
 
 abbrev pub hear_made : HostCoreState → CoreState HostState (List ℕ) × Result (Option Act) EndFault → HostCoreState × Result Act EndFault
 hear_made h (after, Err fault) = (record h { core = after }, Err fault)

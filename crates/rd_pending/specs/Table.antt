@@ -368,7 +368,7 @@ pub data TableCall : Type 0 where
   begins_unfit : ℕ → TableCall
   submits_unfit : ℕ → Target → Op → TableCall
 
--- A completion whose body has bytes to be kept: it is a success, for a slot of its device that isn't dead and has the layout of a buffer.
+-- A completion whose body is kept as bytes, if there are any: it is a success, for a slot of its device that isn't dead and has the layout of a buffer.
 pub record HasBuffer (t : TableState) (head : Head) : Type 0 where
   pub slot : Slot
   pub held : slot_at t head.completion ≡ Some slot

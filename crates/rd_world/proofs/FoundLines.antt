@@ -216,7 +216,7 @@ none_left : left_open found_devices found_deeds (control_by found_devices found_
 unfolding notice_of controlled header_among component_field request_head header op_body create_body checked given one_of
 none_left = refl
 
-pub at_end : IfSome (left_open found_devices found_deeds (control_by found_devices found_lines)) (EndsQuietly found_devices found_deeds)
+pub at_end : IfSome (left_open found_devices found_deeds (control_by found_devices found_lines)) (EndsQuietly found_devices (control_by found_devices found_lines) found_deeds)
 at_end = rw none_left tt
 
 opened : All (Opens found_devices found_deeds) channels

@@ -176,6 +176,7 @@ waiting_in deeds d =
 abbrev pub waiting_keys : List (ℕ × Declared) → List Deed → List Key
 waiting_keys devices deeds = map (λ (p : Parked). p.key) (flat_map (waiting_in deeds) devices)
 
+-- whether one of them came on a channel
 abbrev pub some_wait : List (ℕ × Declared) → List Deed → ℕ → Bool
 some_wait devices deeds channel = list_any (λ (key : Key). key.channel == channel) (waiting_keys devices deeds)
 

@@ -112,6 +112,7 @@ is_enabled w (tell n) = is_open w && is_host_ready (((w.side).core).core).shake
 
 -- ---- what comes of it
 
+-- why a line is refused; want of memory is no answer of the definition
 abbrev pub refusal_of : SubmitNo → Refusal
 refusal_of submit_no.NoChannel = refusal.NoChannel
 refusal_of submit_no.NoDevice = refusal.NoDevice

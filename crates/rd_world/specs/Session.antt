@@ -1,6 +1,6 @@
 -- What holds of a whole session of a script that came to its end: how its recording, its journals and its report belong together. What a reader believes
 -- is said of what both sides did; that this is what the script's session comes to is said beside it.
-use Rattle.std.specs.Prelude.{◌≡◌, ◌⊎◌, ℕ, false, true, List, [], ◌∷◌, ◌++◌, filter, map, reverse, IfSome, Some, All}
+use Rattle.std.specs.Prelude.{◌≡◌, ◌⊎◌, ℕ, false, true, List, [], ◌∷◌, ◌++◌, filter, length, map, reverse, IfSome, Some, All}
 use Rattle.std.specs.List.{flat_map}
 use Rattle.std.specs.Map.{lookup}
 use Rattle.std.specs.Option.{option_map_or, unwrap_or}
@@ -21,12 +21,12 @@ use Rattle.rd_script.specs.declared.outcome.Outcomes.{Outcomes}
 use Rattle.rd_script.specs.declared.script.Script.{Script}
 use Rattle.rd_script.specs.Report.{report_of}
 use Rattle.rd_station.specs.Station.{StationState}
-use Rattle.rd_world.specs.Acts.{AreActed, AreSaid, Tells, cache_after, control_by, left_open, of_channel, tellings_on, waiting_keys}
-use Rattle.rd_world.specs.Control.{Telling}
+use Rattle.rd_world.specs.Acts.{AreActed, AreSaid, Tells, cache_after, control_by, is_settled_host, left_open, notices_on, of_channel, tellings_on, waiting_keys}
+use Rattle.rd_world.specs.Control.{Control, Telling}
 use Rattle.rd_world.specs.Devices.{Declared, DeviceState, as_drive, as_printer, device_cut, device_step}
 use Rattle.rd_world.specs.Joining.{AreJoined, Joins}
 use Rattle.rd_world.specs.Lines.{HaveOutcomes, submitted}
-use Rattle.rd_world.specs.Recording.{IsRecorded, client_id, no_request, recording_of, request_of}
+use Rattle.rd_world.specs.Recording.{IsRecorded, client_id, host_stand, no_request, recording_of, request_of}
 use Rattle.rd_world.specs.Report.{ordered}
 use Rattle.rd_world.specs.Run.{WorldRun, devices_of, world_of}
 use Rattle.rd_world.specs.Talk.{Deed, EachAfter, Has, answered, asked, client_read, client_wrote, completes, has_ended, host_read, host_wrote, is_request, journal, open_channel, request_at, stores}
@@ -86,21 +86,27 @@ IsPlain before (completes key message) = (r : Request) (reply : Reply) → reque
     → message ≡ completion_bytes (kind_of r.op) (record { device = r.device; completion = r.completion; status = reply.status }) reply.body
 IsPlain before deed = Unit {0}
 
--- What was still to be written when a channel ended: of what is told of devices no more than was done, so that no request was passed over.
+-- What may have been still to be written when a channel ended: with it no request there was passed over, but for the last. It tells no more of devices
+-- than was done.
 pub record IsLeftOver (devices : List (ℕ × Declared)) (told : List (ℕ × Telling)) (replies : Replies) (c : ℕ) (deeds : List Deed) (rest : List Deed) : Type 0 where
   pub heeded : IsHeeded replies c deeds rest
   pub tells : AreSaid (Tells devices deeds c) (of_channel c told) (tellings_on c (rest ++ deeds)) true
 
--- Each completion is written plainly. On a channel that didn't end all requests are read, and each is completed; on one that ended none was passed over.
+-- Each completion is written plainly. On a channel that didn't end all requests are read, and each is completed; on one that ended none was passed over,
+-- but for the last, by some messages that may have been still to be written.
 pub record AllTold (devices : List (ℕ × Declared)) (told : List (ℕ × Telling)) (replies : Replies) (deeds : List Deed) : Type 0 where
   pub plain : EachAfter IsPlain deeds
   pub all_read : (c : ℕ) → has_ended c deeds ≡ false → client_read c deeds ≡ host_wrote c deeds
   pub all_completed : (c device id : ℕ) → has_ended c deeds ≡ false → asked c device id deeds ≡ answered c device id deeds
   pub heeded : (c : ℕ) → has_ended c deeds ≡ true → (rest : List Deed) × IsLeftOver devices told replies c deeds rest
 
--- A channel that no line ended, on which a request waits, ends after everything: then all was sent, read and heard there, and what wasn't completed waits.
-pub record EndsQuietly (devices : List (ℕ × Declared)) (deeds : List Deed) (c : ℕ) : Type 0 where
+-- A channel that no line ended, on which a request waits, ends after everything, by what the control lines told: then all was sent, read and heard there,
+-- and what wasn't completed waits.
+pub record EndsQuietly (devices : List (ℕ × Declared)) (control : Control) (deeds : List Deed) (c : ℕ) : Type 0 where
   pub sent : filter is_request (host_wrote c deeds) ≡ submitted c deeds
+  pub owed : option_map_or is_settled_host (host_stand deeds c) false ≡ true
+  pub tells : length (tellings_on c deeds) ≡ length (of_channel c control.told)
+  pub notices : length (notices_on c deeds) ≡ length (of_channel c control.notices)
   pub read : client_read c deeds ≡ host_wrote c deeds
   pub heard : host_read c deeds ≡ client_wrote c deeds
   pub completed : (device id index : ℕ) → Has index (asked c device id deeds)
@@ -161,7 +167,7 @@ pub record IsSession (script : Script) (recording : List ℕ) (books : List (ℕ
   pub outcomes : HaveOutcomes devices script.lines told.lines.entries deeds
   pub report : IsReported devices script told books output deeds
   pub control_lines : AreActed devices script.lines told.idle.items deeds
-  pub at_end : IfSome (left_open devices deeds (control_by devices script.lines)) (EndsQuietly devices deeds)
+  pub at_end : let by_lines = control_by devices script.lines in IfSome (left_open devices deeds by_lines) (EndsQuietly devices by_lines deeds)
   pub tells : AllTold devices (control_lines.control).told (replies_in devices deeds) deeds
   pub run : IsRun script books told deeds
 

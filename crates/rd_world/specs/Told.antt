@@ -126,7 +126,7 @@ Answers replies before _ = Unit {0}
 abbrev pub says_worn : ℕ → List ℕ → Bool
 says_worn device message = option_map_or (λ (h : Head). h.device == device && (h.status).0 == insufficient_resources.0) (head_in message) false
 
--- A request comes only where none before it on its channel was answered without its device since the journal is worn.
+-- A request comes only where no request before it on its channel was answered, without its device, by saying that the device's journal is worn.
 abbrev pub ComesUnworn : List Deed → Deed → Type 0
 ComesUnworn before (stores device (Came key)) = (k : Key) (message : List ℕ) → Has (completes k message) before → k.channel ≡ key.channel
     → says_worn device message ≡ true → came k.channel (journal device before) k.index ≡ false → key.index < k.index

@@ -1,5 +1,5 @@
 -- Scripts, for worked cases.
-use Rattle.std.specs.Prelude.{ℕ, true, false, not, List, [], ◌∷◌, codes, map, reverse, filter, filter_map, Option}
+use Rattle.std.specs.Prelude.{ℕ, true, false, not, List, [], ◌∷◌, codes, map, reverse, filter, filter_map, Option, length}
 use Rattle.std.specs.Option.{option_map, option_map_or}
 use Rattle.rd_base.specs.declared.journal.Cause.{Cause}
 use Rattle.rd_base.specs.declared.journal.Item.{Item}
@@ -14,7 +14,7 @@ use Rattle.rd_world.specs.Host.{HostSide}
 use Rattle.rd_world.specs.HostDeeds.{side_of}
 use Rattle.rd_world.specs.Report.{report_text}
 use Rattle.rd_world.specs.Run.{run_of}
-use Rattle.rd_world.specs.Acts.{act_by, cause_in, control_at_end, control_by, is_errand_at, left_open, of_channel}
+use Rattle.rd_world.specs.Acts.{act_by, cause_in, control_at_end, control_by, is_errand_at, left_open, notices_on, of_channel, tellings_on}
 use Rattle.rd_world.specs.Recording.{client_id}
 use Rattle.rd_world.specs.Lines.{submitted}
 use Rattle.rd_world.specs.Talk.{client_read, client_wrote, host_read, host_wrote, is_request, journal}
@@ -61,6 +61,7 @@ pub record Done : Type 0 where
   pub cuts : List (List Cause)
   pub idle : List ℕ
   pub talk : List (List (List ℕ))
+  pub told : List ℕ
 
 abbrev pub ids_of : WorldState → List ℕ
 ids_of w = map (λ (d : ℕ × Declared). d.0) w.devices
@@ -71,6 +72,7 @@ acts_done lines w = record {
   cuts = map (λ device. filter_map cause_in (reverse (journal device w.deeds))) (ids_of w);
   idle = filter (λ number. not (is_errand_at lines number)) w.idle;
   talk = option_map_or (λ c. filter is_request (host_wrote c w.deeds) ∷ client_read c w.deeds ∷ host_read c w.deeds ∷ []) (left_open w.devices w.deeds (control_by w.devices lines)) [];
+  told = option_map_or (λ c. length (tellings_on c w.deeds) ∷ length (notices_on c w.deeds) ∷ []) (left_open w.devices w.deeds (control_by w.devices lines)) [];
 }
 
 abbrev pub acts_said : List NumberedLine → WorldState → Done
@@ -81,6 +83,7 @@ acts_said lines w =
       cuts = map (λ device. of_channel device control.cuts) (ids_of w);
       idle = control.idle;
       talk = option_map_or (λ c. submitted c w.deeds ∷ host_wrote c w.deeds ∷ client_wrote c w.deeds ∷ []) (left_open w.devices w.deeds (control_by w.devices lines)) [];
+      told = option_map_or (λ c. length (of_channel c control.told) ∷ length (of_channel c control.notices) ∷ []) (left_open w.devices w.deeds (control_by w.devices lines)) [];
     }
 
 abbrev pub done_in : List NumberedLine → Option Done
