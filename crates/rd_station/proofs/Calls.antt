@@ -51,6 +51,18 @@ is_kept parked_in c s keeps = record {
   room = keeps.room;
 }
 
+-- ---- what calls answer
+
+-- what isn't cancelled or stale ran
+pub did_run : (b : Bool) → DidRun (cond b applied.Parked applied.Ran)
+did_run true = tt
+did_run false = tt
+
+-- a device that is live is removed
+pub was_removed : {A : Type 0} (b : Bool) (x y : A) → b ≡ true → (cond {A = A × Bool} (not b) (x, false) (y, true)).1 ≡ true
+was_removed true x y e = refl
+was_removed false x y e = absurd (cc)
+
 module _ {S : Type 0} (Runs : S → Planned → ℕ → Step → List End → S → Type 0) (parked_in : S → List Parked) (Cuts : S → S → Type 0) where
   -- on some channel
   abbrev IsGood : StationState S → Type 0
@@ -74,11 +86,6 @@ module _ {S : Type 0} (Runs : S → Planned → ℕ → Step → List End → S 
     put_fails job may (why.Full count) e = put_goes job may (put_refusal old job) refl (Some (why.Full count)) e
     put_fails job may (why.Worn count) e = put_goes job may (put_refusal old job) refl (Some (why.Worn count)) e
 
-    -- what isn't cancelled or stale ran
-    did : (b : Bool) → DidRun (cond b applied.Parked applied.Ran)
-    did true = tt
-    did false = tt
-
     -- a job is given back, whether it is in a hand or not
     applied_goes : (planned : Planned) (moment : ℕ) (came : Stepped S) (answer : Applied) → (DidRun answer → CameOf Runs parked_in Cuts old.device planned moment came)
         → (found : Option InHand) → find (λ (t : InHand). is_key t.key planned.job.key) old.taken ≡ found → apply_from old planned.job moment came found ≡ (new, answer) → IsGood new
@@ -92,18 +99,13 @@ module _ {S : Type 0} (Runs : S → Planned → ℕ → Step → List End → S 
             → cond {A = StationState S × Applied} b (cancelled_in_hand old t (kind_of planned.job.op), applied.Cancelled) (ran old t (kind_of planned.job.op) moment came, cond (is_parked came.answer) applied.Parked applied.Ran) ≡ (new, answer) → IsGood new
         hand true gone e = (c, subst (Keeps parked_in c) (ap (λ (x : StationState S × Applied). x.0) e) (keeps_cancel parked_in c old keeps t here.0 gone (kind_of planned.job.op)))
         hand false stays e =
-            let so = promise (subst DidRun (ap (λ (x : StationState S × Applied). x.1) e) (did (is_parked came.answer))) in
+            let so = promise (subst DidRun (ap (λ (x : StationState S × Applied). x.1) e) (did_run (is_parked came.answer))) in
             (c, subst (Keeps parked_in c) (ap (λ (x : StationState S × Applied). x.0) e) (keeps_run parked_in c old keeps t here.0 stays planned.job (same_key t.key planned.job.key here.1) moment came so.answers so.parks))
-
-    -- a live device is removed
-    second : {A : Type 0} (b : Bool) (x y : A) → b ≡ true → (cond {A = A × Bool} (not b) (x, false) (y, true)).1 ≡ true
-    second true x y e = refl
-    second false x y e = absurd (cc)
 
     -- the device is removed
     removal_goes : (cut : S) (answer : Bool) → remove old cut ≡ (new, answer) → (answer ≡ true → parked_in cut ≡ []) → IsGood new
     removal_goes cut answer e none =
-        (c, subst (Keeps parked_in c) (ap (λ (x : StationState S × Bool). x.0) e) (keeps_remove parked_in c old keeps cut (λ live. none (sym (ap (λ (x : StationState S × Bool). x.1) e) ∙ second old.live _ _ live))))
+        (c, subst (Keeps parked_in c) (ap (λ (x : StationState S × Bool). x.0) e) (keeps_remove parked_in c old keeps cut (λ live. none (sym (ap (λ (x : StationState S × Bool). x.1) e) ∙ was_removed old.live _ _ live))))
 
     -- the session is over
     ended : (d : ℕ) (s : StationState S) → Keeps parked_in d s → Keeps parked_in d (record s { ended = true })

@@ -7,3 +7,4 @@ pub mod Cancelling
 pub mod Holding
 pub mod Keeping
 pub mod Calls
+pub mod Tying

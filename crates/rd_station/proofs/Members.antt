@@ -35,6 +35,10 @@ has_left x [] ys none = absurd none
 has_left x (z ∷ xs) ys (inl here) = inl here
 has_left x (z ∷ xs) ys (inr later) = inr (has_left x xs ys later)
 
+pub has_right : {A : Type 0} (x : A) (xs ys : List A) → Has x ys → Has x (xs ++ ys)
+has_right x [] ys has = has
+has_right x (z ∷ xs) ys has = inr (has_right x xs ys has)
+
 pub has_map : {A B : Type 0} (f : A → B) (x : A) (xs : List A) → Has x xs → Has (f x) (map f xs)
 has_map f x [] none = absurd none
 has_map f x (y ∷ xs) (inl here) = inl (ap f here)

@@ -9,10 +9,11 @@ use Rattle.rd_irp.specs.declared.op.Op.{Op}
 use Rattle.rd_irp.specs.declared.request.Request.{Request}
 use Rattle.rd_drive.specs.declared.step.End.{End}
 use Rattle.rd_drive.specs.declared.step.Step.{Step}
-use Rattle.rd_drive.specs.Device.{Completes, Parked}
+use Rattle.rd_drive.specs.Device.{Completes, Parked, is_starved}
 use Rattle.rd_drive.specs.Planned.{Planned}
+use Rattle.rd_drive.specs.Promise.{Cancels}
 use Rattle.rd_drive.specs.Replies.{AreToldBy, KeyedReply, last_state_by, replies_by}
-use Rattle.rd_drive.specs.Stepped.{Settled, Stepped}
+use Rattle.rd_drive.specs.Stepped.{Settled, Stepped, ran_step}
 use Rattle.rd_station.specs.declared.answers.Completion.{Completion}
 use Rattle.rd_station.specs.Station.{DidRun, ParkedJob, StationCall, StationState, applies, cancellation, entry_count, held, max_entries, max_held, new_station, StationSteps}
 
@@ -49,6 +50,15 @@ pub record IsReached {S : Type 0} (Runs : S → Planned → ℕ → Step → Lis
 abbrev pub RunsOwn : (Key → Request) → StationCall → Type 0
 RunsOwn requests (applies planned moment answer) = DidRun answer → let r = requests planned.job.key in (planned.job.file ≡ r.file) × (planned.job.op ≡ r.op)
 RunsOwn requests _ = Unit {0}
+
+-- What a device's runs and cuts relate is what a step and a cut compute.
+pub record IsRunBy {S : Type 0} (step : S → Key → ℕ → Op → ℕ → Stepped S) (cut : S → Settled S) (Runs : S → Planned → ℕ → Step → List End → S → Type 0) (parked_in : S → List Parked) (Cuts : S → S → Type 0) : Type 0 where
+  -- a run is the step, or nothing where the answer says that no memory was found
+  pub runs : (old : S) (planned : Planned) (moment : ℕ) (answer : Step) (ends : List End) (new : S) → Runs old planned moment answer ends new
+      → ran_step step old planned.job.key planned.job.file planned.job.op moment (is_starved answer) ≡ record { state = new; answer = answer; ends = ends }
+  pub cuts : (old new : S) → Cuts old new → (cut old).state ≡ new
+  -- a cut ends each request that waits with CANCELLED, and leaves none
+  pub cancels : (s : S) → Cancels step cut parked_in s
 
 -- A device with states of the type S, by what a request comes to and what a cut comes to. Each key names a request.
 module _ {S : Type 0} (step : S → Key → ℕ → Op → ℕ → Stepped S) (cut : S → Settled S) (requests : Key → Request) where

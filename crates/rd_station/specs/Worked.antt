@@ -1,8 +1,10 @@
 -- A station over a device that only counts its turns, for worked cases.
-use Rattle.std.specs.Prelude.{◌≡◌, ℕ, zero, suc, false, List, [], ◌∷◌, map}
+use Rattle.std.specs.Prelude.{◌≡◌, ℕ, zero, suc, ◌+◌, ◌==◌, if◌then◌else◌, false, List, [], ◌∷◌, map}
 use Rattle.std.specs.List.{range_with_len}
 use Rattle.rd_base.specs.declared.journal.Key.{Key}
+use Rattle.rd_irp.specs.declared.op.Op.{Op}
 use Rattle.rd_irp.specs.declared.op.Op.TheVariants as op
+use Rattle.rd_irp.specs.declared.request.Request.{Request}
 use Rattle.rd_irp.specs.declared.completion.Kind.{Kind}
 use Rattle.rd_irp.specs.declared.completion.Kind.TheVariants as kind
 use Rattle.rd_irp.specs.declared.completion.Body.TheVariants as body
@@ -13,7 +15,7 @@ use Rattle.rd_drive.specs.declared.step.End.{End}
 use Rattle.rd_drive.specs.Device.{Parked}
 use Rattle.rd_drive.specs.Outcome.{done}
 use Rattle.rd_drive.specs.Planned.{Planned}
-use Rattle.rd_drive.specs.Stepped.{Stepped}
+use Rattle.rd_drive.specs.Stepped.{Settled, Stepped}
 use Rattle.rd_station.specs.declared.answers.Completion.{Completion}
 use Rattle.rd_station.specs.Station.{StationState, announce, apply, cancellation, completion_of, new_station, put, remove, take}
 
@@ -48,6 +50,18 @@ counts_cut turns new = new ≡ suc turns
 -- the end of a notification, with no bytes
 abbrev pub ended : ℕ → End
 ended n = record { key = key n; reply = done (body.Buffer []) }
+
+-- A device that counts its turns by a step and a cut: a notification waits in it, and what else is run ends that of the first key.
+abbrev pub counts_step : ℕ → Key → ℕ → Op → ℕ → Stepped ℕ
+counts_step turns k file (op.Notify deep filter) moment = waits (suc turns)
+counts_step turns k file _ moment = closes (suc turns) (ended 0 ∷ [])
+
+abbrev pub counts_settled : ℕ → Settled ℕ
+counts_settled turns = record { state = suc turns; ends = [] }
+
+-- the first key's request is a notification, and each other is a close
+abbrev pub request_at : Key → Request
+request_at k = record { device = 1; file = 1; completion = 7 + k.index; op = if k.index == 0 then op.Notify false 1 else op.Close }
 
 -- a completion of a close, done or given up, and of a notification
 abbrev pub closed : ℕ → ℕ → Completion

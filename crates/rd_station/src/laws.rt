@@ -1,16 +1,23 @@
 //! The definitions at work, as contracts of functions that do nothing: the checker computes each case.
 
 ghost use Rattle.std.specs.Prelude.{◌≡◌, ℕ, List, ◌++◌, ◌∷◌, [], false, true, None, Some, Ok, Err};
+ghost use Rattle.std.specs.List.{AllByRecursion};
 ghost use Rattle.rd_base.specs.declared.journal.Cause.TheVariants as Cause;
 ghost use Rattle.rd_base.specs.declared.journal.Item.TheVariants as Item;
 ghost use Rattle.rd_irp.specs.declared.completion.Kind.TheVariants as Kind;
+ghost use Rattle.rd_base.specs.declared.journal.Key.{Key};
+ghost use Rattle.rd_irp.specs.declared.op.Op.{Op};
+ghost use Rattle.rd_irp.specs.declared.request.Request.{Request};
+ghost use Rattle.rd_drive.specs.Answered.{drive_cuts, drive_parked, drive_runs};
+ghost use Rattle.rd_drive.specs.DriveStep.{drive_cut, drive_step};
+ghost use Rattle.rd_drive.specs.Stepped.{Settled, Stepped};
 ghost use Rattle.rd_station.specs.declared.answers.Applied.TheVariants as Applied;
 ghost use Rattle.rd_station.specs.declared.answers.Given.TheVariants as Given;
 ghost use Rattle.rd_station.specs.declared.refusals.AnnounceNo.TheVariants as AnnounceNo;
 ghost use Rattle.rd_station.specs.declared.refusals.PutWhy.TheVariants as PutWhy;
 ghost use Rattle.rd_station.specs.Station.{announce, applies, apply, collect, drop_channel, end, new_station, put, puts_unfit, remove, take, PutRefused, StationCall, StationMade, StationState, StationStep, StationSteps};
-ghost use Rattle.rd_station.specs.Tied.{IsKept, IsReached};
-ghost use Rattle.rd_station.specs.Worked.{both_ready, close, closed, closes, closes_to, counts_cut, counts_parked, counts_run, given_up, key, notified, removed, told, untold, waiting, waits, with_jobs, with_taken};
+ghost use Rattle.rd_station.specs.Tied.{IsKept, IsReached, IsRunBy, IsTied, RunsOwn};
+ghost use Rattle.rd_station.specs.Worked.{both_ready, close, closed, closes, closes_to, counts_cut, counts_parked, counts_run, counts_settled, counts_step, given_up, key, notified, removed, request_at, told, untold, waiting, waits, with_jobs, with_taken};
 
 use rd_drive::Device;
 
@@ -59,6 +66,13 @@ pub fn station_steps_are_as_listed()
     ensures unfit { StationStep counts_run counts_parked counts_cut (with_jobs told (close 1 7 ∷ [])) (puts_unfit (close 0 8) (close 0 8)) (with_jobs told (close 1 7 ∷ [])) }
 {}
 
+/// A station that is tied to its journal; one whose device is in another state, and one that has another reply ready, aren't.
+pub fn ties_are_as_listed()
+    ensures tied { IsTied counts_step counts_settled request_at 0 both_ready }
+    ensures other_state { ¬ (IsTied counts_step counts_settled request_at 0 (record both_ready { device = 3 })) }
+    ensures other_reply { ¬ (IsTied counts_step counts_settled request_at 0 (record both_ready { ready = given_up 0 7 Kind.Buffer ∷ [] })) }
+{}
+
 /// Whatever calls a station over a device is given, one after the other, what always holds of it holds.
 pub fn stations_are_kept<D: Device>()
     ensures calls { (device : D) (calls : List StationCall) (s : StationState D) → D.parked device ≡ [] → StationSteps D.runs D.parked D.cuts (new_station device) calls s → IsKept D.parked s }
@@ -69,4 +83,17 @@ pub fn stations_are_kept<D: Device>()
 pub fn calls_reach_stations<D: Device>()
     ensures first { (device : D) → D.parked device ≡ [] → IsReached D.runs D.parked D.cuts (new_station device) }
     ensures next { (old : StationState D) (new : StationState D) (call : StationCall) → IsReached D.runs D.parked D.cuts old → StationStep D.runs D.parked D.cuts old call new → IsReached D.runs D.parked D.cuts new }
+{}
+
+/// Whatever calls a station over a device that a step and a cut compute is given, it stays tied to its journal, where each job that is run is that of
+/// its key's request.
+pub fn stations_stay_tied<D: Device>()
+    ensures { (step : D → Key → ℕ → Op → ℕ → Stepped D) (cut : D → Settled D) (requests : Key → Request) (device : D) (calls : List StationCall) (s : StationState D)
+        → IsRunBy step cut D.runs D.parked D.cuts → D.parked device ≡ [] → AllByRecursion (RunsOwn requests) calls → StationSteps D.runs D.parked D.cuts (new_station device) calls s
+        → IsTied step cut requests device s }
+{}
+
+/// What a drive's runs and cuts relate is what the definition of a drive computes.
+pub fn drives_are_run_by_their_step()
+    ensures { IsRunBy drive_step drive_cut drive_runs drive_parked drive_cuts }
 {}
