@@ -1,7 +1,7 @@
 -- The lines, the control lines and the run of the worked session.
-use Rattle.std.proofs.Common.{◌≡◌, ◌∙◌, refl, sym, ap, subst, ℕ, true, false, List, [], ◌∷◌, ◌++◌, map, take, drop, take-append-drop, append-nil, filter, Some, codes, lit≤, reverse, option_map, Option, arith, None, Bool}
+use Rattle.std.proofs.Common.{◌≡◌, ◌∙◌, ◌==◌, ◌&&◌, cond, inl, length, refl, sym, ap, subst, ℕ, true, false, List, [], ◌∷◌, ◌++◌, map, take, drop, take-append-drop, append-nil, filter, Some, codes, lit≤, reverse, option_map, Option, arith, None, Bool}
 use Rattle.std.specs.Fmt.{digits}
-use Rattle.std.specs.List.{list_all, flat_map}
+use Rattle.std.specs.List.{cons_option, list_all, flat_map}
 use Rattle.std.specs.Option.{option_map_or}
 use Rattle.std.specs.Prelude.{filter_map, is_some, All, IfSome, None}
 use Rattle.std.proofs.lemmas.List.Elements.{All-from_recursion}
@@ -34,7 +34,7 @@ use Rattle.rd_script.specs.Report.{report_of}
 use Rattle.rd_script.specs.declared.outcome.Outcome.{Outcome}
 use Rattle.rd_script.specs.declared.outcome.Outcome.TheVariants as outcome
 use Rattle.rd_script.specs.declared.outcome.Outcomes.{Outcomes}
-use Rattle.rd_world.specs.Acts.{AreActed, AreSaid, IsCutThere, Tells, act_by, cause_in, control_at_end, control_by, left_open, is_settled_host, notices_on, of_channel, tellings_on, IsToldInTime, Opens, first_control_of, HasOpened}
+use Rattle.rd_world.specs.Acts.{is_settle, AreActed, AreSaid, IsCutThere, Tells, act_by, cause_in, control_at_end, control_by, left_open, is_settled_host, notices_on, of_channel, tellings_on, IsToldInTime, Opens, first_control_of, HasOpened}
 use Rattle.rd_world.specs.Control.{controlled, Control, begun, control_of, ended, lists, removed}
 use Rattle.rd_world.specs.Control as control
 use Rattle.rd_world.specs.Devices.{declaring, furnishing, Declared}
@@ -44,8 +44,8 @@ use Rattle.rd_world.specs.Lines.{HaveOutcomes, LinesEnd, Waits, outcome_at, subm
 use Rattle.rd_world.specs.Recording.{host_stand}
 use Rattle.rd_world.specs.Report.{ordered}
 use Rattle.rd_world.specs.Run.{asked_by, controls, notice_of, on_device, on_handle, open_op, setting, WorldRun, run_of}
-use Rattle.rd_world.specs.Session.{EndsQuietly, IsReported, IsRun, printed_in}
-use Rattle.rd_world.specs.Talk.{Deed, EndsWith, client_wrote, has_ended, host_read, host_wrote, is_request, on, AtEachPoint, EachAfter, journal, notice_in}
+use Rattle.rd_world.specs.Session.{IsReported, IsRun, IsStill, WasStill, at_settles, printed_in}
+use Rattle.rd_world.specs.Talk.{Deed, EndsWith, Has, answered, asked, open_channel, client_wrote, has_ended, host_read, host_wrote, is_request, on, AtEachPoint, EachAfter, journal, notice_in}
 use Rattle.rd_world.specs.Worked.{ran}
 use Rattle.rd_world.specs.World.{Application, new_application, WorldState, journals_in, starved_in}
 use Rattle.rd_world.proofs.TestedActs.{cut_by_test, none_said, none_told_on, told_in_time_by_test}
@@ -216,8 +216,86 @@ none_left : left_open found_devices found_deeds (control_by found_devices found_
 unfolding notice_of controlled header_among component_field request_head header op_body create_body checked given one_of
 none_left = refl
 
-pub at_end : IfSome (left_open found_devices found_deeds (control_by found_devices found_lines)) (EndsQuietly found_devices (control_by found_devices found_lines) found_deeds)
+pub at_end : IfSome (left_open found_devices found_deeds (control_by found_devices found_lines)) (IsStill found_devices (control_by found_devices found_lines) found_deeds)
 at_end = rw none_left tt
+
+-- one request is asked where it is answered
+one_by_test : (b : Bool) → cond {A = List ℕ} b (0 ∷ []) [] ≡ cons_option (cond {A = Option ℕ} b (Some 0) None) []
+one_by_test true = refl
+one_by_test false = refl
+
+-- the points at which the channels were still: the open of each was completed
+first_still : (device id : ℕ) → asked 1 device id (drop 45 found_deeds) ≡ answered 1 device id (drop 45 found_deeds)
+unfolding count_to counted counted_bytes two_fields four_fields two_fields_bytes four_fields_bytes bytes8 bytes16 bytes32 bytes64 component_field header header_among announce device_list device_reply removal checked one_of given special general other body_of capability sets version name hello completion_head success_body completion_body create_body close_body read_body write_body notify_body range lock_body directory_body op_body request_head add_event update_event delete_event rename_event event_body cache_data using_xps notice
+first_still device id = one_by_test (1 == device && 0 == id)
+
+second_still : (device id : ℕ) → asked 2 device id (drop 10 found_deeds) ≡ answered 2 device id (drop 10 found_deeds)
+unfolding count_to counted counted_bytes two_fields four_fields two_fields_bytes four_fields_bytes bytes8 bytes16 bytes32 bytes64 component_field header header_among announce device_list device_reply removal checked one_of given special general other body_of capability sets version name hello completion_head success_body completion_body create_body close_body read_body write_body notify_body range lock_body directory_body op_body request_head add_event update_event delete_event rename_event event_body cache_data using_xps notice
+second_still device id = one_by_test (1 == device && 0 == id)
+
+-- what the control lines came to at the two `settle` lines
+abbrev first_settle : Control
+first_settle = record {
+  devices = 1 ∷ [];
+  current = Some 1;
+  channels = 1;
+  absent = [];
+  acts = begun 1 ∷ [];
+  told = (1, lists (1 ∷ [])) ∷ [];
+  notices = [];
+  cuts = [];
+  idle = [];
+}
+
+abbrev second_settle : Control
+second_settle = record {
+  devices = 1 ∷ [];
+  current = Some 2;
+  channels = 2;
+  absent = [];
+  acts = begun 1 ∷ ended 1 ∷ begun 2 ∷ [];
+  told = (1, lists (1 ∷ [])) ∷ (2, lists (1 ∷ [])) ∷ [];
+  notices = [];
+  cuts = (1, Dropped) ∷ [];
+  idle = [];
+}
+
+settles_are : at_settles (first_control_of found_devices) found_lines ≡ first_settle ∷ second_settle ∷ []
+unfolding notice_of controlled is_settle
+settles_are = refl
+
+still_at : (control : Control) (c count : ℕ) → open_channel (drop count found_deeds) ≡ Some c → length (filter_map act_by (drop count found_deeds)) ≡ length control.acts
+    → IsStill found_devices control (drop count found_deeds) c → WasStill found_devices found_deeds control
+still_at control c count is_open acts still =
+    (take count found_deeds, drop count found_deeds, sym (take-append-drop count found_deeds), acts, rw is_open still)
+
+first_point : WasStill found_devices found_deeds first_settle
+unfolding count_to counted counted_bytes two_fields four_fields two_fields_bytes four_fields_bytes bytes8 bytes16 bytes32 bytes64 component_field header header_among announce device_list device_reply removal checked one_of given special general other body_of capability sets version name hello completion_head success_body completion_body create_body close_body read_body write_body notify_body range lock_body directory_body op_body request_head add_event update_event delete_event rename_event event_body cache_data using_xps notice
+first_point = still_at first_settle 1 45 refl refl (record {
+  sent = refl;
+  owed = refl;
+  tells = refl;
+  notices = refl;
+  read = refl;
+  heard = refl;
+  completed = λ device id index has. inl (subst (Has index) (first_still device id) has);
+})
+
+second_point : WasStill found_devices found_deeds second_settle
+unfolding count_to counted counted_bytes two_fields four_fields two_fields_bytes four_fields_bytes bytes8 bytes16 bytes32 bytes64 component_field header header_among announce device_list device_reply removal checked one_of given special general other body_of capability sets version name hello completion_head success_body completion_body create_body close_body read_body write_body notify_body range lock_body directory_body op_body request_head add_event update_event delete_event rename_event event_body cache_data using_xps notice
+second_point = still_at second_settle 2 10 refl refl (record {
+  sent = refl;
+  owed = refl;
+  tells = refl;
+  notices = refl;
+  read = refl;
+  heard = refl;
+  completed = λ device id index has. inl (subst (Has index) (second_still device id) has);
+})
+
+pub settles : All (WasStill found_devices found_deeds) (at_settles (first_control_of found_devices) found_lines)
+settles = subst (All (WasStill found_devices found_deeds)) (sym settles_are)
+    (All-from_recursion (WasStill found_devices found_deeds) (first_settle ∷ second_settle ∷ []) (first_point, (second_point, tt)))
 
 opened : All (Opens found_devices found_deeds) channels
 opened = All-from_recursion (Opens found_devices found_deeds) channels (opens_by found_devices 54 found_deeds 1 first_open, (opens_by found_devices 19 found_deeds 2 second_open, tt))

@@ -193,6 +193,11 @@ unfoldable pub is_errand : Line → Bool
 is_errand (line.Do errand) = true
 is_errand _ = false
 
+-- and whether it is a `settle` line
+unfoldable pub is_settle : Line → Bool
+is_settle line.Settle = true
+is_settle _ = false
+
 abbrev pub is_errand_at : List NumberedLine → ℕ → Bool
 is_errand_at lines number = list_any (λ (l : NumberedLine). l.number == number && is_errand l.line) lines
 

@@ -1,6 +1,6 @@
 -- What holds of a whole session of a script that came to its end: how its recording, its journals and its report belong together. What a reader believes
 -- is said of what both sides did; that this is what the script's session comes to is said beside it.
-use Rattle.std.specs.Prelude.{◌≡◌, ◌⊎◌, ℕ, false, true, List, [], ◌∷◌, ◌++◌, filter, length, map, reverse, IfSome, Some, All}
+use Rattle.std.specs.Prelude.{◌≡◌, ◌⊎◌, ℕ, false, true, List, [], ◌∷◌, ◌++◌, filter, filter_map, if◌then◌else◌, length, map, reverse, IfSome, Some, All}
 use Rattle.std.specs.List.{flat_map}
 use Rattle.std.specs.Map.{lookup}
 use Rattle.std.specs.Option.{option_map_or, unwrap_or}
@@ -21,8 +21,8 @@ use Rattle.rd_script.specs.declared.outcome.Outcomes.{Outcomes}
 use Rattle.rd_script.specs.declared.script.Script.{Script}
 use Rattle.rd_script.specs.Report.{report_of}
 use Rattle.rd_station.specs.Station.{StationState}
-use Rattle.rd_world.specs.Acts.{AreActed, AreSaid, Tells, cache_after, control_by, is_settled_host, left_open, notices_on, of_channel, tellings_on, waiting_keys}
-use Rattle.rd_world.specs.Control.{Control, Telling}
+use Rattle.rd_world.specs.Acts.{AreActed, AreSaid, Tells, act_by, cache_after, control_by, first_control_of, is_settle, is_settled_host, left_open, notices_on, of_channel, tellings_on, waiting_keys}
+use Rattle.rd_world.specs.Control.{Control, Telling, controlled}
 use Rattle.rd_world.specs.Devices.{Declared, DeviceState, as_drive, as_printer, device_cut, device_step}
 use Rattle.rd_world.specs.Joining.{AreJoined, Joins}
 use Rattle.rd_world.specs.Lines.{HaveOutcomes, submitted}
@@ -100,9 +100,8 @@ pub record AllTold (devices : List (ℕ × Declared)) (told : List (ℕ × Telli
   pub all_completed : (c device id : ℕ) → has_ended c deeds ≡ false → asked c device id deeds ≡ answered c device id deeds
   pub heeded : (c : ℕ) → has_ended c deeds ≡ true → (rest : List Deed) × IsLeftOver devices told replies c deeds rest
 
--- A channel that no line ended, on which a request waits, ends after everything, by what the control lines told: then all was sent, read and heard there,
--- and what wasn't completed waits.
-pub record EndsQuietly (devices : List (ℕ × Declared)) (control : Control) (deeds : List Deed) (c : ℕ) : Type 0 where
+-- A channel is still, by what the control lines told so far: all was sent, read and heard there, and what wasn't completed waits.
+pub record IsStill (devices : List (ℕ × Declared)) (control : Control) (deeds : List Deed) (c : ℕ) : Type 0 where
   pub sent : filter is_request (host_wrote c deeds) ≡ submitted c deeds
   pub owed : option_map_or is_settled_host (host_stand deeds c) false ≡ true
   pub tells : length (tellings_on c deeds) ≡ length (of_channel c control.told)
@@ -111,6 +110,18 @@ pub record EndsQuietly (devices : List (ℕ × Declared)) (control : Control) (d
   pub heard : host_read c deeds ≡ client_wrote c deeds
   pub completed : (device id index : ℕ) → Has index (asked c device id deeds)
       → Has index (answered c device id deeds) ⊎ Has (record { channel = c; index = index }) (waiting_keys devices deeds)
+
+-- what the control lines come to at each `settle` line
+abbrev pub at_settles : Control → List NumberedLine → List Control
+at_settles c [] = []
+at_settles c (l ∷ ls) = (if is_settle l.line then c ∷ [] else []) ++ at_settles (controlled c l.number l.line) ls
+
+-- A `settle` line settled: after what the control lines before it did, and before what the next one does, there was a point at which the open channel was
+-- still.
+abbrev pub WasStill : List (ℕ × Declared) → List Deed → Control → Type 0
+WasStill devices deeds control =
+    (later before : List Deed) × (deeds ≡ later ++ before) × (length (filter_map act_by before) ≡ length control.acts)
+    × IfSome (open_channel before) (IsStill devices control before)
 
 -- ---- the report
 
@@ -167,7 +178,8 @@ pub record IsSession (script : Script) (recording : List ℕ) (books : List (ℕ
   pub outcomes : HaveOutcomes devices script.lines told.lines.entries deeds
   pub report : IsReported devices script told books output deeds
   pub control_lines : AreActed devices script.lines told.idle.items deeds
-  pub at_end : let by_lines = control_by devices script.lines in IfSome (left_open devices deeds by_lines) (EndsQuietly devices by_lines deeds)
+  pub at_end : let by_lines = control_by devices script.lines in IfSome (left_open devices deeds by_lines) (IsStill devices by_lines deeds)
+  pub settles : All (WasStill devices deeds) (at_settles (first_control_of devices) script.lines)
   pub tells : AllTold devices (control_lines.control).told (replies_in devices deeds) deeds
   pub run : IsRun script books told deeds
 

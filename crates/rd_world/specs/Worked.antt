@@ -1,5 +1,5 @@
 -- Scripts, for worked cases.
-use Rattle.std.specs.Prelude.{ℕ, true, false, not, List, [], ◌∷◌, codes, map, reverse, filter, filter_map, Option, length}
+use Rattle.std.specs.Prelude.{ℕ, true, false, not, List, [], ◌∷◌, codes, map, reverse, filter, filter_map, Option, length, Bool, ◌==◌, ◌&&◌, ◌+◌}
 use Rattle.std.specs.Option.{option_map, option_map_or}
 use Rattle.rd_base.specs.declared.journal.Cause.{Cause}
 use Rattle.rd_base.specs.declared.journal.Item.{Item}
@@ -8,16 +8,21 @@ use Rattle.rd_script.specs.declared.line.Line.{Line}
 use Rattle.rd_script.specs.declared.line.Line.TheVariants as line
 use Rattle.rd_script.specs.declared.line.NumberedLine.{NumberedLine}
 use Rattle.rd_station.specs.Station.{StationState}
-use Rattle.rd_world.specs.Control.{Act}
+use Rattle.rd_world.specs.Control.{Act, Control}
 use Rattle.rd_world.specs.Devices.{Declared, DeviceState}
 use Rattle.rd_world.specs.Host.{HostSide}
 use Rattle.rd_world.specs.HostDeeds.{side_of}
 use Rattle.rd_world.specs.Report.{report_text}
 use Rattle.rd_world.specs.Run.{run_of}
-use Rattle.rd_world.specs.Acts.{act_by, cause_in, control_at_end, control_by, is_errand_at, left_open, notices_on, of_channel, tellings_on}
-use Rattle.rd_world.specs.Recording.{client_id}
+use Rattle.rd_world.specs.Acts.{act_by, cause_in, control_at_end, control_by, first_control_of, is_errand_at, is_settled_host, left_open, notices_on, of_channel, tellings_on, waiting_keys}
+use Rattle.rd_world.specs.Recording.{client_id, host_stand}
 use Rattle.rd_world.specs.Lines.{submitted}
-use Rattle.rd_world.specs.Talk.{client_read, client_wrote, host_read, host_wrote, is_request, journal}
+use Rattle.rd_world.specs.Talk.{Deed, client_read, client_wrote, host_read, host_wrote, is_request, journal, open_channel}
+use Rattle.rd_world.specs.Session.{at_settles}
+use Rattle.std.specs.List.{list_all, list_any}
+use Rattle.rd_base.specs.declared.journal.Key.{Key}
+use Rattle.rd_base.specs.declared.packet.Packet.TheVariants.{IoCompletion}
+use Rattle.rd_hello.specs.Moves.{is_of}
 use Rattle.rd_world.specs.World.{WorldState, journals_in}
 
 abbrev pub numbered : ℕ → Line → NumberedLine
@@ -91,6 +96,31 @@ done_in lines = option_map (acts_done lines) (ran lines)
 
 abbrev pub said_in : List NumberedLine → Option Done
 said_in lines = option_map (acts_said lines) (ran lines)
+
+-- ---- where it settled
+
+-- what was done up to each point, from the last on
+abbrev pub points_of : List Deed → List (List Deed)
+points_of [] = [] ∷ []
+points_of (deed ∷ before) = (deed ∷ before) ∷ points_of before
+
+-- whether a channel is still, by counts alone
+abbrev pub is_still : List (ℕ × Declared) → Control → List Deed → ℕ → Bool
+is_still devices control p c =
+    length (client_read c p) == length (host_wrote c p) && length (host_read c p) == length (client_wrote c p)
+    && length (filter is_request (host_wrote c p)) == length (submitted c p)
+    && length (tellings_on c p) == length (of_channel c control.told) && length (notices_on c p) == length (of_channel c control.notices)
+    && length (filter is_request (client_read c p))
+    == length (filter (is_of IoCompletion) (client_wrote c p)) + length (filter (λ (key : Key). key.channel == c) (waiting_keys devices p))
+    && option_map_or is_settled_host (host_stand p c) false
+
+abbrev pub was_still : List (ℕ × Declared) → List Deed → Control → Bool
+was_still devices deeds control =
+    list_any (λ p. length (filter_map act_by p) == length control.acts && option_map_or (is_still devices control p) (open_channel p) true) (points_of deeds)
+
+-- whether the channel that was open was still at a point for each `settle` line
+abbrev pub settles_in : List NumberedLine → Option Bool
+settles_in lines = option_map (λ (w : WorldState). list_all (was_still w.devices w.deeds) (at_settles (first_control_of w.devices) lines)) (ran lines)
 
 -- ---- idle_control_lines
 abbrev pub idle_control_lines : List NumberedLine

@@ -1,6 +1,6 @@
 //! The definitions at work, as contracts of functions that do nothing: the checker computes each case; and what holds of joined sides.
 
-ghost use Rattle.std.specs.Prelude.{◌≡◌, ◌≢◌, ◌++◌, ◌∷◌, ℕ, List, [], Some, codes, filter_map, map};
+ghost use Rattle.std.specs.Prelude.{◌≡◌, ◌≢◌, ◌++◌, ◌∷◌, ℕ, List, [], Some, codes, filter_map, map, true};
 ghost use Rattle.rd_base.specs.declared.journal.Cause.TheVariants.{Dropped, Removed};
 ghost use Rattle.rd_drive.specs.Statuses.{cancelled};
 ghost use Rattle.rd_base.specs.declared.journal.Item.{Item};
@@ -25,7 +25,7 @@ ghost use Rattle.rd_world.specs.Recording.{request_of};
 ghost use Rattle.rd_world.specs.Session.{IsSession, IsStoredOpen, RanRead, replies_in, replies_read};
 ghost use Rattle.rd_world.specs.Talk.{Deed, client_read, client_writes, host_begins, host_ends, journal, removes, request_at, stores};
 ghost use Rattle.rd_world.specs.Told.{Replies};
-ghost use Rattle.rd_world.specs.Worked.{cached_bytes_announced, device_removed_and_added, drop_and_reconnect, idle_control_lines, notification_never_ended, notification_of_new_file, printer_cache_renamed, removal_before_sent_request, removal_under_work, removed_device_not_announced_again, sharing_violation, waiting_lock, done_in, reported, said_in, scripts, standing, told_by_deeds};
+ghost use Rattle.rd_world.specs.Worked.{cached_bytes_announced, device_removed_and_added, drop_and_reconnect, idle_control_lines, notification_never_ended, notification_of_new_file, printer_cache_renamed, removal_before_sent_request, removal_under_work, removed_device_not_announced_again, sharing_violation, waiting_lock, done_in, reported, said_in, scripts, settles_in, standing, told_by_deeds};
 
 /// What sessions come to.
 pub fn sessions_run_as_listed()
@@ -51,6 +51,15 @@ pub fn deeds_tell_sessions()
 /// Their control lines did what follows from the lines alone.
 pub fn control_lines_act()
     ensures { map done_in scripts ≡ map said_in scripts }
+{}
+
+/// And where their lines settle, the channel that is open is still.
+pub fn sessions_settle()
+    ensures printers { settles_in cached_bytes_announced ≡ Some true }
+    ensures removals { settles_in device_removed_and_added ≡ Some true }
+    ensures reconnections { settles_in removed_device_not_announced_again ≡ Some true }
+    ensures locks { settles_in waiting_lock ≡ Some true }
+    ensures notifications { settles_in notification_never_ended ≡ Some true }
 {}
 
 /// The joining law: whatever both ends do whose messages are carried, whose host keeps its table and whose client tells what its journals say,

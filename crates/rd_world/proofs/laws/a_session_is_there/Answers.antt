@@ -19,6 +19,7 @@ returns c = λ told found. record {
   report = lines.report told found;
   control_lines = lines.control_lines told found;
   at_end = lines.at_end;
+  settles = lines.settles;
   tells = subst (λ (said : List (ℕ × Telling)). AllTold found_devices said (replies_in found_devices found_deeds) found_deeds) (lines.told_is told found)
       (sides.tells (lines.controls_done).told lines.first_told);
   run = lines.run told found;
