@@ -100,7 +100,7 @@ pub record AllTold (devices : List (ℕ × Declared)) (told : List (ℕ × Telli
   pub all_completed : (c device id : ℕ) → has_ended c deeds ≡ false → asked c device id deeds ≡ answered c device id deeds
   pub heeded : (c : ℕ) → has_ended c deeds ≡ true → (rest : List Deed) × IsLeftOver devices told replies c deeds rest
 
--- A channel is still, by what the control lines told so far: all was sent, read and heard there, and what wasn't completed waits.
+-- A channel is still, by what the control lines told so far: all was sent, told, replied to, read and heard there, and what wasn't completed waits.
 pub record IsStill (devices : List (ℕ × Declared)) (control : Control) (deeds : List Deed) (c : ℕ) : Type 0 where
   pub sent : filter is_request (host_wrote c deeds) ≡ submitted c deeds
   pub owed : option_map_or is_settled_host (host_stand deeds c) false ≡ true
@@ -116,8 +116,8 @@ abbrev pub at_settles : Control → List NumberedLine → List Control
 at_settles c [] = []
 at_settles c (l ∷ ls) = (if is_settle l.line then c ∷ [] else []) ++ at_settles (controlled c l.number l.line) ls
 
--- A `settle` line settled: after what the control lines before it did, and before what the next one does, there was a point at which the open channel was
--- still.
+-- What a `settle` line leaves: after what the control lines before it did, and before the next act of one, there was a point at which the open channel, if
+-- there was one, was still. Which application lines were issued by then isn't said.
 abbrev pub WasStill : List (ℕ × Declared) → List Deed → Control → Type 0
 WasStill devices deeds control =
     (later before : List Deed) × (deeds ≡ later ++ before) × (length (filter_map act_by before) ≡ length control.acts)
