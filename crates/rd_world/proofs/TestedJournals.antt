@@ -1,5 +1,5 @@
 -- Journals that pass a test are lawful.
-use Rattle.std.proofs.Common.{◌≡◌, ◌≢◌, ◌⊎◌, ◌∙◌, refl, sym, ap, ap₂, subst, inl, inr, ℕ, zero, suc, ◌<◌, ◌≤◌, ◌==◌, ◌&&◌, ◌||◌, not, Bool, true, false, List, [], ◌∷◌, ◌++◌, length, ltb, leb, ltb-true, leb-true, eqb-true, eq-eqb, arith}
+use Rattle.std.proofs.Common.{◌≡◌, ◌≢◌, ◌⊎◌, ◌∙◌, refl, sym, ap, subst, inl, inr, ℕ, zero, suc, ◌<◌, ◌≤◌, ◌==◌, ◌&&◌, ◌||◌, not, Bool, true, false, List, [], ◌∷◌, ◌++◌, length, ltb, leb, ltb-true, leb-true, eqb-true, arith}
 use Rattle.std.specs.Prelude.{All, Any, Contains, IfSome, Some, slice_get, slice_index_or}
 use Rattle.std.specs.List.{AllByRecursion, list_all, list_any}
 use Rattle.std.proofs.lemmas.List.Elements.{All-from_recursion}
@@ -13,6 +13,7 @@ use Rattle.rd_base.specs.Lawful.{CancelsRemoved, CutsFewUnsent, FewUnsent, IsBef
 use Rattle.rd_drive.specs.Replies.{KeyedReply}
 use Rattle.rd_irp.specs.declared.completion.Reply.{Reply}
 use Rattle.rd_station.specs.Station.{is_key}
+use Rattle.rd_station.proofs.Members.{key_self, same_key}
 
 -- ---- tests
 
@@ -27,15 +28,6 @@ either {a = false} e = inr e
 pub passes_not : (a : Bool) → not a ≡ true → a ≡ false
 passes_not true e = absurd (cc)
 passes_not false e = refl
-
-pub same_key : (k l : Key) → is_key k l ≡ true → k ≡ l
-same_key k l e =
-    let parts = both e in
-    let made : ℕ → ℕ → Key = λ c i. record { channel = c; index = i } in
-    ap₂ made (eqb-true k.channel l.channel parts.0) (eqb-true k.index l.index parts.1)
-
-pub key_itself : (k : Key) → is_key k k ≡ true
-key_itself k = rw (eq-eqb k.channel k.channel refl, eq-eqb k.index k.index refl) refl
 
 pub by_recursion : {A : Type 0} {P : A → Type 0} (p : A → Bool) → ((x : A) → p x ≡ true → P x) → (xs : List A) → list_all p xs ≡ true → AllByRecursion P xs
 by_recursion p sound [] e = tt
@@ -115,8 +107,8 @@ settles_is key (Cancelled k) e = same_key k key e
 settles_is key _ e = absurd (cc)
 
 is_settled : (key : Key) (x : Item) → Settles key x → settles key x ≡ true
-is_settled key (Ran k moment starved parked) same = rw same (key_itself key)
-is_settled key (Cancelled k) same = rw same (key_itself key)
+is_settled key (Ran k moment starved parked) same = rw same (key_self key)
+is_settled key (Cancelled k) same = rw same (key_self key)
 is_settled key _ none = absurd none
 
 unsettles : (key : Key) (x : Item) → not (settles key x) ≡ true → ¬ (Settles key x)
@@ -210,7 +202,7 @@ are_ended key [] e = tt
 are_ended key (x ∷ xs) e =
     let parts = both e in (
       (λ moment starved same. elim (either parts.0) [
-        | inl isnt ↦ absurd (unlike (waits key) (Ran key moment starved true) (key_itself key) x isnt same)
+        | inl isnt ↦ absurd (unlike (waits key) (Ran key moment starved true) (key_self key) x isnt same)
         | inr end ↦ any_passes {P = MayEnd} may_end may_end_is xs end
       ]),
       are_ended key xs parts.1,
@@ -252,13 +244,13 @@ sends_first before (Sent key) e =
     let last = both settled.1 in (
       any_passes {P = Settles key} (settles key) (settles_is key) before settled.0,
       IsEnded-from_turns before key (are_ended key before last.0),
-      all_pass {P = λ x. x ≢ Sent key} (λ x. not (is_sent key x)) (unlike (is_sent key) (Sent key) (key_itself key)) before last.1,
+      all_pass {P = λ x. x ≢ Sent key} (λ x. not (is_sent key x)) (unlike (is_sent key) (Sent key) (key_self key)) before last.1,
     )
 sends_first before _ e = tt
 
 runs_uncut : (before : List Item) (x : Item) → may_stand before x ≡ true → RunsUncut before x
 runs_uncut before (Ran key moment starved parked) e = λ cause.
-    never_before (is_came key) is_cut before (both (both e).1).1 (Came key) (Cut cause) (key_itself key) refl
+    never_before (is_came key) is_cut before (both (both e).1).1 (Came key) (Cut cause) (key_self key) refl
 runs_uncut before _ e = tt
 
 cancels_removed : (before : List Item) (x : Item) → may_stand before x ≡ true → CancelsRemoved before x
@@ -269,7 +261,7 @@ cancels_removed before _ e = tt
 remembers : (before : List Item) (key : Key) → remembered before key ≡ true → (¬ (IsBefore before (Came key) (Cut Dropped))) × All (λ x. IfSome (named_key x) (λ k. k.channel ≤ key.channel)) before
 remembers before key e =
     let parts = both e in
-    (never_before (is_came key) is_drop before parts.0 (Came key) (Cut Dropped) (key_itself key) refl, all_pass {P = λ x. IfSome (named_key x) (λ k. k.channel ≤ key.channel)} (low key.channel) (low_is key.channel) before parts.1)
+    (never_before (is_came key) is_drop before parts.0 (Came key) (Cut Dropped) (key_self key) refl, all_pass {P = λ x. IfSome (named_key x) (λ k. k.channel ≤ key.channel)} (low key.channel) (low_is key.channel) before parts.1)
 
 names_remembered : (before : List Item) (x : Item) → may_stand before x ≡ true → NamesRemembered before x
 names_remembered before (Came key) e = remembers before key (both e).0
@@ -322,7 +314,7 @@ are_distinct (x ∷ xs) = list_all (λ (y : KeyedReply). not (is_key x.0 y.0)) x
 apart_from : (xs : List KeyedReply) (x y : KeyedReply) → list_all (λ (z : KeyedReply). not (is_key x.0 z.0)) xs ≡ true → Contains xs y → x.0 ≡ y.0 → ⊥
 apart_from xs x y e has same =
     let none : not (is_key x.0 y.0) ≡ true = member_passes (λ (z : KeyedReply). not (is_key x.0 z.0)) xs y e has in
-    let is : is_key x.0 y.0 ≡ true = subst (λ (k : Key). is_key x.0 k ≡ true) same (key_itself x.0) in
+    let is : is_key x.0 y.0 ≡ true = subst (λ (k : Key). is_key x.0 k ≡ true) same (key_self x.0) in
     let isnt = passes_not (is_key x.0 y.0) none in
     cc (is, isnt)
 

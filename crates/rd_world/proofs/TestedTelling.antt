@@ -15,7 +15,8 @@ use Rattle.rd_world.specs.Talk.{Deed, EachAfter, EndsWith, Has, client_read, cli
 use Rattle.rd_drive.specs.Statuses.{insufficient_resources}
 use Rattle.rd_world.specs.Told.{ComesUnworn, says_worn, came, is_of_device, requests_to, sent, sent_at, told, unserved}
 use Rattle.rd_world.proofs.TestedDeeds.{each, end_is}
-use Rattle.rd_world.proofs.TestedJournals.{both, either, is_came, is_sent, key_itself, passes_not, sent_is}
+use Rattle.rd_station.proofs.Members.{key_self}
+use Rattle.rd_world.proofs.TestedJournals.{both, either, is_came, is_sent, passes_not, sent_is}
 
 -- ---- few channels and few devices
 
@@ -228,7 +229,7 @@ module _ (channels devices : List ℕ) where
   was_sent before known key e device has = go (among device devices) refl
     where
       came_there : list_any (is_came key) (journal device before) ≡ true
-      came_there = has_any (is_came key) (Came key) (key_itself key) (journal device before) has
+      came_there = has_any (is_came key) (Came key) (key_self key) (journal device before) has
 
       go : (b : Bool) → among device devices ≡ b → Has (Sent key) (journal device before)
       go true is =
