@@ -103,11 +103,6 @@ still_awaited test cause u none = go (is_awaited u.fate) (test u) refl refl none
 
 -- ---- with an outcome
 
-pub has_outcome : (f : Option Fate) (o : Option Outcome) → Agrees f o → is_waiting f ≡ false → (x : Outcome) × (o ≡ Some x)
-has_outcome (Some awaited) o agrees over = absurd (cc over)
-has_outcome (Some (known x)) o agrees over = (x, agrees)
-has_outcome None o agrees over = agrees
-
 pub none_awaited : (f : Option Fate) (o : Option Outcome) → Agrees f o → is_waiting f ≡ true → o ≡ None
 none_awaited (Some awaited) o agrees none = agrees
 none_awaited (Some (known x)) o agrees none = absurd (cc none)

@@ -190,10 +190,6 @@ neutral_reading t (Ok (act.Complete head bytes)) = go (table.complete t head byt
     go (Ok gave) = (tt, tt)
     go (Err cause) = tt
 
-pub neutral_sending : (o : List (List ℕ)) → AreNeutral (sending o)
-neutral_sending [] = (tt, tt)
-neutral_sending (message ∷ others) = tt
-
 -- ---- what is heard by them
 
 -- what was heard and taken by a message

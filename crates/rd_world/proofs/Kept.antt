@@ -1,5 +1,5 @@
 -- The requests that a host accepted stay, whatever comes of them.
-use Rattle.std.proofs.Common.{◌≡◌, ◌⊎◌, ◌∙◌, sym, ap, inl, inr, ℕ, zero, suc, ◌<◌, ◌≤◌, ◌==◌, Bool, true, false, cond, List, [], ◌∷◌, ◌++◌, length, take, Some, arith, append_assoc, length-append}
+use Rattle.std.proofs.Common.{◌≡◌, ◌⊎◌, ◌∙◌, sym, ap, inl, inr, ℕ, zero, suc, ◌<◌, ◌≤◌, ◌==◌, Bool, true, false, cond, List, [], ◌∷◌, ◌++◌, length, take, Some, arith, length-append}
 use Rattle.std.specs.Prelude.{filter, slice_get}
 use Rattle.std.proofs.lemmas.List.{take-append-le, take_all}
 use Rattle.rd_pending.specs.History.{accepted_in}
@@ -15,9 +15,6 @@ use Rattle.rd_world.proofs.Calls.{calls_since}
 -- those of the one list are the first of the other
 abbrev pub Kept : List Accepted → List Accepted → Type 0
 Kept xs new = (more : List Accepted) × (new ≡ xs ++ more)
-
-pub kept_then : (xs ys zs : List Accepted) → Kept xs ys → Kept ys zs → Kept xs zs
-kept_then xs ys zs (more, e) (further, e2) = (more ++ further, e2 ∙ ap (λ (ws : List Accepted). ws ++ further) e ∙ append_assoc xs more further)
 
 pub kept_long : (xs new : List Accepted) → Kept xs new → length xs ≤ length new
 kept_long xs new (more, e) = omega (arith, ap length e, length-append {A = Accepted} xs more)

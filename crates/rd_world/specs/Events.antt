@@ -126,15 +126,15 @@ abbrev pub target_of : Application → Asked → Option Target
 target_of a asked = option_map_or (λ device. Some (target.Device device)) asked.device (option_map_or (λ (h : Handle). Some (target.Handle h)) (handle_at a asked.handle) None)
 
 -- an application's line asked for this, and its request is accepted, or the line is refused at once
-abbrev pub submitted : WorldState → ℕ → Asked → Target → TableState × Result ℕ SubmitNo → WorldState
-submitted w a asked named (t, Ok number) =
+abbrev pub comes_of_asking : WorldState → ℕ → Asked → Target → TableState × Result ℕ SubmitNo → WorldState
+comes_of_asking w a asked named (t, Ok number) =
     let application = application_at w a in
     with_application (with_deed (with_table w t) (submits a named asked.op)) a (record application { awaits = Some (number, asked) })
-submitted w a asked named (t, Err cause) = ends_line w a asked (outcome.Refused (refusal_of cause)) None
+comes_of_asking w a asked named (t, Err cause) = ends_line w a asked (outcome.Refused (refusal_of cause)) None
 
 -- it asks for this of what its words name, if they name something
 abbrev pub asks : WorldState → ℕ → Asked → Option Target → WorldState
-asks w a asked (Some named) = submitted w a asked named (table.submit (w.side).table a named asked.op)
+asks w a asked (Some named) = comes_of_asking w a asked named (table.submit (w.side).table a named asked.op)
 asks w a asked None = ends_line w a asked (outcome.Refused refusal.NoHandle) None
 
 abbrev pub issues_first : WorldState → ℕ → List Asked → WorldState
