@@ -1,7 +1,7 @@
 //! Headers of the packets, as the public standards give them.
 use rd_base::{Bad, Cursor, Packet, Why, packet_of, put_header, read_header, read_header_among};
 
-/// Each packet by the front of a message.
+/// Each packet by the first bytes of a message.
 const HEADERS: [(&[u8], Packet); 13] = [
     (b"rDnI\x01\0\x0c\0", Packet::ServerAnnounce),
     (b"rDCC", Packet::ClientIdConfirm),
@@ -23,8 +23,8 @@ fn names_packets(rt: HostRuntime) {
     for (message, packet) in HEADERS {
         assert_eq!(rt; packet_of(message), Ok(packet));
         assert_eq!(rt; read_header(&mut Cursor::new(message), packet), Ok(()));
-        let mut out = Vec::new(rt.alloc());
-        put_header(&mut out, packet).expect(&rt, "memory for a header");
+        let mut out = Vec::with_capacity(rt.alloc(), 4).expect(&rt, "memory for a header");
+        put_header(&mut out, packet);
         assert!(rt; out.len() == 4 && message.starts_with(out.as_slice()));
     }
 }

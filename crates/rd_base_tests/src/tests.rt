@@ -4,7 +4,7 @@ ghost use Rattle.std.specs.Prelude.{◌≤◌, IfOk};
 
 use rd_base::{
     Bad, Books, Cursor, Failed, FileSink, Item, Items, Journal, Key, MemSink, MemSource, PlainSink,
-    PlainSource, Sink, Source, StdSink, StdSource, Why,
+    PlainSource, Sink, Source, StdSink, StdSource, Why, write_all,
 };
 use std::alloc::{AllocError, Global};
 use std::fs;
@@ -55,11 +55,13 @@ fn writes<S: Sink>(rt: &impl Abort, sink: &mut S, rows: &[(&[u8], Result<usize, 
     }
 }
 
-/// A reader and a writer of one byte a call. Calls are counted from 1: one of them fails, and one takes or gives nothing.
+/// A reader and a writer of one byte a call. Calls are counted from 1: one of them fails, with an error of this kind, and one takes or
+/// gives nothing.
 #[derive(Drop)]
 struct Faltering {
     calls: u64,
     failing: u64,
+    kind: ErrorKind,
     empty: u64,
 }
 
@@ -70,7 +72,7 @@ impl Faltering {
     {
         self.calls = self.calls.saturating_add(1);
         if self.calls == self.failing {
-            return Err(Error::from(ErrorKind::BrokenPipe));
+            return Err(Error::from(self.kind));
         }
         if self.calls == self.empty {
             return Ok(0);
@@ -96,10 +98,11 @@ impl Write for Faltering {
 }
 
 /// One whose call with the first number fails, and whose call with the second takes or gives nothing; 0 is the number of none.
-fn one_byte_a_call(failing: u64, empty: u64) -> Faltering {
+fn one_byte_a_call(failing: u64, kind: ErrorKind, empty: u64) -> Faltering {
     Faltering {
         calls: 0,
         failing,
+        kind,
         empty,
     }
 }
@@ -197,36 +200,53 @@ fn std_forms_pass_bytes_on(rt: HostRuntime) {
     assert_eq!(rt; written.as_slice(), b"hi".as_slice());
 }
 
+/// A call that the system interrupted has failed like any other: nothing is read or written again.
 #[test]
 fn std_forms_tell_of_failures(rt: HostRuntime) {
-    for (failing, rows) in [
-        (1, [Err(Failed), Ok(1), Ok(0)]),
-        (2, [Ok(1), Err(Failed), Ok(0)]),
+    for (failing, kind_of_failure, rows) in [
+        (1, ErrorKind::BrokenPipe, [Err(Failed), Ok(1), Ok(0)]),
+        (2, ErrorKind::Interrupted, [Ok(1), Err(Failed), Ok(0)]),
     ] {
-        let mut source = StdSource::new(one_byte_a_call(failing, 3));
+        let mut source = StdSource::new(one_byte_a_call(failing, kind_of_failure, 3));
         let rows = rows.map(|row| (row, [0; 4]));
         reads(&rt, &mut source, &rows);
-        assert_eq!(rt; kind(source.last_error()), Some(ErrorKind::BrokenPipe));
+        assert_eq!(rt; kind(source.last_error()), Some(kind_of_failure));
     }
     for (failing, empty, rows, last) in [
         (1, 0, [Err(Failed), Ok(1)], ErrorKind::BrokenPipe),
-        (2, 0, [Ok(1), Err(Failed)], ErrorKind::BrokenPipe),
+        (2, 0, [Ok(1), Err(Failed)], ErrorKind::Interrupted),
         (0, 2, [Ok(1), Ok(0)], ErrorKind::WriteZero),
     ] {
-        let mut sink = StdSink::new(one_byte_a_call(failing, empty));
+        let mut sink = StdSink::new(one_byte_a_call(failing, last, empty));
         let rows = rows.map(|row| (b"abc".as_slice(), row));
         writes(&rt, &mut sink, &rows);
         assert_eq!(rt; kind(sink.last_error()), Some(last));
     }
 }
 
+/// The second call of the sink would fail.
+#[test]
+fn writes_all_in_one_call(rt: HostRuntime) -> Result<(), Fail> {
+    let mut sink = MemSink::new(rt.alloc(), list(rt.alloc(), &[2])?);
+    let bytes = [7; 100];
+    assert_eq!(rt; write_all(&mut sink, &bytes), Ok(()));
+    assert_eq!(rt; sink.bytes(), bytes.as_slice());
+    Ok(())
+}
+
+/// A file is made at the first write, which empties one that is there already, and no other write does.
 #[test]
 fn makes_a_file_at_the_first_write(rt: HostRuntime) -> Result<(), Fail> {
     let mut sink = FileSink::new(&rt, "made.rec");
     assert!(rt; fs::open(&rt, "made.rec").is_err());
-    writes(&rt, &mut sink, &[(b"RDR", Ok(3))]);
-    let mut source = StdSource::new(fs::open(&rt, "made.rec")?);
-    reads(&rt, &mut source, &[(Ok(3), *b"RDR\0"), (Ok(0), [0; 4])]);
+    writes(&rt, &mut sink, &[(b"RDR", Ok(3)), (b"REC01", Ok(5))]);
+    assert_eq!(rt;
+        fs::read(&rt, "made.rec")?.as_slice(),
+        b"RDRREC01".as_slice()
+    );
+    let mut again = FileSink::new(&rt, "made.rec");
+    writes(&rt, &mut again, &[(b"RD", Ok(2)), (b"R", Ok(1))]);
+    assert_eq!(rt; fs::read(&rt, "made.rec")?.as_slice(), b"RDR".as_slice());
     fs::remove_file(&rt, "made.rec")?;
     Ok(())
 }

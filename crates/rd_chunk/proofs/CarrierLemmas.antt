@@ -7,10 +7,15 @@ use Rattle.std.proofs.lemmas.List.{take_min, take_all}
 use Rattle.std.proofs.lemmas.Nat.{from_le_bytes-to_le_bytes_4}
 use Rattle.std.proofs.lemmas.Grind.{div_ceil_times}
 use Rattle.std.proofs.lemmas.Bool.Decides.{nat_tests}
+use Rattle.std.proofs.Math.Seq.{take-add}
 use Rattle.rd_chunk.specs.Frames.{size_of, length_of, flags_of, data_of, IsFrame, AreFrames, One, Carried}
 use Rattle.rd_chunk.specs.Carrier.{carrier_data, carrier_flags, carrier_frame, carrier_frames, carrier_of, IsMessage, carrier_stream}
-use Rattle.rd_chunk.proofs.TakesLemmas.{take_join}
 use Rattle.rd_chunk.proofs.StandsForLemmas.{data-push, AreFrames-push}
+use Rattle.rd_chunk.specs.Sizes.{max_message}
+
+-- bytes of a length that a message can have
+pub is_message : (n : ℕ) (m : List ℕ) → length m ≡ n → 1 ≤ n → n ≤ max_message → IsMessage m
+is_message n m is low high = (omega (arith, is, low), omega (arith, is, high))
 
 -- the data of a frame, as the code cuts them
 pub data_slice : (xs : List ℕ) (k to : ℕ) → to ≡ min (length xs) (k * 1600 + 1600) → 1600 * k < length xs → take (to - k * 1600) (drop (k * 1600) xs) ≡ carrier_data xs k
@@ -49,8 +54,8 @@ flag_bits true false = (refl, refl, refl, omega arith)
 flag_bits false true = (refl, refl, refl, omega arith)
 flag_bits false false = (refl, refl, refl, omega arith)
 
-first_flag : (k : ℕ) → (k == 0) ≡ (1600 * k == 0)
-first_flag k = grind (arith, nat_tests)
+no_data_before : (k : ℕ) → (k == 0) ≡ (1600 * k == 0)
+no_data_before k = grind (arith, nat_tests)
 
 last_flag : (k d n : ℕ) → d ≡ min 1600 (n - 1600 * k) → 1600 * k < n → not (nat_lt (1600 * k + 1600) n) ≡ (1600 * k + d == n)
 last_flag k d n e h = grind (arith, nat_tests)
@@ -73,7 +78,7 @@ is_frame m k more most =
       plain = ap (λ (x : ℕ). not (bit_and x 0x200000 == 0)) f.flags ∙ bits.2;
       whole = f.whole;
       within = omega (arith, data_len, d);
-      first = ap (λ (x : ℕ). not (bit_and x 0x1 == 0)) f.flags ∙ bits.0 ∙ first_flag k;
+      first = ap (λ (x : ℕ). not (bit_and x 0x1 == 0)) f.flags ∙ bits.0 ∙ no_data_before k;
       last = ap (λ (x : ℕ). not (bit_and x 0x2 == 0)) f.flags ∙ bits.1 ∙ last_flag k (length (carrier_data m k)) (length m) d more ∙ ap (λ (x : ℕ). 1600 * k + x == length m) (sym data_len);
     }
 
@@ -90,7 +95,7 @@ frames_carry m (suc k) h most =
     let at : 0 + length (flat_map data_of (carrier_frames m k)) ≡ 1600 * k = omega (arith, ap length before.1, length-take (1600 * k) m) in (
       AreFrames-push (length m) 0 (carrier_frames m k) (carrier_frame m k) before.0 (subst (λ (x : ℕ). IsFrame (length m) x (carrier_frame m k)) (sym at) (is_frame m k more most)),
       data-push (carrier_frames m k) (carrier_frame m k) ∙ ap (λ (x : List ℕ). x ++ data_of (carrier_frame m k)) before.1 ∙ ap (λ (x : List ℕ). take (1600 * k) m ++ x) (data_is m k more most)
-          ∙ take_join (1600 * k) 1600 m ∙ ap (λ (x : ℕ). take x m) (omega arith),
+          ∙ sym (take-add (1600 * k) 1600 m) ∙ ap (λ (x : ℕ). take x m) (omega arith),
     )
 
 -- what is written carries the message

@@ -5,11 +5,10 @@ use Rattle.std.proofs.lemmas.List.Folds.{concat-append}
 use Rattle.std.proofs.lemmas.List.{append-nil, take_rest, take_more, take-append-drop}
 use Rattle.rd_chunk.specs.declared.fault.ChunkBad.{ChunkBad}
 use Rattle.rd_chunk.specs.Frames.{Carried}
-use Rattle.rd_chunk.specs.Standing.{Held, StandsFor, HasJoined, Takes, BringsFault, ForBad, is_complete, waiting}
+use Rattle.rd_chunk.specs.Standing.{Held, StandsFor, HasJoined, Takes, BringsFault, ForFeedBad, is_complete, waiting}
 use Rattle.rd_chunk.specs.declared.fault.FeedNo.{FeedNo}
 use Rattle.rd_chunk.specs.declared.fault.FeedNo.TheVariants.{Bad, Memory}
 use Rattle.rd_chunk.specs.Streams.{IsStream, IsFaultOf}
-use Rattle.rd_chunk.proofs.TakesLemmas.{take_join}
 use Rattle.rd_base.proofs.ListLemmas.{concat-push}
 use Rattle.rd_chunk.proofs.StreamLemmas.{one_reading, never_both}
 use Rattle.rd_chunk.proofs.CarriedLemmas.{waits_at_one, Carried-append, carried_one, fault_after, begun_of}
@@ -78,12 +77,6 @@ sent_are ms sent bytes s c = one_reading ms sent bytes s (carried_stream sent by
 pub sent_no_fault : (sent : List (List ℕ)) (bytes : List ℕ) (bad : ChunkBad) → Carried sent bytes → IsFaultOf bytes bad → ⊥
 sent_no_fault sent bytes bad c f = never_both sent bytes f.0 (carried_stream sent bytes c)
 
--- a piece that is fed in parts
-pub at_piece : (bytes piece : List ℕ) (at n : ℕ) → (bytes ++ take at piece) ++ take n (take (length piece - at) (drop at piece)) ≡ bytes ++ take (at + n) piece
-at_piece bytes piece at n =
-    append_assoc bytes (take at piece) (take n (take (length piece - at) (drop at piece)))
-    ∙ ap (λ (r : List ℕ). bytes ++ (take at piece ++ take n r)) (take_rest piece at) ∙ ap (λ (r : List ℕ). bytes ++ r) (take_join at n piece)
-
 pub all_piece : (bytes piece : List ℕ) (at n : ℕ) → (bytes ++ take at piece) ++ (take n (take (length piece - at) (drop at piece)) ++ drop n (take (length piece - at) (drop at piece))) ≡ bytes ++ piece
 all_piece bytes piece at n =
     ap (λ (r : List ℕ). bytes ++ take at piece ++ r) (take-append-drop n (take (length piece - at) (drop at piece)) ∙ take_rest piece at)
@@ -113,6 +106,6 @@ piece_fault pieces i piece bad h e f =
     (fault_more (concat (take i pieces) ++ piece) (concat (drop (i + 1) pieces)) bad f)
 
 -- of a stream without fault only want of memory is returned
-pub only_memory : (no : FeedNo) (sent : List (List ℕ)) (bytes : List ℕ) → Carried sent bytes → ForBad (IsFaultOf bytes) no → no ≡ Memory
+pub only_memory : (no : FeedNo) (sent : List (List ℕ)) (bytes : List ℕ) → Carried sent bytes → ForFeedBad (IsFaultOf bytes) no → no ≡ Memory
 only_memory (Bad bad) sent bytes c h = absurd (sent_no_fault sent bytes bad c h)
 only_memory Memory sent bytes c h = refl

@@ -1,18 +1,19 @@
 -- What one step of a joiner takes (`Takes`), and which fault it brings (`BringsFault`).
 use Rattle.std.proofs.Common.{◌≡◌, ◌≢◌, ◌≤◌, ◌<◌, ℕ, ◌+◌, ◌-◌, arith, sym, ◌∙◌, ap, length, ◌++◌, ◌∷◌, [], inl, inr, None, length-append, refl, List}
 use Rattle.std.proofs.lemmas.Bool.{cases_lt, cases_eq}
-use Rattle.std.proofs.Common.{subst, Bool, true, not, take, get_or, Option, Some, ◌%◌, ◌^◌, false, ◌⊎◌}
+use Rattle.std.proofs.Common.{subst, Bool, true, not, take, get_or, Some, ◌%◌, ◌^◌, false, ◌⊎◌}
 use Rattle.std.specs.List.{concat}
 use Rattle.std.proofs.Common.{drop, append_assoc}
-use Rattle.std.proofs.lemmas.List.{take_all, take_rest, take-take, take-append-drop, drop-take}
+use Rattle.std.proofs.lemmas.List.{take_all, take_rest}
 use Rattle.std.proofs.lemmas.Bool.Decides.{nat_tests}
+use Rattle.std.proofs.Math.Seq.{take-add}
 use Rattle.rd_chunk.specs.declared.head.RowFault.{RowFault}
 use Rattle.rd_chunk.specs.declared.fault.ChunkBad.{ChunkBad}
 use Rattle.rd_chunk.specs.declared.fault.ChunkWhy.{ChunkWhy}
 use Rattle.rd_chunk.specs.declared.fault.FeedNo.{FeedNo}
 use Rattle.rd_chunk.specs.declared.fault.FeedNo.TheVariants.{Bad, Memory}
 use Rattle.rd_chunk.specs.declared.progress.Progress.{Progress}
-use Rattle.rd_chunk.specs.Standing.{is_complete, Takes, BringsFault, Held, StandsFor, ForBad}
+use Rattle.rd_chunk.specs.Standing.{is_complete, Takes, BringsFault, Held, StandsFor, ForFeedBad}
 use Rattle.rd_chunk.specs.Kept.{InRange, head_of, held_of}
 use Rattle.rd_chunk.specs.Frames.{size_of, length_of, flags_of}
 use Rattle.rd_chunk.specs.Faults.{size_fault, head_fault, ShowsFault, FaultInMessage}
@@ -119,32 +120,29 @@ module _ (p next : Progress) (message : List ℕ) (joined b : ℕ)
           place_at bad.at next.have next.taken row.offset p.taken before (length (concat s.frames)) (length s.part) (length bytes) fits place taken_next s.taken_are bytes_len (omega arith),
         )
 
-pub not_both : (found : Option RowFault) (row : RowFault) → found ≡ None → found ≡ Some row → ⊥
-not_both found row none some = cc
-
 pub take_one : (xs : List ℕ) → 0 < length xs → take 1 xs ≡ get_or xs 0 0 ∷ []
 take_one [] some = absurd (omega arith)
 take_one (x ∷ xs) some = refl
 
-pub take_join : (n m : ℕ) (xs : List ℕ) → take n xs ++ take m (drop n xs) ≡ take (n + m) xs
-take_join n m xs =
-    ap (λ (r : List ℕ). take n xs ++ r) (sym (drop-take n m xs))
-    ∙ ap (λ (r : List ℕ). r ++ drop n (take (n + m) xs)) (sym (take-take n (n + m) xs (omega arith)))
-    ∙ take-append-drop n (take (n + m) xs)
+-- a piece that is taken in parts
+pub at_piece : (bytes piece : List ℕ) (at n : ℕ) → (bytes ++ take at piece) ++ take n (take (length piece - at) (drop at piece)) ≡ bytes ++ take (at + n) piece
+at_piece bytes piece at n =
+    append_assoc bytes (take at piece) (take n (take (length piece - at) (drop at piece)))
+    ∙ ap (λ (r : List ℕ). bytes ++ (take at piece ++ take n r)) (take_rest piece at) ∙ ap (λ (r : List ℕ). bytes ++ r) (sym (take-add at n piece))
 
 -- one step after others
 pub takes_then : (old mid new : Held) (piece : List ℕ) (at n : ℕ) → Takes old mid (take at piece) → Takes mid new (take n (take (length piece - at) (drop at piece))) → Takes old new (take (at + n) piece)
 takes_then old mid new piece at n first then before bytes s =
-    subst (λ (r : List ℕ). StandsFor new before r) (append_assoc bytes (take at piece) (take n (take (length piece - at) (drop at piece))) ∙ ap (λ (r : List ℕ). bytes ++ (take at piece ++ take n r)) (take_rest piece at) ∙ ap (λ (r : List ℕ). bytes ++ r) (take_join at n piece))
+    subst (λ (r : List ℕ). StandsFor new before r) (at_piece bytes piece at n)
     (then before (bytes ++ take at piece) (first before bytes s))
 
 pub faults_then : (old mid : Held) (piece : List ℕ) (at n : ℕ) (bad : ChunkBad) → Takes old mid (take at piece) → BringsFault mid (take n (take (length piece - at) (drop at piece))) bad → BringsFault old (take (at + n) piece) bad
 faults_then old mid piece at n bad first fault before bytes s =
     let found = fault before (bytes ++ take at piece) (first before bytes s) in
-    (found.0, subst (λ (r : List ℕ). FaultInMessage r found.0 bad.why) (append_assoc bytes (take at piece) (take n (take (length piece - at) (drop at piece))) ∙ ap (λ (r : List ℕ). bytes ++ (take at piece ++ take n r)) (take_rest piece at) ∙ ap (λ (r : List ℕ). bytes ++ r) (take_join at n piece)) found.1, found.2)
+    (found.0, subst (λ (r : List ℕ). FaultInMessage r found.0 bad.why) (at_piece bytes piece at n) found.1, found.2)
 
 -- a weaker fact of the fault
-pub for_bad : (no : FeedNo) (P Q : ChunkBad → Type 0) → ((bad : ChunkBad) → P bad → Q bad) → ForBad P no → ForBad Q no
+pub for_bad : (no : FeedNo) (P Q : ChunkBad → Type 0) → ((bad : ChunkBad) → P bad → Q bad) → ForFeedBad P no → ForFeedBad Q no
 for_bad (Bad bad) P Q f h = f bad h
 for_bad Memory P Q f h = tt
 

@@ -1,6 +1,6 @@
 -- What can be wrong with a stream of carrier frames, and where.
 use Rattle.std.specs.Prelude.{ℕ, ◌≡◌, ◌≤◌, ◌<◌, ◌+◌, ◌-◌, ◌==◌, not, ◌&&◌, ◌||◌, nat_lt, if◌then◌else◌, Bool, List, [], ◌∷◌, ◌++◌, length, bit_and, Option, Some, None, ◌⊎◌}
-use Rattle.rd_chunk.specs.Sizes.{max_chunk, max_message}
+use Rattle.rd_chunk.specs.Sizes.{head_len, max_chunk, max_message}
 use Rattle.rd_chunk.specs.Frames.{size_of, length_of, flags_of, Carried, Begun}
 use Rattle.rd_chunk.specs.declared.head.RowFault.{RowFault}
 use Rattle.rd_chunk.specs.declared.fault.ChunkWhy.{ChunkWhy}
@@ -15,11 +15,11 @@ abbrev pub size_fault : ℕ → Option RowFault
 size_fault size = if size == 8 then row 0 Empty else (if nat_lt size 9 || nat_lt (max_chunk + 8) size then row 0 Size else None)
 
 -- a row of the table: what it tests, how far after the frame's first byte its fault stands, and the fault
-abbrev pub Row : Type 0
-Row = Bool × ℕ × ChunkWhy
+abbrev pub FaultRow : Type 0
+FaultRow = Bool × ℕ × ChunkWhy
 
 -- the first row whose test holds
-abbrev pub first_row : List Row → Option RowFault
+abbrev pub first_row : List FaultRow → Option RowFault
 first_row [] = None
 first_row (r ∷ rows) = if r.0 then row r.1 r.2 else first_row rows
 
@@ -37,7 +37,7 @@ fields_fault n before size len flags =
     ∷ (not begins && first, 8, SecondFirst)
     ∷ (nat_lt max_message len, 4, TooLong)
     ∷ (not begins && not (len == n), 4, LengthChanged)
-    ∷ (nat_lt len reached, 12, Overrun)
+    ∷ (nat_lt len reached, head_len, Overrun)
     ∷ (last && nat_lt reached len, 8, LastEarly)
     ∷ (not last && (reached == len), 8, NotLast)
     ∷ []
@@ -50,12 +50,12 @@ head_fault n before head = fields_fault n before (size_of head) (length_of head)
 -- these bytes are as much of a frame as the first row that holds of it needs, 4 or 12
 pub record ShowsFault (n before : ℕ) (head : List ℕ) (fault : RowFault) : Type 0 where
   pub holds : ((length head ≡ 4) × (size_fault (size_of head) ≡ Some fault))
-      ⊎ ((length head ≡ 12) × (size_fault (size_of head) ≡ None) × (head_fault n before head ≡ Some fault))
+      ⊎ ((length head ≡ head_len) × (size_fault (size_of head) ≡ None) × (head_fault n before head ≡ Some fault))
 
 -- these bytes are a proper part of a frame, or nothing, and no row holds whose 4 or 12 bytes are there
 pub record IsPart (n before : ℕ) (part : List ℕ) : Type 0 where
   pub size : 4 ≤ length part → size_fault (size_of part) ≡ None
-  pub head : 12 ≤ length part → head_fault n before part ≡ None
+  pub head : head_len ≤ length part → head_fault n before part ≡ None
   pub short : 4 ≤ length part → length part < size_of part + 4
 
 -- the bytes are whole frames that begin some stream of messages, and after them the bytes that the first row needs

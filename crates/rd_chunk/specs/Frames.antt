@@ -3,7 +3,7 @@
 use Rattle.std.specs.Prelude.{ℕ, ◌≡◌, ◌≤◌, ◌<◌, ◌+◌, ◌==◌, Bool, false, not, List, [], ◌∷◌, ◌++◌, length, take, drop, bit_and}
 use Rattle.std.specs.List.{concat, flat_map}
 use Rattle.std.specs.Int.{w32, from_le_bytes}
-use Rattle.rd_chunk.specs.Sizes.{max_chunk, max_message}
+use Rattle.rd_chunk.specs.Sizes.{head_len, max_chunk, max_message}
 
 -- a frame's size field, which counts all that comes after these four bytes
 unfoldable pub size_of : List ℕ → ℕ
@@ -19,7 +19,7 @@ flags_of frame = from_le_bytes w32 (take 4 (drop 8 frame))
 
 -- a frame's data
 abbrev pub data_of : List ℕ → List ℕ
-data_of frame = drop 12 frame
+data_of frame = drop head_len frame
 
 -- a frame has the flag of a message's first frame, of its last frame, of compressed data
 abbrev pub is_first : List ℕ → Bool

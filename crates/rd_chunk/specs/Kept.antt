@@ -2,7 +2,7 @@
 use Rattle.std.specs.Prelude.{ℕ, Bool, ◌≡◌, ◌≤◌, ◌<◌, ◌+◌, List, length, take, Option, None}
 use Rattle.rd_chunk.specs.declared.fault.ChunkBad.{ChunkBad}
 use Rattle.rd_chunk.specs.declared.progress.Progress.{Progress}
-use Rattle.rd_chunk.specs.Sizes.{max_message}
+use Rattle.rd_chunk.specs.Sizes.{head_len, max_message}
 use Rattle.rd_chunk.specs.Frames.{size_of}
 use Rattle.rd_chunk.specs.Faults.{size_fault}
 use Rattle.rd_chunk.specs.Standing.{Held, is_complete}
@@ -16,8 +16,8 @@ abbrev pub held_of : Progress → List ℕ → Option ChunkBad → Held
 held_of p joined fault = record { joined = joined; head = head_of p; left = p.left; whole = p.length; taken = p.taken; fault = fault }
 
 -- the same of a joiner that met no fault
-abbrev pub seen : Progress → List ℕ → Held
-seen p joined = held_of p joined None
+abbrev pub held_so_far : Progress → List ℕ → Held
+held_so_far p joined = held_of p joined None
 
 -- the message is complete, with so many of its bytes there
 abbrev pub is_done : Progress → ℕ → Bool
@@ -25,8 +25,8 @@ is_done p joined = is_complete p.left joined p.length
 
 -- the numbers that a joiner keeps beside `joined` bytes of a message are in their ranges
 pub record InRange (p : Progress) (joined : ℕ) : Type 0 where
-  pub head : p.have ≤ 12
+  pub head : p.have ≤ head_len
   pub count : length (head_of p) ≡ p.have
-  pub to_come : p.have ≡ 12 → 0 < p.left
+  pub to_come : p.have ≡ head_len → 0 < p.left
   pub size : 4 ≤ p.have → size_fault (size_of (head_of p)) ≡ None
   pub room : joined + p.left ≤ max_message

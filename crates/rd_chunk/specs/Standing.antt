@@ -4,7 +4,7 @@ use Rattle.std.specs.List.{concat, flat_map}
 use Rattle.rd_chunk.specs.declared.fault.ChunkBad.{ChunkBad}
 use Rattle.rd_chunk.specs.declared.fault.FeedNo.{FeedNo}
 use Rattle.rd_chunk.specs.declared.fault.FeedNo.TheVariants.{Bad, Memory}
-use Rattle.rd_chunk.specs.Sizes.{max_message}
+use Rattle.rd_chunk.specs.Sizes.{head_len, max_message}
 use Rattle.rd_chunk.specs.Frames.{size_of, length_of, data_of, AreFrames, Carried}
 use Rattle.rd_chunk.specs.Faults.{IsPart, FaultInMessage}
 
@@ -27,10 +27,10 @@ pub record StandsFor (held : Held) (before : ℕ) (bytes : List ℕ) : Type 0 wh
   pub bytes_are : bytes ≡ concat frames ++ part
   pub is_part : IsPart held.whole (length (flat_map data_of frames)) part
   pub joined_are : held.joined ≡ flat_map data_of frames ++ data_of part
-  pub head_is : held.head ≡ take 12 part
-  pub still : 12 ≤ length part → held.left + length part ≡ size_of part + 4
-  pub in_head : length part < 12 → held.left ≡ 0
-  pub same : 12 ≤ length part → length_of part ≡ held.whole
+  pub head_is : held.head ≡ take head_len part
+  pub still : head_len ≤ length part → held.left + length part ≡ size_of part + 4
+  pub in_head : length part < head_len → held.left ≡ 0
+  pub same : head_len ≤ length part → length_of part ≡ held.whole
   pub most : held.whole ≤ max_message
   pub complete : 0 < length (flat_map data_of frames) → length (flat_map data_of frames) ≡ held.whole → part ≡ []
   pub taken_are : held.taken ≡ (before + length bytes) % 2 ^ 64
@@ -64,6 +64,6 @@ pub record HasJoined (held : Held) (messages : List (List ℕ)) (bytes : List �
   pub none_waits : waiting held ≡ None
 
 -- it holds of the fault, unless memory ran out
-abbrev pub ForBad : (ChunkBad → Type 0) → FeedNo → Type 0
-ForBad P (Bad bad) = P bad
-ForBad P Memory = Unit {0}
+abbrev pub ForFeedBad : (ChunkBad → Type 0) → FeedNo → Type 0
+ForFeedBad P (Bad bad) = P bad
+ForFeedBad P Memory = Unit {0}

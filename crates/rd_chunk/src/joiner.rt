@@ -2,8 +2,8 @@
 
 ghost use Rattle.std.specs.Prelude.{◌≡◌, ◌<◌, ◌≤◌, ◌+◌, ◌%◌, ◌^◌, ◌↔◌, ◌⊎◌, ℕ, List, [], length, take, false, None, Some, Ok, Err, IsTrue, IsSome, IfNone, OnSome, IfOk, IfErr, OnErr};
 ghost use Rattle.rd_chunk.specs.Frames.{One};
-ghost use Rattle.rd_chunk.specs.Sizes.{max_message};
-ghost use Rattle.rd_chunk.specs.Standing.{StandsFor, Takes, BringsFault, ForBad, waiting};
+ghost use Rattle.rd_chunk.specs.Sizes.{head_len, max_message};
+ghost use Rattle.rd_chunk.specs.Standing.{StandsFor, Takes, BringsFault, ForFeedBad, waiting};
 
 use crate::fault::{ChunkBad, FeedNo};
 use crate::progress::{Progress, take_in};
@@ -61,7 +61,7 @@ impl Joiner {
             ((piece.now ≡ []) ⊎ IsSome (waiting self.old))) }
 
         // A fault is the first one of the stream, which the piece brings, and it stays.
-        ensures fault { IfErr result (ForBad (λ bad.
+        ensures fault { IfErr result (ForFeedBad (λ bad.
             (count : ℕ) × (count ≤ length piece.now) × BringsFault self.old (take count piece.now) bad)) }
         ensures failed { (bad : ChunkBad) →
             (self.new.fault ≡ Some bad) ↔ (result ≡ Err (FeedNo.Bad bad)) }
@@ -71,7 +71,7 @@ impl Joiner {
         ensures memory { result ≡ Err FeedNo.Memory → self.new ≡ self.old }
 
         // A message, and the twelve bytes of a head.
-        ensures held { length self.new.joined + length self.new.head ≤ max_message + 12 }
+        ensures held { length self.new.joined + length self.new.head ≤ max_message + head_len }
     {
         if let Some(bad) = self.bad {
             return Err(FeedNo::Bad(bad));

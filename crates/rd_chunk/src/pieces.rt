@@ -3,7 +3,7 @@
 ghost use Rattle.std.specs.Prelude.{◌≡◌, ℕ, List, ◌++◌, None, IfOk, IfErr, OnOk, MatchResult};
 ghost use Rattle.std.specs.List.{concat};
 ghost use Rattle.rd_chunk.specs.Frames.{Carried};
-ghost use Rattle.rd_chunk.specs.Standing.{HasJoined, ForBad, waiting};
+ghost use Rattle.rd_chunk.specs.Standing.{HasJoined, ForFeedBad, waiting};
 ghost use Rattle.rd_chunk.specs.Streams.{IsStream, IsFaultOf};
 
 use crate::fault::FeedNo;
@@ -17,7 +17,7 @@ pub fn join_pieces(alloc: Global, pieces: &[Bytes]) -> Result<Vec<Bytes>, FeedNo
     // So the messages that come out are those that went in, however their frames were cut.
     ensures sent { (messages : List (List ℕ)) → Carried messages (concat pieces.now) →
         MatchResult result (λ joined. joined.items ≡ messages) (λ no. no ≡ FeedNo.Memory) }
-    ensures fault { IfErr result (ForBad (IsFaultOf (concat pieces.now))) }
+    ensures fault { IfErr result (ForFeedBad (IsFaultOf (concat pieces.now))) }
 {
     let mut joiner = Joiner::new(alloc);
     let mut messages = Vec::new(alloc);
@@ -33,7 +33,7 @@ fn feed_whole(joiner: &mut Joiner, messages: &mut Vec<Bytes>, piece: &[u8]) -> R
     ensures none_waits { OnOk result (waiting joiner.new ≡ None) }
     ensures joined { OnOk result ((bytes : List ℕ) → HasJoined joiner.old messages.old.items bytes →
         HasJoined joiner.new messages.new.items (bytes ++ piece.now)) }
-    ensures fault { IfErr result (ForBad (λ bad. (bytes : List ℕ) →
+    ensures fault { IfErr result (ForFeedBad (λ bad. (bytes : List ℕ) →
         HasJoined joiner.old messages.old.items bytes → IsFaultOf (bytes ++ piece.now) bad)) }
 {
     let mut at = 0;

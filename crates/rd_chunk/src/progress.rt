@@ -1,12 +1,12 @@
 //! How far a joiner has come in the frame under way.
 
-ghost use Rattle.std.specs.Prelude.{◌≡◌, ◌<◌, ◌≤◌, ◌+◌, ◌-◌, ◌*◌, ◌%◌, ◌↔◌, ◌^◌, length, max, vec_len, vec_capacity, IsTrue, IfOk, IfErr, OnOk, OnErr, ◌≢◌, None, Ok, ◌⊎◌, false, true, take, List, ℕ};
+ghost use Rattle.std.specs.Prelude.{◌≡◌, ◌<◌, ◌≤◌, ◌+◌, ◌-◌, ◌*◌, ◌%◌, ◌↔◌, ◌^◌, length, vec_len, vec_capacity, IsErr, IsTrue, IfOk, IfErr, OnOk, OnErr, ◌≢◌, None, Ok, ◌⊎◌, false, true, take, List, ℕ};
 ghost use Rattle.std.specs.Prelude.{◌++◌, ◌∷◌, []};
-ghost use Rattle.rd_chunk.specs.Standing.{Takes, BringsFault, ForBad};
-ghost use Rattle.rd_chunk.specs.Kept.{InRange, head_of, is_done, seen};
+ghost use Rattle.rd_chunk.specs.Standing.{Takes, BringsFault, ForFeedBad};
+ghost use Rattle.rd_chunk.specs.Kept.{InRange, head_of, held_so_far, is_done};
 ghost use Rattle.rd_chunk.specs.Frames.{size_of, length_of, flags_of};
 ghost use Rattle.rd_chunk.specs.Faults.{size_fault, head_fault};
-ghost use Rattle.rd_chunk.specs.Sizes.{max_message};
+ghost use Rattle.rd_chunk.specs.Sizes.{buffer_for, head_len, max_message};
 
 use crate::fault::{ChunkBad, FeedNo};
 use crate::head::{HEAD_LEN, Head, RowFault, fields_fault, size_fault};
@@ -57,7 +57,7 @@ impl Progress {
 
     /// One byte more of the head.
     fn with_byte(self, byte: u8) -> Progress
-        requires { self.have < 12 }
+        requires { self.have < head_len }
         ensures head { head_of result ≡ head_of self ++ byte ∷ [] }
         ensures have { result.have ≡ self.have + 1 }
         ensures count { length (head_of result) ≡ result.have }
@@ -74,10 +74,10 @@ impl Progress {
 
     /// The fields of a head that is all there; before that only those whose bytes are.
     fn fields(self) -> Head
-        requires { self.have ≤ 12 }
+        requires { self.have ≤ head_len }
         ensures size { 4 ≤ self.have → result.size ≡ size_of (head_of self) }
-        ensures length { self.have ≡ 12 → result.length ≡ length_of (head_of self) }
-        ensures flags { self.have ≡ 12 → result.flags ≡ flags_of (head_of self) }
+        ensures length { self.have ≡ head_len → result.length ≡ length_of (head_of self) }
+        ensures flags { self.have ≡ head_len → result.flags ≡ flags_of (head_of self) }
     {
         let h = self.head;
         Head {
@@ -89,11 +89,11 @@ impl Progress {
 
     /// The fault that the newest byte of the head brings, after `joined` bytes of the message.
     fn fault(self, joined: usize) -> Option<RowFault>
-        requires have { self.have ≤ 12 }
+        requires have { self.have ≤ head_len }
         requires joined { joined ≤ max_message }
         ensures size { self.have ≡ 4 → result ≡ size_fault (size_of (head_of self)) }
-        ensures head { self.have ≡ 12 → result ≡ head_fault self.length joined (head_of self) }
-        ensures other { self.have ≢ 4 → self.have ≢ 12 → result ≡ None }
+        ensures head { self.have ≡ head_len → result ≡ head_fault self.length joined (head_of self) }
+        ensures other { self.have ≢ 4 → self.have ≢ head_len → result ≡ None }
     {
         match self.have {
             4 => size_fault(self.fields().size),
@@ -117,13 +117,13 @@ impl Progress {
 
     /// As it is, or with the data to come if the head is all there.
     fn opened(self) -> Progress
-        requires { self.have ≤ 12 }
+        requires { self.have ≤ head_len }
         ensures head { head_of result ≡ head_of self }
         ensures have { result.have ≡ self.have }
         ensures taken { result.taken ≡ self.taken }
-        ensures early { self.have < 12 → result ≡ self }
-        ensures left { self.have ≡ 12 → result.left ≡ size_of (head_of self) - 8 }
-        ensures length { self.have ≡ 12 → result.length ≡ length_of (head_of self) }
+        ensures early { self.have < head_len → result ≡ self }
+        ensures left { self.have ≡ head_len → result.left ≡ size_of (head_of self) - 8 }
+        ensures length { self.have ≡ head_len → result.length ≡ length_of (head_of self) }
     {
         if self.have < HEAD_LEN {
             return self;
@@ -161,9 +161,9 @@ fn take_byte(progress: Progress, joined: usize, byte: u8) -> Result<Progress, Ch
     ensures in_range { IfOk result (λ next. InRange next joined) }
     ensures counts { IfOk result (λ next. next.taken ≡ (progress.taken + 1) % 2 ^ 64) }
     ensures takes { IfOk result (λ next. (message : List ℕ) → length message ≡ joined →
-        is_done progress joined ≡ false → Takes (seen progress message) (seen next message) (byte ∷ [])) }
+        is_done progress joined ≡ false → Takes (held_so_far progress message) (held_so_far next message) (byte ∷ [])) }
     ensures fault { IfErr result (λ bad. (message : List ℕ) → length message ≡ joined →
-        is_done progress joined ≡ false → BringsFault (seen progress message) (byte ∷ []) bad) }
+        is_done progress joined ≡ false → BringsFault (held_so_far progress message) (byte ∷ []) bad) }
 {
     let next = progress.with_byte(byte);
     match next.fault(joined) {
@@ -185,7 +185,7 @@ fn take_data(
     ensures in_range { IfOk result (λ y. InRange y.0 (vec_len message.new)) }
     ensures counts { IfOk result (λ y. y.0.taken ≡ (progress.taken + y.1) % 2 ^ 64) }
     ensures takes { IfOk result (λ y.
-        Takes (seen progress message.old.items) (seen y.0 message.new.items) (take y.1 piece.now)) }
+        Takes (held_so_far progress message.old.items) (held_so_far y.0 message.new.items) (take y.1 piece.now)) }
     ensures message { IfOk result (λ y.
         message.new.items ≡ message.old.items ++ take y.1 piece.now) }
     ensures err { OnErr result (message.new.items ≡ message.old.items) }
@@ -206,9 +206,9 @@ fn step(progress: &mut Progress, message: &mut Vec<u8>, piece: &[u8]) -> Result<
     ensures counts { IfOk result (λ n.
         progress.new.taken ≡ (progress.old.taken + n) % 2 ^ 64) }
     ensures takes { IfOk result (λ n.
-        Takes (seen progress.old message.old.items) (seen progress.new message.new.items) (take n piece.now)) }
-    ensures fault { IfErr result (ForBad
-        (BringsFault (seen progress.old message.old.items) (take 1 piece.now))) }
+        Takes (held_so_far progress.old message.old.items) (held_so_far progress.new message.new.items) (take n piece.now)) }
+    ensures fault { IfErr result (ForFeedBad
+        (BringsFault (held_so_far progress.old message.old.items) (take 1 piece.now))) }
     ensures message { (more : List ℕ) × (message.new.items ≡ message.old.items ++ more) }
 {
     if progress.left > 0 {
@@ -242,8 +242,9 @@ fn make_room(message: &mut Vec<u8>, more: usize, whole: usize) -> Result<(), All
     ensures items { message.new.items ≡ message.old.items }
     ensures len { vec_len message.new ≡ vec_len message.old }
     ensures room { OnOk result (vec_len message.old + more ≤ vec_capacity message.new) }
-    ensures paid { vec_capacity message.new ≤
-        max (vec_capacity message.old) (64 * (vec_len message.old + more)) }
+    ensures grown { OnOk result (vec_capacity message.new
+        ≡ buffer_for (vec_capacity message.old) (vec_len message.old + more) whole) }
+    ensures err { IsErr result → vec_capacity message.new ≡ vec_capacity message.old }
 {
     let there = message.len() + more;
     if message.capacity() >= there {
@@ -265,7 +266,7 @@ pub fn take_in(
     ensures counts { IfOk result (λ n.
         progress.new.taken ≡ (progress.old.taken + n) % 2 ^ 64) }
     ensures takes { IfOk result (λ n.
-        Takes (seen progress.old message.old.items) (seen progress.new message.new.items) (take n piece.now)) }
+        Takes (held_so_far progress.old message.old.items) (held_so_far progress.new message.new.items) (take n piece.now)) }
     // Bytes are left only where the message is complete.
     ensures all { IfOk result (λ n. n < length piece.now →
         is_done progress.new (vec_len message.new) ≡ true) }
@@ -273,8 +274,8 @@ pub fn take_in(
         result ≡ Ok 0 }
     ensures none { IfOk result (λ n. (n ≡ 0) ↔
         ((piece.now ≡ []) ⊎ (is_done progress.old (vec_len message.old) ≡ true))) }
-    ensures fault { IfErr result (ForBad (λ bad. (count : ℕ) × (count ≤ length piece.now) ×
-        BringsFault (seen progress.old message.old.items) (take count piece.now) bad)) }
+    ensures fault { IfErr result (ForFeedBad (λ bad. (count : ℕ) × (count ≤ length piece.now) ×
+        BringsFault (held_so_far progress.old message.old.items) (take count piece.now) bad)) }
     ensures message { (more : List ℕ) × (message.new.items ≡ message.old.items ++ more) }
 {
     let mut at = 0;

@@ -9,9 +9,9 @@ use Rattle.rd_decode.specs.declared.fault.Fault.{Fault}
 use Rattle.rd_decode.specs.declared.fault.DecodeNo.{DecodeNo}
 use Rattle.rd_decode.specs.declared.fault.DecodeNo.TheVariants as no
 use Rattle.rd_decode.specs.Recording.{decoded}
-use Rattle.rd_decode.specs.Ends.{EndsDecode, FailedToPrint, FailedToRead, HasFault, PrintedAll, RanOut, limit}
+use Rattle.rd_decode.specs.Ends.{EndsDecode, EndsInFault, FailedToPrint, FailedToRead, PrintedAll, RanOut, limit}
 use Rattle.rd_cli.specs.Outside.{Read, Stream, Wrote}
-use Rattle.rd_cli.specs.Stops.{EndsWith}
+use Rattle.rd_cli.specs.Stops.{StopsWith}
 use Rattle.rd_cli.specs.declared.stop.Stop.{Stop}
 use Rattle.rd_cli.specs.Decoding.{Gives, IsEndOfDecode, SaysFault, SaysLong, stop_for}
 use Rattle.rd_decode.proofs.MoreBytes.{more_bytes}
@@ -30,7 +30,7 @@ all_read left rest all bytes is taken ended =
     p.2 ∙ ap (λ ys. bytes ++ ys) (subst (λ (o : Option (List ℕ)). IsAtEnd o) p.1 ended) ∙ append-nil bytes
 
 -- The first fault of what was read is that of all.
-fault_of_all : {S : Type 0} (input input_after : Stream S) (all bytes : List ℕ) (fault : Fault) → input.bytes ≡ Some all → Read input input_after bytes → HasFault input_after bytes fault → (decoded all).whole_fault ≡ Some fault
+fault_of_all : {S : Type 0} (input input_after : Stream S) (all bytes : List ℕ) (fault : Fault) → input.bytes ≡ Some all → Read input input_after bytes → EndsInFault input_after bytes fault → (decoded all).whole_fault ≡ Some fault
 fault_of_all input input_after all bytes fault is read (inl found) =
     let p = parts input.bytes input_after.bytes all bytes is read.taken in
     ap (λ bs. (decoded bs).whole_fault) p.2 ∙ (more_bytes bytes p.0 fault found).whole
@@ -43,7 +43,7 @@ not_so_many input input_after all bytes (is, short) read full =
     let p = parts input.bytes input_after.bytes all bytes is read.taken in
     absurd (omega (arith, short, full, ap length p.2, length-append bytes p.0))
 
--- ---- memory that ran out behind the lines
+-- ---- memory that ran out after the lines
 ran_out : {S K : Type 0} (input input_after : Stream S) (output lines output_after : Stream K) (bytes : List ℕ) → Read input input_after bytes → Wrote output lines (decoded bytes).text → output_after ≡ lines → RanOut input input_after output output_after
 ran_out input input_after output lines output_after bytes read wrote same = record {
   bytes = bytes;
@@ -150,7 +150,7 @@ long_end input input_after output output_after status is says = record {
 
 -- How the command ends, from why the printing stopped and what was said of it.
 stopped_end : {S K : Type 0} (input input_after : Stream S) (output middle output_after : Stream K) (n : DecodeNo) (status : ℕ)
-    → EndsDecode input input_after output middle (Err n) → EndsWith (stop_for n) middle output_after status → IsEndOfDecode input input_after output output_after status
+    → EndsDecode input input_after output middle (Err n) → StopsWith (stop_for n) middle output_after status → IsEndOfDecode input input_after output output_after status
 stopped_end input input_after output middle output_after no.Input status failed said = unread_end _ _ _ _ status said.0 (subst (λ (o : Stream _). FailedToRead input input_after output o) (sym said.1) failed)
 stopped_end input input_after output middle output_after no.Output status failed said = unwritten_end _ _ _ _ status said.0 (subst (λ (o : Stream _). FailedToPrint input input_after output o) (sym said.1) failed)
 stopped_end input input_after output middle output_after (no.Bad fault) status printed (inl said) = fault_end _ _ _ _ status fault said.0 (record { lines = middle; printed = printed; says = said.1 })
@@ -160,5 +160,5 @@ stopped_end input input_after output middle output_after no.Long status printed 
 stopped_end input input_after output middle output_after no.Memory status ran said = starved_end _ _ _ _ status said.0 (subst (λ (o : Stream _). RanOut input input_after output o) (sym said.1) ran)
 
 pub stopped_with : {S K : Type 0} (input input_after : Stream S) (output middle output_after : Stream K) (n : DecodeNo) (s : Stop) (status : ℕ)
-    → EndsDecode input input_after output middle (Err n) → s ≡ stop_for n → EndsWith s middle output_after status → IsEndOfDecode input input_after output output_after status
-stopped_with input input_after output middle output_after n s status printed is said = stopped_end input input_after output middle output_after n status printed (subst (λ (t : Stop). EndsWith t middle output_after status) is said)
+    → EndsDecode input input_after output middle (Err n) → s ≡ stop_for n → StopsWith s middle output_after status → IsEndOfDecode input input_after output output_after status
+stopped_with input input_after output middle output_after n s status printed is said = stopped_end input input_after output middle output_after n status printed (subst (λ (t : Stop). StopsWith t middle output_after status) is said)

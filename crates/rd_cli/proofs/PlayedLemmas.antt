@@ -14,34 +14,34 @@ use Rattle.rd_script.specs.declared.script.Script.{Script}
 use Rattle.rd_session.specs.declared.scene.Scene.{Scene}
 use Rattle.rd_session.specs.Asking.{CanBeSent, asks_of}
 use Rattle.rd_session.specs.Opening.{device_of, opening_of, scene_of}
-use Rattle.rd_session.specs.Recording.{Entry, begins, entry_bytes, recording_of}
+use Rattle.rd_session.specs.Recording.{Entry, begins, bytes_of_entry, recording_of}
 use Rattle.rd_session.specs.Early.{EndedEarly}
 use Rattle.rd_session.specs.Session.{IsSession}
 use Rattle.rd_session.proofs.Fronts.{front_behind, front_more, some_session}
 use Rattle.rd_session.proofs.OpeningLemmas.{opening_quiet}
 use Rattle.rd_cli.specs.Outside.{Stream}
-use Rattle.rd_cli.specs.Headline.{Played, books_of, journals_in}
+use Rattle.rd_cli.specs.Headline.{Played, books_of, journals_of}
 use Rattle.rd_cli.specs.Playing.{FailedToRecord}
 
 -- the books with the one journal, if there is a drive
 journals_are : (device : Option ℕ) (journal : History) (books : List (ℕ × History)) → books ≡ books_of device journal
-    → MatchOption device (journals_in books ≡ []) (λ d. journals_in books ≡ (d, journal.items) ∷ [])
-journals_are None journal books is = ap journals_in is
-journals_are (Some device) journal books is = ap journals_in is
+    → MatchOption device (journals_of books ≡ []) (λ d. journals_of books ≡ (d, journal.items) ∷ [])
+journals_are None journal books is = ap journals_of is
+journals_are (Some device) journal books is = ap journals_of is
 
 -- a recording: what it begins with, and then its entries
-recording_whole : (recorded : List Entry) → recording_of (begins ∷ []) ++ flat_map entry_bytes recorded ≡ recording_of (begins ∷ recorded)
-recording_whole recorded = append_assoc (codes "RDRREC01") (2 ∷ []) (flat_map entry_bytes recorded)
+recording_whole : (recorded : List Entry) → recording_of (begins ∷ []) ++ flat_map bytes_of_entry recorded ≡ recording_of (begins ∷ recorded)
+recording_whole recorded = append_assoc (codes "RDRREC01") (2 ∷ []) (flat_map bytes_of_entry recorded)
 
 -- Its session is played.
 pub script_played : {R : Type 0} (script : Script) (scene : Scene) (drive : DriveState) (device : Option ℕ) (outcomes : List Outcome) (journal : History) (before after : Stream R) (middle : Option (List ℕ)) (books : List (ℕ × History))
     → scene ≡ scene_of script.lines → drive ≡ opening_of script.lines → device ≡ device_of script.lines → Appends before.bytes middle (recording_of (begins ∷ []))
-    → ((recorded : List Entry) × IsSession scene drive (asks_of script.lines) outcomes journal.items recorded × Appends middle after.bytes (flat_map entry_bytes recorded)) → after.faults ≡ before.faults → books ≡ books_of device journal
+    → ((recorded : List Entry) × IsSession scene drive (asks_of script.lines) outcomes journal.items recorded × Appends middle after.bytes (flat_map bytes_of_entry recorded)) → after.faults ≡ before.faults → books ≡ books_of device journal
     → Played script outcomes before after books
 script_played script scene drive device outcomes journal before after middle books scene_is drive_is device_is begun (recorded, session, written) faultless books_are = (
   recording_of (begins ∷ recorded),
   record {
-    written = subst (λ (bytes : List ℕ). Appends before.bytes after.bytes bytes) (recording_whole recorded) (Appends-trans before.bytes middle after.bytes (recording_of (begins ∷ [])) (flat_map entry_bytes recorded) begun written);
+    written = subst (λ (bytes : List ℕ). Appends before.bytes after.bytes bytes) (recording_whole recorded) (Appends-trans before.bytes middle after.bytes (recording_of (begins ∷ [])) (flat_map bytes_of_entry recorded) begun written);
     faultless = faultless;
   },
   record {
@@ -50,7 +50,7 @@ script_played script scene drive device outcomes journal before after middle boo
     session = subst (λ (s : DriveState). IsSession (scene_of script.lines) s (asks_of script.lines) outcomes journal.items recorded) drive_is
         (subst (λ (place : Scene). IsSession place drive (asks_of script.lines) outcomes journal.items recorded) scene_is session);
     recording_is = refl;
-    journals = subst (λ (d : Option ℕ). MatchOption d (journals_in books ≡ []) (λ id. journals_in books ≡ (id, journal.items) ∷ [])) device_is (journals_are device journal books books_are);
+    journals = subst (λ (d : Option ℕ). MatchOption d (journals_of books ≡ []) (λ id. journals_of books ≡ (id, journal.items) ∷ [])) device_is (journals_are device journal books books_are);
   },
 )
 
@@ -66,7 +66,7 @@ journals_fit (Some device) journal = refl
 
 -- a prefix of what a session of the script records
 part_of_session : {R : Type 0} (script : Script) (outcomes : List Outcome) (journal : List Item) (recorded : List Entry) (before after : Stream R)
-    → IsSession (scene_of script.lines) (opening_of script.lines) (asks_of script.lines) outcomes journal recorded → AppendsPrefix before.bytes after.bytes (recording_of (begins ∷ []) ++ flat_map entry_bytes recorded) → after.faults ≡ one_more before.faults
+    → IsSession (scene_of script.lines) (opening_of script.lines) (asks_of script.lines) outcomes journal recorded → AppendsPrefix before.bytes after.bytes (recording_of (begins ∷ []) ++ flat_map bytes_of_entry recorded) → after.faults ≡ one_more before.faults
     → FailedToRecord script before after
 part_of_session script outcomes journal recorded before after session prefix fault = record {
   outcomes = outcomes;
@@ -81,7 +81,7 @@ pub begun_part : {R : Type 0} (script : Script) (before after : Stream R) → (s
     → FailedToRecord script before after
 begun_part script before after known can prefix fault =
     let s = some_session (scene_of script.lines) (opening_of script.lines) (asks_of script.lines) known (opening_quiet script.lines) can in
-    part_of_session script s.0 s.1 s.2 before after s.3 (front_more before.bytes after.bytes (recording_of (begins ∷ [])) (flat_map entry_bytes s.2) prefix) fault
+    part_of_session script s.0 s.1 s.2 before after s.3 (front_more before.bytes after.bytes (recording_of (begins ∷ [])) (flat_map bytes_of_entry s.2) prefix) fault
 
 -- and of what passed
 pub session_part : {R : Type 0} (script : Script) (scene : Scene) (drive : DriveState) (before after : Stream R) (middle : Option (List ℕ)) → scene ≡ scene_of script.lines → drive ≡ opening_of script.lines
@@ -89,4 +89,4 @@ pub session_part : {R : Type 0} (script : Script) (scene : Scene) (drive : Drive
 session_part script scene drive before after middle scene_is drive_is begun (outcomes, journal, recorded, session, prefix) fault =
     let own = subst (λ (s : DriveState). IsSession (scene_of script.lines) s (asks_of script.lines) outcomes journal recorded) drive_is
     (subst (λ (place : Scene). IsSession place drive (asks_of script.lines) outcomes journal recorded) scene_is session) in
-    part_of_session script outcomes journal recorded before after own (front_behind before.bytes middle after.bytes (recording_of (begins ∷ [])) (flat_map entry_bytes recorded) begun prefix) fault
+    part_of_session script outcomes journal recorded before after own (front_behind before.bytes middle after.bytes (recording_of (begins ∷ [])) (flat_map bytes_of_entry recorded) begun prefix) fault

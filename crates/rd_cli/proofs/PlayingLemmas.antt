@@ -13,7 +13,7 @@ use Rattle.rd_cli.specs.declared.stop.Stop.{Stop}
 use Rattle.rd_cli.specs.declared.stop.Stop.TheVariants as stop
 use Rattle.rd_cli.specs.Outside.{AreFaultless, IsFaultless, Outside, Read, ReadToEnd, Stream}
 use Rattle.rd_cli.specs.Headline.{PlayedToEnd}
-use Rattle.rd_cli.specs.Stops.{EndsWith}
+use Rattle.rd_cli.specs.Stops.{StopsWith}
 use Rattle.rd_cli.specs.Playing.{ComesOutOfBoth, IsEndOfBoth, FailedToReport, GivesBadLine, GivesScript, HasRead, ReadsBadLine, ReadsScript, RefusesScript, StoppedPlaying, StopsForRecording}
 
 -- what holds of the one error that a result may be
@@ -157,16 +157,16 @@ untouched_faultless before after input output recording =
 
 -- A refused line, which is said, or can't be put together.
 line_end : {S K R : Type 0} (before middle : Outside S K R) (output : Stream K) (books : List (ℕ × History)) (bad : BadLine) (status : ℕ) → ReadsBadLine before.input middle.input bad → middle.output ≡ before.output → middle.recording ≡ before.recording → books ≡ []
-    → EndsWith (stop.Line bad.line bad.why) middle.output output status → IsEndOfBoth before (with_output middle output) books status
+    → StopsWith (stop.Line bad.line bad.why) middle.output output status → IsEndOfBoth before (with_output middle output) books status
 line_end before middle output books bad status reads silent unrecorded unstored (inl said) =
-    let says = subst (λ (o : Stream _). EndsWith (stop.Line bad.line bad.why) o output 1) silent (inl (refl, said.1)) in
+    let says = subst (λ (o : Stream _). StopsWith (stop.Line bad.line bad.why) o output 1) silent (inl (refl, said.1)) in
     refused_end before (with_output middle output) books status said.0 (record { bad = bad; reads = reads; says = says; unrecorded = unrecorded; unstored = unstored })
 line_end before middle output books bad status reads silent unrecorded unstored (inr starved) =
     starved_end before (with_output middle output) books status starved.0 (untouched_faultless before (with_output middle output) reads.1.read.faultless (starved.1 ∙ silent) unrecorded)
 
 -- How the command ends, from how it stopped and what was said of it.
 pub stopped_end : {S K R : Type 0} (before middle : Outside S K R) (output : Stream K) (books : List (ℕ × History)) (s : Stop) (status : ℕ)
-    → StoppedPlaying before middle books s → EndsWith s middle.output output status → IsEndOfBoth before (with_output middle output) books status
+    → StoppedPlaying before middle books s → StopsWith s middle.output output status → IsEndOfBoth before (with_output middle output) books status
 stopped_end before middle output books (stop.Line line cause) status stopped said = line_end before middle output books (record { line = line; why = cause }) status stopped.0 stopped.1 stopped.2 stopped.3 said
 stopped_end before middle output books stop.Input status stopped said = unread_end before (with_output middle output) books status said.0 (stopped.0, said.1 ∙ stopped.1, stopped.2, stopped.3)
 stopped_end before middle output books stop.Recording status stopped said =

@@ -16,12 +16,12 @@ use Rattle.rd_irp.specs.Fits.{kind_of}
 use Rattle.rd_script.specs.declared.line.NumberedLine.{NumberedLine}
 use Rattle.rd_script.specs.declared.outcome.Outcome.{Outcome}
 use Rattle.rd_script.specs.declared.outcome.Outcome.TheVariants as outcome
-use Rattle.rd_script.specs.Asking.{devices_of, kinds_of}
-use Rattle.rd_script.specs.Report.{AreOfLines, HasJournals, IsOfLine, kind_at}
+use Rattle.rd_script.specs.ReportLines.{devices_of, kinds_of}
+use Rattle.rd_script.specs.Report.{AreOfLines, HasJournals, IsOfLine, kind_of_line, numbered_from}
 use Rattle.rd_session.specs.Asking.{HandleOp, ask_in, asks_at, asks_of}
 use Rattle.rd_session.specs.Opening.{device_of}
 use Rattle.rd_session.specs.Outcomes.{FitsLine}
-use Rattle.rd_cli.specs.Headline.{books_of, numbered_from}
+use Rattle.rd_cli.specs.Headline.{books_of}
 
 -- ---- outcomes of lines
 slice_get-seam : {A : Type 0} (front : List A) (x : A) (behind : List A) → slice_get (front ++ x ∷ behind) (length front) ≡ Some x
@@ -37,18 +37,18 @@ abbrev kinds_for : List HandleOp → List Kind
 kinds_for asks = map (λ (a : HandleOp). kind_of a.op) asks
 
 of_lines : (lines : List NumberedLine) (front : List Kind) (number : ℕ) (asks : List HandleOp) (outcomes : List Outcome) → kinds_of 1 lines ≡ front ++ kinds_for asks → number ≡ length front + 1 → AllZip FitsLine asks outcomes
-    → AreOfLines lines (numbered_from number outcomes)
+    → AreOfLines lines (numbered_from 1 number outcomes)
 of_lines lines front number asks [] is count fit = tt
 of_lines lines front number [] (o ∷ outcomes) is count fit = absurd fit
 of_lines lines front number (a ∷ asks) (o ∷ outcomes) is count fit =
     let index : number - 1 ≡ length front = omega (arith, count) in
-    let kind : kind_at lines (1, number) ≡ Some (kind_of a.op) = ap (λ (ks : List Kind). slice_get ks (number - 1)) is ∙ ap (slice_get (front ++ kinds_for (a ∷ asks))) index ∙ slice_get-seam front (kind_of a.op) (kinds_for asks) in (
-      of_line a o (kind_at lines (1, number)) kind fit.0,
+    let kind : kind_of_line lines (1, number) ≡ Some (kind_of a.op) = ap (λ (ks : List Kind). slice_get ks (number - 1)) is ∙ ap (slice_get (front ++ kinds_for (a ∷ asks))) index ∙ slice_get-seam front (kind_of a.op) (kinds_for asks) in (
+      of_line a o (kind_of_line lines (1, number)) kind fit.0,
       of_lines lines (front ++ kind_of a.op ∷ []) (number + 1) asks outcomes (is ∙ sym (append_assoc front (kind_of a.op ∷ []) (kinds_for asks))) (omega (arith, count, length-append front (kind_of a.op ∷ []))) fit.1,
     )
 
 -- Each outcome of what a script asks for is of a line.
-pub outcomes_of_lines : (lines : List NumberedLine) (outcomes : List Outcome) → kinds_of 1 lines ≡ kinds_for (asks_of lines) → AllZip FitsLine (asks_of lines) outcomes → AreOfLines lines (numbered_from 1 outcomes)
+pub outcomes_of_lines : (lines : List NumberedLine) (outcomes : List Outcome) → kinds_of 1 lines ≡ kinds_for (asks_of lines) → AllZip FitsLine (asks_of lines) outcomes → AreOfLines lines (numbered_from 1 1 outcomes)
 outcomes_of_lines lines outcomes is fit = of_lines lines [] 1 (asks_of lines) outcomes is refl fit
 
 -- ---- how many there are
@@ -93,14 +93,14 @@ later_greater m k less = sym (nat_cmp_is k m Greater less)
 
 -- One more outcome comes last, where keys stand in the order of their numbers.
 insert_last : (cmp : ℕ × ℕ → ℕ × ℕ → Ordering) → ((m k : ℕ) → m < k → cmp (1, k) (1, m) ≡ Greater) → (from k : ℕ) (done : List Outcome) (o : Outcome) → k ≡ from + length done
-    → insert_entry cmp (numbered_from from done) (1, k) o ≡ numbered_from from (done ++ o ∷ [])
+    → insert_entry cmp (numbered_from 1 from done) (1, k) o ≡ numbered_from 1 from (done ++ o ∷ [])
 insert_last cmp later from k [] o is = let same : k ≡ from = omega (arith, is) in ap (λ (n : ℕ). ((1, n), o) ∷ []) same
 insert_last cmp later from k (x ∷ done) o is =
     rw (later from k (omega (arith, is))) (ap (λ (es : List ((ℕ × ℕ) × Outcome)). ((1, from), x) ∷ es) (insert_last cmp later (from + 1) k done o (omega (arith, is))))
 
 -- Of some outcomes the first are under their numbers, so many, and these are left.
 abbrev pub AreTold : List Outcome → List Outcome → ℕ → List ((ℕ × ℕ) × Outcome) → Type 0
-AreTold outcomes rest number entries = (done : List Outcome) × (outcomes ≡ done ++ rest) × (number ≡ length done) × (entries ≡ numbered_from 1 done)
+AreTold outcomes rest number entries = (done : List Outcome) × (outcomes ≡ done ++ rest) × (number ≡ length done) × (entries ≡ numbered_from 1 1 done)
 
 pub told_more : (outcomes rest behind : List Outcome) (number : ℕ) (old new : List ((ℕ × ℕ) × Outcome)) (o : Outcome) → AreTold outcomes rest number old → rest ≡ o ∷ behind → new ≡ insert_entry pair_cmp old (1, number + 1) o
     → AreTold outcomes behind (number + 1) new

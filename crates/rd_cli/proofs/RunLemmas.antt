@@ -3,7 +3,7 @@ use Rattle.std.proofs.Common.{◌≡◌, ℕ, List, [], refl, ap, inr}
 use Rattle.rd_base.specs.History.{History}
 use Rattle.rd_cli.specs.Outside.{Outside, Stream}
 use Rattle.rd_cli.specs.Shapes.{StopsForWords}
-use Rattle.rd_cli.specs.Stops.{EndsWith}
+use Rattle.rd_cli.specs.Stops.{StopsWith}
 use Rattle.rd_cli.specs.Ends.{EndsCommand, IsEnd}
 use Rattle.rd_cli.specs.declared.words.Command.{Command}
 use Rattle.rd_cli.specs.declared.words.Command.TheVariants as command
@@ -20,7 +20,7 @@ starved before output books status is silent unstored command.Decode = (decoding
 
 -- How a run ends, from why its words came to no command and what was said of it.
 pub no_command : {S K R : Type 0} (words : List (List ℕ)) (before : Outside S K R) (output : Stream K) (books : List (ℕ × History)) (s : Stop) (status : ℕ)
-    → StopsForWords words s → books ≡ [] → EndsWith s before.output output status → IsEnd words before (with_output before output) books status
+    → StopsForWords words s → books ≡ [] → StopsWith s before.output output status → IsEnd words before (with_output before output) books status
 no_command words before output books stop.Words status bad unstored said = record {
   refuses = λ none. record { says = said; unread = refl; unrecorded = refl; unstored = unstored };
   runs = λ c shape. absurd (bad c shape);

@@ -23,7 +23,7 @@ use Rattle.rd_cli.specs.declared.words.Command.TheVariants as command
 use Rattle.rd_cli.specs.Shapes.{HasShape, StopsForWords, is_flag}
 use Rattle.rd_cli.specs.declared.stop.Stop.{Stop}
 use Rattle.rd_cli.specs.declared.stop.Stop.TheVariants as stop
-use Rattle.rd_cli.specs.Parser.{IsNamed, commands, name_of}
+use Rattle.rd_cli.specs.Parser.{IsNameOf, command_name, commands}
 
 -- ---- words that stray
 -- A word that is neither a flag nor a command's name strays, where there are no arguments.
@@ -55,10 +55,10 @@ abbrev names : Names
 names = names_of (built commands)
 
 -- The first word is one of the names, or none of them.
-which : (word : Text) → ((c : Command) × (word ≡ name_of c)) ⊎ (find (answers_to word) names ≡ None)
+which : (word : Text) → ((c : Command) × (word ≡ command_name c)) ⊎ (find (answers_to word) names ≡ None)
 which word = go (bytes_eq (codes "both") word) (bytes_eq (codes "decode") word) refl refl
   where
-    go : (is_both is_decode : Bool) → bytes_eq (codes "both") word ≡ is_both → bytes_eq (codes "decode") word ≡ is_decode → ((c : Command) × (word ≡ name_of c)) ⊎ (find (answers_to word) names ≡ None)
+    go : (is_both is_decode : Bool) → bytes_eq (codes "both") word ≡ is_both → bytes_eq (codes "decode") word ≡ is_decode → ((c : Command) × (word ≡ command_name c)) ⊎ (find (answers_to word) names ≡ None)
     go true is_decode both decode = inl (command.Both, sym ((bytes_eq-Decides (codes "both") word).0 both))
     go false true both decode = inl (command.Decode, sym ((bytes_eq-Decides (codes "decode") word).0 decode))
     go false false both decode = inr (rw (both, decode) refl)
@@ -68,7 +68,7 @@ which word = go (bytes_eq (codes "both") word) (bytes_eq (codes "decode") word) 
 abbrev leaf : Text → Shape
 leaf name = built_leaf (inherited (built commands).top (new_shape name))
 
--- and its walk behind its name
+-- and its walk after its name
 abbrev met : Text → Walk
 met name = record (walk_from nothing_held) { stopped = Some (name, []) }
 
@@ -85,18 +85,18 @@ more_strays name word rest others plain enters none =
     strays (leaf name) [] word _ _ plain refl (sym enters ∙ stops ∙ entered)
 
 -- A word after a command's name strays.
-more : (c : Command) (word : Text) (rest : List Text) → is_flag word ≡ false → fault_of commands (name_of c ∷ word ∷ rest) ≡ [] → ⊥
+more : (c : Command) (word : Text) (rest : List Text) → is_flag word ≡ false → fault_of commands (command_name c ∷ word ∷ rest) ≡ [] → ⊥
 unfolding clap_on_literals
 more command.Both word rest plain fault = more_strays (codes "both") word rest _ plain refl fault
 more command.Decode word rest plain fault = more_strays (codes "decode") word rest _ plain refl fault
 
 -- The words after the name are none.
-alone : (c : Command) (word : Text) (rest : List Text) → word ≡ name_of c → list_any is_flag rest ≡ false → fault_of commands (word ∷ rest) ≡ [] → word ∷ rest ≡ name_of c ∷ []
+alone : (c : Command) (word : Text) (rest : List Text) → word ≡ command_name c → list_any is_flag rest ≡ false → fault_of commands (word ∷ rest) ≡ [] → word ∷ rest ≡ command_name c ∷ []
 alone c word [] is plain fault = ap (λ w. w ∷ []) is
 alone c word (next ∷ rest) is plain fault = absurd (more c next rest (or_parts _ _ plain).0 (subst (λ w. fault_of commands (w ∷ next ∷ rest) ≡ []) is fault))
 
 -- Words that are taken are the name of a command.
-pub taken : (words : List Text) → list_any is_flag words ≡ false → fault_of commands words ≡ [] → (c : Command) × (words ≡ name_of c ∷ [])
+pub taken : (words : List Text) → list_any is_flag words ≡ false → fault_of commands words ≡ [] → (c : Command) × (words ≡ command_name c ∷ [])
 unfolding clap_on_literals
 taken [] plain fault = absurd (cc)
 taken (word ∷ rest) plain fault =
@@ -106,23 +106,23 @@ taken (word ∷ rest) plain fault =
     ]
 
 -- and these words enter the command
-pub enters : (c : Command) → option_map (λ p. p.0) (subcommand_of commands (name_of c ∷ [])) ≡ Some (name_of c)
+pub enters : (c : Command) → option_map (λ p. p.0) (subcommand_of commands (command_name c ∷ [])) ≡ Some (command_name c)
 unfolding clap_on_literals
 enters command.Both = refl
 enters command.Decode = refl
 
 -- Such words are taken.
-pub takes_name : (c : Command) → takes commands (name_of c ∷ []) ≡ true
+pub takes_name : (c : Command) → takes commands (command_name c ∷ []) ≡ true
 unfolding clap_on_literals
 takes_name command.Both = refl
 takes_name command.Decode = refl
 
 -- a command's words and its name
-pub shape_of_name : (words : List Text) (c : Command) → words ≡ name_of c ∷ [] → HasShape words c
+pub shape_of_name : (words : List Text) (c : Command) → words ≡ command_name c ∷ [] → HasShape words c
 shape_of_name words command.Both is = is
 shape_of_name words command.Decode is = is
 
-pub name_of_shape : (words : List Text) (c : Command) → HasShape words c → words ≡ name_of c ∷ []
+pub name_of_shape : (words : List Text) (c : Command) → HasShape words c → words ≡ command_name c ∷ []
 name_of_shape words command.Both is = is
 name_of_shape words command.Decode is = is
 
@@ -140,8 +140,8 @@ name_of_rows (Some b) = refl
 -- the words are a command's, whose name was met
 pub record Meets (words : List Text) (name : Option Text) : Type 0 where
   pub command : Command
-  pub words_are : words ≡ name_of command ∷ []
-  pub named : name ≡ Some (name_of command)
+  pub words_are : words ≡ command_name command ∷ []
+  pub named : name ≡ Some (command_name command)
 
 -- An `Ok` meets a command.
 pub meets : (app : App) (words : List Text) (name : Option Text) → app ≡ commands → list_any is_flag words ≡ false → (is_simple_and_free app ≡ true → fault_of app words ≡ [])
@@ -155,11 +155,11 @@ meets app words name is plain faultless names_it =
       named = names_it (ap is_simple is) ∙ ap₂ (λ (a : App) (ws : List Text). option_map (λ p. p.0) (subcommand_of a ws)) is t.1 ∙ enters t.0;
     }
 
-pub met_shape : (words : List Text) (name : Option Text) (r : Result Command Stop) → Meets words name → IfOk r (IsNamed name) → IfOk r (HasShape words)
+pub met_shape : (words : List Text) (name : Option Text) (r : Result Command Stop) → Meets words name → IfOk r (IsNameOf name) → IfOk r (HasShape words)
 met_shape words name (Ok c) meeting said = shape_of_name words c (meeting.words_are ∙ ap (λ n. n ∷ []) (same_Some _ _ (sym meeting.named ∙ said)))
 met_shape words name (Err s) meeting said = tt
 
-pub met_none : (words : List Text) (name : Option Text) (r : Result Command Stop) → Meets words name → IfErr r (λ s. (s ≡ stop.Words) × ((c : Command) → ¬ (IsNamed name c))) → IfErr r (StopsForWords words)
+pub met_none : (words : List Text) (name : Option Text) (r : Result Command Stop) → Meets words name → IfErr r (λ s. (s ≡ stop.Words) × ((c : Command) → ¬ (IsNameOf name c))) → IfErr r (StopsForWords words)
 met_none words name (Ok c) meeting said = tt
 met_none words name (Err s) meeting said = absurd (said.1 meeting.command meeting.named)
 

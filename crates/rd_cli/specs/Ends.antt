@@ -3,7 +3,7 @@ use Rattle.std.specs.Prelude.{◌≡◌, ℕ, List, []}
 use Rattle.rd_base.specs.History.{History}
 use Rattle.rd_cli.specs.Outside.{Outside}
 use Rattle.rd_cli.specs.Shapes.{HasShape}
-use Rattle.rd_cli.specs.Stops.{EndsWith}
+use Rattle.rd_cli.specs.Stops.{StopsWith}
 use Rattle.rd_cli.specs.Playing.{IsEndOfBoth}
 use Rattle.rd_cli.specs.Decoding.{IsEndOfDecode}
 use Rattle.rd_cli.specs.declared.words.Command.{Command}
@@ -17,7 +17,7 @@ EndsCommand command.Decode before after books status = IsEndOfDecode before.inpu
 
 -- Words that are no command are refused, which the output says, and nothing else was touched; or memory ran out before it was said.
 pub record RefusesWords {S K R : Type 0} (before after : Outside S K R) (books : List (ℕ × History)) (status : ℕ) : Type 0 where
-  pub says : EndsWith stop.Words before.output after.output status
+  pub says : StopsWith stop.Words before.output after.output status
   pub unread : after.input ≡ before.input
   pub unrecorded : after.recording ≡ before.recording
   pub unstored : books ≡ []
@@ -26,3 +26,13 @@ pub record RefusesWords {S K R : Type 0} (before after : Outside S K R) (books :
 pub record IsEnd {S K R : Type 0} (words : List (List ℕ)) (before after : Outside S K R) (books : List (ℕ × History)) (status : ℕ) : Type 0 where
   pub refuses : ((command : Command) → ¬ (HasShape words command)) → RefusesWords before after books status
   pub runs : (command : Command) → HasShape words command → EndsCommand command before after books status
+
+-- How the program ends: as a run of its words does, whatever journals it stored.
+pub record EndsProgram {S K R : Type 0} (words : List (List ℕ)) (before after : Outside S K R) (status : ℕ) : Type 0 where
+  pub books : List (ℕ × History)
+  pub ends : IsEnd words before after books status
+
+-- It ended for want of memory before anything was read or written.
+pub record EndsUntouched {S K R : Type 0} (before after : Outside S K R) (status : ℕ) : Type 0 where
+  pub same : after ≡ before
+  pub starved : status ≡ 6

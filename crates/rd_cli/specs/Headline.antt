@@ -5,7 +5,7 @@ use Rattle.rd_base.specs.declared.journal.Item.{Item}
 use Rattle.rd_script.specs.declared.outcome.Outcome.{Outcome}
 use Rattle.rd_script.specs.declared.outcome.Outcomes.{Outcomes}
 use Rattle.rd_script.specs.declared.script.Script.{Script}
-use Rattle.rd_script.specs.Report.{report_of}
+use Rattle.rd_script.specs.Report.{numbered_from, report_of}
 use Rattle.rd_session.specs.Asking.{asks_of}
 use Rattle.rd_session.specs.Opening.{device_of, opening_of, scene_of}
 use Rattle.rd_session.specs.Recording.{Entry, begins, recording_of}
@@ -14,8 +14,8 @@ use Rattle.rd_session.specs.Session.{IsSession}
 use Rattle.rd_cli.specs.Outside.{Outside, Stream, ReadToEnd, Wrote}
 
 -- the journals in books
-abbrev pub journals_in : List (ℕ × History) → List (ℕ × List Item)
-journals_in books = map (λ b. (b.0, b.1.items)) books
+abbrev pub journals_of : List (ℕ × History) → List (ℕ × List Item)
+journals_of books = map (λ b. (b.0, b.1.items)) books
 
 -- the books with the journal of a drive, if there is one
 abbrev pub books_of : Option ℕ → History → List (ℕ × History)
@@ -34,16 +34,11 @@ pub record IsPlayed (script : Script) (outcomes : List Outcome) (recording : Lis
 -- A script was played, and the recording was written.
 abbrev pub Played : {R : Type 0} → Script → List Outcome → (before after : Stream R) → List (ℕ × History) → Type 0
 Played script outcomes before after books =
-    (recording : List ℕ) × Wrote before after recording × IsPlayed script outcomes recording (journals_in books)
-
--- outcomes of application 1, each under its number, from a number on
-abbrev pub numbered_from : ℕ → List Outcome → List ((ℕ × ℕ) × Outcome)
-numbered_from number [] = []
-numbered_from number (o ∷ os) = ((1, number), o) ∷ numbered_from (number + 1) os
+    (recording : List ℕ) × Wrote before after recording × IsPlayed script outcomes recording (journals_of books)
 
 -- what a report tells: these outcomes of application 1, each under its number, and nothing else
-pub record Tells (told : Outcomes) (outcomes : List Outcome) : Type 0 where
-  pub lines : told.lines.entries ≡ numbered_from 1 outcomes
+pub record TellsOutcomes (told : Outcomes) (outcomes : List Outcome) : Type 0 where
+  pub lines : told.lines.entries ≡ numbered_from 1 1 outcomes
   pub idle : told.idle.items ≡ []
   pub documents : told.documents.entries ≡ []
   pub cache : told.cache.entries ≡ []
@@ -58,5 +53,5 @@ pub record PlayedToEnd {S K R : Type 0} (before after : Outside S K R) (books : 
   pub read : ReadToEnd before.input after.input text
   pub served : served_of text ≡ Ok script
   pub played : Played script outcomes before.recording after.recording books
-  pub tells : Tells told outcomes
+  pub tells : TellsOutcomes told outcomes
   pub reported : Wrote before.output after.output (report_of script told books)

@@ -5,13 +5,13 @@ use Rattle.rd_cli.specs.declared.words.Command.{Command}
 use Rattle.rd_cli.specs.declared.words.Command.TheVariants as command
 
 -- the first word of a command
-abbrev pub name_of : Command → List ℕ
-name_of command.Both = codes "both"
-name_of command.Decode = codes "decode"
+abbrev pub command_name : Command → List ℕ
+command_name command.Both = codes "both"
+command_name command.Decode = codes "decode"
 
 -- the name is this command's
-abbrev pub IsNamed : Option (List ℕ) → Command → Type 0
-IsNamed name command = name ≡ Some (name_of command)
+abbrev pub IsNameOf : Option (List ℕ) → Command → Type 0
+IsNameOf name command = name ≡ Some (command_name command)
 
 -- no command
 abbrev pub no_command : App
@@ -21,7 +21,7 @@ no_command = let none = new_app (codes "rdr") in record none {
 
 -- and one more
 abbrev pub with_command : App → Command → App
-with_command app command = with_subcommand app (new_app (name_of command)).top
+with_command app command = with_subcommand app (new_app (command_name command)).top
 
 -- each command
 abbrev pub commands : App

@@ -10,8 +10,8 @@ use Rattle.rd_script.specs.Report.{report_of}
 use Rattle.rd_script.specs.Script.{BadLine, max_bytes}
 use Rattle.rd_session.specs.Served.{served_of}
 use Rattle.rd_cli.specs.Outside.{AreFaultless, FailedToWrite, HasOneFault, IsFaultless, Outside, Read, ReadToEnd, Stream}
-use Rattle.rd_cli.specs.Headline.{IsPlayed, Played, PlayedToEnd, Tells}
-use Rattle.rd_cli.specs.Stops.{EndsWith}
+use Rattle.rd_cli.specs.Headline.{IsPlayed, Played, PlayedToEnd, TellsOutcomes}
+use Rattle.rd_cli.specs.Stops.{StopsWith}
 use Rattle.rd_cli.specs.declared.stop.Stop.{Stop}
 use Rattle.rd_cli.specs.declared.stop.Stop.TheVariants as stop
 
@@ -47,7 +47,7 @@ pub record FailedToReport {S K R : Type 0} (script : Script) (before after : Out
   pub outcomes : List Outcome
   pub told : Outcomes
   pub played : Played script outcomes before.recording after.recording books
-  pub tells : Tells told outcomes
+  pub tells : TellsOutcomes told outcomes
   pub failed : FailedToWrite before.output after.output (report_of script told books)
 
 -- What the command has done when it stopped, before a last line says so: the first event that stops it ends it.
@@ -98,7 +98,7 @@ GivesBadLine left bad = (text : List ℕ) × (left ≡ Some text) × (served_of 
 pub record RefusesScript {S K R : Type 0} (before after : Outside S K R) (books : List (ℕ × History)) : Type 0 where
   pub bad : BadLine
   pub reads : ReadsBadLine before.input after.input bad
-  pub says : EndsWith (stop.Line bad.line bad.why) before.output after.output 1
+  pub says : StopsWith (stop.Line bad.line bad.why) before.output after.output 1
   pub unrecorded : after.recording ≡ before.recording
   pub unstored : books ≡ []
 

@@ -92,5 +92,5 @@ SaysLast None own before after status = (status ≡ own) × (after ≡ before)
 SaysLast (Some line) own before after status = ((status ≡ own) × Says line before after) ⊎ ((status ≡ 6) × (after ≡ before))
 
 -- a stop ends with its status and its last line
-abbrev pub EndsWith : {K : Type 0} → Stop → (before after : Stream K) → ℕ → Type 0
-EndsWith s before after status = SaysLast (last_line s) (status_of s) before after status
+abbrev pub StopsWith : {K : Type 0} → Stop → (before after : Stream K) → ℕ → Type 0
+StopsWith s before after status = SaysLast (last_line s) (status_of s) before after status

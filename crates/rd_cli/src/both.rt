@@ -2,7 +2,7 @@
 
 ghost use Rattle.std.specs.Prelude.{◌≡◌, ◌<◌, ◌^◌, [], length, IfErr, IfOk, Ok, OnOk};
 ghost use Rattle.std.specs.List.{AllZip};
-ghost use Rattle.rd_cli.specs.Headline.{books_of, Played, Tells};
+ghost use Rattle.rd_cli.specs.Headline.{books_of, Played, TellsOutcomes};
 ghost use Rattle.rd_cli.specs.Outside.{outside, stream};
 ghost use Rattle.rd_cli.specs.Playing.{ComesOutOfBoth, IsEndOfBoth, IsPlayable, StopsForRecording, StopsForText};
 ghost use Rattle.rd_script.specs.Report.{HasJournals};
@@ -134,7 +134,7 @@ fn store(books: &mut Books, device: Option<u32>, journal: Journal) -> Result<(),
 /// The outcomes of application 1, each under its number.
 fn numbered(alloc: Global, outcomes: Vec<Outcome>) -> Result<Outcomes, AllocError>
     requires { length outcomes.items < 2 ^ 32 }
-    ensures { IfOk result (λ told. Tells told outcomes.items) }
+    ensures { IfOk result (λ told. TellsOutcomes told outcomes.items) }
 {
     let mut told = Outcomes::new(alloc);
     let mut number = 0u32;

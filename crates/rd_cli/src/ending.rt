@@ -2,7 +2,7 @@
 
 ghost use Rattle.std.specs.Prelude.{◌≡◌, IfOk, IsErr, IsSome, option_map, string_bytes};
 ghost use Rattle.rd_cli.specs.Outside.{stream};
-ghost use Rattle.rd_cli.specs.Stops.{EndsWith, chunk_word, fault_line, field_word, last_line, line_word, refused_line, why_word};
+ghost use Rattle.rd_cli.specs.Stops.{StopsWith, chunk_word, fault_line, field_word, last_line, line_word, refused_line, why_word};
 
 use crate::stop::Stop;
 use rd_base::{Sink, Why, write_all};
@@ -13,7 +13,7 @@ use std::alloc::{AllocError, Global};
 
 /// Says what ended a command, where that has a line, and returns the status. A failure to say it changes nothing.
 pub fn end<K: Sink>(alloc: Global, output: &mut K, stop: Stop) -> u8
-    ensures { EndsWith stop (stream K.held K.faults output.old) (stream K.held K.faults output.new) result }
+    ensures { StopsWith stop (stream K.held K.faults output.old) (stream K.held K.faults output.new) result }
 {
     match last_line(alloc, &stop) {
         Ok(Some(line)) => {

@@ -1,6 +1,6 @@
 //! Reading the input.
 
-ghost use Rattle.std.specs.Prelude.{◌≡◌, ◌≤◌, length, IfOk, IfErr};
+ghost use Rattle.std.specs.Prelude.{◌≡◌, ◌+◌, ◌≤◌, length, IfOk, IfErr};
 ghost use Rattle.std.specs.Io.KnownBytes.{IsAtEnd};
 ghost use Rattle.rd_cli.specs.Outside.{Read, stream};
 ghost use Rattle.rd_cli.specs.Playing.{StopsForInput};
@@ -12,9 +12,10 @@ use std::alloc::Global;
 /// How many bytes one read asks for.
 const PIECE: usize = 8192;
 
-/// Reads to the end of the input, or until more than `most` bytes came. The first fault ends it.
+/// Reads to the end of the input, or until more than `most` bytes came, which are less than a piece more. The first fault ends it.
 pub fn read_all<S: Source>(alloc: Global, input: &mut S, most: usize) -> Result<Vec<u8>, Stop>
     ensures read { IfOk result (λ bytes. Read (stream S.left S.faults input.old) (stream S.left S.faults input.new) bytes.items) }
+    ensures bound { IfOk result (λ bytes. length bytes.items ≤ most + 8192) }
     ensures whole { IfOk result (λ bytes. length bytes.items ≤ most → IsAtEnd (S.left input.new)) }
     ensures err { IfErr result (StopsForInput (stream S.left S.faults input.old) (stream S.left S.faults input.new)) }
 {

@@ -109,7 +109,7 @@ fn put_expected(note: &mut String, bad: &BadWord<'_>) -> Result<(), AllocError> 
     Ok(())
 }
 
-/// Bytes as they can be shown, and what stands behind them where they were cut.
+/// Bytes as they can be shown, and what stands after them where they were cut.
 fn shown(bytes: &[u8]) -> (EscapeAscii<'_>, &'static str) {
     match bytes.get(..SHOWN) {
         Some(front) => (front.escape_ascii(), ".."),

@@ -1,7 +1,8 @@
-//! The top call.
+//! The top calls: a run of one command, and the program over its words and its streams.
 
-ghost use Rattle.std.specs.Prelude.{◌≡◌, [], map, string_bytes};
-ghost use Rattle.rd_cli.specs.Ends.{IsEnd};
+ghost use Rattle.std.specs.Prelude.{◌≡◌, [], IfOk, IsErr, map, string_bytes};
+ghost use Rattle.std.specs.Process.{exit_status};
+ghost use Rattle.rd_cli.specs.Ends.{EndsProgram, EndsUntouched, IsEnd};
 ghost use Rattle.rd_cli.specs.Outside.{outside};
 
 use crate::both::both;
@@ -10,8 +11,9 @@ use crate::ending::end;
 use crate::notes::note_usage;
 use crate::stop::Stop;
 use crate::words::{Command, command_of};
-use rd_base::{Books, Sink, Source};
-use std::alloc::Global;
+use rd_base::{Books, Sink, Source, write_all};
+use std::alloc::{AllocError, Global};
+use std::process::ExitCode;
 
 /// Runs a command and returns the exit status.
 ///
@@ -55,4 +57,40 @@ pub fn run<S: Source, K: Sink, R: Sink, N: Sink>(
             end(alloc, output, stop)
         }
     }
+}
+
+/// Runs the command that the words are, once, and returns the program's exit status (`run` has the table). `words` are an error where no
+/// memory was found for them: then nothing is read or written but a note.
+pub fn program<S: Source, K: Sink, R: Sink, N: Sink>(
+    alloc: Global,
+    words: Result<Vec<String>, AllocError>,
+    input: &mut S,
+    output: &mut K,
+    recording: &mut R,
+    notes: &mut N,
+) -> ExitCode
+    ensures ends { IfOk words (λ words. EndsProgram (map string_bytes words.items)
+        (outside S.left S.faults K.held K.faults R.held R.faults input.old output.old recording.old)
+        (outside S.left S.faults K.held K.faults R.held R.faults input.new output.new recording.new) (exit_status result)) }
+    ensures untouched { IsErr words → EndsUntouched
+        (outside S.left S.faults K.held K.faults R.held R.faults input.old output.old recording.old)
+        (outside S.left S.faults K.held K.faults R.held R.faults input.new output.new recording.new) (exit_status result) }
+{
+    let mut books = Books::new(alloc);
+    let status = match words {
+        Ok(words) => run(
+            alloc,
+            words.as_slice(),
+            input,
+            output,
+            recording,
+            notes,
+            &mut books,
+        ),
+        Err(_) => Stop::Memory.status(),
+    };
+    if status == Stop::Memory.status() {
+        let _ = write_all(notes, b"rdr: out of memory\n");
+    }
+    ExitCode::from(status)
 }

@@ -5,7 +5,7 @@ ghost use Rattle.std.specs.List.{list_any};
 ghost use Rattle.clap.specs.Words.{app_of};
 ghost use Rattle.rd_cli.specs.Shapes.{HasShape, StopsForWords, is_flag};
 ghost use Rattle.rd_cli.specs.declared.words.Command.{Command};
-ghost use Rattle.rd_cli.specs.Parser.{IsNamed, commands};
+ghost use Rattle.rd_cli.specs.Parser.{IsNameOf, commands};
 
 use crate::stop::Stop;
 use clap::Command as Parser;
@@ -87,8 +87,8 @@ fn parser<'a>(alloc: Global) -> Result<Parser<'a>, AllocError>
 
 /// The command with this name.
 fn named(name: Option<&str>) -> Result<Command, Stop>
-    ensures command { IfOk result (IsNamed (option_map (λ s. s.now) name.entry)) }
-    ensures err { IfErr result (λ stop. (stop ≡ Stop.Words) × ((command : Command) → ¬ (IsNamed (option_map (λ s. s.now) name.entry) command))) }
+    ensures command { IfOk result (IsNameOf (option_map (λ s. s.now) name.entry)) }
+    ensures err { IfErr result (λ stop. (stop ≡ Stop.Words) × ((command : Command) → ¬ (IsNameOf (option_map (λ s. s.now) name.entry) command))) }
 {
     match name {
         Some("both") => Ok(Command::Both),

@@ -189,6 +189,38 @@ fn ends_where_the_outside_fails(rt: HostRuntime) -> Result<(), Fail> {
     Ok(())
 }
 
+/// An input is read in pieces, one call each, and once more to see its end: a third call, which would fail, isn't made.
+#[test]
+fn reads_no_more_than_the_input(rt: HostRuntime) -> Result<(), Fail> {
+    let recording = hex::decode(rt.alloc(), RECORDING)?;
+    let third = [[3].as_slice(), &[], &[]];
+    let played = (0, REPORT, recording.as_slice());
+    ends(&rt, rt.alloc(), &["both"], SCRIPT, third, played)?;
+    let printed = (0, ANNOUNCE_LINE, b"".as_slice());
+    ends(&rt, rt.alloc(), &["decode"], ANNOUNCE, third, printed)
+}
+
+/// A recording of so many messages of four bytes.
+fn long_recording(alloc: Global, messages: usize) -> Result<Vec<u8>, AllocError> {
+    let mut recording = Vec::from_slice(alloc, b"RDRREC01\x02")?;
+    for _ in 0..messages {
+        recording.extend_from_slice(b"\0\x0c\0\0\0\x04\0\0\0\x03\0\0\0rDLU")?;
+    }
+    Ok(recording)
+}
+
+/// What is printed is written as it comes: of lines that fill more than one write the second fails, and the first has been written.
+#[test]
+fn writes_lines_in_pieces(rt: HostRuntime) -> Result<(), Fail> {
+    let recording = long_recording(rt.alloc(), 8000)?;
+    let second = [[].as_slice(), &[2], &[]];
+    let left = command(rt.alloc(), &["decode"], recording.as_slice(), second)?;
+    assert_eq!(rt; left.status, 3);
+    let written = left.output.len();
+    assert!(rt; 0 < written && written < 200_000, "{written}");
+    Ok(())
+}
+
 /// Words, or a script, are refused with this line, and nothing is recorded.
 fn refuses(
     rt: &impl Abort,

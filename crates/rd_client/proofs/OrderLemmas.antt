@@ -7,17 +7,17 @@ use Rattle.rd_core.proofs.OrderLemmas.{read_in_order}
 use Rattle.rd_devices.specs.declared.list.Announce.{Announce}
 use Rattle.rd_hello.specs.declared.client.ClientState.{ClientState}
 use Rattle.rd_hello.specs.declared.end_fault.EndFault.{EndFault}
-use Rattle.rd_client.specs.Core.{ClientCoreState, HostSays, Outgoing, client_side, hear, hear_made}
-use Rattle.rd_client.specs.Order.{Stand, after_read, client_part}
+use Rattle.rd_client.specs.Core.{ClientCoreState, HostSays, Outgoing, client_hear, client_hear_made, client_side}
+use Rattle.rd_client.specs.Order.{ClientStanding, after_read, client_part}
 
 -- the client answers with a fault where its core does
 sound_core : (c : ClientCoreState) (came : CoreState ClientState Outgoing × Result (Option HostSays) EndFault)
-    → IsOk (hear_made c came).1 → IsOk came.1
+    → IsOk (client_hear_made c came).1 → IsOk came.1
 sound_core c (after, Err fault) ok = ok
 sound_core c (after, Ok None) ok = refl
 sound_core c (after, Ok (Some says)) ok = refl
 
-pub client_read : (devices : List Announce) (gone : ℕ → Bool) (c : ClientCoreState) (s : Stand) (bytes : List ℕ)
-    → s.shake ≡ (c.core).shake → IsOk (hear c bytes).1 → IsSome (after_read devices gone s bytes)
+pub client_read : (devices : List Announce) (gone : ℕ → Bool) (c : ClientCoreState) (s : ClientStanding) (bytes : List ℕ)
+    → s.shake ≡ (c.core).shake → IsOk (client_hear c bytes).1 → IsSome (after_read devices gone s bytes)
 client_read devices gone c s bytes same ok =
     read_in_order client_side (client_part devices gone) c.core s bytes same (sound_core c (hearing.hear client_side c.core bytes) ok)

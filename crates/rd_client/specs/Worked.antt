@@ -1,6 +1,5 @@
 -- A client on a channel, for worked cases.
 use Rattle.std.specs.Prelude.{ℕ, ◌==◌, Bool, false, List, [], ◌∷◌, ◌++◌, codes, map, replicate, fold, Option}
-use Rattle.rd_base.specs.declared.status.Status.{Status}
 use Rattle.rd_devices.specs.declared.list.Announce.{Announce}
 use Rattle.rd_devices.specs.DeviceList.{list_bytes}
 use Rattle.rd_devices.specs.DeviceReply.{reply_bytes}
@@ -13,8 +12,8 @@ use Rattle.rd_hello.specs.Own.{client_confirm, client_name, client_sets, host_an
 use Rattle.rd_irp.specs.declared.op.Op.TheVariants as op
 use Rattle.rd_irp.specs.declared.request.Request.{Request}
 use Rattle.rd_irp.specs.Written.{request_bytes}
-use Rattle.rd_client.specs.Core.{ClientCoreState, Outgoing, begin, hear, new_client}
-use Rattle.rd_client.specs.Order.{Stand, at_first, stand_after, telling}
+use Rattle.rd_client.specs.Core.{ClientCoreState, Outgoing, client_begin, client_hear, new_client}
+use Rattle.rd_client.specs.Order.{ClientStanding, client_at_first, stand_after, telling}
 
 -- a drive as it is announced
 abbrev pub drive : ℕ → Announce
@@ -25,11 +24,11 @@ abbrev pub own_devices : List Announce
 own_devices = drive 1 ∷ drive 2 ∷ []
 
 abbrev pub client : ClientCoreState
-client = begin (new_client own_devices) 1
+client = client_begin (new_client own_devices) 1
 
 -- what is left of it by messages of the host
 abbrev pub after : ClientCoreState → List (List ℕ) → ClientCoreState
-after c messages = fold (λ at message. (hear at message).0) c messages
+after c messages = fold (λ at message. (client_hear at message).0) c messages
 
 -- what it has to send, and the same client with nothing to send
 abbrev pub written : ClientCoreState → List (List ℕ)
@@ -64,12 +63,9 @@ close completion = record { device = 1; file = 3; completion = completion; op = 
 abbrev pub close_bytes : ℕ → List ℕ
 close_bytes completion = request_bytes (close completion)
 
--- the same as a job, and a status that says that there is no such device
+-- the same as a job
 abbrev pub close_job : Job
 close_job = record { key = record { channel = 1; index = 4 }; file = 3; completion = 5; op = op.Close }
-
-abbrev pub gone_status : Status
-gone_status = record { 0 = 0xc000_000e }
 
 -- the host's reply to device 1
 abbrev pub device_replied : List ℕ
@@ -99,11 +95,11 @@ none_gone device = false
 abbrev pub first_gone : ℕ → Bool
 first_gone device = device == 1
 
-abbrev pub stand_of : List Move → Option Stand
-stand_of moves = stand_after own_devices none_gone at_first moves
+abbrev pub stand_of : List Move → Option ClientStanding
+stand_of moves = stand_after own_devices none_gone client_at_first moves
 
-abbrev pub stand_without : List Move → Option Stand
-stand_without moves = stand_after own_devices first_gone at_first moves
+abbrev pub stand_without : List Move → Option ClientStanding
+stand_without moves = stand_after own_devices first_gone client_at_first moves
 
 -- how a channel opens, up to the list
 abbrev pub opened_moves : List Move
@@ -111,5 +107,5 @@ opened_moves =
     reads announced ∷ writes own_confirm ∷ writes own_name ∷ reads offered ∷ reads confirmed ∷ writes own_sets ∷ reads logged_on ∷ []
 
 -- a ready client whose devices with these ids are announced
-abbrev pub listed_stand : List ℕ → Stand
+abbrev pub listed_stand : List ℕ → ClientStanding
 listed_stand ids = record { shake = Ready; owed = []; own = telling ids }

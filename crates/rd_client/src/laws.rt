@@ -2,6 +2,7 @@
 
 ghost use Rattle.std.specs.Prelude.{◌≡◌, ◌++◌, ◌∷◌, ℕ, List, [], Bool, true, None, Some, IsOk, IsSome, Err, Ok, take};
 ghost use Rattle.rd_base.specs.declared.bad.Why.TheVariants as Why;
+ghost use Rattle.rd_base.specs.Statuses.{no_such_device};
 ghost use Rattle.rd_devices.specs.declared.list.Announce.{Announce};
 ghost use Rattle.rd_devices.specs.DeviceList.{list_bytes};
 ghost use Rattle.rd_devices.specs.Removal.{removal_bytes};
@@ -12,9 +13,9 @@ ghost use Rattle.rd_hello.specs.Moves.{reads, writes};
 ghost use Rattle.rd_hello.specs.Own.{client_confirm, client_name, client_sets};
 ghost use Rattle.rd_irp.specs.declared.op.Op.TheVariants as Op;
 ghost use Rattle.rd_client.specs.declared.heard.Heard.TheVariants as Heard;
-ghost use Rattle.rd_client.specs.Core.{ClientCall, ClientCoreState, ClientStep, IsClientKept, announces, begin, direct, direct_bytes, hear, hears, is_gone, plain, refresh, send, tell_added, tell_removed};
-ghost use Rattle.rd_client.specs.Order.{Stand, after_read};
-ghost use Rattle.rd_client.specs.Worked.{after, announced, client, close_bytes, close_job, confirmed, device_replied, drive, emptied, gone_status, listed_stand, logged_on, offered, opened_moves, opening, own_confirm, own_list, own_name, ready, second_list, stand_of, stand_without, written};
+ghost use Rattle.rd_client.specs.Core.{ClientCall, ClientCoreState, ClientStep, IsClientKept, announces, client_begin, client_hear, client_send, direct, direct_bytes, hears, is_gone, plain, refresh, tell_added, tell_removed};
+ghost use Rattle.rd_client.specs.Order.{ClientStanding, after_read};
+ghost use Rattle.rd_client.specs.Worked.{after, announced, client, close_bytes, close_job, confirmed, device_replied, drive, emptied, listed_stand, logged_on, offered, opened_moves, opening, own_confirm, own_list, own_name, ready, second_list, stand_of, stand_without, written};
 
 /// How a client becomes ready, and what it announces then.
 pub fn clients_open_as_listed()
@@ -26,8 +27,8 @@ pub fn clients_open_as_listed()
     ensures waiting { ((after client (announced ∷ offered ∷ confirmed ∷ [])).core).shake ≡ ClientState.Waiting }
     ensures once { written (after ready (logged_on ∷ [])) ≡ written ready }
     // A device that was removed isn't announced on the next channel.
-    ensures next_channel { written (after (begin (tell_removed ready 1) 2) opening) ≡ hello_bytes (client_confirm (record { minor = 12; client = 1 })) ∷ hello_bytes client_name ∷ hello_bytes client_sets ∷ list_bytes (drive 2 ∷ []) ∷ [] }
-    ensures gone { is_gone (begin (tell_removed ready 1) 2) 1 ≡ true }
+    ensures next_channel { written (after (client_begin (tell_removed ready 1) 2) opening) ≡ hello_bytes (client_confirm (record { minor = 12; client = 1 })) ∷ hello_bytes client_name ∷ hello_bytes client_sets ∷ list_bytes (drive 2 ∷ []) ∷ [] }
+    ensures gone { is_gone (client_begin (tell_removed ready 1) 2) 1 ≡ true }
     ensures tells_removed { written (tell_removed ready 1) ≡ written ready ++ removal_bytes (1 ∷ []) ∷ [] }
     ensures tells_added { written (tell_added (tell_removed ready 1) 1) ≡ written ready ++ removal_bytes (1 ∷ []) ∷ list_bytes (drive 1 ∷ []) ∷ [] }
     // Which devices are removed is said at each, so their order leaves no trace.
@@ -37,22 +38,22 @@ pub fn clients_open_as_listed()
 
 /// A completion that no device gives stands beside the key that it answers; no other message has one.
 pub fn clients_answer_by_key()
-    ensures key { (send (direct (emptied ready) close_job 1 gone_status)).1 ≡ Some (record { message = direct_bytes close_job 1 gone_status; answers = Some (record { channel = 1; index = 4 }) }) }
-    ensures plain { (send (tell_removed (emptied ready) 1)).1 ≡ Some (plain (removal_bytes (1 ∷ []))) }
+    ensures key { (client_send (direct (emptied ready) close_job 1 no_such_device)).1 ≡ Some (record { message = direct_bytes close_job 1 no_such_device; answers = Some (record { channel = 1; index = 4 }) }) }
+    ensures plain { (client_send (tell_removed (emptied ready) 1)).1 ≡ Some (plain (removal_bytes (1 ∷ []))) }
 {}
 
 /// What a client hears.
 pub fn clients_hear_as_listed()
-    ensures short { (hear client []).1 ≡ Err (EndFault.Grammar (record { at = 0; why = Why.Short })) }
-    ensures unasked { (hear client (close_bytes 5)).1 ≡ Err (EndFault.Order 0 0x4952) }
-    ensures twice { (hear (after client (announced ∷ [])) announced).1 ≡ Err (EndFault.Order 1 0x496e) }
+    ensures short { (client_hear client []).1 ≡ Err (EndFault.Grammar (record { at = 0; why = Why.Short })) }
+    ensures unasked { (client_hear client (close_bytes 5)).1 ≡ Err (EndFault.Order 0 0x4952) }
+    ensures twice { (client_hear (after client (announced ∷ [])) announced).1 ≡ Err (EndFault.Order 1 0x496e) }
     // After a message that is wrong none is heard, until a channel begins.
-    ensures stays { (hear (after client (close_bytes 5 ∷ [])) announced).1 ≡ Err (EndFault.Order 0 0x4952) }
-    ensures again { (hear (begin (after client (close_bytes 5 ∷ [])) 2) announced).1 ≡ Ok Heard.Nothing }
-    ensures ignores { hear ready device_replied ≡ (ready, Ok Heard.Nothing) }
+    ensures stays { (client_hear (after client (close_bytes 5 ∷ [])) announced).1 ≡ Err (EndFault.Order 0 0x4952) }
+    ensures again { (client_hear (client_begin (after client (close_bytes 5 ∷ [])) 2) announced).1 ≡ Ok Heard.Nothing }
+    ensures ignores { client_hear ready device_replied ≡ (ready, Ok Heard.Nothing) }
     // A request's key is that of the channel and of its place there.
-    ensures asks { (hear ready (close_bytes 5)).1 ≡ Ok (Heard.Ask 1 (record { key = record { channel = 1; index = 0 }; file = 3; completion = 5; op = Op.Close })) }
-    ensures second { (hear (after ready (close_bytes 5 ∷ [])) (close_bytes 6)).1 ≡ Ok (Heard.Ask 1 (record { key = record { channel = 1; index = 1 }; file = 3; completion = 6; op = Op.Close })) }
+    ensures asks { (client_hear ready (close_bytes 5)).1 ≡ Ok (Heard.Ask 1 (record { key = record { channel = 1; index = 0 }; file = 3; completion = 5; op = Op.Close })) }
+    ensures second { (client_hear (after ready (close_bytes 5 ∷ [])) (close_bytes 6)).1 ≡ Ok (Heard.Ask 1 (record { key = record { channel = 1; index = 1 }; file = 3; completion = 6; op = Op.Close })) }
 {}
 
 /// Which messages a client may read and write in which order.
@@ -78,8 +79,8 @@ pub fn clients_write_in_order()
 
 /// A message that a client hears without a fault is read in order.
 pub fn clients_read_in_order()
-    ensures { (devices : List Announce) (gone : ℕ → Bool) (c : ClientCoreState) (s : Stand) (bytes : List ℕ) →
-        s.shake ≡ (c.core).shake → IsOk (hear c bytes).1 → IsSome (after_read devices gone s bytes) }
+    ensures { (devices : List Announce) (gone : ℕ → Bool) (c : ClientCoreState) (s : ClientStanding) (bytes : List ℕ) →
+        s.shake ≡ (c.core).shake → IsOk (client_hear c bytes).1 → IsSome (after_read devices gone s bytes) }
 {}
 
 /// Each call keeps what always holds of a client: its devices, and that what it has to send fits a message.

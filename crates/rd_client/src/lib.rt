@@ -1,4 +1,10 @@
-//! A client's end of a channel.
+//! A client's end of a channel: what it makes of the host's messages, and what it writes beside the completions of its devices
+//! (MS-RDPEFS 3.2.5).
+//!
+//! It stands on `rd_core` for what both ends do alike, and on the packets' crates. It is definitions with laws of them, and no code yet: the
+//! layer above uses `clients_keep` (what always holds) and `clients_read_in_order` (what is heard without a fault is in order).
+//!
+//! Cost: nothing of it runs.
 #![tactic(auto)]
 
 mod heard;

@@ -1,6 +1,6 @@
 -- Places that are overwritten.
-use Rattle.std.proofs.Common.{◌≡◌, ◌∙◌, sym, ap, ℕ, ◌+◌, ◌-◌, ◌<◌, ◌≤◌, ◌++◌, true, false, cond, ◌&&◌, List, length, take, drop, arith, ltb, leb, get_or, ⊎_elim}
-use Rattle.std.proofs.lemmas.Bool.{cases_lt}
+use Rattle.std.proofs.Common.{◌≡◌, ◌∙◌, sym, ap, ℕ, ◌+◌, ◌-◌, ◌<◌, ◌≤◌, ◌++◌, cond, ◌&&◌, List, length, take, drop, arith, ltb, leb, get_or, ⊎_elim}
+use Rattle.std.proofs.lemmas.Bool.{cases_lt, lt-ltb, le-ltb}
 use Rattle.std.proofs.lemmas.Bool.Decides.{nat_tests}
 use Rattle.std.proofs.lemmas.List.{get_or-take, get_or-drop, get_or_append_left, get_or-append_right, length-take-le}
 use Rattle.rd_contents.specs.Pages.{over}
@@ -23,16 +23,10 @@ before_or_past i n before past = ⊎_elim before past (cases_lt i n)
 
 -- what is chosen by it
 pub cond_before : {X : Type 0} (x y : X) (i n : ℕ) → i < n → cond (ltb i n) x y ≡ x
-cond_before x y i n h = ap (λ b. cond b x y) (is_before i n h)
-  where
-    is_before : (i n : ℕ) → i < n → ltb i n ≡ true
-    is_before i n h = grind (arith, nat_tests)
+cond_before x y i n h = ap (λ b. cond b x y) (lt-ltb i n h)
 
 pub cond_past : {X : Type 0} (x y : X) (i n : ℕ) → n ≤ i → cond (ltb i n) x y ≡ y
-cond_past x y i n h = ap (λ b. cond b x y) (is_past i n h)
-  where
-    is_past : (i n : ℕ) → n ≤ i → ltb i n ≡ false
-    is_past i n h = grind (arith, nat_tests)
+cond_past x y i n h = ap (λ b. cond b x y) (le-ltb i n h)
 
 -- before some places, at them, or past them
 pub around : {P : Type 0} (i start count : ℕ) → (i < start → P) → (start ≤ i → i < start + count → P) → (start + count ≤ i → P) → P

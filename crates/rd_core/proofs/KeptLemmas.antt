@@ -1,7 +1,8 @@
 -- What always holds of an end is kept by what both sides do with it.
-use Rattle.std.proofs.Common.{◌≡◌, refl, ℕ, Bool, true, false, List, [], ◌∷◌, Some, None, Option}
+use Rattle.std.proofs.Common.{◌≡◌, refl, ℕ, List, [], ◌∷◌, Some, None, Option, inl, inr}
 use Rattle.std.specs.Prelude.{◌≢◌, All, Result, Ok, Err, map}
 use Rattle.std.proofs.lemmas.List.Elements.{All-append, All-cons, All-map, All-nil, All-tail}
+use Rattle.std.proofs.lemmas.Bool.{cases_Bool}
 use Rattle.rd_base.specs.declared.bad.Bad.{Bad}
 use Rattle.rd_base.specs.declared.packet.Packet.{Packet}
 use Rattle.rd_base.specs.Header.{any_header}
@@ -12,9 +13,9 @@ use Rattle.rd_hello.specs.declared.end_fault.EndFault.{EndFault}
 use Rattle.rd_hello.specs.declared.end_fault.EndFault.TheVariants.{Memory}
 use Rattle.rd_hello.specs.declared.hello.Hello.{Hello}
 use Rattle.rd_hello.specs.Hello.{hello as hello_layout}
-use Rattle.rd_hello.specs.Rows.{Row}
+use Rattle.rd_hello.specs.Rows.{OrderRow}
 use Rattle.rd_core.specs.Core.{CoreState, IsCoreKept, new_core, send, send_from, with_message}
-use Rattle.rd_core.specs.Hearing.{Side, Said, wrong, nothing, opens, says, by_row, from_header, from_hello, from_known, from_own, from_packet, hear, hear_said, hear_unless, is_hello, is_read_in, messages_of, said}
+use Rattle.rd_core.specs.Hearing.{Side, Meaning, wrong, nothing, opens, says, by_row, from_header, from_hello, from_known, from_own, from_packet, hear, hear_said, hear_unless, is_hello, is_read_in, messages_of, said}
 
 module _ {S M : Type 0} (bytes_of : M → List ℕ) where
   pub kept_new : (start : S) → IsCoreKept bytes_of (new_core start)
@@ -36,17 +37,17 @@ module _ {S M : Type 0} (bytes_of : M → List ℕ) where
 
 -- the messages of every row of the side's table fit
 abbrev pub AreShort : {S M A : Type 0} → (M → List ℕ) → Side S M A → Type 0
-AreShort {S = S} {M = M} bytes_of side = (state : S) (h : Hello) (row : Row S) → side.row state h ≡ Some row → All (λ (m : List ℕ). IsMessage (bytes_of (side.outgoing m))) (messages_of row)
+AreShort {S = S} {M = M} bytes_of side = (state : S) (h : Hello) (row : OrderRow S) → side.row state h ≡ Some row → All (λ (m : List ℕ). IsMessage (bytes_of (side.outgoing m))) (messages_of row)
 
 -- what a message says is no want of memory, and opens by a row of the table
-abbrev pub IsTabled : {S M A : Type 0} → Side S M A → S → Said S A → Type 0
+abbrev pub IsTabled : {S M A : Type 0} → Side S M A → S → Meaning S A → Type 0
 IsTabled side state (wrong fault) = fault ≢ Memory
 IsTabled side state nothing = Unit {0}
 IsTabled side state (opens row) = (h : Hello) × (side.row state h ≡ Some row)
 IsTabled side state (says a) = Unit {0}
 
 module _ {S M A : Type 0} (side : Side S M A) where
-  by_row_tabled : (state : S) (h : Hello) (o : Option (Row S)) → side.row state h ≡ o → IsTabled side state (by_row side o)
+  by_row_tabled : (state : S) (h : Hello) (o : Option (OrderRow S)) → side.row state h ≡ o → IsTabled side state (by_row side o)
   by_row_tabled state h None e = tt
   by_row_tabled state h (Some row) e = (h, e)
 
@@ -59,18 +60,16 @@ module _ {S M A : Type 0} (side : Side S M A) where
   own_tabled state (Ok a) = tt
 
   packet_tabled : (state : S) (p : Packet) (bytes : List ℕ) → IsTabled side state (from_packet side state p bytes)
-  packet_tabled state p bytes = go (is_hello p) refl
-    where
-      go : (b : Bool) → is_hello p ≡ b → IsTabled side state (from_packet side state p bytes)
-      go true e = rw e (hello_tabled state (met hello_layout (at_start bytes)))
-      go false e = rw e (own_tabled state (side.own p bytes))
+  packet_tabled state p bytes = elim (cases_Bool (is_hello p)) [
+    | inl e ↦ rw e (hello_tabled state (met hello_layout (at_start bytes)))
+    | inr e ↦ rw e (own_tabled state (side.own p bytes))
+  ]
 
   known_tabled : (state : S) (bytes : List ℕ) (p : Packet) → IsTabled side state (from_known side state bytes p)
-  known_tabled state bytes p = go (is_read_in side state p) refl
-    where
-      go : (b : Bool) → is_read_in side state p ≡ b → IsTabled side state (from_known side state bytes p)
-      go true e = rw e (packet_tabled state p bytes)
-      go false e = rw e (λ is. cc is)
+  known_tabled state bytes p = elim (cases_Bool (is_read_in side state p)) [
+    | inl e ↦ rw e (packet_tabled state p bytes)
+    | inr e ↦ rw e (λ is. cc is)
+  ]
 
   header_tabled : (state : S) (bytes : List ℕ) (r : Result (Option Packet × Position) Bad) → IsTabled side state (from_header side state bytes r)
   header_tabled state bytes (Err bad) = λ is. cc is
@@ -81,7 +80,7 @@ module _ {S M A : Type 0} (side : Side S M A) where
   said_tabled state bytes = header_tabled state bytes (met any_header (at_start bytes))
 
   module _ (bytes_of : M → List ℕ) (short : AreShort bytes_of side) where
-    kept_said : (e : CoreState S M) → IsCoreKept bytes_of e → (x : Said S A) → IsTabled side e.shake x → IsCoreKept bytes_of (hear_said side e x).0
+    kept_said : (e : CoreState S M) → IsCoreKept bytes_of e → (x : Meaning S A) → IsTabled side e.shake x → IsCoreKept bytes_of (hear_said side e x).0
     kept_said e kept (wrong fault) tabled = record { fit = kept.fit; wrong = λ is. tabled (cc is) }
     kept_said e kept nothing tabled = kept
     kept_said e kept (opens row) (h, is) = record {

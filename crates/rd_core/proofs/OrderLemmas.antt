@@ -3,11 +3,11 @@ use Rattle.std.proofs.Common.{◌≡◌, refl, subst, sym, ℕ, List, Some, None
 use Rattle.std.specs.Prelude.{IsOk, IsSome}
 use Rattle.rd_hello.specs.declared.end_fault.EndFault.{EndFault}
 use Rattle.rd_core.specs.Core.{CoreState}
-use Rattle.rd_core.specs.Hearing.{Side, Said, wrong, nothing, opens, says, hear, hear_said, hear_unless, said}
-use Rattle.rd_core.specs.Order.{Part, Stand, after_read, after_said}
+use Rattle.rd_core.specs.Hearing.{Side, Meaning, wrong, nothing, opens, says, hear, hear_said, hear_unless, said}
+use Rattle.rd_core.specs.Order.{OrderPart, Stand, after_read, after_said}
 
-module _ {S M A P : Type 0} (side : Side S M A) (part : Part S A P) where
-  read_said : (e : CoreState S M) (s : Stand S P) (x : Said S A) → IsOk (hear_said side e x).1 → IsSome (after_said side part s x)
+module _ {S M A P : Type 0} (side : Side S M A) (part : OrderPart S A P) where
+  read_said : (e : CoreState S M) (s : Stand S P) (x : Meaning S A) → IsOk (hear_said side e x).1 → IsSome (after_said side part s x)
   read_said e s (wrong fault) ok = ok
   read_said e s nothing ok = refl
   read_said e s (opens row) ok = refl

@@ -12,7 +12,7 @@ use Rattle.rd_hello.specs.declared.end_fault.EndFault.TheVariants.{Order, Gramma
 use Rattle.rd_hello.specs.declared.hello.Hello.{Hello}
 use Rattle.rd_hello.specs.Hello.{hello, hello_bytes, hellos}
 use Rattle.rd_hello.specs.Moves.{packet_in}
-use Rattle.rd_hello.specs.Rows.{Row}
+use Rattle.rd_hello.specs.Rows.{OrderRow}
 use Rattle.rd_core.specs.Core.{CoreState}
 
 -- A side: the states of its opening are of the type S, what waits to be sent of the type M, and what a message says that isn't of the opening of the type A.
@@ -21,7 +21,7 @@ pub record Side (S M A : Type 0) : Type 0 where
   pub number : S → ℕ
   pub reads_in : S → List Packet
   -- the row of the table for a message of the opening in a state
-  pub row : S → Hello → Option (Row S)
+  pub row : S → Hello → Option (OrderRow S)
   -- a message of the opening, as it waits to be sent
   pub outgoing : List ℕ → M
   -- what a message of any other packet says, or its first fault
@@ -30,11 +30,11 @@ pub record Side (S M A : Type 0) : Type 0 where
   pub asks_at : Packet → Option ℕ
 
 -- What a message says to an end in a state: it is wrong; it says nothing; it is of the opening and has this row; or it says something else.
-pub data Said (S A : Type 0) : Type 0 where
-  wrong : EndFault → Said S A
-  nothing : Said S A
-  opens : Row S → Said S A
-  says : A → Said S A
+pub data Meaning (S A : Type 0) : Type 0 where
+  wrong : EndFault → Meaning S A
+  nothing : Meaning S A
+  opens : OrderRow S → Meaning S A
+  says : A → Meaning S A
 
 -- what is read, as what it says
 abbrev pub read_as : {X A : Type 0} → (X × Position → A) → Result (X × Position) Bad → Result A Bad
@@ -46,7 +46,7 @@ abbrev pub is_hello : Packet → Bool
 is_hello p = list_any (λ q. packet_id q == packet_id p) hellos
 
 -- the messages that a row writes
-abbrev pub messages_of : {S : Type 0} → Row S → List (List ℕ)
+abbrev pub messages_of : {S : Type 0} → OrderRow S → List (List ℕ)
 messages_of row = map hello_bytes (option_to_list row.first ++ option_to_list row.second)
 
 module _ {S M A : Type 0} (side : Side S M A) where
@@ -56,46 +56,46 @@ module _ {S M A : Type 0} (side : Side S M A) where
   -- ---- what a message says
 
   -- a message of the opening for which the table has no row says nothing
-  abbrev pub by_row : Option (Row S) → Said S A
+  abbrev pub by_row : Option (OrderRow S) → Meaning S A
   by_row None = nothing
   by_row (Some row) = opens row
 
-  abbrev pub from_hello : S → Result (Hello × Position) Bad → Said S A
+  abbrev pub from_hello : S → Result (Hello × Position) Bad → Meaning S A
   from_hello state (Err bad) = wrong (Grammar bad)
   from_hello state (Ok read) = by_row (side.row state read.0)
 
-  abbrev pub from_own : Result A Bad → Said S A
+  abbrev pub from_own : Result A Bad → Meaning S A
   from_own (Err bad) = wrong (Grammar bad)
   from_own (Ok a) = says a
 
   -- what a message of a packet says that is read
-  abbrev pub from_packet : S → Packet → List ℕ → Said S A
+  abbrev pub from_packet : S → Packet → List ℕ → Meaning S A
   from_packet state p bytes = if is_hello p then from_hello state (met hello (at_start bytes)) else from_own (side.own p bytes)
 
   -- the same of any packet: one that isn't read in the state is out of order
-  abbrev pub from_known : S → List ℕ → Packet → Said S A
+  abbrev pub from_known : S → List ℕ → Packet → Meaning S A
   from_known state bytes p = if is_read_in state p then from_packet state p bytes else wrong (Order (side.number state) (packet_id p))
 
-  abbrev pub from_header : S → List ℕ → Result (Option Packet × Position) Bad → Said S A
+  abbrev pub from_header : S → List ℕ → Result (Option Packet × Position) Bad → Meaning S A
   from_header state bytes (Err bad) = wrong (Grammar bad)
   from_header state bytes (Ok (None, rest)) = nothing
   from_header state bytes (Ok (Some p, rest)) = from_known state bytes p
 
   -- What a message says in a state: its header is read first, then its packet is looked for among those of the state, and then the rest is read.
-  abbrev pub said : S → List ℕ → Said S A
+  abbrev pub said : S → List ℕ → Meaning S A
   said state bytes = from_header state bytes (met any_header (at_start bytes))
 
   -- ---- what comes of it
 
   -- a row leads to its state, and its messages are to be sent
-  abbrev pub after_row : CoreState S M → Row S → CoreState S M
+  abbrev pub after_row : CoreState S M → OrderRow S → CoreState S M
   after_row e row = record e { shake = row.next; outbox = e.outbox ++ map side.outgoing (messages_of row) }
 
   -- the channel has a fault from now on
   abbrev pub faulty : CoreState S M → EndFault → CoreState S M
   faulty e fault = record e { fault = Some fault }
 
-  abbrev pub hear_said : CoreState S M → Said S A → CoreState S M × Result (Option A) EndFault
+  abbrev pub hear_said : CoreState S M → Meaning S A → CoreState S M × Result (Option A) EndFault
   hear_said e (wrong fault) = (faulty e fault, Err fault)
   hear_said e nothing = (e, Ok None)
   hear_said e (opens row) = (after_row e row, Ok None)
@@ -113,7 +113,7 @@ module _ {S M A : Type 0} (side : Side S M A) where
   -- ---- want of memory
 
   -- nothing is wrong with a message before a place of it
-  abbrev pub IsSoundTo : ℕ → Said S A → Type 0
+  abbrev pub IsSoundTo : ℕ → Meaning S A → Type 0
   IsSoundTo place (wrong (Grammar bad)) = place ≤ bad.at
   IsSoundTo place _ = Unit {0}
 

@@ -2,8 +2,8 @@
 use Rattle.std.specs.Prelude.{ℕ, if◌then◌else◌, List, [], ◌∷◌, ◌++◌, Option, Some, None, bytes_eq}
 use Rattle.std.specs.Option.{option_and_then, option_map}
 use Rattle.rd_hello.specs.Moves.{Move, reads, writes}
-use Rattle.rd_hello.specs.Rows.{Row}
-use Rattle.rd_core.specs.Hearing.{Side, Said, wrong, nothing, opens, says, messages_of, said}
+use Rattle.rd_hello.specs.Rows.{OrderRow}
+use Rattle.rd_core.specs.Hearing.{Side, Meaning, wrong, nothing, opens, says, messages_of, said}
 
 -- Where an end stands: the state of the opening, the messages of the opening that it has to write next, and the side's own part.
 pub record Stand (S P : Type 0) : Type 0 where
@@ -13,17 +13,17 @@ pub record Stand (S P : Type 0) : Type 0 where
 
 -- What a side's own part comes to: by a row that leads from one state to another, by what is read that isn't of the opening, and by a message that is written in a
 -- state where none of the opening is owed, if it may be.
-pub record Part (S A P : Type 0) : Type 0 where
+pub record OrderPart (S A P : Type 0) : Type 0 where
   pub opened : S → S → P → P
   pub read : A → P → P
   pub written : S → List ℕ → P → Option P
 
-module _ {S M A P : Type 0} (side : Side S M A) (part : Part S A P) where
-  abbrev pub after_opened : Stand S P → Row S → Stand S P
+module _ {S M A P : Type 0} (side : Side S M A) (part : OrderPart S A P) where
+  abbrev pub after_opened : Stand S P → OrderRow S → Stand S P
   after_opened s row = record { shake = row.next; owed = s.owed ++ messages_of row; own = part.opened s.shake row.next s.own }
 
   -- A message is read in order that isn't wrong; one that says nothing changes nothing.
-  abbrev pub after_said : Stand S P → Said S A → Option (Stand S P)
+  abbrev pub after_said : Stand S P → Meaning S A → Option (Stand S P)
   after_said s (wrong fault) = None
   after_said s nothing = Some s
   after_said s (opens row) = Some (after_opened s row)

@@ -14,7 +14,7 @@ use Rattle.std.specs.declared.collections.VecDeque.{VecDeque}
 use Rattle.std.proofs.lemmas.Bool.{eqb-true, ltb-true}
 use Rattle.rd_irp.specs.declared.completion.Kind.{Kind}
 use Rattle.rd_decode.specs.declared.awaited.Pair.{Pair}
-use Rattle.rd_decode.specs.Awaited.{Awaited, first_of, others_of, with_awaited}
+use Rattle.rd_decode.specs.Awaited.{Awaited, first_kind, others_of, with_awaited}
 use Rattle.rd_decode.specs.Kept.{is_pair, kinds_at}
 
 -- the order of pairs
@@ -81,7 +81,7 @@ none_left : (q : VecDeque Kind Global) → deque_len q ≡ 0 → q.items ≡ []
 none_left q none = nil_from_length q.items (sym (q.ok.0) ∙ none)
 
 pub popped_first : (kinds others : VecDeque Kind Global) (first : Option Kind) (awaited : List Kind) → kinds.items ≡ option_to_list first ++ others.items → MatchOption first ((deque_len kinds ≡ 0) × (deque_len others ≡ 0)) (λ _. deque_len others + 1 ≡ deque_len kinds)
-    → kinds.items ≡ awaited → first ≡ first_of awaited
+    → kinds.items ≡ awaited → first ≡ first_kind awaited
 popped_first kinds others (Some k) awaited parts cases is = let e : awaited ≡ k ∷ others.items = sym is ∙ parts in rw e refl
 popped_first kinds others None awaited parts cases is = let e : awaited ≡ [] = sym is ∙ none_left kinds cases.0 in rw e refl
 

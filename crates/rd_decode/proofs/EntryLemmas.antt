@@ -14,7 +14,7 @@ use Rattle.rd_decode.specs.declared.fault.EntryFault.{EntryFault}
 use Rattle.rd_decode.specs.declared.fault.LineNo.{LineNo}
 use Rattle.rd_decode.specs.Messages.{Printed, message_line}
 use Rattle.rd_decode.specs.Kept.{TakesEntry}
-use Rattle.rd_decode.specs.Entries.{Channel, Next, after_data, after_frame, entry, frame_entry, nothing, under_way, with_under_way, wrong}
+use Rattle.rd_decode.specs.Entries.{Channel, Next, after_data, after_frame, entry, frame_entry, nothing_under_way, under_way, with_under_way, wrong}
 
 -- the channel in which more data of a side's message came
 abbrev pub with_data : Side → Channel → ℕ → List ℕ → Channel
@@ -26,7 +26,7 @@ part_goes_on size side c whole part is = rw is refl
 
 -- it is whole, and has a line
 pub part_ends : (size : ℕ) (side : Side) (c next : Channel) (whole : ℕ) (part : List ℕ) (p : Printed) → (length ((under_way side c).joined ++ part) == whole) ≡ true
-    → message_line side (with_data side c whole part).awaited (under_way side (with_data side c whole part)).joined ≡ Ok p → next ≡ with_under_way side nothing (record (with_data side c whole part) { awaited = p.awaited })
+    → message_line side (with_data side c whole part).awaited (under_way side (with_data side c whole part)).joined ≡ Ok p → next ≡ with_under_way side nothing_under_way (record (with_data side c whole part) { awaited = p.awaited })
     → after_data size side c whole part ≡ entry size (Some next) p.text
 part_ends size Host c next whole part p is e same = rw (is, e, same) refl
 part_ends size Client c next whole part p is e same = rw (is, e, same) refl

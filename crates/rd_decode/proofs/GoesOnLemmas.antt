@@ -12,8 +12,8 @@ use Rattle.rd_decode.specs.declared.fault.EntryFault.{EntryFault}
 use Rattle.rd_decode.specs.declared.fault.FaultWhy.{FaultWhy}
 use Rattle.rd_decode.specs.declared.fault.FaultWhy.TheVariants as fault
 use Rattle.rd_decode.specs.Messages.{Printed, message_line}
-use Rattle.rd_decode.specs.Entries.{Channel, Next, after_message, begins, cut, ended, entry, frame_entry, mark, next_entry, under_way, unless_row, wrong}
-use Rattle.rd_decode.specs.Recording.{Decoded, after, decoded_from, faulty, good, unfinished, with_others}
+use Rattle.rd_decode.specs.Entries.{Channel, Next, after_message, begins, cut, ended, entry, frame_entry, next_entry, side_mark, under_way, unless_row, wrong}
+use Rattle.rd_decode.specs.Recording.{Decoded, decoded_from, faulty, good, text_before, unfinished, with_others}
 use Rattle.rd_decode.specs.Kept.{GoesOn}
 use Rattle.rd_decode.proofs.MoreBytes.{Stays, next_stays}
 
@@ -49,7 +49,7 @@ frame_sized side c bytes =
 next_sized : (channel : Option Channel) (bytes : List ℕ) → Sized (next_entry channel bytes)
 next_sized channel [] = tt
 next_sized None (byte ∷ rest) = either_sized (byte == begins) _ _ (omega arith) tt
-next_sized (Some c) (byte ∷ rest) = either_sized (byte == ended) _ _ (omega arith) (either_sized (byte == mark Host) _ _ (frame_sized Host c rest) (either_sized (byte == mark Client) _ _ (frame_sized Client c rest) tt))
+next_sized (Some c) (byte ∷ rest) = either_sized (byte == ended) _ _ (omega arith) (either_sized (byte == side_mark Host) _ _ (frame_sized Host c rest) (either_sized (byte == side_mark Client) _ _ (frame_sized Client c rest) tt))
 
 -- ---- what comes next, whatever comes after the bytes
 pub entry_stays : (channel : Option Channel) (bytes more : List ℕ) (size : ℕ) (next : Option Channel) (text : List ℕ) → next_entry channel bytes ≡ entry size next text
@@ -64,7 +64,7 @@ wrong_stays channel bytes more offset w is = subst (λ (n : Next). Stays n (next
 -- ---- what bytes come to that have a first byte
 -- by what comes next
 pub one_entry : (most at : ℕ) (channel : Option Channel) (bytes : List ℕ) (size : ℕ) (next : Option Channel) (text : List ℕ) → length bytes ≤ most → next_entry channel bytes ≡ entry size next text
-    → (fewer : ℕ) × (most ≡ suc fewer) × (decoded_from most at channel bytes ≡ after text (decoded_from fewer (at + size) next (drop size bytes)))
+    → (fewer : ℕ) × (most ≡ suc fewer) × (decoded_from most at channel bytes ≡ text_before text (decoded_from fewer (at + size) next (drop size bytes)))
 one_entry most at channel [] size next text enough is = absurd (cc)
 one_entry zero at channel (byte ∷ rest) size next text enough is = absurd (omega (arith, enough))
 one_entry (suc most) at channel (byte ∷ rest) size next text enough is =
@@ -87,7 +87,7 @@ no_bytes (suc most) at channel = refl
 
 -- ---- bytes that go on
 -- lines after lines
-pub after_both : (first second : List ℕ) (d : Decoded) → after first (after second d) ≡ after (first ++ second) d
+pub after_both : (first second : List ℕ) (d : Decoded) → text_before first (text_before second d) ≡ text_before (first ++ second) d
 after_both first second d = ap (λ (t : List ℕ). record d { text = t }) (sym (append_assoc first second d.text))
 
 pub goes_nowhere : (at : ℕ) (channel : Option Channel) (bytes : List ℕ) → GoesOn at channel bytes [] at channel bytes
@@ -110,6 +110,6 @@ goes_further at channel bytes shown place middle rest size next text g is =
           let others : length (drop size rest ++ more) ≡ length (drop size rest) + length more = length-append (drop size rest) more in (
             one.0,
             omega (arith, one.1, before.1, all, others, len, own.1, own.2),
-            before.2 ∙ ap (after shown) (one.2 ∙ ap (λ (xs : List ℕ). after text (decoded_from one.0 (place + size) next xs)) left) ∙ after_both shown text (decoded_from one.0 (place + size) next (drop size rest ++ more)),
+            before.2 ∙ ap (text_before shown) (one.2 ∙ ap (λ (xs : List ℕ). text_before text (decoded_from one.0 (place + size) next xs)) left) ∙ after_both shown text (decoded_from one.0 (place + size) next (drop size rest ++ more)),
           );
     }

@@ -15,11 +15,11 @@ use Rattle.rd_decode.specs.declared.side.Side.TheVariants.{Host, Client}
 use Rattle.rd_decode.specs.declared.fault.Fault.{Fault}
 use Rattle.rd_decode.specs.declared.fault.EntryFault.{EntryFault}
 use Rattle.rd_decode.specs.Messages.{Printed, message_line}
-use Rattle.rd_decode.specs.Entries.{Channel, Next, after_frame, after_message, begins, cut, ended, entry, frame_entry, mark, next_entry, under_way, unless_row, wrong}
+use Rattle.rd_decode.specs.Entries.{Channel, Next, after_frame, after_message, begins, cut, ended, entry, frame_entry, next_entry, side_mark, under_way, unless_row, wrong}
 use Rattle.rd_decode.specs.Recording.{Decoded, decoded, decoded_from, faulty, magic, no_magic, unfinished, with_others}
 
 -- ---- an entry
--- What comes next of bytes that have more behind them is what comes next of them, of which an entry has at most n, unless they cut it.
+-- What comes next of bytes that have more after them is what comes next of them, of which an entry has at most n, unless they cut it.
 abbrev pub Stays : Next → Next → ℕ → Type 0
 Stays cut longer n = Unit {0}
 Stays (entry size channel text) longer n = (longer ≡ entry size channel text) × (size ≤ n)
@@ -94,8 +94,8 @@ next_stays None (byte ∷ rest) more = either_stays (byte == begins) _ _ _ _ (le
 next_stays (Some c) (byte ∷ rest) more =
     let n : 1 + length rest ≡ length (byte ∷ rest) = omega arith in
     either_stays (byte == ended) _ _ _ _ (length (byte ∷ rest)) (refl, omega arith)
-    (either_stays (byte == mark Host) _ _ _ _ (length (byte ∷ rest)) (subst (λ k. Stays (frame_entry Host c rest) (frame_entry Host c (rest ++ more)) k) n (frame_stays Host c rest more))
-    (either_stays (byte == mark Client) _ _ _ _ (length (byte ∷ rest)) (subst (λ k. Stays (frame_entry Client c rest) (frame_entry Client c (rest ++ more)) k) n (frame_stays Client c rest more)) refl))
+    (either_stays (byte == side_mark Host) _ _ _ _ (length (byte ∷ rest)) (subst (λ k. Stays (frame_entry Host c rest) (frame_entry Host c (rest ++ more)) k) n (frame_stays Host c rest more))
+    (either_stays (byte == side_mark Client) _ _ _ _ (length (byte ∷ rest)) (subst (λ k. Stays (frame_entry Client c rest) (frame_entry Client c (rest ++ more)) k) n (frame_stays Client c rest more)) refl))
 
 -- ---- a recording
 -- what the bytes come to has this first fault, and so has what the longer ones come to, with the same lines before it

@@ -13,10 +13,10 @@ use Rattle.rd_decode.specs.declared.fault.Fault.{Fault}
 use Rattle.rd_decode.specs.declared.fault.DecodeNo.{DecodeNo}
 use Rattle.rd_decode.specs.declared.fault.DecodeNo.TheVariants as no
 use Rattle.rd_decode.specs.Entries.{Channel, cut, next_entry, wrong}
-use Rattle.rd_decode.specs.Recording.{Decoded, after, decoded, decoded_from, faulty, magic, no_magic, unfinished}
+use Rattle.rd_decode.specs.Recording.{Decoded, decoded, decoded_from, faulty, magic, no_magic, text_before, unfinished}
 use Rattle.rd_decode.specs.Streams.{FailedToWrite, Read, Stream, Wrote}
 use Rattle.rd_decode.specs.Ends.{EndsDecode, limit}
-use Rattle.rd_decode.specs.Kept.{FailsToBegin, FailsToRead, Flushed, GoesOn, Printing, PrintsBefore, PrintsUnread, TakesAll, end_of}
+use Rattle.rd_decode.specs.Kept.{FailsToBegin, FailsToRead, Flushed, GoesOn, Printing, PrintsBefore, PrintsUnread, TakesAll, nothing_left}
 use Rattle.rd_decode.proofs.GoesOnLemmas.{after_both, no_bytes, one_cut, one_fault}
 
 -- ---- prefixes of what is written
@@ -30,17 +30,17 @@ take_prefix a b n = elim (cases_lt (length a) n) [
 prefix_more : (held grown : Option (List ℕ)) (a b : List ℕ) → AppendsPrefix held grown a → AppendsPrefix held grown (a ++ b)
 prefix_more held grown a b prefix = let longer = take_prefix a b prefix.0 in (longer.0, subst (λ (bytes : List ℕ). Appends held grown bytes) (sym longer.1) prefix.1)
 
-prefix_behind : (held middle grown : Option (List ℕ)) (a b : List ℕ) → Appends held middle a → AppendsPrefix middle grown b → AppendsPrefix held grown (a ++ b)
-prefix_behind held middle grown a b first prefix =
+prefix_after : (held middle grown : Option (List ℕ)) (a b : List ℕ) → Appends held middle a → AppendsPrefix middle grown b → AppendsPrefix held grown (a ++ b)
+prefix_after held middle grown a b first prefix =
     (length a + prefix.0, subst (λ (bytes : List ℕ). Appends held grown bytes) (sym (take-append-add a b prefix.0)) (Appends-trans held middle grown a (take prefix.0 b) first prefix.1))
 
 wrote_both : {K : Type 0} (before middle after : Stream K) (a b : List ℕ) → Wrote before middle a → Wrote middle after b → Wrote before after (a ++ b)
 wrote_both before middle after a b first second =
     record { written = Appends-trans before.bytes middle.bytes after.bytes a b first.written second.written; faultless = second.faultless ∙ first.faultless }
 
-failed_behind : {K : Type 0} (before middle after : Stream K) (a b : List ℕ) → Wrote before middle a → FailedToWrite middle after b → FailedToWrite before after (a ++ b)
-failed_behind before middle after a b first failed =
-    record { prefix = prefix_behind before.bytes middle.bytes after.bytes a b first.written failed.prefix; fault = failed.fault ∙ ap one_more first.faultless }
+failed_after : {K : Type 0} (before middle after : Stream K) (a b : List ℕ) → Wrote before middle a → FailedToWrite middle after b → FailedToWrite before after (a ++ b)
+failed_after before middle after a b first failed =
+    record { prefix = prefix_after before.bytes middle.bytes after.bytes a b first.written failed.prefix; fault = failed.fault ∙ ap one_more first.faultless }
 
 failed_more : {K : Type 0} (before after : Stream K) (a b : List ℕ) → FailedToWrite before after a → FailedToWrite before after (a ++ b)
 failed_more before after a b failed = record { prefix = prefix_more before.bytes after.bytes a b failed.prefix; fault = failed.fault }
@@ -95,8 +95,8 @@ module _ {S K : Type 0} where
         let lines : (so_far.written ++ text) ++ shown ≡ so_far.written ++ longer = append_assoc so_far.written text shown ∙ ap (λ (t : List ℕ). so_far.written ++ t) (sym is) in (
           others.0,
           others.1,
-          before.2 ∙ ap (after (so_far.written ++ text)) others.2 ∙ after_both (so_far.written ++ text) shown (decoded_from others.0 next later (rest ++ more))
-              ∙ ap (λ (t : List ℕ). after t (decoded_from others.0 next later (rest ++ more))) lines,
+          before.2 ∙ ap (text_before (so_far.written ++ text)) others.2 ∙ after_both (so_far.written ++ text) shown (decoded_from others.0 next later (rest ++ more))
+              ∙ ap (λ (t : List ℕ). text_before t (decoded_from others.0 next later (rest ++ more))) lines,
         );
   }
 
@@ -112,7 +112,7 @@ module _ {S K : Type 0} where
     on = λ more.
         let before = so_far.on more in
         let lines : so_far.written ++ text ≡ (so_far.written ++ written) ++ kept = ap (λ (t : List ℕ). so_far.written ++ t) parts ∙ sym (append_assoc so_far.written written kept) in
-        (before.0, before.1, before.2 ∙ ap (λ (t : List ℕ). after t (decoded_from before.0 at channel (held ++ more))) lines);
+        (before.0, before.1, before.2 ∙ ap (λ (t : List ℕ). text_before t (decoded_from before.0 at channel (held ++ more))) lines);
   }
 
   -- a piece was read
@@ -134,18 +134,18 @@ module _ {S K : Type 0} where
             let second = append_assoc held piece more in (
               before.0,
               subst (λ (xs : List ℕ). length xs ≤ before.0) (sym second) before.1,
-              ap decoded first ∙ before.2 ∙ ap (λ (xs : List ℕ). after (so_far.written ++ text) (decoded_from before.0 at channel xs)) (sym second),
+              ap decoded first ∙ before.2 ∙ ap (λ (xs : List ℕ). text_before (so_far.written ++ text) (decoded_from before.0 at channel xs)) (sym second),
             );
       }
 
   -- what was read so far comes to
   so_far_is : (i j : Stream S) (o p : Stream K) (count at : ℕ) (channel : Option Channel) (text held : List ℕ) (so_far : Printing i j o p count at channel text held)
-      → (fewer : ℕ) × (length held ≤ fewer) × (decoded so_far.bytes ≡ after (so_far.written ++ text) (decoded_from fewer at channel held))
+      → (fewer : ℕ) × (length held ≤ fewer) × (decoded so_far.bytes ≡ text_before (so_far.written ++ text) (decoded_from fewer at channel held))
   so_far_is i j o p count at channel text held so_far =
       let now = so_far.on [] in (
         now.0,
         subst (λ (xs : List ℕ). length xs ≤ now.0) (append-nil held) now.1,
-        ap decoded (sym (append-nil so_far.bytes)) ∙ now.2 ∙ ap (λ (xs : List ℕ). after (so_far.written ++ text) (decoded_from now.0 at channel xs)) (append-nil held),
+        ap decoded (sym (append-nil so_far.bytes)) ∙ now.2 ∙ ap (λ (xs : List ℕ). text_before (so_far.written ++ text) (decoded_from now.0 at channel xs)) (append-nil held),
       )
 
   -- its lines begin with those that were written and those that weren't yet
@@ -166,7 +166,7 @@ module _ {S K : Type 0} where
   -- ---- ends
   -- the input has ended
   pub ends : (i j k : Stream S) (o p : Stream K) (count at : ℕ) (channel : Option Channel) (held : List ℕ) (result : Result (Unit {0}) DecodeNo) → Printing i j o p count at channel [] held → Read j k [] → IsAtEnd k.bytes → count < limit
-      → next_entry channel held ≡ cut → result ≡ end_of at held → EndsDecode i k o p result
+      → next_entry channel held ≡ cut → result ≡ nothing_left at held → EndsDecode i k o p result
   ends i j k o p count at channel [] result so_far read ended short is same =
       let on = read_on i j k o p count at channel [] [] [] so_far read in
       let now = so_far_is i k o p (count + 0) at channel [] [] on in
@@ -174,7 +174,7 @@ module _ {S K : Type 0} where
       subst (λ (r : Result (Unit {0}) DecodeNo). EndsDecode i k o p r) (sym same) (record {
         recording = on.bytes;
         read = record { read = on.read; ended = ended };
-        good = ap (λ (d : Decoded). d.whole_fault) (now.2 ∙ ap (after (on.written ++ [])) (no_bytes now.0 at channel));
+        good = ap (λ (d : Decoded). d.whole_fault) (now.2 ∙ ap (text_before (on.written ++ [])) (no_bytes now.0 at channel));
         short = omega (arith, on.counted, short);
         printed = subst (λ (t : List ℕ). Wrote o p t) (sym (lines.0 ∙ append-nil on.written)) on.wrote;
       })
@@ -189,7 +189,7 @@ module _ {S K : Type 0} where
         bytes = own.bytes;
         read = own.read;
         short = omega (arith, own.counted, short);
-        faulty = inr (ended, omega (arith, own.counted, short), ap (λ (d : Decoded). d.whole_fault) (now.2 ∙ ap (after (own.written ++ [])) cut_short));
+        faulty = inr (ended, omega (arith, own.counted, short), ap (λ (d : Decoded). d.whole_fault) (now.2 ∙ ap (text_before (own.written ++ [])) cut_short));
         printed = subst (λ (t : List ℕ). Wrote o p t) (sym (lines.0 ∙ append-nil own.written)) own.wrote;
       })
 
@@ -203,7 +203,7 @@ module _ {S K : Type 0} where
   pub ends_unwritten : (i j : Stream S) (o p q : Stream K) (count at : ℕ) (channel : Option Channel) (text held : List ℕ) → Printing i j o p count at channel text held → FailedToWrite p q text → EndsDecode i j o q (Err no.Output)
   ends_unwritten i j o p q count at channel text held so_far failed =
       let lines = lines_begin i j o p count at channel text held so_far in
-      record { bytes = so_far.bytes; read = so_far.read; failed = subst (λ (t : List ℕ). FailedToWrite o q t) (sym lines.1) (failed_more o q (so_far.written ++ text) lines.0 (failed_behind o p q so_far.written text so_far.wrote failed)) }
+      record { bytes = so_far.bytes; read = so_far.read; failed = subst (λ (t : List ℕ). FailedToWrite o q t) (sym lines.1) (failed_more o q (so_far.written ++ text) lines.0 (failed_after o p q so_far.written text so_far.wrote failed)) }
 
   -- a fault, after the lines before it
   pub ends_at_fault : (i j : Stream S) (o p q : Stream K) (count at : ℕ) (channel : Option Channel) (text held : List ℕ) (offset : ℕ) (f : Fault) (result : DecodeNo) → Printing i j o p count at channel text held → count ≤ limit
@@ -211,7 +211,7 @@ module _ {S K : Type 0} where
   ends_at_fault i j o p q count at channel text held offset f result so_far short is place (inl printed) =
       let now = so_far_is i j o p count at channel text held so_far in
       let bad : decoded_from now.0 at channel held ≡ faulty f = one_fault now.0 at channel held offset f.why now.1 is ∙ ap (λ (n : ℕ). faulty (record { at = n; why = f.why })) (sym place) in
-      let all : decoded so_far.bytes ≡ after (so_far.written ++ text) (faulty f) = now.2 ∙ ap (after (so_far.written ++ text)) bad in
+      let all : decoded so_far.bytes ≡ text_before (so_far.written ++ text) (faulty f) = now.2 ∙ ap (text_before (so_far.written ++ text)) bad in
       let lines : (decoded so_far.bytes).text ≡ so_far.written ++ text = ap (λ (d : Decoded). d.text) all ∙ append-nil (so_far.written ++ text) in
       subst (λ (r : DecodeNo). EndsDecode i j o q (Err r)) (sym printed.0) (record {
         bytes = so_far.bytes;
@@ -254,7 +254,7 @@ module _ {S K : Type 0} where
     where
       go : {t : List ℕ} → so_far.written ++ text ≡ t → Wrote p q text ⊎ FailedToWrite p q text → Wrote o q t ⊎ FailedToWrite o q t
       go lines (inl wrote) = inl (subst (λ (t : List ℕ). Wrote o q t) lines (wrote_both o p q so_far.written text so_far.wrote wrote))
-      go lines (inr failed) = inr (subst (λ (t : List ℕ). FailedToWrite o q t) lines (failed_behind o p q so_far.written text so_far.wrote failed))
+      go lines (inr failed) = inr (subst (λ (t : List ℕ). FailedToWrite o q t) lines (failed_after o p q so_far.written text so_far.wrote failed))
   ends_unread i j k o p q count at channel text held no.Memory result so_far is (piece, read) (same, silent) =
       subst (λ (r : DecodeNo). EndsDecode i k o q (Err r)) (sym same) (subst (λ (s : Stream K). EndsDecode i k o s (Err no.Memory)) (sym silent) (starved_after i j k o p count at channel text held piece so_far read))
   ends_unread i j k o p q count at channel text held no.Output result so_far is fails prints = absurd fails
@@ -320,12 +320,12 @@ module _ {S K : Type 0} where
 
   -- no piece came
   pub ends_after : (i j k : Stream S) (o p : Stream K) (count at : ℕ) (channel : Option Channel) (text held rest piece longer : List ℕ) (result : Result (Unit {0}) DecodeNo) → Printing i j o p count at channel text held → text ≡ [] → rest ≡ held
-      → longer ≡ rest ++ piece → length longer - length rest ≡ 0 → Read j k piece → (piece ≡ [] → IsAtEnd k.bytes) → count < limit → next_entry channel held ≡ cut → result ≡ end_of at rest → EndsDecode i k o p result
+      → longer ≡ rest ++ piece → length longer - length rest ≡ 0 → Read j k piece → (piece ≡ [] → IsAtEnd k.bytes) → count < limit → next_entry channel held ≡ cut → result ≡ nothing_left at rest → EndsDecode i k o p result
   ends_after i j k o p count at channel text held rest piece longer result so_far none same parts len read ended short is result_is =
       let all : length longer ≡ length rest + length piece = ap length parts ∙ length-append rest piece in
       let empty : piece ≡ [] = nil_from_length piece (omega (arith, all, len)) in
       ends i j k o p count at channel held result (subst (λ (t : List ℕ). Printing i j o p count at channel t held) none so_far) (subst (λ (xs : List ℕ). Read j k xs) empty read) (ended empty) short is
-      (result_is ∙ ap (end_of at) same)
+      (result_is ∙ ap (nothing_left at) same)
 
   -- a piece came
   pub goes_on : (i j k : Stream S) (o p : Stream K) (count more at : ℕ) (channel : Option Channel) (text held rest piece longer : List ℕ) → Printing i j o p count at channel text held → rest ≡ held → longer ≡ rest ++ piece → more ≡ length longer - length rest

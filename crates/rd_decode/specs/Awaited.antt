@@ -15,9 +15,9 @@ abbrev pub with_awaited : ℕ → ℕ → List Kind → Awaited → Awaited
 with_awaited device completion kinds awaited d c = if device == d && completion == c then kinds else awaited d c
 
 -- the first that is still to come
-abbrev pub first_of : List Kind → Option Kind
-first_of [] = None
-first_of (kind ∷ others) = Some kind
+abbrev pub first_kind : List Kind → Option Kind
+first_kind [] = None
+first_kind (kind ∷ others) = Some kind
 
 -- those after it
 abbrev pub others_of : List Kind → List Kind

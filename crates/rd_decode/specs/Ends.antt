@@ -22,15 +22,15 @@ pub record PrintedAll {S K : Type 0} (input input_after : Stream S) (output outp
 
 -- This is the first fault of a recording that these bytes begin, whatever comes after them; or of these bytes, which are fewer than the limit and
 -- after which the input has ended.
-abbrev pub HasFault : {S : Type 0} → Stream S → List ℕ → Fault → Type 0
-HasFault input bytes fault = ((decoded bytes).fault ≡ Some fault) ⊎ (IsAtEnd input.bytes × (length bytes < limit) × ((decoded bytes).whole_fault ≡ Some fault))
+abbrev pub EndsInFault : {S : Type 0} → Stream S → List ℕ → Fault → Type 0
+EndsInFault input bytes fault = ((decoded bytes).fault ≡ Some fault) ⊎ (IsAtEnd input.bytes × (length bytes < limit) × ((decoded bytes).whole_fault ≡ Some fault))
 
 -- The input has this first fault. The lines before it were printed.
 pub record PrintedToFault {S K : Type 0} (fault : Fault) (input input_after : Stream S) (output output_after : Stream K) : Type 0 where
   pub bytes : List ℕ
   pub read : Read input input_after bytes
   pub short : length bytes ≤ limit
-  pub faulty : HasFault input_after bytes fault
+  pub faulty : EndsInFault input_after bytes fault
   pub printed : Wrote output output_after (decoded bytes).text
 
 -- As many bytes as the limit were read, which begin a recording, and its lines so far were printed.

@@ -18,8 +18,8 @@ pub record UnderWay : Type 0 where
   pub joined : List ℕ
 
 -- nothing under way
-abbrev pub nothing : UnderWay
-nothing = record { whole = 0; joined = [] }
+abbrev pub nothing_under_way : UnderWay
+nothing_under_way = record { whole = 0; joined = [] }
 
 -- a channel that has begun: what each side has under way, and the completions that are still to come
 pub record Channel : Type 0 where
@@ -29,7 +29,7 @@ pub record Channel : Type 0 where
 
 -- a channel that begins
 abbrev pub fresh : Channel
-fresh = record { host = nothing; client = nothing; awaited = none_awaited }
+fresh = record { host = nothing_under_way; client = nothing_under_way; awaited = none_awaited }
 
 -- what a side has under way
 abbrev pub under_way : Side → Channel → UnderWay
@@ -51,9 +51,9 @@ pub data Next : Type 0 where
   cut : Next
 
 -- the byte of an entry that says what it is: a frame of a side, or that a channel begins or ended
-abbrev pub mark : Side → ℕ
-mark Host = 0
-mark Client = 1
+abbrev pub side_mark : Side → ℕ
+side_mark Host = 0
+side_mark Client = 1
 
 abbrev pub begins : ℕ
 begins = 2
@@ -63,7 +63,7 @@ ended = 3
 
 -- a channel after a message of a side, of which a line is printed, and nothing is under way there any more; or a fault
 abbrev pub after_message : ℕ → Side → Channel → Result Printed EntryFault → Next
-after_message size side c (Ok p) = entry size (Some (with_under_way side nothing (record c { awaited = p.awaited }))) p.text
+after_message size side c (Ok p) = entry size (Some (with_under_way side nothing_under_way (record c { awaited = p.awaited }))) p.text
 after_message size side c (Err f) = wrong f.offset f.why
 
 -- More data of a side's message, which has so many bytes, go to what came. Where the message is whole then, it comes to something.
@@ -96,6 +96,6 @@ next_entry channel [] = cut
 next_entry None (byte ∷ rest) = if byte == begins then entry 1 (Some fresh) [] else wrong 0 (fault.Field why.Value)
 next_entry (Some c) (byte ∷ rest) =
     if byte == ended then entry 1 None []
-    else (if byte == mark Host then frame_entry Host c rest
-    else (if byte == mark Client then frame_entry Client c rest
+    else (if byte == side_mark Host then frame_entry Host c rest
+    else (if byte == side_mark Client then frame_entry Client c rest
     else wrong 0 (fault.Field why.Value)))

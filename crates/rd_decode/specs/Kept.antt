@@ -17,10 +17,10 @@ use Rattle.rd_decode.specs.declared.awaited.Pair.{Pair}
 use Rattle.rd_decode.specs.declared.awaited.Requests.{Requests}
 use Rattle.rd_decode.specs.Awaited.{Awaited}
 use Rattle.rd_decode.specs.Messages.{Printed}
-use Rattle.rd_decode.specs.Entries.{Channel, Next, cut, entry, next_entry, nothing, with_under_way, wrong}
-use Rattle.rd_decode.specs.Recording.{after, decoded, decoded_from}
+use Rattle.rd_decode.specs.Entries.{Channel, Next, cut, entry, next_entry, nothing_under_way, with_under_way, wrong}
+use Rattle.rd_decode.specs.Recording.{decoded, decoded_from, text_before}
 use Rattle.rd_decode.specs.Streams.{FailedToWrite, HasOneFault, Read, Stream, Wrote}
-use Rattle.rd_decode.specs.Ends.{HasFault, limit}
+use Rattle.rd_decode.specs.Ends.{EndsInFault, limit}
 use Rattle.rd_decode.specs.declared.fault.DecodeNo.{DecodeNo}
 use Rattle.rd_decode.specs.declared.fault.DecodeNo.TheVariants as decode_no
 use Rattle.rd_decode.specs.declared.side.Side.{Side}
@@ -59,14 +59,14 @@ abbrev pub channel_of : Kept → Channel
 channel_of c = record { host = c.host; client = c.client; awaited = awaited_of c.requests }
 
 -- what is known of a channel that may have begun
-abbrev pub open_channel : Option Kept → Option Channel
-open_channel channel = option_map channel_of channel
+abbrev pub kept_channel : Option Kept → Option Channel
+kept_channel channel = option_map channel_of channel
 
 -- A message that a side has under way comes to a line, which is appended, and nothing is under way there any more; or to a fault, and nothing is
 -- appended; or memory ran out.
 abbrev pub EndsMessage : Side → Channel → Result Printed EntryFault → (before after : List ℕ) → Channel → Result (Unit {0}) LineNo → Type 0
 EndsMessage side c r before after next (Err line_no.Memory) = Unit {0}
-EndsMessage side c r before after next (Ok u) = (p : Printed) × (r ≡ Ok p) × (after ≡ before ++ p.text) × (next ≡ with_under_way side nothing (record c { awaited = p.awaited }))
+EndsMessage side c r before after next (Ok u) = (p : Printed) × (r ≡ Ok p) × (after ≡ before ++ p.text) × (next ≡ with_under_way side nothing_under_way (record c { awaited = p.awaited }))
 EndsMessage side c r before after next (Err (line_no.Bad f)) = (r ≡ Err f) × (after ≡ before)
 
 -- What comes next is an entry of so many bytes, which is taken, and its line, if it has one, is appended; or it isn't all there, and nothing is
@@ -81,7 +81,7 @@ TakesEntry next channel after before text (Err (line_no.Bad f)) = (next ≡ wron
 pub record GoesOn (at : ℕ) (channel : Option Channel) (bytes shown : List ℕ) (next : ℕ) (after_channel : Option Channel) (rest : List ℕ) : Type 0 where
   pub place : next + length rest ≡ at + length bytes
   pub on : (more : List ℕ) (most : ℕ) → length (bytes ++ more) ≤ most
-      → (fewer : ℕ) × (length (rest ++ more) ≤ fewer) × (decoded_from most at channel (bytes ++ more) ≡ after shown (decoded_from fewer next after_channel (rest ++ more)))
+      → (fewer : ℕ) × (length (rest ++ more) ≤ fewer) × (decoded_from most at channel (bytes ++ more) ≡ text_before shown (decoded_from fewer next after_channel (rest ++ more)))
 
 -- All entries of these bytes were taken that are there whole, from a place on, and their lines were appended; or there is this fault after them.
 abbrev pub TakesAll : (at : ℕ) (channel : Option Channel) (bytes : List ℕ) → (next : ℕ) (after_channel : Option Channel) (before text : List ℕ) → Result ℕ DecodeNo → Type 0
@@ -109,7 +109,7 @@ FailsToRead before after other = ⊥
 -- The magic isn't there: what was read doesn't begin with it, or is too short where the input ended; or a read failed, or memory ran out, before
 -- it was.
 abbrev pub FailsToBegin : {S : Type 0} → (before after : Stream S) → DecodeNo → Type 0
-FailsToBegin before after (decode_no.Bad f) = (bytes : List ℕ) × Read before after bytes × (length bytes ≤ limit) × HasFault after bytes f × ((decoded bytes).text ≡ [])
+FailsToBegin before after (decode_no.Bad f) = (bytes : List ℕ) × Read before after bytes × (length bytes ≤ limit) × EndsInFault after bytes f × ((decoded bytes).text ≡ [])
 FailsToBegin before after decode_no.Input = (bytes : List ℕ) × Consumes before.bytes after.bytes bytes × HasOneFault before after × (length bytes < 8)
 FailsToBegin before after decode_no.Memory = (bytes : List ℕ) × Read before after bytes
 FailsToBegin before after other = ⊥
@@ -122,7 +122,7 @@ pub record Printing {S K : Type 0} (input input_after : Stream S) (output output
   pub wrote : Wrote output output_after written
   pub counted : length bytes ≡ count
   pub place : at + length held ≡ count
-  pub on : (more : List ℕ) → (fewer : ℕ) × (length (held ++ more) ≤ fewer) × (decoded (bytes ++ more) ≡ after (written ++ text) (decoded_from fewer at channel (held ++ more)))
+  pub on : (more : List ℕ) → (fewer : ℕ) × (length (held ++ more) ≤ fewer) × (decoded (bytes ++ more) ≡ text_before (written ++ text) (decoded_from fewer at channel (held ++ more)))
 
 -- before a fault the lines are printed, or that fails; before any other stop nothing is
 abbrev pub PrintsBefore : {K : Type 0} → (before after : Stream K) → (text : List ℕ) → (stop result : DecodeNo) → Type 0
@@ -135,6 +135,6 @@ PrintsUnread before after text decode_no.Input result = (result ≡ decode_no.In
 PrintsUnread before after text other result = (result ≡ other) × (after ≡ before)
 
 -- what the end of the input means where these bytes weren't taken
-abbrev pub end_of : ℕ → List ℕ → Result (Unit {0}) DecodeNo
-end_of at [] = Ok tt
-end_of at (byte ∷ rest) = Err (decode_no.Bad (record { at = at + 1; why = why.Field short.Short }))
+abbrev pub nothing_left : ℕ → List ℕ → Result (Unit {0}) DecodeNo
+nothing_left at [] = Ok tt
+nothing_left at (byte ∷ rest) = Err (decode_no.Bad (record { at = at + 1; why = why.Field short.Short }))

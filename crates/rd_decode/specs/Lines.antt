@@ -50,17 +50,17 @@ abbrev pub completion_shown : Head → List ℕ
 completion_shown head = codes " device " ++ decimal head.device ++ codes " id " ++ decimal head.completion ++ codes " status " ++ eight_digits (head.status).0
 
 -- whether a side sends a packet (MS-RDPEFS 2.2.2, 2.2.3; MS-RDPEPC 2.2.2)
-abbrev pub sends : Side → Packet → Bool
-sends side ClientIdConfirm = true
-sends Client ClientName = true
-sends Client ClientCapability = true
-sends Client DeviceListAnnounce = true
-sends Client DeviceListRemove = true
-sends Client IoCompletion = true
-sends Client packet = false
-sends Host ClientName = false
-sends Host ClientCapability = false
-sends Host DeviceListAnnounce = false
-sends Host DeviceListRemove = false
-sends Host IoCompletion = false
-sends Host packet = true
+abbrev pub may_send : Side → Packet → Bool
+may_send side ClientIdConfirm = true
+may_send Client ClientName = true
+may_send Client ClientCapability = true
+may_send Client DeviceListAnnounce = true
+may_send Client DeviceListRemove = true
+may_send Client IoCompletion = true
+may_send Client packet = false
+may_send Host ClientName = false
+may_send Host ClientCapability = false
+may_send Host DeviceListAnnounce = false
+may_send Host DeviceListRemove = false
+may_send Host IoCompletion = false
+may_send Host packet = true

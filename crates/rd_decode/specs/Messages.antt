@@ -22,7 +22,7 @@ use Rattle.rd_decode.specs.declared.fault.FaultWhy.{FaultWhy}
 use Rattle.rd_decode.specs.declared.fault.FaultWhy.TheVariants as fault
 use Rattle.rd_decode.specs.declared.fault.EntryFault.{EntryFault}
 use Rattle.rd_decode.specs.Awaited.{Awaited, with_awaited}
-use Rattle.rd_decode.specs.Lines.{line, request_shown, completion_shown, sends}
+use Rattle.rd_decode.specs.Lines.{line, request_shown, completion_shown, may_send}
 
 -- a message's line, and what is still to come after it
 pub record Printed : Type 0 where
@@ -76,7 +76,7 @@ packet_line p side awaited message = plain_line side p awaited message
 
 -- a message of a packet that this side sends; any other packet is a fault at the entry
 abbrev pub sent_line : Side → Awaited → List ℕ → Option Packet → Result Printed EntryFault
-sent_line side awaited message (Some p) = if sends side p then packet_line p side awaited message else Err (record { offset = 0; why = fault.Field why.Value })
+sent_line side awaited message (Some p) = if may_send side p then packet_line p side awaited message else Err (record { offset = 0; why = fault.Field why.Value })
 sent_line side awaited message None = in_frame (fault.Field why.Packet)
 
 -- A message of a side. A header always names some packet.

@@ -28,13 +28,13 @@ abbrev pub unfinished : Fault → Decoded
 unfinished f = record { text = []; fault = None; whole_fault = Some f }
 
 -- after the lines of what stands before
-abbrev pub after : List ℕ → Decoded → Decoded
-after text d = record d { text = text ++ d.text }
+abbrev pub text_before : List ℕ → Decoded → Decoded
+text_before text d = record d { text = text ++ d.text }
 
 -- What comes next at a place, and then what the entries after it come to, which go on after so many bytes. An entry that the end cuts is a fault at
 -- its frame.
 abbrev pub with_others : (ℕ → Option Channel → Decoded) → ℕ → Next → Decoded
-with_others others at (entry size channel text) = after text (others size channel)
+with_others others at (entry size channel text) = text_before text (others size channel)
 with_others others at (wrong offset w) = faulty (record { at = at + offset; why = w })
 with_others others at cut = unfinished (record { at = at + 1; why = fault.Field why.Short })
 

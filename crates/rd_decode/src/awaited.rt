@@ -24,7 +24,7 @@ pub struct Requests {
 impl Requests {
     ghost use Rattle.std.specs.Prelude.{◌++◌, ◌∷◌, []};
     ghost use Rattle.rd_decode.specs.Kept.{awaited_of};
-    ghost use Rattle.rd_decode.specs.Awaited.{first_of, none_awaited, others_of, with_awaited};
+    ghost use Rattle.rd_decode.specs.Awaited.{first_kind, none_awaited, others_of, with_awaited};
 
     pub fn new(alloc: Global) -> Requests
         ensures { awaited_of result ≡ none_awaited }
@@ -49,7 +49,7 @@ impl Requests {
     /// The first request of a pair, which has its completion now, if there is one.
     #[tactic(auto, using(crate::proofs::AwaitedLemmas::popped_first, crate::proofs::AwaitedLemmas::popped_all))]
     pub fn complete(&mut self, pair: Pair) -> Result<Option<Kind>, AllocError>
-        ensures first { IfOk result (λ kind. kind ≡ first_of (awaited_of self.old pair.device pair.completion)) }
+        ensures first { IfOk result (λ kind. kind ≡ first_kind (awaited_of self.old pair.device pair.completion)) }
         ensures others { OnOk result (awaited_of self.new ≡ with_awaited pair.device pair.completion
             (others_of (awaited_of self.old pair.device pair.completion)) (awaited_of self.old)) }
     {

@@ -3,7 +3,7 @@
 ghost use Rattle.std.specs.Prelude.{◌≡◌, ◌≤◌, ◌+◌, ◌==◌, ◌++◌, IfOk, OnOk, length};
 ghost use Rattle.std.specs.String.{string_bytes};
 ghost use Rattle.rd_chunk.specs.Sizes.{max_message};
-ghost use Rattle.rd_decode.specs.Entries.{fresh, nothing, under_way, with_under_way};
+ghost use Rattle.rd_decode.specs.Entries.{fresh, nothing_under_way, under_way, with_under_way};
 ghost use Rattle.rd_decode.specs.Kept.{EndsMessage, channel_of};
 ghost use Rattle.rd_decode.specs.Messages.{message_line};
 

@@ -2,7 +2,7 @@
 
 ghost use Rattle.std.specs.Prelude.{◌≡◌, ◌+◌, ◌<◌, ◌^◌, None, [], length};
 ghost use Rattle.std.specs.String.{string_bytes};
-ghost use Rattle.rd_decode.specs.Kept.{TakesAll, open_channel};
+ghost use Rattle.rd_decode.specs.Kept.{TakesAll, kept_channel};
 
 use crate::channel::Channel;
 use crate::entry::take_entry;
@@ -36,7 +36,7 @@ impl Decoder {
     /// Takes all entries of these bytes that are there whole, and returns how many bytes they have.
     pub fn take_all(&mut self, bytes: &[u8]) -> Result<usize, DecodeNo>
         requires { self.old.at + length bytes.now < 2 ^ 62 }
-        ensures { TakesAll self.old.at (open_channel self.old.channel) bytes.now self.new.at (open_channel self.new.channel)
+        ensures { TakesAll self.old.at (kept_channel self.old.channel) bytes.now self.new.at (kept_channel self.new.channel)
             (string_bytes self.old.text) (string_bytes self.new.text) result }
     {
         let mut taken = 0;

@@ -4,7 +4,7 @@ ghost use Rattle.std.specs.Prelude.{◌≡◌, ◌≤◌, ◌+◌, Some, length}
 ghost use Rattle.std.specs.String.{string_bytes};
 ghost use Rattle.rd_decode.specs.Entries.{after_data, frame_entry, next_entry, under_way};
 ghost use Rattle.rd_chunk.specs.Sizes.{max_message};
-ghost use Rattle.rd_decode.specs.Kept.{TakesEntry, channel_of, open_channel};
+ghost use Rattle.rd_decode.specs.Kept.{TakesEntry, channel_of, kept_channel};
 ghost use Rattle.rd_base.specs.declared.bad.Why.TheVariants as why;
 ghost use Rattle.rd_decode.specs.declared.fault.FaultWhy.TheVariants as fault;
 ghost use Rattle.rd_decode.specs.declared.fault.LineNo.TheVariants as no;
@@ -37,7 +37,7 @@ pub fn take_entry(
     text: &mut String,
     bytes: &[u8],
 ) -> Result<Option<usize>, LineNo>
-    ensures { TakesEntry (next_entry (open_channel channel.old) bytes.now) (open_channel channel.old) (open_channel channel.new)
+    ensures { TakesEntry (next_entry (kept_channel channel.old) bytes.now) (kept_channel channel.old) (kept_channel channel.new)
         (string_bytes text.old) (string_bytes text.new) result }
 {
     let [mark, frame @ ..] = bytes else {

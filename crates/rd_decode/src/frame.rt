@@ -1,6 +1,7 @@
 //! The frame with which bytes begin.
 
 ghost use Rattle.std.specs.Prelude.{◌≡◌, ◌≤◌, ◌<◌, length, IfSome, IfNone};
+ghost use Rattle.rd_chunk.specs.Sizes.{head_len};
 ghost use Rattle.rd_chunk.specs.Frames.{flags_of, length_of, size_of};
 
 use rd_chunk::{HEAD_LEN, Head};
@@ -21,10 +22,10 @@ pub fn size_of(bytes: &[u8]) -> Option<u32>
 
 /// The head of the frame with which bytes begin, once its twelve bytes are there.
 pub fn head_of(bytes: &[u8]) -> Option<Head>
-    ensures size { IfSome result (λ head. (12 ≤ length bytes.now) × (head.size ≡ size_of bytes.now)) }
+    ensures size { IfSome result (λ head. (head_len ≤ length bytes.now) × (head.size ≡ size_of bytes.now)) }
     ensures length { IfSome result (λ head. head.length ≡ length_of bytes.now) }
     ensures flags { IfSome result (λ head. head.flags ≡ flags_of bytes.now) }
-    ensures short { IfNone result (length bytes.now < 12) }
+    ensures short { IfNone result (length bytes.now < head_len) }
 {
     if bytes.len() < HEAD_LEN {
         return None;

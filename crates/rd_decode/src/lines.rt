@@ -2,7 +2,7 @@
 
 ghost use Rattle.std.specs.Prelude.{◌≡◌, ◌++◌, [], IsTrue, OnOk, codes};
 ghost use Rattle.std.specs.String.{string_bytes};
-ghost use Rattle.rd_decode.specs.Lines.{completion_shown, line, line_end, line_start, packet_name, request_shown, sends};
+ghost use Rattle.rd_decode.specs.Lines.{completion_shown, line, line_end, line_start, may_send, packet_name, request_shown};
 ghost use Rattle.rd_base.specs.declared.packet.Packet.TheVariants as packet;
 
 use crate::side::Side;
@@ -121,8 +121,8 @@ fn packet_name(packet: Packet) -> &'static str
 }
 
 /// Whether a side sends a packet (MS-RDPEFS 2.2.2 and 2.2.3, MS-RDPEPC 2.2.2).
-pub fn sends(side: Side, packet: Packet) -> bool
-    ensures { result ≡ sends side packet }
+pub fn may_send(side: Side, packet: Packet) -> bool
+    ensures { result ≡ may_send side packet }
 {
     match packet {
         Packet::ClientIdConfirm => true,

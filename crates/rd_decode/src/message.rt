@@ -10,7 +10,7 @@ ghost use Rattle.rd_decode.specs.Awaited.{Awaited};
 
 use crate::awaited::{Pair, Requests};
 use crate::fault::{EntryFault, FaultWhy, LineNo};
-use crate::lines::{put_completion_line, put_plain_line, put_request_line, sends};
+use crate::lines::{may_send, put_completion_line, put_plain_line, put_request_line};
 use crate::side::Side;
 use rd_base::{Packet, ReadNo, Why, packet_of};
 use rd_devices::{read_list, read_removal, read_reply};
@@ -32,7 +32,7 @@ pub fn put_message_line(
         (string_bytes text.old) (string_bytes text.new) (awaited_of requests.new) result }
 {
     let packet = packet_of(message)?;
-    if !sends(side, packet) {
+    if !may_send(side, packet) {
         return Err(LineNo::Bad(EntryFault {
             offset: 0,
             why: FaultWhy::Field(Why::Value),

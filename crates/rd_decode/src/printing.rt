@@ -2,7 +2,7 @@
 
 ghost use Rattle.std.specs.Prelude.{◌≡◌, ◌<◌, ◌^◌};
 ghost use Rattle.rd_decode.specs.Ends.{EndsDecode};
-ghost use Rattle.rd_decode.specs.Kept.{end_of};
+ghost use Rattle.rd_decode.specs.Kept.{nothing_left};
 ghost use Rattle.rd_decode.specs.Streams.{stream};
 
 use crate::decoder::Decoder;
@@ -55,7 +55,7 @@ pub fn decode<S: Source, K: Sink>(
 /// At the input's end: an entry of which only a part is there is a fault at its frame.
 fn end(at: u64, rest: &[u8]) -> Result<(), DecodeNo>
     requires { at < 2 ^ 62 }
-    ensures { result ≡ end_of at rest.now }
+    ensures { result ≡ nothing_left at rest.now }
 {
     if rest.is_empty() {
         return Ok(());

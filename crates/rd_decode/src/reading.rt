@@ -3,6 +3,7 @@
 ghost use Rattle.std.specs.Prelude.{◌≡◌, ◌≤◌, ◌<◌, ◌^◌, ◌++◌, nat_eq, true, List, ℕ, [], length, IfOk, IfErr};
 ghost use Rattle.std.specs.List.{starts_with};
 ghost use Rattle.std.specs.Io.KnownBytes.{IsAtEnd};
+ghost use Rattle.rd_decode.specs.Ends.{limit};
 ghost use Rattle.rd_decode.specs.Recording.{magic, no_magic};
 ghost use Rattle.rd_decode.specs.declared.fault.DecodeNo.TheVariants as no;
 ghost use Rattle.rd_decode.specs.Streams.{Read, stream};
@@ -50,7 +51,7 @@ pub fn read_after<S: Source>(
     most: u64,
 ) -> Result<Vec<u8>, DecodeNo>
     requires some { 0 < most }
-    requires room { length held.now < 2 ^ 40 }
+    requires room { length held.now < limit }
     ensures read { IfOk result (λ bytes. (piece : List ℕ) × (bytes.items ≡ held.now ++ piece) × Read (stream S.left S.faults input.old) (stream S.left S.faults input.new) piece
         × (length piece ≤ most) × (length piece ≤ 65536) × (piece ≡ [] → IsAtEnd (S.left input.new))) }
     ensures err { IfErr result (FailsToRead (stream S.left S.faults input.old) (stream S.left S.faults input.new)) }

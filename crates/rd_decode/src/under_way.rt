@@ -26,10 +26,10 @@ impl Model for UnderWay {
 }
 
 impl UnderWay {
-    ghost use Rattle.rd_decode.specs.Entries.{nothing};
+    ghost use Rattle.rd_decode.specs.Entries.{nothing_under_way};
 
     pub fn new(alloc: Global) -> UnderWay
-        ensures { result ≡ nothing }
+        ensures { result ≡ nothing_under_way }
     {
         UnderWay {
             whole: 0,
@@ -65,7 +65,7 @@ impl UnderWay {
 
     /// Nothing is under way any more. The buffer stays, for the next message.
     pub fn clear(&mut self)
-        ensures { self.new ≡ nothing }
+        ensures { self.new ≡ nothing_under_way }
     {
         self.joined.clear();
         self.whole = 0;

@@ -4,12 +4,13 @@ use Rattle.rd_base.specs.declared.packet.Packet.TheVariants.{DeviceListAnnounce}
 use Rattle.rd_base.specs.Layout.{four_bytes}
 use Rattle.rd_base.specs.Counted.{counted, items_and_count}
 use Rattle.rd_base.specs.Spelling.{IsSpelling}
+use Rattle.rd_base.specs.Limits.{max_devices}
 use Rattle.rd_base.proofs.WrittenLemmas.{done_last, number_then, bytes_then, spells_all}
 use Rattle.rd_base.proofs.SpellingLemmas.{written}
 use Rattle.rd_base.proofs.CountedLemmas.{counted_bytes_last}
 use Rattle.rd_base.proofs.HeaderLemmas.{header_then}
 use Rattle.rd_devices.specs.declared.list.Announce.{Announce}
-use Rattle.rd_devices.specs.DeviceList.{max_devices, announce, device_list, announce_bytes, list_bytes, SpellsList}
+use Rattle.rd_devices.specs.DeviceList.{announce, device_list, announce_bytes, list_bytes, SpellsList}
 
 pub announce_spelled : (a : Announce) → a.kind < 2 ^ 32 → a.id < 2 ^ 32 → length a.dos ≡ 8 → length a.body < 2 ^ 32 → IsSpelling announce a (announce_bytes a)
 unfolding announce

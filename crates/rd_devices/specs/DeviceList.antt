@@ -7,11 +7,8 @@ use Rattle.rd_base.specs.Layout.{Layout, done, any_bytes, four_bytes, ◌>>=◌,
 use Rattle.rd_base.specs.Fields.{number32}
 use Rattle.rd_base.specs.Counted.{counted, counted_bytes, bytes_and_count, items_and_count}
 use Rattle.rd_base.specs.Header.{header, header_bytes}
+use Rattle.rd_base.specs.Limits.{max_devices}
 use Rattle.rd_devices.specs.declared.list.Announce.{Announce}
-
--- the most devices of a list or a removal
-abbrev pub max_devices : ℕ
-max_devices = 256
 
 -- DEVICE_ANNOUNCE, one device (2.2.1.3); what its data says depends on its kind
 unfoldable pub announce : Layout Announce
@@ -45,9 +42,9 @@ abbrev pub list_bytes : List Announce → List ℕ
 list_bytes list = header_bytes DeviceListAnnounce ++ items_and_count announce_bytes list
 
 -- a device whose data can be counted
-abbrev pub IsCountable : Announce → Type 0
-IsCountable a = length a.body < 2 ^ 32
+abbrev pub HasCountableBody : Announce → Type 0
+HasCountableBody a = length a.body < 2 ^ 32
 
 -- a list that can be written
 abbrev pub IsWritableList : List Announce → Type 0
-IsWritableList list = (length list ≤ max_devices) × All IsCountable list
+IsWritableList list = (length list ≤ max_devices) × All HasCountableBody list

@@ -7,7 +7,7 @@ use Rattle.rd_base.specs.Layout.{Layout, four_bytes, ◌>>◌, Spells, FirstFaul
 use Rattle.rd_base.specs.Fields.{number32}
 use Rattle.rd_base.specs.Counted.{counted, items_and_count}
 use Rattle.rd_base.specs.Header.{header, header_bytes}
-use Rattle.rd_devices.specs.DeviceList.{max_devices}
+use Rattle.rd_base.specs.Limits.{max_devices}
 
 -- the whole message: the ids of the devices
 unfoldable pub removal : Layout (List ℕ)

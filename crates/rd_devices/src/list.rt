@@ -1,12 +1,13 @@
 //! The list of a client's devices (MS-RDPEFS 2.2.2.9).
 
-ghost use Rattle.std.specs.Prelude.{◌≡◌, ◌-◌, ◌^◌, ◌↔◌, ◌++◌, IsTrue, IfOk, IfErr, OnOk, length, min};
+ghost use Rattle.std.specs.Prelude.{◌≡◌, ◌+◌, ◌-◌, ◌≤◌, ◌^◌, ◌↔◌, [], ◌++◌, IsTrue, IfOk, IfErr, OnErr, OnOk, length, min, vec_capacity, vec_len};
 ghost use Rattle.rd_base.specs.Reading.{ReadsInto, WithTail, ForBad};
 ghost use Rattle.rd_devices.specs.DeviceList.{device_list, list_bytes, IsWritableList, SpellsList, FirstFaultOfList};
 
 use rd_base::{
-    Bytes, Cursor, Format, HEADER_LEN, Items, Packet, ReadNo, put_counted, put_counted_bytes,
-    put_header, read_counted, read_counted_bytes, read_eight, read_header, size_of_all, tail_len,
+    Bytes, Cursor, Format, HEADER_LEN, Items, Packet, ReadNo, put_bytes, put_counted,
+    put_counted_bytes, put_header, put_u32, read_counted, read_counted_bytes, read_eight,
+    read_header, size_of_all, tail_len,
 };
 use std::alloc::{AllocError, Global};
 
@@ -29,13 +30,13 @@ pub struct Announce {
 pub type DeviceList = Items<Announce>;
 
 impl Format for Announce {
-    ghost use Rattle.rd_devices.specs.DeviceList.{announce, announce_bytes, IsCountable};
+    ghost use Rattle.rd_devices.specs.DeviceList.{announce, announce_bytes, HasCountableBody};
 
     ghost layout = { announce };
 
     ghost bytes = { announce_bytes };
 
-    ghost fits = { IsCountable };
+    ghost fits = { HasCountableBody };
 
     #[tactic(auto, unfolding(crate::specs::DeviceList::announce, rd_base::specs::Counted::counted_bytes))]
     fn read(alloc: Global, cursor: &mut Cursor<'_>) -> Result<Announce, ReadNo> {
@@ -51,12 +52,12 @@ impl Format for Announce {
         })
     }
 
-    #[tactic(auto, using(crate::proofs::DeviceListLemmas::announce_spelled, std::proofs::Common::append_assoc))]
-    fn put(&self, out: &mut Vec<u8>) -> Result<(), AllocError> {
-        out.extend_from_slice(&self.kind.to_le_bytes())?;
-        out.extend_from_slice(&self.id.to_le_bytes())?;
-        out.extend_from_slice(&self.dos)?;
-        put_counted_bytes(out, self.body.as_slice())
+    #[tactic(auto, using(crate::proofs::DeviceListLemmas::announce_spelled, std::proofs::Common::append_assoc), unfolding(rd_base::specs::Fields::bytes32))]
+    fn put(&self, out: &mut Vec<u8>) {
+        put_u32(out, self.kind);
+        put_u32(out, self.id);
+        put_bytes(out, &self.dos);
+        put_counted_bytes(out, self.body.as_slice());
     }
 
     fn size(&self) -> usize {
@@ -90,20 +91,32 @@ pub fn write_list(alloc: Global, list: &DeviceList) -> Result<Bytes, AllocError>
     ensures written { IfOk result (λ message. message ≡ list_bytes list.now) }
 {
     let mut out = Vec::with_capacity(alloc, list_size(list))?;
-    put_list(&mut out, list)?;
+    append(&mut out, list);
     Ok(Bytes::of(out))
 }
 
-/// Writes a list of devices after what the buffer holds. Where memory runs out, the buffer may hold a part of it
-/// after that.
-#[tactic(auto, using(crate::proofs::DeviceListLemmas::list_spelled))]
+/// Appends a list of devices. Where there is no memory for all of it, nothing is appended.
 pub fn put_list(out: &mut Vec<u8>, list: &DeviceList) -> Result<(), AllocError>
     requires { IsWritableList list.now }
     ensures bytes { OnOk result (out.new.items ≡ out.old.items ++ list_bytes list.now) }
     ensures spelled { OnOk result (SpellsList list.now 0 (list_bytes list.now)) }
+    ensures err { OnErr result (out.new.items ≡ out.old.items) }
 {
-    put_header(out, Packet::DeviceListAnnounce)?;
-    put_counted(out, list.as_slice())
+    out.try_reserve(list_size(list))?;
+    append(out, list);
+    Ok(())
+}
+
+/// Appends a list of devices to bytes that have room for it.
+#[tactic(auto, using(crate::proofs::DeviceListLemmas::list_spelled, std::proofs::Common::append_assoc))]
+fn append(out: &mut Vec<u8>, list: &DeviceList)
+    requires writable { IsWritableList list.now }
+    requires room { vec_len out.old + length (list_bytes list.now) ≤ vec_capacity out.old }
+    ensures bytes { out.new.items ≡ out.old.items ++ list_bytes list.now }
+    ensures spelled { SpellsList list.now 0 (list_bytes list.now) }
+{
+    put_header(out, Packet::DeviceListAnnounce);
+    put_counted(out, list.as_slice());
 }
 
 /// How many bytes a list of devices is written in; 2^64 - 1 where it is more.

@@ -1,11 +1,12 @@
 //! The data of a printer's announcement (MS-RDPEPC 2.2.2.1).
 
-ghost use Rattle.std.specs.Prelude.{◌≡◌, ◌<◌, ◌^◌, ◌↔◌, ◌++◌, IsTrue, IfOk, IfErr, OnOk, length};
+ghost use Rattle.std.specs.Prelude.{◌≡◌, ◌<◌, ◌^◌, ◌↔◌, ◌++◌, IsTrue, IfOk, IfErr, OnErr, OnOk, length};
 ghost use Rattle.rd_base.specs.Reading.{WithTail, ForBad};
 ghost use Rattle.rd_devices.specs.PrinterInfo.{printer_bytes, IsWritablePrinter, SpellsPrinter, FirstFaultOfPrinter};
 
 use rd_base::{
-    Bytes, Cursor, Format, ReadNo, put_four_fields, read_four_fields, read_message, write_message,
+    Bytes, Cursor, Format, ReadNo, append_message, put_four_fields, put_u32, read_four_fields,
+    read_message, write_message,
 };
 use std::alloc::{AllocError, Global};
 
@@ -50,17 +51,17 @@ impl Format for PrinterInfo {
         })
     }
 
-    #[tactic(auto, using(crate::proofs::PrinterInfoLemmas::printer_spelled, std::proofs::Common::append_assoc))]
-    fn put(&self, out: &mut Vec<u8>) -> Result<(), AllocError> {
-        out.extend_from_slice(&self.flags.to_le_bytes())?;
-        out.extend_from_slice(&self.page.to_le_bytes())?;
+    #[tactic(auto, using(crate::proofs::PrinterInfoLemmas::printer_spelled, std::proofs::Common::append_assoc), unfolding(rd_base::specs::Fields::bytes32, rd_base::specs::Counted::four_fields_bytes))]
+    fn put(&self, out: &mut Vec<u8>) {
+        put_u32(out, self.flags);
+        put_u32(out, self.page);
         put_four_fields(
             out,
             self.pnp.as_slice(),
             self.driver.as_slice(),
             self.name.as_slice(),
             self.config.as_slice(),
-        )
+        );
     }
 
     #[tactic(auto, unfolding(rd_base::specs::Counted::four_fields_bytes))]
@@ -90,13 +91,13 @@ pub fn write_printer(alloc: Global, info: &PrinterInfo) -> Result<Bytes, AllocEr
     write_message(alloc, info)
 }
 
-/// Writes the data of a printer's announcement after what the buffer holds. Where memory runs out, the buffer may hold a part of it
-/// after that.
+/// Appends the data of a printer's announcement. Where there is no memory for all of it, nothing is appended.
 pub fn put_printer(out: &mut Vec<u8>, info: &PrinterInfo) -> Result<(), AllocError>
     requires { IsWritablePrinter info.now }
-    ensures { OnOk result (out.new.items ≡ out.old.items ++ printer_bytes info.now) }
+    ensures bytes { OnOk result (out.new.items ≡ out.old.items ++ printer_bytes info.now) }
+    ensures err { OnErr result (out.new.items ≡ out.old.items) }
 {
-    info.put(out)
+    append_message(out, info)
 }
 
 /// Whether the data of a printer's announcement can be written: its four fields can be counted.

@@ -1,6 +1,6 @@
 //! The removal of devices (MS-RDPEFS 2.2.3.2).
 
-ghost use Rattle.std.specs.Prelude.{◌≡◌, ◌↔◌, ◌++◌, IsTrue, IfOk, IfErr, OnOk};
+ghost use Rattle.std.specs.Prelude.{◌≡◌, ◌+◌, ◌*◌, ◌≤◌, ◌↔◌, [], ◌++◌, IsTrue, IfOk, IfErr, OnErr, OnOk, length, vec_capacity, vec_len};
 ghost use Rattle.rd_base.specs.Reading.{ReadsInto, WithTail, ForBad};
 ghost use Rattle.rd_devices.specs.Removal.{removal, removal_bytes, IsWritableRemoval, SpellsRemoval, FirstFaultOfRemoval};
 
@@ -39,21 +39,42 @@ pub fn write_removal(alloc: Global, removal: &Removal) -> Result<Bytes, AllocErr
     ensures spelled { IfOk result (SpellsRemoval removal.now 0) }
     ensures written { IfOk result (λ message. message ≡ removal_bytes removal.now) }
 {
-    let mut out = Vec::with_capacity(alloc, HEADER_LEN + 4 + 4 * removal.as_slice().len())?;
-    put_removal(&mut out, removal)?;
+    let mut out = Vec::with_capacity(alloc, size_of(removal))?;
+    append(&mut out, removal);
     Ok(Bytes::of(out))
 }
 
-/// Writes a removal after what the buffer holds. Where memory runs out, the buffer may hold a part of it
-/// after that.
-#[tactic(auto, using(crate::proofs::RemovalLemmas::removal_spelled))]
+/// Appends a removal. Where there is no memory for all of it, nothing is appended.
 pub fn put_removal(out: &mut Vec<u8>, removal: &Removal) -> Result<(), AllocError>
     requires { IsWritableRemoval removal.now }
     ensures bytes { OnOk result (out.new.items ≡ out.old.items ++ removal_bytes removal.now) }
     ensures spelled { OnOk result (SpellsRemoval removal.now 0 (removal_bytes removal.now)) }
+    ensures err { OnErr result (out.new.items ≡ out.old.items) }
 {
-    put_header(out, Packet::DeviceListRemove)?;
-    put_counted(out, removal.as_slice())
+    out.try_reserve(size_of(removal))?;
+    append(out, removal);
+    Ok(())
+}
+
+/// Appends a removal to bytes that have room for it.
+#[tactic(auto, using(crate::proofs::RemovalLemmas::removal_spelled, std::proofs::Common::append_assoc))]
+fn append(out: &mut Vec<u8>, removal: &Removal)
+    requires writable { IsWritableRemoval removal.now }
+    requires room { vec_len out.old + length (removal_bytes removal.now) ≤ vec_capacity out.old }
+    ensures bytes { out.new.items ≡ out.old.items ++ removal_bytes removal.now }
+    ensures spelled { SpellsRemoval removal.now 0 (removal_bytes removal.now) }
+{
+    put_header(out, Packet::DeviceListRemove);
+    put_counted(out, removal.as_slice());
+}
+
+/// How many bytes a removal is written in.
+#[tactic(auto, using(crate::proofs::RemovalLemmas::length_ids))]
+fn size_of(removal: &Removal) -> usize
+    requires { IsWritableRemoval removal.now }
+    ensures { result ≡ length (removal_bytes removal.now) }
+{
+    HEADER_LEN + 4 + 4 * removal.as_slice().len()
 }
 
 /// Whether a removal can be written: it isn't too long.

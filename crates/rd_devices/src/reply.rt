@@ -1,12 +1,12 @@
 //! The host's reply to a device that was announced (MS-RDPEFS 2.2.2.1).
 
-ghost use Rattle.std.specs.Prelude.{◌≡◌, ◌++◌, IfOk, IfErr, OnOk};
+ghost use Rattle.std.specs.Prelude.{◌≡◌, ◌++◌, IfOk, IfErr, OnErr, OnOk};
 ghost use Rattle.rd_base.specs.Reading.{Reads, WithTail};
 ghost use Rattle.rd_devices.specs.DeviceReply.{device_reply, reply_bytes, SpellsReply, FirstFaultOfReply};
 
 use rd_base::{
-    Bad, Bytes, Cursor, Format, HEADER_LEN, Packet, ReadNo, Status, put_header, read_header,
-    tail_len, write_message,
+    Bad, Bytes, Cursor, Format, HEADER_LEN, Packet, ReadNo, Status, append_message, put_header,
+    put_u32, read_header, tail_len, write_message,
 };
 use std::alloc::{AllocError, Global};
 
@@ -52,11 +52,11 @@ impl Format for DeviceReply {
         Ok(reply_of(cursor)?)
     }
 
-    #[tactic(auto, using(crate::proofs::DeviceReplyLemmas::reply_spelled))]
-    fn put(&self, out: &mut Vec<u8>) -> Result<(), AllocError> {
-        put_header(out, Packet::DeviceReply)?;
-        out.extend_from_slice(&self.id.to_le_bytes())?;
-        out.extend_from_slice(&self.code.0.to_le_bytes())
+    #[tactic(auto, using(crate::proofs::DeviceReplyLemmas::reply_spelled, std::proofs::Common::append_assoc), unfolding(rd_base::specs::Fields::bytes32))]
+    fn put(&self, out: &mut Vec<u8>) {
+        put_header(out, Packet::DeviceReply);
+        put_u32(out, self.id);
+        put_u32(out, self.code.0);
     }
 
     fn size(&self) -> usize {
@@ -72,10 +72,10 @@ pub fn write_reply(alloc: Global, reply: &DeviceReply) -> Result<Bytes, AllocErr
     write_message(alloc, reply)
 }
 
-/// Writes a reply after what the buffer holds. Where memory runs out, the buffer may hold a part of it
-/// after that.
+/// Appends a reply. Where there is no memory for all of it, nothing is appended.
 pub fn put_reply(out: &mut Vec<u8>, reply: &DeviceReply) -> Result<(), AllocError>
-    ensures { OnOk result (out.new.items ≡ out.old.items ++ reply_bytes reply.now) }
+    ensures bytes { OnOk result (out.new.items ≡ out.old.items ++ reply_bytes reply.now) }
+    ensures err { OnErr result (out.new.items ≡ out.old.items) }
 {
-    reply.put(out)
+    append_message(out, reply)
 }

@@ -9,7 +9,7 @@ use Rattle.std.specs.Cmp.Lexicographic.{slice_cmp, on_texts, lists_total, nat_li
 use Rattle.std.proofs.lemmas.Map.Lookups.{exact_bytes}
 use Rattle.rd_dirinfo.specs.declared.naming.Naming.{Naming}
 use Rattle.rd_dirinfo.specs.declared.naming.Naming.TheVariants.{Exact, Folded}
-use Rattle.rd_dirinfo.specs.Naming.{Name, seen, seen_unit, fold_unit, name_cmp, IsSame, IsBefore}
+use Rattle.rd_dirinfo.specs.Naming.{Name, seen, seen_unit, fold_unit, name_cmp, IsSame, SortsBefore}
 use Rattle.rd_dirinfo.specs.Paths.{Names, path_cmp, IsSamePath}
 
 -- ---- what a naming sees
@@ -49,21 +49,21 @@ same_back naming a b same = sym same
 pub same_chain : (naming : Naming) (a b c : Name) → IsSame naming a b → IsSame naming b c → IsSame naming a c
 same_chain naming a b c first second = first ∙ second
 
-pub never_before_itself : (naming : Naming) (a b : Name) → IsSame naming a b → IsBefore naming a b → ⊥
+pub never_before_itself : (naming : Naming) (a b : Name) → IsSame naming a b → SortsBefore naming a b → ⊥
 never_before_itself naming a b same before = let equal = (equal_is_same naming a b).1 same in cc
 
-pub before_chain : (naming : Naming) (a b c : Name) → IsBefore naming a b → IsBefore naming b c → IsBefore naming a c
+pub before_chain : (naming : Naming) (a b c : Name) → SortsBefore naming a b → SortsBefore naming b c → SortsBefore naming a c
 before_chain naming = (name_order naming).trans
 
-pub one_of_three : (naming : Naming) (a b : Name) → IsBefore naming a b ⊎ (IsSame naming a b ⊎ IsBefore naming b a)
+pub one_of_three : (naming : Naming) (a b : Name) → SortsBefore naming a b ⊎ (IsSame naming a b ⊎ SortsBefore naming b a)
 one_of_three naming a b = of (name_cmp naming a b) refl
   where
-    of : (order : Ordering) → name_cmp naming a b ≡ order → IsBefore naming a b ⊎ (IsSame naming a b ⊎ IsBefore naming b a)
+    of : (order : Ordering) → name_cmp naming a b ≡ order → SortsBefore naming a b ⊎ (IsSame naming a b ⊎ SortsBefore naming b a)
     of Less e = inl e
     of Equal e = inr (inl ((equal_is_same naming a b).0 e))
     of Greater e = inr (inr ((name_order naming).antisymm b a ∙ ap ordering_reverse e))
 
-pub before_respects : (naming : Naming) (a b c d : Name) → IsSame naming a c → IsSame naming b d → IsBefore naming a b → IsBefore naming c d
+pub before_respects : (naming : Naming) (a b c d : Name) → IsSame naming a c → IsSame naming b d → SortsBefore naming a b → SortsBefore naming c d
 before_respects naming a b c d first second before = (λ i. slice_cmp nat_cmp (sym first i) (sym second i)) ∙ before
 
 -- ---- paths

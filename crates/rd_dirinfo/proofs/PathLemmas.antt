@@ -8,7 +8,7 @@ use Rattle.std.proofs.lemmas.List.Quantifiers.{position-Some}
 use Rattle.std.proofs.lemmas.Option.{none-some}
 use Rattle.std.proofs.Math.Dec.{eqb-suc-zero}
 use Rattle.rd_dirinfo.specs.Naming.{Name}
-use Rattle.rd_dirinfo.specs.Paths.{backslash, to_first, parts_of, Part, placed, without_empty_front, without_empty_end, rest_parts, named_parts, names_of, first_bad, path_fault, or_too_long, path_len, is_name, is_path, most_names, most_path_units}
+use Rattle.rd_dirinfo.specs.Paths.{backslash, to_first, parts_of, Part, placed_parts, without_empty_first, without_empty_end, rest_parts, named_parts, names_of, first_bad, path_fault, or_too_long, path_len, is_name, is_path, most_names, most_path_units}
 
 -- ---- the first part
 
@@ -53,10 +53,10 @@ some_part (u ∷ us) = of (u == backslash) (some_part us)
     of true rest = ([], parts_of us, refl)
     of false rest = (u ∷ rest.0, rest.1, ap (to_first u) rest.2)
 
-placed_some : (at : ℕ) (units : List ℕ) → (length (placed at (parts_of units)) == 0) ≡ false
+placed_some : (at : ℕ) (units : List ℕ) → (length (placed_parts at (parts_of units)) == 0) ≡ false
 placed_some at units =
     let some = some_part units in
-    ap (λ (parts : List Name). length (placed at parts) == 0) some.2 ∙ eqb-suc-zero (length (placed (at + length some.0 + 1) some.1))
+    ap (λ (parts : List Name). length (placed_parts at parts) == 0) some.2 ∙ eqb-suc-zero (length (placed_parts (at + length some.0 + 1) some.1))
 
 end_more : (part : Part) (parts : List Part) → (length parts == 0) ≡ false → without_empty_end (part ∷ parts) ≡ part ∷ without_empty_end parts
 end_more part parts h = rw h refl
@@ -67,11 +67,11 @@ end_last at (u ∷ us) some = rw (eqb-suc-zero (length us)) refl
 
 pub rest_with : (at : ℕ) (units : List ℕ) (i : ℕ) → position (λ (unit : ℕ). unit == backslash) units ≡ Some i → rest_parts at units ≡ record { at = at; name = take i units } ∷ rest_parts (at + length (take i units) + 1) (drop (i + 1) units)
 rest_with at units i h =
-    ap (λ (parts : List Name). without_empty_end (placed at parts)) (parts_with units i h)
-    ∙ end_more (record { at = at; name = take i units }) (placed (at + length (take i units) + 1) (parts_of (drop (i + 1) units))) (placed_some (at + length (take i units) + 1) (drop (i + 1) units))
+    ap (λ (parts : List Name). without_empty_end (placed_parts at parts)) (parts_with units i h)
+    ∙ end_more (record { at = at; name = take i units }) (placed_parts (at + length (take i units) + 1) (parts_of (drop (i + 1) units))) (placed_some (at + length (take i units) + 1) (drop (i + 1) units))
 
 pub rest_without : (at : ℕ) (units : List ℕ) → position (λ (unit : ℕ). unit == backslash) units ≡ None → units ≢ [] → rest_parts at units ≡ record { at = at; name = units } ∷ []
-rest_without at units h some = ap (λ (parts : List Name). without_empty_end (placed at parts)) (parts_without units h) ∙ end_last at units some
+rest_without at units h some = ap (λ (parts : List Name). without_empty_end (placed_parts at parts)) (parts_without units h) ∙ end_last at units some
 
 -- ---- the last part
 
@@ -79,10 +79,10 @@ last_more : (part : Part) (parts : List Part) → (length parts == 0) ≡ false 
 last_more part [] h = absurd (cc)
 last_more part (other ∷ parts) h = refl
 
-pub last_with : (at : ℕ) (units : List ℕ) (i : ℕ) → position (λ (unit : ℕ). unit == backslash) units ≡ Some i → last_or None (placed at (parts_of units)) ≡ last_or None (placed (at + length (take i units) + 1) (parts_of (drop (i + 1) units)))
+pub last_with : (at : ℕ) (units : List ℕ) (i : ℕ) → position (λ (unit : ℕ). unit == backslash) units ≡ Some i → last_or None (placed_parts at (parts_of units)) ≡ last_or None (placed_parts (at + length (take i units) + 1) (parts_of (drop (i + 1) units)))
 last_with at units i h =
-    ap (λ (parts : List Name). last_or None (placed at parts)) (parts_with units i h)
-    ∙ last_more (record { at = at; name = take i units }) (placed (at + length (take i units) + 1) (parts_of (drop (i + 1) units))) (placed_some (at + length (take i units) + 1) (drop (i + 1) units))
+    ap (λ (parts : List Name). last_or None (placed_parts at parts)) (parts_with units i h)
+    ∙ last_more (record { at = at; name = take i units }) (placed_parts (at + length (take i units) + 1) (parts_of (drop (i + 1) units))) (placed_some (at + length (take i units) + 1) (drop (i + 1) units))
 
 -- where what comes after a backslash begins
 pub after_at : (whole : ℕ) (rest others : List ℕ) (i : ℕ) → position (λ (unit : ℕ). unit == backslash) rest ≡ Some i → length rest ≤ whole → others ≡ drop (i + 1) rest → (whole - length rest + length (take i rest) + 1 ≡ whole - length others) × (length others ≤ whole)
@@ -120,15 +120,15 @@ weight_parts (u ∷ us) = of (u == backslash) (some_part us) (weight_parts us)
 names_in : List Part → List Name
 names_in = map (λ (part : Part). part.name)
 
-names_placed : (at : ℕ) (names : List Name) → names_in (placed at names) ≡ names
+names_placed : (at : ℕ) (names : List Name) → names_in (placed_parts at names) ≡ names
 unfolding names_in
 names_placed at [] = refl
 names_placed at (name ∷ names) = ap (λ (others : List Name). name ∷ others) (names_placed (at + length name + 1) names)
 
-weight_front : (parts : List Part) → weight (names_in (without_empty_front parts)) ≤ weight (names_in parts)
+weight_first : (parts : List Part) → weight (names_in (without_empty_first parts)) ≤ weight (names_in parts)
 unfolding weight names_in
-weight_front [] = le_refl 0
-weight_front (part ∷ parts) = of (length part.name == 0)
+weight_first [] = le_refl 0
+weight_first (part ∷ parts) = of (length part.name == 0)
   where
     of : (b : Bool) → weight (names_in (cond b parts (part ∷ parts))) ≤ weight (names_in (part ∷ parts))
     of true = omega arith
@@ -150,9 +150,9 @@ len_of (name ∷ names) n h = let sum = weight_sum (name ∷ names) in omega ari
 len_within : (units : List ℕ) → path_len (names_of units) ≤ length units
 unfolding names_in
 len_within units =
-    let all : weight (names_in (placed 0 (parts_of units))) ≡ length units + 1 = ap weight (names_placed 0 (parts_of units)) ∙ weight_parts units in
-    let front = weight_front (placed 0 (parts_of units)) in
-    let end = weight_end (without_empty_front (placed 0 (parts_of units))) in
+    let all : weight (names_in (placed_parts 0 (parts_of units))) ≡ length units + 1 = ap weight (names_placed 0 (parts_of units)) ∙ weight_parts units in
+    let prefix = weight_first (placed_parts 0 (parts_of units)) in
+    let end = weight_end (without_empty_first (placed_parts 0 (parts_of units))) in
     len_of (names_of units) (length units) (omega arith)
 
 good_names : (room : ℕ) (parts : List Part) → first_bad room parts ≡ None → (list_all is_name (names_in parts) ≡ true) × (length (names_in parts) ≤ room)

@@ -9,7 +9,7 @@ use Rattle.ucd_case.specs.SimpleFoldingRows.{simple_folding_rows}
 use Rattle.rd_dirinfo.specs.declared.naming.Naming.{Naming}
 use Rattle.rd_dirinfo.specs.declared.naming.Naming.TheVariants.{Exact, Folded}
 use Rattle.rd_dirinfo.specs.Naming.{Name, seen}
-use Rattle.rd_dirinfo.specs.Patterns.{Matches, matches, star, question, any_name, or_any, stands_for, is_cut_by, StandsFor, IsCutBy}
+use Rattle.rd_dirinfo.specs.Patterns.{Matches, matches, star, question, any_name, or_any, stands_for, is_cut_by, UnitMatches, IsCutBy}
 
 -- ---- one unit of a pattern
 
@@ -72,10 +72,10 @@ any_matches (u ∷ us) = cut_star_first [] u us ∙ (λ i. cut_none_first u us i
 
 -- ---- the test is exact
 
-stands : (p u : ℕ) → stands_for p u ≡ true → StandsFor p (u ∷ [])
+stands : (p u : ℕ) → stands_for p u ≡ true → UnitMatches p (u ∷ [])
 stands p u = by (p == question) refl
   where
-    by : (b : Bool) → (p == question) ≡ b → (b || (p == u)) ≡ true → StandsFor p (u ∷ [])
+    by : (b : Bool) → (p == question) ≡ b → (b || (p == u)) ≡ true → UnitMatches p (u ∷ [])
     by true e h = inr (inl (eqb-true p question e, refl))
     by false e h = inr (inr (ap (λ (v : ℕ). v ∷ []) (sym (eqb-true p u h))))
 
@@ -115,7 +115,7 @@ cut_complete (p ∷ ps) name h = of (p == star) refl (cut_complete ps h.1 h.4)
         or_true true e = refl
         or_true false e = e
 
-        unit : (run : List ℕ) → StandsFor p run → is_cut_by (p ∷ ps) (run ++ h.1) ≡ true
+        unit : (run : List ℕ) → UnitMatches p run → is_cut_by (p ∷ ps) (run ++ h.1) ≡ true
         unit run (inl is) = let yes = eq-eqb p star is in absurd (cc)
         unit run (inr (inl (q, l))) = of_one run q l
         unit run (inr (inr is)) = rw is (one p (or_true (p == question) (eq-eqb p p refl)))

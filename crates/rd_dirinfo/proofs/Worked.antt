@@ -9,7 +9,7 @@ use Rattle.rd_base.specs.Fields.{bytes8, bytes32, bytes64}
 use Rattle.rd_base.specs.Moments.{moments_bytes}
 use Rattle.rd_base.specs.Classes.{met_choice, choice}
 use Rattle.rd_dirinfo.specs.declared.entry.Entry.{Entry}
-use Rattle.rd_dirinfo.specs.Entry.{entry_named, entry_start, entry_head, directory_entry, full_directory_entry, both_directory_entry, names_entry, entry_classes, entry_bytes, head_bytes}
+use Rattle.rd_dirinfo.specs.Entry.{entry_named, entry_start, entry_head, directory_entry, full_directory_entry, both_directory_entry, names_entry, entry_classes, entry_bytes, entry_head_bytes}
 
 -- what the definition makes of a buffer of a class
 unfoldable read_as : ℕ → List ℕ → Result (Entry × Position) InfoNo
@@ -71,13 +71,13 @@ writes_a_name = refl
 
 -- an entry whose name has one unit, in each class that tells its numbers
 writes_64_and_the_name : length (entry_bytes 1 (entry_named (0x61 ∷ []))) ≡ 66
-unfolding head_bytes moments_bytes bytes8 bytes32 bytes64
+unfolding entry_head_bytes moments_bytes bytes8 bytes32 bytes64
 writes_64_and_the_name = refl
 
 writes_68_and_the_name : length (entry_bytes 2 (entry_named (0x61 ∷ []))) ≡ 70
-unfolding head_bytes moments_bytes bytes8 bytes32 bytes64
+unfolding entry_head_bytes moments_bytes bytes8 bytes32 bytes64
 writes_68_and_the_name = refl
 
 writes_93_and_the_name : length (entry_bytes 3 (entry_named (0x61 ∷ []))) ≡ 95
-unfolding head_bytes moments_bytes bytes8 bytes32 bytes64
+unfolding entry_head_bytes moments_bytes bytes8 bytes32 bytes64
 writes_93_and_the_name = refl

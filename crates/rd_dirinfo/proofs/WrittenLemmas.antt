@@ -10,7 +10,7 @@ use Rattle.rd_base.proofs.WrittenLemmas.{Written, done_last, layout_then, number
 use Rattle.rd_base.proofs.WrittenFieldLemmas.{constant_written, constant_then, zeros_then, moments_then, length_then, text_last}
 use Rattle.rd_dirinfo.specs.declared.entry.Entry.{Entry}
 use Rattle.rd_dirinfo.specs.declared.entry.Head.{Head}
-use Rattle.rd_dirinfo.specs.Entry.{entry_with, entry_named, entry_start, entry_head, directory_entry, full_directory_entry, both_directory_entry, names_entry, entry_classes, sent_entry, entry_bytes, head_bytes, EntryFits, IsEntryInRange, SpellsEntry}
+use Rattle.rd_dirinfo.specs.Entry.{entry_with, entry_named, entry_start, entry_head, directory_entry, full_directory_entry, both_directory_entry, names_entry, entry_classes, sent_entry, entry_bytes, entry_head_bytes, EntryFits, IsEntryInRange, SpellsEntry}
 
 -- a class of entries is one of the four
 one_of_four : (n : ℕ) → IsListed entry_classes n → (n ≡ 1) ⊎ ((n ≡ 2) ⊎ ((n ≡ 3) ⊎ (n ≡ 12)))
@@ -33,25 +33,25 @@ entry_start_written after = constant_then four_bytes 0 (lit< tt) (constant_writt
 head_of : Entry → Head
 head_of e = record { moments = e.moments; end = e.end; allocation = e.allocation; attributes = e.attributes; name_len = 2 * length e.name }
 
-head_written : (e : Entry) (after : List ℕ) → EntryFits e → IsEntryInRange e → Written entry_head (head_of e) (head_bytes e) after
-unfolding entry_head head_bytes head_of bytes32 bytes64 moments_bytes
+head_written : (e : Entry) (after : List ℕ) → EntryFits e → IsEntryInRange e → Written entry_head (head_of e) (entry_head_bytes e) after
+unfolding entry_head entry_head_bytes head_of bytes32 bytes64 moments_bytes
 head_written e after f r =
     layout_then tt (bytes32 0 ++ bytes32 0) (entry_start_written _)
     (moments_then e.moments r.0 (number_then e.end r.1 (number_then e.allocation r.2 (number_then e.attributes r.3 (length_then (2 * length e.name) (length e.name) refl f (done_last _ after))))))
 
 entry_of_four : (n : ℕ) (e : Entry) → (n ≡ 1) ⊎ ((n ≡ 2) ⊎ ((n ≡ 3) ⊎ (n ≡ 12))) → EntryFits e → IsEntryInRange (sent_entry n e) → SpellsEntry n (sent_entry n e) 0 (entry_bytes n e)
-unfolding entry_classes directory_entry full_directory_entry both_directory_entry names_entry head_of head_bytes bytes8 bytes32 bytes64 moments_bytes
+unfolding entry_classes directory_entry full_directory_entry both_directory_entry names_entry head_of entry_head_bytes bytes8 bytes32 bytes64 moments_bytes
 entry_of_four n e which f =
     let count = 2 * length e.name in
     let P : ℕ → Type 0 = λ m. IsEntryInRange (sent_entry m e) → SpellsEntry m (sent_entry m e) 0 (entry_bytes m e) in
     let name = text_last [] (entry_with (head_of e)) e.name count refl in
     elim which [
       | inl is ↦ subst P (sym is) (λ r.
-          spells_all directory_entry _ _ (layout_then (head_of e) (head_bytes e) (head_written e _ f r) (name r.4)))
+          spells_all directory_entry _ _ (layout_then (head_of e) (entry_head_bytes e) (head_written e _ f r) (name r.4)))
       | inr (inl is) ↦ subst P (sym is) (λ r.
-          spells_all full_directory_entry _ _ (layout_then (head_of e) (head_bytes e) (head_written e _ f r) (constant_then four_bytes 0 (lit< tt) (name r.4))))
+          spells_all full_directory_entry _ _ (layout_then (head_of e) (entry_head_bytes e) (head_written e _ f r) (constant_then four_bytes 0 (lit< tt) (name r.4))))
       | inr (inr (inl is)) ↦ subst P (sym is) (λ r.
-          spells_all both_directory_entry _ _ (layout_then (head_of e) (head_bytes e) (head_written e _ f r) (constant_then four_bytes 0 (lit< tt) (constant_then one_byte 0 (lit< tt) (zeros_then 24 (name r.4))))))
+          spells_all both_directory_entry _ _ (layout_then (head_of e) (entry_head_bytes e) (head_written e _ f r) (constant_then four_bytes 0 (lit< tt) (constant_then one_byte 0 (lit< tt) (zeros_then 24 (name r.4))))))
       | inr (inr (inr is)) ↦ subst P (sym is) (λ r.
           spells_all names_entry _ _ (layout_then tt (bytes32 0 ++ bytes32 0) (entry_start_written _) (length_then count (length e.name) refl f (text_last [] entry_named e.name count refl r.4))))
     ]

@@ -117,17 +117,17 @@ abbrev pub EntryFits : Entry → Type 0
 EntryFits e = 2 * length e.name < 2 ^ 32
 
 -- the bytes of the head of an entry: eight zero bytes, its numbers, and the length of its name
-unfoldable pub head_bytes : Entry → List ℕ
-head_bytes e =
+unfoldable pub entry_head_bytes : Entry → List ℕ
+entry_head_bytes e =
     bytes32 0 ++ bytes32 0 ++ moments_bytes e.moments ++ bytes64 e.end ++ bytes64 e.allocation ++ bytes32 e.attributes
     ++ bytes32 (2 * length e.name)
 
 -- the bytes that are written of an entry in this class
 abbrev pub entry_bytes : ℕ → Entry → List ℕ
 entry_bytes n e =
-    if n == directory then head_bytes e ++ text_bytes e.name
-    else (if n == full_directory then head_bytes e ++ bytes32 0 ++ text_bytes e.name
-    else (if n == both_directory then head_bytes e ++ bytes32 0 ++ bytes8 0 ++ replicate 24 0 ++ text_bytes e.name
+    if n == directory then entry_head_bytes e ++ text_bytes e.name
+    else (if n == full_directory then entry_head_bytes e ++ bytes32 0 ++ text_bytes e.name
+    else (if n == both_directory then entry_head_bytes e ++ bytes32 0 ++ bytes8 0 ++ replicate 24 0 ++ text_bytes e.name
     else (if n == names then bytes32 0 ++ bytes32 0 ++ bytes32 (2 * length e.name) ++ text_bytes e.name
     else [])))
 

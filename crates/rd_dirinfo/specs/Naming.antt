@@ -47,5 +47,5 @@ abbrev pub IsSame : Naming → Name → Name → Type 0
 IsSame naming a b = seen naming a ≡ seen naming b
 
 -- the first name comes before the second
-abbrev pub IsBefore : Naming → Name → Name → Type 0
-IsBefore naming a b = name_cmp naming a b ≡ Less
+abbrev pub SortsBefore : Naming → Name → Name → Type 0
+SortsBefore naming a b = name_cmp naming a b ≡ Less

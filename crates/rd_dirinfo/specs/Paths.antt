@@ -48,7 +48,7 @@ is_name name = nat_le 1 (length name) && nat_le (length name) most_name_units &&
 
 -- ---- which units spell a path
 
--- the unit in front of the first part
+-- the unit before the first part
 abbrev pub to_first : ℕ → List Name → List Name
 to_first unit [] = (unit ∷ []) ∷ []
 to_first unit (part ∷ parts) = (unit ∷ part) ∷ parts
@@ -66,14 +66,14 @@ pub record Part : Type 0 where
   pub name : Name
 
 -- the parts with their places, of which the first is given
-abbrev pub placed : ℕ → List Name → List Part
-placed at [] = []
-placed at (part ∷ parts) = record { at = at; name = part } ∷ placed (at + length part + 1) parts
+abbrev pub placed_parts : ℕ → List Name → List Part
+placed_parts at [] = []
+placed_parts at (part ∷ parts) = record { at = at; name = part } ∷ placed_parts (at + length part + 1) parts
 
--- without an empty part in front
-abbrev pub without_empty_front : List Part → List Part
-without_empty_front [] = []
-without_empty_front (part ∷ parts) = if length part.name == 0 then parts else part ∷ parts
+-- without an empty first part
+abbrev pub without_empty_first : List Part → List Part
+without_empty_first [] = []
+without_empty_first (part ∷ parts) = if length part.name == 0 then parts else part ∷ parts
 
 -- without an empty part at the end
 abbrev pub without_empty_end : List Part → List Part
@@ -84,11 +84,11 @@ without_empty_end (part ∷ parts) =
 
 -- the parts of units that begin at a place, without an empty one at the end
 abbrev pub rest_parts : ℕ → List ℕ → List Part
-rest_parts at units = without_empty_end (placed at (parts_of units))
+rest_parts at units = without_empty_end (placed_parts at (parts_of units))
 
 -- the parts that are to be names
 abbrev pub named_parts : List ℕ → List Part
-named_parts units = without_empty_end (without_empty_front (placed 0 (parts_of units)))
+named_parts units = without_empty_end (without_empty_first (placed_parts 0 (parts_of units)))
 
 -- the place of the first part that is no name, or for which no place is left of so many
 abbrev pub first_bad : ℕ → List Part → Option ℕ
@@ -111,8 +111,8 @@ abbrev pub names_of : List ℕ → Names
 names_of units = map (λ (part : Part). part.name) (named_parts units)
 
 -- the path that units spell, if they do
-abbrev pub path_of : List ℕ → Option Names
-path_of units =
+abbrev pub parsed_path : List ℕ → Option Names
+parsed_path units =
     elim (path_fault units) [
       | Some at ↦ None
       | None ↦ Some (names_of units)

@@ -5,7 +5,7 @@ use Rattle.std.specs.Option.{unwrap_or}
 use Rattle.rd_dirinfo.specs.declared.naming.Naming.{Naming}
 use Rattle.std.specs.Ordering.{is_lt}
 use Rattle.rd_dirinfo.specs.Naming.{Name, seen, name_cmp}
-use Rattle.rd_dirinfo.specs.Paths.{Part, parts_of, placed, most_name_units}
+use Rattle.rd_dirinfo.specs.Paths.{Part, parts_of, placed_parts, most_name_units}
 
 -- `*`
 abbrev pub star : ℕ
@@ -29,7 +29,7 @@ read_pattern part = if bytes_eq part (codes "*.*") then any_name else or_any par
 
 -- the part after the last backslash, and its place
 abbrev pub last_part : List ℕ → Part
-last_part units = unwrap_or (last_or None (placed 0 (parts_of units))) (record { at = 0; name = [] })
+last_part units = unwrap_or (last_or None (placed_parts 0 (parts_of units))) (record { at = 0; name = [] })
 
 -- Where the last part of a path begins, if it is too long for a pattern. A place that 32 bits don't hold is the last that they hold.
 abbrev pub pattern_fault : List ℕ → Option ℕ
@@ -44,13 +44,13 @@ pattern_of units = read_pattern (last_part units).name
 -- ---- what a pattern stands for
 
 -- A unit of a pattern stands for a run of units: `*` for any run, `?` for any one unit, and each unit for itself.
-abbrev pub StandsFor : ℕ → List ℕ → Type 0
-StandsFor p run = (p ≡ star) ⊎ (((p ≡ question) × (length run ≡ 1)) ⊎ (run ≡ p ∷ []))
+abbrev pub UnitMatches : ℕ → List ℕ → Type 0
+UnitMatches p run = (p ≡ star) ⊎ (((p ≡ question) × (length run ≡ 1)) ⊎ (run ≡ p ∷ []))
 
 -- A name can be cut into as many runs as the pattern has units, each of which stands for its run.
 abbrev pub IsCutBy : List ℕ → Name → Type 0
 IsCutBy [] name = name ≡ []
-IsCutBy (p ∷ ps) name = (run : List ℕ) × (rest : Name) × (name ≡ run ++ rest) × StandsFor p run × IsCutBy ps rest
+IsCutBy (p ∷ ps) name = (run : List ℕ) × (rest : Name) × (name ≡ run ++ rest) × UnitMatches p run × IsCutBy ps rest
 
 -- a name matches a pattern in a naming, by what it sees of them
 abbrev pub Matches : Naming → List ℕ → Name → Type 0
@@ -59,9 +59,9 @@ Matches naming pattern name = IsCutBy (seen naming pattern) (seen naming name)
 -- ---- the same, as a test that computes
 
 -- a name, and what is left of it without its first unit, its first two, and so on
-abbrev pub ends_of : Name → List Name
-ends_of [] = [] ∷ []
-ends_of (unit ∷ units) = (unit ∷ units) ∷ ends_of units
+abbrev pub suffixes : Name → List Name
+suffixes [] = [] ∷ []
+suffixes (unit ∷ units) = (unit ∷ units) ∷ suffixes units
 
 -- the first unit passes one test, and the others another
 abbrev pub begins_so : (ℕ → Bool) → (Name → Bool) → Name → Bool
@@ -76,7 +76,7 @@ stands_for p unit = p == question || p == unit
 unfoldable pub is_cut_by : List ℕ → Name → Bool
 is_cut_by [] name = length name == 0
 is_cut_by (p ∷ ps) name =
-    let run = list_any (is_cut_by ps) (ends_of name) in
+    let run = list_any (is_cut_by ps) (suffixes name) in
     let unit = begins_so (stands_for p) (is_cut_by ps) name in
     if p == star then run else unit
 

@@ -4,26 +4,15 @@ ghost use Rattle.std.specs.Prelude.{◌≡◌, ◌+◌, ◌<◌, ◌≤◌, ◌^
 ghost use Rattle.rd_base.specs.Classes.{IsListed, IsRefusal, IsUnlisted, ReadsOfClass};
 ghost use Rattle.rd_base.specs.Moments.{MomentsFit};
 ghost use Rattle.rd_base.specs.Reading.{Reads, ReadsInto};
-ghost use Rattle.rd_dirinfo.specs.Entry.{both_directory, both_directory_entry, directory_entry, entry_bytes, entry_classes, entry_head, entry_with, full_directory_entry, entry_start, head_bytes, names_entry, sent_entry, EntryFits, IsEntryInRange, IsUnwritten, SpellsEntry};
+ghost use Rattle.rd_dirinfo.specs.Entry.{both_directory, both_directory_entry, directory_entry, entry_bytes, entry_classes, entry_head, entry_with, full_directory_entry, entry_start, entry_head_bytes, names_entry, sent_entry, EntryFits, IsEntryInRange, IsUnwritten, SpellsEntry};
 
+use crate::classes::{BOTH_DIRECTORY, DIRECTORY, FULL_DIRECTORY, NAMES};
 use rd_base::{
     Bad, Bytes, Cursor, InfoNo, Moments, ReadNo, Units, put_bytes, put_moments, put_u8, put_u32,
     put_u64, put_units, read_constant_u8, read_constant_u32, read_moments, read_text,
     read_units_length, read_zeros,
 };
 use std::alloc::{AllocError, Global};
-
-/// FileDirectoryInformation
-const DIRECTORY: u32 = 1;
-
-/// FileFullDirectoryInformation
-const FULL_DIRECTORY: u32 = 2;
-
-/// FileBothDirectoryInformation
-const BOTH_DIRECTORY: u32 = 3;
-
-/// FileNamesInformation
-const NAMES: u32 = 12;
 
 /// So many units have more bytes than a length can say.
 const TOO_MANY_UNITS: usize = 0x8000_0000;
@@ -266,11 +255,11 @@ fn append_both_directory(out: &mut Vec<u8>, entry: &Entry) -> Result<(), AllocEr
 }
 
 /// The zero entry_start, the numbers, and the length of the name.
-#[tactic(auto, unfolding(crate::specs::Entry::head_bytes))]
+#[tactic(auto, unfolding(crate::specs::Entry::entry_head_bytes))]
 fn put_head(out: &mut Vec<u8>, entry: &Entry)
     requires room { vec_len out.old + 64 ≤ vec_capacity out.old }
     requires fits { EntryFits entry.now }
-    ensures bytes { out.new.items ≡ out.old.items ++ head_bytes entry.now }
+    ensures bytes { out.new.items ≡ out.old.items ++ entry_head_bytes entry.now }
     ensures len { vec_len out.new ≡ vec_len out.old + 64 }
     ensures room { vec_capacity out.old ≤ vec_capacity out.new }
     ensures moments { MomentsFit entry.now.moments }

@@ -6,8 +6,8 @@ ghost use Rattle.std.specs.Cmp.{IsTotalOrder};
 ghost use Rattle.std.specs.declared.cmp.Ordering.TheVariants.{Equal};
 ghost use Rattle.rd_base.specs.Classes.{IsOneOfClass};
 ghost use Rattle.rd_dirinfo.specs.Entry.{entry_classes};
-ghost use Rattle.rd_dirinfo.specs.Naming.{fold_unit, folding, name_cmp, IsSame, IsBefore};
-ghost use Rattle.rd_dirinfo.specs.Paths.{path_fault, path_of, path_cmp, IsSamePath};
+ghost use Rattle.rd_dirinfo.specs.Naming.{fold_unit, folding, name_cmp, IsSame, SortsBefore};
+ghost use Rattle.rd_dirinfo.specs.Paths.{path_fault, parsed_path, path_cmp, IsSamePath};
 ghost use Rattle.rd_dirinfo.specs.Patterns.{matches, pattern_fault, pattern_of};
 ghost use Rattle.rd_dirinfo.specs.declared.naming.Naming.TheVariants as Naming;
 
@@ -26,9 +26,9 @@ pub fn names_are_ordered(naming: Naming)
     ensures paths { IsTotalOrder (path_cmp naming) }
     ensures same { (a b : List ℕ) → (name_cmp naming a b ≡ Equal) ↔ IsSame naming a b }
     ensures same_paths { (p q : List (List ℕ)) → (path_cmp naming p q ≡ Equal) ↔ IsSamePath naming p q }
-    ensures never { (a b : List ℕ) → IsSame naming a b → IsBefore naming a b → ⊥ }
-    ensures one { (a b : List ℕ) → IsBefore naming a b ⊎ (IsSame naming a b ⊎ IsBefore naming b a) }
-    ensures respects { (a b c d : List ℕ) → IsSame naming a c → IsSame naming b d → IsBefore naming a b → IsBefore naming c d }
+    ensures never { (a b : List ℕ) → IsSame naming a b → SortsBefore naming a b → ⊥ }
+    ensures one { (a b : List ℕ) → SortsBefore naming a b ⊎ (IsSame naming a b ⊎ SortsBefore naming b a) }
+    ensures respects { (a b c d : List ℕ) → IsSame naming a c → IsSame naming b d → SortsBefore naming a b → SortsBefore naming c d }
 {}
 
 /// What folding means, case by case: the three sigmas; the dotted capital I and the sharp s, whose foldings have more than one
@@ -41,16 +41,16 @@ pub fn foldings_are_as_listed()
     ensures kelvin { fold_unit 0x212a ≡ 0x6b }
     ensures pair { folding (0xd801 ∷ 0xdc00 ∷ []) ≡ 0xd801 ∷ 0xdc00 ∷ [] }
     ensures case { IsSame Naming.Folded (codes "Read.me") (codes "READ.ME") }
-    ensures before { IsBefore Naming.Folded (codes "a") (codes "B") }
-    ensures before_exact { IsBefore Naming.Exact (codes "B") (codes "a") }
+    ensures before { SortsBefore Naming.Folded (codes "a") (codes "B") }
+    ensures before_exact { SortsBefore Naming.Exact (codes "B") (codes "a") }
 {}
 
 /// Which units spell a path, case by case. 0x5c is the backslash.
 pub fn paths_are_as_listed()
-    ensures none { path_of [] ≡ Some [] }
-    ensures root { path_of (0x5c ∷ []) ≡ Some [] }
+    ensures none { parsed_path [] ≡ Some [] }
+    ensures root { parsed_path (0x5c ∷ []) ≡ Some [] }
     ensures two { path_fault (0x5c ∷ 0x5c ∷ []) ≡ Some 1 }
-    ensures names { path_of (0x5c ∷ codes "ab" ++ 0x5c ∷ codes "c" ++ 0x5c ∷ []) ≡ Some (codes "ab" ∷ codes "c" ∷ []) }
+    ensures names { parsed_path (0x5c ∷ codes "ab" ++ 0x5c ∷ codes "c" ++ 0x5c ∷ []) ≡ Some (codes "ab" ∷ codes "c" ∷ []) }
     ensures empty_name { path_fault (0x5c ∷ codes "a" ++ 0x5c ∷ 0x5c ∷ codes "b") ≡ Some 3 }
     ensures colon { path_fault (0x5c ∷ codes "a:b") ≡ Some 1 }
     ensures dots { path_fault (codes "a" ++ 0x5c ∷ codes "..") ≡ Some 2 }
@@ -67,7 +67,7 @@ pub fn patterns_are_as_listed()
     ensures case { matches Naming.Folded (codes "*.TXT") (codes "a.txt") ≡ true }
     ensures case_exact { matches Naming.Exact (codes "*.TXT") (codes "a.txt") ≡ false }
     ensures half { matches Naming.Exact (codes "?") (0xd801 ∷ 0xdc00 ∷ []) ≡ false }
-    ensures behind { pattern_of (0x5c ∷ codes "d" ++ 0x5c ∷ codes "a*") ≡ codes "a*" }
+    ensures after_folder { pattern_of (0x5c ∷ codes "d" ++ 0x5c ∷ codes "a*") ≡ codes "a*" }
     ensures nothing { pattern_of (0x5c ∷ codes "d" ++ 0x5c ∷ []) ≡ codes "*" }
     ensures dot { pattern_of (codes "*.*") ≡ codes "*" }
     ensures long { pattern_fault (0x5c ∷ replicate 256 0x61) ≡ Some 1 }

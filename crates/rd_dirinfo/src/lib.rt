@@ -12,6 +12,7 @@
 //! reservation of its exact size; reading one copies the name once.
 #![tactic(auto)]
 
+pub mod classes;
 mod entry;
 mod laws;
 mod matching;
@@ -25,5 +26,5 @@ pub use laws::{
     patterns_are_as_listed,
 };
 pub use naming::Naming;
-pub use path::{MOST_NAMES, MOST_PATH_UNITS, Path, PathNo};
+pub use path::{BACKSLASH, MOST_NAMES, MOST_PATH_UNITS, Path, PathNo};
 pub use pattern::Pattern;

@@ -62,7 +62,7 @@ pub fn matches(naming: Naming, pattern: &[u16], name: &[u16]) -> bool
     }
 }
 
-/// Whether a name matches a pattern that has a `*` in front.
+/// Whether a name matches a pattern that has a `*` before it.
 fn matches_after_star(naming: Naming, pattern: &[u16], name: &[u16]) -> bool
     ensures { result ≡ is_cut_by (star ∷ seen naming pattern.now) (seen naming name.now) }
 {

@@ -2,7 +2,7 @@
 
 ghost use Rattle.std.specs.Prelude.{◌≡◌, ◌↔◌, IsTrue};
 ghost use Rattle.std.specs.Ordering.{nat_cmp};
-ghost use Rattle.rd_dirinfo.specs.Naming.{fold_unit, seen_unit, name_cmp, IsSame, IsBefore};
+ghost use Rattle.rd_dirinfo.specs.Naming.{fold_unit, seen_unit, name_cmp, IsSame, SortsBefore};
 
 use std::cmp::Ordering;
 use unicode::case::simple_fold;
@@ -37,7 +37,7 @@ impl Naming {
 
     /// Whether the first name comes before the second.
     pub fn before(self, a: &[u16], b: &[u16]) -> bool
-        ensures { IsTrue result ↔ IsBefore self a.now b.now }
+        ensures { IsTrue result ↔ SortsBefore self a.now b.now }
     {
         self.compare(a, b).is_lt()
     }

@@ -2,7 +2,7 @@
 
 ghost use Rattle.std.specs.Prelude.{◌≡◌, ◌==◌, ◌≢◌, ◌↔◌, ◌+◌, ◌-◌, ◌<◌, ◌≤◌, ◌∷◌, [], ℕ, Err, Some, IfOk, IsTrue, drop, length, map, position};
 ghost use Rattle.std.specs.List.{list_all};
-ghost use Rattle.rd_dirinfo.specs.Paths.{backslash, is_name, is_name_unit, is_dots, first_bad, is_path, most_names, names_of, named_parts, path_fault, path_of, rest_parts, Part};
+ghost use Rattle.rd_dirinfo.specs.Paths.{backslash, is_name, is_name_unit, is_dots, first_bad, is_path, most_names, names_of, named_parts, path_fault, parsed_path, rest_parts, Part};
 ghost use Rattle.rd_dirinfo.specs.declared.path.PathNo.TheVariants as PathNo;
 
 use rd_base::Units;
@@ -60,7 +60,7 @@ impl Model for Path {
 impl Path {
     /// The path that units spell.
     pub fn split(alloc: Global, units: &[u16]) -> Result<Self, PathNo>
-        ensures split { IfOk result (λ path. path_of units.now ≡ Some path) }
+        ensures split { IfOk result (λ path. parsed_path units.now ≡ Some path) }
         ensures invalid { (at : ℕ) → (result ≡ Err (PathNo.Invalid at)) ↔ (path_fault units.now ≡ Some at) }
     {
         if let Some(at) = path_fault(units) {
@@ -115,8 +115,8 @@ fn is_name(name: &[u16]) -> bool
     are_name_units(name) && !is_dots(name)
 }
 
-/// The units without a backslash in front.
-fn without_front(units: &[u16]) -> &[u16]
+/// The units without a backslash before them.
+fn without_first_backslash(units: &[u16]) -> &[u16]
     ensures parts { named_parts units.now ≡ rest_parts (length units.now - length result.now) result.now }
     ensures one { length units.now ≤ length result.now + 1 }
     ensures within { length result.now ≤ length units.now }
@@ -160,7 +160,7 @@ fn cut_part(rest: &[u16]) -> (&[u16], &[u16])
 fn first_bad(units: &[u16]) -> Option<u32>
     ensures { result ≡ first_bad most_names (named_parts units.now) }
 {
-    let mut rest = without_front(units);
+    let mut rest = without_first_backslash(units);
     let mut at = (units.len() - rest.len()) as u32;
     let mut room = MOST_NAMES;
     while !rest.is_empty() {
@@ -191,7 +191,7 @@ fn names_of(alloc: Global, units: &[u16]) -> Result<Vec<Units>, AllocError>
     ensures { IfOk result (λ names. names.items ≡ names_of units.now) }
 {
     let mut names = Vec::new(alloc);
-    let mut rest = without_front(units);
+    let mut rest = without_first_backslash(units);
     while !rest.is_empty() {
         let (name, others) = cut_part(rest);
         names.push(Units::of(Vec::from_slice(alloc, name)?))?;

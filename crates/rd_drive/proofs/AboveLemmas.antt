@@ -5,6 +5,8 @@ use Rattle.std.specs.List.{list_any, list_all}
 use Rattle.std.specs.Option.{option_map, option_map_or, option_and_then, unwrap_or, is_some}
 use Rattle.std.proofs.lemmas.List.{append-nil, take-map}
 use Rattle.std.proofs.lemmas.List.Folds.{list_all-map}
+use Rattle.std.proofs.lemmas.Bool.{eqb-true}
+use Rattle.std.proofs.Math.Bool.{and-true}
 use Rattle.rd_dirinfo.specs.declared.naming.Naming.{Naming}
 use Rattle.rd_dirinfo.specs.Naming.{Name, seen}
 use Rattle.rd_dirinfo.specs.Paths.{Names, last_name, seen_path, parent, is_parent, is_prefix, is_same_path, IsSamePath}
@@ -16,7 +18,7 @@ use Rattle.rd_drive.specs.DriveState.{Node, is_at_path}
 use Rattle.rd_drive.specs.Create.{folders_above}
 use Rattle.rd_drive.specs.Store.{States, state_of, node_of, node_with, nodes_of}
 use Rattle.rd_drive.proofs.OrderLemmas.{order_any}
-use Rattle.rd_drive.proofs.LockLemmas.{alike, equal_numbers}
+use Rattle.rd_drive.proofs.LockLemmas.{alike}
 use Rattle.rd_drive.proofs.StoreLemmas.{AreListed, all_listed, first_listed, node_at_seen, node_of_number, number_at_own, own_is}
 
 -- paths that are the same have one node
@@ -53,10 +55,6 @@ parent_more y z zs = ap (λ k. take k (y ∷ z ∷ zs)) (longer (length (z ∷ z
 pub path_joined : (y : Name) (ys : Names) → parent (y ∷ ys) ++ last_name (y ∷ ys) ∷ [] ≡ y ∷ ys
 path_joined y [] = refl
 path_joined y (z ∷ zs) = ap (λ (p : Names). p ++ last_name (z ∷ zs) ∷ []) (parent_more y z zs) ∙ ap (◌∷◌ y) (path_joined z zs)
-
-and_true : (b : Bool) → (b && true) ≡ b
-and_true true = refl
-and_true false = refl
 
 implied : (a b : Bool) → (b ≡ true → a ≡ true) → (a && b) ≡ b
 implied a true f = ap (λ c. c && true) (f refl)
@@ -111,7 +109,7 @@ module _ (tree : Places) (whole : IsWhole tree) where
   prefix_folder (y ∷ rest) front folder = one_up front y (prefix_folder rest (front ++ y ∷ []) (ap (is_folder_at tree) (append_assoc front (y ∷ []) rest) ∙ folder))
 
   above : (front : Names) (y : Name) (ys : Names) → list_all (λ (q : Names). is_folder_at tree (front ++ q)) (folders_above (y ∷ ys)) ≡ is_folder_at tree (front ++ parent (y ∷ ys))
-  above front y [] = and_true (is_folder_at tree (front ++ []))
+  above front y [] = and-true (is_folder_at tree (front ++ []))
   above front y (z ∷ zs) =
       ap (λ b. is_folder_at tree (front ++ []) && b) (
       list_all-map (λ (q : Names). is_folder_at tree (front ++ q)) (◌∷◌ y) (folders_above (z ∷ zs))
@@ -126,14 +124,14 @@ module _ (tree : Places) (whole : IsWhole tree) where
 
   -- ---- as callers see it
 
-  pub folder_seen : (states : States) (path : Names) → option_map_or drive.is_folder (find (is_at_path tree.naming path) (nodes_of tree states)) false ≡ is_folder_at tree path
-  folder_seen states path = ap (λ (o : Option Node). option_map_or drive.is_folder o false) (node_at_seen tree whole states path) ∙ by (node_at tree path)
+  pub folder_seen : (states : States) (path : Names) → option_map_or drive.is_folder_node (find (is_at_path tree.naming path) (nodes_of tree states)) false ≡ is_folder_at tree path
+  folder_seen states path = ap (λ (o : Option Node). option_map_or drive.is_folder_node o false) (node_at_seen tree whole states path) ∙ by (node_at tree path)
     where
-      by : (o : Option ℕ) → option_map_or drive.is_folder (option_and_then (node_of_number tree whole states) o) false ≡ unwrap_or (option_and_then (is_folder tree) o) false
+      by : (o : Option ℕ) → option_map_or drive.is_folder_node (option_and_then (node_of_number tree whole states) o) false ≡ unwrap_or (option_and_then (is_folder tree) o) false
       by None = refl
       by (Some n) = at (place tree n)
         where
-          at : (o : Option Place) → option_map_or drive.is_folder (option_map (node_with (state_of states n)) o) false ≡ unwrap_or (option_map (λ (p : Place). not (is_some p.bytes)) o) false
+          at : (o : Option Place) → option_map_or drive.is_folder_node (option_map (node_with (state_of states n)) o) false ≡ unwrap_or (option_map (λ (p : Place). not (is_some p.bytes)) o) false
           at None = refl
           at (Some x) = refl
 
@@ -168,7 +166,7 @@ module _ (tree : Places) (whole : IsWhole tree) where
       let k : ℕ = child.0.0 in
       let path : Names = child.0.1.path in
       let parts = both_true (is_prefix tree.naming (own_path tree n) path) (length path == length (own_path tree n) + 1) child.2 in
-      let long : length path ≡ length (own_path tree n) + 1 = equal_numbers (length path) (length (own_path tree n) + 1) parts.1 in
+      let long : length path ≡ length (own_path tree n) + 1 = eqb-true (length path) (length (own_path tree n) + 1) parts.1 in
       let own : own_path tree k ≡ path = own_is tree whole k child.0.1 child.1 in
       let same = (both_true (nat_le (length (own_path tree n)) (length path)) (is_same_path tree.naming (own_path tree n) (take (length (own_path tree n)) path)) parts.0).1 in
       let up : parent path ≡ take (length (own_path tree n)) path = ap (λ m. take m path) (less (length path) (length (own_path tree n)) long) in

@@ -16,7 +16,7 @@ use Rattle.rd_drive.specs.declared.store.Store.{Store}
 use Rattle.rd_drive.specs.DriveState.{in_order}
 use Rattle.rd_drive.specs.Made.{IsAlike}
 use Rattle.rd_drive.specs.Outcome.{Outcome}
-use Rattle.rd_drive.specs.Statuses.{no_memory}
+use Rattle.rd_base.specs.Statuses.{no_memory}
 use Rattle.rd_drive.specs.Uses.{uses_of}
 use Rattle.rd_drive.specs.Store.{States, blank, node_with, node_of, nodes_of, drive_of, uses_on, HasRoom, IsSound, Serves}
 use Rattle.rd_drive.proofs.HandlesLemmas.{seen_entry}
@@ -31,7 +31,7 @@ module _ (tree : Places) (whole : IsWhole tree) (old new : States) (same : (n : 
   pub nodes_alike : nodes_of tree new ≡ nodes_of tree old
   nodes_alike = ap (in_order tree.naming) (alike_among tree.list (all_listed tree whole))
 
-module _ (s : Store) (whole : IsWhole s.tree) (t : Store) (alike : IsAlike s t) where
+module _ (s : Store) (sound : IsSound s) (t : Store) (alike : IsAlike s t) where
   abbrev with_parts : Places → Store
   with_parts tree = record s { tree = tree; states = t.states; handles = t.handles }
 
@@ -39,7 +39,7 @@ module _ (s : Store) (whole : IsWhole s.tree) (t : Store) (alike : IsAlike s t) 
   same_drive = λ i. record {
     naming = s.naming;
     label = s.label;
-    nodes = nodes_alike s.tree whole s.states t.states alike.states i;
+    nodes = nodes_alike s.tree sound.whole s.states t.states alike.states i;
     handles = map (seen_entry s.tree) (alike.entries i);
     locks = (drive_of s).locks;
     waiting = (drive_of s).waiting;
@@ -49,26 +49,26 @@ module _ (s : Store) (whole : IsWhole s.tree) (t : Store) (alike : IsAlike s t) 
   pub alike_drive : drive_of t ≡ drive_of s
   alike_drive = ap drive_of alike.others ∙ ap (λ (tree : Places). drive_of (with_parts tree)) alike.tree ∙ same_drive
 
-  module _ (sound : IsSound s) where
-    same_sound : IsSound (with_parts s.tree)
-    same_sound = record {
-      naming = sound.naming;
-      label = sound.label;
-      states = λ n live. ap is_some (alike.states n live) ∙ sound.states n live;
-      root = ap (λ (o : Option _). (unwrap_or o blank).pending) (alike.states 0 (ap is_some whole.root)) ∙ sound.root;
-      fitting = sound.fitting;
-      opened = λ file h is. sound.opened file h (ap (lookup (is_at (nat_cmp file))) (sym alike.entries) ∙ is);
-      uses = λ n live. ap (λ (o : Option _). (unwrap_or o blank).uses) (alike.states n live) ∙ sound.uses n live ∙ ap (λ (es : List (ℕ × open_file.Handle)). uses_of (uses_on n es)) (sym alike.entries);
-      locked = subst (λ (es : List (ℕ × open_file.Handle)). AllByRecursion (λ (held : Held). option_map (λ (h : open_file.Handle). h.node.0) (lookup (is_at (nat_cmp held.file)) es) ≡ Some held.node) s.locks.locks) (sym alike.entries) sound.locked;
-      waits = subst (λ (es : List (ℕ × open_file.Handle)). AllByRecursion (λ (w : kept_waiting.Waiting). (false ≡ false → IsSome (lookup (is_at (nat_cmp w.file)) es)) × HasRoom w.wish) s.waiting.items) (sym alike.entries) sound.waits;
-      reserved = sound.reserved;
-      few = (subst (λ (es : List (ℕ × open_file.Handle)). length es ≤ 4096) (sym alike.entries) sound.few.0, sound.few.1, sound.few.2);
-      ids = sound.ids;
-    }
+  same_sound : IsSound (with_parts s.tree)
+  same_sound = record {
+    whole = sound.whole;
+    naming = sound.naming;
+    label = sound.label;
+    states = λ n live. ap is_some (alike.states n live) ∙ sound.states n live;
+    root = ap (λ (o : Option _). (unwrap_or o blank).pending) (alike.states 0 (ap is_some sound.whole.root)) ∙ sound.root;
+    fitting = sound.fitting;
+    opened = λ file h is. sound.opened file h (ap (lookup (is_at (nat_cmp file))) (sym alike.entries) ∙ is);
+    uses = λ n live. ap (λ (o : Option _). (unwrap_or o blank).uses) (alike.states n live) ∙ sound.uses n live ∙ ap (λ (es : List (ℕ × open_file.Handle)). uses_of (uses_on n es)) (sym alike.entries);
+    locked = subst (λ (es : List (ℕ × open_file.Handle)). AllByRecursion (λ (held : Held). option_map (λ (h : open_file.Handle). h.node.0) (lookup (is_at (nat_cmp held.file)) es) ≡ Some held.node) s.locks.locks) (sym alike.entries) sound.locked;
+    waits = subst (λ (es : List (ℕ × open_file.Handle)). AllByRecursion (λ (w : kept_waiting.Waiting). (false ≡ false → IsSome (lookup (is_at (nat_cmp w.file)) es)) × HasRoom w.wish) s.waiting.items) (sym alike.entries) sound.waits;
+    reserved = sound.reserved;
+    few = (subst (λ (es : List (ℕ × open_file.Handle)). length es ≤ 4096) (sym alike.entries) sound.few.0, sound.few.1, sound.few.2);
+    ids = sound.ids;
+  }
 
-    pub alike_sound : IsSound t
-    alike_sound = subst IsSound (sym alike.others) (subst (λ (tree : Places). IsSound (with_parts tree)) (sym alike.tree) same_sound)
+  pub alike_sound : IsSound t
+  alike_sound = subst IsSound (sym alike.others) (subst (λ (tree : Places). IsSound (with_parts tree)) (sym alike.tree) same_sound)
 
-    -- no memory was found, and the drive is as it was
-    pub serves_alike : (comes : Outcome) (status : Status) → status ≡ no_memory → Serves s t comes (Err status)
-    serves_alike comes status e = (alike_sound, inr (e, alike_drive))
+  -- no memory was found, and the drive is as it was
+  pub serves_alike : (comes : Outcome) (status : Status) → status ≡ no_memory → Serves s t comes (Err status)
+  serves_alike comes status e = (alike_sound, inr (e, alike_drive))

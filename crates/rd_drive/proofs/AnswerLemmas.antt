@@ -1,19 +1,19 @@
 -- What an operation comes to has a reply of its layout, or the request waits.
 use Rattle.std.proofs.Common.{◌≡◌, ◌∙◌, refl, sym, ap, subst, ℕ, ◌==◌, Bool, true, false, cond, MatchBool, List, [], ◌∷◌, Option, Some, None, find}
 use Rattle.std.specs.List.{AllByRecursion}
-use Rattle.std.specs.Option.{unwrap_or}
 use Rattle.std.specs.Map.{lookup}
+use Rattle.std.proofs.lemmas.Option.{same_Some}
 use Rattle.rd_base.specs.declared.status.Status.{Status}
 use Rattle.rd_base.specs.declared.journal.Key.{Key}
 use Rattle.rd_irp.specs.declared.op.Op.{Op}
 use Rattle.rd_irp.specs.declared.completion.Body.{Body}
 use Rattle.rd_irp.specs.declared.completion.Body.TheVariants as body
 use Rattle.rd_irp.specs.declared.completion.Reply.{Reply}
-use Rattle.rd_irp.specs.Fits.{kind_of, IsReplyTo, IsOfKind, IsCountable, IsSendable}
+use Rattle.rd_irp.specs.Fits.{kind_of, IsReplyTo, IsOfKind, IsCountableBody, IsSendable}
 use Rattle.rd_drive.specs.declared.step.Step.TheVariants as step
-use Rattle.rd_drive.specs.DriveState.{DriveState, Handle, Node, handle_at, node_at}
-use Rattle.rd_drive.specs.Outcome.{Outcome, News, answered, succeeded, checked, given, one_of, fault, on_handle}
-use Rattle.rd_drive.specs.Statuses.{invalid_handle, no_memory}
+use Rattle.rd_drive.specs.DriveState.{DriveState, Handle, Node, handle_at, node_of_path}
+use Rattle.rd_drive.specs.Outcome.{Outcome, News, outcome_with_reply, succeeded, checked, given, one_of, fault, on_handle}
+use Rattle.rd_base.specs.Statuses.{invalid_handle, no_memory}
 use Rattle.rd_drive.specs.Device.{is_starved}
 use Rattle.rd_drive.specs.Answered.{IsAnswered}
 
@@ -36,11 +36,11 @@ module _ (s : DriveState) (key : Key) (o : Op) where
   pub suits_fault : (status : Status) → (status.0 == 0) ≡ false → (status.0 == no_memory.0) ≡ false → Suits (fault status)
   suits_fault status failed fed = (fault_answers o status failed, fed)
 
-  pub is_answered : (reply : Reply) → Suits reply → IsAnswered s key o (answered s reply)
+  pub is_answered : (reply : Reply) → Suits reply → IsAnswered s key o (outcome_with_reply s reply)
   is_answered reply suits = record { by = (suits.0, suits.1, refl) }
 
   -- what succeeds, with a body of the operation's layout
-  pub is_done : (new : DriveState) (b : Body) (news : News) → IsOfKind (kind_of o) b → IsCountable b → IsSendable b → new.waiting ≡ s.waiting → IsAnswered s key o (succeeded new b news)
+  pub is_done : (new : DriveState) (b : Body) (news : News) → IsOfKind (kind_of o) b → IsCountableBody b → IsSendable b → new.waiting ≡ s.waiting → IsAnswered s key o (succeeded new b news)
   is_done new b news kind counts sends same = record { by = (((kind, counts), sends), refl, same) }
 
   pub after_checks : (checks : List (Bool × Reply)) → SuitsAll checks → (outcome : Outcome) → IsAnswered s key o outcome → IsAnswered s key o (checked s checks outcome)
@@ -48,7 +48,7 @@ module _ (s : DriveState) (key : Key) (o : Op) where
   after_checks [] suits outcome later = later
   after_checks (check ∷ checks) suits outcome later = by (after_checks checks suits.1 outcome later) check.0
     where
-      by : IsAnswered s key o (checked s checks outcome) → (b : Bool) → IsAnswered s key o (cond b (answered s check.1) (checked s checks outcome))
+      by : IsAnswered s key o (checked s checks outcome) → (b : Bool) → IsAnswered s key o (cond b (outcome_with_reply s check.1) (checked s checks outcome))
       by further true = is_answered check.1 suits.0
       by further false = further
 
@@ -62,14 +62,11 @@ module _ (s : DriveState) (key : Key) (o : Op) where
   where_given None status f suits later = is_answered (fault status) suits
   where_given (Some y) status f suits later = later y refl
 
-  pub on_any_handle : (file : ℕ) (f : Handle → Node → Outcome) → ((handle : Handle) (node : Node) → node_at s handle.path ≡ Some node → IsAnswered s key o (f handle node)) → IsAnswered s key o (on_handle s file f)
+  pub on_any_handle : (file : ℕ) (f : Handle → Node → Outcome) → ((handle : Handle) (node : Node) → node_of_path s handle.path ≡ Some node → IsAnswered s key o (f handle node)) → IsAnswered s key o (on_handle s file f)
   on_any_handle file f later =
       let suits = suits_fault invalid_handle refl refl in
-      where_given (handle_at s file) invalid_handle (λ handle. given s (node_at s handle.path) invalid_handle (f handle)) suits
-      (λ handle e. where_given (node_at s handle.path) invalid_handle (f handle) suits (λ node there. later handle node there))
-
-some_is : {X : Type 0} (a b : X) → Some a ≡ Some b → a ≡ b
-some_is {X = X} a b e = ap (λ (o : Option X). unwrap_or o a) e
+      where_given (handle_at s file) invalid_handle (λ handle. given s (node_of_path s handle.path) invalid_handle (f handle)) suits
+      (λ handle e. where_given (node_of_path s handle.path) invalid_handle (f handle) suits (λ node there. later handle node there))
 
 -- what a list of values by their numbers has, each of its values has
 pub lookup_has : {X : Type 0} (P : X → Type 0) (p : ℕ → Bool) (l : List (ℕ × X)) (x : X) → lookup p l ≡ Some x → AllByRecursion (λ (e : ℕ × X). P e.1) l → P x
@@ -77,7 +74,7 @@ lookup_has P p [] x e all = absurd (cc)
 lookup_has P p (y ∷ ys) x e all = by (λ h. lookup_has P p ys x h all.1) (p y.0) e
   where
     by : (lookup p ys ≡ Some x → P x) → (b : Bool) → cond b (Some y.1) (lookup p ys) ≡ Some x → P x
-    by later true h = subst P (some_is y.1 x h) all.0
+    by later true h = subst P (same_Some y.1 x h) all.0
     by later false h = later h
 
 -- what each of some values has, the one that is found has
@@ -86,7 +83,7 @@ found_has P p [] x e all = absurd (cc)
 found_has P p (y ∷ ys) x e all = by (λ h. found_has P p ys x h all.1) (p y) e
   where
     by : (find p ys ≡ Some x → P x) → (b : Bool) → cond b (Some y) (find p ys) ≡ Some x → P x
-    by later true h = subst P (some_is y x h) all.0
+    by later true h = subst P (same_Some y x h) all.0
     by later false h = later h
 
 -- what is found passes
@@ -95,5 +92,5 @@ found_passes p [] x e = absurd (cc)
 found_passes p (y ∷ ys) x e = by (λ h. found_passes p ys x h) (p y) refl e
   where
     by : (find p ys ≡ Some x → p x ≡ true) → (b : Bool) → p y ≡ b → cond b (Some y) (find p ys) ≡ Some x → p x ≡ true
-    by later true is h = ap p (sym (some_is y x h)) ∙ is
+    by later true is h = ap p (sym (same_Some y x h)) ∙ is
     by later false is h = later h

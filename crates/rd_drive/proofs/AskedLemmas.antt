@@ -6,6 +6,7 @@ use Rattle.std.specs.List.{list_any}
 use Rattle.std.specs.Option.{option_map, option_map_or, option_and_then, unwrap_or, is_some}
 use Rattle.std.proofs.lemmas.List.{map-append}
 use Rattle.std.proofs.lemmas.List.Sums.{sum_by-cons}
+use Rattle.std.proofs.lemmas.Bool.{eqb-true}
 use Rattle.rd_dirinfo.specs.declared.naming.Naming.{Naming}
 use Rattle.rd_dirinfo.specs.Naming.{Name, seen}
 use Rattle.rd_dirinfo.specs.Paths.{Names, IsSamePath, is_parent, is_prefix, is_same_path, is_within_limits, last_name, most_names, most_path_units, parent, seen_path}
@@ -20,7 +21,6 @@ use Rattle.rd_drive.specs.Store.{state_of, node_with, nodes_of, drive_of, IsSoun
 use Rattle.rd_drive.proofs.AboveLemmas.{both_true, node_same, path_joined, seen_count, some_child}
 use Rattle.rd_drive.proofs.GrownLemmas.{grown_here, grown_other}
 use Rattle.rd_drive.proofs.KeptLemmas.{lived}
-use Rattle.rd_drive.proofs.LockLemmas.{equal_numbers}
 use Rattle.rd_drive.proofs.StoreLemmas.{all_listed, first_listed, node_at_seen, node_of_number, number_at_own, own_is}
 
 sum_seen : (naming : Naming) (p : Names) → sum_by (λ (name : Name). length name) (seen_path naming p) ≡ sum_by (λ (name : Name). length name) p
@@ -87,12 +87,12 @@ module _ (tree : Places) (whole : IsWhole tree) where
         impossible : (k : ℕ) (x : Place) → place (with_place tree n p) k ≡ Some x → is_parent tree.naming p.path x.path ≡ true → ⊥
         impossible k x listed child =
             let parts = both_true tree whole (is_prefix tree.naming p.path x.path) (length x.path == length p.path + 1) child in
-            let long : length x.path ≡ length p.path + 1 = equal_numbers (length x.path) (length p.path + 1) parts.1 in
+            let long : length x.path ≡ length p.path + 1 = eqb-true (length x.path) (length p.path + 1) parts.1 in
             at (k == n) refl long (both_true tree whole (nat_le (length p.path) (length x.path)) (is_same_path tree.naming p.path (take (length p.path) x.path)) parts.0).1
           where
             at : (b : Bool) → (k == n) ≡ b → length x.path ≡ length p.path + 1 → is_same_path tree.naming p.path (take (length p.path) x.path) ≡ true → ⊥
             at true e long same =
-                let one : x.path ≡ p.path = sym (own_is (with_place tree n p) after k x listed) ∙ ap (own_path (with_place tree n p)) (equal_numbers k n e) ∙ own in
+                let one : x.path ≡ p.path = sym (own_is (with_place tree n p) after k x listed) ∙ ap (own_path (with_place tree n p)) (eqb-true k n e) ∙ own in
                 let short : length x.path ≡ length p.path = ap (length {A = Name}) one in
                 omega (arith, long, short)
             at false e long same =
@@ -124,15 +124,15 @@ module _ (tree : Places) (whole : IsWhole tree) where
         by false any = refl
 
 -- ---- as callers see it
-module _ (s : Store) (sound : IsSound s) (whole : IsWhole s.tree) where
+module _ (s : Store) (sound : IsSound s) where
   -- the node at a path
-  pub node_seen : (p : Names) → drive.node_at (drive_of s) p ≡ option_and_then (node_of_number s.tree whole s.states) (node_at s.tree p)
-  node_seen p = subst (λ naming. find (is_at_path naming p) (nodes_of s.tree s.states) ≡ option_and_then (node_of_number s.tree whole s.states) (node_at s.tree p)) sound.naming (node_at_seen s.tree whole s.states p)
+  pub node_seen : (p : Names) → drive.node_of_path (drive_of s) p ≡ option_and_then (node_of_number s.tree sound.whole s.states) (node_at s.tree p)
+  node_seen p = subst (λ naming. find (is_at_path naming p) (nodes_of s.tree s.states) ≡ option_and_then (node_of_number s.tree sound.whole s.states) (node_at s.tree p)) sound.naming (node_at_seen s.tree sound.whole s.states p)
 
-  pub kept_seen : (p : Names) → drive.kept_path (drive_of s) p ≡ places.kept_path s.tree p
+  pub kept_seen : (p : Names) → drive.node_path (drive_of s) p ≡ places.kept_path s.tree p
   kept_seen p = ap (λ (o : Option Node). option_map_or (λ (node : Node). node.path) o p) (node_seen p) ∙ by (node_at s.tree p)
     where
-      by : (o : Option ℕ) → option_map_or (λ (node : Node). node.path) (option_and_then (node_of_number s.tree whole s.states) o) p ≡ unwrap_or (option_and_then (path_at s.tree) o) p
+      by : (o : Option ℕ) → option_map_or (λ (node : Node). node.path) (option_and_then (node_of_number s.tree sound.whole s.states) o) p ≡ unwrap_or (option_and_then (path_at s.tree) o) p
       by None = refl
       by (Some n) = at (place s.tree n)
         where
@@ -140,5 +140,5 @@ module _ (s : Store) (sound : IsSound s) (whole : IsWhole s.tree) where
           at None = refl
           at (Some x) = refl
 
-  pub asked_seen : (p : Names) → drive.asked_path (drive_of s) p ≡ places.asked_path s.tree p
+  pub asked_seen : (p : Names) → drive.made_path (drive_of s) p ≡ places.asked_path s.tree p
   asked_seen p = ap (λ (q : Names). q ++ last_name p ∷ []) (kept_seen (parent p))

@@ -1,7 +1,6 @@
 -- What drives promise: a request and a cut leave a drive within its bounds, their replies are in range, and they end requests as every device does.
 use Rattle.std.proofs.Common.{◌≡◌, ◌∙◌, refl, sym, ap, subst, ℕ, suc, ◌+◌, ◌≤◌, inl, inr, ◌&&◌, Bool, true, false, not, cond, List, [], ◌∷◌, ◌++◌, fold, map, length, Option, Some, None, find, lit<, arith}
 use Rattle.std.specs.Map.{keys_of}
-use Rattle.std.specs.List.{AllByRecursion}
 use Rattle.std.specs.Option.{option_map_or, unwrap_or}
 use Rattle.std.proofs.lemmas.List.{length-append, length-map}
 use Rattle.rd_base.specs.declared.journal.Key.{Key}
@@ -10,16 +9,16 @@ use Rattle.rd_irp.specs.declared.op.Op.TheVariants as op
 use Rattle.rd_irp.specs.declared.op.Range.{Range}
 use Rattle.rd_irp.specs.declared.completion.Reply.{Reply}
 use Rattle.rd_irp.specs.declared.completion.Body.TheVariants.{Buffer, Locked}
-use Rattle.rd_dirinfo.specs.Paths.{Names, is_within_limits}
+use Rattle.rd_dirinfo.specs.Paths.{Names}
 use Rattle.rd_drive.specs.declared.plan.Job.{Job}
 use Rattle.rd_drive.specs.declared.step.Step.{Step}
 use Rattle.rd_drive.specs.declared.step.Step.TheVariants as step
 use Rattle.rd_drive.specs.declared.step.End.{End}
-use Rattle.rd_drive.specs.DriveState.{DriveState, Handle, Node, Notice, Ranges, Waiting, Wish, handle_at, node_at, open_path}
+use Rattle.rd_drive.specs.DriveState.{DriveState, Handle, Node, Notice, Ranges, Waiting, Wish, handle_at, node_of_path, open_path}
 use Rattle.rd_drive.specs.Outcome.{Change, News, Outcome, done, given, no_news}
 use Rattle.rd_drive.specs.Close.{close}
 use Rattle.rd_drive.specs.DriveStep.{cancelled_end, drive_cut, drive_step, outcome_of, with_closed}
-use Rattle.rd_drive.specs.Locking.{conflicts, locks_on, wanted_locks, with_locks}
+use Rattle.rd_drive.specs.Locking.{asked_locks, conflicts, locks_on, with_locks}
 use Rattle.rd_drive.specs.Stepped.{Settled, Stepped}
 use Rattle.rd_drive.specs.Waiting.{change_bytes, closing_reply, ends_with, is_closed, is_told, is_tried, settled, settles, settles_open, waits_on}
 use Rattle.rd_drive.specs.Device.{AreEnded, Parked, Parks}
@@ -27,12 +26,12 @@ use Rattle.rd_drive.specs.Answered.{IsAnsweredBy, IsFitting, drive_parked, parke
 use Rattle.rd_drive.specs.Ranged.{AreEndsInRange, IsReplyInRange, IsSteppedInRange, SetsFew}
 use Rattle.rd_drive.specs.Promise.{Cancels, IsDevice, cut_end}
 use Rattle.rd_drive.specs.Bounded.{IsBounded}
-use Rattle.rd_drive.specs.Statuses.{invalid_handle}
+use Rattle.rd_base.specs.Statuses.{invalid_handle}
 use Rattle.rd_drive.proofs.AllLemmas.{all_append}
 use Rattle.rd_drive.proofs.ComesLemmas.{came_parked, came_replied}
 use Rattle.rd_drive.proofs.EndLemmas.{settled_ends}
 use Rattle.rd_drive.proofs.OperationLemmas.{close_answered, outcome_answered}
-use Rattle.rd_drive.proofs.StayLemmas.{Stays, outcome_stays}
+use Rattle.rd_drive.proofs.StayLemmas.{Stays, outcome_stays, same_fits}
 
 -- ---- what the news ends
 
@@ -44,12 +43,6 @@ module _ (news : News) where
   ends_range : (old : Settled DriveState) (s : DriveState) (w : Waiting) (reply : Reply) → IsReplyInRange reply → AreEndsInRange old.ends → AreEndsInRange (ends_with old s w reply).ends
   ends_range old s w reply range all = all_append (λ (ended : End). IsReplyInRange ended.reply) old.ends (record { key = w.key; reply = reply } ∷ []) all (range, tt)
 
-  same_fitting : (s new : DriveState) → new.label ≡ s.label → new.nodes ≡ s.nodes → IsFitting s → IsFitting new
-  same_fitting s new label nodes fitting = record {
-    label = subst (λ (l : List ℕ). length l ≤ 32) (sym label) fitting.label;
-    paths = subst (AllByRecursion (λ (node : Node). is_within_limits node.path ≡ true)) (sym nodes) fitting.paths;
-  }
-
   closes : (wish : Wish) → IsReplyInRange (closing_reply wish)
   closes (Ranges exclusive ranges) = (lit< tt, tt)
   closes (Notice deep filter) = (lit< tt, tt)
@@ -60,19 +53,19 @@ module _ (news : News) where
       path : Names
       path = unwrap_or (open_path old.state w.file) []
 
-      ranges_keep : (v : Waiting) (exclusive : Bool) (ranges : List Range) (b : Bool) → Keeps old (cond b (ends_with old (with_locks old.state (wanted_locks v.file exclusive ranges)) v (done Locked)) (waits_on old v))
+      ranges_keep : (v : Waiting) (exclusive : Bool) (ranges : List Range) (b : Bool) → Keeps old (cond b (ends_with old (with_locks old.state (asked_locks v.file exclusive ranges)) v (done Locked)) (waits_on old v))
       ranges_keep v exclusive ranges true = (
-        same_fitting old.state (with_locks old.state (wanted_locks v.file exclusive ranges)) refl refl,
-        ends_range old (with_locks old.state (wanted_locks v.file exclusive ranges)) v (done Locked) (lit< tt, tt),
+        same_fits old.state (with_locks old.state (asked_locks v.file exclusive ranges)) refl refl,
+        ends_range old (with_locks old.state (asked_locks v.file exclusive ranges)) v (done Locked) (lit< tt, tt),
       )
-      ranges_keep v exclusive ranges false = (same_fitting old.state (waits_on old v).state refl refl, λ all. all)
+      ranges_keep v exclusive ranges false = (same_fits old.state (waits_on old v).state refl refl, λ all. all)
 
       change_keeps : (v : Waiting) (found : Option Change) → Keeps old (option_map_or (λ (change : Change). ends_with old old.state v (done (Buffer (change_bytes path change)))) found (waits_on old v))
-      change_keeps v None = (same_fitting old.state (waits_on old v).state refl refl, λ all. all)
+      change_keeps v None = (same_fits old.state (waits_on old v).state refl refl, λ all. all)
       change_keeps v (Some change) = ((λ fitting. fitting), ends_range old old.state v (done (Buffer (change_bytes path change))) (lit< tt, tt))
 
       open_keeps : (v : Waiting) (wish : Wish) → Keeps old (settles_open news old v path wish)
-      open_keeps v (Ranges exclusive ranges) = ranges_keep v exclusive ranges (is_tried old.state news path && not (conflicts (locks_on old.state path) (wanted_locks v.file exclusive ranges)))
+      open_keeps v (Ranges exclusive ranges) = ranges_keep v exclusive ranges (is_tried old.state news path && not (conflicts (locks_on old.state path) (asked_locks v.file exclusive ranges)))
       open_keeps v (Notice deep filter) = change_keeps v (find (is_told old.state path deep filter) news.changes)
 
       by : (b : Bool) → Keeps old (cond b (ends_with old old.state w (closing_reply w.wish)) (settles_open news old w path w.wish))
@@ -84,7 +77,7 @@ module _ (news : News) where
   all_keep (w ∷ ws) old = let first = keeps old w in let others = all_keep ws (settles news old w) in ((λ fitting. others.0 (first.0 fitting)), λ all. others.1 (first.1 all))
 
   pub settled_keeps : (s : DriveState) → (IsFitting s → IsFitting (settled s news).state) × AreEndsInRange (settled s news).ends
-  settled_keeps s = let all = all_keep s.waiting (record { state = record s { waiting = [] }; ends = [] }) in ((λ fitting. all.0 (same_fitting s _ refl refl fitting)), all.1 tt)
+  settled_keeps s = let all = all_keep s.waiting (record { state = record s { waiting = [] }; ends = [] }) in ((λ fitting. all.0 (same_fits s _ refl refl fitting)), all.1 tt)
 
 -- ---- a request
 
@@ -158,9 +151,9 @@ closed_waiting s file = on (handle_at s file)
     node h None = refl
     node h (Some n) = let is = close_answered s (record { channel = 0; index = 0 }) file h n in by (close s file h n) (close s file h n).answer is.by
 
-    on : (found : Option Handle) → (given s found invalid_handle (λ h. given s (node_at s h.path) invalid_handle (close s file h))).state.waiting ≡ s.waiting
+    on : (found : Option Handle) → (given s found invalid_handle (λ h. given s (node_of_path s h.path) invalid_handle (close s file h))).state.waiting ≡ s.waiting
     on None = refl
-    on (Some h) = node h (node_at s h.path)
+    on (Some h) = node h (node_of_path s h.path)
 
 all_closed : (files : List ℕ) (s : DriveState) → (fold with_closed s files).waiting ≡ s.waiting
 all_closed [] s = refl

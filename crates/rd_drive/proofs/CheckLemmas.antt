@@ -3,18 +3,18 @@ use Rattle.std.proofs.Common.{◌≡◌, refl, ap, Bool, true, false, cond, List
 use Rattle.rd_base.specs.declared.status.Status.{Status}
 use Rattle.rd_irp.specs.declared.completion.Reply.{Reply}
 use Rattle.rd_drive.specs.DriveState.{DriveState}
-use Rattle.rd_drive.specs.Outcome.{Outcome, answered, refused, checked, given, one_of}
+use Rattle.rd_drive.specs.Outcome.{Outcome, outcome_with_reply, refused, checked, given, one_of}
 
 module _ (s : DriveState) where
   -- a check that applies answers
-  pub check_applies : (check : Bool × Reply) (checks : List (Bool × Reply)) (outcome : Outcome) → check.0 ≡ true → checked s (check ∷ checks) outcome ≡ answered s check.1
+  pub check_applies : (check : Bool × Reply) (checks : List (Bool × Reply)) (outcome : Outcome) → check.0 ≡ true → checked s (check ∷ checks) outcome ≡ outcome_with_reply s check.1
   unfolding checked
-  check_applies check checks outcome e = ap (λ b. cond b (answered s check.1) (checked s checks outcome)) e
+  check_applies check checks outcome e = ap (λ b. cond b (outcome_with_reply s check.1) (checked s checks outcome)) e
 
   -- one that doesn't is passed
   pub check_passed : (check : Bool × Reply) (checks : List (Bool × Reply)) (outcome : Outcome) → check.0 ≡ false → checked s (check ∷ checks) outcome ≡ checked s checks outcome
   unfolding checked
-  check_passed check checks outcome e = ap (λ b. cond b (answered s check.1) (checked s checks outcome)) e
+  check_passed check checks outcome e = ap (λ b. cond b (outcome_with_reply s check.1) (checked s checks outcome)) e
 
   -- after the last the operation is served
   pub checks_done : (outcome : Outcome) → checked s [] outcome ≡ outcome

@@ -3,18 +3,19 @@ use Rattle.std.proofs.Common.{◌≡◌, ◌∙◌, refl, sym, ap, subst, ℕ, �
 use Rattle.std.specs.Prelude.{nat_eq}
 use Rattle.std.specs.List.{list_any, AllByRecursion}
 use Rattle.std.specs.Option.{option_map, unwrap_or, is_some, IsSome}
-use Rattle.std.specs.Ordering.{nat_cmp, is_eq, eq_by_cmp}
-use Rattle.std.specs.declared.cmp.Ordering.TheVariants.{Equal}
-use Rattle.std.specs.FinMap.Entries.{where_key, find-where_key}
+use Rattle.std.specs.Ordering.{nat_cmp}
 use Rattle.std.specs.HashMap.{get}
 use Rattle.std.specs.Map.{lookup, remove_entry}
 use Rattle.std.specs.BTreeMap.{is_at}
 use Rattle.std.proofs.lemmas.Bool.Decides.{nat_tests}
-use Rattle.rd_dirinfo.specs.Paths.{is_same_path, is_within_limits}
+use Rattle.std.proofs.lemmas.Bool.{eqb-true, eq-eqb}
+use Rattle.rd_drive.proofs.WithoutLemmas.{nodes_without}
+use Rattle.rd_tree.proofs.WithoutLemmas.{without_lives, without_other}
+use Rattle.rd_drive.proofs.AllLemmas.{all_weaker}
+use Rattle.rd_dirinfo.specs.Paths.{is_within_limits}
 use Rattle.rd_locks.specs.declared.held.Held.{Held}
 use Rattle.rd_locks.specs.Locks.{LockList, released}
 use Rattle.rd_tree.specs.Places.{Place, Places, place, own_path, bytes_at, without, IsLive, IsWhole}
-use Rattle.rd_tree.proofs.WayLemmas.{same_true}
 use Rattle.rd_drive.specs.declared.handle.Handle as kept
 use Rattle.rd_drive.specs.declared.node.NodeState.{NodeState}
 use Rattle.rd_drive.specs.declared.waiting.Waiting as kept_waiting
@@ -25,28 +26,16 @@ use Rattle.rd_drive.specs.Close as closing
 use Rattle.rd_drive.specs.Uses.{uses_of}
 use Rattle.rd_drive.specs.UseCounts.{more}
 use Rattle.rd_drive.specs.Kept.{IsKept}
-use Rattle.rd_drive.specs.Store.{States, Handles, blank, state_of, node_of, node_with, nodes_of, handles_of, drive_of, kept_handle, lock_of, uses_on, HasRoom, IsSound, IsSoundBut}
-use Rattle.rd_drive.proofs.OrderLemmas.{order_filter}
-use Rattle.rd_drive.proofs.StoreLemmas.{AreListed, all_listed, own_is, itself}
+use Rattle.rd_drive.specs.Store.{States, Handles, blank, state_of, node_with, nodes_of, handles_of, drive_of, kept_handle, lock_of, uses_on, HasRoom, IsSound, IsSoundBut}
+use Rattle.rd_drive.proofs.StoreLemmas.{turned}
 use Rattle.rd_drive.proofs.NodeLemmas.{nodes_put, place_here, put_node, same_tree}
-use Rattle.rd_drive.proofs.LockLemmas.{alike, equal_numbers, same_number}
 use Rattle.rd_drive.proofs.UsesLemmas.{on_removed, use_by}
 use Rattle.rd_drive.proofs.HandlesLemmas.{fewer, found_passes, removed_seen, released_seen, seen_apart, seen_entry}
 
 not_at : (file k : ℕ) → (k == file) ≡ false → is_at (nat_cmp file) k ≡ false
 not_at file k e = grind (arith, nat_tests)
 
-not_same : (n m : ℕ) → (n == m) ≡ false → n ≡ m → ⊥
-not_same n m e f = absurd (let both : true ≡ false = sym (same_number n m f) ∙ e in cc)
-
-turned : (n m : ℕ) → (n == m) ≡ false → (m == n) ≡ false
-turned n m e = grind (arith, nat_tests)
-
-all_of : {X : Type 0} (P Q : X → Type 0) → ((x : X) → P x → Q x) → (l : List X) → AllByRecursion P l → AllByRecursion Q l
-all_of P Q f [] all = tt
-all_of P Q f (x ∷ l) all = (f x all.0, all_of P Q f l all.1)
-
-module _ (s : Store) (sound : IsSound s) (whole : IsWhole s.tree) (file : ℕ) (h : kept.Handle) (is : kept_handle s file ≡ Some h)
+module _ (s : Store) (sound : IsSound s) (file : ℕ) (h : kept.Handle) (is : kept_handle s file ≡ Some h)
     (handles : Handles) (left : handles.entries ≡ remove_entry (is_at (nat_cmp file)) s.handles.entries)
     (looked : (k : ℕ) → lookup (is_at (nat_cmp k)) handles.entries ≡ cond (is_at (nat_cmp file) k) None (kept_handle s k))
     (locks : LockList) (unlocked : locks ≡ record s.locks { locks = released file s.locks.locks }) where
@@ -85,7 +74,7 @@ module _ (s : Store) (sound : IsSound s) (whole : IsWhole s.tree) (file : ℕ) (
   locked_left = subst (λ (l : LockList). AllByRecursion HasHome l.locks) (sym unlocked) (locked_among s.locks.locks sound.locked)
 
   waits_left : AllByRecursion (λ (w : kept_waiting.Waiting). ((w.file == file) ≡ false → IsSome (lookup (is_at (nat_cmp w.file)) handles.entries)) × HasRoom w.wish) s.waiting.items
-  waits_left = all_of (λ (w : kept_waiting.Waiting). (false ≡ false → IsSome (kept_handle s w.file)) × HasRoom w.wish)
+  waits_left = all_weaker (λ (w : kept_waiting.Waiting). (false ≡ false → IsSome (kept_handle s w.file)) × HasRoom w.wish)
       (λ (w : kept_waiting.Waiting). ((w.file == file) ≡ false → IsSome (lookup (is_at (nat_cmp w.file)) handles.entries)) × HasRoom w.wish)
       (λ w both. (λ other. ap is_some (others_kept w.file other) ∙ both.0 refl, both.1)) s.waiting.items sound.waits
 
@@ -124,6 +113,7 @@ module _ (s : Store) (sound : IsSound s) (whole : IsWhole s.tree) (file : ℕ) (
 
     pub left_sound : IsSoundBut (Some file) after
     left_sound = record {
+      whole = sound.whole;
       naming = sound.naming;
       label = sound.label;
       states = there;
@@ -146,7 +136,7 @@ module _ (s : Store) (sound : IsSound s) (whole : IsWhole s.tree) (file : ℕ) (
             by false = sound.states k live
 
         root_is : (b : Bool) → (n == 0) ≡ b → (state_of states 0).pending ≡ false
-        root_is true e = ap (λ (x : NodeState). x.pending) (state_is 0 ∙ ap (λ b. cond b st (state_of s.states 0)) e) ∙ root (equal_numbers n 0 e)
+        root_is true e = ap (λ (x : NodeState). x.pending) (state_is 0 ∙ ap (λ b. cond b st (state_of s.states 0)) e) ∙ root (eqb-true n 0 e)
         root_is false e = ap (λ (x : NodeState). x.pending) (state_is 0 ∙ ap (λ b. cond b st (state_of s.states 0)) e) ∙ sound.root
 
         counted : (k : ℕ) → IsLive s.tree k → (state_of states k).uses ≡ uses_of (uses_on k handles.entries)
@@ -155,7 +145,7 @@ module _ (s : Store) (sound : IsSound s) (whole : IsWhole s.tree) (file : ℕ) (
             by : (b : Bool) → (n == k) ≡ b → (state_of states k).uses ≡ uses_of (uses_on k handles.entries)
             by true e =
                 ap (λ (x : NodeState). x.uses) (state_is k ∙ ap (λ b. cond b st (state_of s.states k)) e)
-                ∙ (λ i. uses_of (uses_on (equal_numbers n k e i) (sym left i)))
+                ∙ (λ i. uses_of (uses_on (eqb-true n k e i) (sym left i)))
             by false e = ap (λ (x : NodeState). x.uses) (state_is k ∙ ap (λ b. cond b st (state_of s.states k)) e) ∙ sound.uses k live ∙ uses_left k e
 
     module _ (x : Place) (here : place s.tree n ≡ Some x) where
@@ -164,15 +154,15 @@ module _ (s : Store) (sound : IsSound s) (whole : IsWhole s.tree) (file : ℕ) (
 
       nodes_left : nodes_of s.tree states ≡ map (put_node s.naming node_left) (nodes_of s.tree s.states)
       nodes_left =
-          ap (λ (t : Places). nodes_of t states) (sym (same_tree s.tree whole n x here))
-          ∙ nodes_put s.tree whole n x here (bytes_at s.tree n) s.states states (λ m other. state_is m ∙ ap (λ b. cond b st (state_of s.states m)) (apart m (n == m) refl other))
-          ∙ (λ i. map (put_node (sound.naming i) (node_with ((state_is n ∙ ap (λ b. cond b st (state_of s.states n)) (same_number n n refl)) i) (place_here s.tree whole n x here i))) (nodes_of s.tree s.states))
+          ap (λ (t : Places). nodes_of t states) (sym (same_tree s.tree sound.whole n x here))
+          ∙ nodes_put s.tree sound.whole n x here (bytes_at s.tree n) s.states states (λ m other. state_is m ∙ ap (λ b. cond b st (state_of s.states m)) (apart m (n == m) refl other))
+          ∙ (λ i. map (put_node (sound.naming i) (node_with ((state_is n ∙ ap (λ b. cond b st (state_of s.states n)) (eq-eqb n n refl)) i) (place_here s.tree sound.whole n x here i))) (nodes_of s.tree s.states))
         where
           apart : (m : ℕ) (b : Bool) → (n == m) ≡ b → (m ≡ n → ⊥) → (n == m) ≡ false
-          apart m true e other = absurd (other (sym (equal_numbers n m e)))
+          apart m true e other = absurd (other (sym (eqb-true n m e)))
           apart m false e other = e
 
-      pub left_drive : drive_of after ≡ with_node (closing.released (drive_of s) file) node_left
+      pub left_drive : drive_of after ≡ with_node (closing.without_file (drive_of s) file) node_left
       left_drive = λ i. record {
         naming = s.naming;
         label = s.label;
@@ -192,34 +182,14 @@ module _ (s : Store) (sound : IsSound s) (whole : IsWhole s.tree) (file : ℕ) (
     abbrev pub without_it : Store
     without_it = record s { handles = handles; locks = locks; states = states; tree = fewer_nodes }
 
-    -- the places of the others
-    place_is : (k : ℕ) → place fewer_nodes k ≡ cond (not (eq_by_cmp nat_cmp n k)) (place s.tree k) None
-    place_is k = find-where_key nat_cmp (λ (m : ℕ). not (eq_by_cmp nat_cmp n m)) k (λ m e. ap not (equal_keys k m e)) s.tree.list
-      where
-        equal_keys : (k m : ℕ) → nat_cmp k m ≡ Equal → eq_by_cmp nat_cmp n m ≡ eq_by_cmp nat_cmp n k
-        equal_keys k m e = ap (eq_by_cmp nat_cmp n) (sym (same k m (ap is_eq e)))
-          where
-            same : (k m : ℕ) → eq_by_cmp nat_cmp k m ≡ true → k ≡ m
-            same k m e = grind (arith, nat_tests)
-
     pub place_other : (k : ℕ) → (k == n) ≡ false → place fewer_nodes k ≡ place s.tree k
-    place_other k e = place_is k ∙ ap (λ b. cond (not b) (place s.tree k) None) (not_at n k e)
+    place_other = without_other s.tree n
 
     pub own_other : (k : ℕ) → (k == n) ≡ false → own_path fewer_nodes k ≡ own_path s.tree k
     own_other k e = ap (λ (o : Option Place). unwrap_or (option_map (λ (p : Place). p.path) o) []) (place_other k e)
 
-    live_other : (k : ℕ) → IsLive fewer_nodes k → (k == n) ≡ false
-    live_other k live = by (k == n) refl
-      where
-        by : (b : Bool) → (k == n) ≡ b → (k == n) ≡ false
-        by true e = absurd (let gone : true ≡ false = sym live ∙ ap is_some (place_is k) ∙ ap (λ b. is_some (cond (not b) (place s.tree k) None)) (at_it k e) in cc)
-          where
-            at_it : (m : ℕ) → (m == n) ≡ true → eq_by_cmp nat_cmp n m ≡ true
-            at_it m e = grind (arith, nat_tests)
-        by false e = e
-
     lives : (k : ℕ) → IsLive fewer_nodes k → IsLive s.tree k
-    lives k live = sym (ap is_some (place_other k (live_other k live))) ∙ live
+    lives k live = sym (ap is_some (place_other k (without_lives s.tree n k live))) ∙ live
 
     pub live_still : (k : ℕ) → (k == n) ≡ false → IsLive s.tree k → IsLive fewer_nodes k
     live_still k e live = ap is_some (place_other k e) ∙ live
@@ -234,20 +204,21 @@ module _ (s : Store) (sound : IsSound s) (whole : IsWhole s.tree) (file : ℕ) (
     root_other = by (0 == n) refl
       where
         by : (b : Bool) → (0 == n) ≡ b → (0 == n) ≡ false
-        by true e = absurd (other (equal_numbers 0 n e))
+        by true e = absurd (other (eqb-true 0 n e))
         by false e = e
 
-    pub gone_sound : IsSoundBut (Some file) without_it
-    gone_sound = record {
+    pub gone_sound : IsWhole fewer_nodes → IsSoundBut (Some file) without_it
+    gone_sound after = record {
+      whole = after;
       naming = sound.naming;
       label = sound.label;
-      states = λ k live. ap is_some (get_other k (live_other k live)) ∙ sound.states k (lives k live);
+      states = λ k live. ap is_some (get_other k (without_lives s.tree n k live)) ∙ sound.states k (lives k live);
       root = ap (λ (x : NodeState). x.pending) (state_other 0 root_other) ∙ sound.root;
-      fitting = λ k live. ap is_within_limits (own_other k (live_other k live)) ∙ sound.fitting k (lives k live);
+      fitting = λ k live. ap is_within_limits (own_other k (without_lives s.tree n k live)) ∙ sound.fitting k (lives k live);
       opened = λ k g found.
           let was = sound.opened k g (kept_other k g found) in
           (live_still g.node.0 (found_passes (λ (e : kept.Handle). e.node.0 == n) (is_at (nat_cmp k)) handles.entries g found (ap (list_any (λ (e : ℕ × kept.Handle). e.1.node.0 == n)) left ∙ alone)) was.0, was.1, was.2);
-      uses = λ k live. ap (λ (x : NodeState). x.uses) (state_other k (live_other k live)) ∙ sound.uses k (lives k live) ∙ uses_left k (turned k n (live_other k live));
+      uses = λ k live. ap (λ (x : NodeState). x.uses) (state_other k (without_lives s.tree n k live)) ∙ sound.uses k (lives k live) ∙ uses_left k (turned k n (without_lives s.tree n k live));
       locked = locked_left;
       waits = waits_left;
       reserved = ap (λ (l : LockList). l.reserved) unlocked ∙ sound.reserved;
@@ -256,42 +227,12 @@ module _ (s : Store) (sound : IsSound s) (whole : IsWhole s.tree) (file : ℕ) (
     }
 
     module _ (x : Place) (here : place s.tree n ≡ Some x) where
-      -- a listed place is at the path of the one that goes where it has its number
-      at_it : (e : ℕ × Place) → place s.tree e.0 ≡ Some e.1 → is_same_path s.tree.naming e.1.path x.path ≡ eq_by_cmp nat_cmp n e.0
-      at_it e listed = alike (is_same_path s.tree.naming e.1.path x.path) (eq_by_cmp nat_cmp n e.0)
-          (λ t. ap (eq_by_cmp nat_cmp n) (whole.apart e.0 n (ap is_some listed) (ap is_some here) ((λ i. is_same_path s.tree.naming (own_is s.tree whole e.0 e.1 listed i) (own_is s.tree whole n x here i)) ∙ t)) ∙ itself n)
-          (λ t. (λ i. is_same_path s.tree.naming ((sym (own_is s.tree whole e.0 e.1 listed) ∙ ap (own_path s.tree) (sym (numbers n e.0 t)) ∙ own_is s.tree whole n x here) i) x.path) ∙ same_true s.tree.naming x.path x.path refl)
-        where
-          numbers : (k m : ℕ) → eq_by_cmp nat_cmp k m ≡ true → k ≡ m
-          numbers k m e = grind (arith, nat_tests)
-
-      among : (l : List (ℕ × Place)) → AreListed s.tree whole l
-          → map (node_of states) (where_key nat_cmp (λ (k : ℕ). not (eq_by_cmp nat_cmp n k)) l) ≡ filter (λ (node : Node). not (is_at_path s.tree.naming x.path node)) (map (node_of s.states) l)
-      among [] listed = refl
-      among (e ∷ l) listed = ap (λ b. map (node_of states) (cond (not b) (e ∷ places) places)) (sym (at_it e listed.0)) ∙ by (among l listed.1) (is_same_path s.tree.naming e.1.path x.path) refl
-        where
-          places : List (ℕ × Place)
-          places = where_key nat_cmp (λ (k : ℕ). not (eq_by_cmp nat_cmp n k)) l
-
-          stays : is_same_path s.tree.naming e.1.path x.path ≡ false → node_of states e ≡ node_of s.states e
-          stays apart = ap (λ st. node_with st e.1) (state_other e.0 (number n e.0 (sym (at_it e listed.0) ∙ apart)))
-            where
-              number : (k m : ℕ) → eq_by_cmp nat_cmp k m ≡ false → (m == k) ≡ false
-              number k m e = grind (arith, nat_tests)
-
-          by : map (node_of states) places ≡ filter (λ (node : Node). not (is_at_path s.tree.naming x.path node)) (map (node_of s.states) l) → (b : Bool) → is_same_path s.tree.naming e.1.path x.path ≡ b
-              → map (node_of states) (cond (not (is_same_path s.tree.naming e.1.path x.path)) (e ∷ places) places)
-              ≡ cond (not (is_same_path s.tree.naming e.1.path x.path)) (node_of s.states e ∷ filter (λ (node : Node). not (is_at_path s.tree.naming x.path node)) (map (node_of s.states) l)) (filter (λ (node : Node). not (is_at_path s.tree.naming x.path node)) (map (node_of s.states) l))
-          by later true t = (λ i. map (node_of states) (cond (not (t i)) (e ∷ places) places)) ∙ later ∙ (λ i. cond (not (sym t i)) (node_of s.states e ∷ filter (λ (node : Node). not (is_at_path s.tree.naming x.path node)) (map (node_of s.states) l)) (filter (λ (node : Node). not (is_at_path s.tree.naming x.path node)) (map (node_of s.states) l)))
-          by later false t = (λ i. map (node_of states) (cond (not (t i)) (e ∷ places) places)) ∙ (λ i. stays t i ∷ later i) ∙ (λ i. cond (not (sym t i)) (node_of s.states e ∷ filter (λ (node : Node). not (is_at_path s.tree.naming x.path node)) (map (node_of s.states) l)) (filter (λ (node : Node). not (is_at_path s.tree.naming x.path node)) (map (node_of s.states) l)))
-
       nodes_gone : nodes_of fewer_nodes states ≡ filter (λ (node : Node). not (is_at_path s.naming x.path node)) (nodes_of s.tree s.states)
       nodes_gone =
-          ap (in_order s.tree.naming) (among s.tree.list (all_listed s.tree whole))
-          ∙ sym (order_filter s.tree.naming (λ (node : Node). not (is_at_path s.tree.naming x.path node)) (map (node_of s.states) s.tree.list))
+          nodes_without s.tree sound.whole n x here s.states states state_other
           ∙ ap (λ naming. filter (λ (node : Node). not (is_at_path naming x.path node)) (nodes_of s.tree s.states)) sound.naming
 
-      pub gone_drive : drive_of without_it ≡ without_node (closing.released (drive_of s) file) x.path
+      pub gone_drive : drive_of without_it ≡ without_node (closing.without_file (drive_of s) file) x.path
       gone_drive = λ i. record {
         naming = s.naming;
         label = s.label;

@@ -5,6 +5,8 @@ use Rattle.std.specs.Option.{option_map, option_or, unwrap_or, is_some}
 use Rattle.std.proofs.lemmas.List.{length-map}
 use Rattle.std.proofs.lemmas.List.Folds.{list_any-append}
 use Rattle.std.proofs.lemmas.List.Sums.{sum_by-cons}
+use Rattle.std.proofs.lemmas.Bool.{eqb-true, eq-eqb}
+use Rattle.std.proofs.Math.Bool.{and_assoc}
 use Rattle.rd_irp.specs.declared.op.Range.{Range}
 use Rattle.rd_locks.specs.declared.held.Held.{Held}
 use Rattle.rd_locks.specs.Locks as held
@@ -16,19 +18,14 @@ use Rattle.rd_drive.specs.declared.waiting.Wish.TheVariants as kept_wish
 use Rattle.rd_drive.specs.declared.waiting.Waiting as kept_waiting
 use Rattle.rd_drive.specs.declared.store.Store.{Store}
 use Rattle.rd_drive.specs.DriveState as drive
-use Rattle.rd_drive.specs.Locking.{is_in_way, conflicts, wanted_locks, is_lock_of, without_lock, without_locks, range_count, lock_count}
-use Rattle.rd_drive.specs.Store.{drive_of, kept_handle, lock_of, waiting_of, wish_of, ranges_of, IsSoundBut}
-use Rattle.rd_drive.proofs.LockLemmas.{equal_numbers, same_number}
+use Rattle.rd_drive.specs.Locking.{is_lock_in_way, conflicts, asked_locks, is_own_lock, without_lock, without_locks, range_count, lock_count}
+use Rattle.rd_drive.specs.Store.{drive_of, kept_handle, lock_of, waiting_of, wish_of, wish_ranges, IsSoundBut}
 
 -- a lock is on the node that its file id has open
 abbrev pub IsHome : Store → Held → Type 0
 IsHome s lock = option_map (λ (h : kept.Handle). h.node.0) (kept_handle s lock.file) ≡ Some lock.node
 
 -- ---- what is in the way
-
-and_later : (a b c : Bool) → ((a && b) && c) ≡ (a && (b && c))
-and_later true b c = refl
-and_later false b c = refl
 
 some_or : (a b : Option Held) → is_some (option_or a b) ≡ (is_some a || is_some b)
 some_or None b = refl
@@ -41,26 +38,26 @@ AreAlike n locks l = (q : drive.Lock → Bool) → list_any q locks ≡ list_any
 alike_more : (n : ℕ) (locks : List drive.Lock) (l : List Held) (lock : Held) → lock.node ≡ n → AreAlike n locks l → AreAlike n (locks ++ lock_of lock ∷ []) (l ++ lock ∷ [])
 alike_more n locks l lock e same q =
     list_any-append q locks (lock_of lock ∷ [])
-    ∙ (λ i. same q i || ((sym (same_number lock.node n e) i && q (lock_of lock)) || false))
+    ∙ (λ i. same q i || ((sym (eq-eqb lock.node n e) i && q (lock_of lock)) || false))
     ∙ sym (list_any-append (λ (other : Held). other.node == n && q (lock_of other)) l (lock ∷ []))
 
 -- a lock is in the way of what is wanted on the file exactly where one is on its number
 pub conflicts_seen : (n file : ℕ) (exclusive : Bool) (ranges : List Range) (locks : List drive.Lock) (l : List Held) → AreAlike n locks l
-    → conflicts locks (wanted_locks file exclusive ranges) ≡ is_some (conflict l (held.wanted_locks n file exclusive ranges))
+    → conflicts locks (asked_locks file exclusive ranges) ≡ is_some (conflict l (held.wanted_locks n file exclusive ranges))
 conflicts_seen n file exclusive [] locks l same = refl
 conflicts_seen n file exclusive (range ∷ ranges) locks l same =
     let wanted : drive.Lock = record { file = file; exclusive = exclusive; range = range } in
     let lock : Held = record { node = n; file = file; exclusive = exclusive; range = range } in
-    let first : list_any (is_in_way wanted) locks ≡ is_some (find (held.is_in_way lock) l) =
-    same (is_in_way wanted)
-    ∙ ap (λ (q : Held → Bool). list_any q l) (λ i. λ (other : Held). sym (and_later (other.node == n) (overlaps range other.range) (exclusive || (other.exclusive && not (other.file == file)))) i)
+    let first : list_any (is_lock_in_way wanted) locks ≡ is_some (find (held.is_in_way lock) l) =
+    same (is_lock_in_way wanted)
+    ∙ ap (λ (q : Held → Bool). list_any q l) (λ i. λ (other : Held). sym (and_assoc (other.node == n) (overlaps range other.range) (exclusive || (other.exclusive && not (other.file == file)))) i)
     ∙ any-find (held.is_in_way lock) l in
-    let others : conflicts (locks ++ wanted ∷ []) (wanted_locks file exclusive ranges) ≡ is_some (conflict (l ++ lock ∷ []) (held.wanted_locks n file exclusive ranges)) =
+    let others : conflicts (locks ++ wanted ∷ []) (asked_locks file exclusive ranges) ≡ is_some (conflict (l ++ lock ∷ []) (held.wanted_locks n file exclusive ranges)) =
     conflicts_seen n file exclusive ranges (locks ++ wanted ∷ []) (l ++ lock ∷ []) (alike_more n locks l lock refl same) in
     (λ i. first i || others i) ∙ sym (some_or (find (held.is_in_way lock) l) (conflict (l ++ lock ∷ []) (held.wanted_locks n file exclusive ranges)))
 
 -- what is wanted, as callers see it
-pub wanted_seen : (n file : ℕ) (exclusive : Bool) (ranges : List Range) → map lock_of (held.wanted_locks n file exclusive ranges) ≡ wanted_locks file exclusive ranges
+pub wanted_seen : (n file : ℕ) (exclusive : Bool) (ranges : List Range) → map lock_of (held.wanted_locks n file exclusive ranges) ≡ asked_locks file exclusive ranges
 wanted_seen n file exclusive [] = refl
 wanted_seen n file exclusive (range ∷ ranges) = ap (λ (ls : List drive.Lock). record { file = file; exclusive = exclusive; range = range } ∷ ls) (wanted_seen n file exclusive ranges)
 
@@ -76,12 +73,12 @@ module _ (n file : ℕ) where
   abbrev pub IsItsOwn : Held → Type 0
   IsItsOwn lock = lock.file ≡ file → lock.node ≡ n
 
-  own_seen : (range : Range) (lock : Held) → IsItsOwn lock → is_lock_of file range (lock_of lock) ≡ held.is_lock_of n file range lock
+  own_seen : (range : Range) (lock : Held) → IsItsOwn lock → is_own_lock file range (lock_of lock) ≡ held.is_lock_of n file range lock
   own_seen range lock own =
       and_given (lock.node == n) (lock.file == file) ((lock.range).offset == range.offset) ((lock.range).length == range.length)
-      (λ e. same_number lock.node n (own (equal_numbers lock.file file e)))
+      (λ e. eq-eqb lock.node n (own (eqb-true lock.file file e)))
 
-  any_seen : (range : Range) (l : List Held) → AllByRecursion IsItsOwn l → list_any (is_lock_of file range) (map lock_of l) ≡ list_any (held.is_lock_of n file range) l
+  any_seen : (range : Range) (l : List Held) → AllByRecursion IsItsOwn l → list_any (is_own_lock file range) (map lock_of l) ≡ list_any (held.is_lock_of n file range) l
   any_seen range [] own = refl
   any_seen range (lock ∷ l) own = λ i. own_seen range lock own.0 i || any_seen range l own.1 i
 
@@ -145,16 +142,16 @@ all_own s n file opened (lock ∷ l) homes = (own, all_own s n file opened l hom
 
 -- ---- how many there are
 
-wish_count : (w : Wish) → range_count (wish_of w) ≡ ranges_of w
+wish_count : (w : Wish) → range_count (wish_of w) ≡ wish_ranges w
 wish_count (kept_wish.Ranges exclusive ranges) = refl
 wish_count (kept_wish.Change deep filter room) = refl
 
-waiting_count : (ws : List kept_waiting.Waiting) → sum_by (λ (w : drive.Waiting). range_count w.wish) (map waiting_of ws) ≡ sum_by (λ (w : kept_waiting.Waiting). ranges_of w.wish) ws
+waiting_count : (ws : List kept_waiting.Waiting) → sum_by (λ (w : drive.Waiting). range_count w.wish) (map waiting_of ws) ≡ sum_by (λ (w : kept_waiting.Waiting). wish_ranges w.wish) ws
 waiting_count [] = refl
 waiting_count (w ∷ ws) =
     sum_by-cons (λ (o : drive.Waiting). range_count o.wish) (waiting_of w) (map waiting_of ws)
     ∙ (λ i. wish_count w.wish i + waiting_count ws i)
-    ∙ sym (sum_by-cons (λ (o : kept_waiting.Waiting). ranges_of o.wish) w ws)
+    ∙ sym (sum_by-cons (λ (o : kept_waiting.Waiting). wish_ranges o.wish) w ws)
 
 pub count_seen : {closed : Option ℕ} (s : Store) → IsSoundBut closed s → lock_count (drive_of s) ≡ length s.locks.locks + s.locks.reserved
 count_seen s sound = λ i. length-map s.locks.locks lock_of i + (waiting_count s.waiting.items ∙ sym sound.reserved) i

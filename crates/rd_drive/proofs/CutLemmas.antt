@@ -7,8 +7,9 @@ use Rattle.std.proofs.lemmas.List.{length-map}
 use Rattle.std.specs.Ordering.{nat_cmp}
 use Rattle.std.specs.Map.{keys_of, lookup, remove_entry}
 use Rattle.std.specs.BTreeMap.{is_at}
+use Rattle.rd_tree.proofs.ViewLemmas.{itself}
 use Rattle.rd_base.specs.declared.status.Status.{Status}
-use Rattle.rd_tree.specs.Places.{IsWhole, Places}
+use Rattle.rd_tree.specs.Places.{Places}
 use Rattle.rd_drive.specs.declared.store.Store.{Store}
 use Rattle.rd_drive.specs.declared.store.Done.{Done}
 use Rattle.rd_drive.specs.declared.store.Done.TheVariants as done
@@ -19,12 +20,11 @@ use Rattle.rd_drive.specs.DriveState.{DriveState, Node}
 use Rattle.rd_drive.specs.Outcome.{Outcome, on_handle, one_of, refused}
 use Rattle.rd_drive.specs.Close.{close}
 use Rattle.rd_drive.specs.DriveStep.{drive_cut, with_closed}
-use Rattle.rd_drive.specs.Statuses.{no_memory}
+use Rattle.rd_base.specs.Statuses.{no_memory}
 use Rattle.rd_drive.specs.Cutting.{ClosesFirst}
 use Rattle.rd_drive.specs.Store.{drive_of, handle_of, kept_handle, waiting_of, HasRoom, IsFed, IsSound, IsSoundBut, Serves}
 use Rattle.rd_drive.specs.Kept.{own_node}
 use Rattle.rd_drive.proofs.KeptLemmas.{on_own}
-use Rattle.rd_drive.proofs.StoreLemmas.{itself}
 
 -- ---- one Close
 
@@ -55,6 +55,7 @@ left_by s new comes (Err status) serves fed = ((None, serves.0), by serves.1)
 -- where none waits, what holds but for a closed file id holds
 pub sound_alone : (s : Store) (closed : Option ℕ) → IsSoundBut closed s → s.waiting.items ≡ [] → IsSound s
 sound_alone s closed sound none = record {
+  whole = sound.whole;
   naming = sound.naming;
   label = sound.label;
   states = sound.states;
@@ -80,7 +81,7 @@ first_entry (d ∷ rest) file h e = (rest, ap (λ (x : ℕ × kept.Handle). x �
     same : (a b : ℕ × kept.Handle) → Some a ≡ Some b → a ≡ b
     same a b e = ap (λ (o : Option (ℕ × kept.Handle)). unwrap_or o a) e
 
-module _ (s new : Store) (sound : IsSound s) (whole : IsWhole s.tree) (none : s.waiting.items ≡ []) (file : ℕ) (h : kept.Handle) (first : slice_get s.handles.entries 0 ≡ Some (file, h))
+module _ (s new : Store) (sound : IsSound s) (none : s.waiting.items ≡ []) (file : ℕ) (h : kept.Handle) (first : slice_get s.handles.entries 0 ≡ Some (file, h))
     (result : Result Done Status) (serves : Serves s new (on_handle (drive_of s) file (close (drive_of s) file)) result) (fed : IsFed result) where
   abbrev comes : Outcome
   comes = on_handle (drive_of s) file (close (drive_of s) file)
@@ -97,7 +98,7 @@ module _ (s new : Store) (sound : IsSound s) (whole : IsWhole s.tree) (none : s.
   kept_so : ((drive_of new).handles ≡ remove_entry (is_at (nat_cmp file)) (drive_of s).handles) × ((drive_of new).waiting ≡ (drive_of s).waiting)
   unfolding Keeps
   kept_so =
-      let goes = on_own s sound whole file h here (close (drive_of s) file) in
+      let goes = on_own s sound file h here (close (drive_of s) file) in
       let keeping = keeps (drive_of s) file (handle_of s.tree h) (own_node s h.node.0) in
       subst (λ (d : DriveState). (d.handles ≡ remove_entry (is_at (nat_cmp file)) (drive_of s).handles) × (d.waiting ≡ (drive_of s).waiting)) (ap (λ (o : Outcome). o.state) (sym goes) ∙ left.1) keeping
 

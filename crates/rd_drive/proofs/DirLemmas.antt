@@ -9,7 +9,7 @@ use Rattle.rd_irp.specs.declared.completion.Body.TheVariants.{Buffer}
 use Rattle.rd_dirinfo.specs.Entry.{entry_classes}
 use Rattle.rd_dirinfo.specs.Naming.{Name}
 use Rattle.rd_dirinfo.specs.Patterns.{pattern_of, pattern_fault}
-use Rattle.rd_tree.specs.Places.{Place, Places, bytes_at, is_folder as is_folder_number, own_path, place, IsWhole}
+use Rattle.rd_tree.specs.Places.{Place, Places, bytes_at, is_folder as is_folder_number, own_path, place}
 use Rattle.rd_drive.specs.declared.handle.Handle as open_file
 use Rattle.rd_drive.specs.declared.news.News as told_news
 use Rattle.rd_drive.specs.declared.query_dir.Listed.{Listed}
@@ -18,7 +18,7 @@ use Rattle.rd_drive.specs.declared.store.Done.TheVariants as done
 use Rattle.rd_drive.specs.DriveState.{DriveState, Node}
 use Rattle.rd_drive.specs.Outcome.{Outcome, no_news, on_handle, refused, succeeded}
 use Rattle.rd_drive.specs.QueryDir.{lists, next_node, query_dir, with_listing}
-use Rattle.rd_drive.specs.Statuses.{invalid_info_class, invalid_parameter, no_more_files, no_such_file, object_name_invalid}
+use Rattle.rd_base.specs.Statuses.{invalid_info_class, invalid_parameter, no_more_files, no_such_file, object_name_invalid}
 use Rattle.rd_drive.specs.Store.{drive_of, handle_of, kept_handle, nothing, IsSound, Serves}
 use Rattle.rd_drive.specs.Kept.{own_node}
 use Rattle.rd_drive.specs.Relisted.{Finds, Relists}
@@ -36,13 +36,13 @@ folder_number tree n e = by (place tree n) e
     by None h = refl
     by (Some p) h = cc
 
-module _ (s : Store) (sound : IsSound s) (whole : IsWhole s.tree) (file : ℕ) (h : open_file.Handle) (is : kept_handle s file ≡ Some h) (class : ℕ) where
+module _ (s : Store) (sound : IsSound s) (file : ℕ) (h : open_file.Handle) (is : kept_handle s file ≡ Some h) (class : ℕ) where
   module _ (initial : Bool) (units : List ℕ) where
     abbrev pub comes : Outcome
     comes = on_handle (drive_of s) file (query_dir (drive_of s) file class initial units)
 
     goes : comes ≡ query_dir (drive_of s) file class initial units (handle_of s.tree h) (own_node s h.node.0)
-    goes = on_own s sound whole file h is (query_dir (drive_of s) file class initial units)
+    goes = on_own s sound file h is (query_dir (drive_of s) file class initial units)
 
     pub dir_file : not (is_some (bytes_at s.tree h.node.0)) ≡ false → comes ≡ refused (drive_of s) invalid_parameter
     dir_file e = goes ∙ check_applies (drive_of s) _ _ _ (ap not e)

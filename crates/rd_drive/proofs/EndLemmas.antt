@@ -9,10 +9,10 @@ use Rattle.rd_dirinfo.specs.Paths.{Names, is_within_limits}
 use Rattle.rd_drive.specs.declared.step.End.{End}
 use Rattle.rd_drive.specs.DriveState.{DriveState, Waiting, Wish, Ranges, Notice, open_path}
 use Rattle.rd_drive.specs.Outcome.{Change, News, done}
-use Rattle.rd_drive.specs.Locking.{locks_on, wanted_locks, conflicts, with_locks}
+use Rattle.rd_drive.specs.Locking.{locks_on, asked_locks, conflicts, with_locks}
 use Rattle.rd_drive.specs.Stepped.{Settled}
 use Rattle.rd_drive.specs.Waiting.{change_bytes, closing_reply, ends_with, is_closed, is_told, is_tried, settled, settles, settles_open, waits_on}
-use Rattle.rd_drive.specs.Device.{AreEnded, Completes, IsEndOf}
+use Rattle.rd_drive.specs.Device.{AreEnded, CompletesKind, IsEndOf}
 use Rattle.rd_drive.specs.Answered.{drive_parked, parked_of, wish_kind}
 use Rattle.rd_drive.proofs.AnswerLemmas.{found_has}
 use Rattle.rd_drive.proofs.LengthLemmas.{can_count, change_length}
@@ -24,7 +24,7 @@ module _ (news : News) (fitting : AllByRecursion (λ (c : Change). is_within_lim
       ((ended : End) × (new.ends ≡ old.ends ++ ended ∷ []) × IsEndOf (parked_of w) ended × ((new.state).waiting ≡ (old.state).waiting))
       ⊎ ((new.ends ≡ old.ends) × ((new.state).waiting ≡ (old.state).waiting ++ w ∷ []))
 
-  closes : (wish : Wish) → Completes (wish_kind wish) (closing_reply wish)
+  closes : (wish : Wish) → CompletesKind (wish_kind wish) (closing_reply wish)
   closes (Ranges exclusive ranges) = ((refl, tt), tt)
   closes (Notice deep filter) = ((refl, tt), tt)
 
@@ -36,7 +36,7 @@ module _ (news : News) (fitting : AllByRecursion (λ (c : Change). is_within_lim
       path = unwrap_or (open_path old.state w.file) []
 
       ranges_go : (exclusive : Bool) (ranges : List Range) (b : Bool)
-          → Goes old (record { key = w.key; file = w.file; wish = Ranges exclusive ranges }) (cond b (ends_with old (with_locks old.state (wanted_locks w.file exclusive ranges)) w (done Locked)) (waits_on old (record { key = w.key; file = w.file; wish = Ranges exclusive ranges })))
+          → Goes old (record { key = w.key; file = w.file; wish = Ranges exclusive ranges }) (cond b (ends_with old (with_locks old.state (asked_locks w.file exclusive ranges)) w (done Locked)) (waits_on old (record { key = w.key; file = w.file; wish = Ranges exclusive ranges })))
       ranges_go exclusive ranges true = inl (_, refl, (refl, ((tt, tt), tt)), refl)
       ranges_go exclusive ranges false = inr (refl, refl)
 
@@ -50,7 +50,7 @@ module _ (news : News) (fitting : AllByRecursion (λ (c : Change). is_within_lim
           inl (_, refl, (refl, ((tt, can_count (change_bytes path change) few), few)), refl)
 
       open_goes : (wish : Wish) → Goes old (record { key = w.key; file = w.file; wish = wish }) (settles_open news old (record { key = w.key; file = w.file; wish = wish }) path wish)
-      open_goes (Ranges exclusive ranges) = ranges_go exclusive ranges (is_tried old.state news path && not (conflicts (locks_on old.state path) (wanted_locks w.file exclusive ranges)))
+      open_goes (Ranges exclusive ranges) = ranges_go exclusive ranges (is_tried old.state news path && not (conflicts (locks_on old.state path) (asked_locks w.file exclusive ranges)))
       open_goes (Notice deep filter) = change_goes deep filter (find (is_told old.state path deep filter) news.changes) refl
 
       by : (b : Bool) → Goes old w (cond b (ends_with old old.state w (closing_reply w.wish)) (settles_open news old w path w.wish))

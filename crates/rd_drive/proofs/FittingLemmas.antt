@@ -5,7 +5,7 @@ use Rattle.std.specs.Option.{is_some, IfSome}
 use Rattle.std.specs.Ordering.{is_lt}
 use Rattle.rd_dirinfo.specs.declared.naming.Naming.{Naming}
 use Rattle.rd_dirinfo.specs.Paths.{path_cmp, is_within_limits}
-use Rattle.rd_tree.specs.Places.{Place, IsWhole}
+use Rattle.rd_tree.specs.Places.{Place}
 use Rattle.rd_drive.specs.declared.news.Named.{Named}
 use Rattle.rd_drive.specs.declared.news.Named.TheVariants as named
 use Rattle.rd_drive.specs.declared.news.Change as told
@@ -31,16 +31,16 @@ module _ (naming : Naming) (P : Node → Type 0) where
   order_all [] all = tt
   order_all (x ∷ xs) all = all_add x (in_order naming xs) all.0 (order_all xs all.1)
 
-module _ (s : Store) (whole : IsWhole s.tree) (closed : Option ℕ) (sound : IsSoundBut closed s) where
-  places_fit : (l : List (ℕ × Place)) → AreListed s.tree whole l → AllByRecursion (λ (node : Node). is_within_limits node.path ≡ true) (map (node_of s.states) l)
+module _ (s : Store) (closed : Option ℕ) (sound : IsSoundBut closed s) where
+  places_fit : (l : List (ℕ × Place)) → AreListed s.tree sound.whole l → AllByRecursion (λ (node : Node). is_within_limits node.path ≡ true) (map (node_of s.states) l)
   places_fit [] listed = tt
   places_fit (d ∷ l) listed =
-      (ap is_within_limits (sym (own_is s.tree whole d.0 d.1 listed.0)) ∙ sound.fitting d.0 (ap is_some listed.0), places_fit l listed.1)
+      (ap is_within_limits (sym (own_is s.tree sound.whole d.0 d.1 listed.0)) ∙ sound.fitting d.0 (ap is_some listed.0), places_fit l listed.1)
 
   pub drive_fits : IsFitting (drive_of s)
   drive_fits = record {
     label = sound.label;
-    paths = order_all s.tree.naming (λ (node : Node). is_within_limits node.path ≡ true) (map (node_of s.states) s.tree.list) (places_fit s.tree.list (all_listed s.tree whole));
+    paths = order_all s.tree.naming (λ (node : Node). is_within_limits node.path ≡ true) (map (node_of s.states) s.tree.list) (places_fit s.tree.list (all_listed s.tree sound.whole));
   }
 
   told_fits : (n : Named) → IsTold s.tree n → is_within_limits (named_path s.tree n) ≡ true

@@ -4,13 +4,13 @@ use Rattle.std.specs.Option.{option_map, IsSome}
 use Rattle.std.specs.Ordering.{nat_cmp}
 use Rattle.std.specs.Map.{lookup}
 use Rattle.std.specs.BTreeMap.{is_at}
-use Rattle.rd_tree.specs.Places.{Place, Places, place, own_path, IsWhole}
+use Rattle.rd_tree.specs.Places.{Place, Places, place, own_path}
 use Rattle.rd_drive.specs.declared.handle.Handle as kept
 use Rattle.rd_drive.specs.declared.store.Store.{Store}
 use Rattle.rd_drive.specs.DriveState as drive
-use Rattle.rd_drive.specs.DriveState.{Node, is_at_path, handle_at, node_at}
+use Rattle.rd_drive.specs.DriveState.{Node, is_at_path, handle_at, node_of_path}
 use Rattle.rd_drive.specs.Outcome.{Outcome, given, refused, on_handle}
-use Rattle.rd_drive.specs.Statuses.{invalid_handle}
+use Rattle.rd_base.specs.Statuses.{invalid_handle}
 use Rattle.rd_drive.specs.Store.{state_of, node_with, nodes_of, handle_of, drive_of, kept_handle, IsSound}
 use Rattle.rd_drive.proofs.StoreLemmas.{node_at_own}
 
@@ -29,16 +29,16 @@ handle_seen s file = looked_up s.tree (is_at (nat_cmp file)) s.handles.entries
 -- an operation on a file id without a handle is refused
 pub unopened : (s : Store) (file : ℕ) (f : drive.Handle → Node → Outcome) → kept_handle s file ≡ None → on_handle (drive_of s) file f ≡ refused (drive_of s) invalid_handle
 unfolding given
-unopened s file f none = ap (λ o. given (drive_of s) o invalid_handle (λ handle. given (drive_of s) (drive.node_at (drive_of s) handle.path) invalid_handle (f handle))) (handle_seen s file ∙ ap (option_map (handle_of s.tree)) none)
+unopened s file f none = ap (λ o. given (drive_of s) o invalid_handle (λ handle. given (drive_of s) (drive.node_of_path (drive_of s) handle.path) invalid_handle (f handle))) (handle_seen s file ∙ ap (option_map (handle_of s.tree)) none)
 
 -- an operation on an open file goes on with what its handle is and with its node
-pub on_open : (s : Store) → IsSound s → IsWhole s.tree → (file : ℕ) (h : kept.Handle) → kept_handle s file ≡ Some h → (x : Place) → place s.tree h.node.0 ≡ Some x
+pub on_open : (s : Store) → IsSound s → (file : ℕ) (h : kept.Handle) → kept_handle s file ≡ Some h → (x : Place) → place s.tree h.node.0 ≡ Some x
     → (f : drive.Handle → Node → Outcome) → on_handle (drive_of s) file f ≡ f (handle_of s.tree h) (node_with (state_of s.states h.node.0) x)
 unfolding given
-on_open s sound whole file h is x here f =
-    ap (λ o. given (drive_of s) o invalid_handle (λ handle. given (drive_of s) (drive.node_at (drive_of s) handle.path) invalid_handle (f handle))) (handle_seen s file ∙ ap (option_map (handle_of s.tree)) is)
+on_open s sound file h is x here f =
+    ap (λ o. given (drive_of s) o invalid_handle (λ handle. given (drive_of s) (drive.node_of_path (drive_of s) handle.path) invalid_handle (f handle))) (handle_seen s file ∙ ap (option_map (handle_of s.tree)) is)
     ∙ ap (λ o. given (drive_of s) o invalid_handle (f (handle_of s.tree h)))
-    (subst (λ naming. find (is_at_path naming (own_path s.tree h.node.0)) (nodes_of s.tree s.states) ≡ Some (node_with (state_of s.states h.node.0) x)) sound.naming (node_at_own s.tree whole h.node.0 x here s.states))
+    (subst (λ naming. find (is_at_path naming (own_path s.tree h.node.0)) (nodes_of s.tree s.states) ≡ Some (node_with (state_of s.states h.node.0) x)) sound.naming (node_at_own s.tree sound.whole h.node.0 x here s.states))
 
 -- the place of the node that an open file has
 pub opened_place : (s : Store) → IsSound s → (file : ℕ) (h : kept.Handle) → kept_handle s file ≡ Some h → (x : Place) × (place s.tree h.node.0 ≡ Some x)

@@ -8,10 +8,13 @@ use Rattle.std.specs.declared.cmp.Ordering.{Ordering}
 use Rattle.std.specs.declared.cmp.Ordering.TheVariants.{Less, Equal, Greater}
 use Rattle.std.specs.Map.{keys_of, lookup, remove_entry}
 use Rattle.std.specs.BTreeMap.{insert_entry, is_at}
+use Rattle.std.proofs.lemmas.Option.{same_Some, none-some}
+use Rattle.std.proofs.lemmas.Bool.{eqb-true, eq-eqb, or_parts}
+use Rattle.rd_tree.proofs.ViewLemmas.{itself}
 use Rattle.rd_dirinfo.specs.Paths.{is_same_path}
 use Rattle.rd_locks.specs.declared.held.Held.{Held}
 use Rattle.rd_locks.specs.Locks.{released}
-use Rattle.rd_tree.specs.Places.{Places, own_path, IsLive, IsWhole}
+use Rattle.rd_tree.specs.Places.{Places, own_path, IsLive}
 use Rattle.rd_tree.proofs.WayLemmas.{same_true}
 use Rattle.rd_drive.specs.declared.access.Use.{Use}
 use Rattle.rd_drive.specs.declared.handle.Handle as kept
@@ -20,15 +23,15 @@ use Rattle.rd_drive.specs.DriveState as drive
 use Rattle.rd_drive.specs.DriveState.{has_open}
 use Rattle.rd_drive.specs.Access.{use_of}
 use Rattle.rd_drive.specs.Store.{handle_of, drive_of, kept_handle, lock_of, uses_on, IsSound}
-use Rattle.rd_drive.proofs.LockLemmas.{alike, equal_numbers, same_number}
-use Rattle.rd_drive.proofs.StoreLemmas.{below_apart, is_below, is_equal, itself, none_is_some, some_inside}
+use Rattle.rd_drive.proofs.LockLemmas.{alike}
+use Rattle.rd_drive.proofs.StoreLemmas.{below_apart, is_below, is_equal}
 use Rattle.rd_drive.proofs.UsesLemmas.{any_handle, any_use, use_by}
 
 -- ---- each entry is its file id's
 
 -- a number that has a value is above all that are below the numbers
 looked_above : {X : Type 0} (m k : ℕ) (x : X) (es : List (ℕ × X)) → AllByRecursion (λ (y : ℕ). nat_cmp m y ≡ Less) (keys_of es) → lookup (is_at (nat_cmp k)) es ≡ Some x → m < k
-looked_above m k x [] low is = absurd (none_is_some x is)
+looked_above m k x [] low is = absurd (none-some x is)
 looked_above m k x (d ∷ es) low is = by (λ there. looked_above m k x es low.1 there) (is_at (nat_cmp k) d.0) refl
   where
     by : (lookup (is_at (nat_cmp k)) es ≡ Some x → m < k) → (b : Bool) → is_at (nat_cmp k) d.0 ≡ b → m < k
@@ -124,15 +127,11 @@ one_longer {X} k x (e ∷ es) = by (one_longer k x es) (nat_cmp k e.0)
 
 -- what fails of each fails of the one that is found
 pub found_passes : {X : Type 0} (q : X → Bool) (test : ℕ → Bool) (es : List (ℕ × X)) (h : X) → lookup test es ≡ Some h → list_any (λ (e : ℕ × X). q e.1) es ≡ false → q h ≡ false
-found_passes q test [] h is none = absurd (none_is_some h is)
-found_passes {X} q test (e ∷ es) h is none = by (parts (q e.1) (list_any (λ (g : ℕ × X). q g.1) es) none) (λ there rest. found_passes q test es h there rest) (test e.0) refl
+found_passes q test [] h is none = absurd (none-some h is)
+found_passes {X} q test (e ∷ es) h is none = by (or_parts (q e.1) (list_any (λ (g : ℕ × X). q g.1) es) none) (λ there rest. found_passes q test es h there rest) (test e.0) refl
   where
-    parts : (a b : Bool) → (a || b) ≡ false → (a ≡ false) × (b ≡ false)
-    parts true b e = absurd (cc)
-    parts false b e = (refl, e)
-
     by : (q e.1 ≡ false) × (list_any (λ (g : ℕ × X). q g.1) es ≡ false) → (lookup test es ≡ Some h → list_any (λ (g : ℕ × X). q g.1) es ≡ false → q h ≡ false) → (b : Bool) → test e.0 ≡ b → q h ≡ false
-    by both later true this = ap q (sym (some_inside e.1 h (sym (ap (λ b. cond b (Some e.1) (lookup test es)) this) ∙ is))) ∙ both.0
+    by both later true this = ap q (sym (same_Some e.1 h (sym (ap (λ b. cond b (Some e.1) (lookup test es)) this) ∙ is))) ∙ both.0
     by both later false this = later (sym (ap (λ b. cond b (Some e.1) (lookup test es)) this) ∙ is) both.1
 
 -- where no handle is on a number, the paths of the others are enough
@@ -140,12 +139,8 @@ pub seen_apart : (tree other : Places) (n : ℕ) → ((k : ℕ) → (k == n) ≡
     → map (seen_entry other) es ≡ map (seen_entry tree) es
 seen_apart tree other n same [] none = refl
 seen_apart tree other n same (e ∷ es) none =
-    let both = parts (e.1.node.0 == n) (list_any (λ (g : ℕ × kept.Handle). g.1.node.0 == n) es) none in
+    let both = or_parts (e.1.node.0 == n) (list_any (λ (g : ℕ × kept.Handle). g.1.node.0 == n) es) none in
     λ i. (e.0, record { path = same e.1.node.0 both.0 i; access = e.1.access; share = e.1.share; delete_on_close = e.1.delete_on_close; pattern = e.1.pattern; last = e.1.last }) ∷ seen_apart tree other n same es both.1 i
-  where
-    parts : (a b : Bool) → (a || b) ≡ false → (a ≡ false) × (b ≡ false)
-    parts true b e = absurd (cc)
-    parts false b e = (refl, e)
 
 -- the locks without a file id's
 pub released_seen : (file : ℕ) (l : List Held) → filter (λ (lock : drive.Lock). not (lock.file == file)) (map lock_of l) ≡ map lock_of (released file l)
@@ -159,13 +154,13 @@ released_seen file (held ∷ l) = by (released_seen file l) (not (held.file == f
 
 -- ---- the handles that are open on a node
 
-module _ (s : Store) (sound : IsSound s) (whole : IsWhole s.tree) (n : ℕ) (live : IsLive s.tree n) where
+module _ (s : Store) (sound : IsSound s) (n : ℕ) (live : IsLive s.tree n) where
   open_entry : (e : ℕ × kept.Handle) → kept_handle s e.0 ≡ Some e.1 → has_open (drive_of s) (own_path s.tree n) (seen_entry s.tree e) ≡ (e.1.node.0 == n)
   open_entry e is =
       ap (λ naming. is_same_path naming (own_path s.tree e.1.node.0) (own_path s.tree n)) (sym sound.naming)
       ∙ alike (is_same_path s.tree.naming (own_path s.tree e.1.node.0) (own_path s.tree n)) (e.1.node.0 == n)
-      (λ t. same_number e.1.node.0 n (whole.apart e.1.node.0 n (sound.opened e.0 e.1 is).0 live t))
-      (λ t. ap (λ (m : ℕ). is_same_path s.tree.naming (own_path s.tree m) (own_path s.tree n)) (equal_numbers e.1.node.0 n t) ∙ same_true s.tree.naming (own_path s.tree n) (own_path s.tree n) refl)
+      (λ t. eq-eqb e.1.node.0 n (sound.whole.apart e.1.node.0 n (sound.opened e.0 e.1 is).0 live t))
+      (λ t. ap (λ (m : ℕ). is_same_path s.tree.naming (own_path s.tree m) (own_path s.tree n)) (eqb-true e.1.node.0 n t) ∙ same_true s.tree.naming (own_path s.tree n) (own_path s.tree n) refl)
 
   open_seen : (es : List (ℕ × kept.Handle)) → AreKept (kept_handle s) es → list_any (has_open (drive_of s) (own_path s.tree n)) (map (seen_entry s.tree) es) ≡ list_any (λ (e : ℕ × kept.Handle). e.1.node.0 == n) es
   open_seen [] all = refl

@@ -1,20 +1,18 @@
 -- The label that a volume is given: the one that the buffer spells, and how many units it has at most.
-use Rattle.std.proofs.Common.{◌≡◌, ◌∙◌, sym, ap, subst, ℕ, zero, suc, ◌+◌, ◌/◌, ◌≤◌, ◌==◌, Bool, true, false, not, cond, List, [], ◌∷◌, length, Option, Some, None, IsTrue, arith}
-use Rattle.std.specs.Prelude.{nat_le}
-use Rattle.std.proofs.lemmas.Bool.Decides.{nat_tests}
+use Rattle.std.proofs.Common.{◌≡◌, ◌∙◌, sym, ap, subst, ℕ, zero, suc, ◌+◌, ◌/◌, ◌≤◌, ◌==◌, Bool, true, false, not, cond, List, [], ◌∷◌, length, Option, Some, None, arith}
 use Rattle.std.proofs.lemmas.List.Sums.{take_while-cons}
+use Rattle.std.proofs.lemmas.Bool.{leb-true}
 use Rattle.rd_base.specs.declared.bad.Bad.{Bad}
 use Rattle.rd_base.specs.Layout.{IsSpelled}
 use Rattle.rd_base.specs.Fields.{number16, times, path, before_zero}
 use Rattle.rd_base.proofs.LayoutLemmas.{meets}
 use Rattle.rd_irp.specs.declared.completion.Body.TheVariants.{Count}
 use Rattle.rd_fileinfo.specs.Label.{label_set, SpellsLabel, FirstFaultOfLabel}
-use Rattle.rd_tree.specs.Places.{IsWhole}
 use Rattle.rd_drive.specs.declared.handle.Handle as open_file
 use Rattle.rd_drive.specs.declared.store.Store.{Store}
 use Rattle.rd_drive.specs.Outcome.{Outcome, refused, succeeded, no_news, given, on_handle}
 use Rattle.rd_drive.specs.SetVolume.{label_class, label_of, label_read, set_volume}
-use Rattle.rd_drive.specs.Statuses.{invalid_info_class, invalid_parameter}
+use Rattle.rd_base.specs.Statuses.{invalid_info_class, invalid_parameter}
 use Rattle.rd_drive.specs.Store.{handle_of, drive_of, kept_handle, IsSound}
 use Rattle.rd_drive.specs.Kept.{own_node}
 use Rattle.rd_drive.proofs.CheckLemmas.{check_applies, check_passed, checks_done, given_some, given_none}
@@ -45,13 +43,10 @@ path_length count units field after s =
     let cut : length units ≤ length s.0 = subst (λ (l : List ℕ). length l ≤ length s.0) (sym s.5.0) (shorter s.0) in
     omega (arith, many, cut)
 
-at_most : (count : ℕ) → IsTrue (nat_le count 64) → count ≤ 64
-at_most count t = grind (arith, nat_tests)
-
 label_short : (label field after : List ℕ) → IsSpelled label_set label field after → length label ≤ 32
 unfolding label_set
 label_short label field after s =
-    let few : s.0 ≤ 64 = at_most s.0 s.5.4.0 in
+    let few : s.0 ≤ 64 = leb-true s.0 64 s.5.4.0 in
     let most = path_length s.0 label s.5.5.2 after s.5.5.5 in
     omega (arith, few, most)
 
@@ -65,12 +60,12 @@ label_spelled label tail buffer s = ap label_read (meets label_set 0 buffer labe
 pub label_faulty : (buffer : List ℕ) (bad : Bad) → FirstFaultOfLabel buffer bad → label_of buffer ≡ None
 label_faulty buffer bad e = ap label_read e
 
-module _ (s : Store) (sound : IsSound s) (whole : IsWhole s.tree) (file : ℕ) (h : open_file.Handle) (is : kept_handle s file ≡ Some h) (class : ℕ) (buffer : List ℕ) where
+module _ (s : Store) (sound : IsSound s) (file : ℕ) (h : open_file.Handle) (is : kept_handle s file ≡ Some h) (class : ℕ) (buffer : List ℕ) where
   abbrev pub comes : Outcome
   comes = on_handle (drive_of s) file (set_volume (drive_of s) class buffer)
 
   goes : comes ≡ set_volume (drive_of s) class buffer (handle_of s.tree h) (own_node s h.node.0)
-  goes = on_own s sound whole file h is (set_volume (drive_of s) class buffer)
+  goes = on_own s sound file h is (set_volume (drive_of s) class buffer)
 
   pub label_refused : (class == label_class) ≡ false → comes ≡ refused (drive_of s) invalid_info_class
   label_refused other = goes ∙ check_applies (drive_of s) _ _ _ (ap not other)
@@ -94,6 +89,7 @@ module _ (s : Store) (sound : IsSound s) (whole : IsWhole s.tree) (file : ℕ) (
 -- the drive stays sound with a label that isn't too long
 pub sound_label : (s : Store) → IsSound s → (label : List ℕ) → length label ≤ 32 → IsSound (record s { label = label })
 sound_label s sound label short = record {
+  whole = sound.whole;
   naming = sound.naming;
   label = short;
   states = sound.states;

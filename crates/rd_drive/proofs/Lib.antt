@@ -33,6 +33,7 @@ pub mod SettleLemmas
 pub mod ServedLemmas
 pub mod UsesLemmas
 pub mod HandlesLemmas
+pub mod WithoutLemmas
 pub mod ClosedLemmas
 pub mod AboveLemmas
 pub mod CloseLemmas

@@ -4,13 +4,13 @@ use Rattle.std.specs.Option.{option_map, option_map_or}
 use Rattle.std.specs.Ordering.{is_lt, ordering_then}
 use Rattle.std.specs.declared.cmp.Ordering.{Ordering}
 use Rattle.std.specs.declared.cmp.Ordering.TheVariants.{Less, Equal, Greater}
-use Rattle.std.proofs.lemmas.Bool.Decides.{nat_tests}
+use Rattle.std.proofs.lemmas.Bool.{eqb-true, and_parts}
 use Rattle.rd_dirinfo.specs.declared.naming.Naming.{Naming}
 use Rattle.rd_dirinfo.specs.Naming.{Name, name_cmp, IsSame}
 use Rattle.rd_dirinfo.specs.Paths.{Names, path_cmp, seen_path, is_parent, is_prefix, last_name}
 use Rattle.rd_dirinfo.specs.Patterns.{is_wanted}
 use Rattle.rd_dirinfo.proofs.NamingLemmas.{equal_is_same}
-use Rattle.rd_tree.specs.Places.{Place, Places, first_of, least, next_name, own_path}
+use Rattle.rd_tree.specs.Places.{Place, Places, first_name, least, next_name, own_path}
 use Rattle.rd_tree.proofs.ParentLemmas.{parent_same}
 use Rattle.rd_tree.proofs.PlaceLemmas.{last_of}
 use Rattle.rd_drive.specs.DriveState.{Node, add_node, in_order}
@@ -18,13 +18,6 @@ use Rattle.rd_drive.specs.Store.{States, node_of, nodes_of}
 use Rattle.rd_drive.proofs.OrderLemmas.{order_filter}
 
 -- ---- names of one folder
-
-pub equals : (a b : ℕ) → (a == b) ≡ true → a ≡ b
-equals a b e = grind (arith, nat_tests)
-
-pub second_of : (a b : Bool) → (a && b) ≡ true → b ≡ true
-second_of true b e = e
-second_of false b e = absurd (cc)
 
 -- a path with names ends in one
 pub ends_in : (path : Names) (n : ℕ) → length path ≡ n + 1 → (front : Names) × (name : Name) × (path ≡ front ++ name ∷ [])
@@ -55,8 +48,8 @@ module _ (naming : Naming) where
   -- two paths in one folder are in the order of their names
   pub child_order : (folder p q : Names) → is_parent naming folder p ≡ true → is_parent naming folder q ≡ true → path_cmp naming p q ≡ name_cmp naming (last_name p) (last_name q)
   child_order folder p q first second =
-      let x = ends_in p (length folder) (equals (length p) (length folder + 1) (second_of (is_prefix naming folder p) (length p == length folder + 1) first)) in
-      let y = ends_in q (length folder) (equals (length q) (length folder + 1) (second_of (is_prefix naming folder q) (length q == length folder + 1) second)) in
+      let x = ends_in p (length folder) (eqb-true (length p) (length folder + 1) ((and_parts (is_prefix naming folder p) (length p == length folder + 1) first).1)) in
+      let y = ends_in q (length folder) (eqb-true (length q) (length folder + 1) ((and_parts (is_prefix naming folder q) (length q == length folder + 1) second).1)) in
       let above_x = parent_same naming folder x.0 x.1 (ap (is_parent naming folder) (sym x.2) ∙ first) in
       let above_y = parent_same naming folder y.0 y.1 (ap (is_parent naming folder) (sym y.2) ∙ second) in
       (λ i. path_cmp naming (x.2 i) (y.2 i)) ∙ last_decides x.0 y.0 x.1 y.1 (sym above_x ∙ above_y)
@@ -113,14 +106,14 @@ module _ (naming : Naming) where
           → (o : Option Node) → first (in_order naming xs) ≡ o → Both
       by later None e = (
         ap (option_map name_of) (first_add x (in_order naming xs) ∙ ap (λ (o : Option Node). Some (option_map_or (sooner x) o x)) e)
-            ∙ ap (λ (o : Option Name). Some (option_map_or (first_of naming (name_of x)) o (name_of x))) (sym (ap (option_map name_of) e) ∙ later.0),
+            ∙ ap (λ (o : Option Name). Some (option_map_or (first_name naming (name_of x)) o (name_of x))) (sym (ap (option_map name_of) e) ∙ later.0),
         λ y is. subst (λ (n : Node). is_parent naming folder n.path ≡ true) (only x y (sym (first_add x (in_order naming xs) ∙ ap (λ (o : Option Node). Some (option_map_or (sooner x) o x)) e) ∙ is)) are.0,
       )
       by later (Some y) e =
           let order = child_order folder y.path x.path (later.1 y e) are.0 in (
             ap (option_map name_of) (first_add x (in_order naming xs) ∙ ap (λ (o : Option Node). Some (option_map_or (sooner x) o x)) e)
                 ∙ names_chosen (is_lt (path_cmp naming y.path x.path)) (is_lt (name_cmp naming (name_of y) (name_of x))) (ap is_lt order)
-                ∙ ap (λ (o : Option Name). Some (option_map_or (first_of naming (name_of x)) o (name_of x))) (sym (ap (option_map name_of) e) ∙ later.0),
+                ∙ ap (λ (o : Option Name). Some (option_map_or (first_name naming (name_of x)) o (name_of x))) (sym (ap (option_map name_of) e) ∙ later.0),
             λ z is. subst (λ (n : Node). is_parent naming folder n.path ≡ true) (only (sooner x y) z (sym (first_add x (in_order naming xs) ∙ ap (λ (o : Option Node). Some (option_map_or (sooner x) o x)) e) ∙ is)) (chosen_in (is_lt (path_cmp naming y.path x.path))),
           )
         where

@@ -1,11 +1,11 @@
 -- The locks on the file that a number has, as callers see them.
-use Rattle.std.proofs.Common.{◌≡◌, ◌∙◌, refl, sym, ap, subst, ℕ, ◌==◌, Bool, true, false, ◌&&◌, ◌||◌, cond, List, [], ◌∷◌, map, Option, Some, None, filter, arith}
+use Rattle.std.proofs.Common.{◌≡◌, ◌∙◌, refl, sym, ap, subst, ℕ, ◌==◌, Bool, true, false, ◌&&◌, ◌||◌, cond, List, [], ◌∷◌, map, Option, Some, None, filter}
 use Rattle.std.specs.List.{list_any, AllByRecursion}
 use Rattle.std.specs.Option.{option_map, option_map_or, unwrap_or}
-use Rattle.std.proofs.lemmas.Bool.Decides.{nat_tests}
+use Rattle.std.proofs.lemmas.Bool.{eqb-true, eq-eqb}
 use Rattle.rd_locks.specs.declared.held.Held.{Held}
 use Rattle.rd_dirinfo.specs.Paths.{Names, is_same_path}
-use Rattle.rd_tree.specs.Places.{own_path, IsLive, IsWhole}
+use Rattle.rd_tree.specs.Places.{own_path, IsLive}
 use Rattle.rd_tree.proofs.WayLemmas.{same_true}
 use Rattle.rd_drive.specs.declared.handle.Handle as kept
 use Rattle.rd_drive.specs.declared.store.Store.{Store}
@@ -15,18 +15,12 @@ use Rattle.rd_drive.specs.Locking.{is_on}
 use Rattle.rd_drive.specs.Store.{handle_of, drive_of, kept_handle, lock_of, IsSoundBut}
 use Rattle.rd_drive.proofs.HandleLemmas.{handle_seen}
 
-pub equal_numbers : (n m : ℕ) → (n == m) ≡ true → n ≡ m
-equal_numbers n m e = grind (arith, nat_tests)
-
-pub same_number : (n m : ℕ) → n ≡ m → (n == m) ≡ true
-same_number n m e = grind (arith, nat_tests)
-
 pub alike : (a b : Bool) → (a ≡ true → b ≡ true) → (b ≡ true → a ≡ true) → a ≡ b
 alike true b f g = sym (f refl)
 alike false true f g = g refl
 alike false false f g = refl
 
-module _ {closed : Option ℕ} (s : Store) (sound : IsSoundBut closed s) (whole : IsWhole s.tree) (n : ℕ) (live : IsLive s.tree n) where
+module _ {closed : Option ℕ} (s : Store) (sound : IsSoundBut closed s) (n : ℕ) (live : IsLive s.tree n) where
   -- a lock's own path is its number's
   pub lock_path : (held : Held) → option_map (λ (h : kept.Handle). h.node.0) (kept_handle s held.file) ≡ Some held.node → open_path (drive_of s) held.file ≡ Some (own_path s.tree held.node)
   lock_path held home = ap (option_map (λ (h : drive.Handle). h.path)) (handle_seen s held.file) ∙ by (kept_handle s held.file) home
@@ -48,8 +42,8 @@ module _ {closed : Option ℕ} (s : Store) (sound : IsSoundBut closed s) (whole 
       ap (λ o. option_map_or (λ (own : Names). is_same_path s.naming own (own_path s.tree n)) o false) (lock_path held home)
       ∙ ap (λ naming. is_same_path naming (own_path s.tree held.node) (own_path s.tree n)) (sym sound.naming)
       ∙ alike (is_same_path s.tree.naming (own_path s.tree held.node) (own_path s.tree n)) (held.node == n)
-      (λ e. same_number held.node n (whole.apart held.node n (live_home held home) live e))
-      (λ e. ap (λ (m : ℕ). is_same_path s.tree.naming (own_path s.tree m) (own_path s.tree n)) (equal_numbers held.node n e) ∙ same_true s.tree.naming (own_path s.tree n) (own_path s.tree n) refl)
+      (λ e. eq-eqb held.node n (sound.whole.apart held.node n (live_home held home) live e))
+      (λ e. ap (λ (m : ℕ). is_same_path s.tree.naming (own_path s.tree m) (own_path s.tree n)) (eqb-true held.node n e) ∙ same_true s.tree.naming (own_path s.tree n) (own_path s.tree n) refl)
 
   -- a test of the locks on the file is one of the locks with its number
   pub any_on : (q : drive.Lock → Bool) (l : List Held) → AllByRecursion (λ (held : Held). option_map (λ (h : kept.Handle). h.node.0) (kept_handle s held.file) ≡ Some held.node) l

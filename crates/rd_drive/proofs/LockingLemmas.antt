@@ -3,8 +3,8 @@ use Rattle.std.proofs.Common.{◌≡◌, ◌∙◌, refl, sym, ap, subst, inl, �
 use Rattle.std.specs.Prelude.{nat_lt, nat_le}
 use Rattle.std.specs.List.{list_any, AllByRecursion}
 use Rattle.std.specs.Option.{option_and_then, option_map, unwrap_or, is_some, IsSome}
-use Rattle.std.proofs.lemmas.Bool.Decides.{nat_tests}
 use Rattle.std.proofs.lemmas.List.{length-map}
+use Rattle.std.proofs.lemmas.Bool.{lt-ltb, le-ltb, le-leb, lt-leb}
 use Rattle.rd_base.specs.declared.journal.Key.{Key}
 use Rattle.rd_base.specs.declared.status.Status.{Status}
 use Rattle.rd_irp.specs.declared.op.Range.{Range}
@@ -14,37 +14,21 @@ use Rattle.rd_dirinfo.specs.Paths.{Names}
 use Rattle.rd_locks.specs.declared.held.Held.{Held}
 use Rattle.rd_locks.specs.Locks as held
 use Rattle.rd_locks.specs.Locks.{LockList, conflict, unlocked}
-use Rattle.rd_tree.specs.Places.{Place, place, own_path, bytes_at, IsLive, IsWhole}
+use Rattle.rd_tree.specs.Places.{Place, place, own_path, bytes_at, IsLive}
 use Rattle.rd_drive.specs.declared.handle.Handle as kept
 use Rattle.rd_drive.specs.declared.store.Store.{Store}
 use Rattle.rd_drive.specs.DriveState as drive
-use Rattle.rd_drive.specs.DriveState.{Node, is_folder}
+use Rattle.rd_drive.specs.DriveState.{Node, is_folder_node}
 use Rattle.rd_drive.specs.Access.{reads, writes}
 use Rattle.rd_drive.specs.Outcome.{Outcome, checked, given, one_of, refused, succeeded, no_news, fault, on_handle}
-use Rattle.rd_drive.specs.Locking.{conflicts, exclusive_lock, is_lock_operation, is_past_end, is_unlock, is_waiting_full, lock, lock_count, lock_ranges, locks_on, unlocking, unlock_ranges, wanted_locks, with_locks, waits, without_locks}
-use Rattle.rd_drive.specs.Statuses.{invalid_device_request, access_denied, invalid_parameter, lock_not_granted, insufficient_resources, range_not_locked}
+use Rattle.rd_drive.specs.Locking.{conflicts, exclusive_lock, is_lock_operation, is_past_end, is_unlock, is_waiting_full, lock, lock_count, lock_ranges, locks_on, unlocking, unlock_ranges, asked_locks, with_locks, waits, without_locks}
+use Rattle.rd_base.specs.Statuses.{invalid_device_request, access_denied, invalid_parameter, lock_not_granted, insufficient_resources, range_not_locked}
 use Rattle.rd_drive.specs.Store.{state_of, node_with, handle_of, drive_of, kept_handle, lock_of, waiting_of, IsSound, IsSoundBut, Serves}
 use Rattle.rd_drive.proofs.AllLemmas.{all_append}
 use Rattle.rd_drive.proofs.CheckLemmas.{check_applies, check_passed, checks_done, given_some, given_none, one_true, one_false}
 use Rattle.rd_drive.proofs.HandleLemmas.{on_open}
 use Rattle.rd_drive.proofs.LockLemmas.{any_on}
 use Rattle.rd_drive.proofs.ConflictLemmas.{IsHome, all_own, conflicts_seen, count_seen, left_of, unlocked_seen}
-
-and_false : (a : Bool) → (a && false) ≡ false
-and_false true = refl
-and_false false = refl
-
-pub lt_true : (a b : ℕ) → a < b → nat_lt a b ≡ true
-lt_true a b h = grind (arith, nat_tests)
-
-pub lt_false : (a b : ℕ) → b ≤ a → nat_lt a b ≡ false
-lt_false a b h = grind (arith, nat_tests)
-
-pub le_true : (a b : ℕ) → a ≤ b → nat_le a b ≡ true
-le_true a b h = grind (arith, nat_tests)
-
-pub le_false : (a b : ℕ) → b < a → nat_le a b ≡ false
-le_false a b h = grind (arith, nat_tests)
 
 pub not_more : (a b : ℕ) → (a < b → ⊥) → b ≤ a
 not_more a b h = omega arith
@@ -70,6 +54,7 @@ more_homes s n file exclusive ranges opened locks homes = all_append (IsHome s) 
 -- other locks, and as many places reserved
 pub sound_with : {closed : Option ℕ} (s : Store) → IsSoundBut closed s → (locks : LockList) → locks.reserved ≡ s.locks.reserved → AllByRecursion (IsHome s) locks.locks → IsSoundBut closed (record s { locks = locks })
 sound_with s sound locks same homes = record {
+  whole = sound.whole;
   naming = sound.naming;
   label = sound.label;
   states = sound.states;
@@ -123,12 +108,12 @@ module _ (s : Store) (n file : ℕ) (opened : option_map (λ (h : kept.Handle). 
 -- ---- locking ranges
 
 -- whether a lock on the file is in the way of those that are wanted
-pub blocked_seen : {closed : Option ℕ} (s : Store) → IsSoundBut closed s → IsWhole s.tree → (n : ℕ) → IsLive s.tree n → (file : ℕ) (exclusive : Bool) (ranges : List Range)
-    → conflicts (locks_on (drive_of s) (own_path s.tree n)) (wanted_locks file exclusive ranges) ≡ is_some (conflict s.locks.locks (held.wanted_locks n file exclusive ranges))
-blocked_seen s sound whole n live file exclusive ranges =
-    conflicts_seen n file exclusive ranges (locks_on (drive_of s) (own_path s.tree n)) s.locks.locks (λ q. any_on s sound whole n live q s.locks.locks sound.locked)
+pub blocked_seen : {closed : Option ℕ} (s : Store) → IsSoundBut closed s → (n : ℕ) → IsLive s.tree n → (file : ℕ) (exclusive : Bool) (ranges : List Range)
+    → conflicts (locks_on (drive_of s) (own_path s.tree n)) (asked_locks file exclusive ranges) ≡ is_some (conflict s.locks.locks (held.wanted_locks n file exclusive ranges))
+blocked_seen s sound n live file exclusive ranges =
+    conflicts_seen n file exclusive ranges (locks_on (drive_of s) (own_path s.tree n)) s.locks.locks (λ q. any_on s sound n live q s.locks.locks sound.locked)
 
-module _ (s : Store) (sound : IsSound s) (whole : IsWhole s.tree) (n : ℕ) (live : IsLive s.tree n) (key : Key) (file : ℕ) (exclusive wait : Bool) (ranges : List Range) where
+module _ (s : Store) (sound : IsSound s) (n : ℕ) (live : IsLive s.tree n) (key : Key) (file : ℕ) (exclusive wait : Bool) (ranges : List Range) where
   abbrev in_way : Option Held
   in_way = conflict s.locks.locks (held.wanted_locks n file exclusive ranges)
 
@@ -136,10 +121,10 @@ module _ (s : Store) (sound : IsSound s) (whole : IsWhole s.tree) (n : ℕ) (liv
   ranges_come = lock_ranges (drive_of s) key file (own_path s.tree n) exclusive wait ranges
 
   abbrev wanted : List drive.Lock
-  wanted = wanted_locks file exclusive ranges
+  wanted = asked_locks file exclusive ranges
 
   blocked : conflicts (locks_on (drive_of s) (own_path s.tree n)) wanted ≡ is_some in_way
-  blocked = blocked_seen s sound whole n live file exclusive ranges
+  blocked = blocked_seen s sound n live file exclusive ranges
 
   among_themselves : conflicts [] wanted ≡ is_some (conflict [] (held.wanted_locks n file exclusive ranges))
   among_themselves = conflicts_seen n file exclusive ranges [] [] (λ q. refl)
@@ -155,14 +140,14 @@ module _ (s : Store) (sound : IsSound s) (whole : IsWhole s.tree) (n : ℕ) (liv
     lock_granted few =
         check_passed (drive_of s) _ _ _ (ap (λ b. b && (not wait || conflicts [] wanted)) free_seen)
         ∙ check_passed (drive_of s) _ _ _ (ap (λ b. b && is_waiting_full (drive_of s)) free_seen)
-        ∙ check_passed (drive_of s) _ _ _ (ap (λ k. nat_lt 65536 k) counted ∙ lt_false 65536 (length s.locks.locks + s.locks.reserved + length ranges) few)
+        ∙ check_passed (drive_of s) _ _ _ (ap (λ k. nat_lt 65536 k) counted ∙ le-ltb 65536 (length s.locks.locks + s.locks.reserved + length ranges) few)
         ∙ checks_done (drive_of s) _ ∙ one_false _ _ _ free_seen
 
     pub lock_full : 65536 < length s.locks.locks + s.locks.reserved + length ranges → ranges_come ≡ refused (drive_of s) insufficient_resources
     lock_full many =
         check_passed (drive_of s) _ _ _ (ap (λ b. b && (not wait || conflicts [] wanted)) free_seen)
         ∙ check_passed (drive_of s) _ _ _ (ap (λ b. b && is_waiting_full (drive_of s)) free_seen)
-        ∙ check_applies (drive_of s) _ _ _ (ap (λ k. nat_lt 65536 k) counted ∙ lt_true 65536 (length s.locks.locks + s.locks.reserved + length ranges) many)
+        ∙ check_applies (drive_of s) _ _ _ (ap (λ k. nat_lt 65536 k) counted ∙ lt-ltb 65536 (length s.locks.locks + s.locks.reserved + length ranges) many)
 
   module _ (way : is_some in_way ≡ true) where
     way_seen : conflicts (locks_on (drive_of s) (own_path s.tree n)) wanted ≡ true
@@ -175,7 +160,7 @@ module _ (s : Store) (sound : IsSound s) (whole : IsWhole s.tree) (n : ℕ) (liv
       pub wait_refused : 64 ≤ length s.waiting.items → ranges_come ≡ refused (drive_of s) insufficient_resources
       wait_refused many =
           check_passed (drive_of s) _ _ _ ((λ i. way_seen i && (not wait || among_themselves i)) ∙ may)
-          ∙ check_applies (drive_of s) _ _ _ ((λ i. way_seen i && nat_le 64 (length-map s.waiting.items waiting_of i)) ∙ le_true 64 (length s.waiting.items) many)
+          ∙ check_applies (drive_of s) _ _ _ ((λ i. way_seen i && nat_le 64 (length-map s.waiting.items waiting_of i)) ∙ le-leb 64 (length s.waiting.items) many)
 
       -- too many locks there would be, whether or not too many requests wait already
       pub wait_full : 65536 < length s.locks.locks + s.locks.reserved + length ranges → ranges_come ≡ refused (drive_of s) insufficient_resources
@@ -184,7 +169,7 @@ module _ (s : Store) (sound : IsSound s) (whole : IsWhole s.tree) (n : ℕ) (liv
           ∙ by (is_waiting_full (drive_of s)) refl
         where
           third : (b : Bool) → b ≡ nat_lt 65536 (lock_count (drive_of s) + length ranges) → b ≡ true
-          third b e = e ∙ ap (λ k. nat_lt 65536 k) counted ∙ lt_true 65536 (length s.locks.locks + s.locks.reserved + length ranges) many
+          third b e = e ∙ ap (λ k. nat_lt 65536 k) counted ∙ lt-ltb 65536 (length s.locks.locks + s.locks.reserved + length ranges) many
 
           rest : List (Bool × Reply)
           rest = (nat_lt 65536 (lock_count (drive_of s) + length ranges), fault insufficient_resources) ∷ []
@@ -199,13 +184,13 @@ module _ (s : Store) (sound : IsSound s) (whole : IsWhole s.tree) (n : ℕ) (liv
       pub lock_waits : length s.waiting.items < 64 → length s.locks.locks + s.locks.reserved + length ranges ≤ 65536 → ranges_come ≡ waits (drive_of s) key file (drive.Ranges exclusive ranges)
       lock_waits few room =
           check_passed (drive_of s) _ _ _ ((λ i. way_seen i && (not wait || among_themselves i)) ∙ may)
-          ∙ check_passed (drive_of s) _ _ _ ((λ i. way_seen i && nat_le 64 (length-map s.waiting.items waiting_of i)) ∙ le_false 64 (length s.waiting.items) few)
-          ∙ check_passed (drive_of s) _ _ _ (ap (λ k. nat_lt 65536 k) counted ∙ lt_false 65536 (length s.locks.locks + s.locks.reserved + length ranges) room)
+          ∙ check_passed (drive_of s) _ _ _ ((λ i. way_seen i && nat_le 64 (length-map s.waiting.items waiting_of i)) ∙ lt-leb 64 (length s.waiting.items) few)
+          ∙ check_passed (drive_of s) _ _ _ (ap (λ k. nat_lt 65536 k) counted ∙ le-ltb 65536 (length s.locks.locks + s.locks.reserved + length ranges) room)
           ∙ checks_done (drive_of s) _ ∙ one_true _ _ _ way_seen
 
 -- ---- the whole operation
 
-module _ (s : Store) (sound : IsSound s) (whole : IsWhole s.tree) (file : ℕ) (h : kept.Handle) (is : kept_handle s file ≡ Some h) (x : Place) (here : place s.tree h.node.0 ≡ Some x) (key : Key) (operation : ℕ) (wait : Bool) (ranges : List Range) where
+module _ (s : Store) (sound : IsSound s) (file : ℕ) (h : kept.Handle) (is : kept_handle s file ≡ Some h) (x : Place) (here : place s.tree h.node.0 ≡ Some x) (key : Key) (operation : ℕ) (wait : Bool) (ranges : List Range) where
   abbrev node : Node
   node = node_with (state_of s.states h.node.0) x
 
@@ -219,13 +204,13 @@ module _ (s : Store) (sound : IsSound s) (whole : IsWhole s.tree) (file : ℕ) (
   comes = on_handle (drive_of s) file (lock (drive_of s) key file operation wait ranges)
 
   goes : comes ≡ lock (drive_of s) key file operation wait ranges (handle_of s.tree h) node
-  goes = on_open s sound whole file h is x here (lock (drive_of s) key file operation wait ranges)
+  goes = on_open s sound file h is x here (lock (drive_of s) key file operation wait ranges)
 
   pub lock_folder : bytes_at s.tree h.node.0 ≡ None → comes ≡ refused (drive_of s) invalid_device_request
   lock_folder none = goes ∙ check_applies (drive_of s) _ _ _ (ap (λ (o : Option (List ℕ)). not (is_some o)) (sym bytes_here ∙ none))
 
   module _ (bytes : List ℕ) (some : bytes_at s.tree h.node.0 ≡ Some bytes) where
-    no_folder : is_folder node ≡ false
+    no_folder : is_folder_node node ≡ false
     no_folder = ap (λ (o : Option (List ℕ)). not (is_some o)) (sym bytes_here ∙ some)
 
     pub lock_closed : (reads h.access || writes h.access) ≡ false → comes ≡ refused (drive_of s) access_denied

@@ -2,7 +2,7 @@
 use Rattle.std.proofs.Common.{◌≡◌, ◌∙◌, refl, sym, ap, subst, ℕ, ◌+◌, ◌<◌, ◌==◌, Bool, true, false, not, ◌&&◌, cond, List, [], ◌∷◌, length, Option, Some, None, Ok, arith}
 use Rattle.std.specs.Prelude.{nat_eq}
 use Rattle.std.specs.List.Sorted.{IsStrictlySortedBy}
-use Rattle.std.specs.Option.{option_map, option_map_or, option_and_then, is_some, IsSome}
+use Rattle.std.specs.Option.{option_map_or, option_and_then, is_some}
 use Rattle.std.specs.Ordering.{nat_cmp}
 use Rattle.std.specs.HashMap.{get}
 use Rattle.std.specs.Map.{keys_of, lookup, remove_entry}
@@ -12,7 +12,7 @@ use Rattle.rd_base.specs.declared.status.Status.{Status}
 use Rattle.rd_irp.specs.declared.completion.Body.TheVariants.{Created}
 use Rattle.rd_contents.specs.Contents.{resized}
 use Rattle.rd_tree.specs.declared.node.NodeId.{NodeId}
-use Rattle.rd_tree.specs.Places.{Place, Places, place, own_path, bytes_at, with_bytes, IsFile, IsLive, IsWhole}
+use Rattle.rd_tree.specs.Places.{Place, Places, own_path, bytes_at, with_bytes, IsFile, IsLive, IsWhole}
 use Rattle.rd_drive.specs.declared.access.Use.{Use}
 use Rattle.rd_drive.specs.declared.asked.Asked.{Asked}
 use Rattle.rd_drive.specs.declared.node.NodeState.{NodeState}
@@ -24,15 +24,15 @@ use Rattle.rd_drive.specs.Changes.{modified}
 use Rattle.rd_drive.specs.Create.{deletes_on_close, found_information, is_full, new_handle, open_node, opened, replaced, replaces}
 use Rattle.rd_drive.specs.DriveState.{with_new_handle, with_node}
 use Rattle.rd_drive.specs.Kept.{own_node, with_bytes_at, IsKept}
-use Rattle.rd_drive.specs.Made.{counted, first_no, made_handle, open_checks, renewed, replace, AddsHandle, IsAlike}
+use Rattle.rd_drive.specs.Made.{with_asked_use, first_no, made_handle, open_checks, renewed, replace, AddsHandle, IsAlike}
 use Rattle.rd_drive.specs.Outcome.{Outcome, changed, no_news, one_of, refused, succeeded}
 use Rattle.rd_drive.specs.Uses.{uses_of}
 use Rattle.rd_drive.specs.Store.{States, Handles, about, nothing, state_of, drive_of, kept_handle, IsSound, Serves}
 use Rattle.rd_drive.proofs.CheckLemmas.{one_false, one_true}
 use Rattle.rd_drive.proofs.CreateLemmas.{all_pass, comes_open}
 use Rattle.rd_drive.proofs.HandlesLemmas.{inserted_removed}
-use Rattle.rd_drive.proofs.KeptLemmas.{changed_store, drive_changed, lived, own_paths, sound_changed, state_here}
-use Rattle.rd_drive.proofs.NodeLemmas.{changed_tree, place_put}
+use Rattle.rd_drive.proofs.KeptLemmas.{changed_store, drive_changed, lived, own_paths, sound_changed, state_here, written_tree, filed, file_lives}
+use Rattle.rd_drive.proofs.NodeLemmas.{place_put}
 use Rattle.rd_drive.proofs.OpenedLemmas.{absent, has_room, opened_drive, opened_sound, used}
 use Rattle.rd_drive.proofs.ServesLemmas.{serves_change, serves_quiet}
 
@@ -40,7 +40,7 @@ use Rattle.rd_drive.proofs.ServesLemmas.{serves_change, serves_quiet}
 
 module _ (base : Store) (sound : IsSound base) (node : NodeId) (live : IsLive base.tree node.0) (asked : Asked) (root : node.0 ≡ 0 → deletes_on_close asked ≡ false) (free : is_full (drive_of base) ≡ false)
     (handles : Handles) (entries : handles.entries ≡ insert_entry nat_cmp base.handles.entries base.next (made_handle asked node))
-    (looked : (k : ℕ) → lookup (is_at (nat_cmp k)) handles.entries ≡ cond (is_at (nat_cmp base.next) k) (Some (made_handle asked node)) (kept_handle base k)) (states : States) (now : IsKept base.states states node.0 (counted (state_of base.states node.0) asked))
+    (looked : (k : ℕ) → lookup (is_at (nat_cmp k)) handles.entries ≡ cond (is_at (nat_cmp base.next) k) (Some (made_handle asked node)) (kept_handle base k)) (states : States) (now : IsKept base.states states node.0 (with_asked_use (state_of base.states node.0) asked))
     (old t : Store) (is : t ≡ record base { handles = handles; states = states; next = base.next + 1 }) (comes : Outcome) (file information : ℕ) (id : file ≡ base.next) (returns : Done) where
   sound' : IsSound (record base { handles = handles; states = states; next = base.next + 1 })
   sound' = opened_sound base sound node live asked root (has_room base free).0 (has_room base free).1 handles entries looked states now
@@ -72,7 +72,7 @@ used_still s sound free n live states same = let is = used s sound n live (has_r
 
 -- ---- what is there
 
-module _ (s : Store) (sound : IsSound s) (whole : IsWhole s.tree) (rising : IsStrictlySortedBy nat_cmp (keys_of s.handles.entries)) (n : ℕ) (live : IsLive s.tree n) (asked : Asked) (moment : ℕ)
+module _ (s : Store) (sound : IsSound s) (rising : IsStrictlySortedBy nat_cmp (keys_of s.handles.entries)) (n : ℕ) (live : IsLive s.tree n) (asked : Asked) (moment : ℕ)
     (folder : Bool) (folds : folder ≡ not (is_some (bytes_at s.tree n))) (state : NodeState) (kept : state ≡ state_of s.states n) where
   abbrev comes : Outcome
   comes = open_node (drive_of s) asked moment (own_node s n)
@@ -84,7 +84,7 @@ module _ (s : Store) (sound : IsSound s) (whole : IsWhole s.tree) (rising : IsSt
   checks_are = ap (λ (st : NodeState). first_no (open_checks asked folder (n == 0) st)) kept
 
   comes_is : comes ≡ option_map_or (refused (drive_of s)) (first_no (open_checks asked folder (n == 0) (state_of s.states n))) after
-  comes_is = comes_open s sound whole n live rising asked moment folder folds
+  comes_is = comes_open s sound n live rising asked moment folder folds
 
   pub open_refused : (status : Status) → Some status ≡ first_no (open_checks asked folder (n == 0) state) → comes ≡ refused (drive_of s) status
   open_refused status e = comes_is ∙ ap (λ (o : Option Status). option_map_or (refused (drive_of s)) o after) (sym (e ∙ checks_are))
@@ -113,27 +113,19 @@ module _ (s : Store) (sound : IsSound s) (whole : IsWhole s.tree) (rising : IsSt
 
 -- ---- a file that is replaced
 
-module _ (s : Store) (sound : IsSound s) (whole : IsWhole s.tree) (node : NodeId) (file_there : IsFile s.tree node.0) where
+module _ (s : Store) (sound : IsSound s) (node : NodeId) (file_there : IsFile s.tree node.0) where
   abbrev n : ℕ
   n = node.0
 
-  pub file_bytes : (b : List ℕ) × (bytes_at s.tree n ≡ Some b)
-  file_bytes = by (bytes_at s.tree n) file_there
-    where
-      by : (o : Option (List ℕ)) → IsSome o → (b : List ℕ) × (o ≡ Some b)
-      by None e = absurd (cc)
-      by (Some b) e = (b, refl)
+  file_bytes : (b : List ℕ) × (bytes_at s.tree n ≡ Some b)
+  file_bytes = filed s.tree n file_there
 
-  pub file_live : IsLive s.tree n
-  file_live = by (place s.tree n) file_there
-    where
-      by : (o : Option Place) → IsSome (option_and_then (λ (p : Place). p.bytes) o) → IsSome o
-      by None e = absurd (cc)
-      by (Some p) e = refl
+  file_live : IsLive s.tree n
+  file_live = file_lives s.tree n file_there
 
   -- it isn't the root
   pub file_below : (b : Bool) → n ≡ 0 → b ≡ false
-  file_below b z = absurd (let both : None ≡ Some file_bytes.0 = sym (ap (λ (m : ℕ). bytes_at s.tree m) z ∙ ap (option_and_then (λ (p : Place). p.bytes)) whole.root) ∙ file_bytes.1 in cc)
+  file_below b z = absurd (let both : None ≡ Some file_bytes.0 = sym (ap (λ (m : ℕ). bytes_at s.tree m) z ∙ ap (option_and_then (λ (p : Place). p.bytes)) sound.whole.root) ∙ file_bytes.1 in cc)
 
   module _ (asked : Asked) (moment : ℕ) (free : is_full (drive_of s) ≡ false) (add : Store) (added : AddsHandle s add asked node) where
     -- no memory is found for the file without its bytes: the handle goes again
@@ -148,7 +140,7 @@ module _ (s : Store) (sound : IsSound s) (whole : IsWhole s.tree) (node : NodeId
         is' : t ≡ record s { tree = tree; handles = t.handles }
         is' = is ∙ (λ i. record (added.others i) { tree = tree; handles = t.handles })
 
-    module _ (tree : Places) (cut : tree ≡ with_bytes add.tree n (λ (bytes : List ℕ). resized bytes 0)) (written : States) (new : IsKept add.states written n (renewed (state_of add.states n) asked moment)) where
+    module _ (tree : Places) (cut : tree ≡ with_bytes add.tree n (λ (bytes : List ℕ). resized bytes 0)) (after : IsWhole tree) (written : States) (new : IsKept add.states written n (renewed (state_of add.states n) asked moment)) where
       abbrev pub base : Store
       base = changed_store s n (Some []) written
 
@@ -160,30 +152,28 @@ module _ (s : Store) (sound : IsSound s) (whole : IsWhole s.tree) (node : NodeId
 
       tree_is : tree ≡ with_bytes_at s.tree n (Some [])
       tree_is =
-          let x = lived s.tree n file_live in
-          cut ∙ ap (λ (u : Store). with_bytes u.tree n (λ (bytes : List ℕ). resized bytes 0)) added.others
-          ∙ changed_tree s.tree whole n x.0 x.1 (λ (bytes : List ℕ). resized bytes 0)
-          ∙ ap (λ (o : Option (List ℕ)). with_bytes_at s.tree n (option_map (λ (bytes : List ℕ). resized bytes 0) o)) file_bytes.1
+          written_tree s.tree sound.whole n file_live file_bytes.0 file_bytes.1 (λ (bytes : List ℕ). resized bytes 0) tree
+          (cut ∙ ap (λ (u : Store). with_bytes u.tree n (λ (bytes : List ℕ). resized bytes 0)) added.others)
 
       base_sound : IsSound base
-      base_sound = sound_changed None s sound whole n file_live (Some []) written (renewed (state_of s.states n) asked moment) renews refl (λ z. file_below (state_of s.states n).pending z)
+      base_sound = sound_changed None s sound n file_live (Some []) written (renewed (state_of s.states n) asked moment) renews (subst IsWhole tree_is after) refl (λ z. file_below (state_of s.states n).pending z)
 
       pub used_renewed : (uses : List Use) × ((state_of written n).uses ≡ uses_of uses) × (length uses < 4096)
       used_renewed = used_still s sound free n file_live written (ap (λ (st : NodeState). st.uses) (state_here s.states written n (renewed (state_of s.states n) asked moment) renews))
 
       base_drive : drive_of base ≡ with_node (drive_of s) (replaced asked moment (own_node s n))
-      base_drive = drive_changed None s sound whole n file_live (Some []) written (renewed (state_of s.states n) asked moment) renews
+      base_drive = drive_changed None s sound n file_live (Some []) written (renewed (state_of s.states n) asked moment) renews
 
       base_path : own_path base.tree n ≡ own_path s.tree n
-      base_path = own_paths None s sound whole n file_live (Some []) written (renewed (state_of s.states n) asked moment) renews n
+      base_path = own_paths None s sound n file_live (Some []) written (renewed (state_of s.states n) asked moment) renews n
 
       base_live : IsLive base.tree n
-      base_live = ap is_some (place_put s.tree whole n (lived s.tree n file_live).0 (lived s.tree n file_live).1 (Some []))
+      base_live = ap is_some (place_put s.tree sound.whole n (lived s.tree n file_live).0 (lived s.tree n file_live).1 (Some []))
 
       base_free : is_full (drive_of base) ≡ false
       base_free = ap is_full base_drive ∙ free
 
-      pub serves_replaced : (mid t : Store) (states : States) → mid ≡ record add { tree = tree; states = written } → t ≡ record mid { states = states; next = mid.next + 1 } → IsKept written states n (counted (state_of written n) asked)
+      pub serves_replaced : (mid t : Store) (states : States) → mid ≡ record add { tree = tree; states = written } → t ≡ record mid { states = states; next = mid.next + 1 } → IsKept written states n (with_asked_use (state_of written n) asked)
           → (file information : ℕ) → file ≡ s.next → information ≡ found_information asked
           → (returns : Done) → returns ≡ done.Replied (Created file information) (about (record { action = 3; named = named.Node node; bits = 0x18 }))
           → Serves s t (replace (drive_of s) asked moment (own_node s n)) (Ok returns)

@@ -10,10 +10,10 @@ use Rattle.std.specs.FinMap.{is_sorted}
 use Rattle.std.specs.HashMap.{get}
 use Rattle.std.specs.Map.{keys_of}
 use Rattle.std.specs.List.Sorted.{IsStrictlySortedBy}
+use Rattle.std.proofs.lemmas.Bool.{false_from_ne_true}
 use Rattle.rd_dirinfo.specs.declared.naming.Naming.{Naming}
 use Rattle.rd_dirinfo.specs.Paths.{Names, is_prefix, is_same_path, is_within_limits, moved_path}
 use Rattle.rd_tree.specs.Places.{Place, Places, place, own_path, bytes_at, is_folder, asked_path, cleared, moved, IsLive, IsWhole}
-use Rattle.rd_tree.proofs.RefuseLemmas.{bool_false}
 use Rattle.rd_drive.specs.declared.handle.Handle as kept
 use Rattle.rd_drive.specs.declared.node.NodeState.{NodeState}
 use Rattle.rd_drive.specs.declared.store.Store.{Store}
@@ -55,7 +55,7 @@ module _ (tree : Places) (whole : IsWhole tree) (n : ℕ) (to : Names) (after : 
       λ i. apart (is_below k d.0 parts.0) i || none_alike k x here l parts.1 listed.1 i
     where
       apart : k < d.0 → is_same_path tree.naming x.path d.1.path ≡ false
-      apart under = bool_false (is_same_path tree.naming x.path d.1.path) (λ t.
+      apart under = false_from_ne_true (is_same_path tree.naming x.path d.1.path) (λ t.
           let same : k ≡ d.0 = after.apart k d.0 (ap is_some here) (ap is_some listed.0)
           ((λ i. is_same_path tree.naming (own_is (moved tree n to) after k x here i) (own_is (moved tree n to) after d.0 d.1 listed.0 i)) ∙ t) in
           absurd (omega (arith, under, same)))
@@ -159,7 +159,7 @@ module _ (tree : Places) (whole : IsWhole tree) (n : ℕ) (to : Names) (after : 
             ∙ below k (live_before k live) e
         by false e = ap (λ b. is_within_limits (cond b (asked_path tree to ++ drop (length (own_path tree n)) (own_path tree k)) (own_path tree k))) e ∙ fits k (live_before k live)
 
-module _ (s : Store) (sound : IsSound s) (whole : IsWhole s.tree) (n : ℕ) (to : Names) (after : IsWhole (moved s.tree n to))
+module _ (s : Store) (sound : IsSound s) (n : ℕ) (to : Names) (after : IsWhole (moved s.tree n to))
     (same : (k : ℕ) → IsLive (moved s.tree n to) k → place (cleared s.tree n to) k ≡ place s.tree k)
     (states : States) (kept_same : (k : ℕ) → IsLive (moved s.tree n to) k → get nat_eq states k ≡ get nat_eq s.states k)
     (opened : (file : ℕ) (h : kept.Handle) → kept_handle s file ≡ Some h → IsLive (moved s.tree n to) h.node.0) where
@@ -169,13 +169,14 @@ module _ (s : Store) (sound : IsSound s) (whole : IsWhole s.tree) (n : ℕ) (to 
 
   pub moved_sound : ((k : ℕ) → IsLive (moved s.tree n to) k → is_within_limits (own_path (moved s.tree n to) k) ≡ true) → IsSound moved_store
   moved_sound fits = record {
+    whole = after;
     naming = sound.naming;
     label = sound.label;
-    states = λ k live. ap is_some (kept_same k live) ∙ sound.states k (live_before s.tree whole n to after same k live);
+    states = λ k live. ap is_some (kept_same k live) ∙ sound.states k (live_before s.tree sound.whole n to after same k live);
     root = ap (λ (o : Option NodeState). (unwrap_or o blank).pending) (kept_same 0 (ap is_some after.root)) ∙ sound.root;
     fitting = fits;
     opened = λ file h is. let was = sound.opened file h is in (opened file h is, was.1, was.2);
-    uses = λ k live. ap (λ (o : Option NodeState). (unwrap_or o blank).uses) (kept_same k live) ∙ sound.uses k (live_before s.tree whole n to after same k live);
+    uses = λ k live. ap (λ (o : Option NodeState). (unwrap_or o blank).uses) (kept_same k live) ∙ sound.uses k (live_before s.tree sound.whole n to after same k live);
     locked = sound.locked;
     waits = sound.waits;
     reserved = sound.reserved;
@@ -201,7 +202,7 @@ module _ (s : Store) (sound : IsSound s) (whole : IsWhole s.tree) (n : ℕ) (to 
       nodes : nodes_of (moved s.tree n to) states
           ≡ in_order s.naming (map (λ (node : Node). record node { path = moved_path s.naming (own_path s.tree n) (asked_path s.tree to) node.path }) (in_order s.tree.naming (map (node_of s.states) (cleared s.tree n to).list)))
       nodes =
-          nodes_alike s.tree whole n to after s.states states kept_same ∙ nodes_moved s.tree whole n to after s.states
+          nodes_alike s.tree sound.whole n to after s.states states kept_same ∙ nodes_moved s.tree sound.whole n to after s.states
           ∙ ap (λ (naming : Naming). in_order naming (map (λ (node : Node). record node { path = moved_path naming (own_path s.tree n) (asked_path s.tree to) node.path }) (in_order s.tree.naming (map (node_of s.states) (cleared s.tree n to).list)))) sound.naming
 
       carry_handle : ℕ × drive.Handle → ℕ × drive.Handle
@@ -212,7 +213,7 @@ module _ (s : Store) (sound : IsSound s) (whole : IsWhole s.tree) (n : ℕ) (to 
       handles (e ∷ es) all = λ i. (
         e.0,
         record {
-          path = (own_moved s.tree whole n to after same e.1.node.0 (opened e.0 e.1 all.0) ∙ ap (λ (naming : Naming). moved_path naming (own_path s.tree n) (asked_path s.tree to) (own_path s.tree e.1.node.0)) sound.naming) i;
+          path = (own_moved s.tree sound.whole n to after same e.1.node.0 (opened e.0 e.1 all.0) ∙ ap (λ (naming : Naming). moved_path naming (own_path s.tree n) (asked_path s.tree to) (own_path s.tree e.1.node.0)) sound.naming) i;
           access = e.1.access;
           share = e.1.share;
           delete_on_close = e.1.delete_on_close;

@@ -1,19 +1,18 @@
 -- The names from a folder down to one below it, as they are told.
-use Rattle.std.proofs.Common.{◌≡◌, ◌∙◌, refl, sym, ap, ℕ, ◌+◌, ◌*◌, ◌<◌, ◌≤◌, true, List, [], ◌∷◌, ◌++◌, length, take, drop, sum_by, suc, zero, arith, length-append, append_assoc}
+use Rattle.std.proofs.Common.{◌≡◌, ◌∙◌, refl, sym, ap, ℕ, ◌+◌, ◌<◌, ◌≤◌, true, List, [], ◌∷◌, ◌++◌, length, take, drop, suc, zero, arith, length-append, append_assoc}
 use Rattle.std.specs.Prelude.{nat_le, flat_map}
 use Rattle.std.proofs.lemmas.Grind.{flat_map-append}
 use Rattle.std.proofs.lemmas.List.{append-nil, drop-append-le}
-use Rattle.std.proofs.lemmas.List.Sums.{sum_by-cons}
 use Rattle.std.proofs.Math.Seq.{drop-append_seam}
 use Rattle.rd_base.specs.Fields.{text_bytes}
-use Rattle.rd_base.proofs.WrittenPathLemmas.{length-units}
 use Rattle.std.specs.Int.{to_le_bytes, w16}
+use Rattle.std.proofs.lemmas.Bool.{and_parts, leb-true}
+use Rattle.rd_drive.proofs.LengthLemmas.{joined_length, below_length}
 use Rattle.rd_dirinfo.specs.Naming.{Name}
 use Rattle.rd_dirinfo.specs.Paths.{Names, backslash, is_prefix, is_same_path, is_within_limits, joined, last_name, parent, path_len, most_names}
 use Rattle.rd_tree.specs.Places.{Places, own_path, IsLive, IsWhole}
-use Rattle.rd_tree.proofs.ParentLemmas.{both_true}
 use Rattle.rd_drive.specs.Telling.{name_below}
-use Rattle.rd_drive.proofs.TellLemmas.{above_step, at_most_is, below_other, has_names, path_split, shorter}
+use Rattle.rd_drive.proofs.TellLemmas.{above_step, below_other, has_names, path_split, shorter}
 
 -- one name more after others
 joined_more : (front : Names) (x : Name) → (front ≡ [] → ⊥) → joined (front ++ x ∷ []) ≡ joined front ++ backslash ∷ x
@@ -26,24 +25,6 @@ drop_some : (k : ℕ) (l : Names) → k < length l → drop k l ≡ [] → ⊥
 drop_some k [] h e = absurd (omega arith)
 drop_some zero (x ∷ l) h e = absurd (cc)
 drop_some (suc k) (x ∷ l) h e = drop_some k l (omega arith) e
-
--- the units of a path
-units_len : (names : Names) → length (joined names) ≡ path_len names
-units_len [] = refl
-units_len (name ∷ names) =
-    let sums = sum_by-cons (λ (other : Name). length other) name names in
-    let rest = others names in
-    omega (arith, length-append name (flat_map (λ (other : Name). backslash ∷ other) names))
-  where
-    others : (l : Names) → length (flat_map (λ (other : Name). backslash ∷ other) l) ≡ sum_by (λ (other : Name). length other) l + length l
-    others [] = refl
-    others (x ∷ l) = let sum = sum_by-cons (λ (other : Name). length other) x l in omega (arith, others l, length-append (backslash ∷ x) (flat_map (λ (other : Name). backslash ∷ other) l))
-
--- fewer names have fewer units
-fewer : (k : ℕ) (names : Names) → path_len (drop k names) ≤ path_len names
-fewer zero names = omega arith
-fewer (suc k) [] = omega arith
-fewer (suc k) (name ∷ names) = let sums = sum_by-cons (λ (other : Name). length other) name names in omega (arith, fewer k names)
 
 module _ (tree : Places) (whole : IsWhole tree) (f m : ℕ) (x : Name) where
   -- the name of what is in the folder itself
@@ -58,7 +39,7 @@ module _ (tree : Places) (whole : IsWhole tree) (f m : ℕ) (x : Name) where
   name_further live other k up above =
       let own : own_path tree m ≡ own_path tree k ++ last_name (own_path tree m) ∷ [] = path_split (own_path tree m) (has_names tree whole m live other) ∙ ap (λ (p : Names). p ++ last_name (own_path tree m) ∷ []) (sym up) in
       let short : length (own_path tree f) ≤ length (own_path tree k) =
-      at_most_is (length (own_path tree f)) (length (own_path tree k)) (both_true (nat_le (length (own_path tree f)) (length (own_path tree k))) (is_same_path tree.naming (own_path tree f) (take (length (own_path tree f)) (own_path tree k))) above).0 in
+      leb-true (length (own_path tree f)) (length (own_path tree k)) (and_parts (nat_le (length (own_path tree f)) (length (own_path tree k))) (is_same_path tree.naming (own_path tree f) (take (length (own_path tree f)) (own_path tree k))) above).0 in
       let longer : length (own_path tree m) ≡ length (own_path tree k) + 1 = ap length own ∙ length-append (own_path tree k) (last_name (own_path tree m) ∷ []) in
       ap joined (drop-append-le (length (own_path tree f)) (own_path tree m) (x ∷ []) (omega arith))
       ∙ joined_more (drop (length (own_path tree f)) (own_path tree m)) x (drop_some (length (own_path tree f)) (own_path tree m) (omega arith))
@@ -67,9 +48,9 @@ module _ (tree : Places) (whole : IsWhole tree) (f m : ℕ) (x : Name) where
   -- what is told of a path within the limits fits
   pub name_short : (path : Names) → path ≡ own_path tree m ++ x ∷ [] → is_within_limits path ≡ true → length (name_below tree f m x) ≤ 4096
   name_short path e within =
-      let limit : path_len path ≤ 4096 = at_most_is (path_len path) 4096 (both_true (nat_le (length path) most_names) (nat_le (path_len path) 4096) within).1 in
-      let less : path_len (drop (length (own_path tree f)) path) ≤ path_len path = fewer (length (own_path tree f)) path in
-      let same : length (name_below tree f m x) ≡ path_len (drop (length (own_path tree f)) path) = ap (λ (p : Names). length (joined (drop (length (own_path tree f)) p))) (sym e) ∙ units_len (drop (length (own_path tree f)) path) in
+      let limit : path_len path ≤ 4096 = leb-true (path_len path) 4096 (and_parts (nat_le (length path) most_names) (nat_le (path_len path) 4096) within).1 in
+      let less : path_len (drop (length (own_path tree f)) path) ≤ path_len path = below_length (length (own_path tree f)) path in
+      let same : length (name_below tree f m x) ≡ path_len (drop (length (own_path tree f)) path) = ap (λ (p : Names). length (joined (drop (length (own_path tree f)) p))) (sym e) ∙ joined_length (drop (length (own_path tree f)) path) in
       omega arith
 
 -- one folder up, where the folder isn't the one itself
@@ -100,9 +81,6 @@ text_append a b = flat_map-append (λ u. to_le_bytes w16 u) a b
 
 pub text_between : (a b : List ℕ) → text_bytes (a ++ backslash ∷ b) ≡ text_bytes a ++ text_bytes (backslash ∷ []) ++ text_bytes b
 text_between a b = text_append a (backslash ∷ b) ∙ ap (λ (l : List ℕ). text_bytes a ++ l) (text_append (backslash ∷ []) b) ∙ sym (append_assoc (text_bytes a) (text_bytes (backslash ∷ [])) (text_bytes b))
-
-pub text_len : (units : List ℕ) → length (text_bytes units) ≡ 2 * length units
-text_len units = length-units units
 
 -- the names further up, what stands between two names, and the name
 pub put_all : (out front x a b c : List ℕ) → a ≡ out ++ text_bytes front → b ≡ a ++ text_bytes (backslash ∷ []) → c ≡ b ++ text_bytes x → c ≡ out ++ text_bytes (front ++ backslash ∷ x)

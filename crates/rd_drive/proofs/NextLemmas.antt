@@ -3,6 +3,8 @@ use Rattle.std.proofs.Common.{◌≡◌, ◌∙◌, refl, sym, ap, subst, ℕ, �
 use Rattle.std.specs.List.{AllByRecursion}
 use Rattle.std.specs.Option.{option_map, unwrap_or, is_some}
 use Rattle.std.proofs.lemmas.List.{map-append}
+use Rattle.std.proofs.lemmas.Bool.{eqb-true, and_parts}
+use Rattle.std.proofs.lemmas.Option.{same_Some}
 use Rattle.rd_base.specs.Classes.{choice, choose_class, listed, unlisted}
 use Rattle.rd_base.specs.Classes.{is_listed as is_listed_class}
 use Rattle.rd_dirinfo.specs.Entry.{entry_classes, directory_entry, full_directory_entry, both_directory_entry, names_entry}
@@ -23,7 +25,7 @@ use Rattle.rd_drive.proofs.AnswerLemmas.{found_has, found_passes}
 use Rattle.rd_drive.proofs.FittingLemmas.{order_all}
 use Rattle.rd_drive.proofs.NodeLemmas.{place_here}
 use Rattle.rd_drive.proofs.LengthLemmas.{last_length}
-use Rattle.rd_drive.proofs.ListingLemmas.{ends_in, equals, is_listed, next_is, second_of}
+use Rattle.rd_drive.proofs.ListingLemmas.{ends_in, is_listed, next_is}
 use Rattle.rd_drive.proofs.StoreLemmas.{AreListed, all_listed, number_at_own, own_is}
 
 -- the classes in which a listing can be asked for
@@ -68,13 +70,13 @@ alike_first naming p q e (d ∷ l) = λ i. cond (alike_tests naming d.1.path p q
 -- a child of a folder is at the folder's path and its name
 child_path : (naming : Naming) (folder path : Names) → is_parent naming folder path ≡ true → seen_path naming (folder ++ last_name path ∷ []) ≡ seen_path naming path
 child_path naming folder path child =
-    let x = ends_in path (length folder) (equals (length path) (length folder + 1) (second_of (is_prefix naming folder path) (length path == length folder + 1) child)) in
+    let x = ends_in path (length folder) (eqb-true (length path) (length folder + 1) ((and_parts (is_prefix naming folder path) (length path == length folder + 1) child).1)) in
     let above = parent_same naming folder x.0 x.1 (ap (is_parent naming folder) (sym x.2) ∙ child) in
     map-append (seen naming) folder (last_name path ∷ [])
     ∙ (λ i. above i ++ seen naming ((ap last_name x.2 ∙ last_of x.0 x.1) i) ∷ [])
     ∙ sym (map-append (seen naming) x.0 (x.1 ∷ [])) ∙ ap (seen_path naming) (sym x.2)
 
-module _ (s : Store) (sound : IsSound s) (whole : IsWhole s.tree) (n : ℕ) (pattern : List ℕ) (last : Option Name) where
+module _ (s : Store) (sound : IsSound s) (n : ℕ) (pattern : List ℕ) (last : Option Name) where
   abbrev pub comes_next : Option Node
   comes_next = next_node (drive_of s) (own_path s.tree n) pattern last
 
@@ -108,21 +110,15 @@ module _ (s : Store) (sound : IsSound s) (whole : IsWhole s.tree) (n : ℕ) (pat
     where
       by : (o : Option Node) → comes_next ≡ o → option_map (λ (node : Node). last_name node.path) o ≡ Some name → (comes_next ≡ Some (own_node s k)) × (last_name (own_node s k).path ≡ name) × (length name ≤ 4096)
       by None is h = absurd (cc)
-      by (Some node) is h = of (found_number s.tree whole s.states _ node (sym next_seen ∙ is)) (some_name (last_name node.path) name h)
+      by (Some node) is h = of (found_number s.tree sound.whole s.states _ node (sym next_seen ∙ is)) (same_Some (last_name node.path) name h)
         where
-          some_name : (a b : Name) → Some a ≡ Some b → a ≡ b
-          some_name a b h = cc
-
-          same_number : (a b : ℕ) → Some a ≡ Some b → a ≡ b
-          same_number a b h = cc
-
           of : (m : ℕ) × (x : Place) × (place s.tree m ≡ Some x) × (node ≡ node_of s.states (m, x)) → last_name node.path ≡ name → (comes_next ≡ Some (own_node s k)) × (last_name (own_node s k).path ≡ name) × (length name ≤ 4096)
           of (m, x, here, one) named =
-              let path : node.path ≡ own_path s.tree m = ap (λ (d : Node). d.path) one ∙ sym (own_is s.tree whole m x here) in
+              let path : node.path ≡ own_path s.tree m = ap (λ (d : Node). d.path) one ∙ sym (own_is s.tree sound.whole m x here) in
               let alike = child_path s.tree.naming (own_path s.tree n) node.path (child_next node is) in
               let first = alike_first s.tree.naming (own_path s.tree n ++ name ∷ []) (own_path s.tree m) (ap (λ (nm : Name). seen_path s.tree.naming (own_path s.tree n ++ nm ∷ [])) (sym named) ∙ alike ∙ ap (seen_path s.tree.naming) path) s.tree.list in
-              let same : m ≡ k = same_number m k (sym (number_at_own s.tree whole m x here) ∙ sym first ∙ at) in
-              let own : node ≡ own_node s m = one ∙ ap (node_with (state_of s.states m)) (sym (place_here s.tree whole m x here)) in (
+              let same : m ≡ k = same_Some m k (sym (number_at_own s.tree sound.whole m x here) ∙ sym first ∙ at) in
+              let own : node ≡ own_node s m = one ∙ ap (node_with (state_of s.states m)) (sym (place_here s.tree sound.whole m x here)) in (
                 is ∙ ap (λ (d : Node). Some d) own ∙ ap (λ (j : ℕ). Some (own_node s j)) same,
                 ap (λ (j : ℕ). last_name (own_node s j).path) (sym same) ∙ ap (λ (d : Node). last_name d.path) (sym own) ∙ named,
                 subst (λ (nm : Name). length nm ≤ 4096) named (last_length node.path (ap is_within_limits path ∙ sound.fitting m (ap is_some here))),
@@ -134,18 +130,15 @@ module _ (s : Store) (sound : IsSound s) (whole : IsWhole s.tree) (n : ℕ) (pat
     where
       by : (o : Option Node) → comes_next ≡ o → option_map (λ (node : Node). last_name node.path) o ≡ Some name → is_name name ≡ true
       by None is h = absurd (cc)
-      by (Some node) is h = of (found_number s.tree whole s.states _ node (sym next_seen ∙ is))
+      by (Some node) is h = of (found_number s.tree sound.whole s.states _ node (sym next_seen ∙ is))
         where
-          some_name : (a b : Name) → Some a ≡ Some b → a ≡ b
-          some_name a b h = cc
-
           of : (m : ℕ) × (x : Place) × (place s.tree m ≡ Some x) × (node ≡ node_of s.states (m, x)) → is_name name ≡ true
           of (m, x, here, one) =
-              let path : node.path ≡ own_path s.tree m = ap (λ (d : Node). d.path) one ∙ sym (own_is s.tree whole m x here) in
-              let long = equals (length node.path) (length (own_path s.tree n) + 1) (second_of (is_prefix s.tree.naming (own_path s.tree n) node.path) (length node.path == length (own_path s.tree n) + 1) (child_next node is)) in
-              ap is_name (sym (some_name (last_name node.path) name h) ∙ ap last_name path) ∙ whole.named m (ap is_some here) (λ root. no_root m root (ap (length {A = Name}) (sym path) ∙ long))
+              let path : node.path ≡ own_path s.tree m = ap (λ (d : Node). d.path) one ∙ sym (own_is s.tree sound.whole m x here) in
+              let long = eqb-true (length node.path) (length (own_path s.tree n) + 1) ((and_parts (is_prefix s.tree.naming (own_path s.tree n) node.path) (length node.path == length (own_path s.tree n) + 1) (child_next node is)).1) in
+              ap is_name (sym (same_Some (last_name node.path) name h) ∙ ap last_name path) ∙ sound.whole.named m (ap is_some here) (λ root. no_root m root (ap (length {A = Name}) (sym path) ∙ long))
             where
               no_root : (m : ℕ) → 0 ≡ m → length (own_path s.tree m) ≡ length (own_path s.tree n) + 1 → ⊥
               no_root m root long =
-                  let none : length (own_path s.tree m) ≡ 0 = ap (λ (j : ℕ). length (own_path s.tree j)) (sym root) ∙ ap (λ (o : Option Place). length (unwrap_or (option_map (λ (p : Place). p.path) o) [])) whole.root in
+                  let none : length (own_path s.tree m) ≡ 0 = ap (λ (j : ℕ). length (own_path s.tree j)) (sym root) ∙ ap (λ (o : Option Place). length (unwrap_or (option_map (λ (p : Place). p.path) o) [])) sound.whole.root in
                   omega (arith, long, none)

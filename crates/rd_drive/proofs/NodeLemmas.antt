@@ -10,6 +10,8 @@ use Rattle.std.specs.FinMap as entries
 use Rattle.std.specs.FinMap.Entries.{below_all, by_order, find-put}
 use Rattle.std.specs.FinMap.{is_sorted, put}
 use Rattle.std.proofs.lemmas.Bool.Decides.{nat_tests}
+use Rattle.std.proofs.lemmas.Option.{same_Some, none-some}
+use Rattle.rd_tree.proofs.ViewLemmas.{itself}
 use Rattle.rd_dirinfo.specs.declared.naming.Naming.{Naming}
 use Rattle.rd_dirinfo.specs.Paths.{Names, path_cmp, is_same_path}
 use Rattle.rd_dirinfo.proofs.NamingLemmas.{path_order}
@@ -18,7 +20,7 @@ use Rattle.rd_tree.proofs.WayLemmas.{same_true, true_same}
 use Rattle.rd_drive.specs.DriveState.{Node, add_node, in_order, is_at_path}
 use Rattle.rd_drive.specs.Store.{States, state_of, node_with, node_of, nodes_of}
 use Rattle.rd_drive.specs.Kept.{place_with, with_bytes_at}
-use Rattle.rd_drive.proofs.StoreLemmas.{AreListed, all_listed, and_parts, found_above, is_below, is_equal, itself, none_is_some, own_is, rising, some_inside}
+use Rattle.rd_drive.proofs.StoreLemmas.{AreListed, all_listed, and_parts, found_above, is_below, is_equal, own_is, rising}
 
 -- ---- the order looks at paths as the naming sees them
 module _ (naming : Naming) where
@@ -85,14 +87,14 @@ both_parts false b t = absurd t
 
 -- what is there put there again changes nothing
 pub put_again : {X : Type 0} (n : ℕ) (y : X) (l : List (ℕ × X)) → T (is_sorted nat_cmp l) → entries.find nat_cmp n l ≡ Some y → put nat_cmp n y l ≡ l
-put_again n y [] sorted is = absurd (none_is_some y is)
+put_again n y [] sorted is = absurd (none-some y is)
 put_again n y (d ∷ l) sorted is = by (both_parts (below_all nat_cmp d.0 l) (is_sorted nat_cmp l) sorted) (λ s e. put_again n y l s e) (nat_cmp n d.0) refl
   where
     by : T (below_all nat_cmp d.0 l) × T (is_sorted nat_cmp l) → (T (is_sorted nat_cmp l) → entries.find nat_cmp n l ≡ Some y → put nat_cmp n y l ≡ l)
         → (r : Ordering) → nat_cmp n d.0 ≡ r → by_order r ((n, y) ∷ d ∷ l) ((d.0, y) ∷ l) (d ∷ put nat_cmp n y l) ≡ d ∷ l
     by parts later Less e = absurd (below_first n y d l parts.0 e is)
     by parts later Equal e =
-        let same : d.1 ≡ y = some_inside d.1 y (sym (ap (λ r. cond (is_eq r) (Some d.1) (entries.find nat_cmp n l)) e) ∙ is) in
+        let same : d.1 ≡ y = same_Some d.1 y (sym (ap (λ r. cond (is_eq r) (Some d.1) (entries.find nat_cmp n l)) e) ∙ is) in
         ap (λ v. (d.0, v) ∷ l) (sym same)
     by parts later Greater e = ap (◌∷◌ d) (later parts.1 (sym (ap (λ r. cond (is_eq r) (Some d.1) (entries.find nat_cmp n l)) e) ∙ is))
 
@@ -136,7 +138,7 @@ module _ (tree : Places) (whole : IsWhole tree) (n : ℕ) (x : Place) (here : pl
 
       at_one : (d : ℕ × Place) → place tree d.0 ≡ Some d.1 → n ≡ d.0 → node_of new (d.0, put_here) ≡ put_node tree.naming node (node_of old d)
       at_one d listed one =
-          let same : x ≡ d.1 = some_inside x d.1 (sym here ∙ ap (λ (k : ℕ). place tree k) one ∙ listed) in
+          let same : x ≡ d.1 = same_Some x d.1 (sym here ∙ ap (λ (k : ℕ). place tree k) one ∙ listed) in
           ap (λ (k : ℕ). node_with (state_of new k) put_here) (sym one)
           ∙ sym (ap (λ b. cond b node (node_of old d)) (ap (λ (p : Names). is_same_path tree.naming p (own_path tree n)) (ap (λ (p : Place). p.path) (sym same) ∙ sym (own_is tree whole n x here)) ∙ same_true tree.naming (own_path tree n) (own_path tree n) refl))
 
@@ -157,7 +159,7 @@ module _ (tree : Places) (whole : IsWhole tree) (n : ℕ) (x : Place) (here : pl
           λ i. at_other d listed.0 (λ e. not_equal n d.0 (above_apart n d.0 under) e) i ∷ after l parts.1 listed.1 i
 
       among : (l : List (ℕ × Place)) → T (is_sorted nat_cmp l) → AreListed tree whole l → entries.find nat_cmp n l ≡ Some x → map (node_of new) (put nat_cmp n put_here l) ≡ map (put_node tree.naming node) (map (node_of old) l)
-      among [] sorted listed is = absurd (none_is_some x is)
+      among [] sorted listed is = absurd (none-some x is)
       among (d ∷ l) sorted listed is = by (both_parts (below_all nat_cmp d.0 l) (is_sorted nat_cmp l) sorted) (λ s e. among l s listed.1 e) (nat_cmp n d.0) refl
         where
           by : T (below_all nat_cmp d.0 l) × T (is_sorted nat_cmp l) → (T (is_sorted nat_cmp l) → entries.find nat_cmp n l ≡ Some x → map (node_of new) (put nat_cmp n put_here l) ≡ map (put_node tree.naming node) (map (node_of old) l))

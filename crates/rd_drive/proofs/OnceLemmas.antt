@@ -1,13 +1,13 @@
 -- No request of a device has two replies: by how often its key is among the replies so far and among the requests that wait.
 use Rattle.std.proofs.Common.{◌≡◌, ◌∙◌, refl, sym, ap, subst, ℕ, zero, suc, ◌+◌, ◌≤◌, ◌⊎◌, inl, inr, ◌==◌, ◌&&◌, Bool, true, false, cond, List, [], ◌∷◌, ◌++◌, map, arith}
 use Rattle.std.specs.Prelude.{All, Contains}
-use Rattle.std.proofs.lemmas.Bool.{eqb-true}
+use Rattle.std.proofs.lemmas.Bool.{eqb-true, eq-eqb}
 use Rattle.std.proofs.lemmas.List.{append_assoc}
 use Rattle.std.proofs.lemmas.List.Elements.{All-contains, All-contains_itself, All-weaker, Contains-append_cases, Contains-append_left, Contains-push}
 use Rattle.rd_base.specs.declared.journal.Key.{Key}
 use Rattle.rd_base.specs.declared.journal.Item.{Item}
 use Rattle.rd_base.specs.declared.journal.Item.TheVariants.{Came, Ran, Cancelled, Sent, Cut}
-use Rattle.rd_base.specs.Lawful.{EachAfter, Settles, SettlesFirst}
+use Rattle.rd_base.specs.Lawful.{EachEntry, Settles, SettlesFirst}
 use Rattle.rd_irp.specs.declared.op.Op.{Op}
 use Rattle.rd_irp.specs.declared.request.Request.{Request}
 use Rattle.rd_irp.specs.declared.completion.Reply.{Reply}
@@ -20,7 +20,6 @@ use Rattle.rd_drive.specs.Once.{HaveOneReplyEach}
 use Rattle.rd_drive.specs.Promise.{IsDevice, cut_end}
 use Rattle.rd_drive.specs.Replies.{KeyedReply, end_reply, own_reply, replies_at, replies_by, run_of, state_after}
 use Rattle.rd_drive.specs.Stepped.{Settled, Stepped}
-use Rattle.rd_drive.proofs.LockLemmas.{same_number}
 
 -- ---- how often a key is there
 
@@ -37,7 +36,7 @@ same_key a b e = by (a.channel == b.channel) refl e
 
 own_key : (a : Key) → is_key a a ≡ true
 unfolding is_key
-own_key a = λ i. same_number a.channel a.channel refl i && same_number a.index a.index refl i
+own_key a = λ i. eq-eqb a.channel a.channel refl i && eq-eqb a.index a.index refl i
 
 -- how many have the key
 count : {X : Type 0} → (X → Key) → Key → List X → ℕ
@@ -214,18 +213,18 @@ module _ {S : Type 0} (step : S → Key → ℕ → Op → ℕ → Stepped S) (c
               none = λ all. let zero = once.none (earlier before (Ran key moment starved mark) all) in omega (arith, zero, none, ran.1);
             }
 
-    once_from : (rest before : List Item) (s : S) (told : ℕ) → EachAfter SettlesFirst (before ++ rest) → IsOnce before s told → told + given (replies_by step cut requests s rest) ≤ 1
+    once_from : (rest before : List Item) (s : S) (told : ℕ) → EachEntry SettlesFirst (before ++ rest) → IsOnce before s told → told + given (replies_by step cut requests s rest) ≤ 1
     unfolding given count
     once_from [] before s told lawful once = omega (arith, once.few)
     once_from (entry ∷ rest) before s told lawful once =
         let after = state_after step cut requests s entry in
         let later = once_from rest (before ++ entry ∷ []) after (told + given (replies_at step cut requests s entry))
-        (subst (EachAfter SettlesFirst) (sym (append_assoc before (entry ∷ []) rest)) lawful) (next before entry s told (lawful before entry rest refl) once) in
+        (subst (EachEntry SettlesFirst) (sym (append_assoc before (entry ∷ []) rest)) lawful) (next before entry s told (lawful before entry rest refl) once) in
         let both = count_append reply_key k (replies_at step cut requests s entry) (replies_by step cut requests after rest) in
         omega (arith, later, both)
 
   -- each request has one reply at most, where nothing waits at the opening
-  pub one_reply_each : (opening : S) (journal : List Item) → IsFit opening → parked opening ≡ [] → EachAfter SettlesFirst journal → HaveOneReplyEach (replies_by step cut requests opening journal)
+  pub one_reply_each : (opening : S) (journal : List Item) → IsFit opening → parked opening ≡ [] → EachEntry SettlesFirst journal → HaveOneReplyEach (replies_by step cut requests opening journal)
   unfolding given waiting count
   one_reply_each opening journal fit nothing lawful = λ key one other has_one has_other.
       let none : count parked_key key (parked opening) ≡ 0 = ap (count parked_key key) nothing in

@@ -1,7 +1,6 @@
 -- A node has one more handle, which is counted: the drive is sound, and has the new handle.
-use Rattle.std.proofs.Common.{◌≡◌, ◌∙◌, refl, sym, ap, subst, ℕ, ◌+◌, ◌<◌, ◌≤◌, ◌^◌, ◌==◌, Bool, true, false, cond, List, [], ◌∷◌, map, length, Option, Some, None, arith}
-use Rattle.std.specs.Prelude.{nat_eq, nat_le, ◌||◌}
-use Rattle.std.specs.List.{AllByRecursion}
+use Rattle.std.proofs.Common.{◌≡◌, ◌∙◌, refl, sym, ap, subst, ℕ, ◌+◌, ◌<◌, ◌≤◌, ◌^◌, ◌==◌, Bool, true, false, cond, List, map, length, Option, Some, None, arith}
+use Rattle.std.specs.Prelude.{nat_eq, nat_le}
 use Rattle.std.specs.Option.{option_map, unwrap_or, is_some, IsSome}
 use Rattle.std.specs.Ordering.{nat_cmp}
 use Rattle.std.specs.HashMap.{get}
@@ -9,6 +8,9 @@ use Rattle.std.specs.Map.{lookup}
 use Rattle.std.specs.BTreeMap.{insert_entry, is_at}
 use Rattle.std.proofs.lemmas.Bool.Decides.{nat_tests}
 use Rattle.std.proofs.lemmas.List.{length-map}
+use Rattle.std.proofs.lemmas.Option.{same_Some, none-some}
+use Rattle.std.proofs.lemmas.Bool.{eqb-true, or_parts, leb-false}
+use Rattle.rd_drive.proofs.AllLemmas.{all_weaker}
 use Rattle.rd_locks.specs.declared.held.Held.{Held}
 use Rattle.rd_tree.specs.declared.node.NodeId.{NodeId}
 use Rattle.rd_tree.specs.Places.{Place, own_path, IsLive}
@@ -21,37 +23,24 @@ use Rattle.rd_drive.specs.declared.store.Store.{Store}
 use Rattle.rd_drive.specs.DriveState.{in_order, with_new_handle}
 use Rattle.rd_drive.specs.Create.{deletes_on_close, is_full, new_handle}
 use Rattle.rd_drive.specs.Kept.{IsKept}
-use Rattle.rd_drive.specs.Made.{counted, made_handle}
+use Rattle.rd_drive.specs.Made.{made_handle, with_asked_use}
 use Rattle.rd_drive.specs.Uses.{uses_of}
 use Rattle.rd_drive.specs.UseCounts.{more}
 use Rattle.rd_drive.specs.Store.{States, Handles, blank, state_of, node_with, node_of, drive_of, kept_handle, uses_on, HasRoom, IsSound}
 use Rattle.rd_drive.proofs.HandlesLemmas.{inserted_seen, one_longer, seen_entry}
 use Rattle.rd_drive.proofs.KeptLemmas.{each_kept, still_kept}
-use Rattle.rd_drive.proofs.LockLemmas.{equal_numbers}
-use Rattle.rd_drive.proofs.StoreLemmas.{none_is_some, some_inside}
 use Rattle.rd_drive.proofs.UsesLemmas.{few_uses, on_inserted, use_by}
-
-or_false : (a b : Bool) → (a || b) ≡ false → (a ≡ false) × (b ≡ false)
-or_false true b e = absurd (cc)
-or_false false b e = (refl, e)
-
-lower : (m n : ℕ) → nat_le m n ≡ false → n < m
-lower m n e = grind (arith, nat_tests)
 
 -- where a handle can be made there is room for it, and a file id
 pub has_room : (s : Store) → is_full (drive_of s) ≡ false → (length s.handles.entries < 4096) × (s.next < 2 ^ 32)
 has_room s free =
-    let parts = or_false (nat_le 4096 (length (drive_of s).handles)) (nat_le 4294967296 s.next) free in
+    let parts = or_parts (nat_le 4096 (length (drive_of s).handles)) (nat_le 4294967296 s.next) free in
     let count : length (drive_of s).handles ≡ length s.handles.entries = length-map s.handles.entries (seen_entry s.tree) in
-    let low : length (drive_of s).handles < 4096 = lower 4096 (length (drive_of s).handles) parts.0 in
-    (subst (λ (k : ℕ). k < 4096) count low, lower 4294967296 s.next parts.1)
+    let low : length (drive_of s).handles < 4096 = leb-false 4096 (length (drive_of s).handles) parts.0 in
+    (subst (λ (k : ℕ). k < 4096) count low, leb-false 4294967296 s.next parts.1)
 
 at_same : (n k : ℕ) → is_at (nat_cmp n) k ≡ true → k ≡ n
 at_same n k e = grind (arith, nat_tests)
-
-all_of : {X : Type 0} (P Q : X → Type 0) → ((x : X) → P x → Q x) → (l : List X) → AllByRecursion P l → AllByRecursion Q l
-all_of P Q f [] all = tt
-all_of P Q f (x ∷ l) all = (f x all.0, all_of P Q f l all.1)
 
 module _ (s : Store) (sound : IsSound s) where
   -- the next file id has no handle yet
@@ -72,7 +61,7 @@ module _ (s : Store) (sound : IsSound s) where
       (room : length s.handles.entries < 4096) (ids : s.next < 2 ^ 32)
       (handles : Handles) (entries : handles.entries ≡ insert_entry nat_cmp s.handles.entries s.next (made_handle asked node))
       (looked : (k : ℕ) → lookup (is_at (nat_cmp k)) handles.entries ≡ cond (is_at (nat_cmp s.next) k) (Some (made_handle asked node)) (kept_handle s k))
-      (states : States) (now : IsKept s.states states node.0 (counted (state_of s.states node.0) asked)) where
+      (states : States) (now : IsKept s.states states node.0 (with_asked_use (state_of s.states node.0) asked)) where
     abbrev pub with_handle : Store
     with_handle = record s { handles = handles; states = states; next = s.next + 1 }
 
@@ -80,7 +69,7 @@ module _ (s : Store) (sound : IsSound s) where
     n = node.0
 
     abbrev st : NodeState
-    st = counted (state_of s.states n) asked
+    st = with_asked_use (state_of s.states n) asked
 
     abbrev h : open_file.Handle
     h = made_handle asked node
@@ -97,6 +86,7 @@ module _ (s : Store) (sound : IsSound s) where
 
     pub opened_sound : IsSound with_handle
     opened_sound = record {
+      whole = sound.whole;
       naming = sound.naming;
       label = sound.label;
       states = λ k lives. still_kept s.states states n st now k (sound.states k lives);
@@ -104,9 +94,9 @@ module _ (s : Store) (sound : IsSound s) where
       fitting = sound.fitting;
       opened = opens;
       uses = uses;
-      locked = all_of (λ (held : Held). option_map (λ (g : open_file.Handle). g.node.0) (kept_handle s held.file) ≡ Some held.node)
+      locked = all_weaker (λ (held : Held). option_map (λ (g : open_file.Handle). g.node.0) (kept_handle s held.file) ≡ Some held.node)
           (λ (held : Held). option_map (λ (g : open_file.Handle). g.node.0) (lookup (is_at (nat_cmp held.file)) handles.entries) ≡ Some held.node) home s.locks.locks sound.locked;
-      waits = all_of (λ (w : kept_waiting.Waiting). (false ≡ false → IsSome (kept_handle s w.file)) × HasRoom w.wish)
+      waits = all_weaker (λ (w : kept_waiting.Waiting). (false ≡ false → IsSome (kept_handle s w.file)) × HasRoom w.wish)
           (λ (w : kept_waiting.Waiting). (false ≡ false → IsSome (lookup (is_at (nat_cmp w.file)) handles.entries)) × HasRoom w.wish)
           (λ w both. (λ e. ap is_some (looked w.file) ∙ there (is_at (nat_cmp s.next) w.file) (kept_handle s w.file) (both.0 refl), both.1)) s.waiting.items sound.waits;
       reserved = sound.reserved;
@@ -125,7 +115,7 @@ module _ (s : Store) (sound : IsSound s) where
             by : (b : Bool) → is_at (nat_cmp s.next) file ≡ b → cond b (Some h) (kept_handle s file) ≡ Some g → IsLive s.tree g.node.0 × (file < s.next + 1) × (g.node.0 ≡ 0 → g.delete_on_close ≡ false)
             by true t e =
                 let one : file ≡ s.next = at_same s.next file t in
-                subst (λ (k : open_file.Handle). IsLive s.tree k.node.0 × (file < s.next + 1) × (k.node.0 ≡ 0 → k.delete_on_close ≡ false)) (some_inside h g e) (live, omega (arith, one), root)
+                subst (λ (k : open_file.Handle). IsLive s.tree k.node.0 × (file < s.next + 1) × (k.node.0 ≡ 0 → k.delete_on_close ≡ false)) (same_Some h g e) (live, omega (arith, one), root)
             by false t e = let was = sound.opened file g e in let low : file < s.next = was.1 in (was.0, omega (arith, low), was.2)
 
         uses : (k : ℕ) → IsLive s.tree k → (state_of states k).uses ≡ uses_of (uses_on k handles.entries)
@@ -137,7 +127,7 @@ module _ (s : Store) (sound : IsSound s) where
           where
             by : (b : Bool) → (n == k) ≡ b → (cond (n == k) st (state_of s.states k)).uses ≡ cond (n == k) (more (use_by h) (state_of s.states k).uses) (state_of s.states k).uses
             by true t =
-                ap (λ b. (cond b st (state_of s.states k)).uses) t ∙ ap (λ (m : ℕ). more (use_by h) (state_of s.states m).uses) (equal_numbers n k t)
+                ap (λ b. (cond b st (state_of s.states k)).uses) t ∙ ap (λ (m : ℕ). more (use_by h) (state_of s.states m).uses) (eqb-true n k t)
                 ∙ sym (ap (λ b. cond b (more (use_by h) (state_of s.states k).uses) (state_of s.states k).uses) t)
             by false t = ap (λ b. (cond b st (state_of s.states k)).uses) t ∙ sym (ap (λ b. cond b (more (use_by h) (state_of s.states k).uses) (state_of s.states k).uses) t)
 
@@ -147,7 +137,7 @@ module _ (s : Store) (sound : IsSound s) where
             by : (b : Bool) → is_at (nat_cmp s.next) held.file ≡ b → option_map (λ (g : open_file.Handle). g.node.0) (cond b (Some h) (kept_handle s held.file)) ≡ Some held.node
             by true t =
                 let one : held.file ≡ s.next = at_same s.next held.file t in
-                absurd (none_is_some held.node (sym (ap (λ (k : ℕ). option_map (λ (g : open_file.Handle). g.node.0) (kept_handle s k)) one ∙ ap (option_map (λ (g : open_file.Handle). g.node.0)) absent) ∙ is))
+                absurd (none-some held.node (sym (ap (λ (k : ℕ). option_map (λ (g : open_file.Handle). g.node.0) (kept_handle s k)) one ∙ ap (option_map (λ (g : open_file.Handle). g.node.0)) absent) ∙ is))
             by false t = is
 
         there : (b : Bool) (o : Option open_file.Handle) → IsSome o → is_some (cond b (Some h) o) ≡ true

@@ -5,6 +5,7 @@ use Rattle.std.specs.Ordering.{is_lt, is_eq, ordering_reverse}
 use Rattle.std.specs.declared.cmp.Ordering.{Ordering}
 use Rattle.std.specs.declared.cmp.Ordering.TheVariants.{Less, Equal, Greater}
 use Rattle.std.specs.Cmp.{IsTotalOrder}
+use Rattle.std.proofs.lemmas.Bool.{or_parts, and_parts, and_from, not-true}
 use Rattle.rd_dirinfo.specs.declared.naming.Naming.{Naming}
 use Rattle.rd_dirinfo.specs.Paths.{Names, path_cmp, is_same_path}
 use Rattle.rd_dirinfo.proofs.NamingLemmas.{path_order}
@@ -19,10 +20,6 @@ and_swap : (a b c : Bool) → (a && (b && c)) ≡ (b && (a && c))
 and_swap true b c = refl
 and_swap false true c = refl
 and_swap false false c = refl
-
-or_false : (a b : Bool) → (a || b) ≡ false → (a ≡ false) × (b ≡ false)
-or_false true b e = absurd (cc)
-or_false false b e = (refl, e)
 
 module _ (naming : Naming) where
   -- the order of two nodes
@@ -93,7 +90,7 @@ module _ (naming : Naming) where
 
   find_here : (p : Node → Bool) (x : Node) (l : List Node) → p x ≡ true → list_any p l ≡ false → find p (add_node naming x l) ≡ Some x
   find_here p x [] holds none = ap (λ b. cond b (Some x) None) holds
-  find_here p x (y ∷ ys) holds none = by (or_false (p y) (list_any p ys) none) (λ h. find_here p x ys holds h) (before y x)
+  find_here p x (y ∷ ys) holds none = by (or_parts (p y) (list_any p ys) none) (λ h. find_here p x ys holds h) (before y x)
     where
       by : (p y ≡ false) × (list_any p ys ≡ false) → (list_any p ys ≡ false → find p (add_node naming x ys) ≡ Some x) → (b : Bool) → find p (cond b (y ∷ add_node naming x ys) (x ∷ y ∷ ys)) ≡ Some x
       by nones later true = ap (λ c. cond c (Some y) (find p (add_node naming x ys))) nones.0 ∙ later nones.1
@@ -192,13 +189,13 @@ module _ (naming : Naming) where
   pub order_insert : (x : Node) (xs ys : List Node) → list_any (alike x) xs ≡ false → in_order naming (xs ++ x ∷ ys) ≡ add_node naming x (in_order naming (xs ++ ys))
   order_insert x [] ys apart = refl
   order_insert x (z ∷ zs) ys apart =
-      let aparts = or_false (alike x z) (list_any (alike x) zs) apart in
+      let aparts = or_parts (alike x z) (list_any (alike x) zs) apart in
       ap (add_node naming z) (order_insert x zs ys aparts.1) ∙ sym (commute x z aparts.0 (in_order naming (zs ++ ys)))
 
   -- ---- moving nodes whose new paths differ
   move_add : (f : Node → Node) (x : Node) (l : List Node) → list_any (λ y. alike (f x) (f y)) l ≡ false → in_order naming (map f (add_node naming x l)) ≡ add_node naming (f x) (in_order naming (map f l))
   move_add f x [] apart = refl
-  move_add f x (y ∷ ys) apart = by (or_false (alike (f x) (f y)) (list_any (λ y. alike (f x) (f y)) ys) apart) (λ h. move_add f x ys h) (before y x)
+  move_add f x (y ∷ ys) apart = by (or_parts (alike (f x) (f y)) (list_any (λ y. alike (f x) (f y)) ys) apart) (λ h. move_add f x ys h) (before y x)
     where
       by : (alike (f x) (f y) ≡ false) × (list_any (λ y. alike (f x) (f y)) ys ≡ false) → (list_any (λ y. alike (f x) (f y)) ys ≡ false → in_order naming (map f (add_node naming x ys)) ≡ add_node naming (f x) (in_order naming (map f ys)))
           → (b : Bool) → in_order naming (map f (cond b (y ∷ add_node naming x ys) (x ∷ y ∷ ys))) ≡ add_node naming (f x) (add_node naming (f y) (in_order naming (map f ys)))
@@ -220,23 +217,12 @@ module _ (naming : Naming) where
   IsInOrder [] = Unit {0}
   IsInOrder (x ∷ xs) = (list_all (λ y. not (before y x)) xs ≡ true) × IsInOrder xs
 
-  and_true : (a b : Bool) → (a && b) ≡ true → (a ≡ true) × (b ≡ true)
-  and_true true b e = (refl, e)
-  and_true false b e = absurd (cc)
-
-  both : (a b : Bool) → a ≡ true → b ≡ true → (a && b) ≡ true
-  both a b e h = ap (λ c. c && b) e ∙ h
-
-  false_of : (b : Bool) → not b ≡ true → b ≡ false
-  false_of true e = absurd (cc)
-  false_of false e = refl
-
   -- what isn't before a node isn't before one that is no later
   none_lower : (x y : Node) → before y x ≡ false → (l : List Node) → list_all (λ z. not (before z y)) l ≡ true → list_all (λ z. not (before z x)) l ≡ true
   none_lower x y fails [] all = refl
   none_lower x y fails (z ∷ zs) all =
-      let parts = and_true (not (before z y)) (list_all (λ z. not (before z y)) zs) all in
-      both (not (before z x)) (list_all (λ z. not (before z x)) zs) (ap not (by (before z x) refl (false_of (before z y) parts.0))) (none_lower x y fails zs parts.1)
+      let parts = and_parts (not (before z y)) (list_all (λ z. not (before z y)) zs) all in
+      and_from (not (before z x)) (list_all (λ z. not (before z x)) zs) (ap not (by (before z x) refl (not-true (before z y) parts.0))) (none_lower x y fails zs parts.1)
     where
       -- z before x, and y not before x, gives z before y
       turn : before z x ≡ true → before z y ≡ true
@@ -258,8 +244,8 @@ module _ (naming : Naming) where
   add_ordered x (y ∷ ys) order = by (add_ordered x ys order.1) (before y x) refl
     where
       by : IsInOrder (add_node naming x ys) → (b : Bool) → before y x ≡ b → IsInOrder (cond b (y ∷ add_node naming x ys) (x ∷ y ∷ ys))
-      by later true yx = (all_add (λ z. not (before z y)) x ys ∙ both (not (before x y)) (list_all (λ z. not (before z y)) ys) (ap not (ap is_lt (o.antisymm x.path y.path ∙ ap ordering_reverse (less (path_cmp naming y.path x.path) yx)))) order.0, later)
-      by later false yx = (both (not (before y x)) (list_all (λ z. not (before z x)) ys) (ap not yx) (none_lower x y yx ys order.0), order)
+      by later true yx = (all_add (λ z. not (before z y)) x ys ∙ and_from (not (before x y)) (list_all (λ z. not (before z y)) ys) (ap not (ap is_lt (o.antisymm x.path y.path ∙ ap ordering_reverse (less (path_cmp naming y.path x.path) yx)))) order.0, later)
+      by later false yx = (and_from (not (before y x)) (list_all (λ z. not (before z x)) ys) (ap not yx) (none_lower x y yx ys order.0), order)
 
   pub ordered : (l : List Node) → IsInOrder (in_order naming l)
   ordered [] = tt
@@ -267,17 +253,17 @@ module _ (naming : Naming) where
 
   all_filter : (p q : Node → Bool) (l : List Node) → list_all q l ≡ true → list_all q (filter p l) ≡ true
   all_filter p q [] all = refl
-  all_filter p q (y ∷ ys) all = by (and_true (q y) (list_all q ys) all) (λ h. all_filter p q ys h) (p y)
+  all_filter p q (y ∷ ys) all = by (and_parts (q y) (list_all q ys) all) (λ h. all_filter p q ys h) (p y)
     where
       by : (q y ≡ true) × (list_all q ys ≡ true) → (list_all q ys ≡ true → list_all q (filter p ys) ≡ true) → (b : Bool) → list_all q (cond b (y ∷ filter p ys) (filter p ys)) ≡ true
-      by parts later true = both (q y) (list_all q (filter p ys)) parts.0 (later parts.1)
+      by parts later true = and_from (q y) (list_all q (filter p ys)) parts.0 (later parts.1)
       by parts later false = later parts.1
 
   -- before what none is before, a node stands first
   add_first : (x : Node) (l : List Node) → list_all (λ z. not (before z x)) l ≡ true → add_node naming x l ≡ x ∷ l
   add_first x [] all = refl
   add_first x (y ∷ ys) all =
-      ap (λ b. cond b (y ∷ add_node naming x ys) (x ∷ y ∷ ys)) (false_of (before y x) (and_true (not (before y x)) (list_all (λ z. not (before z x)) ys) all).0)
+      ap (λ b. cond b (y ∷ add_node naming x ys) (x ∷ y ∷ ys)) (not-true (before y x) (and_parts (not (before y x)) (list_all (λ z. not (before z x)) ys) all).0)
 
   filter_add : (p : Node → Bool) (x : Node) (l : List Node) → IsInOrder l → filter p (add_node naming x l) ≡ cond (p x) (add_node naming x (filter p l)) (filter p l)
   filter_add p x [] order = by (p x)
@@ -303,7 +289,7 @@ module _ (naming : Naming) where
           ap (λ r. cond (p y) (y ∷ r) r) (later ∙ ap (λ c. cond c (add_node naming x (filter p ys)) (filter p ys)) px) ∙ sym (ap (λ c. cond c (add_node naming x (filter p (y ∷ ys))) (filter p (y ∷ ys))) px)
       by later false yx true px d py =
           ap (λ c. cond c (x ∷ filter p (y ∷ ys)) (filter p (y ∷ ys))) px
-          ∙ sym (add_first x (filter p (y ∷ ys)) (all_filter p (λ z. not (before z x)) (y ∷ ys) (both (not (before y x)) (list_all (λ z. not (before z x)) ys) (ap not yx) (none_lower x y yx ys order.0))))
+          ∙ sym (add_first x (filter p (y ∷ ys)) (all_filter p (λ z. not (before z x)) (y ∷ ys) (and_from (not (before y x)) (list_all (λ z. not (before z x)) ys) (ap not yx) (none_lower x y yx ys order.0))))
           ∙ sym (ap (λ c. cond c (add_node naming x (filter p (y ∷ ys))) (filter p (y ∷ ys))) px)
       by later false yx false px d py =
           ap (λ c. cond c (x ∷ filter p (y ∷ ys)) (filter p (y ∷ ys))) px ∙ sym (ap (λ c. cond c (add_node naming x (filter p (y ∷ ys))) (filter p (y ∷ ys))) px)

@@ -11,13 +11,13 @@ use Rattle.rd_drive.specs.declared.store.Done.{Done}
 use Rattle.rd_drive.specs.declared.step.Step.TheVariants as step
 use Rattle.rd_drive.specs.Outcome.{Outcome, no_news}
 use Rattle.rd_drive.specs.Locking.{waits}
-use Rattle.rd_drive.specs.Store.{drive_of, kept_handle, ranges_of, waiting_of, lock_of, HasRoom, IsSound, Serves}
+use Rattle.rd_drive.specs.Store.{drive_of, kept_handle, wish_ranges, waiting_of, lock_of, HasRoom, IsSound, Serves}
 use Rattle.rd_drive.specs.Waits.{IsParked}
 use Rattle.rd_drive.proofs.AllLemmas.{all_append}
 use Rattle.rd_drive.proofs.ConflictLemmas.{IsHome}
 
 module _ (s between new : Store) (sound : IsSound s) (locks : LockList) (w : kept_waiting.Waiting) (result : Done) (is : between ≡ record s { locks = locks }) (parked : IsParked between new w result)
-    (same : locks.locks ≡ s.locks.locks) (reserved : locks.reserved ≡ s.locks.reserved + ranges_of w.wish) (few : length s.waiting.items < 64) (opened : IsSome (kept_handle s w.file)) (room : HasRoom w.wish) where
+    (same : locks.locks ≡ s.locks.locks) (reserved : locks.reserved ≡ s.locks.reserved + wish_ranges w.wish) (few : length s.waiting.items < 64) (opened : IsSome (kept_handle s w.file)) (room : HasRoom w.wish) where
   abbrev IsLater : Store → Type 0
   IsLater t = (new ≡ record t { waiting = new.waiting }) × (new.waiting.items ≡ t.waiting.items ++ w ∷ []) × (vec_capacity t.waiting ≤ vec_capacity new.waiting)
 
@@ -38,6 +38,7 @@ module _ (s between new : Store) (sound : IsSound s) (locks : LockList) (w : kep
 
   after_sound : IsSound after
   after_sound = record {
+    whole = sound.whole;
     naming = sound.naming;
     label = sound.label;
     states = sound.states;
@@ -47,7 +48,7 @@ module _ (s between new : Store) (sound : IsSound s) (locks : LockList) (w : kep
     uses = sound.uses;
     locked = subst (λ ls. AllByRecursion (IsHome s) ls) (sym same) sound.locked;
     waits = subst (λ (ws : List kept_waiting.Waiting). AllByRecursion (λ (v : kept_waiting.Waiting). (option_map_or (λ (n : ℕ). true) None false ≡ false → IsSome (kept_handle s v.file)) × HasRoom v.wish) ws) (sym items) (all_append _ s.waiting.items (w ∷ []) sound.waits (((λ e. opened), room), tt));
-    reserved = reserved ∙ ap (λ k. k + ranges_of w.wish) sound.reserved ∙ sym (ap (sum_by (λ (v : kept_waiting.Waiting). ranges_of v.wish)) items ∙ sum_by_push (λ (v : kept_waiting.Waiting). ranges_of v.wish) s.waiting.items w);
+    reserved = reserved ∙ ap (λ k. k + wish_ranges w.wish) sound.reserved ∙ sym (ap (sum_by (λ (v : kept_waiting.Waiting). wish_ranges v.wish)) items ∙ sum_by_push (λ (v : kept_waiting.Waiting). wish_ranges v.wish) s.waiting.items w);
     few = (sound.few.0, omega (arith, ap length items, length-append s.waiting.items (w ∷ [])), omega (arith, sound.few.2, capacity));
     ids = sound.ids;
   }

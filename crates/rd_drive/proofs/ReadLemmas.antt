@@ -3,29 +3,26 @@ use Rattle.std.proofs.Common.{◌≡◌, ◌∙◌, refl, sym, ap, ℕ, ◌==◌
 use Rattle.std.specs.Prelude.{nat_le}
 use Rattle.std.specs.List.{list_any}
 use Rattle.std.specs.Option.{option_and_then, option_map, unwrap_or, is_some}
+use Rattle.std.proofs.Math.Bool.{and_assoc, not-not}
 use Rattle.rd_dirinfo.specs.Paths.{Names}
 use Rattle.rd_irp.specs.declared.op.Range.{Range}
 use Rattle.rd_irp.specs.declared.completion.Body.TheVariants.{Buffer}
 use Rattle.rd_contents.specs.Contents.{part}
 use Rattle.rd_locks.specs.declared.held.Held.{Held}
 use Rattle.rd_locks.specs.Locks.{overlaps, may_read}
-use Rattle.rd_tree.specs.Places.{Place, place, own_path, bytes_at, IsWhole}
+use Rattle.rd_tree.specs.Places.{Place, place, own_path, bytes_at}
 use Rattle.rd_drive.specs.declared.handle.Handle as kept
 use Rattle.rd_drive.specs.declared.store.Store.{Store}
 use Rattle.rd_drive.specs.DriveState as drive
-use Rattle.rd_drive.specs.DriveState.{Node, is_folder, bytes_of}
+use Rattle.rd_drive.specs.DriveState.{Node, is_folder_node, bytes_of}
 use Rattle.rd_drive.specs.Access.{reads}
-use Rattle.rd_drive.specs.Outcome.{Outcome, answered, refused, succeeded, no_news, done, on_handle}
+use Rattle.rd_drive.specs.Outcome.{Outcome, outcome_with_reply, refused, succeeded, no_news, done, on_handle}
 use Rattle.rd_drive.specs.ReadWrite.{read, max_read, is_read_locked}
-use Rattle.rd_drive.specs.Statuses.{invalid_device_request, access_denied, file_lock_conflict, end_of_file}
+use Rattle.rd_base.specs.Statuses.{invalid_device_request, access_denied, file_lock_conflict, end_of_file}
 use Rattle.rd_drive.specs.Store.{state_of, node_with, handle_of, drive_of, kept_handle, IsSound}
 use Rattle.rd_drive.proofs.CheckLemmas.{check_applies, check_passed, checks_done}
 use Rattle.rd_drive.proofs.HandleLemmas.{on_open}
 use Rattle.rd_drive.proofs.LockLemmas.{any_on}
-
-pub not_not : (b : Bool) → not (not b) ≡ b
-not_not true = refl
-not_not false = refl
 
 -- of what a folder, or a file, says of its end
 pub no_bytes : (o : Option (List ℕ)) → None ≡ option_map (length {A = ℕ}) o → o ≡ None
@@ -36,11 +33,7 @@ pub some_bytes : (end : ℕ) (o : Option (List ℕ)) → Some end ≡ option_map
 some_bytes end None e = absurd (cc)
 some_bytes end (Some b) e = (b, refl, ap (λ (o : Option ℕ). unwrap_or o 0) (sym e))
 
-pub and_later : (a b c : Bool) → ((a && b) && c) ≡ (a && (b && c))
-and_later true b c = refl
-and_later false b c = refl
-
-module _ (s : Store) (sound : IsSound s) (whole : IsWhole s.tree) (file : ℕ) (h : kept.Handle) (is : kept_handle s file ≡ Some h) (x : Place) (here : place s.tree h.node.0 ≡ Some x) (offset asked : ℕ) where
+module _ (s : Store) (sound : IsSound s) (file : ℕ) (h : kept.Handle) (is : kept_handle s file ≡ Some h) (x : Place) (here : place s.tree h.node.0 ≡ Some x) (offset asked : ℕ) where
   abbrev pub node : Node
   node = node_with (state_of s.states h.node.0) x
 
@@ -54,13 +47,13 @@ module _ (s : Store) (sound : IsSound s) (whole : IsWhole s.tree) (file : ℕ) (
   comes = on_handle (drive_of s) file (read (drive_of s) file offset asked)
 
   goes : comes ≡ read (drive_of s) file offset asked (handle_of s.tree h) node
-  goes = on_open s sound whole file h is x here (read (drive_of s) file offset asked)
+  goes = on_open s sound file h is x here (read (drive_of s) file offset asked)
 
   pub read_folder : bytes_at s.tree h.node.0 ≡ None → comes ≡ refused (drive_of s) invalid_device_request
   read_folder none = goes ∙ check_applies (drive_of s) _ _ _ (ap (λ (o : Option (List ℕ)). not (is_some o)) (sym bytes_here ∙ none))
 
   module _ (bytes : List ℕ) (some : bytes_at s.tree h.node.0 ≡ Some bytes) where
-    no_folder : is_folder node ≡ false
+    no_folder : is_folder_node node ≡ false
     no_folder = ap (λ (o : Option (List ℕ)). not (is_some o)) (sym bytes_here ∙ some)
 
     bytes_are : bytes_of node ≡ bytes
@@ -73,7 +66,7 @@ module _ (s : Store) (sound : IsSound s) (whole : IsWhole s.tree) (file : ℕ) (
       abbrev pub count : ℕ
       count = min asked max_read
 
-      pub read_nothing : (count == 0) ≡ true → comes ≡ answered (drive_of s) (done (Buffer []))
+      pub read_nothing : (count == 0) ≡ true → comes ≡ outcome_with_reply (drive_of s) (done (Buffer []))
       read_nothing zero = goes ∙ check_passed (drive_of s) _ _ _ no_folder ∙ check_passed (drive_of s) _ _ _ (ap not allowed) ∙ check_applies (drive_of s) _ _ _ zero
 
       abbrev pub range : Range
@@ -82,9 +75,9 @@ module _ (s : Store) (sound : IsSound s) (whole : IsWhole s.tree) (file : ℕ) (
       locks_seen : is_read_locked (drive_of s) file node.path range ≡ not (may_read s.locks.locks h.node.0 file range)
       locks_seen =
           ap (λ (p : Names). is_read_locked (drive_of s) file p range) (sym own_here)
-          ∙ any_on s sound whole h.node.0 (ap is_some here) (λ (lock : drive.Lock). overlaps range lock.range && (lock.exclusive && not (lock.file == file))) s.locks.locks sound.locked
-          ∙ ap (λ (q : Held → Bool). list_any q s.locks.locks) (λ i. λ (held : Held). sym (and_later (held.node == h.node.0) (overlaps range held.range) (held.exclusive && not (held.file == file))) i)
-          ∙ sym (not_not (list_any (λ (held : Held). held.node == h.node.0 && overlaps range held.range && (held.exclusive && not (held.file == file))) s.locks.locks))
+          ∙ any_on s sound h.node.0 (ap is_some here) (λ (lock : drive.Lock). overlaps range lock.range && (lock.exclusive && not (lock.file == file))) s.locks.locks sound.locked
+          ∙ ap (λ (q : Held → Bool). list_any q s.locks.locks) (λ i. λ (held : Held). sym (and_assoc (held.node == h.node.0) (overlaps range held.range) (held.exclusive && not (held.file == file))) i)
+          ∙ sym (not-not (list_any (λ (held : Held). held.node == h.node.0 && overlaps range held.range && (held.exclusive && not (held.file == file))) s.locks.locks))
 
       module _ (more : (count == 0) ≡ false) where
         pub read_locked : may_read s.locks.locks h.node.0 file range ≡ false → comes ≡ refused (drive_of s) file_lock_conflict

@@ -4,6 +4,7 @@ use Rattle.std.specs.List.{list_any}
 use Rattle.std.specs.Option.{option_map, option_map_or, unwrap_or, is_some}
 use Rattle.std.specs.Ordering.{nat_cmp, eq_by_cmp}
 use Rattle.std.specs.FinMap as entries
+use Rattle.std.proofs.lemmas.Bool.{false_from_ne_true, or_parts}
 use Rattle.rd_base.specs.declared.status.Status.{Status}
 use Rattle.rd_irp.specs.declared.completion.Reply.{Reply}
 use Rattle.rd_dirinfo.specs.Paths.{Names, is_below, is_prefix, is_within_limits, parent}
@@ -11,7 +12,7 @@ use Rattle.rd_tree.specs.declared.refusal.MoveNo.{MoveNo}
 use Rattle.rd_tree.specs.declared.refusal.MoveNo.TheVariants as move
 use Rattle.rd_tree.specs.Places as places
 use Rattle.rd_tree.specs.Places.{Place, Places, place, node_at, own_path, is_own, is_taken, move_refusal, IsLive, IsWhole}
-use Rattle.rd_tree.proofs.RefuseLemmas.{bool_false, move_is}
+use Rattle.rd_tree.proofs.RefuseLemmas.{move_is}
 use Rattle.rd_drive.specs.declared.store.Store.{Store}
 use Rattle.rd_drive.specs.DriveState as drive
 use Rattle.rd_drive.specs.DriveState.{DriveState, Node}
@@ -19,7 +20,7 @@ use Rattle.rd_drive.specs.Outcome.{Outcome, checked, fault, refused}
 use Rattle.rd_drive.specs.Rename.{is_protected}
 use Rattle.rd_drive.specs.Rename as renaming
 use Rattle.rd_drive.specs.Renaming.{move_status}
-use Rattle.rd_drive.specs.Statuses.{access_denied, invalid_parameter, no_memory, object_name_collision, object_name_invalid, object_path_not_found}
+use Rattle.rd_base.specs.Statuses.{access_denied, invalid_parameter, no_memory, object_name_collision, object_name_invalid, object_path_not_found}
 use Rattle.rd_drive.specs.Store.{drive_of, IsSound, Serves}
 use Rattle.rd_drive.proofs.KeptLemmas.{lived}
 use Rattle.rd_drive.proofs.ServesLemmas.{serves_no_memory, serves_refused}
@@ -80,12 +81,8 @@ module _ (s : DriveState) (outcome : Outcome) where
 -- ---- what isn't too deep
 none_deep : (q : Place → Bool) (k : ℕ) (x : Place) (l : List (ℕ × Place)) → list_any (λ (e : ℕ × Place). q e.1) l ≡ false → entries.find nat_cmp k l ≡ Some x → q x ≡ false
 none_deep q k x [] none is = absurd (cc)
-none_deep q k x (e ∷ l) none is = by (parts (q e.1) (list_any (λ (d : ℕ × Place). q d.1) l) none) (λ rest there. none_deep q k x l rest there) (eq_by_cmp nat_cmp k e.0) is
+none_deep q k x (e ∷ l) none is = by (or_parts (q e.1) (list_any (λ (d : ℕ × Place). q d.1) l) none) (λ rest there. none_deep q k x l rest there) (eq_by_cmp nat_cmp k e.0) is
   where
-    parts : (a b : Bool) → (a || b) ≡ false → (a ≡ false) × (b ≡ false)
-    parts true b e = absurd (cc)
-    parts false b e = (refl, e)
-
     inside : (a b : Place) → Some a ≡ Some b → a ≡ b
     inside a b h = ap (λ o. unwrap_or o a) h
 
@@ -112,7 +109,7 @@ shallow_at tree n to none k live = by (lived tree k live)
         (ap (is_prefix tree.naming (own_path tree n)) (sym own) ∙ below)
 
 -- ---- the tests of a drive
-module _ (s : Store) (sound : IsSound s) (whole : IsWhole s.tree) (n : ℕ) (live : IsLive s.tree n) (to : Names) (apart : node_at s.tree to ≡ Some n → ⊥) where
+module _ (s : Store) (sound : IsSound s) (n : ℕ) (live : IsLive s.tree n) (to : Names) (apart : node_at s.tree to ≡ Some n → ⊥) where
   abbrev below : Bool
   below = is_below s.tree.naming (own_path s.tree n) to
 
@@ -123,19 +120,19 @@ module _ (s : Store) (sound : IsSound s) (whole : IsWhole s.tree) (n : ℕ) (liv
   deep = places.is_too_deep s.tree n to
 
   not_own : is_own s.tree n to ≡ false
-  not_own = bool_false (is_own s.tree n to) (λ t. apart (only_at s.tree whole n live to t))
+  not_own = false_from_ne_true (is_own s.tree n to) (λ t. apart (only_at s.tree sound.whole n live to t))
 
   tests_are : (replaces : Bool) → move_refusal s.tree n to replaces ≡ by_tests below folder deep (is_taken s.tree to replaces)
   tests_are replaces = move_is s.tree n to replaces false below folder deep (is_taken s.tree to replaces) not_own refl refl refl refl
 
   checks_are : (there replace protected : Bool)
-      → by_checks (is_below s.naming (own_path s.tree n) to) (drive.is_folder_at (drive_of s) (parent to)) (renaming.is_too_deep (drive_of s) (own_path s.tree n) to) there replace protected ≡ by_checks below folder deep there replace protected
-  checks_are there replace protected = λ i. by_checks (is_below (sym sound.naming i) (own_path s.tree n) to) (folder_at s sound whole (parent to) i) (deep_at s sound whole n to i) there replace protected
+      → by_checks (is_below s.naming (own_path s.tree n) to) (drive.has_folder (drive_of s) (parent to)) (renaming.goes_too_deep (drive_of s) (own_path s.tree n) to) there replace protected ≡ by_checks below folder deep there replace protected
+  checks_are there replace protected = λ i. by_checks (is_below (sym sound.naming i) (own_path s.tree n) to) (folder_at s sound (parent to) i) (deep_at s sound n to i) there replace protected
 
   module _ (target : Option Node) (replaces replace : Bool) (free : is_some target ≡ false → option_map_or (is_protected (drive_of s)) target false ≡ false)
       (taken : IsTaken (is_taken s.tree to replaces) (is_some target) replace (option_map_or (is_protected (drive_of s)) target false)) (outcome : Outcome) where
     abbrev checks : List (Bool × Reply)
-    checks = by_checks (is_below s.naming (own_path s.tree n) to) (drive.is_folder_at (drive_of s) (parent to)) (renaming.is_too_deep (drive_of s) (own_path s.tree n) to) (is_some target) replace (option_map_or (is_protected (drive_of s)) target false)
+    checks = by_checks (is_below s.naming (own_path s.tree n) to) (drive.has_folder (drive_of s) (parent to)) (renaming.goes_too_deep (drive_of s) (own_path s.tree n) to) (is_some target) replace (option_map_or (is_protected (drive_of s)) target false)
 
     -- the refusal of the tree is the drive's, or there is no memory
     pub refused_as : (why : MoveNo) → why ≡ unwrap_or (move_refusal s.tree n to replaces) move.Memory → (checked (drive_of s) checks outcome ≡ refused (drive_of s) (move_status why replace)) ⊎ (move_status why replace ≡ no_memory)

@@ -5,6 +5,7 @@ use Rattle.std.specs.Option.{option_map, IsSome}
 use Rattle.std.specs.Ordering.{nat_cmp}
 use Rattle.std.specs.Map.{lookup, set_value}
 use Rattle.std.specs.BTreeMap.{is_at}
+use Rattle.std.proofs.lemmas.Option.{same_Some, none-some}
 use Rattle.rd_dirinfo.specs.Naming.{Name}
 use Rattle.rd_locks.specs.declared.held.Held.{Held}
 use Rattle.rd_tree.specs.Places.{Places, IsLive}
@@ -17,7 +18,6 @@ use Rattle.rd_drive.specs.Uses.{uses_of}
 use Rattle.rd_drive.specs.QueryDir.{with_listing}
 use Rattle.rd_drive.specs.Relisted.{relisted, Relists}
 use Rattle.rd_drive.specs.Store.{drive_of, handle_of, kept_handle, uses_on, Handles, HasRoom, IsSound}
-use Rattle.rd_drive.proofs.StoreLemmas.{none_is_some, some_inside}
 
 abbrev use_by : kept.Handle → Use
 use_by h = use_of h.access h.share
@@ -28,7 +28,7 @@ module _ (pattern : List ℕ) (last : Option Name) (test : ℕ → Bool) (h : ke
 
   -- what doesn't look at the listing sees the same handles
   same_seen : {X : Type 0} (g : kept.Handle → X) → g now ≡ g h → (q : ℕ → Bool) (es : List (ℕ × kept.Handle)) → lookup test es ≡ Some h → option_map g (lookup q (set_value test es now)) ≡ option_map g (lookup q es)
-  same_seen g same q [] is = absurd (none_is_some h is)
+  same_seen g same q [] is = absurd (none-some h is)
   same_seen g same q (e ∷ es) is = by (λ there. same_seen g same q es there) (test e.0) is
     where
       here : e.1 ≡ h → (b : Bool) → option_map g (cond b (Some now) (lookup q es)) ≡ option_map g (cond b (Some e.1) (lookup q es))
@@ -41,11 +41,11 @@ module _ (pattern : List ℕ) (last : Option Name) (test : ℕ → Bool) (h : ke
 
       by : (lookup test es ≡ Some h → option_map g (lookup q (set_value test es now)) ≡ option_map g (lookup q es)) → (b : Bool) → cond b (Some e.1) (lookup test es) ≡ Some h
           → option_map g (lookup q (cond b ((e.0, now) ∷ es) (e ∷ set_value test es now))) ≡ option_map g (cond (q e.0) (Some e.1) (lookup q es))
-      by later true one = here (some_inside e.1 h one) (q e.0)
+      by later true one = here (same_Some e.1 h one) (q e.0)
       by later false there = rest (later there) (q e.0)
 
   same_uses : (n : ℕ) (es : List (ℕ × kept.Handle)) → lookup test es ≡ Some h → uses_on n (set_value test es now) ≡ uses_on n es
-  same_uses n [] is = absurd (none_is_some h is)
+  same_uses n [] is = absurd (none-some h is)
   same_uses n (e ∷ es) is = by (λ there. same_uses n es there) (test e.0) is
     where
       rest : uses_on n (set_value test es now) ≡ uses_on n es → (b : Bool) → cond b (use_by e.1 ∷ uses_on n (set_value test es now)) (uses_on n (set_value test es now)) ≡ cond b (use_by e.1 ∷ uses_on n es) (uses_on n es)
@@ -54,7 +54,7 @@ module _ (pattern : List ℕ) (last : Option Name) (test : ℕ → Bool) (h : ke
 
       by : (lookup test es ≡ Some h → uses_on n (set_value test es now) ≡ uses_on n es) → (b : Bool) → cond b (Some e.1) (lookup test es) ≡ Some h
           → uses_on n (cond b ((e.0, now) ∷ es) (e ∷ set_value test es now)) ≡ uses_on n (e ∷ es)
-      by later true one = ap (λ (x : kept.Handle). uses_on n ((e.0, relisted x pattern last) ∷ es)) (sym (some_inside e.1 h one))
+      by later true one = ap (λ (x : kept.Handle). uses_on n ((e.0, relisted x pattern last) ∷ es)) (sym (same_Some e.1 h one))
       by later false there = rest (later there) ((e.1).node.0 == n)
 
   same_length : (es : List (ℕ × kept.Handle)) → length (set_value test es now) ≡ length es
@@ -77,8 +77,8 @@ module _ (pattern : List ℕ) (last : Option Name) (test : ℕ → Bool) (h : ke
 
 -- what an option has, seen through a function
 through : {X Y : Type 0} (g : X → Y) (o : Option X) (y : Y) → option_map g o ≡ Some y → (x : X) × (o ≡ Some x) × (g x ≡ y)
-through g None y e = absurd (none_is_some y e)
-through g (Some x) y e = (x, refl, some_inside (g x) y e)
+through g None y e = absurd (none-some y e)
+through g (Some x) y e = (x, refl, same_Some (g x) y e)
 
 module _ (s : Store) (sound : IsSound s) (file : ℕ) (h : kept.Handle) (is : kept_handle s file ≡ Some h) (pattern : List ℕ) (last : Option Name) (handles : Handles)
     (entries : handles.entries ≡ set_value (is_at (nat_cmp file)) s.handles.entries (relisted h pattern last)) where
@@ -102,7 +102,7 @@ module _ (s : Store) (sound : IsSound s) (file : ℕ) (h : kept.Handle) (is : ke
     where
       by : (a b : Option kept.Handle) → option_map (λ (x : kept.Handle). x.node.0) a ≡ option_map (λ (x : kept.Handle). x.node.0) b → IsSome b → IsSome a
       by None None e some = some
-      by None (Some b) e some = absurd (none_is_some b.node.0 e)
+      by None (Some b) e some = absurd (none-some b.node.0 e)
       by (Some a) b e some = refl
 
   locked_still : (l : List Held) → AllByRecursion (λ (held : Held). option_map (λ (x : kept.Handle). x.node.0) (kept_handle s held.file) ≡ Some held.node) l
@@ -117,6 +117,7 @@ module _ (s : Store) (sound : IsSound s) (file : ℕ) (h : kept.Handle) (is : ke
 
   pub relisted_sound : IsSound after
   relisted_sound = record {
+    whole = sound.whole;
     naming = sound.naming;
     label = sound.label;
     states = sound.states;

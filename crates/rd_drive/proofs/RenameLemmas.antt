@@ -6,13 +6,13 @@ use Rattle.std.specs.Ordering.{nat_cmp}
 use Rattle.std.specs.HashMap.{get}
 use Rattle.std.specs.Map.{keys_of}
 use Rattle.std.specs.List.Sorted.{IsStrictlySortedBy}
+use Rattle.rd_tree.proofs.MoveLemmas.{prefix_itself}
+use Rattle.rd_drive.proofs.TellLemmas.{has_names}
 use Rattle.rd_irp.specs.declared.completion.Body.TheVariants.{Count}
-use Rattle.rd_dirinfo.specs.declared.naming.Naming.{Naming}
 use Rattle.rd_dirinfo.specs.Naming.{Name}
-use Rattle.rd_dirinfo.specs.Paths.{Names, seen_path, is_prefix, is_within_limits, last_name, parent}
+use Rattle.rd_dirinfo.specs.Paths.{Names, is_prefix, is_within_limits, last_name, parent}
 use Rattle.rd_tree.specs.declared.node.NodeId.{NodeId}
 use Rattle.rd_tree.specs.Places.{Places, place, own_path, bytes_at, asked_path, cleared, moved, IsLive, IsWhole}
-use Rattle.rd_tree.proofs.RefuseLemmas.{split_prefix}
 use Rattle.rd_drive.specs.declared.handle.Handle as kept
 use Rattle.rd_drive.specs.declared.node.NodeState.{NodeState}
 use Rattle.rd_drive.specs.declared.store.Store.{Store}
@@ -27,20 +27,16 @@ use Rattle.rd_drive.specs.Outcome.{Change, Outcome, changed, succeeded}
 use Rattle.rd_drive.specs.Rename.{renamed}
 use Rattle.rd_drive.specs.Renaming.{changed_at, kind_bit, renaming, IsAbove}
 use Rattle.rd_drive.specs.Store.{States, blank, state_of, node_with, changes_of, drive_of, kept_handle, IsSound, IsTold, Serves}
-use Rattle.rd_drive.proofs.KeptLemmas.{changed_store, drive_changed, kept_store, sound_changed}
+use Rattle.rd_drive.proofs.KeptLemmas.{changed_store, drive_changed, kept_store, sound_changed, kept_whole}
 use Rattle.rd_drive.proofs.MovedLemmas.{bytes_moved, folder_moved, left_drive, moved_drive, moved_sound, moved_store, own_moved, own_stays}
-use Rattle.rd_drive.proofs.TargetLemmas.{joined_at, own_some, parent_above}
-
--- a path is at or above itself
-prefix_own : (naming : Naming) (p : Names) → is_prefix naming p p ≡ true
-prefix_own naming p = (split_prefix naming p p [] (sym (append-nil (seen_path naming p)))).0
+use Rattle.rd_drive.proofs.TargetLemmas.{joined_at, parent_above}
 
 -- the changes after a first that there may be
 changes_on : (tree : Places) (gone : Option told.Change) (more : List (Option told.Change)) → changes_of tree (gone ∷ []) ++ changes_of tree more ≡ changes_of tree (gone ∷ more)
 changes_on tree None more = refl
 changes_on tree (Some change) more = refl
 
-module _ (s : Store) (sound : IsSound s) (whole : IsWhole s.tree) (order : IsStrictlySortedBy nat_cmp (keys_of s.handles.entries)) (node : NodeId) (live : IsLive s.tree node.0) (other : 0 ≡ node.0 → ⊥) (to : Names)
+module _ (s : Store) (sound : IsSound s) (order : IsStrictlySortedBy nat_cmp (keys_of s.handles.entries)) (node : NodeId) (live : IsLive s.tree node.0) (other : 0 ≡ node.0 → ⊥) (to : Names)
     (after : IsWhole (moved s.tree node.0 to)) (same : (k : ℕ) → IsLive (moved s.tree node.0 to) k → place (cleared s.tree node.0 to) k ≡ place s.tree k) (lives : IsLive (moved s.tree node.0 to) node.0)
     (states : States) (kept_same : (k : ℕ) → IsLive (moved s.tree node.0 to) k → get nat_eq states k ≡ get nat_eq s.states k)
     (opened : (file : ℕ) (h : kept.Handle) → kept_handle s file ≡ Some h → IsLive (moved s.tree node.0 to) h.node.0)
@@ -58,27 +54,27 @@ module _ (s : Store) (sound : IsSound s) (whole : IsWhole s.tree) (order : IsStr
   tree = moved s.tree n to
 
   abbrev mid : Store
-  mid = moved_store s sound whole n to after same states kept_same opened
+  mid = moved_store s sound n to after same states kept_same opened
 
   mid_sound : IsSound mid
-  mid_sound = moved_sound s sound whole n to after same states kept_same opened fits
+  mid_sound = moved_sound s sound n to after same states kept_same opened fits
 
   pub asked_own : own_path tree n ≡ asked
   asked_own =
-      own_moved s.tree whole n to after same n lives
-      ∙ ap (λ b. cond b (asked ++ drop (length from) from) from) (prefix_own s.tree.naming from)
+      own_moved s.tree sound.whole n to after same n lives
+      ∙ ap (λ b. cond b (asked ++ drop (length from) from) from) (prefix_itself s.tree.naming from)
       ∙ ap (λ (p : Names). asked ++ p) (drop_all (length from) from (omega arith)) ∙ append-nil asked
 
   bytes_own : bytes_at tree n ≡ bytes_at s.tree n
-  bytes_own = bytes_moved s.tree whole n to after same n lives
+  bytes_own = bytes_moved s.tree sound.whole n to after same n lives
 
   -- ---- what stands above the node stays, and what it is told by
   module _ (folder : NodeId) (above : IsAbove s.tree n folder) (stands : IsLive tree folder.0) (old : Name) (named_so : old ≡ last_name from) where
     some : from ≡ [] → ⊥
-    some = own_some s.tree whole n live other
+    some = has_names s.tree sound.whole n live other
 
     folder_stays : own_path tree folder.0 ≡ parent from
-    folder_stays = own_stays s.tree whole n to after same folder.0 stands (ap (is_prefix s.tree.naming from) above.path ∙ parent_above s.tree.naming from some) ∙ above.path
+    folder_stays = own_stays s.tree sound.whole n to after same folder.0 stands (ap (is_prefix s.tree.naming from) above.path ∙ parent_above s.tree.naming from some) ∙ above.path
 
     from_path : own_path tree folder.0 ++ old ∷ [] ≡ from
     from_path = (λ i. folder_stays i ++ named_so i ∷ []) ∙ joined_at from some
@@ -93,7 +89,7 @@ module _ (s : Store) (sound : IsSound s) (whole : IsWhole s.tree) (order : IsStr
 
       pub final_sound : IsSound final
       final_sound = subst IsSound (sym alike_final)
-          (sound_changed None mid mid_sound after n lives (bytes_at tree n) last (changed_at (state_of states n) moment) now refl (λ (z : n ≡ 0). absurd (other (sym z))))
+          (sound_changed None mid mid_sound n lives (bytes_at tree n) last (changed_at (state_of states n) moment) now (kept_whole tree after n lives) refl (λ (z : n ≡ 0). absurd (other (sym z))))
 
       node_is : node_with (changed_at (state_of states n) moment) (place_with tree n (bytes_at tree n)) ≡ record (own_node s n) { path = asked; moments = record (own_node s n).moments { change = moment } }
       node_is =
@@ -106,15 +102,15 @@ module _ (s : Store) (sound : IsSound s) (whole : IsWhole s.tree) (order : IsStr
             pending = (st i).pending;
           }
 
-      pub final_drive : drive_of final ≡ renamed (left_drive s sound whole n to after same states kept_same opened) moment (own_node s n) asked
+      pub final_drive : drive_of final ≡ renamed (left_drive s sound n to after same states kept_same opened) moment (own_node s n) asked
       final_drive =
           ap drive_of alike_final
-          ∙ drive_changed None mid mid_sound after n lives (bytes_at tree n) last (changed_at (state_of states n) moment) now
-          ∙ (λ i. with_node (moved_drive s sound whole n to after same states kept_same opened order i) (node_is i))
+          ∙ drive_changed None mid mid_sound n lives (bytes_at tree n) last (changed_at (state_of states n) moment) now
+          ∙ (λ i. with_node (moved_drive s sound n to after same states kept_same opened order i) (node_is i))
 
       -- ---- what is told
       module _ (count : ℕ) (gone : Option told.Change) (went : List Change) (heard : IfSome gone (λ (c : told.Change). IsTold tree c.named)) (tells : changes_of tree (gone ∷ []) ≡ went) (comes : Outcome)
-          (e : comes ≡ succeeded (renamed (left_drive s sound whole n to after same states kept_same opened) moment (own_node s n) asked) (Count count) (changed (went ++ renamed_from from (own_node s n) ∷ renamed_to asked (own_node s n) ∷ []))) where
+          (e : comes ≡ succeeded (renamed (left_drive s sound n to after same states kept_same opened) moment (own_node s n) asked) (Count count) (changed (went ++ renamed_from from (own_node s n) ∷ renamed_to asked (own_node s n) ∷ []))) where
         changes_are : went ++ renamed_from from (own_node s n) ∷ renamed_to asked (own_node s n) ∷ [] ≡ changes_of tree (renaming gone folder old node (kind_bit (bytes_at tree n))).changes
         changes_are =
             (λ i. sym tells i ++ record { action = 4; path = sym from_path i; bits = kind_bit (sym bytes_own i) } ∷ record { action = 5; path = sym asked_own i; bits = kind_bit (sym bytes_own i) } ∷ [])
@@ -123,7 +119,7 @@ module _ (s : Store) (sound : IsSound s) (whole : IsWhole s.tree) (order : IsStr
         serves_final : Serves s final comes (Ok (done.Replied (Count count) (renaming gone folder old node (kind_bit (bytes_at tree n)))))
         serves_final = (
           final_sound,
-          (tt, (heard, ((folder_moved s.tree whole n to after same folder.0 stands ∙ above.folds, ap is_within_limits from_path ∙ sound.fitting n live), (lives, tt)))),
+          (tt, (heard, ((folder_moved s.tree sound.whole n to after same folder.0 stands ∙ above.folds, ap is_within_limits from_path ∙ sound.fitting n live), (lives, tt)))),
           e ∙ (λ i. succeeded (sym final_drive i) (Count count) (changed (changes_are i))),
         )
 

@@ -10,7 +10,7 @@ use Rattle.rd_drive.specs.declared.news.Change as told
 use Rattle.rd_drive.specs.declared.news.News as told_news
 use Rattle.rd_drive.specs.Outcome.{Outcome, changed, no_news, refused, succeeded}
 use Rattle.rd_drive.specs.Locking.{unlocking}
-use Rattle.rd_drive.specs.Statuses.{no_memory}
+use Rattle.rd_base.specs.Statuses.{no_memory}
 use Rattle.rd_drive.specs.Store.{about, about_locks, change_of, drive_of, nothing, IsSound, IsTold, Serves}
 
 module _ (old new : Store) (comes : Outcome) (body : Body) (news : told_news.News) (sound : IsSound new) where

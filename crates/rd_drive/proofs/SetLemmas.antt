@@ -2,6 +2,7 @@
 use Rattle.std.proofs.Common.{◌≡◌, ◌∙◌, refl, sym, ap, subst, ℕ, suc, ◌==◌, Bool, true, false, not, ◌||◌, cond, List, [], ◌∷◌, length, Option, Some, None, Result, Ok, Err, OnOk, IfErr, IsTrue, arith}
 use Rattle.std.specs.Option.{option_map, unwrap_or, is_some}
 use Rattle.std.proofs.lemmas.Bool.Decides.{nat_tests}
+use Rattle.std.proofs.lemmas.Bool.{eqb-true, cond-false}
 use Rattle.rd_base.specs.declared.bad.Bad.{Bad}
 use Rattle.rd_base.specs.declared.bad.InfoNo.TheVariants as no
 use Rattle.rd_base.specs.declared.status.Status.{Status}
@@ -18,13 +19,12 @@ use Rattle.rd_fileinfo.specs.declared.set_info.SetInfo.TheVariants as set
 use Rattle.rd_fileinfo.specs.SetInfo.{set_class, set_classes, basic_set, rename_set, disposition_set, allocation_set, end_of_file_set, SpellsSetInfo}
 use Rattle.rd_drive.specs.declared.step.Step.TheVariants as step
 use Rattle.rd_drive.specs.DriveState as drive
-use Rattle.rd_drive.specs.DriveState.{DriveState, Node, is_folder}
+use Rattle.rd_drive.specs.DriveState.{DriveState, Node, is_folder_node}
 use Rattle.rd_drive.specs.Access.{writes, deletes}
-use Rattle.rd_drive.specs.Outcome.{Outcome, answered, fault, no_news, checked, given}
+use Rattle.rd_drive.specs.Outcome.{Outcome, outcome_with_reply, fault, no_news, checked, given}
 use Rattle.rd_drive.specs.SetFile.{set_checks, set_info_of, value_read}
-use Rattle.rd_drive.specs.Statuses.{invalid_info_class, access_denied, invalid_device_request}
+use Rattle.rd_base.specs.Statuses.{invalid_info_class, access_denied, invalid_device_request}
 use Rattle.rd_drive.specs.Kept.{set_gate, MaySet, MayNotSet}
-use Rattle.rd_drive.proofs.KeptLemmas.{equal_numbers}
 use Rattle.rd_drive.proofs.CheckLemmas.{check_applies, check_passed, checks_done, given_some, given_none}
 
 -- no refusal
@@ -52,7 +52,7 @@ root_alone tree whole n live = by (n == 0) refl
     other apart false e = e
 
     by : (b : Bool) → (n == 0) ≡ b → (length (own_path tree n) == 0) ≡ b
-    by true e = ap (λ (k : ℕ). length (own_path tree k) == 0) (equal_numbers n 0 e) ∙ ap (λ (p : Names). length p == 0) root
+    by true e = ap (λ (k : ℕ). length (own_path tree k) == 0) (eqb-true n 0 e) ∙ ap (λ (p : Names). length p == 0) root
     by false e = other (λ is. absurd (let both : true ≡ false = sym (ap (λ (k : ℕ). k == 0) is) ∙ e in cc)) (length (own_path tree n) == 0) refl
 
 -- ---- the checks of a class
@@ -88,7 +88,7 @@ module _ (s : DriveState) (handle : drive.Handle) (node : Node) (class : ℕ) wh
   parked : Outcome
   parked = record { state = s; answer = step.Parked; news = no_news }
 
-  not_parked : (reply : Reply) → answered s reply ≡ parked → ⊥
+  not_parked : (reply : Reply) → outcome_with_reply s reply ≡ parked → ⊥
   unfolding parked
   not_parked reply e = let same : step.Reply reply ≡ step.Parked = ap (λ (o : Outcome). o.answer) e in absurd (cc)
 
@@ -102,11 +102,11 @@ module _ (s : DriveState) (handle : drive.Handle) (node : Node) (class : ℕ) wh
 
 module _ (s : DriveState) (handle : drive.Handle) (node : Node) where
   -- the bytes that may be set are a file's
-  pub allocation_of_file : (class : ℕ) → class ≡ 0x13 → MaySet s handle node class → is_folder node ≡ false
-  allocation_of_file class e may = passed s handle node class (is_folder node) (fault invalid_device_request) ((not (writes handle.access), fault access_denied) ∷ []) (ap (set_checks handle node) e) may
+  pub allocation_of_file : (class : ℕ) → class ≡ 0x13 → MaySet s handle node class → is_folder_node node ≡ false
+  allocation_of_file class e may = passed s handle node class (is_folder_node node) (fault invalid_device_request) ((not (writes handle.access), fault access_denied) ∷ []) (ap (set_checks handle node) e) may
 
-  pub end_of_file_of_file : (class : ℕ) → class ≡ 0x14 → MaySet s handle node class → is_folder node ≡ false
-  end_of_file_of_file class e may = passed s handle node class (is_folder node) (fault invalid_device_request) ((not (writes handle.access), fault access_denied) ∷ []) (ap (set_checks handle node) e) may
+  pub end_of_file_of_file : (class : ℕ) → class ≡ 0x14 → MaySet s handle node class → is_folder_node node ≡ false
+  end_of_file_of_file class e may = passed s handle node class (is_folder_node node) (fault invalid_device_request) ((not (writes handle.access), fault access_denied) ∷ []) (ap (set_checks handle node) e) may
 
   second_false : (a b : Bool) → (a || b) ≡ false → b ≡ false
   second_false true b e = absurd (cc)
@@ -119,12 +119,8 @@ module _ (s : DriveState) (handle : drive.Handle) (node : Node) where
   pub mark_of_other : (class : ℕ) → class ≡ 0x0d → MaySet s handle node class → (length node.path == 0) ≡ false
   mark_of_other class e may = second_false (not (deletes handle.access)) (length node.path == 0) (passed s handle node class (not (deletes handle.access) || length node.path == 0) (fault access_denied) [] (ap (set_checks handle node) e) may)
 
--- a class that isn't one of the five has no checks
-past : {X : Type 0} (b : Bool) (x y : X) → b ≡ false → cond b x y ≡ y
-past b x y e = ap (λ t. cond t x y) e
-
 pub no_checks : (handle : drive.Handle) (node : Node) (class : ℕ) → (class == 4) ≡ false → (class == 0x0a) ≡ false → (class == 0x0d) ≡ false → (class == 0x13) ≡ false → (class == 0x14) ≡ false → set_checks handle node class ≡ None
-no_checks handle node class a b c d e = past (class == 4) _ _ a ∙ past (class == 0x0a) _ _ b ∙ past (class == 0x0d) _ _ c ∙ past (class == 0x13) _ _ d ∙ past (class == 0x14) _ _ e
+no_checks handle node class a b c d e = cond-false (class == 4) _ _ a ∙ cond-false (class == 0x0a) _ _ b ∙ cond-false (class == 0x0d) _ _ c ∙ cond-false (class == 0x13) _ _ d ∙ cond-false (class == 0x14) _ _ e
 
 -- ---- the value of a buffer
 pub info_spelled : (class : ℕ) (info : SetInfo) (tail : ℕ) (buffer : List ℕ) → SpellsSetInfo class info tail buffer → set_info_of class buffer ≡ Some info
@@ -178,7 +174,7 @@ of_first : (number class : ℕ) (l : Layout SetInfo) (others : Choice SetInfo) (
 of_first number class l others info tail buffer first rest = by (class == number) refl
   where
     by : (b : Bool) → (class == number) ≡ b → SpellsChoice (choose_class b (listed l) others) info tail buffer → class ≡ set_class info
-    by true e t = equal_numbers class number e ∙ sym (first t.0 t.1 t.4)
+    by true e t = eqb-true class number e ∙ sym (first t.0 t.1 t.4)
     by false e t = rest t
 
 -- a value is spelled by its own class alone

@@ -17,30 +17,18 @@ use Rattle.rd_drive.specs.declared.node.NodeState.{NodeState}
 use Rattle.rd_drive.specs.declared.handle.Handle as open_file
 use Rattle.rd_drive.specs.declared.store.Store.{Store}
 use Rattle.rd_drive.specs.declared.store.Done.{Done}
-use Rattle.rd_drive.specs.DriveState.{Node, with_node, is_folder, has_children}
+use Rattle.rd_drive.specs.DriveState.{Node, with_node, is_folder_node, has_children}
 use Rattle.rd_drive.specs.Access.{is_readonly}
 use Rattle.rd_drive.specs.Changes.{marked, modified}
 use Rattle.rd_drive.specs.Outcome.{Outcome, refused, succeeded, changed, no_news, given, on_handle}
-use Rattle.rd_drive.specs.SetFile.{set_file, set_info_of, set_moments, set_pending, set_end, sets}
-use Rattle.rd_drive.specs.Statuses.{access_denied, directory_not_empty, disk_full, invalid_parameter}
+use Rattle.rd_drive.specs.SetFile.{set_file, set_info_of, set_moments, set_pending, set_end, set_outcome}
+use Rattle.rd_base.specs.Statuses.{access_denied, directory_not_empty, disk_full, invalid_parameter}
 use Rattle.rd_drive.specs.Store.{state_of, node_with, node_of, handle_of, drive_of, kept_handle, IsSound, Serves}
 use Rattle.rd_drive.specs.Kept.{own_node, place_with, set_gate, written_at, MaySet, MayNotSet}
 use Rattle.rd_drive.proofs.CheckLemmas.{check_applies, check_passed, checks_done, given_some, given_none}
 use Rattle.rd_drive.proofs.OrderLemmas.{order_any}
 use Rattle.rd_drive.proofs.KeptLemmas.{on_own}
 use Rattle.rd_drive.proofs.SetLemmas.{info_spelled, root_alone}
-
--- whether a node is a folder, by its end
-pub folder_is : (r : Option ℕ) (o : Option (List ℕ)) (b : Bool) → r ≡ option_map (length {A = ℕ}) o → is_some r ≡ not b → b ≡ not (is_some o)
-folder_is r o b e f = not_back b (is_some o) (sym f ∙ ap is_some e ∙ mapped o)
-  where
-    mapped : (o : Option (List ℕ)) → is_some (option_map (length {A = ℕ}) o) ≡ is_some o
-    mapped None = refl
-    mapped (Some b) = refl
-
-    not_back : (b c : Bool) → not b ≡ c → b ≡ not c
-    not_back true c e = ap not e
-    not_back false c e = ap not e
 
 module _ (s : Store) (n count : ℕ) where
   -- ---- moments and attributes
@@ -51,7 +39,7 @@ module _ (s : Store) (n count : ℕ) where
     moments = set_moments (state_of s.states n).moments moments moment;
   }
 
-  pub basic_done : (moments : Moments) (attributes moment : ℕ) → sets (drive_of s) moment count (own_node s n) (set.Basic moments attributes)
+  pub basic_done : (moments : Moments) (attributes moment : ℕ) → set_outcome (drive_of s) moment count (own_node s n) (set.Basic moments attributes)
       ≡ succeeded (with_node (drive_of s) (node_with (basic_state moments attributes moment) (place_with s.tree n (bytes_at s.tree n)))) (Count count) (changed (marked (own_path s.tree n) ∷ []))
   basic_done moments attributes moment = refl
 
@@ -70,7 +58,7 @@ module _ (s : Store) (n count : ℕ) where
     pub mark_readonly : is_readonly (own_node s n) ≡ true → set_pending (drive_of s) count (own_node s n) true ≡ refused (drive_of s) access_denied
     mark_readonly is = check_applies (drive_of s) _ _ _ is
 
-    pub mark_full : is_readonly (own_node s n) ≡ false → is_folder (own_node s n) ≡ true → has_child s.tree n ≡ true → set_pending (drive_of s) count (own_node s n) true ≡ refused (drive_of s) directory_not_empty
+    pub mark_full : is_readonly (own_node s n) ≡ false → is_folder_node (own_node s n) ≡ true → has_child s.tree n ≡ true → set_pending (drive_of s) count (own_node s n) true ≡ refused (drive_of s) directory_not_empty
     mark_full writable folder full =
         check_passed (drive_of s) _ _ _ writable
         ∙ check_applies (drive_of s) _ _ _ (ap (λ b. b && has_children (drive_of s) (own_path s.tree n)) folder ∙ children_seen naming ∙ full)
@@ -85,13 +73,13 @@ module _ (s : Store) (n count : ℕ) where
     pub mark_cleared : (pending : Bool) → pending ≡ false → set_pending (drive_of s) count (own_node s n) pending ≡ mark_made pending
     mark_cleared pending none =
         check_passed (drive_of s) _ _ _ (ap (λ b. b && is_readonly (own_node s n)) none)
-        ∙ check_passed (drive_of s) _ _ _ (ap (λ b. (b && is_folder (own_node s n)) && has_children (drive_of s) (own_path s.tree n)) none)
+        ∙ check_passed (drive_of s) _ _ _ (ap (λ b. (b && is_folder_node (own_node s n)) && has_children (drive_of s) (own_path s.tree n)) none)
         ∙ checks_done (drive_of s) _
 
-    pub mark_set : (pending : Bool) → pending ≡ true → is_readonly (own_node s n) ≡ false → (is_folder (own_node s n) && has_child s.tree n) ≡ false → set_pending (drive_of s) count (own_node s n) pending ≡ mark_made pending
+    pub mark_set : (pending : Bool) → pending ≡ true → is_readonly (own_node s n) ≡ false → (is_folder_node (own_node s n) && has_child s.tree n) ≡ false → set_pending (drive_of s) count (own_node s n) pending ≡ mark_made pending
     mark_set pending some writable empty =
         check_passed (drive_of s) _ _ _ (ap (λ b. b && is_readonly (own_node s n)) some ∙ writable)
-        ∙ check_passed (drive_of s) _ _ _ (ap (λ b. (b && is_folder (own_node s n)) && has_children (drive_of s) (own_path s.tree n)) some ∙ ap (λ b. is_folder (own_node s n) && b) (children_seen naming) ∙ empty)
+        ∙ check_passed (drive_of s) _ _ _ (ap (λ b. (b && is_folder_node (own_node s n)) && has_children (drive_of s) (own_path s.tree n)) some ∙ ap (λ b. is_folder_node (own_node s n) && b) (children_seen naming) ∙ empty)
         ∙ checks_done (drive_of s) _
 
   -- ---- the end
@@ -106,28 +94,28 @@ module _ (s : Store) (n count : ℕ) where
         ∙ ap (λ (o : Option (List ℕ)). succeeded (with_node (drive_of s) (node_with (written_at (state_of s.states n) moment) (place_with s.tree n (Some (resized (unwrap_or o []) end))))) (Count count) (changed (modified (own_path s.tree n) ∷ []))) some
 
 -- ---- the operation, from the class that may be set on
-module _ (s : Store) (sound : IsSound s) (whole : IsWhole s.tree) (file : ℕ) (h : open_file.Handle) (is : kept_handle s file ≡ Some h) (moment class : ℕ) (buffer : List ℕ) where
+module _ (s : Store) (sound : IsSound s) (file : ℕ) (h : open_file.Handle) (is : kept_handle s file ≡ Some h) (moment class : ℕ) (buffer : List ℕ) where
   abbrev pub comes : Outcome
   comes = on_handle (drive_of s) file (set_file (drive_of s) moment class buffer)
 
   abbrev setting : Option SetInfo → Outcome
-  setting o = given (drive_of s) o invalid_parameter (sets (drive_of s) moment (length buffer) (own_node s h.node.0))
+  setting o = given (drive_of s) o invalid_parameter (set_outcome (drive_of s) moment (length buffer) (own_node s h.node.0))
 
   goes : comes ≡ set_gate (drive_of s) (handle_of s.tree h) (own_node s h.node.0) class (setting (set_info_of class buffer))
-  goes = on_own s sound whole file h is (set_file (drive_of s) moment class buffer)
+  goes = on_own s sound file h is (set_file (drive_of s) moment class buffer)
 
   pub set_refused : (status : Status) → MayNotSet (drive_of s) (handle_of s.tree h) (own_node s h.node.0) class status → comes ≡ refused (drive_of s) status
   set_refused status may_not = goes ∙ may_not (setting (set_info_of class buffer))
 
   module _ (may : MaySet (drive_of s) (handle_of s.tree h) (own_node s h.node.0) class) where
     pub set_wrong : set_info_of class buffer ≡ None → comes ≡ refused (drive_of s) invalid_parameter
-    set_wrong e = goes ∙ may (setting (set_info_of class buffer)) ∙ ap setting e ∙ given_none (drive_of s) {X = SetInfo} invalid_parameter (sets (drive_of s) moment (length buffer) (own_node s h.node.0))
+    set_wrong e = goes ∙ may (setting (set_info_of class buffer)) ∙ ap setting e ∙ given_none (drive_of s) {X = SetInfo} invalid_parameter (set_outcome (drive_of s) moment (length buffer) (own_node s h.node.0))
 
-    pub set_right : (info : SetInfo) → set_info_of class buffer ≡ Some info → comes ≡ sets (drive_of s) moment (length buffer) (own_node s h.node.0) info
-    set_right info e = goes ∙ may (setting (set_info_of class buffer)) ∙ ap setting e ∙ given_some (drive_of s) info invalid_parameter (sets (drive_of s) moment (length buffer) (own_node s h.node.0))
+    pub set_right : (info : SetInfo) → set_info_of class buffer ≡ Some info → comes ≡ set_outcome (drive_of s) moment (length buffer) (own_node s h.node.0) info
+    set_right info e = goes ∙ may (setting (set_info_of class buffer)) ∙ ap setting e ∙ given_some (drive_of s) info invalid_parameter (set_outcome (drive_of s) moment (length buffer) (own_node s h.node.0))
 
     -- what serves the value serves the operation
-    pub set_serves : (info : SetInfo) (tail : ℕ) → SpellsSetInfo class info tail buffer → (new : Store) (result : Result Done Status) → Serves s new (sets (drive_of s) moment (length buffer) (own_node s h.node.0) info) result → Serves s new comes result
+    pub set_serves : (info : SetInfo) (tail : ℕ) → SpellsSetInfo class info tail buffer → (new : Store) (result : Result Done Status) → Serves s new (set_outcome (drive_of s) moment (length buffer) (own_node s h.node.0) info) result → Serves s new comes result
     set_serves info tail spelled new result done = subst (λ (o : Outcome). Serves s new o result) (sym (set_right info (info_spelled class info tail buffer spelled))) done
 
 pub not_root : (tree : Places) → IsWhole tree → (n : ℕ) → IsLive tree n → (length (own_path tree n) == 0) ≡ false → 0 ≡ n → ⊥

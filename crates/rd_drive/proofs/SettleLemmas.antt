@@ -5,6 +5,8 @@ use Rattle.std.specs.Option.{option_map, option_map_or, unwrap_or, is_some, IsSo
 use Rattle.std.proofs.lemmas.List.{map-append, length-take-le, take_all, length-drop}
 use Rattle.std.proofs.lemmas.List.Sums.{sum_by-remove}
 use Rattle.std.proofs.Math.Seq.{drop-cons, take-suc, take-append_seam, drop-append_seam}
+use Rattle.std.proofs.lemmas.Bool.{eqb-true, eq-eqb}
+use Rattle.std.proofs.Math.Bool.{and-false}
 use Rattle.rd_irp.specs.declared.op.Range.{Range}
 use Rattle.rd_irp.specs.declared.completion.Reply.{Reply}
 use Rattle.rd_irp.specs.declared.completion.Body.TheVariants.{Buffer, Locked}
@@ -13,7 +15,7 @@ use Rattle.rd_locks.specs.declared.held.Held.{Held}
 use Rattle.rd_locks.specs.Locks as held
 use Rattle.rd_locks.specs.Locks.{LockList, conflict}
 use Rattle.rd_tree.specs.declared.node.NodeId.{NodeId}
-use Rattle.rd_tree.specs.Places.{own_path, IsLive, IsWhole}
+use Rattle.rd_tree.specs.Places.{own_path, IsLive}
 use Rattle.rd_tree.proofs.WayLemmas.{same_true}
 use Rattle.rd_drive.specs.declared.handle.Handle as kept
 use Rattle.rd_drive.specs.declared.waiting.Wish.{Wish}
@@ -26,14 +28,14 @@ use Rattle.rd_drive.specs.DriveState as drive
 use Rattle.rd_drive.specs.DriveState.{DriveState, open_path}
 use Rattle.rd_drive.specs.Outcome as outcome
 use Rattle.rd_drive.specs.Outcome.{done}
-use Rattle.rd_drive.specs.Locking.{conflicts, locks_on, wanted_locks, with_locks}
+use Rattle.rd_drive.specs.Locking.{asked_locks, conflicts, locks_on, with_locks}
 use Rattle.rd_drive.specs.Stepped.{Settled}
 use Rattle.rd_drive.specs.Waiting.{change_bytes, closing_reply, ends_with, is_told, is_tried, settles, settles_open, waits_on}
-use Rattle.rd_drive.specs.Settling.{is_closed_file, settled_from, settled_to, IsHalfway, Settles}
+use Rattle.rd_drive.specs.Settling.{is_closed_file, settled_from, settled_to, IsHalfway, SettlesAt}
 use Rattle.rd_drive.specs.Telling.{tells}
-use Rattle.rd_drive.specs.Store.{changes_of, drive_of, kept_handle, lock_of, news_of, ranges_of, waiting_of, wish_of, HasRoom, IsSound}
+use Rattle.rd_drive.specs.Store.{changes_of, drive_of, kept_handle, lock_of, news_of, wish_ranges, waiting_of, wish_of, HasRoom, IsSound}
 use Rattle.rd_drive.proofs.AllLemmas.{all_append, all_at, all_both, all_drop, all_take}
-use Rattle.rd_drive.proofs.LockLemmas.{alike, equal_numbers, lock_path, same_number}
+use Rattle.rd_drive.proofs.LockLemmas.{alike, lock_path}
 use Rattle.rd_drive.proofs.ConflictLemmas.{IsHome, wanted_seen}
 use Rattle.rd_drive.proofs.LockingLemmas.{blocked_seen, more_homes}
 
@@ -62,18 +64,18 @@ module _ (s : Store) (news : told_news.News) (at : ℕ) (half : IsHalfway s news
   pub has_handle : is_closed_file news.closed w.file ≡ false → IsSome (kept_handle s w.file)
   has_handle = (all_at (λ (v : kept_waiting.Waiting). (is_closed_file news.closed v.file ≡ false → IsSome (kept_handle s v.file)) × HasRoom v.wish) at ws (drop (suc at) ws) w front half.sound.waits).0
 
-  summed : sum_by (λ (v : kept_waiting.Waiting). ranges_of v.wish) (remove ws at) + ranges_of w.wish ≡ s.locks.reserved
+  summed : sum_by (λ (v : kept_waiting.Waiting). wish_ranges v.wish) (remove ws at) + wish_ranges w.wish ≡ s.locks.reserved
   summed =
-      ap (λ (v : kept_waiting.Waiting). sum_by (λ (u : kept_waiting.Waiting). ranges_of u.wish) (remove ws at) + ranges_of v.wish) next
-      ∙ sum_by-remove (λ (v : kept_waiting.Waiting). ranges_of v.wish) ws at w within ∙ sym half.sound.reserved
+      ap (λ (v : kept_waiting.Waiting). sum_by (λ (u : kept_waiting.Waiting). wish_ranges u.wish) (remove ws at) + wish_ranges v.wish) next
+      ∙ sum_by-remove (λ (v : kept_waiting.Waiting). wish_ranges v.wish) ws at w within ∙ sym half.sound.reserved
 
   -- its places are reserved
-  pub reserved_enough : ranges_of w.wish ≤ s.locks.reserved
+  pub reserved_enough : wish_ranges w.wish ≤ s.locks.reserved
   reserved_enough = omega (arith, summed)
 
   -- ---- it waits on
 
-  pub goes_on : is_closed_file news.closed w.file ≡ false → ((ends : List End) → settles told (settled_to s at ends) (waiting_of w) ≡ waits_on (settled_to s at ends) (waiting_of w)) → Settles s s news at None
+  pub goes_on : is_closed_file news.closed w.file ≡ false → ((ends : List End) → settles told (settled_to s at ends) (waiting_of w) ≡ waits_on (settled_to s at ends) (waiting_of w)) → SettlesAt s s news at None
   goes_on stays on = (
     refl,
     record {
@@ -105,12 +107,13 @@ module _ (s : Store) (news : told_news.News) (at : ℕ) (half : IsHalfway s news
     fewer : length v.items + 1 ≡ length ws
     fewer = omega (arith, ap length items, length-append (take at ws) (drop (suc at) ws), long, length-drop (suc at) ws)
 
-    pub goes_out : locks.reserved ≡ s.locks.reserved - ranges_of w.wish → AllByRecursion (IsHome s) locks.locks → (end : End)
+    pub goes_out : locks.reserved ≡ s.locks.reserved - wish_ranges w.wish → AllByRecursion (IsHome s) locks.locks → (end : End)
         → ((ends : List End) → settles told (settled_to s at ends) (waiting_of w) ≡ record { state = record (drive_of s) { locks = map lock_of locks.locks; waiting = map waiting_of (take at ws) }; ends = ends ++ end ∷ [] })
-        → Settles s after news at (Some end)
+        → SettlesAt s after news at (Some end)
     goes_out left homes end out = (
       record {
         sound = record {
+          whole = half.sound.whole;
           naming = half.sound.naming;
           label = half.sound.label;
           states = half.sound.states;
@@ -121,7 +124,7 @@ module _ (s : Store) (news : told_news.News) (at : ℕ) (half : IsHalfway s news
           locked = homes;
           waits = subst (AllByRecursion (λ (u : kept_waiting.Waiting). (is_closed_file news.closed u.file ≡ false → IsSome (kept_handle s u.file)) × HasRoom u.wish)) (sym items)
               (all_append _ (take at ws) (drop (suc at) ws) (all_take _ at ws half.sound.waits) (all_drop _ (suc at) ws half.sound.waits));
-          reserved = left ∙ less ∙ ap (sum_by (λ (u : kept_waiting.Waiting). ranges_of u.wish)) (sym items);
+          reserved = left ∙ less ∙ ap (sum_by (λ (u : kept_waiting.Waiting). wish_ranges u.wish)) (sym items);
           few = (half.sound.few.0, omega (arith, fewer, half.sound.few.1), omega (arith, room, half.sound.few.2));
           ids = half.sound.ids;
         };
@@ -135,7 +138,7 @@ module _ (s : Store) (news : told_news.News) (at : ℕ) (half : IsHalfway s news
           ∙ sym (goes ends),
     )
       where
-        less : s.locks.reserved - ranges_of w.wish ≡ sum_by (λ (u : kept_waiting.Waiting). ranges_of u.wish) (remove ws at)
+        less : s.locks.reserved - wish_ranges w.wish ≡ sum_by (λ (u : kept_waiting.Waiting). wish_ranges u.wish) (remove ws at)
         less = omega (arith, summed)
 
   -- ---- its file id was closed
@@ -143,8 +146,8 @@ module _ (s : Store) (news : told_news.News) (at : ℕ) (half : IsHalfway s news
   closed_ends : is_closed_file news.closed w.file ≡ true → (ends : List End) → settles told (settled_to s at ends) (waiting_of w) ≡ ends_with (settled_to s at ends) (settled_to s at ends).state (waiting_of w) (closing_reply (wish_of w.wish))
   closed_ends closed ends = ap (λ b. cond b (ends_with (settled_to s at ends) (settled_to s at ends).state (waiting_of w) (closing_reply (wish_of w.wish))) (settles_open told (settled_to s at ends) (waiting_of w) (unwrap_or (open_path (drive_of s) w.file) []) (wish_of w.wish))) closed
 
-  pub settles_closed : is_closed_file news.closed w.file ≡ true → (locks : LockList) → locks ≡ record s.locks { reserved = s.locks.reserved - ranges_of w.wish } → (v : Vec kept_waiting.Waiting Global) → v.items ≡ remove ws at → vec_capacity v ≡ vec_capacity s.waiting
-      → (reply : Reply) → reply ≡ closing_reply (wish_of w.wish) → Settles s (record s { locks = locks; waiting = v }) news at (Some (record { key = w.key; reply = reply }))
+  pub settles_closed : is_closed_file news.closed w.file ≡ true → (locks : LockList) → locks ≡ record s.locks { reserved = s.locks.reserved - wish_ranges w.wish } → (v : Vec kept_waiting.Waiting Global) → v.items ≡ remove ws at → vec_capacity v ≡ vec_capacity s.waiting
+      → (reply : Reply) → reply ≡ closing_reply (wish_of w.wish) → SettlesAt s (record s { locks = locks; waiting = v }) news at (Some (record { key = w.key; reply = reply }))
   settles_closed closed locks given v items room reply is =
       goes_out locks v items room (ap (λ (l : LockList). l.reserved) given) (subst (λ (l : LockList). AllByRecursion (IsHome s) l.locks) (sym given) half.sound.locked) (record { key = w.key; reply = reply })
       (λ ends. closed_ends closed ends
@@ -152,9 +155,9 @@ module _ (s : Store) (news : told_news.News) (at : ℕ) (half : IsHalfway s news
 
   -- ---- its file id is open
 
-  module _ (stays : is_closed_file news.closed w.file ≡ false) (whole : IsWhole s.tree) (n : ℕ) (live : IsLive s.tree n) (opened : option_map (λ (h : kept.Handle). h.node.0) (kept_handle s w.file) ≡ Some n) where
+  module _ (stays : is_closed_file news.closed w.file ≡ false) (n : ℕ) (live : IsLive s.tree n) (opened : option_map (λ (h : kept.Handle). h.node.0) (kept_handle s w.file) ≡ Some n) where
     path_is : open_path (drive_of s) w.file ≡ Some (own_path s.tree n)
-    path_is = lock_path s half.sound whole n live (record { node = n; file = w.file; exclusive = false; range = record { offset = 0; length = 0 } }) opened
+    path_is = lock_path s half.sound n live (record { node = n; file = w.file; exclusive = false; range = record { offset = 0; length = 0 } }) opened
 
     open_goes : (wish : Wish) → w.wish ≡ wish → (ends : List End) → settles told (settled_to s at ends) (waiting_of w) ≡ settles_open told (settled_to s at ends) (waiting_of w) (own_path s.tree n) (wish_of wish)
     open_goes wish is ends =
@@ -171,48 +174,44 @@ module _ (s : Store) (news : told_news.News) (at : ℕ) (half : IsHalfway s news
         by (Some node) heard =
             ap (λ naming. is_same_path naming (own_path s.tree node.0) (own_path s.tree n)) (sym half.sound.naming)
             ∙ alike (is_same_path s.tree.naming (own_path s.tree node.0) (own_path s.tree n)) (node.0 == n)
-            (λ e. same_number node.0 n (whole.apart node.0 n heard live e))
-            (λ e. ap (λ (m : ℕ). is_same_path s.tree.naming (own_path s.tree m) (own_path s.tree n)) (equal_numbers node.0 n e) ∙ same_true s.tree.naming (own_path s.tree n) (own_path s.tree n) refl)
+            (λ e. eq-eqb node.0 n (half.sound.whole.apart node.0 n heard live e))
+            (λ e. ap (λ (m : ℕ). is_same_path s.tree.naming (own_path s.tree m) (own_path s.tree n)) (eqb-true node.0 n e) ∙ same_true s.tree.naming (own_path s.tree n) (own_path s.tree n) refl)
 
     module _ (exclusive : Bool) (ranges : List Range) (wish : w.wish ≡ kept_wish.Ranges exclusive ranges) where
       abbrev held_wanted : List Held
       held_wanted = held.wanted_locks n w.file exclusive ranges
 
-      blocked : (ends : List End) → conflicts (locks_on (settled_to s at ends).state (own_path s.tree n)) (wanted_locks w.file exclusive ranges) ≡ is_some (conflict s.locks.locks held_wanted)
-      blocked ends = blocked_seen s half.sound whole n live w.file exclusive ranges
+      blocked : (ends : List End) → conflicts (locks_on (settled_to s at ends).state (own_path s.tree n)) (asked_locks w.file exclusive ranges) ≡ is_some (conflict s.locks.locks held_wanted)
+      blocked ends = blocked_seen s half.sound n live w.file exclusive ranges
 
-      pub settles_untried : option_map_or (λ (other : NodeId). other.0 == n) news.unlocked false ≡ false → Settles s s news at None
+      pub settles_untried : option_map_or (λ (other : NodeId). other.0 == n) news.unlocked false ≡ false → SettlesAt s s news at None
       settles_untried untried =
           goes_on stays (λ ends. open_goes (kept_wish.Ranges exclusive ranges) wish ends
-          ∙ ap (λ b. cond (b && not (conflicts (locks_on (settled_to s at ends).state (own_path s.tree n)) (wanted_locks w.file exclusive ranges)))
-          (ends_with (settled_to s at ends) (with_locks (settled_to s at ends).state (wanted_locks w.file exclusive ranges)) (waiting_of w) (done Locked)) (waits_on (settled_to s at ends) (waiting_of w))) (tried_seen ∙ untried))
+          ∙ ap (λ b. cond (b && not (conflicts (locks_on (settled_to s at ends).state (own_path s.tree n)) (asked_locks w.file exclusive ranges)))
+          (ends_with (settled_to s at ends) (with_locks (settled_to s at ends).state (asked_locks w.file exclusive ranges)) (waiting_of w) (done Locked)) (waits_on (settled_to s at ends) (waiting_of w))) (tried_seen ∙ untried))
 
-      pub settles_blocked : (lock : Held) → conflict s.locks.locks held_wanted ≡ Some lock → Settles s s news at None
+      pub settles_blocked : (lock : Held) → conflict s.locks.locks held_wanted ≡ Some lock → SettlesAt s s news at None
       settles_blocked lock way =
           goes_on stays (λ ends. open_goes (kept_wish.Ranges exclusive ranges) wish ends
           ∙ ap (λ b. cond (is_tried (drive_of s) told (own_path s.tree n) && not b)
-          (ends_with (settled_to s at ends) (with_locks (settled_to s at ends).state (wanted_locks w.file exclusive ranges)) (waiting_of w) (done Locked)) (waits_on (settled_to s at ends) (waiting_of w))) (blocked ends ∙ ap is_some way)
-          ∙ ap (λ b. cond b (ends_with (settled_to s at ends) (with_locks (settled_to s at ends).state (wanted_locks w.file exclusive ranges)) (waiting_of w) (done Locked)) (waits_on (settled_to s at ends) (waiting_of w)))
-          (none (is_tried (drive_of s) told (own_path s.tree n))))
-        where
-          none : (b : Bool) → (b && false) ≡ false
-          none true = refl
-          none false = refl
+          (ends_with (settled_to s at ends) (with_locks (settled_to s at ends).state (asked_locks w.file exclusive ranges)) (waiting_of w) (done Locked)) (waits_on (settled_to s at ends) (waiting_of w))) (blocked ends ∙ ap is_some way)
+          ∙ ap (λ b. cond b (ends_with (settled_to s at ends) (with_locks (settled_to s at ends).state (asked_locks w.file exclusive ranges)) (waiting_of w) (done Locked)) (waits_on (settled_to s at ends) (waiting_of w)))
+          (and-false (is_tried (drive_of s) told (own_path s.tree n))))
 
       pub settles_granted : option_map_or (λ (other : NodeId). other.0 == n) news.unlocked false ≡ true → conflict s.locks.locks held_wanted ≡ None
           → (locks : LockList) → locks ≡ record { locks = s.locks.locks ++ held_wanted; reserved = s.locks.reserved - length ranges }
           → (v : Vec kept_waiting.Waiting Global) → v.items ≡ remove ws at → vec_capacity v ≡ vec_capacity s.waiting
-          → (reply : Reply) → reply ≡ done Locked → Settles s (record s { locks = locks; waiting = v }) news at (Some (record { key = w.key; reply = reply }))
+          → (reply : Reply) → reply ≡ done Locked → SettlesAt s (record s { locks = locks; waiting = v }) news at (Some (record { key = w.key; reply = reply }))
       settles_granted yes_tried free locks given v items room reply is =
-          goes_out locks v items room (ap (λ (l : LockList). l.reserved) given ∙ ap (λ (o : Wish). s.locks.reserved - ranges_of o) (sym wish))
+          goes_out locks v items room (ap (λ (l : LockList). l.reserved) given ∙ ap (λ (o : Wish). s.locks.reserved - wish_ranges o) (sym wish))
           (subst (λ (l : LockList). AllByRecursion (IsHome s) l.locks) (sym given) (more_homes s n w.file exclusive ranges opened s.locks.locks half.sound.locked))
           (record { key = w.key; reply = reply })
           (λ ends. open_goes (kept_wish.Ranges exclusive ranges) wish ends
           ∙ (λ i. cond ((tried_seen ∙ yes_tried) i && not ((blocked ends ∙ ap is_some free) i))
-          (ends_with (settled_to s at ends) (with_locks (settled_to s at ends).state (wanted_locks w.file exclusive ranges)) (waiting_of w) (done Locked)) (waits_on (settled_to s at ends) (waiting_of w)))
+          (ends_with (settled_to s at ends) (with_locks (settled_to s at ends).state (asked_locks w.file exclusive ranges)) (waiting_of w) (done Locked)) (waits_on (settled_to s at ends) (waiting_of w)))
           ∙ (λ i. record { state = record (drive_of s) { locks = sym taken i; waiting = map waiting_of (take at ws) }; ends = ends ++ record { key = w.key; reply = sym is i } ∷ [] }))
         where
-          taken : map lock_of locks.locks ≡ map lock_of s.locks.locks ++ wanted_locks w.file exclusive ranges
+          taken : map lock_of locks.locks ≡ map lock_of s.locks.locks ++ asked_locks w.file exclusive ranges
           taken =
               ap (λ (l : LockList). map lock_of l.locks) given ∙ map-append lock_of s.locks.locks held_wanted
               ∙ ap (λ (ls : List drive.Lock). map lock_of s.locks.locks ++ ls) (wanted_seen n w.file exclusive ranges)
@@ -230,16 +229,16 @@ module _ (s : Store) (news : told_news.News) (at : ℕ) (half : IsHalfway s news
           open_goes (kept_wish.Change deep filter box) wish ends
           ∙ ap (λ (o : Option outcome.Change). option_map_or (λ (change : outcome.Change). ends_with (settled_to s at ends) (settled_to s at ends).state (waiting_of w) (done (Buffer (change_bytes (own_path s.tree n) change)))) o (waits_on (settled_to s at ends) (waiting_of w))) found_seen
 
-      pub settles_untold : find tell (changes_of s.tree news.changes) ≡ None → Settles s s news at None
+      pub settles_untold : find tell (changes_of s.tree news.changes) ≡ None → SettlesAt s s news at None
       settles_untold none =
           goes_on stays (λ ends. change_goes ends
           ∙ ap (λ (o : Option outcome.Change). option_map_or (λ (change : outcome.Change). ends_with (settled_to s at ends) (settled_to s at ends).state (waiting_of w) (done (Buffer (change_bytes (own_path s.tree n) change)))) o (waits_on (settled_to s at ends) (waiting_of w))) none)
 
       pub settles_told : (change : outcome.Change) → find tell (changes_of s.tree news.changes) ≡ Some change
           → (v : Vec kept_waiting.Waiting Global) → v.items ≡ remove ws at → vec_capacity v ≡ vec_capacity s.waiting
-          → (reply : Reply) → reply ≡ done (Buffer (change_bytes (own_path s.tree n) change)) → Settles s (record s { waiting = v }) news at (Some (record { key = w.key; reply = reply }))
+          → (reply : Reply) → reply ≡ done (Buffer (change_bytes (own_path s.tree n) change)) → SettlesAt s (record s { waiting = v }) news at (Some (record { key = w.key; reply = reply }))
       settles_told change found v items room reply is =
-          goes_out s.locks v items room (omega arith ∙ ap (λ (o : Wish). s.locks.reserved - ranges_of o) (sym wish)) half.sound.locked (record { key = w.key; reply = reply })
+          goes_out s.locks v items room (omega arith ∙ ap (λ (o : Wish). s.locks.reserved - wish_ranges o) (sym wish)) half.sound.locked (record { key = w.key; reply = reply })
           (λ ends. change_goes ends
           ∙ ap (λ (o : Option outcome.Change). option_map_or (λ (other : outcome.Change). ends_with (settled_to s at ends) (settled_to s at ends).state (waiting_of w) (done (Buffer (change_bytes (own_path s.tree n) other)))) o (waits_on (settled_to s at ends) (waiting_of w))) found
           ∙ (λ i. record { state = (settled_to s at ends).state; ends = ends ++ record { key = w.key; reply = sym is i } ∷ [] }))
@@ -250,6 +249,7 @@ module _ (s : Store) (news : told_news.News) (at : ℕ) (past : length s.waiting
   -- each has its handle
   pub all_open : IsHalfway s news at → IsSound s
   all_open half = record {
+    whole = half.sound.whole;
     naming = half.sound.naming;
     label = half.sound.label;
     states = half.sound.states;

@@ -1,11 +1,11 @@
 -- What a layout says of a value that it met, whatever the bytes are.
 use Rattle.std.proofs.Common.{◌≡◌, refl, sym, ap, subst, ℕ, zero, suc, ◌-◌, ◌/◌, ◌≤◌, Bool, true, false, cond, List, length, Result, Ok, Err, Some, arith, ltb}
-use Rattle.std.specs.Prelude.{IsTrue, nat_le}
-use Rattle.std.proofs.lemmas.Bool.Decides.{nat_tests}
+use Rattle.std.specs.Prelude.{IsTrue}
+use Rattle.std.proofs.lemmas.Bool.{leb-true}
 use Rattle.rd_base.specs.declared.bad.Bad.{Bad}
 use Rattle.rd_base.specs.declared.bad.Why.TheVariants.{Short}
 use Rattle.rd_base.specs.Position.{Position}
-use Rattle.rd_base.specs.Layout.{Layout, done, number, any_bytes, bytes_left, test, within, ◌>>=◌, fault, field_of, met, past}
+use Rattle.rd_base.specs.Layout.{Layout, done, number, any_bytes, bytes_left, test, within, ◌>>=◌, bad_at, field_of, met, past}
 use Rattle.rd_base.specs.Fields.{number16, times}
 use Rattle.rd_base.proofs.ResultLemmas.{and_then_ok, ok_one}
 use Rattle.rd_fileinfo.specs.Label.{label_set}
@@ -25,7 +25,7 @@ Shaped (◌>>=◌ {A = A} l next) b = (a : A) × Shaped l a × Shaped (next a) b
 field_is : {A : Type 0} (n : ℕ) (p : Position) (r : Result A Bad) (y : A) → field_of n p r ≡ Ok y → r ≡ Ok y
 field_is {A} n p r y e = by (ltb (length p.left) n) e
   where
-    by : (b : Bool) → cond b (Err (fault p.at Short)) r ≡ Ok y → r ≡ Ok y
+    by : (b : Bool) → cond b (Err (bad_at p.at Short)) r ≡ Ok y → r ≡ Ok y
     by true h = absurd cc
     by false h = h
 
@@ -36,7 +36,7 @@ shaped (any_bytes count) p a q e = tt
 shaped bytes_left p a q e = tt
 shaped (test holds back why) p a q e = by holds e
   where
-    by : (b : Bool) → cond {A = Result (Unit {0} × Position) Bad} b (Ok (tt, p)) (Err (fault (p.at - back) why)) ≡ Ok (a, q) → IsTrue b
+    by : (b : Bool) → cond {A = Result (Unit {0} × Position) Bad} b (Ok (tt, p)) (Err (bad_at (p.at - back) why)) ≡ Ok (a, q) → IsTrue b
     by true h = refl
     by false h = absurd cc
 shaped (within {A = A} count l) p a q e =
@@ -54,13 +54,10 @@ so_many (suc count) units s =
     let is : length units ≡ suc (length s.2.0) = ap (length {A = ℕ}) s.2.2 in
     omega (arith, is, more)
 
-at_most : (count : ℕ) → IsTrue (nat_le count 64) → count ≤ 64
-at_most count t = grind (arith, nat_tests)
-
 label_shaped : (label : List ℕ) → Shaped label_set label → length label ≤ 32
 unfolding label_set
 label_shaped label s =
-    let few : s.0 ≤ 64 = at_most s.0 s.2.1 in
+    let few : s.0 ≤ 64 = leb-true s.0 64 s.2.1 in
     let units = s.2.2.2 in
     let many : length units.0 ≡ s.0 / 2 = so_many (s.0 / 2) units.0 units.1 in
     let cut : length label ≤ length units.0 = subst (λ (l : List ℕ). length l ≤ length units.0) (sym units.2) (shorter units.0) in

@@ -1,9 +1,9 @@
 -- What every operation keeps of a drive: it stays fitting, the numbers of its answer are in range, and where its request waits there was room for it.
-use Rattle.std.proofs.Common.{◌≡◌, ◌∙◌, refl, sym, ap, subst, ℕ, ◌≤◌, ◌<◌, ◌^◌, ◌==◌, ◌&&◌, ◌||◌, Bool, true, false, cond, not, List, [], ◌∷◌, ◌++◌, take, drop, length, filter, map, Option, Some, None, lit<}
+use Rattle.std.proofs.Common.{◌≡◌, ◌∙◌, refl, sym, ap, subst, ℕ, ◌≤◌, ◌<◌, ◌^◌, ◌==◌, ◌&&◌, Bool, true, false, cond, not, List, [], ◌∷◌, ◌++◌, take, drop, length, filter, map, Option, Some, None, lit<}
 use Rattle.std.specs.Prelude.{nat_le}
 use Rattle.std.specs.List.{AllByRecursion, list_any}
 use Rattle.std.specs.Option.{option_map_or}
-use Rattle.std.proofs.lemmas.Bool.{leb-false}
+use Rattle.std.proofs.lemmas.Bool.{leb-false, or_parts, and_parts}
 use Rattle.std.proofs.lemmas.List.{take-append-drop}
 use Rattle.rd_base.specs.declared.journal.Key.{Key}
 use Rattle.rd_base.specs.declared.status.Status.{Status}
@@ -15,22 +15,22 @@ use Rattle.rd_irp.specs.declared.completion.Body.{Body}
 use Rattle.rd_irp.specs.Written.{IsBodyInRange}
 use Rattle.rd_dirinfo.specs.declared.naming.Naming.{Naming}
 use Rattle.rd_dirinfo.specs.Naming.{Name}
-use Rattle.rd_dirinfo.specs.Paths.{Names, IsSamePath, is_prefix, is_same_path, is_within_limits, last_name, names_of, parent, path_fault, path_of, seen_path}
+use Rattle.rd_dirinfo.specs.Paths.{Names, IsSamePath, is_prefix, is_same_path, is_within_limits, last_name, names_of, parent, path_fault, parsed_path, seen_path}
 use Rattle.rd_dirinfo.proofs.PathLemmas.{path_is_within}
 use Rattle.rd_fileinfo.specs.declared.set_info.SetInfo.{SetInfo}
 use Rattle.rd_fileinfo.specs.declared.set_info.SetInfo.TheVariants as set
 use Rattle.rd_tree.proofs.WayLemmas.{true_same}
 use Rattle.rd_drive.specs.declared.asked.Asked.{Asked}
 use Rattle.rd_drive.specs.declared.step.Step.TheVariants as step
-use Rattle.rd_drive.specs.DriveState.{DriveState, Handle, Node, Wish, asked_path, file_id_limit, handle_at, is_at_path, kept_path, max_handles, max_waiting, node_at, with_node}
-use Rattle.rd_drive.specs.Outcome.{Change, News, Outcome, answered, checked, fault, given, no_news, on_handle, one_of, refused, succeeded}
+use Rattle.rd_drive.specs.DriveState.{DriveState, Handle, Node, Wish, file_id_limit, handle_at, is_at_path, made_path, max_handles, max_waiting, node_of_path, node_path, with_node}
+use Rattle.rd_drive.specs.Outcome.{Change, News, Outcome, checked, fault, given, no_news, on_handle, one_of, outcome_with_reply, refused, succeeded}
 use Rattle.rd_drive.specs.Create.{create, found_information, is_full, open_or_make, replaces, supersede}
-use Rattle.rd_drive.specs.Close.{close, released}
+use Rattle.rd_drive.specs.Close.{close, without_file}
 use Rattle.rd_drive.specs.ReadWrite.{read, write}
-use Rattle.rd_drive.specs.SetFile.{checks_by_class, set_checks, set_end, set_file, set_info_of, sets}
+use Rattle.rd_drive.specs.SetFile.{checks_by_class, set_checks, set_end, set_file, set_info_of, set_outcome}
 use Rattle.rd_drive.specs.SetVolume.{label_of, set_volume}
 use Rattle.rd_drive.specs.Rename.{relocate, rename_to, renamed, target_removed, with_moved, without_target}
-use Rattle.rd_drive.specs.Locking.{conflicts, exclusive_lock, is_waiting_full, lock, locks_on, wanted_locks, waits, without_locks}
+use Rattle.rd_drive.specs.Locking.{conflicts, exclusive_lock, is_waiting_full, lock, locks_on, asked_locks, waits, without_locks}
 use Rattle.rd_drive.specs.Notify.{notify}
 use Rattle.rd_drive.specs.Query.{drive_info, node_info, query_file, query_volume}
 use Rattle.rd_drive.specs.QueryDir.{lists, next_node, query_dir}
@@ -76,15 +76,15 @@ put_fits s node own all = all_mapped Fits Fits _ s.nodes (λ other fits. by othe
     by other fits true = own
     by other fits false = fits
 
-found_fits : (s : DriveState) (path : Names) (node : Node) → node_at s path ≡ Some node → AllFit s.nodes → Fits node
+found_fits : (s : DriveState) (path : Names) (node : Node) → node_of_path s path ≡ Some node → AllFit s.nodes → Fits node
 found_fits s path node there all = found_has Fits (is_at_path s.naming path) s.nodes node there all
 
 -- ---- asked paths
 
-kept_alike : (s : DriveState) (p : Names) → IsSamePath s.naming (kept_path s p) p
-kept_alike s p = by (node_at s p) refl
+kept_alike : (s : DriveState) (p : Names) → IsSamePath s.naming (node_path s p) p
+kept_alike s p = by (node_of_path s p) refl
   where
-    by : (o : Option Node) → node_at s p ≡ o → IsSamePath s.naming (option_map_or (λ (node : Node). node.path) o p) p
+    by : (o : Option Node) → node_of_path s p ≡ o → IsSamePath s.naming (option_map_or (λ (node : Node). node.path) o p) p
     by None e = refl
     by (Some node) e = true_same s.naming node.path p (found_passes (is_at_path s.naming p) s.nodes node e)
 
@@ -92,25 +92,21 @@ joined_within : (p : Names) → Within p → Within (parent p ++ last_name p ∷
 joined_within [] fits = refl
 joined_within (y ∷ ys) fits = ap is_within_limits (path_joined y ys) ∙ fits
 
-asked_within : (s : DriveState) (p : Names) → Within p → Within (asked_path s p)
-asked_within s p fits = carried_limits s.naming (parent p) (kept_path s (parent p)) (last_name p ∷ []) (kept_alike s (parent p)) ∙ joined_within p fits
+asked_within : (s : DriveState) (p : Names) → Within p → Within (made_path s p)
+asked_within s p fits = carried_limits s.naming (parent p) (node_path s (parent p)) (last_name p ∷ []) (kept_alike s (parent p)) ∙ joined_within p fits
 
-asked_alike : (s : DriveState) (p : Names) → (p ≡ [] → ⊥) → IsSamePath s.naming (asked_path s p) p
+asked_alike : (s : DriveState) (p : Names) → (p ≡ [] → ⊥) → IsSamePath s.naming (made_path s p) p
 asked_alike s p some =
-    seen_joined s.naming (kept_path s (parent p)) (last_name p ∷ [])
+    seen_joined s.naming (node_path s (parent p)) (last_name p ∷ [])
     ∙ ap (λ (q : Names). q ++ seen_path s.naming (last_name p ∷ [])) (kept_alike s (parent p))
     ∙ sym (seen_joined s.naming (parent p) (last_name p ∷ []))
     ∙ ap (seen_path s.naming) (joined_at p some)
 
-spelled_within : (units : List ℕ) (path : Names) → path_of units ≡ Some path → Within path
+spelled_within : (units : List ℕ) (path : Names) → parsed_path units ≡ Some path → Within path
 spelled_within units path e = by (path_fault units) refl e
   where
-    second : (a b : Bool) → (a && b) ≡ true → b ≡ true
-    second true b h = h
-    second false b h = absurd cc
-
     by : (o : Option ℕ) → path_fault units ≡ o → elim o [ Some at ↦ None | None ↦ Some (names_of units) ] ≡ Some path → Within path
-    by None f h = let same : names_of units ≡ path = cc in subst Within same (second _ (is_within_limits (names_of units)) (path_is_within units f))
+    by None f h = let same : names_of units ≡ path = cc in subst Within same (and_parts _ (is_within_limits (names_of units)) (path_is_within units f)).1
     by (Some at) f h = absurd cc
 
 -- ---- moved nodes
@@ -130,16 +126,12 @@ moved_within s from to all carried =
 renamed_fits : (s : DriveState) (moment : ℕ) (node : Node) (to : Names) → Within to → AllFit s.nodes → AllByRecursion (Carried s.naming node.path to) s.nodes → AllFit (renamed s moment node to).nodes
 renamed_fits s moment node to own all carried = put_fits (with_moved s node.path to) (record node { path = to; moments = record node.moments { change = moment } }) own (moved_within s node.path to all carried)
 
-or_false : (a b : Bool) → (a || b) ≡ false → (a ≡ false) × (b ≡ false)
-or_false true b e = absurd cc
-or_false false b e = (refl, e)
-
 shallow : (naming : Naming) (from path : Names) (l : List Node)
     → list_any (λ (node : Node). is_prefix naming from node.path && not (is_within_limits (path ++ drop (length from) node.path))) l ≡ false → AllByRecursion (Carried naming from path) l
 unfolding Carried
 shallow naming from path [] none = tt
 shallow naming from path (x ∷ xs) none =
-    let both = or_false _ (list_any (λ (node : Node). is_prefix naming from node.path && not (is_within_limits (path ++ drop (length from) node.path))) xs) none in
+    let both = or_parts _ (list_any (λ (node : Node). is_prefix naming from node.path && not (is_within_limits (path ++ drop (length from) node.path))) xs) none in
     (one (is_prefix naming from x.path) (is_within_limits (path ++ drop (length from) x.path)) both.0, shallow naming from path xs both.1)
   where
     one : (a b : Bool) → (a && not b) ≡ false → a ≡ true → b ≡ true
@@ -160,13 +152,9 @@ unfolding Carried
 carried_own naming from to same [] all = tt
 carried_own naming from to same (x ∷ xs) all = (one, carried_own naming from to same xs all.1)
   where
-    second : (a b : Bool) → (a && b) ≡ true → b ≡ true
-    second true b h = h
-    second false b h = absurd cc
-
     one : is_prefix naming from x.path ≡ true → Within (to ++ drop (length from) x.path)
     one t =
-        let begins : IsSamePath naming from (take (length from) x.path) = true_same naming from (take (length from) x.path) (second (nat_le (length from) (length x.path)) (is_same_path naming from (take (length from) x.path)) t) in
+        let begins : IsSamePath naming from (take (length from) x.path) = true_same naming from (take (length from) x.path) (and_parts (nat_le (length from) (length x.path)) (is_same_path naming from (take (length from) x.path)) t).1 in
         carried_limits naming (take (length from) x.path) to (drop (length from) x.path) (same ∙ begins) ∙ ap is_within_limits (take-append-drop (length from) x.path) ∙ all.0
 
 -- ---- what is kept
@@ -177,14 +165,14 @@ pub record Stays (s : DriveState) (o : Op) (outcome : Outcome) : Type 0 where
   pub quiet : outcome.answer ≡ step.Parked → (outcome.news ≡ no_news) × (length s.waiting < 64)
 
 -- with the same label and the same nodes
-same_fits : (s new : DriveState) → new.label ≡ s.label → new.nodes ≡ s.nodes → IsFitting s → IsFitting new
+pub same_fits : (s new : DriveState) → new.label ≡ s.label → new.nodes ≡ s.nodes → IsFitting s → IsFitting new
 same_fits s new label nodes fitting = record { label = subst (λ (l : List ℕ). length l ≤ 32) (sym label) fitting.label; paths = subst AllFit (sym nodes) fitting.paths }
 
 module _ (s : DriveState) (o : Op) where
   nodes_fit : (new : DriveState) → new.label ≡ s.label → (AllFit s.nodes → AllFit new.nodes) → IsFitting s → IsFitting new
   nodes_fit new label nodes fitting = record { label = subst (λ (l : List ℕ). length l ≤ 32) (sym label) fitting.label; paths = nodes fitting.paths }
 
-  stays_answered : (reply : Reply) → IsReplyInRange reply → Stays s o (answered s reply)
+  stays_answered : (reply : Reply) → IsReplyInRange reply → Stays s o (outcome_with_reply s reply)
   stays_answered reply range = record { fits = λ fitting. (fitting, tt); ranged = λ few. range; quiet = λ e. absurd cc }
 
   stays_done : (new : DriveState) (b : Body) (news : News) → (SetsFew o → IsBodyInRange b)
@@ -205,7 +193,7 @@ module _ (s : DriveState) (o : Op) where
   after [] ranges outcome later = later tt
   after (check ∷ checks) ranges outcome later = by check.0 refl (λ e. after checks ranges.1 outcome (λ others. later (e, others)))
     where
-      by : (b : Bool) → check.0 ≡ b → (check.0 ≡ false → Stays s o (checked s checks outcome)) → Stays s o (cond b (answered s check.1) (checked s checks outcome))
+      by : (b : Bool) → check.0 ≡ b → (check.0 ≡ false → Stays s o (checked s checks outcome)) → Stays s o (cond b (outcome_with_reply s check.1) (checked s checks outcome))
       by true e further = stays_answered check.1 ranges.0
       by false e further = further e
 
@@ -219,20 +207,20 @@ module _ (s : DriveState) (o : Op) where
   where_given None st f range later = stays_answered (fault st) (range, tt)
   where_given (Some y) st f range later = later y refl
 
-  on_any : (file : ℕ) (f : Handle → Node → Outcome) → ((handle : Handle) (node : Node) → node_at s handle.path ≡ Some node → Stays s o (f handle node)) → Stays s o (on_handle s file f)
-  on_any file f later = where_given (handle_at s file) _ _ (lit< tt) (λ handle e. where_given (node_at s handle.path) _ _ (lit< tt) (λ node there. later handle node there))
+  on_any : (file : ℕ) (f : Handle → Node → Outcome) → ((handle : Handle) (node : Node) → node_of_path s handle.path ≡ Some node → Stays s o (f handle node)) → Stays s o (on_handle s file f)
+  on_any file f later = where_given (handle_at s file) _ _ (lit< tt) (λ handle e. where_given (node_of_path s handle.path) _ _ (lit< tt) (λ node there. later handle node there))
 
 -- ---- Create
 
 full_id : (s : DriveState) → is_full s ≡ false → s.next < 2 ^ 32
-full_id s e = leb-false file_id_limit s.next (or_false (nat_le max_handles (length s.handles)) (nat_le file_id_limit s.next) e).1
+full_id s e = leb-false file_id_limit s.next (or_parts (nat_le max_handles (length s.handles)) (nat_le file_id_limit s.next) e).1
 
 module _ (s : DriveState) (o : Op) where
   create_stays : (units : List ℕ) (moment : ℕ) (asked : Asked) → Stays s o (create s moment asked units)
   create_stays units moment asked =
       after s o _ ((lit< tt, tt), tt) _ (λ passed.
-      where_given s o (path_of units) _ _ (lit< tt) (λ names e.
-      after s o _ ((lit< tt, tt), ((lit< tt, tt), tt)) _ (λ room. each names (spelled_within units names e) (full_id s room.0) (node_at s names) refl)))
+      where_given s o (parsed_path units) _ _ (lit< tt) (λ names e.
+      after s o _ ((lit< tt, tt), ((lit< tt, tt), tt)) _ (λ room. each names (spelled_within units names e) (full_id s room.0) (node_of_path s names) refl)))
     where
       information : found_information asked < 2 ^ 8
       information = by (asked.disposition == supersede) (replaces asked)
@@ -242,7 +230,7 @@ module _ (s : DriveState) (o : Op) where
           by false true = lit< tt
           by false false = lit< tt
 
-      each : (names : Names) → Within names → s.next < 2 ^ 32 → (found : Option Node) → node_at s names ≡ found → Stays s o (open_or_make s asked moment names found)
+      each : (names : Names) → Within names → s.next < 2 ^ 32 → (found : Option Node) → node_of_path s names ≡ found → Stays s o (open_or_make s asked moment names found)
       each names within room (Some node) there =
           after s o _ ((lit< tt, tt), ((lit< tt, tt), ((lit< tt, tt), ((lit< tt, tt), ((lit< tt, tt), ((lit< tt, tt), ((lit< tt, tt), tt))))))) _ (λ passed.
           either s o (replaces asked) _ _
@@ -254,19 +242,19 @@ module _ (s : DriveState) (o : Op) where
           stays_done s o _ _ _ (λ few. (room, lit< tt)) (λ fitting. (nodes_fit s o _ refl (all_add s.naming Fits _ s.nodes (asked_within s names within)) fitting, (asked_within s names within, tt))))
 
   -- ---- Close
-  close_stays : (file : ℕ) (handle : Handle) (node : Node) → node_at s handle.path ≡ Some node → Stays s o (close s file handle node)
+  close_stays : (file : ℕ) (handle : Handle) (node : Node) → node_of_path s handle.path ≡ Some node → Stays s o (close s file handle node)
   close_stays file handle node there =
       either s o _ _ _ (λ t. either s o _ _ _
-      (λ u. stays_done s o _ _ _ (λ few. tt) (λ fitting. (nodes_fit s o _ refl (put_fits (released s file) _ (found_fits s handle.path node there fitting.paths)) fitting, tt)))
+      (λ u. stays_done s o _ _ _ (λ few. tt) (λ fitting. (nodes_fit s o _ refl (put_fits (without_file s file) _ (found_fits s handle.path node there fitting.paths)) fitting, tt)))
       (λ u. stays_done s o _ _ _ (λ few. tt) (λ fitting. (nodes_fit s o _ refl (all_kept Fits _ s.nodes) fitting, (found_fits s handle.path node there fitting.paths, tt)))))
-      (λ t. stays_done s o _ _ _ (λ few. tt) (λ fitting. (nodes_fit s o _ refl (put_fits (released s file) _ (found_fits s handle.path node there fitting.paths)) fitting, tt)))
+      (λ t. stays_done s o _ _ _ (λ few. tt) (λ fitting. (nodes_fit s o _ refl (put_fits (without_file s file) _ (found_fits s handle.path node there fitting.paths)) fitting, tt)))
 
   abbrev AreInRange : List (Bool × Reply) → Type 0
   AreInRange checks = AllByRecursion (λ (check : Bool × Reply). IsReplyInRange check.1) checks
 
   -- ---- Write, SetFile, SetVolume: a count that is in range
   module _ (count : ℕ) (low : SetsFew o → count < 2 ^ 32) where
-    write_stays : (bytes : List ℕ) → length bytes ≡ count → (moment file offset : ℕ) (handle : Handle) (node : Node) → node_at s handle.path ≡ Some node → Stays s o (write s moment file offset bytes handle node)
+    write_stays : (bytes : List ℕ) → length bytes ≡ count → (moment file offset : ℕ) (handle : Handle) (node : Node) → node_of_path s handle.path ≡ Some node → Stays s o (write s moment file offset bytes handle node)
     write_stays bytes same moment file offset handle node there =
         after s o _ ((lit< tt, tt), ((lit< tt, tt), ((lit< tt, lit< tt), ((lit< tt, tt), ((lit< tt, tt), tt))))) _ (λ passed.
         stays_done s o _ _ _ (λ few. subst (λ (n : ℕ). n < 2 ^ 32) (sym same) (low few)) (λ fitting.
@@ -281,7 +269,7 @@ module _ (s : DriveState) (o : Op) where
     left_fits None from to all carried = (all, carried)
     left_fits (Some target) from to all carried = (all_kept Fits _ s.nodes all, all_kept (Carried s.naming from to) _ s.nodes carried)
 
-    target_fits : (target : Option Node) (path : Names) → node_at s path ≡ target → AllFit s.nodes → AllByRecursion (λ (change : Change). is_within_limits change.path ≡ true) (target_removed target)
+    target_fits : (target : Option Node) (path : Names) → node_of_path s path ≡ target → AllFit s.nodes → AllByRecursion (λ (change : Change). is_within_limits change.path ≡ true) (target_removed target)
     target_fits None path there all = tt
     target_fits (Some target) path there all = (found_fits s path target there all, tt)
 
@@ -293,14 +281,14 @@ module _ (s : DriveState) (o : Op) where
     naming_left None = refl
     naming_left (Some target) = refl
 
-    relocate_stays : (moment : ℕ) (node : Node) → (AllFit s.nodes → Fits node) → (replace : Bool) (path : Names) → Within path → (length path == 0) ≡ false → (target : Option Node) → node_at s path ≡ target
-        → Stays s o (relocate s moment count node replace path (asked_path s path) target)
+    relocate_stays : (moment : ℕ) (node : Node) → (AllFit s.nodes → Fits node) → (replace : Bool) (path : Names) → Within path → (length path == 0) ≡ false → (target : Option Node) → node_of_path s path ≡ target
+        → Stays s o (relocate s moment count node replace path (made_path s path) target)
     relocate_stays moment node own replace path within some target there =
         after s o _ ((lit< tt, tt), ((lit< tt, tt), ((lit< tt, tt), ((lit< tt, tt), ((lit< tt, tt), tt))))) _ (λ passed.
         stays_done s o _ _ _ low (λ fitting. go fitting (left_fits target node.path to fitting.paths (carried_alike s.naming node.path path to (asked_alike s path some_names) s.nodes (shallow s.naming node.path path s.nodes passed.1.1.0)))))
       where
         to : Names
-        to = asked_path s path
+        to = made_path s path
 
         some_names : path ≡ [] → ⊥
         some_names e = let none : (length path == 0) ≡ true = ap (λ (p : Names). length p == 0) e in absurd cc
@@ -317,19 +305,19 @@ module _ (s : DriveState) (o : Op) where
 
     rename_stays : (moment : ℕ) (node : Node) → (AllFit s.nodes → Fits node) → (replace : Bool) (units : List ℕ) → Stays s o (rename_to s moment count node replace units)
     rename_stays moment node own replace units =
-        where_given s o (path_of units) _ _ (lit< tt) (λ path e.
+        where_given s o (parsed_path units) _ _ (lit< tt) (λ path e.
         after s o _ ((lit< tt, tt), tt) _ (λ passed.
         either s o _ _ _ (λ same. either s o _ _ _ (λ t. stays_told s o _ _ _ low refl refl refl)
         (λ t. stays_done s o _ _ _ low (λ fitting. (
-          nodes_fit s o _ refl (λ all. renamed_fits s moment node (asked_path s path) (asked_within s path (spelled_within units path e)) all (carried_own s.naming node.path (asked_path s path) (alike path passed.0 same) s.nodes all)) fitting,
+          nodes_fit s o _ refl (λ all. renamed_fits s moment node (made_path s path) (asked_within s path (spelled_within units path e)) all (carried_own s.naming node.path (made_path s path) (alike path passed.0 same) s.nodes all)) fitting,
           (own fitting.paths, (asked_within s path (spelled_within units path e), tt)),
         ))))
-        (λ t. relocate_stays moment node own replace path (spelled_within units path e) passed.0 (node_at s path) refl)))
+        (λ t. relocate_stays moment node own replace path (spelled_within units path e) passed.0 (node_of_path s path) refl)))
       where
-        alike : (path : Names) → (length path == 0) ≡ false → is_same_path s.naming path node.path ≡ true → IsSamePath s.naming (asked_path s path) node.path
+        alike : (path : Names) → (length path == 0) ≡ false → is_same_path s.naming path node.path ≡ true → IsSamePath s.naming (made_path s path) node.path
         alike path some same = asked_alike s path (λ e. let none : (length path == 0) ≡ true = ap (λ (p : Names). length p == 0) e in absurd cc) ∙ true_same s.naming path node.path same
 
-    sets_stay : (moment : ℕ) (node : Node) → (AllFit s.nodes → Fits node) → (info : SetInfo) → Stays s o (sets s moment count node info)
+    sets_stay : (moment : ℕ) (node : Node) → (AllFit s.nodes → Fits node) → (info : SetInfo) → Stays s o (set_outcome s moment count node info)
     sets_stay moment node own (set.Basic moments attributes) =
         stays_done s o _ _ _ low (λ fitting. (nodes_fit s o _ refl (put_fits s _ (own fitting.paths)) fitting, (own fitting.paths, tt)))
     sets_stay moment node own (set.Rename replace units) = rename_stays moment node own replace units
@@ -338,7 +326,7 @@ module _ (s : DriveState) (o : Op) where
     sets_stay moment node own (set.Allocation size) = set_end_stays moment node own size _
     sets_stay moment node own (set.EndOfFile end) = set_end_stays moment node own end end
 
-  set_file_stays : (class : ℕ) (buffer : List ℕ) → (SetsFew o → length buffer < 2 ^ 32) → (moment : ℕ) (handle : Handle) (node : Node) → node_at s handle.path ≡ Some node → Stays s o (set_file s moment class buffer handle node)
+  set_file_stays : (class : ℕ) (buffer : List ℕ) → (SetsFew o → length buffer < 2 ^ 32) → (moment : ℕ) (handle : Handle) (node : Node) → node_of_path s handle.path ≡ Some node → Stays s o (set_file s moment class buffer handle node)
   set_file_stays class buffer low moment handle node there =
       where_given s o (set_checks handle node class) _ _ (lit< tt) (λ checks e.
       after s o checks (ranges checks e) _ (λ passed.
@@ -388,7 +376,7 @@ module _ (s : DriveState) (o : Op) where
       either s o _ _ _
       (λ t. where_given s o (without_locks file s.locks ranges) _ _ (lit< tt) (λ locks e. stays_told s o _ _ _ (λ few. tt) refl refl refl))
       (λ t. after s o _ ((lit< tt, tt), ((lit< tt, tt), ((lit< tt, tt), tt))) _ (λ free.
-      either s o (conflicts (locks_on s node.path) (wanted_locks file (operation == exclusive_lock) ranges)) _ _
+      either s o (conflicts (locks_on s node.path) (asked_locks file (operation == exclusive_lock) ranges)) _ _
       (λ blocked. stays_waiting s o key file _ (room (unfull _ (is_waiting_full s) free.1.0 blocked)))
       (λ u. stays_told s o _ _ _ (λ few. tt) refl refl refl))))
     where

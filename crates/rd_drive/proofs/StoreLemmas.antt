@@ -1,5 +1,5 @@
 -- What a drive keeps, as callers see it: the nodes by their paths.
-use Rattle.std.proofs.Common.{◌≡◌, ◌∙◌, refl, sym, ap, subst, ℕ, ◌<◌, Bool, true, false, ◌&&◌, ◌||◌, cond, List, [], ◌∷◌, map, Option, Some, None, find, arith}
+use Rattle.std.proofs.Common.{◌≡◌, ◌∙◌, refl, sym, ap, subst, ℕ, ◌<◌, Bool, true, false, ◌&&◌, ◌||◌, cond, List, [], ◌∷◌, map, Option, Some, None, find, arith, ◌==◌}
 use Rattle.std.specs.Prelude.{T}
 use Rattle.std.specs.List.{list_any}
 use Rattle.std.specs.Option.{option_map, option_and_then, unwrap_or, is_some}
@@ -8,6 +8,10 @@ use Rattle.std.specs.FinMap as entries
 use Rattle.std.specs.FinMap.Entries.{below_all}
 use Rattle.std.specs.FinMap.{is_sorted}
 use Rattle.std.proofs.lemmas.Bool.Decides.{nat_tests}
+use Rattle.std.proofs.lemmas.Option.{same_Some, none-some}
+use Rattle.std.proofs.lemmas.Bool.{ne_eqb, eqb-false}
+use Rattle.std.proofs.Math.Bool.{or-true}
+use Rattle.rd_tree.proofs.ViewLemmas.{itself}
 use Rattle.rd_dirinfo.specs.declared.naming.Naming.{Naming}
 use Rattle.rd_dirinfo.specs.Paths.{Names, is_same_path}
 use Rattle.rd_tree.specs.Places.{Place, Places, place, own_path, first_at, node_at, IsLive, IsWhole}
@@ -21,8 +25,8 @@ use Rattle.rd_drive.proofs.OrderLemmas.{IsAlone, order_find}
 pub below_apart : (n m : ℕ) → m < n → eq_by_cmp nat_cmp n m ≡ false
 below_apart n m h = grind (arith, nat_tests)
 
-pub itself : (n : ℕ) → eq_by_cmp nat_cmp n n ≡ true
-itself n = grind (arith, nat_tests)
+pub turned : (a b : ℕ) → (a == b) ≡ false → (b == a) ≡ false
+turned a b e = ne_eqb b a (λ same. eqb-false a b e (sym same))
 
 pub is_below : (n m : ℕ) → is_lt (nat_cmp n m) ≡ true → n < m
 is_below n m h = grind (arith, nat_tests)
@@ -34,15 +38,9 @@ pub and_parts : (a b : Bool) → T (a && b) → (a ≡ true) × T b
 and_parts true b t = (refl, t)
 and_parts false b t = absurd t
 
-pub none_is_some : {X : Type 0} (x : X) → None ≡ Some x → ⊥
-none_is_some x e = absurd (cc)
-
-pub some_inside : {X : Type 0} (x y : X) → Some x ≡ Some y → x ≡ y
-some_inside x y e = ap (λ o. unwrap_or o x) e
-
 -- a number that has a value is above all that are below the numbers
 pub found_above : {X : Type 0} (m n : ℕ) (x : X) (l : List (ℕ × X)) → T (below_all nat_cmp m l) → entries.find nat_cmp n l ≡ Some x → m < n
-found_above m n x [] low e = absurd (none_is_some x e)
+found_above m n x [] low e = absurd (none-some x e)
 found_above m n x (d ∷ l) low e = by (and_parts (is_lt (nat_cmp m d.0)) (below_all nat_cmp m l) low) (λ h g. found_above m n x l h g) (eq_by_cmp nat_cmp n d.0) refl
   where
     by : (is_lt (nat_cmp m d.0) ≡ true) × T (below_all nat_cmp m l) → (T (below_all nat_cmp m l) → entries.find nat_cmp n l ≡ Some x → m < n) → (b : Bool) → eq_by_cmp nat_cmp n d.0 ≡ b → m < n
@@ -52,12 +50,12 @@ found_above m n x (d ∷ l) low e = by (and_parts (is_lt (nat_cmp m d.0)) (below
 module _ (naming : Naming) (path : Names) where
   -- the number that is first at a path is above all that are below the numbers
   first_above : (m n : ℕ) (l : List (ℕ × Place)) → T (below_all nat_cmp m l) → first_at naming path l ≡ Some n → m < n
-  first_above m n [] low e = absurd (none_is_some n e)
+  first_above m n [] low e = absurd (none-some n e)
   first_above m n (d ∷ l) low e = by (and_parts (is_lt (nat_cmp m d.0)) (below_all nat_cmp m l) low) (λ h g. first_above m n l h g) (is_same_path naming d.1.path path) refl
     where
       by : (is_lt (nat_cmp m d.0) ≡ true) × T (below_all nat_cmp m l) → (T (below_all nat_cmp m l) → first_at naming path l ≡ Some n → m < n) → (b : Bool) → is_same_path naming d.1.path path ≡ b → m < n
       by parts later true is =
-          let same : d.0 ≡ n = some_inside d.0 n (sym (ap (λ b. cond b (Some d.0) (first_at naming path l)) is) ∙ e) in
+          let same : d.0 ≡ n = same_Some d.0 n (sym (ap (λ b. cond b (Some d.0) (first_at naming path l)) is) ∙ e) in
           let low : m < d.0 = is_below m d.0 parts.0 in omega arith
       by parts later false is = later parts.1 (sym (ap (λ b. cond b (Some d.0) (first_at naming path l)) is) ∙ e)
 
@@ -135,12 +133,12 @@ module _ (tree : Places) (whole : IsWhole tree) where
   own_is n x e = ap (λ (o : Option Place). unwrap_or (option_map (λ (p : Place). p.path) o) []) e
 
   pub first_listed : (path : Names) (n : ℕ) (l : List (ℕ × Place)) → AreListed l → first_at tree.naming path l ≡ Some n → IsLive tree n × (is_same_path tree.naming (own_path tree n) path ≡ true)
-  first_listed path n [] listed e = absurd (none_is_some n e)
+  first_listed path n [] listed e = absurd (none-some n e)
   first_listed path n (d ∷ l) listed e = by (λ h. first_listed path n l listed.1 h) (is_same_path tree.naming d.1.path path) refl
     where
       by : (first_at tree.naming path l ≡ Some n → IsLive tree n × (is_same_path tree.naming (own_path tree n) path ≡ true)) → (b : Bool) → is_same_path tree.naming d.1.path path ≡ b → IsLive tree n × (is_same_path tree.naming (own_path tree n) path ≡ true)
       by later true is =
-          let same : d.0 ≡ n = some_inside d.0 n (sym (ap (λ b. cond b (Some d.0) (first_at tree.naming path l)) is) ∙ e) in
+          let same : d.0 ≡ n = same_Some d.0 n (sym (ap (λ b. cond b (Some d.0) (first_at tree.naming path l)) is) ∙ e) in
           subst (λ (k : ℕ). IsLive tree k × (is_same_path tree.naming (own_path tree k) path ≡ true)) same (ap is_some listed.0, ap (λ (p : Names). is_same_path tree.naming p path) (own_is d.0 d.1 listed.0) ∙ is)
       by later false is = later (sym (ap (λ b. cond b (Some d.0) (first_at tree.naming path l)) is) ∙ e)
 
@@ -186,21 +184,17 @@ module _ (tree : Places) (whole : IsWhole tree) where
   -- the number at a live number's own path is that number
   module _ (n : ℕ) (x : Place) (here : place tree n ≡ Some x) where
     any_own : (l : List (ℕ × Place)) → entries.find nat_cmp n l ≡ Some x → list_any (λ (e : ℕ × Place). is_same_path tree.naming e.1.path (own_path tree n)) l ≡ true
-    any_own [] e = absurd (none_is_some x e)
+    any_own [] e = absurd (none-some x e)
     any_own (d ∷ l) e = by (λ h. any_own l h) (eq_by_cmp nat_cmp n d.0) refl
       where
-        or_true : (b : Bool) → (b || true) ≡ true
-        or_true true = refl
-        or_true false = refl
-
         by : (entries.find nat_cmp n l ≡ Some x → list_any (λ (e : ℕ × Place). is_same_path tree.naming e.1.path (own_path tree n)) l ≡ true) → (b : Bool) → eq_by_cmp nat_cmp n d.0 ≡ b
             → (is_same_path tree.naming d.1.path (own_path tree n) || list_any (λ (e : ℕ × Place). is_same_path tree.naming e.1.path (own_path tree n)) l) ≡ true
         by later true is =
-            let one : d.1 ≡ x = some_inside d.1 x (sym (ap (λ b. cond b (Some d.1) (entries.find nat_cmp n l)) is) ∙ e) in
+            let one : d.1 ≡ x = same_Some d.1 x (sym (ap (λ b. cond b (Some d.1) (entries.find nat_cmp n l)) is) ∙ e) in
             let path : d.1.path ≡ own_path tree n = ap (λ (p : Place). p.path) one ∙ sym (own_is n x here) in
             ap (λ b. b || list_any (λ (e : ℕ × Place). is_same_path tree.naming e.1.path (own_path tree n)) l) (ap (λ (p : Names). is_same_path tree.naming p (own_path tree n)) path ∙ same_true tree.naming (own_path tree n) (own_path tree n) refl)
         by later false is =
-            ap (λ b. is_same_path tree.naming d.1.path (own_path tree n) || b) (later (sym (ap (λ b. cond b (Some d.1) (entries.find nat_cmp n l)) is) ∙ e)) ∙ or_true (is_same_path tree.naming d.1.path (own_path tree n))
+            ap (λ b. is_same_path tree.naming d.1.path (own_path tree n) || b) (later (sym (ap (λ b. cond b (Some d.1) (entries.find nat_cmp n l)) is) ∙ e)) ∙ or-true (is_same_path tree.naming d.1.path (own_path tree n))
 
     pub number_at_own : node_at tree (own_path tree n) ≡ Some n
     number_at_own =

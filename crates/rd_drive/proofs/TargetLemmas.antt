@@ -1,15 +1,15 @@
 -- The path that a renamed node gets: what is above it, how long it is, and that the drive sees it as its tree does.
-use Rattle.std.proofs.Common.{◌≡◌, ◌∙◌, refl, sym, ap, subst, ℕ, ◌+◌, ◌<◌, ◌≤◌, ◌==◌, Bool, true, false, not, ◌&&◌, ◌||◌, nat_le, List, [], ◌∷◌, ◌++◌, map, length, take, drop, find, Option, Some, None, arith, append_assoc, length-append}
+use Rattle.std.proofs.Common.{◌≡◌, ◌∙◌, refl, sym, ap, subst, ℕ, ◌+◌, ◌<◌, ◌≤◌, ◌==◌, Bool, true, false, not, ◌&&◌, ◌||◌, nat_le, List, [], ◌∷◌, ◌++◌, map, length, take, drop, find, Some, None, arith, append_assoc, length-append}
 use Rattle.std.specs.List.{list_any}
-use Rattle.std.specs.Option.{option_map, option_map_or, option_and_then, unwrap_or, is_some}
+use Rattle.std.specs.Option.{option_map, option_map_or, option_and_then}
 use Rattle.std.proofs.lemmas.Bool.Decides.{nat_tests}
+use Rattle.std.proofs.lemmas.Bool.{and_parts, false_from_ne_true, leb-true}
 use Rattle.rd_dirinfo.specs.declared.naming.Naming.{Naming}
 use Rattle.rd_dirinfo.specs.Naming.{Name, seen}
 use Rattle.rd_dirinfo.specs.Paths.{Names, IsSamePath, is_below, is_prefix, is_same_path, is_within_limits, last_name, parent, seen_path}
 use Rattle.rd_tree.specs.Places as places
 use Rattle.rd_tree.specs.Places.{Place, Places, place, path_at, own_path, node_at, IsLive, IsWhole}
-use Rattle.rd_tree.proofs.ParentLemmas.{both_true}
-use Rattle.rd_tree.proofs.RefuseLemmas.{bool_false, prefix_split, split_prefix}
+use Rattle.rd_tree.proofs.RefuseLemmas.{prefix_split, split_prefix}
 use Rattle.rd_tree.proofs.WayLemmas.{same_true, true_same}
 use Rattle.rd_drive.specs.declared.store.Store.{Store}
 use Rattle.rd_drive.specs.DriveState as drive
@@ -42,10 +42,7 @@ pub prefix_alike : (naming : Naming) (from p q : Names) → IsSamePath naming p 
 prefix_alike naming from p q same = alike (is_prefix naming from p) (is_prefix naming from q) (prefix_on naming from p q same) (prefix_on naming from q p (sym same))
 
 long_prefix : (naming : Naming) (from p : Names) → is_prefix naming from p ≡ true → length from ≤ length p
-long_prefix naming from p t = under (length from) (length p) (both_true (nat_le (length from) (length p)) (is_same_path naming from (take (length from) p)) t).0
-  where
-    under : (a b : ℕ) → nat_le a b ≡ true → a ≤ b
-    under a b e = grind (arith, nat_tests)
+long_prefix naming from p t = leb-true (length from) (length p) (and_parts (nat_le (length from) (length p)) (is_same_path naming from (take (length from) p)) t).0
 
 -- what is in a folder at or below a path is below it
 pub parent_below : (naming : Naming) (from p : Names) → (p ≡ [] → ⊥) → is_prefix naming from (parent p) ≡ true → is_below naming from p ≡ true
@@ -68,7 +65,7 @@ below_alike naming from p q same =
 
 -- a path isn't at or above the folder that it is in
 pub parent_above : (naming : Naming) (p : Names) → (p ≡ [] → ⊥) → is_prefix naming p (parent p) ≡ false
-parent_above naming p some = bool_false (is_prefix naming p (parent p)) (λ t.
+parent_above naming p some = false_from_ne_true (is_prefix naming p (parent p)) (λ t.
     let long = long_prefix naming p (parent p) t in
     let short = parent_shorter p some in
     absurd (omega (arith, long, short)))
@@ -89,31 +86,26 @@ module _ (tree : Places) (whole : IsWhole tree) where
   pub only_at : (n : ℕ) → IsLive tree n → (p : Names) → is_same_path tree.naming (own_path tree n) p ≡ true → node_at tree p ≡ Some n
   only_at n live p same = let x = lived tree n live in node_same tree whole p (own_path tree n) (same_true tree.naming p (own_path tree n) (sym (true_same tree.naming (own_path tree n) p same))) ∙ number_at_own tree whole n x.0 x.1
 
-  pub own_some : (n : ℕ) → IsLive tree n → (0 ≡ n → ⊥) → own_path tree n ≡ [] → ⊥
-  own_some n live other none =
-      let root : own_path tree 0 ≡ [] = ap (λ (o : Option Place). unwrap_or (option_map (λ (p : Place). p.path) o) []) whole.root in
-      other (whole.apart 0 n (ap is_some whole.root) live (same_true tree.naming (own_path tree 0) (own_path tree n) (ap (seen_path tree.naming) (root ∙ sym none))))
-
 -- ---- as callers see it
-module _ (s : Store) (sound : IsSound s) (whole : IsWhole s.tree) where
-  pub none_at : (p : Names) → node_at s.tree p ≡ None → drive.node_at (drive_of s) p ≡ None
-  none_at p e = node_seen s sound whole p ∙ ap (option_and_then (node_of_number s.tree whole s.states)) e
+module _ (s : Store) (sound : IsSound s) where
+  pub none_at : (p : Names) → node_at s.tree p ≡ None → drive.node_of_path (drive_of s) p ≡ None
+  none_at p e = node_seen s sound p ∙ ap (option_and_then (node_of_number s.tree sound.whole s.states)) e
 
-  pub one_at : (p : Names) (t : ℕ) → IsLive s.tree t → node_at s.tree p ≡ Some t → drive.node_at (drive_of s) p ≡ Some (own_node s t)
+  pub one_at : (p : Names) (t : ℕ) → IsLive s.tree t → node_at s.tree p ≡ Some t → drive.node_of_path (drive_of s) p ≡ Some (own_node s t)
   one_at p t live e =
       let x = lived s.tree t live in
-      node_seen s sound whole p ∙ ap (option_and_then (node_of_number s.tree whole s.states)) e ∙ ap (option_map (node_with (state_of s.states t))) x.1
-      ∙ ap (λ (y : Place). Some (node_with (state_of s.states t) y)) (sym (place_here s.tree whole t x.0 x.1))
+      node_seen s sound p ∙ ap (option_and_then (node_of_number s.tree sound.whole s.states)) e ∙ ap (option_map (node_with (state_of s.states t))) x.1
+      ∙ ap (λ (y : Place). Some (node_with (state_of s.states t) y)) (sym (place_here s.tree sound.whole t x.0 x.1))
 
-  pub folder_at : (p : Names) → drive.is_folder_at (drive_of s) p ≡ places.is_folder_at s.tree p
-  folder_at p = subst (λ naming. option_map_or drive.is_folder (find (is_at_path naming p) (nodes_of s.tree s.states)) false ≡ places.is_folder_at s.tree p) sound.naming (folder_seen s.tree whole s.states p)
+  pub folder_at : (p : Names) → drive.has_folder (drive_of s) p ≡ places.is_folder_at s.tree p
+  folder_at p = subst (λ naming. option_map_or drive.is_folder_node (find (is_at_path naming p) (nodes_of s.tree s.states)) false ≡ places.is_folder_at s.tree p) sound.naming (folder_seen s.tree sound.whole s.states p)
 
   -- whether some moved path would be past the limits
   deep_listed : (q : Names → Bool) (l : List (ℕ × Place)) → list_any (λ (node : Node). q node.path) (map (node_of s.states) l) ≡ list_any (λ (e : ℕ × Place). q e.1.path) l
   deep_listed q [] = refl
   deep_listed q (e ∷ l) = ap (λ b. q e.1.path || b) (deep_listed q l)
 
-  pub deep_at : (n : ℕ) (p : Names) → renaming.is_too_deep (drive_of s) (own_path s.tree n) p ≡ places.is_too_deep s.tree n p
+  pub deep_at : (n : ℕ) (p : Names) → renaming.goes_too_deep (drive_of s) (own_path s.tree n) p ≡ places.is_too_deep s.tree n p
   deep_at n p =
       order_any s.tree.naming (λ (node : Node). is_prefix s.naming (own_path s.tree n) node.path && not (is_within_limits (p ++ drop (length (own_path s.tree n)) node.path))) (map (node_of s.states) s.tree.list)
       ∙ deep_listed (λ (path : Names). is_prefix s.naming (own_path s.tree n) path && not (is_within_limits (p ++ drop (length (own_path s.tree n)) path))) s.tree.list

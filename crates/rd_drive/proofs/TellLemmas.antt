@@ -1,20 +1,21 @@
 -- Paths of nodes one below the other, and the names from one down to the other.
-use Rattle.std.proofs.Common.{◌≡◌, ◌∙◌, refl, sym, ap, ℕ, ◌+◌, ◌==◌, ◌<◌, ◌≤◌, Bool, true, false, not, ◌&&◌, ◌||◌, cond, find, ◌⊎◌, inl, inr, List, [], ◌∷◌, ◌++◌, length, take, map, Option, Some, arith, length-append}
+use Rattle.std.proofs.Common.{◌≡◌, ◌∙◌, refl, sym, ap, ℕ, ◌+◌, ◌==◌, ◌<◌, ◌≤◌, Bool, true, false, not, ◌&&◌, ◌||◌, ◌⊎◌, inl, inr, [], ◌∷◌, ◌++◌, length, take, map, Option, arith, length-append}
 use Rattle.std.specs.Prelude.{nat_le}
 use Rattle.std.specs.Option.{option_map, unwrap_or, is_some}
-use Rattle.std.proofs.lemmas.Bool.Decides.{nat_tests}
 use Rattle.std.proofs.lemmas.List.{take-append-le, take_all}
+use Rattle.std.proofs.lemmas.Bool.{and_parts, eqb-true, le-leb, eq-eqb, lt-leb, ne_eqb, leb-true, leb-false, false_from_ne_true}
+use Rattle.std.proofs.Math.Bool.{and-false, and-true}
 use Rattle.rd_dirinfo.specs.declared.naming.Naming.{Naming}
 use Rattle.rd_dirinfo.specs.Naming.{Name}
 use Rattle.rd_dirinfo.specs.Paths.{Names, is_below, is_parent, is_prefix, is_same_path, last_name, parent}
 use Rattle.rd_tree.specs.Places.{Place, Places, own_path, IsLive, IsWhole}
-use Rattle.rd_tree.proofs.ParentLemmas.{at_most, both_true, equals, parent_same, same_parent}
+use Rattle.rd_tree.proofs.ParentLemmas.{parent_same, same_parent}
 use Rattle.rd_tree.proofs.PlaceLemmas.{last_of, parent_of}
 use Rattle.rd_tree.proofs.WayLemmas.{same_true}
 use Rattle.rd_drive.specs.Access.{has_any}
 use Rattle.rd_drive.specs.Outcome as outcome
 use Rattle.rd_drive.specs.Telling.{is_watched, tells}
-use Rattle.rd_drive.proofs.LockLemmas.{alike, equal_numbers, same_number}
+use Rattle.rd_drive.proofs.LockLemmas.{alike}
 
 -- ---- paths
 
@@ -34,25 +35,9 @@ path_split path some = by (snoc path)
     by (inl e) = absurd (some e)
     by (inr s) = s.2 ∙ (λ i. sym (ap parent s.2 ∙ parent_of s.0 s.1) i ++ sym (ap last_name s.2 ∙ last_of s.0 s.1) i ∷ [])
 
-not_at_most : (a b : ℕ) → b < a → nat_le a b ≡ false
-not_at_most a b h = grind (arith, nat_tests)
-
-unequal : (a b : ℕ) → (a ≡ b → ⊥) → (a == b) ≡ false
-unequal a b h = grind (arith, nat_tests)
-
-pub at_most_is : (a b : ℕ) → nat_le a b ≡ true → a ≤ b
-at_most_is a b h = grind (arith, nat_tests)
-
-below_is : (a b : ℕ) → nat_le a b ≡ false → b < a
-below_is a b h = grind (arith, nat_tests)
-
-and_false : (a : Bool) → (a && false) ≡ false
-and_false true = refl
-and_false false = refl
-
 module _ (naming : Naming) (p : Names) where
   pub prefix_itself : is_prefix naming p p ≡ true
-  prefix_itself = (λ i. at_most (length p) (length p) (omega arith) i && ap (is_same_path naming p) (take_all (length p) p (omega arith)) i) ∙ same_true naming p p refl
+  prefix_itself = (λ i. le-leb (length p) (length p) (omega arith) i && ap (is_same_path naming p) (take_all (length p) p (omega arith)) i) ∙ same_true naming p p refl
 
   -- with one more name, a path is at or below another where it was, if it isn't the same as it
   pub prefix_more : (q : Names) (x : Name) → (is_same_path naming p (q ++ x ∷ []) ≡ true → ⊥) → is_prefix naming p (q ++ x ∷ []) ≡ is_prefix naming p q
@@ -63,22 +48,18 @@ module _ (naming : Naming) (p : Names) where
 
       none : is_prefix naming p (q ++ x ∷ []) ≡ true → (length p ≤ length q → ⊥) → ⊥
       none is longer =
-          let parts = both_true (nat_le (length p) (length (q ++ x ∷ []))) (is_same_path naming p (take (length p) (q ++ x ∷ []))) is in
-          let fits : length p ≤ length (q ++ x ∷ []) = at_most_is (length p) (length (q ++ x ∷ [])) parts.0 in
+          let parts = and_parts (nat_le (length p) (length (q ++ x ∷ []))) (is_same_path naming p (take (length p) (q ++ x ∷ []))) is in
+          let fits : length p ≤ length (q ++ x ∷ []) = leb-true (length p) (length (q ++ x ∷ [])) parts.0 in
           apart (ap (is_same_path naming p) (sym (take_all (length p) (q ++ x ∷ []) (omega (arith, long)))) ∙ parts.1)
-
-      false_of : (b : Bool) → (b ≡ true → ⊥) → b ≡ false
-      false_of true f = absurd (f refl)
-      false_of false f = refl
 
       by : (b : Bool) → nat_le (length p) (length q) ≡ b → is_prefix naming p (q ++ x ∷ []) ≡ is_prefix naming p q
       by true e =
-          let short : length p ≤ length q = at_most_is (length p) (length q) e in
-          (λ i. at_most (length p) (length (q ++ x ∷ [])) (omega (arith, long)) i && ap (is_same_path naming p) (take-append-le (length p) q (x ∷ []) short) i)
+          let short : length p ≤ length q = leb-true (length p) (length q) e in
+          (λ i. le-leb (length p) (length (q ++ x ∷ [])) (omega (arith, long)) i && ap (is_same_path naming p) (take-append-le (length p) q (x ∷ []) short) i)
           ∙ sym (ap (λ b. b && is_same_path naming p (take (length p) q)) e)
       by false e =
-          let longer : length p ≤ length q → ⊥ = λ h. let both : true ≡ false = sym (at_most (length p) (length q) h) ∙ e in absurd (cc) in
-          false_of (is_prefix naming p (q ++ x ∷ [])) (λ is. none is longer) ∙ sym (ap (λ b. b && is_same_path naming p (take (length p) q)) e)
+          let longer : length p ≤ length q → ⊥ = λ h. let both : true ≡ false = sym (le-leb (length p) (length q) h) ∙ e in absurd (cc) in
+          false_from_ne_true (is_prefix naming p (q ++ x ∷ [])) (λ is. none is longer) ∙ sym (ap (λ b. b && is_same_path naming p (take (length p) q)) e)
 
   -- with one more name, a path is below another where it was at or below it
   pub below_more : (q : Names) (x : Name) → is_below naming p (q ++ x ∷ []) ≡ is_prefix naming p q
@@ -87,32 +68,28 @@ module _ (naming : Naming) (p : Names) where
       long : length (q ++ x ∷ []) ≡ length q + 1
       long = length-append q (x ∷ [])
 
-      and_true : (a : Bool) → (a && true) ≡ a
-      and_true true = refl
-      and_true false = refl
-
       by : (b : Bool) → nat_le (length p) (length q) ≡ b → is_below naming p (q ++ x ∷ []) ≡ is_prefix naming p q
       by true e =
-          let short : length p ≤ length q = at_most_is (length p) (length q) e in
+          let short : length p ≤ length q = leb-true (length p) (length q) e in
           let differ : length p ≡ length (q ++ x ∷ []) → ⊥ = λ h. omega (arith, long) in
-          (λ i. (at_most (length p) (length (q ++ x ∷ [])) (omega (arith, long)) i && ap (is_same_path naming p) (take-append-le (length p) q (x ∷ []) short) i) && not (unequal (length p) (length (q ++ x ∷ [])) differ i))
-          ∙ and_true (is_same_path naming p (take (length p) q))
+          (λ i. (le-leb (length p) (length (q ++ x ∷ [])) (omega (arith, long)) i && ap (is_same_path naming p) (take-append-le (length p) q (x ∷ []) short) i) && not (ne_eqb (length p) (length (q ++ x ∷ [])) differ i))
+          ∙ and-true (is_same_path naming p (take (length p) q))
           ∙ sym (ap (λ b. b && is_same_path naming p (take (length p) q)) e)
       by false e = far (nat_le (length p) (length (q ++ x ∷ []))) refl ∙ sym (ap (λ b. b && is_same_path naming p (take (length p) q)) e)
         where
           longer : length q < length p
-          longer = below_is (length p) (length q) e
+          longer = leb-false (length p) (length q) e
 
           far : (b : Bool) → nat_le (length p) (length (q ++ x ∷ [])) ≡ b → is_below naming p (q ++ x ∷ []) ≡ false
           far true h =
-              let fits : length p ≤ length (q ++ x ∷ []) = at_most_is (length p) (length (q ++ x ∷ [])) h in
+              let fits : length p ≤ length (q ++ x ∷ []) = leb-true (length p) (length (q ++ x ∷ [])) h in
               let same : length p ≡ length (q ++ x ∷ []) = omega (arith, long, longer) in
-              ap (λ b. is_prefix naming p (q ++ x ∷ []) && not b) (same_number (length p) (length (q ++ x ∷ [])) same) ∙ and_false (is_prefix naming p (q ++ x ∷ []))
+              ap (λ b. is_prefix naming p (q ++ x ∷ []) && not b) (eq-eqb (length p) (length (q ++ x ∷ [])) same) ∙ and-false (is_prefix naming p (q ++ x ∷ []))
           far false h = ap (λ b. (b && is_same_path naming p (take (length p) (q ++ x ∷ []))) && not (length p == length (q ++ x ∷ []))) h
 
   -- nothing is below which the root is
   prefix_root : is_prefix naming p [] ≡ true → p ≡ []
-  prefix_root e = empty p (at_most_is (length p) 0 (both_true (nat_le (length p) 0) (is_same_path naming p (take (length p) [])) e).0)
+  prefix_root e = empty p (leb-true (length p) 0 (and_parts (nat_le (length p) 0) (is_same_path naming p (take (length p) [])) e).0)
     where
       empty : (l : Names) → length l ≤ 0 → l ≡ []
       empty [] h = refl
@@ -123,10 +100,10 @@ module _ (naming : Naming) (p : Names) where
     where
       apart : (l : Names) → is_below naming l [] ≡ false
       apart [] = refl
-      apart (x ∷ l) = ap (λ b. (b && is_same_path naming (x ∷ l) (take (length (x ∷ l)) [])) && not (length (x ∷ l) == 0)) (not_at_most (length (x ∷ l)) 0 (omega arith))
+      apart (x ∷ l) = ap (λ b. (b && is_same_path naming (x ∷ l) (take (length (x ∷ l)) [])) && not (length (x ∷ l) == 0)) (lt-leb (length (x ∷ l)) 0 (omega arith))
 
       single : (l : Names) → is_parent naming l [] ≡ false
-      single l = ap (λ b. is_prefix naming l [] && b) (unequal 0 (length l + 1) (λ h. omega arith)) ∙ and_false (is_prefix naming l [])
+      single l = ap (λ b. is_prefix naming l [] && b) (ne_eqb 0 (length l + 1) (λ h. omega arith)) ∙ and-false (is_prefix naming l [])
 
       by : (d : Bool) → is_watched naming p d [] ≡ false
       by true = λ i. single p i || apart p i
@@ -139,9 +116,9 @@ module _ (naming : Naming) (p : Names) where
       by : (a : Bool) → is_parent naming p (q ++ x ∷ []) ≡ a → (d : Bool) → (a || (d && is_below naming p (q ++ x ∷ []))) ≡ true → is_below naming p (q ++ x ∷ []) ≡ true
       by true a d h =
           let same : is_same_path naming p q ≡ true = same_true naming p q (parent_same naming p q x a) in
-          let parts = both_true (is_prefix naming p (q ++ x ∷ [])) (length (q ++ x ∷ []) == length p + 1) a in
-          let long : length q ≡ length p = omega (arith, equals (length (q ++ x ∷ [])) (length p + 1) parts.1, length-append q (x ∷ [])) in
-          below_more q x ∙ (λ i. at_most (length p) (length q) (omega arith) i && ap (is_same_path naming p) (ap (λ n. take n q) (sym long) ∙ take_all (length q) q (omega arith)) i) ∙ same
+          let parts = and_parts (is_prefix naming p (q ++ x ∷ [])) (length (q ++ x ∷ []) == length p + 1) a in
+          let long : length q ≡ length p = omega (arith, eqb-true (length (q ++ x ∷ [])) (length p + 1) parts.1, length-append q (x ∷ [])) in
+          below_more q x ∙ (λ i. le-leb (length p) (length q) (omega arith) i && ap (is_same_path naming p) (ap (λ n. take n q) (sym long) ∙ take_all (length q) q (omega arith)) i) ∙ same
       by false a true h = h
       by false a false h = absurd (cc)
 
@@ -150,20 +127,11 @@ module _ (naming : Naming) (p : Names) where
   told_below deep filter change e = by (snoc change.path)
     where
       watched : is_watched naming p deep change.path ≡ true
-      watched = (both_true (has_any filter change.bits) (is_watched naming p deep change.path) e).1
+      watched = (and_parts (has_any filter change.bits) (is_watched naming p deep change.path) e).1
 
       by : (change.path ≡ []) ⊎ ((front : Names) × (name : Name) × (change.path ≡ front ++ name ∷ [])) → is_below naming p change.path ≡ true
       by (inl none) = absurd (let both : true ≡ false = sym watched ∙ ap (is_watched naming p deep) none ∙ root_unwatched deep in (cc))
       by (inr s) = ap (is_below naming p) s.2 ∙ watched_below deep s.0 s.1 (ap (is_watched naming p deep) (sym s.2) ∙ watched)
-
--- the first that passes a test passes it
-pub find_passes : {X : Type 0} (test : X → Bool) (xs : List X) (x : X) → find test xs ≡ Some x → test x ≡ true
-find_passes test [] x e = absurd (cc)
-find_passes test (y ∷ xs) x e = by (λ h. find_passes test xs x h) (test y) refl e
-  where
-    by : (find test xs ≡ Some x → test x ≡ true) → (b : Bool) → test y ≡ b → cond b (Some y) (find test xs) ≡ Some x → test x ≡ true
-    by later true is h = let same : y ≡ x = ap (λ o. unwrap_or o x) h in ap test (sym same) ∙ is
-    by later false is h = later h
 
 -- ---- nodes
 
@@ -189,15 +157,15 @@ module _ (tree : Places) (whole : IsWhole tree) where
     one_of_them : is_same_path tree.naming (own_path tree f) (own_path tree m) ≡ (m == f)
     one_of_them =
         alike (is_same_path tree.naming (own_path tree f) (own_path tree m)) (m == f)
-        (λ e. same_number m f (sym (whole.apart f m f_live m_live e)))
-        (λ e. ap (λ (k : ℕ). is_same_path tree.naming (own_path tree k) (own_path tree m)) (sym (equal_numbers m f e)) ∙ same_true tree.naming (own_path tree m) (own_path tree m) refl)
+        (λ e. eq-eqb m f (sym (whole.apart f m f_live m_live e)))
+        (λ e. ap (λ (k : ℕ). is_same_path tree.naming (own_path tree k) (own_path tree m)) (sym (eqb-true m f e)) ∙ same_true tree.naming (own_path tree m) (own_path tree m) refl)
 
     -- a path is in a folder where its parent is that folder's number
     in_seen : (x : Name) → is_parent tree.naming (own_path tree f) (own_path tree m ++ x ∷ []) ≡ (m == f)
     in_seen x =
         alike (is_parent tree.naming (own_path tree f) (own_path tree m ++ x ∷ [])) (m == f)
         (λ e. sym one_of_them ∙ same_true tree.naming (own_path tree f) (own_path tree m) (parent_same tree.naming (own_path tree f) (own_path tree m) x e))
-        (λ e. ap (λ (k : ℕ). is_parent tree.naming (own_path tree k) (own_path tree m ++ x ∷ [])) (sym (equal_numbers m f e)) ∙ same_parent tree.naming (own_path tree m) x)
+        (λ e. ap (λ (k : ℕ). is_parent tree.naming (own_path tree k) (own_path tree m ++ x ∷ [])) (sym (eqb-true m f e)) ∙ same_parent tree.naming (own_path tree m) x)
 
     -- whether a change is watched, by its parent's number
     pub watched_seen : (deep : Bool) (path : Names) (x : Name) → path ≡ own_path tree m ++ x ∷ []
@@ -226,7 +194,7 @@ module _ (tree : Places) (whole : IsWhole tree) where
     above_step apart k up other =
         let split : own_path tree m ≡ parent (own_path tree m) ++ last_name (own_path tree m) ∷ [] = path_split (own_path tree m) (has_names m m_live other) in
         let differ : is_same_path tree.naming (own_path tree f) (parent (own_path tree m) ++ last_name (own_path tree m) ∷ []) ≡ true → ⊥ =
-        λ e. apart (equal_numbers m f (sym one_of_them ∙ ap (is_same_path tree.naming (own_path tree f)) split ∙ e)) in
+        λ e. apart (eqb-true m f (sym one_of_them ∙ ap (is_same_path tree.naming (own_path tree f)) split ∙ e)) in
         ap (is_prefix tree.naming (own_path tree f)) split ∙ prefix_more tree.naming (own_path tree f) (parent (own_path tree m)) (last_name (own_path tree m)) differ
         ∙ ap (is_prefix tree.naming (own_path tree f)) (sym up)
 

@@ -22,7 +22,7 @@ cancelled_keys [] = refl
 cancelled_keys (w ∷ ws) = ap (λ (rs : List KeyedReply). cancelled_reply (parked_of w) ∷ rs) (cancelled_keys ws)
 
 module _ (requests : Key → Request) where
-  -- what its entry says of a turn is so, and what is left of the turns is told behind it
+  -- what its entry says of a turn is so, and what is left of the turns is told after it
   behind : (old between new : DriveState) (turn : Turn) (turns : List Turn) → state_after drive_step drive_cut requests old (item_of turn) ≡ between
       → replies_at drive_step drive_cut requests old (item_of turn) ≡ turn_replies turn → IsToldBy drive_step drive_cut requests old (item_of turn)
       → TellsTurns between new requests turns → TellsTurns old new requests (turn ∷ turns)

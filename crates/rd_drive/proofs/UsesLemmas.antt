@@ -2,7 +2,6 @@
 use Rattle.std.proofs.Common.{◌≡◌, ◌∙◌, refl, sym, ap, ℕ, ◌+◌, ◌≤◌, ◌==◌, Bool, true, false, not, ◌&&◌, ◌||◌, cond, List, [], ◌∷◌, length, Some, None, count_by, zero-add, arith}
 use Rattle.std.specs.Prelude.{nat_lt}
 use Rattle.std.specs.List.{list_any}
-use Rattle.std.specs.Option.{unwrap_or}
 use Rattle.std.specs.Ordering.{nat_cmp, is_eq}
 use Rattle.std.specs.declared.cmp.Ordering.{Ordering}
 use Rattle.std.specs.declared.cmp.Ordering.TheVariants.{Less, Equal, Greater}
@@ -11,6 +10,8 @@ use Rattle.std.specs.BTreeMap.{insert_entry, is_at}
 use Rattle.std.specs.Ordering.{match_ordering}
 use Rattle.std.proofs.lemmas.Bool.Decides.{nat_tests}
 use Rattle.std.proofs.lemmas.List.Sums.{sum_by-cons}
+use Rattle.std.proofs.lemmas.Option.{same_Some}
+use Rattle.std.proofs.Math.Bool.{and_assoc, and-or_distrib_left}
 use Rattle.rd_drive.specs.declared.access.Use.{Use}
 use Rattle.rd_drive.specs.declared.uses.Uses.{Uses}
 use Rattle.rd_drive.specs.declared.handle.Handle as kept
@@ -71,9 +72,6 @@ more_swap u v c = counts_same (more u (more v c)) (more v (more u c))
 abbrev pub use_by : kept.Handle → Use
 use_by h = use_of h.access h.share
 
-some_inside : {X : Type 0} (x y : X) → Some x ≡ Some y → x ≡ y
-some_inside x y e = ap (λ o. unwrap_or o x) e
-
 module _ (n : ℕ) where
   -- those of one entry and of others
   abbrev on_with : Bool → kept.Handle → List Use → List Use
@@ -104,7 +102,7 @@ module _ (n : ℕ) where
         by : (lookup test es ≡ Some h → uses_of (uses_on n es) ≡ cond (h.node.0 == n) (more (use_by h) (uses_of (uses_on n rest))) (uses_of (uses_on n rest))) → (b : Bool) → test e.0 ≡ b
             → uses_of (on_with (e.1.node.0 == n) e.1 (uses_on n es)) ≡ cond (h.node.0 == n) (more (use_by h) (uses_of (uses_on n (cond (test e.0) es (e ∷ rest))))) (uses_of (uses_on n (cond (test e.0) es (e ∷ rest))))
         by after true this =
-            let one : e.1 ≡ h = some_inside e.1 h (sym (ap (λ b. cond b (Some e.1) (lookup test es)) this) ∙ is) in
+            let one : e.1 ≡ h = same_Some e.1 h (sym (ap (λ b. cond b (Some e.1) (lookup test es)) this) ∙ is) in
             ap (λ (g : kept.Handle). uses_of (on_with (g.node.0 == n) g (uses_on n es))) one
             ∙ counted_with (h.node.0 == n) h (uses_on n es)
             ∙ ap (λ b. cond (h.node.0 == n) (more (use_by h) (uses_of (uses_on n (cond b es (e ∷ rest))))) (uses_of (uses_on n (cond b es (e ∷ rest))))) (sym this)
@@ -224,14 +222,6 @@ uses_already false true d x y z = refl
 uses_already false false true x y z = refl
 uses_already false false false x y z = refl
 
-split_or : (g a b : Bool) → (g && (a || b)) ≡ ((g && a) || (g && b))
-split_or true a b = refl
-split_or false a b = refl
-
-apart : (g h a : Bool) → ((g && h) && a) ≡ (g && (h && a))
-apart true h a = refl
-apart false h a = refl
-
 module _ (u : Use) where
   abbrev unshared_by : Use → Bool
   unshared_by o =
@@ -241,9 +231,9 @@ module _ (u : Use) where
 
   clash_is : (o : Use) → clash u o ≡ (is_using u && (unshared_by o || is_unshared o u))
   clash_is o =
-      apart (is_using u) (is_using o) (is_unshared u o || is_unshared o u)
+      and_assoc (is_using u) (is_using o) (is_unshared u o || is_unshared o u)
       ∙ ap (λ b. is_using u && b) (
-      split_or (is_using o) (is_unshared u o) (is_unshared o u)
+      and-or_distrib_left (is_using o) (is_unshared u o) (is_unshared o u)
       ∙ (λ i. past_using (is_using o) u.is_reading u.is_writing u.is_deleting (not (has_any share_read o.share)) (not (has_any share_write o.share)) (not (has_any share_delete o.share)) i
       || uses_already o.is_reading o.is_writing o.is_deleting (not (has_any share_read u.share)) (not (has_any share_write u.share)) (not (has_any share_delete u.share)) i))
 

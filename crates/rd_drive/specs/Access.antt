@@ -1,7 +1,7 @@
 -- What a handle may do and lets others do, and the attributes of nodes (MS-RDPEFS 2.2.1.4.1, MS-SMB2 2.2.13 and 2.2.13.1, MS-FSCC 2.6).
 use Rattle.std.specs.Prelude.{ℕ, ◌+◌, ◌==◌, ◌&&◌, ◌||◌, Bool, not, if◌then◌else◌, bit_and, bit_or}
 use Rattle.rd_drive.specs.declared.access.Use.{Use}
-use Rattle.rd_drive.specs.DriveState.{Node, is_folder}
+use Rattle.rd_drive.specs.DriveState.{Node, is_folder_node}
 
 -- whether a number has one of these bits
 abbrev pub has_any : ℕ → ℕ → Bool
@@ -62,7 +62,7 @@ clash u other = is_using u && is_using other && (is_unshared u other || is_unsha
 
 -- a file with READONLY
 abbrev pub is_readonly : Node → Bool
-is_readonly node = not (is_folder node) && has_any 1 node.attributes
+is_readonly node = not (is_folder_node node) && has_any 1 node.attributes
 
 -- what a new file stores: READONLY, HIDDEN and SYSTEM as asked, and ARCHIVE
 abbrev pub new_file_attributes : ℕ → ℕ
@@ -74,10 +74,10 @@ new_folder_attributes asked = bit_and asked 7
 
 -- what a node stores of attributes that are set: READONLY, HIDDEN and SYSTEM, and for a file ARCHIVE
 abbrev pub set_attributes : Node → ℕ → ℕ
-set_attributes node asked = if is_folder node then bit_and asked 7 else bit_and asked 0x27
+set_attributes node asked = if is_folder_node node then bit_and asked 7 else bit_and asked 0x27
 
 -- what a node shows: a folder DIRECTORY beside what it stores, and a file what it stores, or NORMAL for nothing
 abbrev pub shown_attributes : Node → ℕ
 shown_attributes node =
-    if is_folder node then bit_or node.attributes 0x10
+    if is_folder_node node then bit_or node.attributes 0x10
     else (if node.attributes == 0 then 0x80 else node.attributes)

@@ -2,16 +2,17 @@
 use Rattle.std.specs.Prelude.{ℕ, ◌==◌, ◌&&◌, ◌||◌, Bool, not, nat_le, nat_lt, if◌then◌else◌, List, [], ◌∷◌, length, map, Option, Some, None, false}
 use Rattle.std.specs.List.{list_any, list_all}
 use Rattle.std.specs.Option.{option_map_or}
-use Rattle.rd_dirinfo.specs.Paths.{Names, path_of, parent}
+use Rattle.rd_dirinfo.specs.Paths.{Names, parsed_path, parent}
 use Rattle.rd_dirinfo.specs.Patterns.{any_name}
 use Rattle.rd_irp.specs.declared.completion.Body.TheVariants.{Created}
-use Rattle.rd_drive.specs.DriveState.{DriveState, Node, Handle, node_at, asked_path, with_node, with_new_node, with_new_handle, has_open, is_folder, is_folder_at, new_node, max_nodes, max_handles, file_id_limit}
+use Rattle.rd_drive.specs.DriveState.{DriveState, Node, Handle, node_of_path, made_path, with_node, with_new_node, with_new_handle, has_open, is_folder_node, has_folder, new_node, max_handles, file_id_limit}
 use Rattle.rd_drive.specs.declared.access.Use.{Use}
 use Rattle.rd_drive.specs.declared.asked.Asked.{Asked}
 use Rattle.rd_drive.specs.Access.{use_of, clash, has_any, writes, is_readonly, new_file_attributes, new_folder_attributes}
 use Rattle.rd_drive.specs.Outcome.{Outcome, Change, changed, fault, one_of, checked, given, succeeded}
 use Rattle.rd_drive.specs.Changes.{added, modified}
-use Rattle.rd_drive.specs.Statuses.{invalid_parameter, object_name_invalid, too_many_opened_files, object_path_not_found, object_name_collision, not_a_directory, file_is_a_directory, delete_pending, access_denied, sharing_violation, object_name_not_found, disk_full}
+use Rattle.rd_base.specs.Statuses.{invalid_parameter, object_name_invalid, too_many_opened_files, object_path_not_found, object_name_collision, not_a_directory, file_is_a_directory, delete_pending, access_denied, sharing_violation, object_name_not_found, disk_full}
+use Rattle.rd_base.specs.Limits.{max_nodes}
 
 -- FILE_DIRECTORY_FILE
 abbrev pub wants_folder : Asked → Bool
@@ -103,8 +104,8 @@ abbrev pub open_node : DriveState → Asked → ℕ → Node → Outcome
 open_node s asked moment node =
     checked s
     ((asked.disposition == create_new, fault object_name_collision)
-    ∷ (wants_folder asked && not (is_folder node), fault not_a_directory)
-    ∷ (is_folder node && (wants_file asked || replaces asked), fault file_is_a_directory)
+    ∷ (wants_folder asked && not (is_folder_node node), fault not_a_directory)
+    ∷ (is_folder_node node && (wants_file asked || replaces asked), fault file_is_a_directory)
     ∷ (node.pending, fault delete_pending)
     ∷ (deletes_on_close asked && length node.path == 0, fault access_denied)
     ∷ (is_readonly node && (writes asked.access || replaces asked), fault access_denied)
@@ -126,11 +127,11 @@ made_node asked path moment = new_node path (if wants_folder asked then None els
 
 -- whether the node at a path goes with its last handle
 abbrev pub is_pending_at : DriveState → Names → Bool
-is_pending_at s path = option_map_or (λ (node : Node). node.pending) (node_at s path) false
+is_pending_at s path = option_map_or (λ (node : Node). node.pending) (node_of_path s path) false
 
 abbrev pub make_node : DriveState → Asked → ℕ → Names → Outcome
 make_node s asked moment path =
-    let node = made_node asked (asked_path s path) moment in
+    let node = made_node asked (made_path s path) moment in
     checked s
     ((asked.disposition == open_existing || asked.disposition == overwrite, fault object_name_not_found)
     ∷ (is_pending_at s (parent path), fault delete_pending)
@@ -155,9 +156,9 @@ create s moment asked units =
     checked s
     ((is_contradictory asked, fault invalid_parameter)
     ∷ [])
-    (given s (path_of units) object_name_invalid (λ path.
+    (given s (parsed_path units) object_name_invalid (λ path.
     checked s
     ((is_full s, fault too_many_opened_files)
-    ∷ (not (list_all (is_folder_at s) (folders_above path)), fault object_path_not_found)
+    ∷ (not (list_all (has_folder s) (folders_above path)), fault object_path_not_found)
     ∷ [])
-    (open_or_make s asked moment path (node_at s path))))
+    (open_or_make s asked moment path (node_of_path s path))))

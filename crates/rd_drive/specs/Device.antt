@@ -10,7 +10,7 @@ use Rattle.rd_drive.specs.declared.plan.Job.{Job}
 use Rattle.rd_drive.specs.declared.step.Step.{Step}
 use Rattle.rd_drive.specs.declared.step.Step.TheVariants as step
 use Rattle.rd_drive.specs.declared.step.End.{End}
-use Rattle.rd_drive.specs.Statuses.{no_memory}
+use Rattle.rd_base.specs.Statuses.{no_memory}
 
 -- a request that waits: its key, and the layout of its completion
 pub record Parked : Type 0 where
@@ -18,12 +18,12 @@ pub record Parked : Type 0 where
   pub kind : Kind
 
 -- a reply with which a request of this layout may be completed, and that can be sent
-abbrev pub Completes : Kind → Reply → Type 0
-Completes kind reply = BodyFits kind reply.status reply.body × IsSendable reply.body
+abbrev pub CompletesKind : Kind → Reply → Type 0
+CompletesKind kind reply = BodyFits kind reply.status reply.body × IsSendable reply.body
 
 -- An end is a waiting request's: it has its key, and a reply of its layout.
 abbrev pub IsEndOf : Parked → End → Type 0
-IsEndOf waiting ended = (ended.key ≡ waiting.key) × Completes waiting.kind ended.reply
+IsEndOf waiting ended = (ended.key ≡ waiting.key) × CompletesKind waiting.kind ended.reply
 
 -- Some of the requests that wait end, and the others wait on: both in the order in which they began to wait.
 abbrev pub AreEnded : List Parked → List End → List Parked → Type 0

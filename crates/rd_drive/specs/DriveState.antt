@@ -64,17 +64,9 @@ pub record DriveState : Type 0 where
   -- the file id that is given next
   pub next : ℕ
 
--- the most nodes of a drive, its root counted
-abbrev pub max_nodes : ℕ
-max_nodes = 65536
-
 -- the most handles of a drive
 abbrev pub max_handles : ℕ
 max_handles = 4096
-
--- the most locks of a drive, with the ranges that requests wait for
-abbrev pub max_locks : ℕ
-max_locks = 65536
 
 -- the most requests that wait at a drive
 abbrev pub max_waiting : ℕ
@@ -102,16 +94,16 @@ abbrev pub is_at_path : Naming → Names → Node → Bool
 is_at_path naming path node = is_same_path naming node.path path
 
 -- the node at a path, if there is one
-abbrev pub node_at : DriveState → Names → Option Node
-node_at s path = find (is_at_path s.naming path) s.nodes
+abbrev pub node_of_path : DriveState → Names → Option Node
+node_of_path s path = find (is_at_path s.naming path) s.nodes
 
 -- a path as the drive has it; a path where no node stands stays as it is
-abbrev pub kept_path : DriveState → Names → Names
-kept_path s path = option_map_or (λ (node : Node). node.path) (node_at s path) path
+abbrev pub node_path : DriveState → Names → Names
+node_path s path = option_map_or (λ (node : Node). node.path) (node_of_path s path) path
 
 -- the path that a node gets: its folder's as the drive has it, and the last name as asked
-abbrev pub asked_path : DriveState → Names → Names
-asked_path s path = kept_path s (parent path) ++ last_name path ∷ []
+abbrev pub made_path : DriveState → Names → Names
+made_path s path = node_path s (parent path) ++ last_name path ∷ []
 
 -- with another node in the place of the one at its path
 abbrev pub with_node : DriveState → Node → DriveState
@@ -126,16 +118,16 @@ abbrev pub without_node : DriveState → Names → DriveState
 without_node s path = record s { nodes = filter (λ (node : Node). not (is_at_path s.naming path node)) s.nodes }
 
 -- whether a node is a folder
-abbrev pub is_folder : Node → Bool
-is_folder node = not (is_some node.bytes)
+abbrev pub is_folder_node : Node → Bool
+is_folder_node node = not (is_some node.bytes)
 
 -- the bytes of a file; a folder has none
 abbrev pub bytes_of : Node → List ℕ
 bytes_of node = unwrap_or node.bytes []
 
 -- whether a folder stands at a path
-abbrev pub is_folder_at : DriveState → Names → Bool
-is_folder_at s path = option_map_or is_folder (node_at s path) false
+abbrev pub has_folder : DriveState → Names → Bool
+has_folder s path = option_map_or is_folder_node (node_of_path s path) false
 
 -- whether something stands in the folder at a path
 abbrev pub has_children : DriveState → Names → Bool
@@ -202,7 +194,7 @@ opening_attributes (Some bytes) = 0x20
 
 -- the same drive with a folder, or a file with bytes, at a path where nothing stands
 abbrev pub holding : DriveState → Names × Option (List ℕ) → DriveState
-holding s first = with_new_node s (new_node (asked_path s first.0) first.1 (opening_attributes first.1) 0)
+holding s first = with_new_node s (new_node (made_path s first.0) first.1 (opening_attributes first.1) 0)
 
 -- what a drive begins with: its naming, its label, and folders and files, each after its folder, and no path twice
 abbrev pub opening : Naming → List ℕ → List (Names × Option (List ℕ)) → DriveState

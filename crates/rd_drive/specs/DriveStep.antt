@@ -19,7 +19,7 @@ use Rattle.rd_drive.specs.Locking.{lock}
 use Rattle.rd_drive.specs.Notify.{notify}
 use Rattle.rd_drive.specs.Stepped.{Stepped, Settled}
 use Rattle.rd_drive.specs.Waiting.{settled}
-use Rattle.rd_drive.specs.Statuses.{invalid_parameter, not_supported, cancelled}
+use Rattle.rd_base.specs.Statuses.{invalid_parameter, not_supported, cancelled}
 
 -- what an operation with a key and a file id comes to at a moment
 abbrev pub outcome_of : DriveState → Key → ℕ → Op → ℕ → Outcome

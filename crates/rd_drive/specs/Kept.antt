@@ -8,7 +8,7 @@ use Rattle.rd_drive.specs.declared.store.Store.{Store}
 use Rattle.rd_drive.specs.DriveState.{DriveState, Handle, Node}
 use Rattle.rd_drive.specs.Outcome.{Outcome, checked, given, refused}
 use Rattle.rd_drive.specs.SetFile.{set_checks}
-use Rattle.rd_drive.specs.Statuses.{invalid_info_class, no_memory}
+use Rattle.rd_base.specs.Statuses.{invalid_info_class, no_memory}
 use Rattle.rd_drive.specs.Store.{States, state_of, node_with}
 
 -- the place of a live number, with these bytes

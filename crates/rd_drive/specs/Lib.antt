@@ -1,5 +1,4 @@
 pub mod Planned
-pub mod Statuses
 pub mod DriveState
 pub mod Access
 pub mod Outcome

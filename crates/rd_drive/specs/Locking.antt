@@ -6,12 +6,12 @@ use Rattle.rd_base.specs.declared.journal.Key.{Key}
 use Rattle.rd_irp.specs.declared.op.Range.{Range}
 use Rattle.rd_irp.specs.declared.completion.Body.TheVariants.{Locked}
 use Rattle.rd_dirinfo.specs.Paths.{Names, is_same_path}
-use Rattle.rd_locks.specs.Locks.{overlaps}
+use Rattle.rd_locks.specs.Locks.{max_locks, overlaps}
 use Rattle.rd_drive.specs.declared.step.Step.TheVariants as step
-use Rattle.rd_drive.specs.DriveState.{DriveState, Handle, Node, Lock, Wish, Ranges, Notice, Waiting, open_path, is_folder, max_locks, max_waiting}
+use Rattle.rd_drive.specs.DriveState.{DriveState, Handle, Node, Lock, Wish, Ranges, Notice, Waiting, open_path, is_folder_node, max_waiting}
 use Rattle.rd_drive.specs.Access.{reads, writes}
 use Rattle.rd_drive.specs.Outcome.{Outcome, News, no_news, fault, one_of, checked, given, succeeded}
-use Rattle.rd_drive.specs.Statuses.{invalid_device_request, access_denied, invalid_parameter, lock_not_granted, insufficient_resources, range_not_locked}
+use Rattle.rd_base.specs.Statuses.{invalid_device_request, access_denied, invalid_parameter, lock_not_granted, insufficient_resources, range_not_locked}
 
 -- RDP_LOWIO_OP_SHAREDLOCK
 abbrev pub shared_lock : ℕ
@@ -38,17 +38,17 @@ locks_on s path = filter (is_on s path) s.locks
 
 -- A lock is in the way of one that is wanted: of an exclusive one each that overlaps, of a shared one another handle's exclusive one that
 -- overlaps.
-abbrev pub is_in_way : Lock → Lock → Bool
-is_in_way wanted lock = overlaps wanted.range lock.range && (wanted.exclusive || (lock.exclusive && not (lock.file == wanted.file)))
+abbrev pub is_lock_in_way : Lock → Lock → Bool
+is_lock_in_way wanted lock = overlaps wanted.range lock.range && (wanted.exclusive || (lock.exclusive && not (lock.file == wanted.file)))
 
 -- whether one is in the way of those that are wanted, each tested against the locks that stand and those wanted before it
 abbrev pub conflicts : List Lock → List Lock → Bool
 conflicts locks [] = false
-conflicts locks (wanted ∷ others) = list_any (is_in_way wanted) locks || conflicts (locks ++ wanted ∷ []) others
+conflicts locks (wanted ∷ others) = list_any (is_lock_in_way wanted) locks || conflicts (locks ++ wanted ∷ []) others
 
 -- the locks that a request for ranges wants
-abbrev pub wanted_locks : ℕ → Bool → List Range → List Lock
-wanted_locks file exclusive ranges = map (λ (range : Range). record { file = file; exclusive = exclusive; range = range }) ranges
+abbrev pub asked_locks : ℕ → Bool → List Range → List Lock
+asked_locks file exclusive ranges = map (λ (range : Range). record { file = file; exclusive = exclusive; range = range }) ranges
 
 -- with all of them taken
 abbrev pub with_locks : DriveState → List Lock → DriveState
@@ -82,7 +82,7 @@ waits s key file wish = record {
 -- All ranges are locked, or the request waits, or it is refused. It never waits where its own ranges are in each other's way.
 abbrev pub lock_ranges : DriveState → Key → ℕ → Names → Bool → Bool → List Range → Outcome
 lock_ranges s key file path exclusive wait ranges =
-    let wanted = wanted_locks file exclusive ranges in
+    let wanted = asked_locks file exclusive ranges in
     let is_blocked = conflicts (locks_on s path) wanted in
     checked s
     ((is_blocked && (not wait || conflicts [] wanted), fault lock_not_granted)
@@ -94,19 +94,19 @@ lock_ranges s key file path exclusive wait ranges =
 -- ---- unlocking
 
 -- whether a lock is the handle's, of exactly this range
-abbrev pub is_lock_of : ℕ → Range → Lock → Bool
-is_lock_of file range lock = lock.file == file && (lock.range).offset == range.offset && (lock.range).length == range.length
+abbrev pub is_own_lock : ℕ → Range → Lock → Bool
+is_own_lock file range lock = lock.file == file && (lock.range).offset == range.offset && (lock.range).length == range.length
 
 -- without the first such lock
 abbrev pub without_lock : ℕ → Range → List Lock → List Lock
 without_lock file range [] = []
-without_lock file range (lock ∷ locks) = if is_lock_of file range lock then locks else lock ∷ without_lock file range locks
+without_lock file range (lock ∷ locks) = if is_own_lock file range lock then locks else lock ∷ without_lock file range locks
 
 -- without the first such lock of each range in turn, if all are there
 abbrev pub without_locks : ℕ → List Lock → List Range → Option (List Lock)
 without_locks file locks [] = Some locks
 without_locks file locks (range ∷ ranges) =
-    if list_any (is_lock_of file range) locks then without_locks file (without_lock file range locks) ranges else None
+    if list_any (is_own_lock file range) locks then without_locks file (without_lock file range locks) ranges else None
 
 -- the news that a file may have fewer locks
 abbrev pub unlocking : Names → News
@@ -125,7 +125,7 @@ is_past_end range = nat_lt (2 ^ 64) (range.offset + range.length)
 abbrev pub lock : DriveState → Key → ℕ → ℕ → Bool → List Range → Handle → Node → Outcome
 lock s key file operation wait ranges handle node =
     checked s
-    ((is_folder node, fault invalid_device_request)
+    ((is_folder_node node, fault invalid_device_request)
     ∷ (not (reads handle.access || writes handle.access), fault access_denied)
     ∷ (not (is_lock_operation operation) || list_any is_past_end ranges, fault invalid_parameter)
     ∷ [])

@@ -6,7 +6,7 @@ use Rattle.std.specs.HashMap.{get}
 use Rattle.rd_dirinfo.specs.Paths.{Names}
 use Rattle.rd_dirinfo.specs.Patterns.{any_name}
 use Rattle.rd_tree.specs.declared.node.NodeId.{NodeId}
-use Rattle.rd_tree.specs.Places.{Adds, IsLive}
+use Rattle.rd_tree.specs.Places.{Adds, IsLive, IsWhole}
 use Rattle.rd_drive.specs.declared.asked.Asked.{Asked}
 use Rattle.rd_drive.specs.declared.handle.Handle as kept
 use Rattle.rd_drive.specs.declared.node.NodeState.{NodeState}
@@ -15,11 +15,11 @@ use Rattle.rd_drive.specs.Access.{has_any, new_file_attributes, use_of, writes}
 use Rattle.rd_drive.specs.UseCounts.{is_clashing, more}
 use Rattle.rd_drive.specs.Create.{asked_use, create_new, deletes_on_close, open_existing, overwrite, replaces, wants_file, wants_folder, found_information, folders_above, is_full, open_or_make, opened, replaced}
 use Rattle.rd_base.specs.declared.status.Status.{Status}
-use Rattle.rd_drive.specs.Statuses.{access_denied, delete_pending, file_is_a_directory, not_a_directory, object_name_collision, object_path_not_found, sharing_violation, too_many_opened_files}
+use Rattle.rd_base.specs.Statuses.{access_denied, delete_pending, file_is_a_directory, not_a_directory, object_name_collision, object_path_not_found, sharing_violation, too_many_opened_files}
 use Rattle.std.specs.List.{list_all}
 use Rattle.rd_drive.specs.Changes.{modified}
 use Rattle.rd_drive.specs.DriveState as drive
-use Rattle.rd_drive.specs.DriveState.{DriveState, Node, is_folder_at, with_node}
+use Rattle.rd_drive.specs.DriveState.{DriveState, Node, has_folder, with_node}
 use Rattle.rd_drive.specs.Outcome.{Outcome, checked, fault}
 use Rattle.rd_drive.specs.Kept.{IsKept}
 use Rattle.rd_drive.specs.Store.{kept_handle}
@@ -43,8 +43,8 @@ pub record AddsHandle (old new : Store) (asked : Asked) (node : NodeId) : Type 0
   pub looked : (k : ℕ) → kept_handle new k ≡ (if is_at (nat_cmp old.next) k then Some (made_handle asked node) else kept_handle old k)
 
 -- what is kept of a node with the use that is asked for counted
-abbrev pub counted : NodeState → Asked → NodeState
-counted state asked = record state { uses = more (use_of asked.access asked.share) state.uses }
+abbrev pub with_asked_use : NodeState → Asked → NodeState
+with_asked_use state asked = record state { uses = more (use_of asked.access asked.share) state.uses }
 
 -- what is kept of a node that is made at a moment
 abbrev pub made_state : ℕ → ℕ → NodeState
@@ -66,6 +66,7 @@ renewed state asked moment = record state {
 pub record AddsNode (old new : Store) (path : Names) (folder : Bool) (attributes moment : ℕ) (n : ℕ) : Type 0 where
   pub others : new ≡ record old { tree = new.tree; states = new.states }
   pub adds : Adds old.tree new.tree path folder n
+  pub is_whole : IsWhole new.tree
   pub kept : IsKept old.states new.states n (made_state attributes moment)
 
 -- The same drive, in which what is kept may lie elsewhere, and of a number that isn't live something else may be kept.
@@ -110,6 +111,6 @@ abbrev pub create_at : DriveState → ℕ → Asked → Names → Outcome
 create_at s moment asked path =
     checked s
     ((is_full s, fault too_many_opened_files)
-    ∷ (not (list_all (is_folder_at s) (folders_above path)), fault object_path_not_found)
+    ∷ (not (list_all (has_folder s) (folders_above path)), fault object_path_not_found)
     ∷ [])
-    (open_or_make s asked moment path (drive.node_at s path))
+    (open_or_make s asked moment path (drive.node_of_path s path))

@@ -7,8 +7,8 @@ use Rattle.rd_irp.specs.declared.completion.Reply.{Reply}
 use Rattle.rd_dirinfo.specs.Paths.{Names}
 use Rattle.rd_drive.specs.declared.step.Step.{Step}
 use Rattle.rd_drive.specs.declared.step.Step.TheVariants as step
-use Rattle.rd_drive.specs.DriveState.{DriveState, Handle, Node, handle_at, node_at}
-use Rattle.rd_drive.specs.Statuses.{success, invalid_handle}
+use Rattle.rd_drive.specs.DriveState.{DriveState, Handle, Node, handle_at, node_of_path}
+use Rattle.rd_base.specs.Statuses.{success, invalid_handle}
 
 -- a change, as those are told who watch a folder: what happened, to the node at which path, and the bits of the filters that ask for it
 pub record Change : Type 0 where
@@ -45,12 +45,12 @@ abbrev pub fault : Status → Reply
 fault status = record { status = status; body = Fault }
 
 -- the operation is answered, and changes nothing
-abbrev pub answered : DriveState → Reply → Outcome
-answered s reply = record { state = s; answer = step.Reply reply; news = no_news }
+abbrev pub outcome_with_reply : DriveState → Reply → Outcome
+outcome_with_reply s reply = record { state = s; answer = step.Reply reply; news = no_news }
 
 -- the operation is refused, and changes nothing
 abbrev pub refused : DriveState → Status → Outcome
-refused s status = answered s (fault status)
+refused s status = outcome_with_reply s (fault status)
 
 -- the operation is done: the state after it, the body of the reply, and the news
 abbrev pub succeeded : DriveState → Body → News → Outcome
@@ -59,7 +59,7 @@ succeeded s body news = record { state = s; answer = step.Reply (done body); new
 -- The first check that applies answers the operation. Where none does, this comes of it.
 unfoldable pub checked : DriveState → List (Bool × Reply) → Outcome → Outcome
 checked s [] outcome = outcome
-checked s (check ∷ checks) outcome = if check.0 then answered s check.1 else checked s checks outcome
+checked s (check ∷ checks) outcome = if check.0 then outcome_with_reply s check.1 else checked s checks outcome
 
 -- the first outcome where the test holds, else the second
 unfoldable pub one_of : Bool → Outcome → Outcome → Outcome
@@ -73,4 +73,4 @@ given s (Some x) status outcome = outcome x
 -- An operation on what a file id has open: its handle and the node. In a drive as requests make it each handle has its node.
 abbrev pub on_handle : DriveState → ℕ → (Handle → Node → Outcome) → Outcome
 on_handle s file outcome =
-    given s (handle_at s file) invalid_handle (λ handle. given s (node_at s handle.path) invalid_handle (outcome handle))
+    given s (handle_at s file) invalid_handle (λ handle. given s (node_of_path s handle.path) invalid_handle (outcome handle))

@@ -9,7 +9,7 @@ use Rattle.rd_drive.specs.declared.step.End.{End}
 use Rattle.rd_drive.specs.Planned.{Planned}
 use Rattle.rd_drive.specs.Device.{IsAnswerTo, Parked, Parks, is_starved}
 use Rattle.rd_drive.specs.Outcome.{fault}
-use Rattle.rd_drive.specs.Statuses.{cancelled}
+use Rattle.rd_base.specs.Statuses.{cancelled}
 use Rattle.rd_drive.specs.Stepped.{Settled, Stepped}
 
 -- What a device promises of a job that it is given at a moment. `Runs` relates the device before, the job, the moment, the answer, the ends of requests

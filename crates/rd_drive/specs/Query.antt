@@ -12,24 +12,24 @@ use Rattle.rd_fileinfo.specs.declared.volume_info.VolumeInfo.{VolumeInfo}
 use Rattle.rd_fileinfo.specs.declared.volume_info.VolumeInfo.TheVariants as of_volume
 use Rattle.rd_fileinfo.specs.FileInfo.{basic, standard, attribute_tag, file_info_bytes}
 use Rattle.rd_fileinfo.specs.VolumeInfo.{volume, size, device, attribute, full_size, volume_info_bytes}
-use Rattle.rd_drive.specs.DriveState.{DriveState, Handle, Node, is_folder, bytes_of}
+use Rattle.rd_drive.specs.DriveState.{DriveState, Handle, Node, is_folder_node, bytes_of}
 use Rattle.rd_drive.specs.Access.{shown_attributes}
 use Rattle.rd_drive.specs.Outcome.{Outcome, no_news, given, succeeded}
-use Rattle.rd_drive.specs.Statuses.{invalid_info_class}
+use Rattle.rd_base.specs.Statuses.{invalid_info_class}
 
 -- how many bytes a file has; a folder has none
-abbrev pub end_of : Node → ℕ
-end_of node = length (bytes_of node)
+abbrev pub node_end : Node → ℕ
+node_end node = length (bytes_of node)
 
 -- how many bytes are kept for them: whole clusters of 4,096
 abbrev pub allocation_of : Node → ℕ
-allocation_of node = next_multiple_of (end_of node) 4096
+allocation_of node = next_multiple_of (node_end node) 4096
 
 -- what a node tells of itself, by class
 abbrev pub node_infos : Node → List (ℕ × FileInfo)
 node_infos node =
     (basic, file.Basic node.moments (shown_attributes node))
-    ∷ (standard, file.Standard (allocation_of node) (end_of node) 1 (flag_number node.pending) (flag_number (is_folder node)))
+    ∷ (standard, file.Standard (allocation_of node) (node_end node) 1 (flag_number node.pending) (flag_number (is_folder_node node)))
     ∷ (attribute_tag, file.Tag (shown_attributes node) 0)
     ∷ []
 

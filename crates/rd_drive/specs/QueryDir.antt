@@ -8,17 +8,17 @@ use Rattle.rd_dirinfo.specs.Naming.{Name}
 use Rattle.rd_dirinfo.specs.Paths.{Names, last_name, is_parent}
 use Rattle.rd_dirinfo.specs.Patterns.{pattern_of, pattern_fault, is_wanted}
 use Rattle.rd_drive.specs.declared.step.Step.TheVariants as step
-use Rattle.rd_drive.specs.DriveState.{DriveState, Handle, Node, with_handle, is_folder}
+use Rattle.rd_drive.specs.DriveState.{DriveState, Handle, Node, with_handle, is_folder_node}
 use Rattle.rd_drive.specs.Access.{shown_attributes}
-use Rattle.rd_drive.specs.Query.{end_of, allocation_of}
+use Rattle.rd_drive.specs.Query.{node_end, allocation_of}
 use Rattle.rd_drive.specs.Outcome.{Outcome, no_news, fault, checked, succeeded}
-use Rattle.rd_drive.specs.Statuses.{invalid_parameter, invalid_info_class, object_name_invalid, no_such_file, no_more_files}
+use Rattle.rd_base.specs.Statuses.{invalid_parameter, invalid_info_class, object_name_invalid, no_such_file, no_more_files}
 
 -- what a listing says of a node
 abbrev pub entry_of : Node → Entry
 entry_of node = record {
   moments = node.moments;
-  end = end_of node;
+  end = node_end node;
   allocation = allocation_of node;
   attributes = shown_attributes node;
   name = last_name node.path;
@@ -50,7 +50,7 @@ query_dir s file class initial units handle node =
     let pattern = if initial then pattern_of units else handle.pattern in
     let last = if initial then None else handle.last in
     checked s
-    ((not (is_folder node), fault invalid_parameter)
+    ((not (is_folder_node node), fault invalid_parameter)
     ∷ (not (is_listed (choice entry_classes class)), fault invalid_info_class)
     ∷ (initial && is_some (pattern_fault units), fault object_name_invalid)
     ∷ [])

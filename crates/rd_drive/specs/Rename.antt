@@ -3,12 +3,12 @@ use Rattle.std.specs.Prelude.{ℕ, ◌==◌, ◌&&◌, ◌||◌, Bool, false, no
 use Rattle.std.specs.List.{list_any}
 use Rattle.std.specs.Option.{option_map_or}
 use Rattle.rd_irp.specs.declared.completion.Body.TheVariants.{Count}
-use Rattle.rd_dirinfo.specs.Paths.{Names, path_of, is_same_path, is_prefix, is_below, is_within_limits, moved_path, parent, last_name}
-use Rattle.rd_drive.specs.DriveState.{DriveState, Handle, Node, in_order, node_at, asked_path, with_node, without_node, is_folder, is_folder_at, is_open}
+use Rattle.rd_dirinfo.specs.Paths.{Names, parsed_path, is_same_path, is_prefix, is_below, is_within_limits, moved_path, parent, last_name}
+use Rattle.rd_drive.specs.DriveState.{DriveState, Handle, Node, in_order, node_of_path, made_path, with_node, without_node, is_folder_node, has_folder, is_open}
 use Rattle.rd_drive.specs.Access.{is_readonly}
 use Rattle.rd_drive.specs.Outcome.{Outcome, Change, changed, no_news, fault, one_of, checked, given, succeeded}
 use Rattle.rd_drive.specs.Changes.{removed, renamed_from, renamed_to}
-use Rattle.rd_drive.specs.Statuses.{access_denied, invalid_parameter, object_name_invalid, object_path_not_found, object_name_collision}
+use Rattle.rd_base.specs.Statuses.{access_denied, invalid_parameter, object_name_invalid, object_path_not_found, object_name_collision}
 
 -- ---- moving
 
@@ -25,8 +25,8 @@ renamed s moment node to =
     with_node (with_moved s node.path to) (record node { path = to; moments = record node.moments { change = moment } })
 
 -- whether some moved path would be past the limits
-abbrev pub is_too_deep : DriveState → Names → Names → Bool
-is_too_deep s from path =
+abbrev pub goes_too_deep : DriveState → Names → Names → Bool
+goes_too_deep s from path =
     list_any (λ (node : Node). is_prefix s.naming from node.path && not (is_within_limits (path ++ drop (length from) node.path))) s.nodes
 
 -- ---- what stands at the target
@@ -43,7 +43,7 @@ target_removed (Some target) = removed target ∷ []
 
 -- whether it can't be replaced: a folder, a file that is read-only, or one that is open
 abbrev pub is_protected : DriveState → Node → Bool
-is_protected s target = is_folder target || is_readonly target || is_open s target.path
+is_protected s target = is_folder_node target || is_readonly target || is_open s target.path
 
 -- ---- the operation
 
@@ -59,8 +59,8 @@ abbrev pub relocate : DriveState → ℕ → ℕ → Node → Bool → Names →
 relocate s moment count node replace path to target =
     checked s
     ((is_below s.naming node.path path, fault invalid_parameter)
-    ∷ (not (is_folder_at s (parent path)), fault object_path_not_found)
-    ∷ (is_too_deep s node.path path, fault object_name_invalid)
+    ∷ (not (has_folder s (parent path)), fault object_path_not_found)
+    ∷ (goes_too_deep s node.path path, fault object_name_invalid)
     ∷ (is_some target && not replace, fault object_name_collision)
     ∷ (option_map_or (is_protected s) target false, fault access_denied)
     ∷ [])
@@ -70,10 +70,10 @@ relocate s moment count node replace path to target =
 -- A node that isn't the root gets the path that these units spell: its folder's as the drive has it, and the last name as asked.
 abbrev pub rename_to : DriveState → ℕ → ℕ → Node → Bool → List ℕ → Outcome
 rename_to s moment count node replace units =
-    given s (path_of units) object_name_invalid (λ path.
+    given s (parsed_path units) object_name_invalid (λ path.
     checked s
     ((length path == 0, fault access_denied)
     ∷ [])
     (one_of (is_same_path s.naming path node.path)
-    (respell s moment count node (asked_path s path))
-    (relocate s moment count node replace path (asked_path s path) (node_at s path))))
+    (respell s moment count node (made_path s path))
+    (relocate s moment count node replace path (made_path s path) (node_of_path s path))))

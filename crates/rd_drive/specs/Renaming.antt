@@ -11,10 +11,10 @@ use Rattle.rd_drive.specs.declared.node.NodeState.{NodeState}
 use Rattle.rd_drive.specs.declared.news.Named.TheVariants as named
 use Rattle.rd_drive.specs.declared.news.Change as told
 use Rattle.rd_drive.specs.declared.news.News as told_news
-use Rattle.rd_drive.specs.DriveState.{DriveState, Node, asked_path, node_at}
+use Rattle.rd_drive.specs.DriveState.{DriveState, Node, made_path, node_of_path}
 use Rattle.rd_drive.specs.Outcome.{Outcome, checked, fault, one_of}
 use Rattle.rd_drive.specs.Rename.{relocate, respell}
-use Rattle.rd_drive.specs.Statuses.{access_denied, invalid_parameter, no_memory, object_name_collision, object_name_invalid, object_path_not_found}
+use Rattle.rd_base.specs.Statuses.{access_denied, invalid_parameter, no_memory, object_name_collision, object_name_invalid, object_path_not_found}
 
 -- A node that isn't the root gets a path.
 abbrev pub rename_path : DriveState → ℕ → ℕ → Node → Bool → Names → Outcome
@@ -23,8 +23,8 @@ rename_path s moment count node replace path =
     ((length path == 0, fault access_denied)
     ∷ [])
     (one_of (is_same_path s.naming path node.path)
-    (respell s moment count node (asked_path s path))
-    (relocate s moment count node replace path (asked_path s path) (node_at s path)))
+    (respell s moment count node (made_path s path))
+    (relocate s moment count node replace path (made_path s path) (node_of_path s path)))
 
 -- the refusal, by that of the tree: a node that is in the way can't be replaced, or isn't to be
 abbrev pub move_status : MoveNo → Bool → Status

@@ -1,8 +1,9 @@
 -- The replies to a device's requests, by its journal.
-use Rattle.std.specs.Prelude.{◌≡◌, ◌≢◌, ℕ, Bool, true, List, [], ◌∷◌, ◌++◌, map}
+use Rattle.std.specs.Prelude.{◌≡◌, ◌≢◌, ◌⊎◌, ℕ, Bool, true, List, [], ◌∷◌, ◌++◌, map, Contains}
 use Rattle.rd_base.specs.declared.journal.Key.{Key}
 use Rattle.rd_base.specs.declared.journal.Item.{Item}
-use Rattle.rd_base.specs.declared.journal.Item.TheVariants.{Ran, Cut}
+use Rattle.rd_base.specs.declared.journal.Item.TheVariants.{Ran, Cancelled, Cut}
+use Rattle.rd_base.specs.Statuses.{cancelled}
 use Rattle.rd_irp.specs.declared.op.Op.{Op}
 use Rattle.rd_irp.specs.declared.op.Op.TheVariants.{Close}
 use Rattle.rd_irp.specs.declared.request.Request.{Request}
@@ -14,10 +15,19 @@ use Rattle.rd_drive.specs.DriveState.{DriveState}
 use Rattle.rd_drive.specs.Device.{is_parked}
 use Rattle.rd_drive.specs.DriveStep.{drive_step, drive_cut}
 use Rattle.rd_drive.specs.Stepped.{Stepped, Settled, ran_step}
+use Rattle.rd_drive.specs.Outcome.{fault}
 
 -- a reply, and the key of the request to which it belongs
 abbrev pub KeyedReply : Type 0
 KeyedReply = Key × Reply
+
+-- the reply to a request that was given up
+abbrev pub cancellation : Reply
+cancellation = fault cancelled
+
+-- the answer to a key that came: the reply that the journal gives it, or CANCELLED where it was cancelled before it ran
+abbrev pub IsAnswer : List KeyedReply → List Item → Key → Reply → Type 0
+IsAnswer replies journal key reply = Contains replies (key, reply) ⊎ (Contains journal (Cancelled key) × (reply ≡ cancellation))
 
 abbrev pub end_reply : End → KeyedReply
 end_reply ended = (ended.key, ended.reply)

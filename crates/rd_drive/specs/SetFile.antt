@@ -12,19 +12,19 @@ use Rattle.rd_fileinfo.specs.declared.set_info.SetInfo.{SetInfo}
 use Rattle.rd_fileinfo.specs.declared.set_info.SetInfo.TheVariants as set
 use Rattle.rd_fileinfo.specs.FileInfo.{basic}
 use Rattle.rd_fileinfo.specs.SetInfo.{set_classes, rename, disposition, allocation, end_of_file}
-use Rattle.rd_drive.specs.DriveState.{DriveState, Handle, Node, with_node, is_folder, bytes_of, has_children}
+use Rattle.rd_drive.specs.DriveState.{DriveState, Handle, Node, with_node, is_folder_node, bytes_of, has_children}
 use Rattle.rd_drive.specs.Access.{marks, writes, deletes, is_readonly, set_attributes}
 use Rattle.rd_drive.specs.Outcome.{Outcome, changed, no_news, fault, checked, given, succeeded}
 use Rattle.rd_drive.specs.Changes.{marked, modified}
-use Rattle.rd_drive.specs.ReadWrite.{with_bytes}
+use Rattle.rd_drive.specs.ReadWrite.{node_with_bytes}
 use Rattle.rd_drive.specs.Rename.{rename_to}
-use Rattle.rd_drive.specs.Statuses.{invalid_info_class, access_denied, invalid_parameter, invalid_device_request, disk_full, directory_not_empty}
+use Rattle.rd_base.specs.Statuses.{invalid_info_class, access_denied, invalid_parameter, invalid_device_request, disk_full, directory_not_empty}
 
 -- what the handle and the node have to be, by class: the checks that come before the buffer is read
 abbrev pub checks_by_class : Handle → Node → List (ℕ × List (Bool × Reply))
 checks_by_class handle node =
     let may_delete = (not (deletes handle.access) || length node.path == 0, fault access_denied) ∷ [] in
-    let may_write = (is_folder node, fault invalid_device_request) ∷ (not (writes handle.access), fault access_denied) ∷ [] in
+    let may_write = (is_folder_node node, fault invalid_device_request) ∷ (not (writes handle.access), fault access_denied) ∷ [] in
     (basic, (not (marks handle.access), fault access_denied) ∷ [])
     ∷ (rename, may_delete)
     ∷ (disposition, may_delete)
@@ -74,7 +74,7 @@ abbrev pub set_pending : DriveState → ℕ → Node → Bool → Outcome
 set_pending s count node pending =
     checked s
     ((pending && is_readonly node, fault access_denied)
-    ∷ (pending && is_folder node && has_children s node.path, fault directory_not_empty)
+    ∷ (pending && is_folder_node node && has_children s node.path, fault directory_not_empty)
     ∷ [])
     (succeeded (with_node s (record node { pending = pending })) (Count count) no_news)
 
@@ -84,19 +84,19 @@ set_end s moment count node asked end =
     checked s
     ((nat_lt max_len asked, fault disk_full)
     ∷ [])
-    (succeeded (with_node s (with_bytes node moment (resized (bytes_of node) end))) (Count count) (changed (modified node.path ∷ [])))
+    (succeeded (with_node s (node_with_bytes node moment (resized (bytes_of node) end))) (Count count) (changed (modified node.path ∷ [])))
 
 -- what a value sets: the end of a file cuts or extends it, its allocation only cuts
-abbrev pub sets : DriveState → ℕ → ℕ → Node → SetInfo → Outcome
-sets s moment count node (set.Basic moments attributes) =
+abbrev pub set_outcome : DriveState → ℕ → ℕ → Node → SetInfo → Outcome
+set_outcome s moment count node (set.Basic moments attributes) =
     succeeded (with_node s (with_basic node moments attributes moment)) (Count count) (changed (marked node.path ∷ []))
-sets s moment count node (set.Rename replace units) = rename_to s moment count node replace units
-sets s moment count node (set.Disposition pending) = set_pending s count node pending
-sets s moment count node (set.Allocation size) = set_end s moment count node size (min size (length (bytes_of node)))
-sets s moment count node (set.EndOfFile end) = set_end s moment count node end end
+set_outcome s moment count node (set.Rename replace units) = rename_to s moment count node replace units
+set_outcome s moment count node (set.Disposition pending) = set_pending s count node pending
+set_outcome s moment count node (set.Allocation size) = set_end s moment count node size (min size (length (bytes_of node)))
+set_outcome s moment count node (set.EndOfFile end) = set_end s moment count node end end
 
 -- SetFile
 abbrev pub set_file : DriveState → ℕ → ℕ → List ℕ → Handle → Node → Outcome
 set_file s moment class buffer handle node =
     given s (set_checks handle node class) invalid_info_class (λ checks.
-    checked s checks (given s (set_info_of class buffer) invalid_parameter (sets s moment (length buffer) node)))
+    checked s checks (given s (set_info_of class buffer) invalid_parameter (set_outcome s moment (length buffer) node)))

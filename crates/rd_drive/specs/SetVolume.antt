@@ -7,7 +7,7 @@ use Rattle.rd_irp.specs.declared.completion.Body.TheVariants.{Count}
 use Rattle.rd_fileinfo.specs.Label.{label_set}
 use Rattle.rd_drive.specs.DriveState.{DriveState, Handle, Node}
 use Rattle.rd_drive.specs.Outcome.{Outcome, no_news, fault, checked, given, succeeded}
-use Rattle.rd_drive.specs.Statuses.{invalid_info_class, invalid_parameter}
+use Rattle.rd_base.specs.Statuses.{invalid_info_class, invalid_parameter}
 
 -- FileFsLabelInformation, the one class that is set
 abbrev pub label_class : ℕ

@@ -30,8 +30,8 @@ pub record IsHalfway (s : Store) (news : told_news.News) (at : ℕ) : Type 0 whe
   pub opened : AllByRecursion (λ (w : kept_waiting.Waiting). is_closed_file news.closed w.file ≡ false) (take at s.waiting.items)
 
 -- The request at a place was gone through: it waits on, or it has ended, and the news does to the others what it did before.
-abbrev pub Settles : Store → Store → told_news.News → ℕ → Option End → Type 0
-Settles old new news at None =
+abbrev pub SettlesAt : Store → Store → told_news.News → ℕ → Option End → Type 0
+SettlesAt old new news at None =
     (new ≡ old) × IsHalfway new news (at + 1) × ((ends : List End) → settled_from new news (at + 1) ends ≡ settled_from old news at ends)
-Settles old new news at (Some end) =
+SettlesAt old new news at (Some end) =
     IsHalfway new news at × (length (new.waiting).items + 1 ≡ length (old.waiting).items) × ((ends : List End) → settled_from new news at (ends ++ end ∷ []) ≡ settled_from old news at ends)

@@ -6,7 +6,7 @@ use Rattle.rd_drive.specs.declared.step.Step.{Step}
 use Rattle.rd_drive.specs.declared.step.Step.TheVariants as step
 use Rattle.rd_drive.specs.declared.step.End.{End}
 use Rattle.rd_drive.specs.Outcome.{fault}
-use Rattle.rd_drive.specs.Statuses.{no_memory}
+use Rattle.rd_base.specs.Statuses.{no_memory}
 
 -- What comes of a request: the state after it, the answer, and the ends of the requests that waited and that it ends, in the order in which they
 -- began to wait.

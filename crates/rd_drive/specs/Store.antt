@@ -12,7 +12,7 @@ use Rattle.rd_base.specs.declared.status.Status.{Status}
 use Rattle.rd_locks.specs.declared.held.Held.{Held}
 use Rattle.rd_dirinfo.specs.Paths.{Names, is_within_limits}
 use Rattle.rd_tree.specs.declared.node.NodeId.{NodeId}
-use Rattle.rd_tree.specs.Places.{Place, Places, IsLive, is_folder, own_path}
+use Rattle.rd_tree.specs.Places.{Place, Places, IsLive, IsWhole, is_folder, own_path}
 use Rattle.rd_drive.specs.declared.access.Use.{Use}
 use Rattle.rd_drive.specs.declared.node.NodeState.{NodeState}
 use Rattle.rd_drive.specs.declared.handle.Handle as kept
@@ -28,7 +28,7 @@ use Rattle.rd_drive.specs.declared.news.Change as told
 use Rattle.rd_drive.specs.declared.news.News as told_news
 use Rattle.rd_drive.specs.declared.step.Step.TheVariants as step
 use Rattle.rd_drive.specs.Outcome as outcome
-use Rattle.rd_drive.specs.Statuses.{no_memory}
+use Rattle.rd_base.specs.Statuses.{no_memory}
 use Rattle.rd_drive.specs.Uses.{uses_of}
 use Rattle.rd_drive.specs.DriveState as drive
 use Rattle.rd_drive.specs.DriveState.{DriveState, Node, in_order}
@@ -118,19 +118,24 @@ abbrev pub kept_handle : Store → ℕ → Option kept.Handle
 kept_handle s file = lookup (is_at (nat_cmp file)) s.handles.entries
 
 -- how many ranges a request waits for
-abbrev pub ranges_of : Wish → ℕ
-ranges_of (kept_wish.Ranges exclusive ranges) = length ranges
-ranges_of (kept_wish.Change deep filter room) = 0
+abbrev pub wish_ranges : Wish → ℕ
+wish_ranges (kept_wish.Ranges exclusive ranges) = length ranges
+wish_ranges (kept_wish.Change deep filter room) = 0
+
+-- the most bytes that are told of a change: its head and a path
+abbrev pub change_room : ℕ
+change_room = 8204
 
 -- A request that waits for a change has room for what is told of one: the head and a path.
 abbrev pub HasRoom : Wish → Type 0
 HasRoom (kept_wish.Ranges exclusive ranges) = Unit {0}
-HasRoom (kept_wish.Change deep filter room) = (room.items ≡ []) × (8204 ≤ vec_capacity room)
+HasRoom (kept_wish.Change deep filter room) = (room.items ≡ []) × (change_room ≤ vec_capacity room)
 
--- What holds between calls, but that a file id may just have been closed, for which requests wait still. Something is kept of each node, the
+-- What holds between calls, but that a file id may just have been closed, for which requests wait still. The tree is whole; something is kept of each node, the
 -- root is never pending, and neither the label nor a path is past its limit; each handle is on a node, and each lock and each request that waits has its handle;
 -- the uses of each node are counted; and there is room for every end.
 pub record IsSoundBut (closed : Option ℕ) (s : Store) : Type 0 where
+  pub whole : IsWhole s.tree
   pub naming : s.tree.naming ≡ s.naming
   pub label : length s.label ≤ 32
   pub states : (n : ℕ) → IsLive s.tree n → IsSome (get nat_eq s.states n)
@@ -140,7 +145,7 @@ pub record IsSoundBut (closed : Option ℕ) (s : Store) : Type 0 where
   pub uses : (n : ℕ) → IsLive s.tree n → (state_of s.states n).uses ≡ uses_of (uses_on n s.handles.entries)
   pub locked : AllByRecursion (λ (held : Held). option_map (λ (h : kept.Handle). h.node.0) (kept_handle s held.file) ≡ Some held.node) s.locks.locks
   pub waits : AllByRecursion (λ (w : kept_waiting.Waiting). (option_map_or (◌==◌ w.file) closed false ≡ false → IsSome (kept_handle s w.file)) × HasRoom w.wish) s.waiting.items
-  pub reserved : s.locks.reserved ≡ sum_by (λ (w : kept_waiting.Waiting). ranges_of w.wish) s.waiting.items
+  pub reserved : s.locks.reserved ≡ sum_by (λ (w : kept_waiting.Waiting). wish_ranges w.wish) s.waiting.items
   pub few : (length s.handles.entries ≤ 4096) × (length s.waiting.items ≤ 64) × (64 ≤ vec_capacity s.waiting)
   pub ids : (1 ≤ s.next) × (s.next ≤ 2 ^ 32)
 

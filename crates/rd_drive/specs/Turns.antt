@@ -14,7 +14,7 @@ use Rattle.rd_drive.specs.Device.{Parked, is_parked, is_starved}
 use Rattle.rd_drive.specs.Outcome.{fault}
 use Rattle.rd_drive.specs.DriveState.{DriveState}
 use Rattle.rd_drive.specs.Replies.{KeyedReply, AreTold, end_reply, last_state, own_reply, replies_of}
-use Rattle.rd_drive.specs.Statuses.{cancelled}
+use Rattle.rd_base.specs.Statuses.{cancelled}
 
 -- A job is run at a moment, with this answer and these ends; or the device is cut off while these requests wait.
 pub data Turn : Type 0 where

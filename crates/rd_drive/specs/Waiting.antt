@@ -10,8 +10,8 @@ use Rattle.rd_drive.specs.Stepped.{Settled}
 use Rattle.rd_drive.specs.DriveState.{DriveState, Waiting, Wish, Ranges, Notice, open_path}
 use Rattle.rd_drive.specs.Access.{has_any}
 use Rattle.rd_drive.specs.Outcome.{Change, News, done, fault}
-use Rattle.rd_drive.specs.Locking.{locks_on, wanted_locks, conflicts, with_locks}
-use Rattle.rd_drive.specs.Statuses.{notify_cleanup, lock_not_granted}
+use Rattle.rd_drive.specs.Locking.{locks_on, asked_locks, conflicts, with_locks}
+use Rattle.rd_base.specs.Statuses.{notify_cleanup, lock_not_granted}
 
 -- What is told of a change to who watches a folder, as one FILE_NOTIFY_INFORMATION: NextEntryOffset, Action, FileNameLength, and the names
 -- below the folder.
@@ -52,7 +52,7 @@ waits_on old w =
 abbrev pub settles_ranges : News → Settled DriveState → Waiting → Names → Bool → List Range → Settled DriveState
 settles_ranges news old w path exclusive ranges =
     let s = old.state in
-    let wanted = wanted_locks w.file exclusive ranges in
+    let wanted = asked_locks w.file exclusive ranges in
     if is_tried s news path && not (conflicts (locks_on s path) wanted) then ends_with old (with_locks s wanted) w (done Locked)
     else waits_on old w
 

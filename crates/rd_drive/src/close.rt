@@ -26,7 +26,6 @@ impl Store {
         ensures serves { Serves self.old self.new (on_handle (drive_of self.old) file (close (drive_of self.old) file)) result }
         ensures fed { IsFed result }
     {
-        self.tree.whole();
         self.ordered();
         let Some(handle) = self.handle(file) else {
             return Err(Status::INVALID_HANDLE);
@@ -40,7 +39,7 @@ impl Store {
             return Ok(closed(file, node));
         }
         let folder = self.tree.parent(node);
-        let bits = name_bit(self.tree.end(node).is_none());
+        let bits = name_bit(self.tree.is_folder(node));
         let Ok(name) = self.tree.remove(node) else {
             self.set_state(
                 node,

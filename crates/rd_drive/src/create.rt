@@ -7,8 +7,8 @@ ghost use Rattle.rd_drive.specs.declared.access.Use.{Use};
 ghost use Rattle.rd_drive.specs.declared.store.Done.TheVariants as Done;
 ghost use Rattle.rd_drive.specs.Create.{create, is_full, make_node, open_node};
 ghost use Rattle.rd_drive.specs.Kept.{own_node, IsKept};
-ghost use Rattle.rd_drive.specs.Made.{counted, create_at, first_no, open_checks, renewed, replace, AddsHandle, IsAlike};
-ghost use Rattle.rd_drive.specs.Statuses.{no_memory};
+ghost use Rattle.rd_drive.specs.Made.{with_asked_use, create_at, first_no, open_checks, renewed, replace, AddsHandle, IsAlike};
+ghost use Rattle.rd_base.specs.Statuses.{no_memory};
 ghost use Rattle.rd_drive.specs.Store.{drive_of, state_of, IsSound, Serves};
 ghost use Rattle.rd_tree.specs.Places.{folder_of, node_at, IsFile, IsLive};
 ghost use Rattle.rd_drive.specs.Uses.{uses_of};
@@ -46,14 +46,14 @@ impl Store {
         requires { IsSound self.old }
         ensures { Serves self.old self.new (create_at (drive_of self.old) moment asked path.now) result }
     {
-        self.tree.whole();
         if self.is_full() {
             return Err(Status::TOO_MANY_OPENED_FILES);
         }
-        if let Some(node) = self.tree.find(path) {
+        let found = self.tree.look(path);
+        if let Some(node) = found.node {
             return self.open_node(asked, node, moment);
         }
-        match self.tree.folder_of(path) {
+        match found.folder {
             Some(folder) => self.make_node(asked, path, folder, moment),
             None => Err(status::OBJECT_PATH_NOT_FOUND),
         }
@@ -66,9 +66,8 @@ impl Store {
         requires free { is_full (drive_of self.old) ≡ false }
         ensures { Serves self.old self.new (open_node (drive_of self.old) asked moment (own_node self.old node.0)) result }
     {
-        self.tree.whole();
         self.ordered();
-        let folder = self.tree.end(node).is_none();
+        let folder = self.tree.is_folder(node);
         let state = self.state(node);
         if let Some(no) = refusal(&asked, folder, node.0 == 0, &state) {
             return Err(no);
@@ -91,7 +90,6 @@ impl Store {
         requires free { is_full (drive_of self.old) ≡ false }
         ensures { Serves self.old self.new (replace (drive_of self.old) asked moment (own_node self.old node.0)) result }
     {
-        self.tree.whole();
         let file = match self.add_handle(asked, node) {
             Ok(file) => file,
             Err(no) => return Err(no),
@@ -130,7 +128,6 @@ impl Store {
         requires absent { node_at self.old.tree path.now ≡ None }
         ensures { Serves self.old self.new (make_node (drive_of self.old) asked moment path.now) result }
     {
-        self.tree.whole();
         self.ordered();
         let _ = path.names();
         if asked.needs_node() {
@@ -140,7 +137,8 @@ impl Store {
             return Err(status::DELETE_PENDING);
         }
         let is_folder = asked.wants_folder();
-        let node = match self.add_node(path, is_folder, asked.new_attributes(), moment) {
+        let attributes = asked.new_attributes();
+        let node = match self.add_node(folder, path, is_folder, attributes, moment) {
             Ok(node) => node,
             Err(AddNo::Full) => return Err(status::DISK_FULL),
             Err(_) => return Err(Status::NO_MEMORY),
@@ -152,7 +150,6 @@ impl Store {
                 Ok(created(file, SUPERSEDED, news))
             }
             Err(no) => {
-                self.tree.whole();
                 self.take_back(node);
                 Err(no)
             }
@@ -195,7 +192,7 @@ impl Store {
         requires next { self.old.next < 2 ^ 32 }
         requires few { (uses : List Use) × ((state_of self.old.states node.0).uses ≡ uses_of uses) × (length uses < 4096) }
         ensures others { self.new ≡ record self.old { states = self.new.states; next = self.old.next + 1 } }
-        ensures kept { IsKept self.old.states self.new.states node.0 (counted (state_of self.old.states node.0) asked) }
+        ensures kept { IsKept self.old.states self.new.states node.0 (with_asked_use (state_of self.old.states node.0) asked) }
     {
         self.next += 1;
         let mut state = self.state(node);

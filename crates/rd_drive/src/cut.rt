@@ -53,7 +53,6 @@ impl Store {
         ensures closed { ClosesFirst (drive_of self.old) (drive_of self.new) }
         ensures none { self.new.waiting.items ≡ [] }
     {
-        self.tree.whole();
         if let Some((file, _)) = self.handles.first_key_value() {
             let file = *file;
             let _ = self.close(file);

@@ -1,7 +1,7 @@
 //! The memory drive.
 
 ghost use Rattle.std.specs.Prelude.{◌≡◌, ◌≤◌, ◌^◌, length, IfOk, Some, None};
-ghost use Rattle.rd_drive.specs.Adding.{Holds};
+ghost use Rattle.rd_drive.specs.Adding.{HoldsNode};
 ghost use Rattle.rd_drive.specs.Answered.{drive_cuts, drive_parked, drive_runs};
 ghost use Rattle.rd_drive.specs.DriveState.{empty_drive};
 
@@ -63,7 +63,7 @@ impl MemoryDrive {
 
     /// Adds a folder, before the first request. A refusal changes nothing.
     pub fn add_folder(&mut self, path: &Path) -> Result<(), AddNo>
-        ensures { Holds self.old (path.now, None) result self.new }
+        ensures { HoldsNode self.old (path.now, None) result self.new }
     {
         self.store.hold_folder(path)
     }
@@ -71,7 +71,7 @@ impl MemoryDrive {
     /// Adds a file with at most 2^40 bytes, before the first request. A refusal changes nothing.
     pub fn add_file(&mut self, path: &Path, bytes: &Bytes) -> Result<(), AddNo>
         requires { length bytes.now ≤ 2 ^ 40 }
-        ensures { Holds self.old (path.now, Some bytes.now) result self.new }
+        ensures { HoldsNode self.old (path.now, Some bytes.now) result self.new }
     {
         self.store.hold_file(path, bytes)
     }

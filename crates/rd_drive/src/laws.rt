@@ -14,10 +14,10 @@ ghost use Rattle.rd_drive.specs.Device.{AreEnded};
 ghost use Rattle.rd_drive.specs.Outcome.{Change, News};
 ghost use Rattle.rd_drive.specs.Waiting.{settled};
 ghost use Rattle.std.specs.List.{AllByRecursion};
-ghost use Rattle.rd_drive.specs.DriveState.{DriveState, Node, node_at};
+ghost use Rattle.rd_drive.specs.DriveState.{DriveState, Node, node_of_path};
 ghost use Rattle.rd_drive.specs.DriveStep.{drive_cut, drive_step, outcome_of};
 ghost use Rattle.rd_drive.specs.Turns.{RunsItsRequest, TakesAll, TellsTurns, Turn};
-ghost use Rattle.rd_drive.specs.Statuses.{access_denied, cancelled, disk_full, insufficient_resources, lock_not_granted, notify_cleanup, object_path_not_found, too_many_opened_files};
+ghost use Rattle.rd_base.specs.Statuses.{access_denied, cancelled, disk_full, insufficient_resources, lock_not_granted, notify_cleanup, object_path_not_found, too_many_opened_files};
 ghost use Rattle.rd_drive.specs.Worked.{bytes, creates, ended, ended_with, key, no_but, ok, ok_with, opens, parked, played, sample, state_from, with_handles, with_locks, with_waiting};
 
 /// Which requests wait, and what ends them.

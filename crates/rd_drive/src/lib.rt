@@ -1,4 +1,11 @@
 //! The memory drive: what a request does to the files of a drive, and the reply to it.
+//!
+//! It stands on `rd_tree` for files and folders, on `rd_locks` for ranges, and on the packets' crates for requests, names and information
+//! classes. The layers above use one contract of it: `Device::apply` is one step of the definition (`drive_step`), or changes nothing where
+//! no memory is found; `Device::cut` is `drive_cut`.
+//!
+//! Cost of one request: a path is looked up name by name, in ordered maps; the bytes of a read or a write are copied once; a request that
+//! waits is looked at again when a lock is given back or a folder changes, of at most 64. Nothing grows with the requests that came before.
 #![tactic(auto)]
 
 mod access;

@@ -90,14 +90,13 @@ impl Store {
         requires sound { IsSound self.old }
         ensures { Serves self.old self.new (on_handle (drive_of self.old) file (lock (drive_of self.old) key file operation wait ranges)) result }
     {
-        self.tree.whole();
         let Some(handle) = self.handle(file) else {
             return Err(Status::INVALID_HANDLE);
         };
         let node = handle.node;
-        let Some(_) = self.tree.end(node) else {
+        if self.tree.is_folder(node) {
             return Err(status::INVALID_DEVICE_REQUEST);
-        };
+        }
         if !may_lock(handle.access) {
             return Err(status::ACCESS_DENIED);
         }
@@ -136,7 +135,6 @@ impl Store {
         requires opened { option_map (λ h. (h.node).0) (kept_handle self.old file) ≡ Some node.0 }
         ensures { Serves self.old self.new (lock_ranges (drive_of self.old) key file (own_path self.old.tree node.0) exclusive wait ranges) result }
     {
-        self.tree.whole();
         let wanted = ranges.as_slice();
         match self.locks.lock(node.0, file, exclusive, wanted) {
             Ok(()) => Ok(Done::Replied(Body::Locked, News::none())),
@@ -165,7 +163,6 @@ impl Store {
         requires blocked { IsSome (conflict self.old.locks.locks (wanted_locks node.0 file exclusive ranges)) }
         ensures { Serves self.old self.new (lock_ranges (drive_of self.old) key file (own_path self.old.tree node.0) exclusive true ranges) result }
     {
-        self.tree.whole();
         let wanted = ranges.as_slice();
         let alone = Locks::new(self.alloc);
         if alone.conflict(node.0, file, exclusive, wanted).is_some() {
@@ -189,13 +186,11 @@ impl Store {
         requires sound { IsSound self.old }
         ensures { Serves self.old self.new (on_handle (drive_of self.old) file (notify (drive_of self.old) key file deep filter)) result }
     {
-        self.tree.whole();
         let Some(handle) = self.handle(file) else {
             return Err(Status::INVALID_HANDLE);
         };
-        match self.tree.end(handle.node) {
-            Some(_) => return Err(Status::INVALID_PARAMETER),
-            None => {}
+        if !self.tree.is_folder(handle.node) {
+            return Err(Status::INVALID_PARAMETER);
         }
         if self.waiting.len() >= MAX_WAITING {
             return Err(status::INSUFFICIENT_RESOURCES);

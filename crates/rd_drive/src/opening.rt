@@ -1,7 +1,7 @@
 //! What a drive begins with.
 
 ghost use Rattle.std.specs.Prelude.{◌≤◌, ◌^◌, length, Some, None};
-ghost use Rattle.rd_drive.specs.Adding.{Holds};
+ghost use Rattle.rd_drive.specs.Adding.{HoldsNode};
 ghost use Rattle.rd_drive.specs.Store.{drive_of, IsSound};
 
 use crate::store::Store;
@@ -17,12 +17,15 @@ impl Store {
     pub fn hold_folder(&mut self, path: &Path) -> Result<(), AddNo>
         requires sound { IsSound self.old }
         ensures sound { IsSound self.new }
-        ensures holds { Holds (drive_of self.old) (path.now, None) result (drive_of self.new) }
+        ensures holds { HoldsNode (drive_of self.old) (path.now, None) result (drive_of self.new) }
     {
-        self.tree.whole();
         self.ordered();
         let _ = path.names();
-        match self.add_node(path, true, 0, 0) {
+        let parent = match self.tree.free(path) {
+            Ok(parent) => parent,
+            Err(no) => return Err(no),
+        };
+        match self.add_node(parent, path, true, 0, 0) {
             Ok(_) => Ok(()),
             Err(no) => Err(no),
         }
@@ -33,19 +36,21 @@ impl Store {
         requires sound { IsSound self.old }
         requires few { length bytes.now ≤ 2 ^ 40 }
         ensures sound { IsSound self.new }
-        ensures holds { Holds (drive_of self.old) (path.now, Some bytes.now) result (drive_of self.new) }
+        ensures holds { HoldsNode (drive_of self.old) (path.now, Some bytes.now) result (drive_of self.new) }
     {
-        self.tree.whole();
         self.ordered();
         let _ = path.names();
-        let node = match self.add_node(path, false, ARCHIVE, 0) {
+        let parent = match self.tree.free(path) {
+            Ok(parent) => parent,
+            Err(no) => return Err(no),
+        };
+        let node = match self.add_node(parent, path, false, ARCHIVE, 0) {
             Ok(node) => node,
             Err(no) => return Err(no),
         };
         match self.tree.write(node, 0, bytes.as_slice()) {
             Ok(()) => Ok(()),
             Err(_) => {
-                self.tree.whole();
                 self.take_back(node);
                 Err(AddNo::Memory)
             }

@@ -16,33 +16,12 @@ use crate::status;
 use crate::store::{Done, Outcome, Store};
 use rd_base::{Bytes, Status, Units};
 use rd_dirinfo::Naming;
+use rd_fileinfo::classes::{
+    ATTRIBUTE, ATTRIBUTE_TAG, BASIC, DEVICE, FULL_SIZE, SIZE, STANDARD, VOLUME,
+};
 use rd_fileinfo::{FileInfo, VolumeInfo, put_file_info, put_volume};
 use rd_irp::Body;
 use rd_tree::NodeId;
-
-/// FileBasicInformation
-const BASIC: u32 = 0x04;
-
-/// FileStandardInformation
-const STANDARD: u32 = 0x05;
-
-/// FileAttributeTagInformation
-const ATTRIBUTE_TAG: u32 = 0x23;
-
-/// FileFsVolumeInformation
-const VOLUME: u32 = 1;
-
-/// FileFsSizeInformation
-const SIZE: u32 = 3;
-
-/// FileFsDeviceInformation
-const DEVICE: u32 = 4;
-
-/// FileFsAttributeInformation
-const ATTRIBUTE: u32 = 5;
-
-/// FileFsFullSizeInformation
-const FULL_SIZE: u32 = 7;
 
 /// VolumeSerialNumber
 const SERIAL_NUMBER: u32 = 0x5244_5231;
@@ -112,7 +91,6 @@ impl Store {
         requires room { room.items ≡ [] }
         ensures { Serves self.now self.now (on_handle (drive_of self.now) file (query_file (drive_of self.now) class)) result }
     {
-        self.tree.whole();
         let Some(handle) = self.handle(file) else {
             return Err(Status::INVALID_HANDLE);
         };
@@ -186,7 +164,6 @@ impl Store {
         requires room { room.items ≡ [] }
         ensures { Serves self.now self.now (on_handle (drive_of self.now) file (query_volume (drive_of self.now) class)) result }
     {
-        self.tree.whole();
         let Some(_) = self.handle(file) else {
             return Err(Status::INVALID_HANDLE);
         };

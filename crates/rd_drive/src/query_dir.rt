@@ -19,22 +19,11 @@ use crate::query::allocation_for;
 use crate::status;
 use crate::store::{Done, Outcome, Store};
 use rd_base::{Bytes, Status, Units};
+use rd_dirinfo::classes::{BOTH_DIRECTORY, DIRECTORY, FULL_DIRECTORY, NAMES};
 use rd_dirinfo::{Entry, PathNo, Pattern, put_entry};
 use rd_irp::Body;
 use rd_tree::NodeId;
 use std::alloc::AllocError;
-
-/// FileDirectoryInformation
-const DIRECTORY: u32 = 1;
-
-/// FileFullDirectoryInformation
-const FULL_DIRECTORY: u32 = 2;
-
-/// FileBothDirectoryInformation
-const BOTH_DIRECTORY: u32 = 3;
-
-/// FileNamesInformation
-const NAMES: u32 = 12;
 
 /// Whether a listing can be asked for in a class.
 #[tactic(auto, using(crate::proofs::NextLemmas::listed_as))]
@@ -64,11 +53,10 @@ impl Store {
         requires room { room.items ≡ [] }
         ensures { Serves self.old self.new (on_handle (drive_of self.old) file (query_dir (drive_of self.old) file class initial units.now)) result }
     {
-        self.tree.whole();
         let Some(handle) = self.handle(file) else {
             return Err(Status::INVALID_HANDLE);
         };
-        if self.tree.end(handle.node).is_some() {
+        if !self.tree.is_folder(handle.node) {
             return Err(Status::INVALID_PARAMETER);
         }
         if !is_entry_class(class) {
@@ -88,7 +76,6 @@ impl Store {
         requires class { is_listed (choice entry_classes class) ≡ true }
         ensures { Serves self.old self.new (on_handle (drive_of self.old) file (query_dir (drive_of self.old) file class true units.now)) result }
     {
-        self.tree.whole();
         let Some(handle) = self.handle(file) else {
             return Err(Status::INVALID_HANDLE);
         };
@@ -118,7 +105,6 @@ impl Store {
         requires class { is_listed (choice entry_classes class) ≡ true }
         ensures { Serves self.old self.new (on_handle (drive_of self.old) file (query_dir (drive_of self.old) file class false [])) result }
     {
-        self.tree.whole();
         let Some(handle) = self.handle(file) else {
             return Err(Status::INVALID_HANDLE);
         };
@@ -152,7 +138,6 @@ impl Store {
         requires folder { is_folder self.now.tree folder.0 ≡ Some true }
         ensures { IfOk result (Finds (drive_of self.now) (own_path self.now.tree folder.0) pattern.now (option_map (λ other. other.now) last.entry) class) }
     {
-        self.tree.whole();
         let Some(name) = self.tree.next(folder, last, pattern) else {
             return Ok(None);
         };

@@ -3,6 +3,7 @@
 ghost use Rattle.std.specs.Prelude.{◌≡◌, [], ℕ, IsSome, nat_eq};
 ghost use Rattle.std.specs.HashMap.{get};
 ghost use Rattle.rd_irp.specs.declared.completion.Body.TheVariants as Body;
+ghost use Rattle.rd_drive.specs.Changes.{content_bits};
 ghost use Rattle.rd_drive.specs.Outcome.{on_handle};
 ghost use Rattle.rd_drive.specs.ReadWrite.{read, write};
 ghost use Rattle.rd_drive.specs.Store.{about, drive_of, state_of, IsSound, Serves};
@@ -30,7 +31,6 @@ impl Store {
         requires room { room.items ≡ [] }
         ensures { Serves self.now self.now (on_handle (drive_of self.now) file (read (drive_of self.now) file offset length)) result }
     {
-        self.tree.whole();
         let Some(handle) = self.handle(file) else {
             return Err(Status::INVALID_HANDLE);
         };
@@ -65,12 +65,11 @@ impl Store {
         requires { IsSound self.old }
         ensures { Serves self.old self.new (on_handle (drive_of self.old) file (write (drive_of self.old) moment file offset bytes.now)) result }
     {
-        self.tree.whole();
         let Some(handle) = self.handle(file) else {
             return Err(Status::INVALID_HANDLE);
         };
         let node = handle.node;
-        if self.tree.end(node).is_none() {
+        if self.tree.is_folder(node) {
             return Err(status::INVALID_DEVICE_REQUEST);
         }
         if !writes(handle.access) {
@@ -101,7 +100,7 @@ impl Store {
         requires { IsSome (get nat_eq self.old.states node.0) }
         ensures others { self.new ≡ record self.old { states = self.new.states } }
         ensures kept { IsKept self.old.states self.new.states node.0 (written_at (state_of self.old.states node.0) moment) }
-        ensures done { result ≡ Done.Replied (Body.Count count) (about (record { action = 3; named = Named.Node node; bits = 0x18 })) }
+        ensures done { result ≡ Done.Replied (Body.Count count) (about (record { action = 3; named = Named.Node node; bits = content_bits })) }
     {
         let mut state = self.state(node);
         state.moments.write = moment;

@@ -7,7 +7,7 @@ ghost use Rattle.rd_irp.specs.declared.completion.Body.TheVariants as Body;
 ghost use Rattle.rd_dirinfo.specs.Paths.{last_name};
 ghost use Rattle.rd_tree.specs.Places.{IsLive, bytes_at, node_at, own_path};
 ghost use Rattle.rd_drive.specs.declared.store.Done.TheVariants as Done;
-ghost use Rattle.rd_drive.specs.DriveState.{asked_path};
+ghost use Rattle.rd_drive.specs.DriveState.{made_path};
 ghost use Rattle.rd_drive.specs.Rename.{is_protected, relocate, rename_to, respell};
 ghost use Rattle.rd_drive.specs.Renaming.{changed_at, kind_bit, move_status, rename_path, renaming, IsGoing};
 ghost use Rattle.rd_drive.specs.Store.{drive_of, state_of, IsSound, Serves};
@@ -91,7 +91,6 @@ impl Store {
         requires other { 0 ≢ node.0 }
         ensures { Serves self.old self.new (rename_path (drive_of self.old) moment count (own_node self.old node.0) replace path.now) result }
     {
-        self.tree.whole();
         if path.names().is_empty() {
             return Err(status::ACCESS_DENIED);
         }
@@ -117,19 +116,15 @@ impl Store {
         requires name { old ≡ last_name (own_path self.old.tree node.0) }
         requires path { path.now ≢ [] }
         requires own { node_at self.old.tree path.now ≡ Some node.0 }
-        ensures { Serves self.old self.new (respell (drive_of self.old) moment count (own_node self.old node.0) (asked_path (drive_of self.old) path.now)) result }
+        ensures { Serves self.old self.new (respell (drive_of self.old) moment count (own_node self.old node.0) (made_path (drive_of self.old) path.now)) result }
     {
-        self.tree.whole();
         if ends_in(path, &old) {
             return Ok(Done::Replied(Body::Count(count), News::none()));
         }
         self.ordered();
         let folder = self.tree.parent(node);
         match self.tree.rename(node, path, false) {
-            Ok(()) => {
-                self.tree.whole();
-                Ok(self.renamed(node, folder, old, None, count, moment))
-            }
+            Ok(()) => Ok(self.renamed(node, folder, old, None, count, moment)),
             Err(_) => Err(Status::NO_MEMORY),
         }
     }
@@ -150,16 +145,12 @@ impl Store {
         requires name { old ≡ last_name (own_path self.old.tree node.0) }
         requires path { path.now ≢ [] }
         requires free { node_at self.old.tree path.now ≡ None }
-        ensures { Serves self.old self.new (relocate (drive_of self.old) moment count (own_node self.old node.0) replace path.now (asked_path (drive_of self.old) path.now) None) result }
+        ensures { Serves self.old self.new (relocate (drive_of self.old) moment count (own_node self.old node.0) replace path.now (made_path (drive_of self.old) path.now) None) result }
     {
-        self.tree.whole();
         self.ordered();
         let folder = self.tree.parent(node);
         match self.tree.rename(node, path, false) {
-            Ok(()) => {
-                self.tree.whole();
-                Ok(self.renamed(node, folder, old, None, count, moment))
-            }
+            Ok(()) => Ok(self.renamed(node, folder, old, None, count, moment)),
             Err(no) => Err(move_status(no, replace)),
         }
     }
@@ -184,9 +175,8 @@ impl Store {
         requires apart { target.0 ≢ node.0 }
         requires there { IsLive self.old.tree target.0 }
         requires below { 0 ≢ target.0 }
-        ensures { Serves self.old self.new (relocate (drive_of self.old) moment count (own_node self.old node.0) replace path.now (asked_path (drive_of self.old) path.now) (Some (own_node self.old target.0))) result }
+        ensures { Serves self.old self.new (relocate (drive_of self.old) moment count (own_node self.old node.0) replace path.now (made_path (drive_of self.old) path.now) (Some (own_node self.old target.0))) result }
     {
-        self.tree.whole();
         self.ordered();
         let replaces = self.may_replace(target, replace);
         let Ok(gone) = self.gone(target) else {
@@ -195,7 +185,6 @@ impl Store {
         let folder = self.tree.parent(node);
         match self.tree.rename(node, path, replaces) {
             Ok(()) => {
-                self.tree.whole();
                 self.forget(target);
                 Ok(self.renamed(node, folder, old, Some(gone), count, moment))
             }
@@ -222,9 +211,8 @@ impl Store {
         requires live { IsLive self.now.tree node.0 }
         ensures { result ≡ is_protected (drive_of self.now) (own_node self.now node.0) }
     {
-        self.tree.whole();
         self.ordered();
-        let folder = self.tree.end(node).is_none();
+        let folder = self.tree.is_folder(node);
         let state = self.state(node);
         let readonly = is_readonly(folder, state.attributes);
         let open = state.uses.handles > 0;
@@ -244,7 +232,7 @@ impl Store {
                 folder: self.tree.parent(node),
                 name,
             },
-            bits: name_bit(self.tree.end(node).is_none()),
+            bits: name_bit(self.tree.is_folder(node)),
         })
     }
 
@@ -275,7 +263,7 @@ impl Store {
         let mut state = self.state(node);
         state.moments.change = moment;
         self.set_state(node, state);
-        let bits = name_bit(self.tree.end(node).is_none());
+        let bits = name_bit(self.tree.is_folder(node));
         let from = Change {
             action: RENAMED_FROM,
             named: Named::Gone { folder, name: old },

@@ -6,7 +6,7 @@ ghost use Rattle.rd_drive.specs.Device.{is_starved, Parks};
 ghost use Rattle.rd_drive.specs.declared.step.Step.TheVariants as Step;
 ghost use Rattle.rd_irp.specs.declared.op.Op.TheVariants as Op;
 ghost use Rattle.rd_drive.specs.Outcome.{fault, on_handle, refused};
-ghost use Rattle.rd_drive.specs.Statuses.{no_memory, not_supported};
+ghost use Rattle.rd_base.specs.Statuses.{no_memory, not_supported};
 ghost use Rattle.rd_drive.specs.DriveStep.{outcome_of};
 ghost use Rattle.rd_drive.specs.Store.{drive_of, IsFed, IsSound, Serves};
 
@@ -24,7 +24,6 @@ impl Store {
         requires sound { IsSound self.now }
         ensures { Serves self.now self.now (on_handle (drive_of self.now) file (λ handle node. refused (drive_of self.now) not_supported)) result }
     {
-        self.tree.whole();
         match self.handle(file) {
             Some(_) => Err(Status::NOT_SUPPORTED),
             None => Err(Status::INVALID_HANDLE),
@@ -40,10 +39,8 @@ impl Store {
         ensures served { IsServed (drive_of self.old) job moment result ends.new (drive_of self.new) }
         ensures close { job.op ≡ Op.Close → IsFalse (is_starved result) }
     {
-        self.tree.whole();
         match self.outcome(job, room, moment) {
             Ok(Done::Replied(body, news)) => {
-                self.tree.whole();
                 self.settle(&news, ends);
                 Step::Reply(success(body))
             }

@@ -5,9 +5,9 @@ ghost use Rattle.rd_fileinfo.specs.declared.set_info.SetInfo.TheVariants as SetI
 ghost use Rattle.rd_tree.specs.Places.{bytes_at, IsFile, IsLive};
 ghost use Rattle.rd_drive.specs.Access.{deletes, writes};
 ghost use Rattle.rd_drive.specs.Outcome.{on_handle};
-ghost use Rattle.rd_drive.specs.SetFile.{is_left, set_end, set_file, set_moments, set_or, set_pending, sets};
+ghost use Rattle.rd_drive.specs.SetFile.{is_left, set_end, set_file, set_moments, set_or, set_outcome, set_pending};
 ghost use Rattle.rd_drive.specs.SetVolume.{set_volume};
-ghost use Rattle.rd_drive.specs.Statuses.{access_denied, invalid_device_request};
+ghost use Rattle.rd_base.specs.Statuses.{access_denied, invalid_device_request};
 ghost use Rattle.rd_drive.specs.Store.{drive_of, handle_of, IsSound, Serves};
 ghost use Rattle.rd_drive.specs.Kept.{own_node, MaySet, MayNotSet};
 
@@ -19,31 +19,11 @@ use crate::read_write::MOST_BYTES;
 use crate::status;
 use crate::store::{Done, Outcome, Store};
 use rd_base::{InfoNo, Moments, ReadNo, Status};
-use rd_contents::SizeNo;
+use rd_contents::{MAX_LEN, SizeNo};
+use rd_fileinfo::classes::{ALLOCATION, BASIC, DISPOSITION, END_OF_FILE, LABEL, RENAME};
 use rd_fileinfo::{SetInfo, read_label, read_set_info};
 use rd_irp::Body;
 use rd_tree::NodeId;
-
-/// FileBasicInformation
-const BASIC: u32 = 0x04;
-
-/// FileRenameInformation
-const RENAME: u32 = 0x0a;
-
-/// FileDispositionInformation
-const DISPOSITION: u32 = 0x0d;
-
-/// FileAllocationInformation
-const ALLOCATION: u32 = 0x13;
-
-/// FileEndOfFileInformation
-const END_OF_FILE: u32 = 0x14;
-
-/// FileFsLabelInformation
-const LABEL: u32 = 2;
-
-/// The most bytes of a file.
-pub const MAX_FILE: u64 = 1 << 40;
 
 /// Whether a moment says that what is there is left (MS-FSCC 2.4.7).
 fn is_left(moment: u64) -> bool
@@ -93,8 +73,8 @@ fn allowed(allows: bool) -> Result<(), Status>
     }
 }
 
-/// Whether a handle's node may be deleted or get another path. The root never is.
-fn may_delete(handle: &Handle) -> Result<(), Status>
+/// Refuses a handle whose node may not be deleted or get another path, as the root may not.
+fn check_delete(handle: &Handle) -> Result<(), Status>
     ensures { result ≡ (if (not (deletes handle.now.access) || handle.now.node.0 == 0) then Err access_denied else Ok tt) }
 {
     if handle.node.0 == 0 {
@@ -104,30 +84,30 @@ fn may_delete(handle: &Handle) -> Result<(), Status>
 }
 
 impl Store {
-    /// Whether the bytes of a handle's node may be set.
-    fn may_resize(&self, handle: &Handle) -> Result<(), Status>
+    /// Refuses a handle whose node's bytes may not be set.
+    fn check_resize(&self, handle: &Handle) -> Result<(), Status>
         requires { IsLive self.now.tree handle.now.node.0 }
         ensures { result ≡ (if not (is_some (bytes_at self.now.tree handle.now.node.0)) then Err invalid_device_request else (if not (writes handle.now.access) then Err access_denied else Ok tt)) }
     {
-        match self.tree.end(handle.node) {
-            Some(_) => allowed(writes(handle.access)),
-            None => Err(status::INVALID_DEVICE_REQUEST),
+        if self.tree.is_folder(handle.node) {
+            return Err(status::INVALID_DEVICE_REQUEST);
         }
+        allowed(writes(handle.access))
     }
 
-    /// What a handle and its node have to be for a class to be set.
-    fn may_set(&self, handle: &Handle, class: u32) -> Result<(), Status>
-        requires { IsLive self.now.tree handle.now.node.0 }
+    /// Refuses a handle for which a class may not be set.
+    fn check_set(&self, handle: &Handle, class: u32) -> Result<(), Status>
+        requires sound { IsSound self.now }
+        requires live { IsLive self.now.tree handle.now.node.0 }
         ensures ok { OnOk result (MaySet (drive_of self.now) (handle_of self.now.tree handle.now) (own_node self.now handle.now.node.0) class) }
         ensures err { IfErr result (MayNotSet (drive_of self.now) (handle_of self.now.tree handle.now) (own_node self.now handle.now.node.0) class) }
     {
-        self.tree.whole();
         match class {
             BASIC => allowed(marks(handle.access)),
-            RENAME => may_delete(handle),
-            DISPOSITION => may_delete(handle),
-            ALLOCATION => self.may_resize(handle),
-            END_OF_FILE => self.may_resize(handle),
+            RENAME => check_delete(handle),
+            DISPOSITION => check_delete(handle),
+            ALLOCATION => self.check_resize(handle),
+            END_OF_FILE => self.check_resize(handle),
             _ => Err(status::INVALID_INFO_CLASS),
         }
     }
@@ -136,12 +116,11 @@ impl Store {
         requires { IsSound self.old }
         ensures { Serves self.old self.new (on_handle (drive_of self.old) file (set_file (drive_of self.old) moment class bytes.now)) result }
     {
-        self.tree.whole();
         let Some(handle) = self.handle(file) else {
             return Err(Status::INVALID_HANDLE);
         };
         let node = handle.node;
-        match self.may_set(handle, class) {
+        match self.check_set(handle, class) {
             Ok(()) => {}
             Err(status) => return Err(status),
         }
@@ -182,10 +161,9 @@ impl Store {
     ) -> Done
         requires sound { IsSound self.old }
         requires live { IsLive self.old.tree node.0 }
-        ensures { Serves self.old self.new (sets (drive_of self.old) moment count (own_node self.old node.0) (SetInfo.Basic moments attributes)) (Ok result) }
+        ensures { Serves self.old self.new (set_outcome (drive_of self.old) moment count (own_node self.old node.0) (SetInfo.Basic moments attributes)) (Ok result) }
     {
-        self.tree.whole();
-        let folder = self.tree.end(node).is_none();
+        let folder = self.tree.is_folder(node);
         let mut state = self.state(node);
         state.attributes = set_attributes(folder, state.attributes, attributes);
         state.moments = set_moments(state.moments, moments, moment);
@@ -203,10 +181,9 @@ impl Store {
         requires other { 0 ≢ node.0 }
         ensures { Serves self.old self.new (set_pending (drive_of self.old) count (own_node self.old node.0) pending) result }
     {
-        self.tree.whole();
         let mut state = self.state(node);
         if pending {
-            let folder = self.tree.end(node).is_none();
+            let folder = self.tree.is_folder(node);
             if is_readonly(folder, state.attributes) {
                 return Err(status::ACCESS_DENIED);
             }
@@ -226,8 +203,7 @@ impl Store {
         requires most { end ≤ asked }
         ensures { Serves self.old self.new (set_end (drive_of self.old) moment count (own_node self.old node.0) asked end) result }
     {
-        self.tree.whole();
-        if asked > MAX_FILE {
+        if asked > MAX_LEN {
             return Err(status::DISK_FULL);
         }
         match self.tree.resize(node, end) {
@@ -241,7 +217,6 @@ impl Store {
         requires { IsSound self.old }
         ensures { Serves self.old self.new (on_handle (drive_of self.old) file (set_volume (drive_of self.old) class bytes.now)) result }
     {
-        self.tree.whole();
         let Some(_) = self.handle(file) else {
             return Err(Status::INVALID_HANDLE);
         };

@@ -2,8 +2,8 @@
 
 ghost use Rattle.std.specs.Prelude.{◌≡◌, ◌-◌, ◌<◌, ◌≤◌, ◌==◌, [], false, length};
 ghost use Rattle.std.specs.Option.{option_map_or};
-ghost use Rattle.rd_drive.specs.Settling.{is_closed_file, IsHalfway, Settles};
-ghost use Rattle.rd_drive.specs.Store.{drive_of, news_of, ranges_of, wish_of, IsHeard, IsSound, IsSoundBut};
+ghost use Rattle.rd_drive.specs.Settling.{is_closed_file, IsHalfway, SettlesAt};
+ghost use Rattle.rd_drive.specs.Store.{drive_of, news_of, wish_ranges, wish_of, IsHeard, IsSound, IsSoundBut};
 ghost use Rattle.rd_drive.specs.Waiting.{closing_reply, settled};
 
 use crate::ends::Ends;
@@ -49,8 +49,8 @@ fn give_back(locks: &mut Locks, ranges: &[Range])
 
 /// What a request is answered where its handle was closed; its places are given back.
 fn close_reply(locks: &mut Locks, wish: &Wish) -> Reply
-    requires { ranges_of wish.now ≤ locks.old.reserved }
-    ensures locks { locks.new ≡ record locks.old { reserved = locks.old.reserved - ranges_of wish.now } }
+    requires { wish_ranges wish.now ≤ locks.old.reserved }
+    ensures locks { locks.new ≡ record locks.old { reserved = locks.old.reserved - wish_ranges wish.now } }
     ensures reply { result ≡ closing_reply (wish_of wish.now) }
 {
     match wish {
@@ -84,9 +84,8 @@ impl Store {
     fn settle_at(&mut self, at: usize, news: &News) -> Option<End>
         requires halfway { IsHalfway self.old news.now at }
         requires within { at < length self.old.waiting.items }
-        ensures { Settles self.old self.new news.now at result }
+        ensures { SettlesAt self.old self.new news.now at result }
     {
-        self.tree.whole();
         let waiting = &self.waiting[at];
         let key = waiting.key;
         let file = waiting.file;

@@ -1,6 +1,6 @@
 //! What a drive keeps, and its parts.
 
-ghost use Rattle.std.specs.Prelude.{◌≡◌, ◌≢◌, ◌⊎◌, ℕ, IsSome, IfErr, IfOk, None, OnErr, false, if◌then◌else◌, nat_eq};
+ghost use Rattle.std.specs.Prelude.{◌≡◌, ◌≢◌, ◌⊎◌, ℕ, IsSome, IfErr, IfOk, None, Some, OnErr, false, if◌then◌else◌, nat_eq};
 ghost use Rattle.std.specs.Option.{option_map, unwrap_or};
 ghost use Rattle.std.specs.Ordering.{nat_cmp};
 ghost use Rattle.std.specs.BTreeMap.{IsOrdered};
@@ -9,7 +9,7 @@ ghost use Rattle.rd_drive.specs.Store.{kept_handle, state_of};
 ghost use Rattle.rd_drive.specs.Kept.{IsKept};
 ghost use Rattle.rd_drive.specs.Made.{AddsNode, IsAlike};
 ghost use Rattle.rd_tree.specs.declared.refusal.AddNo.TheVariants as AddNo;
-ghost use Rattle.rd_tree.specs.Places.{add_refusal, has_child, without, IsLive};
+ghost use Rattle.rd_tree.specs.Places.{add_refusal, folder_of, has_child, node_at, without, IsLive};
 
 use crate::handle::Handle;
 use crate::news::News;
@@ -54,14 +54,17 @@ pub enum Done {
 pub type Outcome = Result<Done, Status>;
 
 impl Store {
-    /// Adds a folder or an empty file, with its attributes, at a moment.
+    /// Adds a folder or an empty file in a folder that was found for it, with its attributes, at a moment.
     pub fn add_node(
         &mut self,
+        parent: NodeId,
         path: &Path,
         folder: bool,
         attributes: u32,
         moment: u64,
     ) -> Result<NodeId, AddNo>
+        requires place { folder_of self.old.tree path.now ≡ Some parent.0 }
+        requires free { node_at self.old.tree path.now ≡ None }
         ensures added { IfOk result (λ node. AddsNode self.old self.new path.now folder attributes moment node.0) }
         ensures other { IfOk result (λ node. 0 ≢ node.0) }
         ensures refused { IfErr result (λ no. no ≡ unwrap_or (add_refusal self.old.tree path.now) AddNo.Memory ⊎ no ≡ AddNo.Memory) }
@@ -70,7 +73,7 @@ impl Store {
         if self.states.reserve(1).is_err() {
             return Err(AddNo::Memory);
         }
-        let node = self.tree.add(path, folder)?;
+        let node = self.tree.add_in(parent, path, folder)?;
         let _ = self
             .states
             .insert(node.0, NodeState::new(attributes, moment));

@@ -5,29 +5,27 @@ ghost use Rattle.std.specs.List.{AllByRecursion};
 ghost use Rattle.std.specs.Option.{option_map};
 ghost use Rattle.rd_base.specs.Fields.{text_bytes};
 ghost use Rattle.rd_dirinfo.specs.Paths.{is_below, is_prefix, is_within_limits};
-ghost use Rattle.rd_tree.specs.Places.{own_path, IsLive};
-ghost use Rattle.rd_drive.specs.Store.{change_of, changes_of, named_path, IsTold};
+ghost use Rattle.rd_tree.specs.Places.{own_path, IsLive, IsWhole};
+ghost use Rattle.rd_drive.specs.Store.{IsTold, change_of, change_room, changes_of, named_path};
 ghost use Rattle.rd_drive.specs.Telling.{is_watched, name_below, tells, IsIn};
 ghost use Rattle.rd_drive.specs.Waiting.{change_bytes};
 
 use crate::access::has_any;
 use crate::news::{Change, Named};
 use rd_base::{Bytes, Units, put_u32, put_units};
+use rd_dirinfo::BACKSLASH;
 use rd_tree::{NodeId, Tree};
 
 /// The most bytes that are told of a change: its head and a path.
 pub const CHANGE_ROOM: usize = 12 + 2 * 4096;
 
-/// The unit between two names.
-const BACKSLASH: u16 = 0x5c;
-
 /// The folder in which the last name of a change's path stands, and this name. The root has none.
 fn place_of<'a>(tree: &'a Tree, named: &'a Named) -> Option<(NodeId, &'a Units)>
-    requires { IsTold tree.now named.now }
+    requires is_whole { IsWhole tree.now }
+    requires told { IsTold tree.now named.now }
     ensures some { IfSome result (λ found. IsIn tree.now named.now (found.0).0 (found.1).now) }
     ensures none { IfNone result (named_path tree.now named.now ≡ []) }
 {
-    tree.whole();
     match named {
         Named::Node(node) => {
             if node.0 == 0 {
@@ -41,11 +39,11 @@ fn place_of<'a>(tree: &'a Tree, named: &'a Named) -> Option<(NodeId, &'a Units)>
 
 /// Whether a folder is another one or above it.
 fn is_above(tree: &Tree, folder: NodeId, node: NodeId) -> bool
+    requires is_whole { IsWhole tree.now }
     requires folder { IsLive tree.now folder.0 }
     requires node { IsLive tree.now node.0 }
     ensures { result ≡ is_prefix tree.now.naming (own_path tree.now folder.0) (own_path tree.now node.0) }
 {
-    tree.whole();
     let mut node = node;
     while node.0 != folder.0 {
         if node.0 == 0 {
@@ -58,11 +56,11 @@ fn is_above(tree: &Tree, folder: NodeId, node: NodeId) -> bool
 
 /// Whether a change is in a folder, or with `deep` anywhere below it.
 fn is_watched(tree: &Tree, folder: NodeId, deep: bool, named: &Named) -> bool
+    requires is_whole { IsWhole tree.now }
     requires folder { IsLive tree.now folder.0 }
     requires told { IsTold tree.now named.now }
     ensures { result ≡ is_watched tree.now.naming (own_path tree.now folder.0) deep (named_path tree.now named.now) }
 {
-    tree.whole();
     let Some((parent, _)) = place_of(tree, named) else {
         return false;
     };
@@ -71,6 +69,7 @@ fn is_watched(tree: &Tree, folder: NodeId, deep: bool, named: &Named) -> bool
 
 /// Whether who watches a folder is told of a change.
 fn tells(tree: &Tree, folder: NodeId, deep: bool, filter: u32, change: &Change) -> bool
+    requires is_whole { IsWhole tree.now }
     requires folder { IsLive tree.now folder.0 }
     requires told { IsTold tree.now change.now.named }
     ensures { result ≡ tells tree.now.naming (own_path tree.now folder.0) deep filter (change_of tree.now change.now) }
@@ -86,6 +85,7 @@ pub fn first_told<'a>(
     filter: u32,
     changes: &'a [Option<Change>],
 ) -> Option<&'a Change>
+    requires is_whole { IsWhole tree.now }
     requires folder { IsLive tree.now folder.0 }
     requires heard { AllByRecursion (λ change. IfSome change (λ c. IsTold tree.now c.named)) changes.now }
     ensures found { option_map (λ change. change_of tree.now change.now) result ≡ find (tells tree.now.naming (own_path tree.now folder.0) deep filter) (changes_of tree.now changes.now) }
@@ -103,15 +103,15 @@ pub fn first_told<'a>(
 
 /// What is told of a change to who watches a folder, in room that was found for it.
 pub fn told(tree: &Tree, folder: NodeId, change: &Change, mut room: Vec<u8>) -> Bytes
+    requires is_whole { IsWhole tree.now }
     requires folder { IsLive tree.now folder.0 }
     requires told { IsTold tree.now change.now.named }
     requires below { is_below tree.now.naming (own_path tree.now folder.0) (named_path tree.now change.now.named) ≡ true }
     requires short { is_within_limits (named_path tree.now change.now.named) ≡ true }
     requires empty { room.items ≡ [] }
-    requires room { 8204 ≤ vec_capacity room }
+    requires room { change_room ≤ vec_capacity room }
     ensures { result ≡ change_bytes (own_path tree.now folder.0) (change_of tree.now change.now) }
 {
-    tree.whole();
     let Some((parent, name)) = place_of(tree, &change.named) else {
         unreachable!()
     };
@@ -124,13 +124,13 @@ pub fn told(tree: &Tree, folder: NodeId, change: &Change, mut room: Vec<u8>) -> 
 
 /// How many units the names from a folder down to one in a folder at or below it have, with those between them.
 fn length_below(tree: &Tree, folder: NodeId, parent: NodeId, name: &Units) -> u32
+    requires is_whole { IsWhole tree.now }
     requires folder { IsLive tree.now folder.0 }
     requires parent { IsLive tree.now parent.0 }
     requires below { is_prefix tree.now.naming (own_path tree.now folder.0) (own_path tree.now parent.0) ≡ true }
     requires short { length (name_below tree.now folder.0 parent.0 name.now) < 2 ^ 31 }
     ensures { result ≡ length (name_below tree.now folder.0 parent.0 name.now) }
 {
-    tree.whole();
     let units = name.as_slice();
     if parent.0 == folder.0 {
         return units.len() as u32;
@@ -140,6 +140,7 @@ fn length_below(tree: &Tree, folder: NodeId, parent: NodeId, name: &Units) -> u3
 
 /// Appends these names.
 fn put_below(tree: &Tree, folder: NodeId, parent: NodeId, name: &Units, out: &mut Vec<u8>)
+    requires is_whole { IsWhole tree.now }
     requires folder { IsLive tree.now folder.0 }
     requires parent { IsLive tree.now parent.0 }
     requires below { is_prefix tree.now.naming (own_path tree.now folder.0) (own_path tree.now parent.0) ≡ true }
@@ -148,7 +149,6 @@ fn put_below(tree: &Tree, folder: NodeId, parent: NodeId, name: &Units, out: &mu
     ensures len { vec_len out.new ≡ vec_len out.old + 2 * length (name_below tree.now folder.0 parent.0 name.now) }
     ensures room { vec_capacity out.old ≤ vec_capacity out.new }
 {
-    tree.whole();
     let units = name.as_slice();
     if parent.0 == folder.0 {
         put_units(out, units);

@@ -4,19 +4,11 @@ ghost use Rattle.std.specs.Prelude.{◌≡◌, ◌↔◌, ◌≢◌, ◌++◌, �
 ghost use Rattle.rd_base.specs.Classes.{IsRefusal, IsUnlisted, ReadsOfClass};
 ghost use Rattle.rd_fileinfo.specs.FileInfo.{file_classes, file_class, file_info_bytes, IsFileInfoInRange, SpellsFileInfo};
 
+use crate::classes::{ATTRIBUTE_TAG, BASIC, STANDARD};
 use rd_base::{
     Bytes, Cursor, InfoNo, Moments, put_moments, put_u8, put_u32, put_u64, read_moments,
 };
 use std::alloc::{AllocError, Global};
-
-/// FileBasicInformation
-const BASIC: u32 = 0x04;
-
-/// FileStandardInformation
-const STANDARD: u32 = 0x05;
-
-/// FileAttributeTagInformation
-const ATTRIBUTE_TAG: u32 = 0x23;
 
 #[derive(Clone, Copy, Debug, PartialEq, Eq)]
 pub enum FileInfo {

@@ -8,6 +8,7 @@
 //! path, a label or a name once, and nothing else.
 #![tactic(auto)]
 
+pub mod classes;
 mod file_info;
 mod label;
 mod laws;

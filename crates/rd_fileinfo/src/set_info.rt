@@ -5,26 +5,12 @@ ghost use Rattle.rd_base.specs.Classes.{IsRefusal, IsUnlisted, ReadsOfClass};
 ghost use Rattle.rd_fileinfo.specs.SetInfo.{set_classes, set_class, set_info_bytes, disposition_set, rename_set, SetInfoFits, IsSetInfoInRange, SpellsSetInfo};
 ghost use Rattle.rd_base.specs.Reading.{Reads, ReadsInto};
 
+use crate::classes::{ALLOCATION, BASIC, DISPOSITION, END_OF_FILE, RENAME};
 use rd_base::{
     Bad, Bytes, Cursor, InfoNo, Moments, ReadNo, Units, put_flag, put_moments, put_path, put_u8,
     put_u32, put_u64, read_constant_u8, read_flag, read_moments, read_path, read_units_length,
 };
 use std::alloc::{AllocError, Global};
-
-/// FileBasicInformation
-const BASIC: u32 = 0x04;
-
-/// FileRenameInformation
-const RENAME: u32 = 0x0a;
-
-/// FileDispositionInformation
-const DISPOSITION: u32 = 0x0d;
-
-/// FileAllocationInformation
-const ALLOCATION: u32 = 0x13;
-
-/// FileEndOfFileInformation
-const END_OF_FILE: u32 = 0x14;
 
 /// A path of so many units has more bytes than its length can say.
 const TOO_MANY_UNITS: usize = 0x7fff_ffff;

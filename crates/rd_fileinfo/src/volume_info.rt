@@ -5,26 +5,12 @@ ghost use Rattle.rd_base.specs.Classes.{IsRefusal, IsUnlisted, ReadsOfClass};
 ghost use Rattle.rd_base.specs.Reading.{Reads, ReadsInto};
 ghost use Rattle.rd_fileinfo.specs.VolumeInfo.{volume_classes, volume_class, volume_info_bytes, volume_info, attribute_info, size_info, full_size_info, VolumeFits, IsVolumeInfoInRange, SpellsVolumeInfo};
 
+use crate::classes::{ATTRIBUTE, DEVICE, FULL_SIZE, SIZE, VOLUME};
 use rd_base::{
     Bad, Bytes, Cursor, InfoNo, ReadNo, Units, put_u8, put_u32, put_u64, put_units, read_text,
     read_units_length,
 };
 use std::alloc::{AllocError, Global};
-
-/// FileFsVolumeInformation
-const VOLUME: u32 = 1;
-
-/// FileFsSizeInformation
-const SIZE: u32 = 3;
-
-/// FileFsDeviceInformation
-const DEVICE: u32 = 4;
-
-/// FileFsAttributeInformation
-const ATTRIBUTE: u32 = 5;
-
-/// FileFsFullSizeInformation
-const FULL_SIZE: u32 = 7;
 
 /// So many units have more bytes than a length can say.
 const TOO_MANY_UNITS: usize = 0x8000_0000;

@@ -15,7 +15,7 @@ use Rattle.rd_base.proofs.WrittenLemmas.{Written, done_last, layout_then, number
 use Rattle.rd_hello.specs.declared.capability.General.{General}
 use Rattle.rd_hello.specs.declared.capability.Cap.{Cap}
 use Rattle.rd_hello.specs.declared.capability.Cap.TheVariants as cap
-use Rattle.rd_hello.specs.Capability.{least_length, least_of_version, special, general, other, body_of, capability, sets, head_bytes, capability_bytes, sets_bytes, IsWritableSet, AreWritableSets, most_sets}
+use Rattle.rd_hello.specs.Capability.{least_length, least_of_version, special, general, other, body_of, capability, sets, capability_head_bytes, capability_bytes, sets_bytes, IsWritableSet, AreWritableSets, most_sets}
 
 -- the numbers of GENERAL are in the ranges of their fields
 pub record IsInRange (g : General) : Type 0 where
@@ -29,7 +29,7 @@ pub record IsInRange (g : General) : Type 0 where
   pub extra2 : g.extra2 < 2 ^ 32
 
 -- the head of a set, and what stands in it after its head
-set_written : (c : Cap) (kind count version : ℕ) (body after : List ℕ) → kind < 2 ^ 16 → count < 2 ^ 16 → version < 2 ^ 32 → IsTrue (nat_le (least_length kind) count) → IsTrue (nat_le (least_of_version kind version) count) → length body ≡ count - 8 → Written (body_of kind version (count - 8)) c body [] → Written capability c (head_bytes kind count version ++ body) after
+set_written : (c : Cap) (kind count version : ℕ) (body after : List ℕ) → kind < 2 ^ 16 → count < 2 ^ 16 → version < 2 ^ 32 → IsTrue (nat_le (least_length kind) count) → IsTrue (nat_le (least_of_version kind version) count) → length body ≡ count - 8 → Written (body_of kind version (count - 8)) c body [] → Written capability c (capability_head_bytes kind count version ++ body) after
 unfolding capability
 set_written c kind count version body after kind_fits count_fits version_fits enough still_enough len q =
     let inner = within_written body [] (rw append-nil len) q in
@@ -51,12 +51,12 @@ general_spelled g range fits = go g.special fits
         (number_then g.codes range.codes (number_then g.codes2 range.codes2 (number_then g.extended range.extended (number_then g.extra range.extra (number_then g.extra2 range.extra2
         (layout_then None [] (done_last None _) (done_last _ []))))))))))))
 
-pub printer_spelled : (version : ℕ) → version < 2 ^ 32 → IsSpelling capability (cap.Printer version) (head_bytes 2 8 version)
+pub printer_spelled : (version : ℕ) → version < 2 ^ 32 → IsSpelling capability (cap.Printer version) (capability_head_bytes 2 8 version)
 unfolding body_of
 printer_spelled version fits = written capability _ _ λ after.
     set_written (cap.Printer version) 2 8 version [] after (lit< tt) (lit< tt) fits refl refl refl (done_last (cap.Printer version) [])
 
-pub drive_spelled : (version : ℕ) → version < 2 ^ 32 → IsSpelling capability (cap.Drive version) (head_bytes 4 8 version)
+pub drive_spelled : (version : ℕ) → version < 2 ^ 32 → IsSpelling capability (cap.Drive version) (capability_head_bytes 4 8 version)
 unfolding body_of
 drive_spelled version fits = written capability _ _ λ after.
     set_written (cap.Drive version) 4 8 version [] after (lit< tt) (lit< tt) fits refl refl refl (done_last (cap.Drive version) [])

@@ -81,8 +81,8 @@ sets = do
   times count capability
 
 -- the bytes of a set's head
-abbrev pub head_bytes : ℕ → ℕ → ℕ → List ℕ
-head_bytes kind count version = to_le_bytes w16 kind ++ to_le_bytes w16 count ++ to_le_bytes w32 version
+abbrev pub capability_head_bytes : ℕ → ℕ → ℕ → List ℕ
+capability_head_bytes kind count version = to_le_bytes w16 kind ++ to_le_bytes w16 count ++ to_le_bytes w32 version
 
 -- the bytes of SpecialTypeDeviceCap
 abbrev pub special_bytes : Option ℕ → List ℕ
@@ -91,8 +91,8 @@ special_bytes None = []
 
 -- the head of GENERAL: version 2 with that field, version 1 without
 abbrev pub general_head : Option ℕ → List ℕ
-general_head (Some _) = head_bytes general_type 44 2
-general_head None = head_bytes general_type 40 1
+general_head (Some _) = capability_head_bytes general_type 44 2
+general_head None = capability_head_bytes general_type 40 1
 
 -- osType, osVersion, and the version of the protocol, whose protocolMajor is 1
 abbrev pub system_bytes : ℕ → ℕ → ℕ → List ℕ
@@ -109,9 +109,9 @@ general_bytes g = system_bytes g.os g.os_version g.minor ++ codes_bytes g.codes 
 -- the bytes of a set
 abbrev pub capability_bytes : Cap → List ℕ
 capability_bytes (cap.General g) = general_head g.special ++ general_bytes g
-capability_bytes (cap.Printer version) = head_bytes printer_type 8 version
-capability_bytes (cap.Drive version) = head_bytes drive_type 8 version
-capability_bytes (cap.Other kind version body) = head_bytes kind (8 + length body) version ++ body
+capability_bytes (cap.Printer version) = capability_head_bytes printer_type 8 version
+capability_bytes (cap.Drive version) = capability_head_bytes drive_type 8 version
+capability_bytes (cap.Other kind version body) = capability_head_bytes kind (8 + length body) version ++ body
 
 -- the bytes of the sets of a message
 abbrev pub sets_bytes : List Cap → List ℕ

@@ -81,17 +81,17 @@ abbrev pub name_bytes : ℕ → ℕ → List ℕ → List ℕ
 name_bytes unicode page bytes = to_le_bytes w32 unicode ++ to_le_bytes w32 page ++ bytes_and_count bytes
 
 -- the bytes after the header
-abbrev pub body_bytes : Hello → List ℕ
-body_bytes (Announce v) = version_bytes v
-body_bytes (Confirm v) = version_bytes v
-body_bytes (Name unicode page bytes) = name_bytes unicode page bytes
-body_bytes (ServerCaps caps) = sets_bytes caps
-body_bytes (ClientCaps caps) = sets_bytes caps
-body_bytes LoggedOn = []
+abbrev pub hello_body_bytes : Hello → List ℕ
+hello_body_bytes (Announce v) = version_bytes v
+hello_body_bytes (Confirm v) = version_bytes v
+hello_body_bytes (Name unicode page bytes) = name_bytes unicode page bytes
+hello_body_bytes (ServerCaps caps) = sets_bytes caps
+hello_body_bytes (ClientCaps caps) = sets_bytes caps
+hello_body_bytes LoggedOn = []
 
 -- the bytes of a message
 abbrev pub hello_bytes : Hello → List ℕ
-hello_bytes h = header_bytes (packet_of_hello h) ++ body_bytes h
+hello_bytes h = header_bytes (packet_of_hello h) ++ hello_body_bytes h
 
 -- a message that can be written
 abbrev pub IsWritableHello : Hello → Type 0

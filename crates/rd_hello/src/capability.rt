@@ -1,19 +1,18 @@
 //! Capability sets (MS-RDPEFS 2.2.1.2), which say what a side can do.
 
-ghost use Rattle.std.specs.Prelude.{◌≡◌, ◌+◌, ◌-◌, ◌<◌, ◌≤◌, ◌^◌, ◌↔◌, ◌++◌, [], ◌∷◌, IsTrue, IfSome, OnOk, length};
-ghost use Rattle.std.specs.Int.{w16, to_le_bytes};
+ghost use Rattle.std.specs.Prelude.{◌≡◌, ◌+◌, ◌-◌, ◌<◌, ◌≤◌, ◌^◌, ◌↔◌, ◌++◌, [], ◌∷◌, IsTrue, IfSome, length, vec_capacity, vec_len};
 ghost use Rattle.std.specs.List.{flat_map};
 ghost use Rattle.rd_base.specs.Layout.{within};
 ghost use Rattle.rd_base.specs.Reading.{Reads, ReadsInto};
 ghost use Rattle.rd_base.specs.Spelling.{IsSpelling};
-ghost use Rattle.rd_hello.specs.Capability.{least_length, least_of_version, special, general, body_of, capability, sets, head_bytes, special_bytes, general_head, system_bytes, codes_bytes, general_bytes, capability_bytes, sets_bytes, is_kept, IsWritableSet, AreWritableSets};
+ghost use Rattle.rd_hello.specs.Capability.{least_length, least_of_version, special, general, body_of, capability, sets, capability_head_bytes, special_bytes, general_head, system_bytes, codes_bytes, general_bytes, capability_bytes, sets_bytes, is_kept, IsWritableSet, AreWritableSets};
 ghost use Rattle.rd_hello.specs.declared.capability.Cap.TheVariants as cap;
 
 use rd_base::{
-    Bad, Bytes, Cursor, Format, Items, ReadNo, Why, put_all, read_bytes, read_count16, read_times,
-    size_of_all,
+    Bad, Bytes, Cursor, Format, Items, ReadNo, Why, put_all, put_bytes, put_u16, put_u32,
+    read_bytes, read_count16, read_times, size_of_all,
 };
-use std::alloc::{AllocError, Global};
+use std::alloc::Global;
 
 /// The most sets of a message.
 pub const MAX_SETS: u16 = 64;
@@ -107,7 +106,7 @@ impl Format for Cap {
     }
 
     #[tactic(auto, using(crate::proofs::CapabilityLemmas::printer_spelled, crate::proofs::CapabilityLemmas::drive_spelled, crate::proofs::CapabilityLemmas::other_spelled, std::proofs::Common::append_assoc))]
-    fn put(&self, out: &mut Vec<u8>) -> Result<(), AllocError> {
+    fn put(&self, out: &mut Vec<u8>) {
         match self {
             Cap::General(general) => put_general(out, general),
             Cap::Printer(version) => put_head(out, PRINTER, HEAD_LEN, *version),
@@ -122,8 +121,8 @@ impl Format for Cap {
                     *kind,
                     HEAD_LEN + body.as_slice().len() as u16,
                     *version,
-                )?;
-                out.extend_from_slice(body.as_slice())
+                );
+                put_bytes(out, body.as_slice());
             }
         }
     }
@@ -248,24 +247,30 @@ fn read_special(part: &mut Cursor<'_>, version: u32) -> Result<Option<u32>, Bad>
     Ok(Some(special))
 }
 
-/// Writes the head of a set.
-fn put_head(out: &mut Vec<u8>, kind: u16, length: u16, version: u32) -> Result<(), AllocError>
-    ensures { OnOk result (out.new.items ≡ out.old.items ++ head_bytes kind length version) }
+/// Appends the head of a set.
+#[tactic(auto, unfolding(rd_base::specs::Fields::bytes16, rd_base::specs::Fields::bytes32), using(std::proofs::Common::append_assoc))]
+fn put_head(out: &mut Vec<u8>, kind: u16, length: u16, version: u32)
+    requires { vec_len out.old + 8 ≤ vec_capacity out.old }
+    ensures bytes { out.new.items ≡ out.old.items ++ capability_head_bytes kind length version }
+    ensures len { vec_len out.new ≡ vec_len out.old + 8 }
+    ensures room { vec_capacity out.old ≤ vec_capacity out.new }
 {
-    out.extend_from_slice(&kind.to_le_bytes())?;
-    out.extend_from_slice(&length.to_le_bytes())?;
-    out.extend_from_slice(&version.to_le_bytes())
+    put_u16(out, kind);
+    put_u16(out, length);
+    put_u32(out, version);
 }
 
-/// Writes GENERAL, with version 2 where it has the field of version 2.
+/// Appends GENERAL, with version 2 where it has the field of version 2.
 #[tactic(auto, using(std::proofs::Common::append_assoc))]
-fn put_general(out: &mut Vec<u8>, general: &General) -> Result<(), AllocError>
-    ensures bytes { OnOk result (out.new.items ≡ out.old.items ++ capability_bytes (cap.General general.now)) }
-    ensures spelled { OnOk result (IsSpelling capability (cap.General general.now)
-        (capability_bytes (cap.General general.now))) }
+fn put_general(out: &mut Vec<u8>, general: &General)
+    requires { vec_len out.old + length (capability_bytes (cap.General general.now)) ≤ vec_capacity out.old }
+    ensures bytes { out.new.items ≡ out.old.items ++ capability_bytes (cap.General general.now) }
+    ensures spelled { IsSpelling capability (cap.General general.now)
+        (capability_bytes (cap.General general.now)) }
+    ensures room { vec_capacity out.old ≤ vec_capacity out.new }
 {
-    put_general_head(out, general.special)?;
-    put_system(out, general.os, general.os_version, general.minor)?;
+    put_general_head(out, general.special);
+    put_system(out, general.os, general.os_version, general.minor);
     put_codes(
         out,
         general.codes,
@@ -273,12 +278,15 @@ fn put_general(out: &mut Vec<u8>, general: &General) -> Result<(), AllocError>
         general.extended,
         general.extra,
         general.extra2,
-    )?;
-    put_special(out, general.special)
+    );
+    put_special(out, general.special);
 }
 
-fn put_general_head(out: &mut Vec<u8>, special: Option<u32>) -> Result<(), AllocError>
-    ensures { OnOk result (out.new.items ≡ out.old.items ++ general_head special) }
+fn put_general_head(out: &mut Vec<u8>, special: Option<u32>)
+    requires { vec_len out.old + 8 ≤ vec_capacity out.old }
+    ensures bytes { out.new.items ≡ out.old.items ++ general_head special }
+    ensures len { vec_len out.new ≡ vec_len out.old + 8 }
+    ensures room { vec_capacity out.old ≤ vec_capacity out.new }
 {
     match special {
         Some(_) => put_head(out, GENERAL, GENERAL2_LEN, 2),
@@ -286,44 +294,47 @@ fn put_general_head(out: &mut Vec<u8>, special: Option<u32>) -> Result<(), Alloc
     }
 }
 
-/// Writes what GENERAL says of the operating system, and the version of the protocol.
-fn put_system(out: &mut Vec<u8>, os: u32, os_version: u32, minor: u16) -> Result<(), AllocError>
-    ensures bytes { OnOk result (out.new.items ≡ out.old.items ++ system_bytes os os_version minor) }
+/// Appends what GENERAL says of the operating system, and the version of the protocol.
+#[tactic(auto, unfolding(rd_base::specs::Fields::bytes16, rd_base::specs::Fields::bytes32), using(std::proofs::Common::append_assoc))]
+fn put_system(out: &mut Vec<u8>, os: u32, os_version: u32, minor: u16)
+    requires { vec_len out.old + 12 ≤ vec_capacity out.old }
+    ensures bytes { out.new.items ≡ out.old.items ++ system_bytes os os_version minor }
     ensures fits { (os < 2 ^ 32) × (os_version < 2 ^ 32) × (minor < 2 ^ 16) }
+    ensures len { vec_len out.new ≡ vec_len out.old + 12 }
+    ensures room { vec_capacity out.old ≤ vec_capacity out.new }
 {
-    put_all(out, &[os, os_version])?;
-    put_protocol(out, minor)
+    put_u32(out, os);
+    put_u32(out, os_version);
+    put_u16(out, 1);
+    put_u16(out, minor);
 }
 
-fn put_protocol(out: &mut Vec<u8>, minor: u16) -> Result<(), AllocError>
-    ensures { OnOk result (out.new.items ≡ out.old.items ++ (to_le_bytes w16 1 ++ to_le_bytes w16 minor)) }
-{
-    out.extend_from_slice(&1u16.to_le_bytes())?;
-    out.extend_from_slice(&minor.to_le_bytes())
-}
-
-/// Writes what GENERAL says of messages.
-fn put_codes(
-    out: &mut Vec<u8>,
-    codes: u32,
-    codes2: u32,
-    extended: u32,
-    extra: u32,
-    extra2: u32,
-) -> Result<(), AllocError>
-    ensures bytes { OnOk result (out.new.items ≡ out.old.items ++ codes_bytes codes codes2 extended extra extra2) }
+/// Appends what GENERAL says of messages.
+#[tactic(auto, unfolding(rd_base::specs::Fields::bytes32), using(std::proofs::Common::append_assoc))]
+fn put_codes(out: &mut Vec<u8>, codes: u32, codes2: u32, extended: u32, extra: u32, extra2: u32)
+    requires { vec_len out.old + 20 ≤ vec_capacity out.old }
+    ensures bytes { out.new.items ≡ out.old.items ++ codes_bytes codes codes2 extended extra extra2 }
     ensures fits { (codes < 2 ^ 32) × (codes2 < 2 ^ 32) × (extended < 2 ^ 32) × (extra < 2 ^ 32) × (extra2 < 2 ^ 32) }
+    ensures len { vec_len out.new ≡ vec_len out.old + 20 }
+    ensures room { vec_capacity out.old ≤ vec_capacity out.new }
 {
-    put_all(out, &[codes, codes2, extended, extra, extra2])
+    put_u32(out, codes);
+    put_u32(out, codes2);
+    put_u32(out, extended);
+    put_u32(out, extra);
+    put_u32(out, extra2);
 }
 
-fn put_special(out: &mut Vec<u8>, special: Option<u32>) -> Result<(), AllocError>
-    ensures bytes { OnOk result (out.new.items ≡ out.old.items ++ special_bytes special) }
+#[tactic(auto, unfolding(rd_base::specs::Fields::bytes32))]
+fn put_special(out: &mut Vec<u8>, special: Option<u32>)
+    requires { vec_len out.old + length (special_bytes special) ≤ vec_capacity out.old }
+    ensures bytes { out.new.items ≡ out.old.items ++ special_bytes special }
     ensures fits { IfSome special (λ n. n < 2 ^ 32) }
+    ensures room { vec_capacity out.old ≤ vec_capacity out.new }
 {
     match special {
-        Some(n) => out.extend_from_slice(&n.to_le_bytes()),
-        None => Ok(()),
+        Some(n) => put_u32(out, n),
+        None => {}
     }
 }
 
@@ -337,16 +348,18 @@ pub fn read_sets(alloc: Global, cursor: &mut Cursor<'_>) -> Result<Caps, ReadNo>
     read_times(alloc, cursor, count as u32)
 }
 
-/// Writes the sets of a message after its header.
-#[tactic(auto, using(crate::proofs::CapabilityLemmas::sets_spelled, std::proofs::Common::append_assoc))]
-pub fn put_sets(out: &mut Vec<u8>, caps: &Caps) -> Result<(), AllocError>
-    requires { AreWritableSets caps.now }
-    ensures bytes { OnOk result (out.new.items ≡ out.old.items ++ sets_bytes caps.now) }
-    ensures spelled { OnOk result (IsSpelling sets caps.now (sets_bytes caps.now)) }
+/// Appends the sets of a message after its header.
+#[tactic(auto, using(crate::proofs::CapabilityLemmas::sets_spelled, std::proofs::Common::append_assoc), unfolding(rd_base::specs::Fields::bytes16))]
+pub fn put_sets(out: &mut Vec<u8>, caps: &Caps)
+    requires writable { AreWritableSets caps.now }
+    requires room { vec_len out.old + length (sets_bytes caps.now) ≤ vec_capacity out.old }
+    ensures bytes { out.new.items ≡ out.old.items ++ sets_bytes caps.now }
+    ensures spelled { IsSpelling sets caps.now (sets_bytes caps.now) }
+    ensures room { vec_capacity out.old ≤ vec_capacity out.new }
 {
-    out.extend_from_slice(&(caps.as_slice().len() as u16).to_le_bytes())?;
-    out.extend_from_slice(&[0, 0])?;
-    put_all(out, caps.as_slice())
+    put_u16(out, caps.as_slice().len() as u16);
+    put_bytes(out, &[0, 0]);
+    put_all(out, caps.as_slice());
 }
 
 /// How many bytes the sets of a message are written in.

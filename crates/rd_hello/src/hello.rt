@@ -1,14 +1,15 @@
 //! The six messages that open a channel (MS-RDPEFS 2.2.2.2 to 2.2.2.8).
 
-ghost use Rattle.std.specs.Prelude.{◌≡◌, ◌<◌, ◌≤◌, ◌^◌, ◌↔◌, ◌++◌, IsTrue, IfOk, IfErr, OnOk, Some, length};
+ghost use Rattle.std.specs.Prelude.{◌≡◌, ◌+◌, ◌<◌, ◌≤◌, ◌^◌, ◌↔◌, ◌++◌, IsTrue, IfOk, IfErr, OnErr, OnOk, Some, length, vec_capacity, vec_len};
 ghost use Rattle.rd_base.specs.Reading.{Reads, ReadsInto, WithTail, ForBad};
 ghost use Rattle.rd_base.specs.Spelling.{IsSpelling};
-ghost use Rattle.rd_hello.specs.Hello.{version, name, hello_body, most_name_bytes, version_bytes, name_bytes, body_bytes, hello_bytes, packet_of_hello, IsWritableHello, SpellsHello, FirstFaultOfHello};
+ghost use Rattle.rd_hello.specs.Hello.{version, name, hello_body, most_name_bytes, version_bytes, name_bytes, hello_body_bytes, hello_bytes, packet_of_hello, IsWritableHello, SpellsHello, FirstFaultOfHello};
 
 use crate::capability::{Caps, can_write_sets, put_sets, read_sets, size_of_sets};
 use rd_base::{
-    Bad, Bytes, Cursor, Format, HEADER_LEN, Packet, ReadNo, Why, put_counted_bytes, put_header,
-    read_bytes, read_count32, read_header_among, read_message, write_message,
+    Bad, Bytes, Cursor, Format, HEADER_LEN, Packet, ReadNo, Why, append_message, put_counted_bytes,
+    put_header, put_u16, put_u32, read_bytes, read_count32, read_header_among, read_message,
+    write_message,
 };
 use std::alloc::{AllocError, Global};
 
@@ -90,8 +91,8 @@ impl Format for Hello {
     }
 
     #[tactic(auto, using(crate::proofs::HelloLemmas::logged_on_spelled, std::proofs::Common::append_assoc))]
-    fn put(&self, out: &mut Vec<u8>) -> Result<(), AllocError> {
-        put_header(out, self.packet())?;
+    fn put(&self, out: &mut Vec<u8>) {
+        put_header(out, self.packet());
         match self {
             Hello::Announce(version) => put_version(out, version.minor, version.client),
             Hello::Confirm(version) => put_version(out, version.minor, version.client),
@@ -102,7 +103,7 @@ impl Format for Hello {
             } => put_name(out, *unicode, *page, name),
             Hello::ServerCaps(caps) => put_sets(out, caps),
             Hello::ClientCaps(caps) => put_sets(out, caps),
-            Hello::LoggedOn => Ok(()),
+            Hello::LoggedOn => {}
         }
     }
 
@@ -162,26 +163,32 @@ fn read_name(alloc: Global, cursor: &mut Cursor<'_>) -> Result<Hello, ReadNo>
     })
 }
 
-/// Writes VersionMajor, VersionMinor and ClientId.
-fn put_version(out: &mut Vec<u8>, minor: u16, client: u32) -> Result<(), AllocError>
-    ensures bytes { OnOk result (out.new.items
-        ≡ out.old.items ++ version_bytes (record { minor = minor; client = client })) }
+/// Appends VersionMajor, VersionMinor and ClientId.
+#[tactic(auto, unfolding(rd_base::specs::Fields::bytes16, rd_base::specs::Fields::bytes32), using(std::proofs::Common::append_assoc))]
+fn put_version(out: &mut Vec<u8>, minor: u16, client: u32)
+    requires { vec_len out.old + 8 ≤ vec_capacity out.old }
+    ensures bytes { out.new.items
+        ≡ out.old.items ++ version_bytes (record { minor = minor; client = client }) }
     ensures fits { (minor < 2 ^ 16) × (client < 2 ^ 32) }
+    ensures room { vec_capacity out.old ≤ vec_capacity out.new }
 {
-    out.extend_from_slice(&1u16.to_le_bytes())?;
-    out.extend_from_slice(&minor.to_le_bytes())?;
-    out.extend_from_slice(&client.to_le_bytes())
+    put_u16(out, 1);
+    put_u16(out, minor);
+    put_u32(out, client);
 }
 
-/// Writes what the client's name has after its header.
-fn put_name(out: &mut Vec<u8>, unicode: u32, page: u32, name: &Bytes) -> Result<(), AllocError>
-    requires { length name.now ≤ most_name_bytes }
-    ensures bytes { OnOk result (out.new.items ≡ out.old.items ++ name_bytes unicode page name.now) }
+/// Appends what the client's name has after its header.
+#[tactic(auto, unfolding(rd_base::specs::Fields::bytes32), using(std::proofs::Common::append_assoc))]
+fn put_name(out: &mut Vec<u8>, unicode: u32, page: u32, name: &Bytes)
+    requires short { length name.now ≤ most_name_bytes }
+    requires room { vec_len out.old + 12 + length name.now ≤ vec_capacity out.old }
+    ensures bytes { out.new.items ≡ out.old.items ++ name_bytes unicode page name.now }
     ensures fits { (unicode < 2 ^ 32) × (page < 2 ^ 32) }
+    ensures room { vec_capacity out.old ≤ vec_capacity out.new }
 {
-    out.extend_from_slice(&unicode.to_le_bytes())?;
-    out.extend_from_slice(&page.to_le_bytes())?;
-    put_counted_bytes(out, name.as_slice())
+    put_u32(out, unicode);
+    put_u32(out, page);
+    put_counted_bytes(out, name.as_slice());
 }
 
 /// Reads a message that opens a channel, and counts the ignored bytes after it.
@@ -202,12 +209,13 @@ pub fn write_hello(alloc: Global, hello: &Hello) -> Result<Bytes, AllocError>
     write_message(alloc, hello)
 }
 
-/// Writes a message that opens a channel after what the buffer holds.
+/// Appends a message that opens a channel. Where there is no memory for all of it, nothing is appended.
 pub fn put_hello(out: &mut Vec<u8>, hello: &Hello) -> Result<(), AllocError>
     requires { IsWritableHello hello.now }
-    ensures { OnOk result (out.new.items ≡ out.old.items ++ hello_bytes hello.now) }
+    ensures bytes { OnOk result (out.new.items ≡ out.old.items ++ hello_bytes hello.now) }
+    ensures err { OnErr result (out.new.items ≡ out.old.items) }
 {
-    hello.put(out)
+    append_message(out, hello)
 }
 
 /// Whether a message that opens a channel can be written: its name isn't too long, and its sets can be.

@@ -12,7 +12,7 @@ ghost use Rattle.rd_hello.specs.declared.client.ClientState.TheVariants as clien
 ghost use Rattle.rd_hello.specs.declared.host.HostState.TheVariants as host_state;
 ghost use Rattle.rd_hello.specs.Hello.{hello, hello_bytes, SpellsHello, FirstFaultOfHello};
 ghost use Rattle.rd_hello.specs.Own.{host_announce, host_sets, client_sets, client_name, client_confirm};
-ghost use Rattle.rd_hello.specs.Rows.{writes_nothing, writes, writes_both, out_of_order};
+ghost use Rattle.rd_hello.specs.Rows.{writes_nothing, writes_one, writes_both, out_of_order};
 ghost use Rattle.rd_hello.specs.ClientTable.{client_step};
 ghost use Rattle.rd_hello.specs.HostTable.{host_step};
 ghost use Rattle.rd_hello.specs.Worked as worked;
@@ -66,8 +66,8 @@ pub fn sides_open(client: u32)
         ≡ writes_both host_sets (message.Confirm (record { minor = 12; client = client })) host_state.Offered }
     ensures host_sets { client_step client_state.Named host_sets ≡ writes_nothing (client_state.Offered true) }
     ensures host_confirm { client_step (client_state.Offered true) (message.Confirm (record { minor = 12; client = client }))
-        ≡ writes client_sets client_state.Waiting }
-    ensures client_sets { host_step host_state.Offered client_sets ≡ writes message.LoggedOn host_state.Ready }
+        ≡ writes_one client_sets client_state.Waiting }
+    ensures client_sets { host_step host_state.Offered client_sets ≡ writes_one message.LoggedOn host_state.Ready }
     ensures logged_on { client_step client_state.Waiting message.LoggedOn ≡ writes_nothing client_state.Ready }
 {}
 
@@ -75,7 +75,7 @@ pub fn sides_open(client: u32)
 /// read once it doesn't read again.
 pub fn confirm_comes_first(host: Version)
     ensures confirm { client_step client_state.Named (message.Confirm host) ≡ writes_nothing client_state.Confirmed }
-    ensures sets { client_step client_state.Confirmed host_sets ≡ writes client_sets client_state.Waiting }
+    ensures sets { client_step client_state.Confirmed host_sets ≡ writes_one client_sets client_state.Waiting }
     ensures again { client_step client_state.Confirmed (message.Confirm host) ≡ out_of_order }
     ensures announce { client_step client_state.Named (message.Announce host) ≡ out_of_order }
 {}

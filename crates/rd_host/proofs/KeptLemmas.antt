@@ -1,7 +1,8 @@
 -- What always holds of a host is kept by each of its calls.
-use Rattle.std.proofs.Common.{◌≡◌, refl, sym, ap, subst, ℕ, ◌≤◌, Bool, true, false, List, [], ◌∷◌, length, Some, None, Option, arith}
+use Rattle.std.proofs.Common.{◌≡◌, refl, sym, ap, subst, ℕ, ◌≤◌, List, [], ◌∷◌, Some, None, Option, arith, inl, inr}
 use Rattle.std.specs.Prelude.{All, Result, Ok, Err}
 use Rattle.std.proofs.lemmas.List.Elements.{All-cons, All-nil}
+use Rattle.std.proofs.lemmas.Bool.{cases_Bool}
 use Rattle.rd_base.specs.declared.status.Status.{Status}
 use Rattle.rd_chunk.specs.Carrier.{IsMessage}
 use Rattle.rd_core.specs.Core.{CoreState, Did}
@@ -20,17 +21,15 @@ use Rattle.rd_hello.specs.declared.host.HostState.TheVariants.{Start, Confirmed,
 use Rattle.rd_hello.specs.Hello.{hello_bytes}
 use Rattle.rd_hello.specs.HostTable.{host_step}
 use Rattle.rd_hello.specs.Own.{host_announce, host_sets, tell_log_on}
-use Rattle.rd_hello.specs.Rows.{Row}
+use Rattle.rd_hello.specs.Rows.{OrderRow}
 use Rattle.rd_host.specs.declared.act.Act.{Act}
-use Rattle.rd_host.specs.Core.{HostCall, HostCoreState, HostStep, IsHostKept, as_it_is, begin, begins, hear, hear_made, hears, host_side, replies, reply, sends, tell, tells}
+use Rattle.rd_host.specs.Core.{HostCall, HostCoreState, HostStep, IsHostKept, as_it_is, begins, hears, host_begin, host_hear, host_hear_made, host_side, replies, reply, sends, tell, tells}
+use Rattle.rd_chunk.proofs.CarrierLemmas.{is_message}
 
 -- ---- what the host writes is short
 
-of_length : (n : ℕ) (m : List ℕ) → length m ≡ n → 1 ≤ n → n ≤ 1052672 → IsMessage m
-of_length n m is low high = (omega (arith, is, low), omega (arith, is, high))
-
 -- the messages of a row fit, if there is one
-abbrev ShortRow : Option (Row HostState) → Type 0
+abbrev ShortRow : Option (OrderRow HostState) → Type 0
 ShortRow None = Unit {0}
 ShortRow (Some row) = All (λ (m : List ℕ). IsMessage m) (messages_of row)
 
@@ -38,23 +37,22 @@ no_message : All (λ (m : List ℕ). IsMessage m) []
 no_message = All-nil (λ (m : List ℕ). IsMessage m)
 
 confirm_short : (v : Version) → IsMessage (hello_bytes (Confirm v))
-confirm_short v = of_length 12 (hello_bytes (Confirm v)) refl (omega arith) (omega arith)
+confirm_short v = is_message 12 (hello_bytes (Confirm v)) refl (omega arith) (omega arith)
 
 sets_short : IsMessage (hello_bytes host_sets)
-sets_short = of_length 68 (hello_bytes host_sets) refl (omega arith) (omega arith)
+sets_short = is_message 68 (hello_bytes host_sets) refl (omega arith) (omega arith)
 
 log_on_short : IsMessage (hello_bytes LoggedOn)
-log_on_short = of_length 4 (hello_bytes LoggedOn) refl (omega arith) (omega arith)
+log_on_short = is_message 4 (hello_bytes LoggedOn) refl (omega arith) (omega arith)
 
 announce_short : (client : ℕ) → IsMessage (hello_bytes (host_announce client))
-announce_short client = of_length 12 (hello_bytes (host_announce client)) refl (omega arith) (omega arith)
+announce_short client = is_message 12 (hello_bytes (host_announce client)) refl (omega arith) (omega arith)
 
 offered_short : (caps : List Cap) → ShortRow (host_step Offered (ClientCaps caps))
-offered_short caps = go (tell_log_on caps) refl
-  where
-    go : (b : Bool) → tell_log_on caps ≡ b → ShortRow (host_step Offered (ClientCaps caps))
-    go true e = rw e (All-cons (λ (m : List ℕ). IsMessage m) (hello_bytes LoggedOn) [] log_on_short no_message)
-    go false e = rw e no_message
+offered_short caps = elim (cases_Bool (tell_log_on caps)) [
+  | inl e ↦ rw e (All-cons (λ (m : List ℕ). IsMessage m) (hello_bytes LoggedOn) [] log_on_short no_message)
+  | inr e ↦ rw e no_message
+]
 
 row_short : (state : HostState) (h : Hello) → ShortRow (host_step state h)
 row_short Start (Confirm v) = no_message
@@ -68,17 +66,17 @@ rows_short : AreShort as_it_is host_side
 rows_short state h row is = subst ShortRow is (row_short state h)
 
 reply_short : (device : ℕ) (code : Status) → IsMessage (reply_bytes (record { id = device; code = code }))
-reply_short device code = of_length 12 (reply_bytes (record { id = device; code = code })) refl (omega arith) (omega arith)
+reply_short device code = is_message 12 (reply_bytes (record { id = device; code = code })) refl (omega arith) (omega arith)
 
 -- ---- the calls
 
 kept_made : (h : HostCoreState) (came : CoreState HostState (List ℕ) × Result (Option Act) EndFault)
-    → IsHostKept (record h { core = came.0 }) → IsHostKept (hear_made h came).0
+    → IsHostKept (record h { core = came.0 }) → IsHostKept (host_hear_made h came).0
 kept_made h (after, Err fault) kept = kept
 kept_made h (after, Ok None) kept = kept
 kept_made h (after, Ok (Some says)) kept = kept
 
-kept_heard : (h : HostCoreState) (bytes : List ℕ) → IsHostKept h → IsHostKept (hear h bytes).0
+kept_heard : (h : HostCoreState) (bytes : List ℕ) → IsHostKept h → IsHostKept (host_hear h bytes).0
 kept_heard h bytes kept = kept_made h (hearing.hear host_side h.core bytes) (kept_hear host_side as_it_is rows_short h.core bytes kept)
 
 kept_did : {E : Type 0} (done old new : HostCoreState) (answer : Result (Unit {0}) E) → IsHostKept old → IsHostKept done → Did answer done old new → IsHostKept new
@@ -86,13 +84,13 @@ kept_did done old new (Ok u) kept gone did = subst IsHostKept (sym did) gone
 kept_did done old new (Err cause) kept gone did = subst IsHostKept (sym did) kept
 
 heard_kept : (old new : HostCoreState) (message : List ℕ) (answer : Result Act EndFault) → IsHostKept old
-    → hearing.Hears host_side (λ (h : HostCoreState). h.core) hear old message answer new → IsHostKept new
+    → hearing.Hears host_side (λ (h : HostCoreState). h.core) host_hear old message answer new → IsHostKept new
 heard_kept old new message (Err Memory) kept step = subst IsHostKept (sym step.1) kept
 heard_kept old new message answer kept step = subst IsHostKept (ap (λ (x : HostCoreState × Result Act EndFault). x.0) step) (kept_heard old message kept)
 
 pub host_kept : (old new : HostCoreState) (call : HostCall) → IsHostKept old → HostStep old call new → IsHostKept new
 host_kept old new (begins answer) kept step =
-    kept_did (begin old) old new answer kept (kept_message as_it_is _ (hello_bytes (host_announce old.client)) (kept_new as_it_is Start) (announce_short old.client)) step
+    kept_did (host_begin old) old new answer kept (kept_message as_it_is _ (hello_bytes (host_announce old.client)) (kept_new as_it_is Start) (announce_short old.client)) step
 host_kept old new (hears message answer) kept step = heard_kept old new message answer kept step
 host_kept old new (replies device code answer) kept step =
     kept_did (reply old device code) old new answer kept (kept_message as_it_is old.core _ kept (reply_short device code)) step.1

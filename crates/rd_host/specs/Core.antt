@@ -45,12 +45,12 @@ abbrev pub with_message : HostCoreState → List ℕ → HostCoreState
 with_message h message = record h { core = core.with_message h.core message }
 
 -- a channel begins: the host announces itself
-abbrev pub begin : HostCoreState → HostCoreState
-begin h = with_message (new_host h.client) (hello_bytes (host_announce h.client))
+abbrev pub host_begin : HostCoreState → HostCoreState
+host_begin h = with_message (new_host h.client) (hello_bytes (host_announce h.client))
 
 -- the message that is to be sent first is handed out
-abbrev pub send : HostCoreState → HostCoreState × Option (List ℕ)
-send h = let sent = core.send h.core in (record h { core = sent.0 }, sent.1)
+abbrev pub host_send : HostCoreState → HostCoreState × Option (List ℕ)
+host_send h = let sent = core.send h.core in (record h { core = sent.0 }, sent.1)
 
 -- the reply to a device that was announced
 abbrev pub reply : HostCoreState → ℕ → Status → HostCoreState
@@ -70,46 +70,48 @@ client_says _ bytes = read_as (λ (read : Head × Position). act.Complete read.0
 
 -- Where memory is asked for: for what is to be written after a message of fixed size, for a name, sets, devices and ids after their count, and for the
 -- bytes after the head of a completion.
-abbrev pub asks_at : Packet → Option ℕ
-asks_at packet.ClientIdConfirm = Some 12
-asks_at packet.ClientName = Some 16
-asks_at packet.ClientCapability = Some 8
-asks_at packet.DeviceListAnnounce = Some 8
-asks_at packet.DeviceListRemove = Some 8
-asks_at packet.IoCompletion = Some 16
-asks_at _ = None
+abbrev pub host_asks_at : Packet → Option ℕ
+host_asks_at packet.ClientIdConfirm = Some 12
+host_asks_at packet.ClientName = Some 16
+host_asks_at packet.ClientCapability = Some 8
+host_asks_at packet.DeviceListAnnounce = Some 8
+host_asks_at packet.DeviceListRemove = Some 8
+host_asks_at packet.IoCompletion = Some 16
+host_asks_at _ = None
 
 -- the packets that a host reads in a state
-abbrev pub reads_in : HostState → List Packet
-reads_in Start = packet.ClientIdConfirm ∷ []
-reads_in (Confirmed client) = packet.ClientName ∷ []
-reads_in Offered = packet.ClientCapability ∷ []
-reads_in Ready = packet.DeviceListAnnounce ∷ packet.DeviceListRemove ∷ packet.IoCompletion ∷ []
+abbrev pub host_reads_in : HostState → List Packet
+host_reads_in Start = packet.ClientIdConfirm ∷ []
+host_reads_in (Confirmed client) = packet.ClientName ∷ []
+host_reads_in Offered = packet.ClientCapability ∷ []
+host_reads_in Ready = packet.DeviceListAnnounce ∷ packet.DeviceListRemove ∷ packet.IoCompletion ∷ []
 
 -- a message waits as it is
 abbrev pub as_it_is : List ℕ → List ℕ
 as_it_is message = message
 
 abbrev pub host_side : Side HostState (List ℕ) Act
-host_side = record { number = host_number; reads_in = reads_in; row = host_step; outgoing = as_it_is; own = client_says; asks_at = asks_at }
+host_side =
+    record { number = host_number; reads_in = host_reads_in; row = host_step; outgoing = as_it_is; own = client_says; asks_at = host_asks_at }
 
-abbrev pub hear_made : HostCoreState → CoreState HostState (List ℕ) × Result (Option Act) EndFault → HostCoreState × Result Act EndFault
-hear_made h (after, Err fault) = (record h { core = after }, Err fault)
-hear_made h (after, Ok None) = (record h { core = after }, Ok act.Nothing)
-hear_made h (after, Ok (Some says)) = (record h { core = after }, Ok says)
+abbrev pub host_hear_made : HostCoreState → CoreState HostState (List ℕ) × Result (Option Act) EndFault
+    → HostCoreState × Result Act EndFault
+host_hear_made h (after, Err fault) = (record h { core = after }, Err fault)
+host_hear_made h (after, Ok None) = (record h { core = after }, Ok act.Nothing)
+host_hear_made h (after, Ok (Some says)) = (record h { core = after }, Ok says)
 
 -- A message of the client is heard. After one that is wrong none is.
-abbrev pub hear : HostCoreState → List ℕ → HostCoreState × Result Act EndFault
-hear h bytes = hear_made h (hearing.hear host_side h.core bytes)
+abbrev pub host_hear : HostCoreState → List ℕ → HostCoreState × Result Act EndFault
+host_hear h bytes = host_hear_made h (hearing.hear host_side h.core bytes)
 
 -- ---- when the calls may be made
 
-abbrev pub IsReady : HostCoreState → Type 0
-IsReady h = (h.core).shake ≡ Ready
+abbrev pub IsHostReady : HostCoreState → Type 0
+IsHostReady h = (h.core).shake ≡ Ready
 
 -- The client may be told of a printer once the host is ready, by a notice that can be written and fits a message.
 pub record MayTell (h : HostCoreState) (n : Notice) : Type 0 where
-  pub ready : IsReady h
+  pub ready : IsHostReady h
   pub writable : IsWritableNotice n
   pub port : HasWholePort n
   pub fit : IsMessage (notice_bytes n)
@@ -130,8 +132,8 @@ pub data HostCall : Type 0 where
 
 -- The host before a call, and after it. Where memory runs out nothing changes.
 abbrev pub HostStep : HostCoreState → HostCall → HostCoreState → Type 0
-HostStep old (begins answer) new = Did answer (begin old) old new
-HostStep old (hears message answer) new = hearing.Hears host_side (λ h. h.core) hear old message answer new
-HostStep old (replies device code answer) new = IsReady old × Did answer (reply old device code) old new
+HostStep old (begins answer) new = Did answer (host_begin old) old new
+HostStep old (hears message answer) new = hearing.Hears host_side (λ h. h.core) host_hear old message answer new
+HostStep old (replies device code answer) new = IsHostReady old × Did answer (reply old device code) old new
 HostStep old (tells n answer) new = MayTell old n × Did answer (tell old n) old new
-HostStep old (sends answer) new = send old ≡ (new, answer)
+HostStep old (sends answer) new = host_send old ≡ (new, answer)

@@ -5,11 +5,11 @@ use Rattle.rd_base.specs.declared.status.Status.{Status}
 use Rattle.rd_base.specs.Layout.{met}
 use Rattle.rd_base.specs.Position.{at_start}
 use Rattle.rd_core.specs.Order as order
-use Rattle.rd_core.specs.Order.{Part}
+use Rattle.rd_core.specs.Order.{OrderPart}
 use Rattle.rd_devices.specs.declared.list.Announce.{Announce}
 use Rattle.rd_devices.specs.declared.reply.DeviceReply.{DeviceReply}
 use Rattle.rd_devices.specs.DeviceReply.{reply_bytes}
-use Rattle.rd_drive.specs.Statuses as status
+use Rattle.rd_base.specs.Statuses as status
 use Rattle.rd_hello.specs.declared.host.HostState.{HostState}
 use Rattle.rd_hello.specs.declared.host.HostState.TheVariants.{Start, Ready}
 use Rattle.rd_hello.specs.Hello.{hello_bytes}
@@ -28,12 +28,12 @@ pub record Replying : Type 0 where
   pub alive : List ℕ
   pub given : ℕ
 
-abbrev pub Stand : Type 0
-Stand = order.Stand HostState Replying
+abbrev pub HostStanding : Type 0
+HostStanding = order.Stand HostState Replying
 
 -- a host that announces this ClientId, and gave so many lives before the channel
-abbrev pub at_first : ℕ → ℕ → Stand
-at_first client given = record { shake = Start; owed = hello_bytes (host_announce client) ∷ []; own = record { due = []; alive = []; given = given } }
+abbrev pub host_at_first : ℕ → ℕ → HostStanding
+host_at_first client given = record { shake = Start; owed = hello_bytes (host_announce client) ∷ []; own = record { due = []; alive = []; given = given } }
 
 -- a device is replied to with this code: it has a life from now on where that says success
 abbrev pub with_reply : Replying → ℕ → Status → Replying
@@ -43,8 +43,8 @@ with_reply r device code =
     else record r { due = due }
 
 -- a device was announced
-abbrev pub with_device : Replying → Announce → Replying
-with_device r a = with_reply r a.id (code_for r.alive r.given a.kind a.id)
+abbrev pub with_device_reply : Replying → Announce → Replying
+with_device_reply r a = with_reply r a.id (code_for r.alive r.given a.kind a.id)
 
 -- a device is gone
 abbrev pub without_device : Replying → ℕ → Replying
@@ -52,7 +52,7 @@ without_device r device = record r { alive = filter (λ id. not (id == device)) 
 
 -- after what is read: devices are announced in order, or removed
 abbrev pub after_act : Act → Replying → Replying
-after_act (act.Announced devices) r = fold with_device r devices
+after_act (act.Announced devices) r = fold with_device_reply r devices
 after_act (act.Removed ids) r = fold without_device r ids
 after_act _ r = r
 
@@ -62,31 +62,31 @@ after_reply r bytes (first ∷ others) = if bytes_eq (reply_bytes first) bytes t
 after_reply r bytes [] = None
 
 -- what a ready host may write of itself: requests, and what it tells of printers
-abbrev pub may_write : List ℕ → Bool
-may_write bytes = is_ok (met request_head (at_start bytes)) || is_ok (met notice (at_start bytes))
+abbrev pub host_may_write : List ℕ → Bool
+host_may_write bytes = is_ok (met request_head (at_start bytes)) || is_ok (met notice (at_start bytes))
 
-abbrev pub is_ready : HostState → Bool
-is_ready Ready = true
-is_ready _ = false
+abbrev pub is_host_ready : HostState → Bool
+is_host_ready Ready = true
+is_host_ready _ = false
 
 -- Once the host is ready it writes replies, requests, and what it tells of printers.
 abbrev pub after_own : HostState → List ℕ → Replying → Option Replying
 after_own state bytes r =
-    if not (is_ready state) then None
+    if not (is_host_ready state) then None
     else (if is_of packet.DeviceReply bytes then after_reply r bytes r.due
-    else (if may_write bytes then Some r
+    else (if host_may_write bytes then Some r
     else None))
 
-abbrev pub host_part : Part HostState Act Replying
+abbrev pub host_part : OrderPart HostState Act Replying
 host_part = record { opened = λ state next r. r; read = after_act; written = after_own }
 
 -- after the reading of a message, and after moves, if they are in order
-abbrev pub after_read : Stand → List ℕ → Option Stand
+abbrev pub after_read : HostStanding → List ℕ → Option HostStanding
 after_read s bytes = order.after_read host_side host_part s bytes
 
-abbrev pub stand_after : Stand → List Move → Option Stand
+abbrev pub stand_after : HostStanding → List Move → Option HostStanding
 stand_after s moves = order.stand_after host_side host_part s moves
 
 -- The moves of a host on a channel, the oldest first, are in order; so many lives were given before.
 abbrev pub HostOrder : ℕ → ℕ → List Move → Type 0
-HostOrder client given moves = IsSome (stand_after (at_first client given) moves)
+HostOrder client given moves = IsSome (stand_after (host_at_first client given) moves)

@@ -7,7 +7,7 @@ use Rattle.rd_devices.specs.declared.list.Announce.{Announce}
 use Rattle.rd_devices.specs.DeviceList.{list_bytes}
 use Rattle.rd_devices.specs.DeviceReply.{reply_bytes}
 use Rattle.rd_devices.specs.Removal.{removal_bytes}
-use Rattle.rd_drive.specs.Statuses as status
+use Rattle.rd_base.specs.Statuses as status
 use Rattle.rd_hello.specs.declared.host.HostState.TheVariants.{Ready}
 use Rattle.rd_hello.specs.declared.hello.Hello.TheVariants.{Confirm, LoggedOn}
 use Rattle.rd_hello.specs.Hello.{hello_bytes}
@@ -17,16 +17,16 @@ use Rattle.rd_irp.specs.declared.completion.Body.TheVariants as body
 use Rattle.rd_irp.specs.declared.completion.Head.{Head}
 use Rattle.rd_irp.specs.declared.completion.Kind.TheVariants as kind
 use Rattle.rd_irp.specs.Written.{completion_bytes}
-use Rattle.rd_host.specs.Core.{HostCoreState, begin, hear, new_host}
-use Rattle.rd_host.specs.Order.{Stand, at_first, stand_after}
+use Rattle.rd_host.specs.Core.{HostCoreState, host_begin, host_hear, new_host}
+use Rattle.rd_host.specs.Order.{HostStanding, host_at_first, stand_after}
 
 -- a host whose channel began
 abbrev pub host : HostCoreState
-host = begin (new_host 1)
+host = host_begin (new_host 1)
 
 -- what is left of it by messages of the client
 abbrev pub after : HostCoreState → List (List ℕ) → HostCoreState
-after h messages = fold (λ at message. (hear at message).0) h messages
+after h messages = fold (λ at message. (host_hear at message).0) h messages
 
 -- the client's messages
 abbrev pub confirmed : List ℕ
@@ -66,11 +66,11 @@ opening_moves =
     ∷ writes (hello_bytes (Confirm (record { minor = 12; client = 1 }))) ∷ reads offered ∷ writes (hello_bytes LoggedOn) ∷ []
 
 -- where a host stands that gave no life before, after moves once the channel is open
-abbrev pub stand_of : List Move → Option Stand
-stand_of moves = stand_after (at_first 1 0) (opening_moves ++ moves)
+abbrev pub stand_of : List Move → Option HostStanding
+stand_of moves = stand_after (host_at_first 1 0) (opening_moves ++ moves)
 
 -- a ready host that owes no reply, whose devices with these ids have a life, and that gave so many
-abbrev pub replied_stand : List ℕ → ℕ → Stand
+abbrev pub replied_stand : List ℕ → ℕ → HostStanding
 replied_stand alive given = record { shake = Ready; owed = []; own = record { due = []; alive = alive; given = given } }
 
 -- the removal of device 1

@@ -8,7 +8,7 @@ use rd_irp::Head;
 #[derive(Debug, Drop)]
 pub enum Act {
     Nothing,
-    /// A completion, and the bytes behind its head.
+    /// A completion, and the bytes after its head.
     Complete { head: Head, body: Bytes },
     /// Devices that are there from now on.
     Announced(DeviceList),

@@ -3,17 +3,18 @@
 ghost use Rattle.std.specs.Prelude.{◌≡◌, ◌++◌, ◌∷◌, ℕ, List, [], replicate, None, Some, IsOk, IsSome, Err, Ok};
 ghost use Rattle.rd_devices.specs.Removal.{removal_bytes};
 ghost use Rattle.rd_devices.specs.DeviceReply.{reply_bytes};
-ghost use Rattle.rd_drive.specs.Statuses.{insufficient_resources, not_supported, object_name_collision, success};
+ghost use Rattle.rd_base.specs.Statuses.{insufficient_resources, not_supported, object_name_collision, success};
+ghost use Rattle.rd_base.specs.Limits.{max_devices};
 ghost use Rattle.rd_hello.specs.declared.hello.Hello.TheVariants as Hello;
 ghost use Rattle.rd_hello.specs.declared.host.HostState.TheVariants as HostState;
 ghost use Rattle.rd_hello.specs.declared.end_fault.EndFault.TheVariants as EndFault;
 ghost use Rattle.rd_hello.specs.Hello.{hello_bytes};
 ghost use Rattle.rd_hello.specs.Moves.{reads, writes};
 ghost use Rattle.rd_hello.specs.Own.{host_announce, host_sets};
-ghost use Rattle.rd_pending.specs.Table.{max_devices, max_lives};
+ghost use Rattle.rd_pending.specs.Table.{max_lives};
 ghost use Rattle.rd_host.specs.declared.act.Act.TheVariants as Act;
-ghost use Rattle.rd_host.specs.Core.{HostCall, HostCoreState, HostStep, IsHostKept, hear, hears, reply};
-ghost use Rattle.rd_host.specs.Order.{Stand, after_read, at_first, stand_after};
+ghost use Rattle.rd_host.specs.Core.{HostCall, HostCoreState, HostStep, IsHostKept, hears, host_hear, reply};
+ghost use Rattle.rd_host.specs.Order.{HostStanding, after_read, host_at_first, stand_after};
 ghost use Rattle.rd_host.specs.Served.{code_for};
 ghost use Rattle.rd_host.specs.Worked.{after, again, closed, closed_head, confirmed, drive, host, listed, many, named, offered, opening_moves, own_reply, ready, removed, replied_stand, short_head, stand_of, unsupported};
 
@@ -27,12 +28,12 @@ pub fn hosts_open_as_listed()
 
 /// What a host hears.
 pub fn hosts_hear_as_listed()
-    ensures early { (hear host listed).1 ≡ Err (EndFault.Order 0 0x4441) }
-    ensures twice { (hear (after host (confirmed ∷ [])) confirmed).1 ≡ Err (EndFault.Order 1 0x4343) }
-    ensures stays { (hear (after host (listed ∷ [])) confirmed).1 ≡ Err (EndFault.Order 0 0x4441) }
-    ensures announced { (hear ready listed).1 ≡ Ok (Act.Announced (drive ∷ [])) }
-    ensures removed { (hear ready removed).1 ≡ Ok (Act.Removed (1 ∷ [])) }
-    ensures completed { (hear ready closed).1 ≡ Ok (Act.Complete closed_head (replicate 4 0)) }
+    ensures early { (host_hear host listed).1 ≡ Err (EndFault.Order 0 0x4441) }
+    ensures twice { (host_hear (after host (confirmed ∷ [])) confirmed).1 ≡ Err (EndFault.Order 1 0x4343) }
+    ensures stays { (host_hear (after host (listed ∷ [])) confirmed).1 ≡ Err (EndFault.Order 0 0x4441) }
+    ensures announced { (host_hear ready listed).1 ≡ Ok (Act.Announced (drive ∷ [])) }
+    ensures removed { (host_hear ready removed).1 ≡ Ok (Act.Removed (1 ∷ [])) }
+    ensures completed { (host_hear ready closed).1 ≡ Ok (Act.Complete closed_head (replicate 4 0)) }
 {}
 
 /// Which messages a host may read and write in which order.
@@ -49,7 +50,7 @@ pub fn hosts_write_in_order()
     ensures collides { stand_of (reads listed ∷ reads listed ∷ writes own_reply ∷ writes again ∷ []) ≡ Some (replied_stand (1 ∷ []) 1) }
     ensures no_second { stand_of (reads listed ∷ reads listed ∷ writes own_reply ∷ writes own_reply ∷ []) ≡ None }
     ensures next_life { stand_of (reads listed ∷ reads removed ∷ reads listed ∷ writes own_reply ∷ writes own_reply ∷ []) ≡ Some (replied_stand (1 ∷ []) 2) }
-    ensures silent { stand_after (at_first 1 0) (writes own_reply ∷ []) ≡ None }
+    ensures silent { stand_after (host_at_first 1 0) (writes own_reply ∷ []) ≡ None }
 {}
 
 /// With which code a host replies to a device, by the devices that have a life and by how many lives were given.
@@ -63,8 +64,8 @@ pub fn hosts_reply_by_lives()
 
 /// A message that a host hears without a fault is read in order.
 pub fn hosts_read_in_order()
-    ensures { (h : HostCoreState) (s : Stand) (bytes : List ℕ) →
-        s.shake ≡ (h.core).shake → IsOk (hear h bytes).1 → IsSome (after_read s bytes) }
+    ensures { (h : HostCoreState) (s : HostStanding) (bytes : List ℕ) →
+        s.shake ≡ (h.core).shake → IsOk (host_hear h bytes).1 → IsSome (after_read s bytes) }
 {}
 
 /// Each call keeps what always holds of a host: what it has to send fits a message.

@@ -13,12 +13,12 @@ use Rattle.rd_base.proofs.ResultLemmas.{ok_one, and_then_ok}
 use Rattle.rd_base.proofs.WrittenLemmas.{Written, done_last, layout_then, number_then, pad_then}
 use Rattle.rd_base.proofs.WrittenPathLemmas.{length-units, length_written, path_written}
 use Rattle.rd_base.proofs.SpellingLemmas.{written, times_spelled}
-use Rattle.rd_base.proofs.WrittenFieldLemmas.{flag_then}
+use Rattle.rd_base.proofs.WrittenFieldLemmas.{flag_then, length-path_bytes}
 use Rattle.rd_base.proofs.CountedLemmas.{count_written, run_last, spelling_then, spelling_last}
 use Rattle.rd_irp.specs.declared.op.Range.{Range}
 use Rattle.rd_irp.specs.declared.op.Op.{Op}
 use Rattle.rd_irp.specs.declared.op.Op.TheVariants.{Create, Close, Read, Write, QueryFile, SetFile, QueryVolume, SetVolume, QueryDir, Notify, Control, Lock, Unknown, Malformed}
-use Rattle.rd_irp.specs.Op.{max_ranges, create_body, close_body, read_body, write_body, queried_class, set_class, query_file_body, set_file_body, query_volume_body, set_volume_body, query_dir_body, notify_body, control_body, range, lock_body, directory_body, op_body}
+use Rattle.rd_irp.specs.Op.{max_ranges, create_body, close_body, read_body, write_body, queried_class, class_and_bytes, query_file_body, set_file_body, query_volume_body, set_volume_body, query_dir_body, notify_body, control_body, range, lock_body, directory_body, op_body}
 use Rattle.rd_irp.specs.Fits.{IsWritablePath, max_buffer, Fits, op_length}
 use Rattle.rd_irp.specs.Written.{major_of, minor_of, range_bytes, queried_bytes, set_bytes, op_bytes, IsRangeInRange, IsOpInRange}
 
@@ -162,8 +162,8 @@ queried_spelled : (class : ℕ) → class < 2 ^ 32 → IsSpelling queried_class 
 unfolding queried_class
 queried_spelled class low = written _ class (queried_bytes class) λ after. number_then class low (number_then 0 (lit< tt) (pad_then (replicate 24 0) refl (done_last class after)))
 
-set_spelled : (class : ℕ) (bytes : List ℕ) → length bytes ≤ max_buffer → class < 2 ^ 32 → IsSpelling set_class (class, bytes) (set_bytes class bytes)
-unfolding set_class
+set_spelled : (class : ℕ) (bytes : List ℕ) → length bytes ≤ max_buffer → class < 2 ^ 32 → IsSpelling class_and_bytes (class, bytes) (set_bytes class bytes)
+unfolding class_and_bytes
 set_spelled class bytes few low =
     let both : ℕ × List ℕ = (class, bytes) in
     written _ both (set_bytes class bytes) λ after.
@@ -264,20 +264,17 @@ op_written (Lock operation wait ranges) after fits low = lock_written operation 
 op_written (Unknown major minor) after fits low = absurd fits
 op_written (Malformed major minor bad) after fits low = absurd fits
 
-length-ranges : (ranges : List Range) → length (flat_map range_bytes ranges) ≡ 16 * length ranges
+pub length-ranges : (ranges : List Range) → length (flat_map range_bytes ranges) ≡ 16 * length ranges
 length-ranges [] = refl
 length-ranges (r ∷ rs) = omega (arith, length-ranges rs)
 
-length-path : (units : List ℕ) → length (path_bytes units) ≡ 2 * length units + 2
-length-path units = omega (arith, length-units (units ++ 0 ∷ []), length-append units (0 ∷ []))
-
 -- how many bytes a body is written in
 pub length-op_bytes : (o : Op) → Fits o → length (op_bytes o) ≡ op_length o
-length-op_bytes (Create access allocation attributes share disposition options units) fits = omega (arith, length-path units)
+length-op_bytes (Create access allocation attributes share disposition options units) fits = omega (arith, length-path_bytes units)
 length-op_bytes (Write offset bytes) fits = omega arith
 length-op_bytes (SetFile class bytes) fits = omega arith
 length-op_bytes (SetVolume class bytes) fits = omega arith
-length-op_bytes (QueryDir class initial units) fits = omega (arith, length-path units)
+length-op_bytes (QueryDir class initial units) fits = omega (arith, length-path_bytes units)
 length-op_bytes (Control output code bytes) fits = omega arith
 length-op_bytes (Lock operation wait ranges) fits = omega (arith, length-ranges ranges)
 length-op_bytes (Unknown major minor) fits = refl

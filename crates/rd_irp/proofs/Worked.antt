@@ -4,11 +4,11 @@ use Rattle.std.proofs.lemmas.Bool.{ltb-true}
 use Rattle.std.specs.Prelude.{IsTrue, nat_lt, ◌&&◌, replicate, take, drop, length}
 use Rattle.rd_base.specs.declared.bad.Bad.{Bad}
 use Rattle.rd_base.specs.declared.bad.Why.TheVariants.{Short, Component, Packet, Length}
-use Rattle.rd_base.specs.declared.status.Status.{Status}
 use Rattle.std.specs.Int.{w8}
 use Rattle.rd_base.specs.Position.{at_start}
 use Rattle.rd_base.specs.Layout.{AreBytes, Layout, Spells, FaultAfter, met}
 use Rattle.rd_base.proofs.LayoutLemmas.{spells, fault_after}
+use Rattle.rd_base.specs.Statuses.{invalid_parameter, success}
 use Rattle.rd_irp.specs.declared.op.Op.TheVariants as op
 use Rattle.rd_irp.specs.declared.request.Request.{Request}
 use Rattle.rd_irp.specs.declared.request.RequestHead.{RequestHead}
@@ -136,9 +136,6 @@ cut_head = refl
 abbrev pub refused_read : List ℕ
 refused_read = 0x72 ∷ 0x44 ∷ 0x43 ∷ 0x49 ∷ 1 ∷ 0 ∷ 0 ∷ 0 ∷ 0 ∷ 0 ∷ 0 ∷ 0 ∷ 0x0d ∷ 0 ∷ 0 ∷ 0xc0 ∷ 0 ∷ 0 ∷ 0 ∷ 0 ∷ []
 
-abbrev pub invalid_parameter : Status
-invalid_parameter = record { 0 = 0xc000_000d }
-
 pub refused_head : SpellsHead (record { device = 1; completion = 0; status = invalid_parameter }) 4 refused_read
 unfolding completion_head header component_field
 refused_head = met_is_spelled completion_head refused_read _ 16 4 refl refl refl
@@ -149,9 +146,6 @@ refused_body = met_is_spelled (completion_body kind.Buffer invalid_parameter) (d
 
 pub refused_written : completion_bytes kind.Buffer (record { device = 1; completion = 0; status = invalid_parameter }) body.Fault ≡ refused_read
 refused_written = refl
-
-abbrev pub success : Status
-success = record { 0 = 0 }
 
 pub created_body : SpellsBody kind.Create success (body.Created 1 1) 0 (1 ∷ 0 ∷ 0 ∷ 0 ∷ 1 ∷ [])
 unfolding completion_body success_body

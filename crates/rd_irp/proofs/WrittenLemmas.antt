@@ -15,7 +15,7 @@ use Rattle.rd_irp.specs.declared.completion.Kind.{Kind}
 use Rattle.rd_irp.specs.declared.completion.Kind.TheVariants as kind
 use Rattle.rd_irp.specs.declared.completion.Body.{Body}
 use Rattle.rd_irp.specs.declared.completion.Body.TheVariants as body
-use Rattle.rd_irp.specs.Fits.{Fits, IsOfKind, IsCountable, BodyFits, body_length, fault_length}
+use Rattle.rd_irp.specs.Fits.{Fits, IsOfKind, IsCountableBody, BodyFits, body_length, fault_length}
 use Rattle.rd_irp.specs.Request.{request_head, whole_request, SpellsRequest}
 use Rattle.rd_irp.specs.Completion.{completion_head, success_body, completion_body, SpellsHead, SpellsBody}
 use Rattle.rd_irp.specs.Written.{major_of, minor_of, op_bytes, request_head_bytes, request_bytes, head_bytes, body_bytes, body_tail, IsOpInRange, IsBodyInRange}
@@ -65,18 +65,15 @@ missing_pad_then {second = second} {after = after} count xs len q =
     let all : length xs ≡ min count left = omega (arith, length-append xs rest, len) in
     record { spelled = (tt, xs, second, refl, (left, [], xs, refl, (refl, refl), (xs, xs, [], sym (append-nil xs), (refl, all), (refl, refl))), q.spelled) }
 
-length-zeros : (n : ℕ) → length {A = ℕ} (replicate n 0) ≡ n
-length-zeros n = length-replicate {A = ℕ} n 0
-
 pub length-body_bytes : (k : Kind) (b : Body) → length (body_bytes k b) ≡ body_length k b
 length-body_bytes k (body.Created file information) = refl
 length-body_bytes k body.Closed = refl
 length-body_bytes k (body.Count count) = refl
 length-body_bytes k (body.Buffer bytes) = omega arith
 length-body_bytes k body.Locked = refl
-length-body_bytes k body.Fault = length-zeros (fault_length k)
+length-body_bytes k body.Fault = length-replicate (fault_length k) 0
 
-success_spelled : (k : Kind) (b : Body) → IsOfKind k b → IsCountable b → IsBodyInRange b → Spells (success_body k) b (body_tail k b) (body_bytes k b)
+success_spelled : (k : Kind) (b : Body) → IsOfKind k b → IsCountableBody b → IsBodyInRange b → Spells (success_body k) b (body_tail k b) (body_bytes k b)
 unfolding success_body
 success_spelled kind.Create (body.Created file information) of countable range = spells_all (success_body kind.Create) _ _ (number_then file range.0 (number_then information range.1 (done_last _ [])))
 success_spelled kind.Close body.Closed of countable range = spells_all (success_body kind.Close) _ _ (missing_pad_then 4 (replicate 4 0) refl (done_last _ []))
@@ -86,10 +83,10 @@ success_spelled kind.Buffer (body.Buffer bytes) of countable range =
 success_spelled kind.Lock body.Locked of countable range = spells_all (success_body kind.Lock) _ _ (missing_pad_then 5 (replicate 5 0) refl (done_last _ []))
 success_spelled k b of countable range = absurd of
 
-either_spelled : (is : Bool) (k : Kind) (b : Body) → MatchBool is (IsOfKind k b) (b ≡ body.Fault) → IsCountable b → IsBodyInRange b → Spells (choose is (success_body k) (done body.Fault)) b (body_tail k b) (body_bytes k b)
+either_spelled : (is : Bool) (k : Kind) (b : Body) → MatchBool is (IsOfKind k b) (b ≡ body.Fault) → IsCountableBody b → IsBodyInRange b → Spells (choose is (success_body k) (done body.Fault)) b (body_tail k b) (body_bytes k b)
 either_spelled true k b of countable range = success_spelled k b of countable range
 either_spelled false k b is countable range =
-    let fault : Spells (done body.Fault) body.Fault (fault_length k) (replicate (fault_length k) 0) = ([], replicate (fault_length k) 0, refl, length-zeros (fault_length k), (refl, refl)) in
+    let fault : Spells (done body.Fault) body.Fault (fault_length k) (replicate (fault_length k) 0) = ([], replicate (fault_length k) 0, refl, length-replicate (fault_length k) 0, (refl, refl)) in
     subst (λ (f : Body). Spells (done body.Fault) f (body_tail k f) (body_bytes k f)) (sym is) fault
 
 pub body_spelled : (k : Kind) (status : Status) (b : Body) → BodyFits k status b → IsBodyInRange b → SpellsBody k status b (body_tail k b) (body_bytes k b)

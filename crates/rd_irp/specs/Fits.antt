@@ -1,5 +1,5 @@
 -- What may be written.
-use Rattle.std.specs.Prelude.{◌≡◌, ℕ, ◌+◌, ◌*◌, ◌<◌, ◌≤◌, ◌^◌, ◌≢◌, ◌==◌, ◌||◌, if◌then◌else◌, List, length, All, MatchBool}
+use Rattle.std.specs.Prelude.{◌≡◌, ℕ, ◌+◌, ◌*◌, ◌<◌, ◌≤◌, ◌^◌, ◌≢◌, ◌==◌, ◌||◌, Bool, true, false, if◌then◌else◌, List, length, All, MatchBool}
 use Rattle.rd_base.specs.declared.status.Status.{Status}
 use Rattle.rd_irp.specs.declared.op.Op.{Op}
 use Rattle.rd_irp.specs.declared.op.Op.TheVariants as op
@@ -55,14 +55,19 @@ kind_of (op.Lock operation wait ranges) = kind.Lock
 kind_of (op.Malformed major minor bad) = kind_of_major major
 kind_of _ = kind.Buffer
 
+-- whether an operation opens a file
+abbrev pub opens : Op → Bool
+opens (op.Create access allocation attributes share disposition options path) = true
+opens _ = false
+
 -- a byte field that its length field can count
-abbrev pub IsCountable : Body → Type 0
-IsCountable (body.Created file information) = Unit {0}
-IsCountable body.Closed = Unit {0}
-IsCountable (body.Count count) = Unit {0}
-IsCountable (body.Buffer bytes) = length bytes < 2 ^ 32
-IsCountable body.Locked = Unit {0}
-IsCountable body.Fault = Unit {0}
+abbrev pub IsCountableBody : Body → Type 0
+IsCountableBody (body.Created file information) = Unit {0}
+IsCountableBody body.Closed = Unit {0}
+IsCountableBody (body.Count count) = Unit {0}
+IsCountableBody (body.Buffer bytes) = length bytes < 2 ^ 32
+IsCountableBody body.Locked = Unit {0}
+IsCountableBody body.Fault = Unit {0}
 
 -- the body of a success of each layout
 abbrev pub IsOfKind : Kind → Body → Type 0
@@ -75,7 +80,7 @@ IsOfKind k b = ⊥
 
 -- A completion of this layout and status has such a body: a success the one of its layout, everything else a fault.
 abbrev pub BodyFits : Kind → Status → Body → Type 0
-BodyFits k status b = MatchBool (status.0 == 0) (IsOfKind k b) (b ≡ body.Fault) × IsCountable b
+BodyFits k status b = MatchBool (status.0 == 0) (IsOfKind k b) (b ≡ body.Fault) × IsCountableBody b
 
 -- a body that leaves a completion within the limit of a message: its buffer isn't too long
 abbrev pub IsSendable : Body → Type 0
@@ -106,6 +111,14 @@ body_length k (body.Count count) = 5
 body_length k (body.Buffer bytes) = 4 + length bytes
 body_length k body.Locked = 5
 body_length k body.Fault = fault_length k
+
+-- the bytes of the head of a request
+abbrev pub request_head_len : ℕ
+request_head_len = 24
+
+-- and of that of a completion
+abbrev pub completion_head_len : ℕ
+completion_head_len = 16
 
 -- how many bytes the body of an operation that fits is written in
 abbrev pub op_length : Op → ℕ

@@ -56,8 +56,8 @@ queried_class = do
   done class
 
 -- the information class that is set, and its buffer
-unfoldable pub set_class : Layout (ℕ × List ℕ)
-set_class = do
+unfoldable pub class_and_bytes : Layout (ℕ × List ℕ)
+class_and_bytes = do
   class ← number32
   count ← number32
   pad 24
@@ -73,7 +73,7 @@ query_file_body = do
 -- DR_DRIVE_SET_INFORMATION_REQ after its head (2.2.3.3.9)
 unfoldable pub set_file_body : Layout Op
 set_file_body = do
-  fields ← set_class
+  fields ← class_and_bytes
   done (SetFile fields.0 fields.1)
 
 -- DR_DRIVE_QUERY_VOLUME_INFORMATION_REQ after its head (2.2.3.3.6)
@@ -85,7 +85,7 @@ query_volume_body = do
 -- DR_DRIVE_SET_VOLUME_INFORMATION_REQ after its head (2.2.3.3.7)
 unfoldable pub set_volume_body : Layout Op
 set_volume_body = do
-  fields ← set_class
+  fields ← class_and_bytes
   done (SetVolume fields.0 fields.1)
 
 -- DR_DRIVE_QUERY_DIRECTORY_REQ after its head (2.2.3.3.10)

@@ -1,17 +1,17 @@
 //! Completions (MS-RDPEFS 2.2.1.5).
 
-ghost use Rattle.std.specs.Prelude.{◌≡◌, ◌+◌, ◌-◌, ◌^◌, ◌<◌, ◌≤◌, ◌↔◌, ◌++◌, IsTrue, drop, length, replicate, IfOk, IfErr, OnOk};
+ghost use Rattle.std.specs.Prelude.{◌≡◌, ◌+◌, ◌-◌, ◌^◌, ◌<◌, ◌≤◌, ◌↔◌, [], ◌++◌, IsTrue, drop, length, replicate, IfOk, IfErr, OnErr, OnOk, vec_capacity, vec_len};
 ghost use Rattle.rd_base.specs.Fields.{missing_pad};
 ghost use Rattle.rd_base.specs.Reading.{Reads, ReadsInto, WithTail, ForBad};
 ghost use Rattle.rd_irp.specs.Completion.{completion_head, success_body, completion_body, SpellsHead, FirstFaultOfHead, SpellsBody, FirstFaultOfBody};
 ghost use Rattle.rd_irp.specs.Written.{completion_bytes, head_bytes, body_bytes, body_tail, IsBodyInRange};
 ghost use Rattle.rd_base.specs.declared.status.Status.{Status};
-ghost use Rattle.rd_irp.specs.Fits.{BodyFits, IsCountable, IsOfKind, body_length, fault_length, kind_of, kind_of_major};
+ghost use Rattle.rd_irp.specs.Fits.{BodyFits, IsCountableBody, IsOfKind, body_length, completion_head_len, fault_length, kind_of, kind_of_major};
 
 use crate::op::{CLOSE, CREATE, LOCK, Op, SET_FILE, SET_VOLUME, WRITE};
 use rd_base::{
-    Bad, Bytes, Cursor, Packet, ReadNo, Status, put_counted_bytes, put_header, read_counted_bytes,
-    read_header, tail_len,
+    Bad, Bytes, Cursor, Packet, ReadNo, Status, put_bytes, put_counted_bytes, put_header, put_u8,
+    put_u32, read_counted_bytes, read_header, tail_len,
 };
 use std::alloc::{AllocError, Global};
 
@@ -96,9 +96,9 @@ pub fn kind_of_major(major: u32) -> Kind
 
 /// Reads the head of a completion, its first 16 bytes.
 pub fn read_head(bytes: &[u8]) -> Result<Head, Bad>
-    ensures spelled { IfOk result (λ head. SpellsHead head (length bytes.now - 16) bytes.now) }
+    ensures spelled { IfOk result (λ head. SpellsHead head (length bytes.now - completion_head_len) bytes.now) }
     ensures refused { IfErr result (FirstFaultOfHead bytes.now) }
-    ensures enough { OnOk result (16 ≤ length bytes.now) }
+    ensures enough { OnOk result (completion_head_len ≤ length bytes.now) }
 {
     let mut cursor = Cursor::new(bytes);
     head_of(&mut cursor)
@@ -156,7 +156,7 @@ fn body_of(
 #[tactic(auto, unfolding(crate::specs::Completion::success_body, rd_base::specs::Counted::counted_bytes))]
 fn success_of(alloc: Global, kind: Kind, cursor: &mut Cursor<'_>) -> Result<Body, ReadNo>
     ensures read { ReadsInto (λ body. body) (success_body kind) cursor.old cursor.new result }
-    ensures fits { IfOk result (λ body. IsOfKind kind body × IsCountable body) }
+    ensures fits { IfOk result (λ body. IsOfKind kind body × IsCountableBody body) }
 {
     match kind {
         Kind::Create => {
@@ -219,7 +219,7 @@ fn is_of_kind(kind: Kind, body: &Body) -> bool
 
 /// Whether the length of a body's buffer fits its 32-bit field.
 pub fn is_countable(body: &Body) -> bool
-    ensures { IsTrue result ↔ IsCountable body.now }
+    ensures { IsTrue result ↔ IsCountableBody body.now }
 {
     match body {
         Body::Buffer(bytes) => u32::try_from(bytes.as_slice().len()).is_ok(),
@@ -237,16 +237,30 @@ pub fn write_completion(
     requires { BodyFits kind head.now.status body.now }
     ensures head { IfOk result (SpellsHead head.now (body_length kind body.now)) }
     ensures body { IfOk result (λ message.
-        SpellsBody kind head.now.status body.now (body_tail kind body.now) (drop 16 message)) }
+        SpellsBody kind head.now.status body.now (body_tail kind body.now) (drop completion_head_len message)) }
     ensures written { IfOk result (λ message. message ≡ completion_bytes kind head.now body.now) }
-    ensures length { IfOk result (λ message. length message ≡ 16 + body_length kind body.now) }
+    ensures length { IfOk result (λ message. length message ≡ completion_head_len + body_length kind body.now) }
 {
-    let mut out = Vec::with_capacity(alloc, COMPLETION_HEAD_LEN + body_length(kind, body))?;
-    put_completion(&mut out, kind, head, body)?;
-    Ok(Bytes::of(out))
+    let room = Vec::with_capacity(alloc, COMPLETION_HEAD_LEN + body_length(kind, body))?;
+    Ok(written_in(room, kind, head, body))
 }
 
-/// Writes a completion whose body fits the kind and the status after what the buffer holds.
+/// A completion in a buffer that has room for it and for no byte more.
+fn written_in(room: Vec<u8>, kind: Kind, head: &Head, body: &Body) -> Bytes
+    requires fits { BodyFits kind head.now.status body.now }
+    requires empty { room.items ≡ [] }
+    requires exact { vec_capacity room ≡ completion_head_len + body_length kind body.now }
+    ensures head { SpellsHead head.now (body_length kind body.now) result }
+    ensures body { SpellsBody kind head.now.status body.now (body_tail kind body.now) (drop completion_head_len result) }
+    ensures written { result ≡ completion_bytes kind head.now body.now }
+    ensures length { length result ≡ completion_head_len + body_length kind body.now }
+{
+    let mut out = room;
+    append(&mut out, kind, head, body);
+    Bytes::of(out)
+}
+
+/// Appends a completion whose body fits the kind and the status. Where there is no memory for all of it, nothing is appended.
 pub fn put_completion(
     out: &mut Vec<u8>,
     kind: Kind,
@@ -257,41 +271,59 @@ pub fn put_completion(
     ensures bytes { OnOk result (out.new.items ≡ out.old.items ++ completion_bytes kind head.now body.now) }
     ensures head { OnOk result (SpellsHead head.now (body_length kind body.now) (completion_bytes kind head.now body.now)) }
     ensures body { OnOk result (SpellsBody kind head.now.status body.now (body_tail kind body.now) (body_bytes kind body.now)) }
-    ensures length { OnOk result (length (completion_bytes kind head.now body.now) ≡ 16 + body_length kind body.now) }
+    ensures length { OnOk result (length (completion_bytes kind head.now body.now) ≡ completion_head_len + body_length kind body.now) }
+    ensures err { OnErr result (out.new.items ≡ out.old.items) }
 {
-    put_head(out, head)?;
-    put_body(out, kind, body)
+    out.try_reserve(COMPLETION_HEAD_LEN + body_length(kind, body))?;
+    append(out, kind, head, body);
+    Ok(())
 }
 
-#[tactic(auto, using(std::proofs::Common::append_assoc))]
-fn put_head(out: &mut Vec<u8>, head: &Head) -> Result<(), AllocError>
-    ensures bytes { OnOk result (out.new.items ≡ out.old.items ++ head_bytes head.now) }
-    ensures device { OnOk result (head.now.device < 2 ^ 32) }
-    ensures completion { OnOk result (head.now.completion < 2 ^ 32) }
-    ensures status { OnOk result (head.now.status.0 < 2 ^ 32) }
+/// Appends a completion to bytes that have room for it.
+fn append(out: &mut Vec<u8>, kind: Kind, head: &Head, body: &Body)
+    requires fits { BodyFits kind head.now.status body.now }
+    requires room { vec_len out.old + completion_head_len + body_length kind body.now ≤ vec_capacity out.old }
+    ensures bytes { out.new.items ≡ out.old.items ++ completion_bytes kind head.now body.now }
+    ensures head { SpellsHead head.now (body_length kind body.now) (completion_bytes kind head.now body.now) }
+    ensures body { SpellsBody kind head.now.status body.now (body_tail kind body.now) (body_bytes kind body.now) }
+    ensures length { length (completion_bytes kind head.now body.now) ≡ completion_head_len + body_length kind body.now }
 {
-    put_header(out, Packet::IoCompletion)?;
-    out.extend_from_slice(&head.device.to_le_bytes())?;
-    out.extend_from_slice(&head.completion.to_le_bytes())?;
-    out.extend_from_slice(&head.status.0.to_le_bytes())
+    put_head(out, head);
+    append_body(out, kind, body);
+}
+
+#[tactic(auto, unfolding(rd_base::specs::Fields::bytes32), using(std::proofs::Common::append_assoc))]
+fn put_head(out: &mut Vec<u8>, head: &Head)
+    requires { vec_len out.old + completion_head_len ≤ vec_capacity out.old }
+    ensures bytes { out.new.items ≡ out.old.items ++ head_bytes head.now }
+    ensures device { head.now.device < 2 ^ 32 }
+    ensures completion { head.now.completion < 2 ^ 32 }
+    ensures status { head.now.status.0 < 2 ^ 32 }
+    ensures len { vec_len out.new ≡ vec_len out.old + completion_head_len }
+    ensures room { vec_capacity out.old ≤ vec_capacity out.new }
+{
+    put_header(out, Packet::IoCompletion);
+    put_u32(out, head.device);
+    put_u32(out, head.completion);
+    put_u32(out, head.status.0);
 }
 
 /// Writes the body of a completion alone, as it comes after the head. Its length field has to count it (`is_countable`).
 pub fn write_body(alloc: Global, kind: Kind, body: &Body) -> Result<Bytes, AllocError>
-    requires { IsCountable body.now }
+    requires { IsCountableBody body.now }
     ensures spelled { IfOk result (λ bytes.
         (status : Status) → BodyFits kind status body.now
         → SpellsBody kind status body.now (body_tail kind body.now) bytes) }
     ensures written { IfOk result (λ bytes. bytes ≡ body_bytes kind body.now) }
 {
     let mut out = Vec::with_capacity(alloc, body_length(kind, body))?;
-    put_body(&mut out, kind, body)?;
+    append_body(&mut out, kind, body);
     Ok(Bytes::of(out))
 }
 
 /// How many bytes a body is written in.
 fn body_length(kind: Kind, body: &Body) -> usize
-    requires { IsCountable body.now }
+    requires { IsCountableBody body.now }
     ensures { result ≡ body_length kind body.now }
 {
     match body {
@@ -313,24 +345,38 @@ fn fault_padding(kind: Kind) -> &'static [u8]
     }
 }
 
-/// Writes the body of a completion alone after what the buffer holds.
+/// Appends the body of a completion alone. Where there is no memory for all of it, nothing is appended.
 pub fn put_body(out: &mut Vec<u8>, kind: Kind, body: &Body) -> Result<(), AllocError>
-    requires { IsCountable body.now }
+    requires { IsCountableBody body.now }
     ensures bytes { OnOk result (out.new.items ≡ out.old.items ++ body_bytes kind body.now) }
     ensures in_range { OnOk result (IsBodyInRange body.now) }
+    ensures err { OnErr result (out.new.items ≡ out.old.items) }
+{
+    out.try_reserve(body_length(kind, body))?;
+    append_body(out, kind, body);
+    Ok(())
+}
+
+/// Appends the body of a completion to bytes that have room for it.
+#[tactic(auto, unfolding(rd_base::specs::Fields::bytes8, rd_base::specs::Fields::bytes32), using(std::proofs::Common::append_assoc))]
+fn append_body(out: &mut Vec<u8>, kind: Kind, body: &Body)
+    requires countable { IsCountableBody body.now }
+    requires room { vec_len out.old + body_length kind body.now ≤ vec_capacity out.old }
+    ensures bytes { out.new.items ≡ out.old.items ++ body_bytes kind body.now }
+    ensures in_range { IsBodyInRange body.now }
 {
     match body {
         Body::Created { file, information } => {
-            out.extend_from_slice(&file.to_le_bytes())?;
-            out.extend_from_slice(&information.to_le_bytes())
+            put_u32(out, *file);
+            put_u8(out, *information);
         }
-        Body::Closed => out.extend_from_slice(&[0; 4]),
+        Body::Closed => put_bytes(out, &[0; 4]),
         Body::Count(count) => {
-            out.extend_from_slice(&count.to_le_bytes())?;
-            out.extend_from_slice(&[0; 1])
+            put_u32(out, *count);
+            put_u8(out, 0);
         }
         Body::Buffer(bytes) => put_counted_bytes(out, bytes.as_slice()),
-        Body::Locked => out.extend_from_slice(&[0; 5]),
-        Body::Fault => out.extend_from_slice(fault_padding(kind)),
+        Body::Locked => put_bytes(out, &[0; 5]),
+        Body::Fault => put_bytes(out, fault_padding(kind)),
     }
 }

@@ -1,6 +1,6 @@
 //! The body of a request to lock or unlock ranges of a file (MS-RDPEFS 2.2.3.3.12).
 
-ghost use Rattle.std.specs.Prelude.{◌≡◌, ◌≤◌, ◌++◌, OnOk, length};
+ghost use Rattle.std.specs.Prelude.{◌≡◌, ◌+◌, ◌*◌, ◌≤◌, ◌++◌, length, vec_capacity, vec_len};
 ghost use Rattle.rd_base.specs.Reading.{ReadsInto};
 ghost use Rattle.rd_irp.specs.Op.{lock_body, max_ranges};
 ghost use Rattle.rd_irp.specs.Written.{op_bytes, IsOpInRange};
@@ -8,8 +8,8 @@ ghost use Rattle.rd_irp.specs.declared.op.Op.TheVariants as op;
 
 use crate::files::put_three;
 use crate::op::{MAX_RANGES, Op, Range};
-use rd_base::{Cursor, Format, ReadNo, put_all, read_count32, read_times};
-use std::alloc::{AllocError, Global};
+use rd_base::{Cursor, Format, ReadNo, put_all, put_bytes, put_u64, read_count32, read_times};
+use std::alloc::Global;
 
 /// The pad before the ranges.
 const PAD: [u8; 20] = [0; 20];
@@ -31,10 +31,10 @@ impl Format for Range {
         Ok(Range { offset, length })
     }
 
-    #[tactic(auto, using(crate::proofs::OpLemmas::range_spelled, std::proofs::Common::append_assoc))]
-    fn put(&self, out: &mut Vec<u8>) -> Result<(), AllocError> {
-        out.extend_from_slice(&self.length.to_le_bytes())?;
-        out.extend_from_slice(&self.offset.to_le_bytes())
+    #[tactic(auto, using(crate::proofs::OpLemmas::range_spelled, std::proofs::Common::append_assoc), unfolding(rd_base::specs::Fields::bytes64))]
+    fn put(&self, out: &mut Vec<u8>) {
+        put_u64(out, self.length);
+        put_u64(out, self.offset);
     }
 
     fn size(&self) -> usize {
@@ -59,18 +59,15 @@ pub fn read_lock(alloc: Global, cursor: &mut Cursor<'_>) -> Result<Op, ReadNo>
 }
 
 #[tactic(auto, using(std::proofs::Common::append_assoc))]
-pub fn put_lock(
-    out: &mut Vec<u8>,
-    operation: u32,
-    wait: bool,
-    ranges: &[Range],
-) -> Result<(), AllocError>
-    requires { length ranges.now ≤ max_ranges }
-    ensures bytes { OnOk result (out.new.items ≡ out.old.items ++ op_bytes (op.Lock operation wait ranges.now)) }
-    ensures in_range { OnOk result (IsOpInRange (op.Lock operation wait ranges.now)) }
+pub fn put_lock(out: &mut Vec<u8>, operation: u32, wait: bool, ranges: &[Range])
+    requires few { length ranges.now ≤ max_ranges }
+    requires room { vec_len out.old + 32 + 16 * length ranges.now ≤ vec_capacity out.old }
+    ensures bytes { out.new.items ≡ out.old.items ++ op_bytes (op.Lock operation wait ranges.now) }
+    ensures in_range { IsOpInRange (op.Lock operation wait ranges.now) }
+    ensures room { vec_capacity out.old ≤ vec_capacity out.new }
 {
     let bits: u32 = if wait { 1 } else { 0 };
-    put_three(out, operation, bits, ranges.len() as u32)?;
-    out.extend_from_slice(&PAD)?;
-    put_all(out, ranges)
+    put_three(out, operation, bits, ranges.len() as u32);
+    put_bytes(out, &PAD);
+    put_all(out, ranges);
 }

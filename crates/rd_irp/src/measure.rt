@@ -5,7 +5,7 @@ ghost use Rattle.rd_base.specs.Fields.{path, times};
 ghost use Rattle.rd_base.specs.Reading.{WithTail};
 ghost use Rattle.rd_irp.specs.Measure.{Skips, SkipsOrFails, measure_of, tail_of};
 ghost use Rattle.rd_irp.specs.Completion.{completion_body, success_body, FirstFaultOfBody};
-ghost use Rattle.rd_irp.specs.Op.{control_body, create_body, close_body, directory_body, lock_body, notify_body, op_body, query_dir_body, queried_class, query_file_body, query_volume_body, range, read_body, set_class, set_file_body, set_volume_body, write_body};
+ghost use Rattle.rd_irp.specs.Op.{control_body, create_body, close_body, directory_body, lock_body, notify_body, op_body, query_dir_body, queried_class, query_file_body, query_volume_body, range, read_body, class_and_bytes, set_file_body, set_volume_body, write_body};
 
 use crate::completion::{Kind, skip_pad};
 use crate::op::{
@@ -145,9 +145,9 @@ fn skip_set_volume(cursor: &mut Cursor<'_>) -> Result<(), Bad>
     skip_set(cursor)
 }
 
-#[tactic(auto, unfolding(crate::specs::Op::set_class))]
+#[tactic(auto, unfolding(crate::specs::Op::class_and_bytes))]
 fn skip_set(cursor: &mut Cursor<'_>) -> Result<(), Bad>
-    ensures { SkipsOrFails set_class cursor.old cursor.new result }
+    ensures { SkipsOrFails class_and_bytes cursor.old cursor.new result }
 {
     cursor.u32()?;
     let count = cursor.u32()?;

@@ -1,30 +1,30 @@
 //! Requests (MS-RDPEFS 2.2.1.4).
 
-ghost use Rattle.std.specs.Prelude.{◌≡◌, ◌+◌, ◌^◌, ◌<◌, ◌++◌, IfOk, IfErr, OnOk, length};
+ghost use Rattle.std.specs.Prelude.{◌≡◌, ◌+◌, ◌^◌, ◌<◌, ◌≤◌, [], ◌++◌, IfOk, IfErr, OnErr, OnOk, length, vec_capacity, vec_len};
 ghost use Rattle.rd_base.specs.Reading.{Reads, ReadsInto, WithTail, ForBad};
 ghost use Rattle.rd_irp.specs.Op.{op_body};
 ghost use Rattle.rd_irp.specs.Request.{request_head, SpellsRequest, FirstFaultOfRequest};
 ghost use Rattle.rd_irp.specs.Written.{request_bytes, request_head_bytes, op_bytes, IsOpInRange};
-ghost use Rattle.rd_irp.specs.Fits.{Fits, op_length};
+ghost use Rattle.rd_irp.specs.Fits.{Fits, op_length, request_head_len};
 
 use crate::classes::{
     put_queried, put_set, read_query_file, read_query_volume, read_set_file, read_set_volume,
 };
 use crate::directory::{put_notify, put_query_dir, read_directory};
 use crate::files::{
-    put_close, put_control, put_create, put_read, put_write, read_close, read_control, read_create,
-    read_read, read_write,
+    put_close, put_control, put_create, put_read, put_three, put_write, read_close, read_control,
+    read_create, read_read, read_write,
 };
 use crate::lock::{put_lock, read_lock};
 use crate::op::{
     CLOSE, CONTROL, CREATE, DIRECTORY, LOCK, Op, QUERY_FILE, QUERY_VOLUME, READ, SET_FILE,
     SET_VOLUME, WRITE, major_of, minor_of, op_length,
 };
-use rd_base::{Bad, Bytes, Cursor, Packet, ReadNo, put_header, read_header, tail_len};
+use rd_base::{Bad, Bytes, Cursor, Packet, ReadNo, put_header, put_u32, read_header, tail_len};
 use std::alloc::{AllocError, Global};
 
 /// The bytes of a request's head.
-const HEAD_LEN: usize = 24;
+const REQUEST_HEAD_LEN: usize = 24;
 
 /// A request of the host for a device.
 #[derive(Debug, Drop)]
@@ -122,44 +122,73 @@ pub fn write_request(alloc: Global, request: &Request) -> Result<Bytes, AllocErr
     requires { Fits request.now.op }
     ensures spelled { IfOk result (SpellsRequest request.now 0) }
     ensures written { IfOk result (λ message. message ≡ request_bytes request.now) }
-    ensures length { IfOk result (λ message. length message ≡ 24 + op_length request.now.op) }
+    ensures length { IfOk result (λ message. length message ≡ request_head_len + op_length request.now.op) }
 {
-    let mut out = Vec::with_capacity(alloc, HEAD_LEN + op_length(&request.op))?;
-    put_request(&mut out, request)?;
-    Ok(Bytes::of(out))
+    let room = Vec::with_capacity(alloc, REQUEST_HEAD_LEN + op_length(&request.op))?;
+    Ok(written_in(room, request))
 }
 
-/// Writes a request whose operation fits after what the buffer holds.
+/// A request in a buffer that has room for it and for no byte more.
+fn written_in(room: Vec<u8>, request: &Request) -> Bytes
+    requires fits { Fits request.now.op }
+    requires empty { room.items ≡ [] }
+    requires exact { vec_capacity room ≡ request_head_len + op_length request.now.op }
+    ensures spelled { SpellsRequest request.now 0 result }
+    ensures written { result ≡ request_bytes request.now }
+    ensures length { length result ≡ request_head_len + op_length request.now.op }
+{
+    let mut out = room;
+    append(&mut out, request);
+    Bytes::of(out)
+}
+
+/// Appends a request whose operation fits. Where there is no memory for all of it, nothing is appended.
 pub fn put_request(out: &mut Vec<u8>, request: &Request) -> Result<(), AllocError>
     requires { Fits request.now.op }
     ensures bytes { OnOk result (out.new.items ≡ out.old.items ++ request_bytes request.now) }
     ensures spelled { OnOk result (SpellsRequest request.now 0 (request_bytes request.now)) }
-    ensures length { OnOk result (length (request_bytes request.now) ≡ 24 + op_length request.now.op) }
+    ensures length { OnOk result (length (request_bytes request.now) ≡ request_head_len + op_length request.now.op) }
+    ensures err { OnErr result (out.new.items ≡ out.old.items) }
 {
-    put_request_head(out, request)?;
-    put_op(out, &request.op)
+    out.try_reserve(REQUEST_HEAD_LEN + op_length(&request.op))?;
+    append(out, request);
+    Ok(())
 }
 
-#[tactic(auto, using(std::proofs::Common::append_assoc))]
-fn put_request_head(out: &mut Vec<u8>, request: &Request) -> Result<(), AllocError>
-    ensures bytes { OnOk result (out.new.items ≡ out.old.items ++ request_head_bytes request.now) }
-    ensures device { OnOk result (request.now.device < 2 ^ 32) }
-    ensures file { OnOk result (request.now.file < 2 ^ 32) }
-    ensures completion { OnOk result (request.now.completion < 2 ^ 32) }
+/// Appends a request to bytes that have room for it.
+fn append(out: &mut Vec<u8>, request: &Request)
+    requires fits { Fits request.now.op }
+    requires room { vec_len out.old + request_head_len + op_length request.now.op ≤ vec_capacity out.old }
+    ensures bytes { out.new.items ≡ out.old.items ++ request_bytes request.now }
+    ensures spelled { SpellsRequest request.now 0 (request_bytes request.now) }
+    ensures length { length (request_bytes request.now) ≡ request_head_len + op_length request.now.op }
 {
-    put_header(out, Packet::IoRequest)?;
-    out.extend_from_slice(&request.device.to_le_bytes())?;
-    out.extend_from_slice(&request.file.to_le_bytes())?;
-    out.extend_from_slice(&request.completion.to_le_bytes())?;
-    out.extend_from_slice(&major_of(&request.op).to_le_bytes())?;
-    out.extend_from_slice(&minor_of(&request.op).to_le_bytes())
+    put_request_head(out, request);
+    put_op(out, &request.op);
 }
 
-/// Writes the body of an operation that fits.
-fn put_op(out: &mut Vec<u8>, op: &Op) -> Result<(), AllocError>
-    requires { Fits op.now }
-    ensures bytes { OnOk result (out.new.items ≡ out.old.items ++ op_bytes op.now) }
-    ensures in_range { OnOk result (IsOpInRange op.now) }
+#[tactic(auto, unfolding(rd_base::specs::Fields::bytes32), using(std::proofs::Common::append_assoc))]
+fn put_request_head(out: &mut Vec<u8>, request: &Request)
+    requires { vec_len out.old + request_head_len ≤ vec_capacity out.old }
+    ensures bytes { out.new.items ≡ out.old.items ++ request_head_bytes request.now }
+    ensures device { request.now.device < 2 ^ 32 }
+    ensures file { request.now.file < 2 ^ 32 }
+    ensures completion { request.now.completion < 2 ^ 32 }
+    ensures len { vec_len out.new ≡ vec_len out.old + request_head_len }
+    ensures room { vec_capacity out.old ≤ vec_capacity out.new }
+{
+    put_header(out, Packet::IoRequest);
+    put_three(out, request.device, request.file, request.completion);
+    put_u32(out, major_of(&request.op));
+    put_u32(out, minor_of(&request.op));
+}
+
+/// Appends the body of an operation that fits.
+fn put_op(out: &mut Vec<u8>, op: &Op)
+    requires fits { Fits op.now }
+    requires room { vec_len out.old + op_length op.now ≤ vec_capacity out.old }
+    ensures bytes { out.new.items ≡ out.old.items ++ op_bytes op.now }
+    ensures in_range { IsOpInRange op.now }
 {
     match op {
         Op::Create {

@@ -1,6 +1,6 @@
 -- The slots of a node's chain: what a chain passes over, and what stays as slots change.
 use Rattle.std.proofs.Common.{◌≡◌, ◌∙◌, sym, ap, subst, refl, ℕ, suc, ◌+◌, ◌-◌, ◌<◌, ◌≤◌, ◌==◌, ◌&&◌, ◌||◌, not, Bool, true, false, List, [], ◌∷◌, ◌++◌, length, arith, inl, inr, set}
-use Rattle.std.proofs.lemmas.Bool.{cases_order, and_parts}
+use Rattle.std.proofs.lemmas.Bool.{cases_order, and_parts, false_from_ne_true}
 use Rattle.std.proofs.lemmas.Bool.Decides.{nat_tests, Decides-eqb}
 use Rattle.std.proofs.lemmas.List.{get_or-set_same, get_or-set_other, length-set, get_or_past, get_or_append_left}
 use Rattle.std.proofs.Math.Seq.{get_or-append_seam}
@@ -14,10 +14,6 @@ use Rattle.rd_locks.specs.declared.leap.Leap.{Leap}
 use Rattle.rd_locks.specs.declared.slots.Aim.{Aim}
 use Rattle.rd_locks.specs.Locks.{meets, overlaps}
 use Rattle.rd_locks.specs.Slots.{slot_at, no_slot, is_sought, shows, Leads, Leaps, IsSpanned, IsChained, Follows, StaysLinked}
-
-pub not_true : (b : Bool) → (b ≡ true → ⊥) → b ≡ false
-not_true true h = absurd (h refl)
-not_true false h = refl
 
 pub true_not_false : (b : Bool) → b ≡ true → b ≡ false → ⊥
 true_not_false b e f = cc
@@ -37,7 +33,7 @@ sought_node Aim.Match wanted lock h =
 -- what a chain passes over shows nothing
 pub passed_over : (slots : List Slot) (aim : Aim) (wanted : Held) (i b j : ℕ) → IsChained slots → Leads slots wanted.node i b → b ≤ j → j < i → shows aim wanted (slot_at slots j) ≡ false
 passed_over slots aim wanted i b j chained leads from to =
-    not_true _ (λ shown. true_not_false _ (and_parts _ _ shown).0
+    false_from_ne_true _ (λ shown. true_not_false _ (and_parts _ _ shown).0
     (chained.kept j (leads.passed j from to (sought_node aim wanted (slot_at slots j).lock (and_parts _ _ shown).1))))
 
 -- one place below, at, or above another
@@ -295,7 +291,7 @@ reached_push slots slot ends new_ends reached is node =
 
 -- what lies outside a leap is not sought there
 pub outside_not_sought : (aim : Aim) (wanted lock : Held) → overlaps wanted.range lock.range ≡ false → (lock.range.offset ≡ wanted.range.offset → lock.range.length ≡ wanted.range.length → ⊥) → is_sought aim wanted lock ≡ false
-outside_not_sought aim wanted lock apart other = not_true _ (go aim)
+outside_not_sought aim wanted lock apart other = false_from_ne_true _ (go aim)
   where
     go : (a : Aim) → is_sought a wanted lock ≡ true → ⊥
     go Aim.Take h = true_not_false _ (and_parts _ _ (and_parts (meets wanted lock) _ h).0).1 apart
@@ -310,7 +306,7 @@ pub leaped_over : (slots : List Slot) (aim : Aim) (wanted : Held) (i : ℕ) (lea
     → ((other : Range) → IsSpanned leap other → overlaps wanted.range other ≡ false) → ((other : Range) → IsSpanned leap other → other.offset ≡ wanted.range.offset → other.length ≡ wanted.range.length → ⊥)
     → leap.to ≤ j → j ≤ i → shows aim wanted (slot_at slots j) ≡ false
 leaped_over slots aim wanted i leap j chained leaps apart other from to =
-    not_true _ (λ shown.
+    false_from_ne_true _ (λ shown.
     let sought : is_sought aim wanted (slot_at slots j).lock ≡ true = (and_parts (slot_at slots j).stands _ shown).1 in
     let linked : (slot_at slots j).linked ≡ true = was_true _ _ (chained.kept j) (and_parts _ _ shown).0 in
     let spanned = leaps.spans j from to (sought_node aim wanted (slot_at slots j).lock sought) linked in

@@ -18,12 +18,12 @@ flip true false e = refl
 flip false true e = refl
 flip false false e = e
 
--- a wanted lock comes before those of the ranges behind it
+-- a wanted lock comes before those of the ranges after it
 pub wanted-drop : (node file : ℕ) (exclusive : Bool) (ranges : List Range) (i : ℕ) → i < length ranges
     → wanted_locks node file exclusive (drop i ranges) ≡ record { node = node; file = file; exclusive = exclusive; range = slice_index_or ranges i nowhere } ∷ wanted_locks node file exclusive (drop (suc i) ranges)
 wanted-drop node file exclusive ranges i within = ap (λ (rs : List Range). wanted_locks node file exclusive rs) (drop-cons ranges i nowhere within)
 
--- and behind those of the ranges before it
+-- and after those of the ranges before it
 pub wanted-take : (node file : ℕ) (exclusive : Bool) (ranges : List Range) (i : ℕ) → i < length ranges
     → wanted_locks node file exclusive (take (suc i) ranges) ≡ wanted_locks node file exclusive (take i ranges) ++ record { node = node; file = file; exclusive = exclusive; range = slice_index_or ranges i nowhere } ∷ []
 wanted-take node file exclusive ranges i within =

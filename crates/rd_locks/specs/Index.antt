@@ -9,14 +9,14 @@ use Rattle.rd_locks.specs.declared.slots.Slot.{Slot}
 use Rattle.rd_locks.specs.Locks.{max_locks}
 use Rattle.rd_locks.specs.Slots.{slot_at, standing, Leads, IsChained, IsSettled}
 
-abbrev pub Ends : Type 0
-Ends = HashMap ℕ ℕ (BuildHasherDefault FoldHasher)
+abbrev pub NodeEnds : Type 0
+NodeEnds = HashMap ℕ ℕ (BuildHasherDefault FoldHasher)
 
 abbrev pub Homes : Type 0
 Homes = HashMap ℕ Home (BuildHasherDefault FoldHasher)
 
 -- the end of a node's chain, 0 where it has none
-abbrev pub end_of : Ends → ℕ → ℕ
+abbrev pub end_of : NodeEnds → ℕ → ℕ
 end_of ends node = unwrap_or (get nat_eq ends node) 0
 
 -- a file's locks may be on the node
@@ -27,7 +27,7 @@ IsHome (Some Many) node = ⊤
 
 -- What holds between calls: each node's chain has just the locks that stand on it, a file's locks are at its home, and there
 -- is room for every lock whose place is reserved.
-pub record IsSound (slots : List Slot) (ends : Ends) (homes : Homes) (count reserved capacity : ℕ) : Type 0 where
+pub record IsSoundIndex (slots : List Slot) (ends : NodeEnds) (homes : Homes) (count reserved capacity : ℕ) : Type 0 where
   pub chained : IsChained slots
   pub reached : (node : ℕ) → Leads slots node (length slots) (end_of ends node)
   pub settled : IsSettled slots

@@ -1,4 +1,4 @@
-//! Leaps over several slots of a node's chain at once, past locks that all lie before or all behind what is looked for.
+//! Leaps over several slots of a node's chain at once, past locks that all lie before or all after what is looked for.
 
 ghost use Rattle.std.specs.Prelude.{◌≡◌, false, true};
 ghost use Rattle.rd_irp.specs.declared.op.Range.{Range};
@@ -51,7 +51,7 @@ pub fn joined(first: Leap, second: Leap, third: Leap) -> Leap
     }
 }
 
-/// Whether a range lies before or behind all that a leap passes, so that it overlaps none and is none of them.
+/// Whether a range lies before or after all that a leap passes, so that it overlaps none and is none of them.
 pub fn is_outside(leap: &Leap, range: Range) -> bool
     ensures overlaps { result ≡ true → (other : Range) → IsSpanned leap.now other → overlaps range other ≡ false }
     ensures other { result ≡ true → (other : Range) → IsSpanned leap.now other → other.offset ≡ range.offset → other.length ≡ range.length → ⊥ }

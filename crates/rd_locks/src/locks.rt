@@ -47,13 +47,13 @@ impl Model for Locks {
     ghost use Rattle.std.specs.Prelude.{vec_capacity};
     ghost use Rattle.rd_locks.specs.Locks.{LockList};
     ghost use Rattle.rd_locks.specs.Slots.{standing};
-    ghost use Rattle.rd_locks.specs.Index.{IsSound};
+    ghost use Rattle.rd_locks.specs.Index.{IsSoundIndex};
 
     ghost Value = { LockList };
 
     ghost view = { λ l. record { locks = standing l.slots.items; reserved = l.reserved } };
 
-    ghost invariant = { λ l. IsSound l.slots.items l.ends l.homes l.count l.reserved (vec_capacity l.slots) };
+    ghost invariant = { λ l. IsSoundIndex l.slots.items l.ends l.homes l.count l.reserved (vec_capacity l.slots) };
 }
 
 impl Locks {
@@ -210,7 +210,7 @@ impl Locks {
         self.count + self.reserved
     }
 
-    /// Reserves places behind the slots that there are.
+    /// Reserves places after the slots that there are.
     fn hold(&mut self, count: usize) -> Result<(), AllocError>
         requires { length self.old.locks + self.old.reserved + count ≤ max_locks }
         ensures ok { OnOk result (self.new ≡ record self.old { reserved = self.old.reserved + count }) }

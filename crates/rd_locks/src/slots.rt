@@ -130,7 +130,7 @@ pub fn leap_over(slots: &[Slot], node: u32, below: usize, range: Range) -> Leap
 }
 
 /// Unlinks the slots of a chain from a place down to one whose lock stands, and returns its place, or 0.
-fn skip(slots: &mut [Slot], place: usize) -> usize
+fn unlink_to_standing(slots: &mut [Slot], place: usize) -> usize
     requires chained { IsChained slots.old }
     requires within { place ≤ length slots.old }
     ensures follows { Follows slots.old slots.new }
@@ -159,11 +159,11 @@ fn sweep(slots: &mut [Slot], node: u32, end: usize) -> usize
     ensures swept { IsSwept slots.new node }
     ensures within { result ≤ end }
 {
-    let top = skip(slots, end);
+    let top = unlink_to_standing(slots, end);
     let mut place = top;
     while place > 0 {
         let below = slots[place - 1].below;
-        let next = skip(slots, below);
+        let next = unlink_to_standing(slots, below);
         slots[place - 1].below = next;
         place = next;
     }

@@ -9,6 +9,7 @@ use Rattle.rd_base.specs.declared.bad.Bad.{Bad}
 use Rattle.rd_base.specs.declared.journal.Cause.TheVariants.{Removed}
 use Rattle.rd_base.specs.Layout.{met}
 use Rattle.rd_base.specs.Position.{Position, at_start}
+use Rattle.rd_base.specs.Limits.{max_devices}
 use Rattle.rd_irp.specs.declared.completion.Body.{Body}
 use Rattle.rd_irp.specs.declared.completion.Head.{Head}
 use Rattle.rd_irp.specs.declared.completion.Reply.{Reply}
@@ -21,7 +22,7 @@ use Rattle.rd_pending.specs.declared.calls.Outcome.TheVariants.{Done}
 use Rattle.rd_pending.specs.declared.calls.SubmitNo.{SubmitNo}
 use Rattle.rd_pending.specs.declared.calls.Target.{Target}
 use Rattle.rd_pending.specs.Outcomes.{Accepted, reply_in}
-use Rattle.rd_pending.specs.Table.{Fate, Slot, TableState, Untaken, accept, awaited, complete, dead_of, device_in, freed, known, life_of, live, live_refusal, losing, max_devices, max_slots, remove, slot_at, stale, submit, submit_refusal, take, untaken_at, with_fate}
+use Rattle.rd_pending.specs.Table.{Fate, Slot, TableState, Untaken, accept, awaited, complete, dead_of, device_in, freed, known, life_of, live, live_refusal, losing, max_slots, remove, slot_for, stale, submit, submit_refusal, take, untaken_at, with_fate}
 
 -- ---- a life
 
@@ -87,17 +88,17 @@ pub record IsGiven (t : TableState) (head : Head) (bytes : List ℕ) (slot : Slo
 
 pub record Completes (t : TableState) (head : Head) (bytes : List ℕ) : Type 0 where
   pub slot : Slot
-  pub held : slot_at t head.completion ≡ Some slot
+  pub held : slot_for t head.completion ≡ Some slot
   pub named : slot.device ≡ head.device
   pub effect : IsLate t head bytes slot ⊎ IsGiven t head bytes slot
 
 pub completes : (t : TableState) (head : Head) (bytes : List ℕ) → IsOk (complete t head bytes).1 → Completes t head bytes
-completes t head bytes ok = go (slot_at t head.completion) refl
+completes t head bytes ok = go (slot_for t head.completion) refl
   where
     none : is_ok (complete t head bytes).1 ≡ false → {A : Type 0} → A
     none failed = absurd (cc (failed, ok))
 
-    reads : (slot : Slot) → slot_at t head.completion ≡ Some slot → (slot.device == head.device) ≡ true → slot.dead ≡ false
+    reads : (slot : Slot) → slot_for t head.completion ≡ Some slot → (slot.device == head.device) ≡ true → slot.dead ≡ false
         → (r : Result (Body × Position) Bad) → met (completion_body slot.kind head.status) (at_start bytes) ≡ r → IsGiven t head bytes slot
     reads slot e same alive (Err bad) e2 = none (rw (e, same, alive, e2) refl)
     reads slot e same alive (Ok read) e2 = record {
@@ -107,40 +108,40 @@ completes t head bytes ok = go (slot_at t head.completion) refl
       new = rw (e, same, alive, e2) refl;
     }
 
-    by_mark : (slot : Slot) → slot_at t head.completion ≡ Some slot → (slot.device == head.device) ≡ true → (b : Bool) → slot.dead ≡ b
+    by_mark : (slot : Slot) → slot_for t head.completion ≡ Some slot → (slot.device == head.device) ≡ true → (b : Bool) → slot.dead ≡ b
         → IsLate t head bytes slot ⊎ IsGiven t head bytes slot
     by_mark slot e same true dead = inl (record { dead = dead; new = rw (e, same, dead) refl })
     by_mark slot e same false alive = inr (reads slot e same alive (met (completion_body slot.kind head.status) (at_start bytes)) refl)
 
-    by_device : (slot : Slot) → slot_at t head.completion ≡ Some slot → (b : Bool) → (slot.device == head.device) ≡ b → Completes t head bytes
+    by_device : (slot : Slot) → slot_for t head.completion ≡ Some slot → (b : Bool) → (slot.device == head.device) ≡ b → Completes t head bytes
     by_device slot e false other = none (rw (e, other) refl)
     by_device slot e true same = record { slot = slot; held = e; named = eqb-true slot.device head.device same; effect = by_mark slot e same slot.dead refl }
 
-    go : (o : Option Slot) → slot_at t head.completion ≡ o → Completes t head bytes
+    go : (o : Option Slot) → slot_for t head.completion ≡ o → Completes t head bytes
     go None e = none (rw e refl)
     go (Some slot) e = by_device slot e (slot.device == head.device) refl
 
 -- a completion that isn't taken changes nothing
 pub refused : (t : TableState) (head : Head) (bytes : List ℕ) (cause : CompleteNo) → (complete t head bytes).1 ≡ Err cause → (complete t head bytes).0 ≡ t
-refused t head bytes cause failed = go (slot_at t head.completion) refl
+refused t head bytes cause failed = go (slot_for t head.completion) refl
   where
     taken_one : is_ok (complete t head bytes).1 ≡ true → {A : Type 0} → A
     taken_one ok = absurd (cc (ap is_ok failed, ok))
 
-    reads : (slot : Slot) → slot_at t head.completion ≡ Some slot → (slot.device == head.device) ≡ true → slot.dead ≡ false
+    reads : (slot : Slot) → slot_for t head.completion ≡ Some slot → (slot.device == head.device) ≡ true → slot.dead ≡ false
         → (r : Result (Body × Position) Bad) → met (completion_body slot.kind head.status) (at_start bytes) ≡ r → (complete t head bytes).0 ≡ t
     reads slot e same alive (Err bad) e2 = rw (e, same, alive, e2) refl
     reads slot e same alive (Ok read) e2 = taken_one (rw (e, same, alive, e2) refl)
 
-    by_mark : (slot : Slot) → slot_at t head.completion ≡ Some slot → (slot.device == head.device) ≡ true → (b : Bool) → slot.dead ≡ b → (complete t head bytes).0 ≡ t
+    by_mark : (slot : Slot) → slot_for t head.completion ≡ Some slot → (slot.device == head.device) ≡ true → (b : Bool) → slot.dead ≡ b → (complete t head bytes).0 ≡ t
     by_mark slot e same true dead = taken_one (rw (e, same, dead) refl)
     by_mark slot e same false alive = reads slot e same alive (met (completion_body slot.kind head.status) (at_start bytes)) refl
 
-    by_device : (slot : Slot) → slot_at t head.completion ≡ Some slot → (b : Bool) → (slot.device == head.device) ≡ b → (complete t head bytes).0 ≡ t
+    by_device : (slot : Slot) → slot_for t head.completion ≡ Some slot → (b : Bool) → (slot.device == head.device) ≡ b → (complete t head bytes).0 ≡ t
     by_device slot e false other = rw (e, other) refl
     by_device slot e true same = by_mark slot e same slot.dead refl
 
-    go : (o : Option Slot) → slot_at t head.completion ≡ o → (complete t head bytes).0 ≡ t
+    go : (o : Option Slot) → slot_for t head.completion ≡ o → (complete t head bytes).0 ≡ t
     go None e = rw e refl
     go (Some slot) e = by_device slot e (slot.device == head.device) refl
 

@@ -1,26 +1,28 @@
 -- What ends requests, and an outcome that is handed out, keep what holds of a table and its history.
 use Rattle.std.proofs.Common.{◌≡◌, ◌∙◌, refl, sym, ap, subst, inl, inr, ℕ, suc, ◌+◌, ◌<◌, ◌≤◌, ◌==◌, ◌||◌, Bool, true, false, cond, List, [], ◌∷◌, length, map, take, Some, None, Option, arith, eq-eqb, ne_eqb, eqb-true}
 use Rattle.std.specs.Prelude.{slice_get, IsOk}
-use Rattle.std.specs.Option.{option_map}
+use Rattle.std.specs.Option.{option_map, option_or}
 use Rattle.std.specs.Ordering.{nat_cmp}
 use Rattle.std.specs.Map.{lookup, remove_entry}
 use Rattle.std.specs.BTreeMap.{is_at}
 use Rattle.std.proofs.lemmas.Map.Made.{lookup-map_values}
+use Rattle.std.proofs.lemmas.Bool.{cases_eq}
 use Rattle.rd_base.specs.declared.journal.Cause.TheVariants.{Removed, Dropped}
+use Rattle.rd_base.specs.Limits.{max_devices}
 use Rattle.rd_pending.specs.declared.calls.Outcome.{Outcome}
 use Rattle.rd_pending.specs.declared.calls.Outcome.TheVariants.{Lost}
 use Rattle.rd_pending.specs.Outcomes as tidings
-use Rattle.rd_pending.specs.Outcomes.{Accepted, Agrees, Course, course_from, ended_in, going_on, is_in_life, or_else}
-use Rattle.rd_pending.specs.Table.{Fate, Slot, TableState, Untaken, awaits, dead_of, drop_channel, fate_at, is_awaited, known, life_of, losing, max_devices, slot_at, take as take_outcome, untaken_at}
+use Rattle.rd_pending.specs.Outcomes.{Accepted, Agrees, Course, course_from, ended_in, going_on, is_in_life}
+use Rattle.rd_pending.specs.Table.{Fate, Slot, TableState, Untaken, awaits, dead_of, drop_channel, fate_at, is_awaited, known, life_of, losing, slot_for, take as take_outcome, untaken_at}
 use Rattle.rd_pending.specs.History.{Call, accepted_in, after, drops, ended_on, heard_on, is_open_on, lives_before, removes, takes}
 use Rattle.rd_pending.proofs.CourseLemmas.{heard_pairs}
 use Rattle.rd_pending.proofs.Effects as effects
 use Rattle.rd_pending.proofs.Effects.{Removes, Takes}
 use Rattle.rd_pending.proofs.FateLemmas.{agrees_on, fate_of, is_lost, is_waiting, kept_known, lost, lost_at, lost_device, lost_life, none_awaited, not_lost}
-use Rattle.rd_pending.proofs.MapLemmas.{gone, kept, none_removed, one_shorter, same_or_other}
+use Rattle.rd_pending.proofs.MapLemmas.{gone, kept, none_removed, one_shorter}
 use Rattle.rd_pending.proofs.SlotLemmas as slots
 use Rattle.rd_pending.proofs.SlotLemmas.{lost_all, some_of}
-use Rattle.rd_pending.proofs.Sound.{IsSlotOf, IsTracked, IsWithin, Sound, alike_before, course, heard_none, held, is_open, open_on, opens, outcome_behind, outcome_open, outcome_quiet}
+use Rattle.rd_pending.proofs.Sound.{IsSlotOf, IsTracked, IsWithin, Sound, alike_before, course, heard_none, held, is_open, open_on, opens, outcome_after, outcome_open, outcome_quiet}
 use Rattle.rd_pending.proofs.Steps.{course_open, not_open_heard, still_of, tracked_same}
 
 -- ---- an outcome is handed out
@@ -54,17 +56,17 @@ takes_sound number h s ok = subst (λ (y : TableState). Sound y (takes number �
     within = record { lives = λ c. refl; ended = λ c. refl }
 
     tracked : (n : ℕ) (a : Accepted) → slice_get (accepted_in h) n ≡ Some a → IsTracked new (takes number ∷ h) n a
-    tracked n a is = elim (same_or_other (suc n) number) [
+    tracked n a is = elim (cases_eq (suc n) number) [
       | inl same ↦
           let was = s.requests n a is in
           let m : ℕ = alike_before (take n (accepted_in h)) a in
           let none : untaken_at new (suc n) ≡ None = subst (λ (k : ℕ). untaken_at new k ≡ None) (sym same) (gone number t.untaken s.slots.untaken_rising) in
           let before : fate_at t (suc n) ≡ Some (known effect.outcome) = ap (option_map fate_of) (subst (λ (k : ℕ). untaken_at t k ≡ Some effect.request) (sym same) effect.is) ∙ ap Some effect.fate in
-          let outcome : outcome_behind m a h ≡ Some effect.outcome = subst (λ (f : Option Fate). Agrees f (outcome_behind m a h)) before was.agrees in
+          let outcome : outcome_after m a h ≡ Some effect.outcome = subst (λ (f : Option Fate). Agrees f (outcome_after m a h)) before was.agrees in
           let over : awaits new (suc n) ≡ false = ap (λ (o : Option Untaken). is_waiting (option_map fate_of o)) none in
           record {
             below = was.below;
-            agrees = subst (λ (f : Option Fate). Agrees f (outcome_behind m a (takes number ∷ h))) (sym (ap (option_map fate_of) none)) (effect.outcome, outcome_quiet (takes number) h m a within refl ∙ outcome);
+            agrees = subst (λ (f : Option Fate). Agrees f (outcome_after m a (takes number ∷ h))) (sym (ap (option_map fate_of) none)) (effect.outcome, outcome_quiet (takes number) h m a within refl ∙ outcome);
             named = λ u e. absurd (cc (none, e));
             alive = λ waits. absurd (cc (over, waits));
             last = λ waits. absurd (cc (over, waits));
@@ -107,30 +109,30 @@ drops_sound c0 h s is_open_one = record {
         go false e = refl
 
     -- what ended before has its outcome, and what didn't is lost
-    outcome_now : (m : ℕ) (a : Accepted) → outcome_behind m a (drops ∷ h)
-        ≡ or_else (ended_in a m (course_from (lives_before a.channel h)) (heard_on a.channel h)) (cond (is_open_on t a.channel || ended_on a.channel h) (Some (Lost Dropped)) None)
+    outcome_now : (m : ℕ) (a : Accepted) → outcome_after m a (drops ∷ h)
+        ≡ option_or (ended_in a m (course_from (lives_before a.channel h)) (heard_on a.channel h)) (cond (is_open_on t a.channel || ended_on a.channel h) (Some (Lost Dropped)) None)
     outcome_now m a = rw (same_heard a.channel) refl
 
-    stays : (m : ℕ) (a : Accepted) (o : Outcome) → outcome_behind m a h ≡ Some o → outcome_behind m a (drops ∷ h) ≡ Some o
+    stays : (m : ℕ) (a : Accepted) (o : Outcome) → outcome_after m a h ≡ Some o → outcome_after m a (drops ∷ h) ≡ Some o
     stays m a o e = outcome_now m a ∙ go (ended_in a m (course_from (lives_before a.channel h)) (heard_on a.channel h)) (is_open_on t a.channel) (ended_on a.channel h) e
       where
-        go : (x : Option Outcome) (b w : Bool) → or_else x (cond w (Some (Lost Dropped)) None) ≡ Some o → or_else x (cond (b || w) (Some (Lost Dropped)) None) ≡ Some o
+        go : (x : Option Outcome) (b w : Bool) → option_or x (cond w (Some (Lost Dropped)) None) ≡ Some o → option_or x (cond (b || w) (Some (Lost Dropped)) None) ≡ Some o
         go (Some y) b w e2 = e2
         go None true true e2 = e2
         go None true false e2 = absurd (cc e2)
         go None false w e2 = e2
 
-    dropped : (m : ℕ) (a : Accepted) → t.channel ≡ Some a.channel → outcome_behind m a h ≡ None → outcome_behind m a (drops ∷ h) ≡ Some (Lost Dropped)
+    dropped : (m : ℕ) (a : Accepted) → t.channel ≡ Some a.channel → outcome_after m a h ≡ None → outcome_after m a (drops ∷ h) ≡ Some (Lost Dropped)
     dropped m a e none = outcome_now m a ∙ rw (open_on t a.channel e) (go (ended_in a m (course_from (lives_before a.channel h)) (heard_on a.channel h)) (cond (ended_on a.channel h) (Some (Lost Dropped)) None) none)
       where
-        go : (x y : Option Outcome) → or_else x y ≡ None → or_else x (Some (Lost Dropped)) ≡ Some (Lost Dropped)
+        go : (x y : Option Outcome) → option_or x y ≡ None → option_or x (Some (Lost Dropped)) ≡ Some (Lost Dropped)
         go None y e2 = refl
         go (Some o) y e2 = absurd (cc e2)
 
     tracked : (n : ℕ) (a : Accepted) → slice_get (accepted_in h) n ≡ Some a → IsTracked new (drops ∷ h) n a
     tracked n a is = record {
       below = was.below;
-      agrees = subst (λ (f : Option Fate). Agrees f (outcome_behind m a (drops ∷ h))) (sym (ap (option_map fate_of) (lost_at all Dropped (suc n) t.untaken))) (go (untaken_at t (suc n)) refl);
+      agrees = subst (λ (f : Option Fate). Agrees f (outcome_after m a (drops ∷ h))) (sym (ap (option_map fate_of) (lost_at all Dropped (suc n) t.untaken))) (go (untaken_at t (suc n)) refl);
       named = λ u e.
           let old = some_of (lost all Dropped) (untaken_at t (suc n)) u (sym (lost_at all Dropped (suc n) t.untaken) ∙ e) in
           let names = was.named old.0 old.1 in
@@ -145,24 +147,24 @@ drops_sound c0 h s is_open_one = record {
         m : ℕ
         m = alike_before (take n (accepted_in h)) a
 
-        go : (o : Option Untaken) → untaken_at t (suc n) ≡ o → Agrees (option_map fate_of (option_map (lost all Dropped) o)) (outcome_behind m a (drops ∷ h))
+        go : (o : Option Untaken) → untaken_at t (suc n) ≡ o → Agrees (option_map fate_of (option_map (lost all Dropped) o)) (outcome_after m a (drops ∷ h))
         go None e =
-            let agrees = subst (λ (o : Option Untaken). Agrees (option_map fate_of o) (outcome_behind m a h)) e was.agrees in
+            let agrees = subst (λ (o : Option Untaken). Agrees (option_map fate_of o) (outcome_after m a h)) e was.agrees in
             (agrees.0, stays m a agrees.0 agrees.1)
         go (Some u) e = by (is_awaited u.fate) refl
           where
             was_so : fate_at t (suc n) ≡ Some u.fate
             was_so = ap (option_map fate_of) e
 
-            by : (w : Bool) → is_awaited u.fate ≡ w → Agrees (Some (lost all Dropped u).fate) (outcome_behind m a (drops ∷ h))
+            by : (w : Bool) → is_awaited u.fate ≡ w → Agrees (Some (lost all Dropped u).fate) (outcome_after m a (drops ∷ h))
             by true none =
                 let waits : awaits t (suc n) ≡ true = ap is_waiting was_so ∙ none in
-                let ends : outcome_behind m a (drops ∷ h) ≡ Some (Lost Dropped) = dropped m a (opens t h n a s is waits) (none_awaited (fate_at t (suc n)) (outcome_behind m a h) was.agrees waits) in
-                subst (λ (v : Untaken). Agrees (Some v.fate) (outcome_behind m a (drops ∷ h))) (sym (is_lost all Dropped u none refl)) ends
+                let ends : outcome_after m a (drops ∷ h) ≡ Some (Lost Dropped) = dropped m a (opens t h n a s is waits) (none_awaited (fate_at t (suc n)) (outcome_after m a h) was.agrees waits) in
+                subst (λ (v : Untaken). Agrees (Some v.fate) (outcome_after m a (drops ∷ h))) (sym (is_lost all Dropped u none refl)) ends
             by false over =
-                subst (λ (v : Untaken). Agrees (Some v.fate) (outcome_behind m a (drops ∷ h))) (sym (kept_known all Dropped u over))
-                (agrees_on (Some u.fate) (outcome_behind m a h) (outcome_behind m a (drops ∷ h)) (λ x. stays m a x) over
-                (subst (λ (f : Option Fate). Agrees f (outcome_behind m a h)) was_so was.agrees))
+                subst (λ (v : Untaken). Agrees (Some v.fate) (outcome_after m a (drops ∷ h))) (sym (kept_known all Dropped u over))
+                (agrees_on (Some u.fate) (outcome_after m a h) (outcome_after m a (drops ∷ h)) (λ x. stays m a x) over
+                (subst (λ (f : Option Fate). Agrees f (outcome_after m a h)) was_so was.agrees))
 
 -- ---- a device is gone
 
@@ -181,7 +183,7 @@ absent_sound d h s c0 is_open_one absent = record {
       let old = s.lives c e in
       let none : lookup (is_at (nat_cmp d)) (course c h).lives ≡ None = ap (λ (es : List (ℕ × ℕ)). lookup (is_at (nat_cmp d)) es) old.0 ∙ absent in
       (ap (λ (k : Course). k.lives) (on_course c e) ∙ none_removed d (course c h).lives none ∙ old.0, ap (λ (k : Course). k.given) (on_course c e) ∙ old.1);
-  balanced = λ c e i j. s.balanced c e i j ∙ ap (λ (k : Course). heard_pairs i j k + held (slot_at t j) i) (sym (on_course c e));
+  balanced = λ c e i j. s.balanced c e i j ∙ ap (λ (k : Course). heard_pairs i j k + held (slot_for t j) i) (sym (on_course c e));
   of_slot = still_of (removes d) h t s.of_slot refl refl;
   requests = λ n a is. tracked_same (removes d) h t n a (within_removes d h) s is refl refl refl (λ none m. ends_none n a is none m) (s.requests n a is).alive;
 }
@@ -209,7 +211,7 @@ gone_sound d h s c0 is_open_one effect = subst (λ (y : TableState). Sound y (re
       let old = s.lives c e in
       (ap (λ (k : Course). k.lives) (on_course c e) ∙ ap (λ (es : List (ℕ × ℕ)). remove_entry (is_at (nat_cmp d)) es) old.0, ap (λ (k : Course). k.given) (on_course c e) ∙ old.1);
   balanced = λ c e i j.
-      s.balanced c e i j ∙ ap (λ (k : Course). heard_pairs i j k + held (slot_at t j) i) (sym (on_course c e))
+      s.balanced c e i j ∙ ap (λ (k : Course). heard_pairs i j k + held (slot_for t j) i) (sym (on_course c e))
       ∙ ap (λ (n : ℕ). heard_pairs i j (course c (removes d ∷ h)) + n) (sym (same_held i j));
   of_slot = placed;
   requests = tracked;
@@ -233,8 +235,8 @@ gone_sound d h s c0 is_open_one effect = subst (λ (y : TableState). Sound y (re
     marked : Slot → Slot
     marked x = cond (x.device == d) (record x { dead = true }) x
 
-    same_held : (i j : ℕ) → held (slot_at new j) i ≡ held (slot_at t j) i
-    same_held i j = ap (λ (o : Option Slot). held o i) (lookup-map_values marked (is_at (nat_cmp j)) t.slots) ∙ go (slot_at t j)
+    same_held : (i j : ℕ) → held (slot_for new j) i ≡ held (slot_for t j) i
+    same_held i j = ap (λ (o : Option Slot). held o i) (lookup-map_values marked (is_at (nat_cmp j)) t.slots) ∙ go (slot_for t j)
       where
         go : (o : Option Slot) → held (option_map marked o) i ≡ held o i
         go None = refl
@@ -244,9 +246,9 @@ gone_sound d h s c0 is_open_one effect = subst (λ (y : TableState). Sound y (re
             by true = refl
             by false = refl
 
-    placed : (id : ℕ) (slot : Slot) → slot_at new id ≡ Some slot → IsSlotOf new (removes d ∷ h) id slot
+    placed : (id : ℕ) (slot : Slot) → slot_for new id ≡ Some slot → IsSlotOf new (removes d ∷ h) id slot
     placed id slot e =
-        let (x, found, is) = some_of marked (slot_at t id) slot (sym (lookup-map_values marked (is_at (nat_cmp id)) t.slots) ∙ e) in
+        let (x, found, is) = some_of marked (slot_for t id) slot (sym (lookup-map_values marked (is_at (nat_cmp id)) t.slots) ∙ e) in
         subst (IsSlotOf new (removes d ∷ h) id) is (go x (s.of_slot id x found) (x.device == d))
       where
         go : (x : Slot) → IsSlotOf t h id x → (b : Bool) → IsSlotOf new (removes d ∷ h) id (cond b (record x { dead = true }) x)
@@ -288,14 +290,14 @@ gone_sound d h s c0 is_open_one effect = subst (λ (y : TableState). Sound y (re
                 let d_is : (d == a.device) ≡ true = eq-eqb d a.device (sym (eqb-true u.device d here) ∙ (was.named u e).0) in
                 let in_life : is_in_life (course a.channel h) a ≡ true = rw live (eq-eqb a.life a.life refl) in
                 let gone_one : untaken_at new (suc n) ≡ Some (record u { fate = known (Lost Removed) }) = now (Some u) e ∙ ap Some (is_lost test Removed u none here) in
-                let ends : outcome_behind m a (removes d ∷ h) ≡ Some (Lost Removed) =
+                let ends : outcome_after m a (removes d ∷ h) ≡ Some (Lost Removed) =
                 outcome_open (removes d) h m a (within_removes d h) opened (s.shut a.channel opened)
-                ∙ ap (λ (o : Option Outcome). or_else o (ended_in a m (course a.channel h) (tidings.removes d ∷ []))) (none_awaited (fate_at t (suc n)) (outcome_behind m a h) was.agrees waits)
+                ∙ ap (λ (o : Option Outcome). option_or o (ended_in a m (course a.channel h) (tidings.removes d ∷ []))) (none_awaited (fate_at t (suc n)) (outcome_after m a h) was.agrees waits)
                 ∙ rw (d_is, in_life) refl in
                 let over : awaits new (suc n) ≡ false = ap (λ (o : Option Untaken). is_waiting (option_map fate_of o)) gone_one in
                 record {
                   below = was.below;
-                  agrees = subst (λ (f : Option Fate). Agrees f (outcome_behind m a (removes d ∷ h))) (sym (ap (option_map fate_of) gone_one)) ends;
+                  agrees = subst (λ (f : Option Fate). Agrees f (outcome_after m a (removes d ∷ h))) (sym (ap (option_map fate_of) gone_one)) ends;
                   named = λ v e2. let is : record u { fate = known (Lost Removed) } ≡ v = cc (gone_one, e2) in (ap (λ (x : Untaken). x.device) (sym is) ∙ (was.named u e).0, ap (λ (x : Untaken). x.life) (sym is) ∙ (was.named u e).1);
                   alive = λ still. absurd (cc (over, still));
                   last = λ still. absurd (cc (over, still));

@@ -1,14 +1,14 @@
 -- What is handed out is what came of the request, and stays so.
 use Rattle.std.proofs.Common.{◌≡◌, ◌∙◌, refl, sym, ap, subst, ℕ, zero, suc, ◌<◌, ◌≤◌, ◌==◌, ◌||◌, Bool, true, false, cond, List, [], ◌∷◌, ◌++◌, length, take, Some, None, Option, arith, append_assoc, ne_eqb}
 use Rattle.std.specs.Prelude.{is_ok, slice_get}
-use Rattle.std.specs.Option.{option_map}
+use Rattle.std.specs.Option.{option_map, option_or}
 use Rattle.std.proofs.lemmas.List.{length-take-le}
 use Rattle.std.proofs.lemmas.Option.{slice_get_within}
 use Rattle.rd_base.specs.declared.journal.Cause.TheVariants.{Dropped}
 use Rattle.rd_pending.specs.declared.calls.Outcome.{Outcome}
 use Rattle.rd_pending.specs.declared.calls.Outcome.TheVariants.{Lost}
 use Rattle.rd_pending.specs.declared.calls.Taken.{Taken}
-use Rattle.rd_pending.specs.Outcomes.{Accepted, Agrees, course_from, ended_in, or_else}
+use Rattle.rd_pending.specs.Outcomes.{Accepted, Agrees, course_from, ended_in}
 use Rattle.rd_pending.specs.Table as table
 use Rattle.rd_pending.specs.Table.{Fate, TableState, fate_at, known}
 use Rattle.rd_pending.specs.History.{Call, HandsOut, Holds, accepted_in, after, begins, completes, drops, ended_on, heard_on, is_open_on, lives, lives_before, outcome_in, removes, sends, submits, takes}
@@ -16,14 +16,14 @@ use Rattle.rd_pending.proofs.AcceptedLemmas.{accepted_since, got_before, split_o
 use Rattle.rd_pending.proofs.Effects as effects
 use Rattle.rd_pending.proofs.FateLemmas.{fate_of}
 use Rattle.rd_pending.proofs.Histories.{sound}
-use Rattle.rd_pending.proofs.Sound.{IsWithin, Sound, alike_before, heard_none, outcome_behind, outcome_stays}
+use Rattle.rd_pending.proofs.Sound.{IsWithin, Sound, alike_before, heard_none, outcome_after, outcome_stays}
 
 -- ---- an outcome stays
 
-within_stays : (call : Call) (h : List Call) (m : ℕ) (a : Accepted) (o : Outcome) → Sound (after h) h → IsWithin call h → outcome_behind m a h ≡ Some o → outcome_behind m a (call ∷ h) ≡ Some o
+within_stays : (call : Call) (h : List Call) (m : ℕ) (a : Accepted) (o : Outcome) → Sound (after h) h → IsWithin call h → outcome_after m a h ≡ Some o → outcome_after m a (call ∷ h) ≡ Some o
 within_stays call h m a o s within is = outcome_stays call h m a o within (s.shut a.channel) is
 
-stays_by : (call : Call) (h : List Call) (m : ℕ) (a : Accepted) (o : Outcome) → Holds (call ∷ h) → a.channel < (after h).below → outcome_behind m a h ≡ Some o → outcome_behind m a (call ∷ h) ≡ Some o
+stays_by : (call : Call) (h : List Call) (m : ℕ) (a : Accepted) (o : Outcome) → Holds (call ∷ h) → a.channel < (after h).below → outcome_after m a h ≡ Some o → outcome_after m a (call ∷ h) ≡ Some o
 stays_by (begins c) h m a o holds low is =
     let other : (c == a.channel) ≡ false = ne_eqb c a.channel (λ same. omega (arith, low, holds.0.1, same)) in
     rw (other, heard_none (begins c) h a.channel refl) is
@@ -35,7 +35,7 @@ stays_by (completes head bytes) h m a o holds low is = within_stays (completes h
 stays_by sends h m a o holds low is = within_stays sends h m a o (sound h holds.1) (record { lives = λ c. refl; ended = λ c. refl }) is
 stays_by drops h m a o holds low is = rw (heard_none drops h a.channel refl) (go (ended_in a m (course_from (lives_before a.channel h)) (heard_on a.channel h)) (is_open_on (after h) a.channel) (ended_on a.channel h) is)
   where
-    go : (x : Option Outcome) (b w : Bool) → or_else x (cond w (Some (Lost Dropped)) None) ≡ Some o → or_else x (cond (b || w) (Some (Lost Dropped)) None) ≡ Some o
+    go : (x : Option Outcome) (b w : Bool) → option_or x (cond w (Some (Lost Dropped)) None) ≡ Some o → option_or x (cond (b || w) (Some (Lost Dropped)) None) ≡ Some o
     go (Some y) b w e = e
     go None true true e = e
     go None true false e = absurd (cc e)
@@ -51,7 +51,7 @@ pub holds_before : (later h : List Call) → Holds (later ++ h) → Holds h
 holds_before [] h holds = holds
 holds_before (call ∷ later) h holds = holds_before later h holds.1
 
-pub outcome_since : (later h : List Call) (m n : ℕ) (a : Accepted) (o : Outcome) → Holds (later ++ h) → slice_get (accepted_in h) n ≡ Some a → outcome_behind m a h ≡ Some o → outcome_behind m a (later ++ h) ≡ Some o
+pub outcome_since : (later h : List Call) (m n : ℕ) (a : Accepted) (o : Outcome) → Holds (later ++ h) → slice_get (accepted_in h) n ≡ Some a → outcome_after m a h ≡ Some o → outcome_after m a (later ++ h) ≡ Some o
 outcome_since [] h m n a o holds at is = is
 outcome_since (call ∷ later) h m n a o holds at is =
     let low : a.channel < (after (later ++ h)).below = ((sound (later ++ h) holds.1).requests n a (still_there later h n a at).0).below in
@@ -81,9 +81,9 @@ handed later before number holds given answer =
     let was = s.requests p a at in
     let m : ℕ = alike_before (take p (accepted_in before)) a in
     let fate : fate_at t (suc p) ≡ Some (known effect.outcome) = subst (λ (k : ℕ). fate_at t k ≡ Some (known effect.outcome)) numbered (ap (option_map fate_of) effect.is ∙ ap Some effect.fate) in
-    let then_known : outcome_behind m a before ≡ Some effect.outcome = subst (λ (f : Option Fate). Agrees f (outcome_behind m a before)) fate was.agrees in
-    let now_known : outcome_behind m a h ≡ Some effect.outcome =
-    subst (λ (x : List Call). outcome_behind m a x ≡ Some effect.outcome) whole
+    let then_known : outcome_after m a before ≡ Some effect.outcome = subst (λ (f : Option Fate). Agrees f (outcome_after m a before)) fate was.agrees in
+    let now_known : outcome_after m a h ≡ Some effect.outcome =
+    subst (λ (x : List Call). outcome_after m a x ≡ Some effect.outcome) whole
     (outcome_since (later ++ takes number ∷ []) before m p a effect.outcome (subst Holds (sym whole) holds) at then_known) in
     let there = still_there (later ++ takes number ∷ []) before p a at in
     let at_end : slice_get (accepted_in h) p ≡ Some a = subst (λ (x : List Call). slice_get (accepted_in x) p ≡ Some a) whole there.0 in

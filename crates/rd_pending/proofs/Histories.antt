@@ -3,7 +3,7 @@ use Rattle.std.proofs.Common.{◌≡◌, ◌≢◌, ◌∙◌, refl, sym, ap, su
 use Rattle.std.specs.Prelude.{slice_get}
 use Rattle.std.specs.Option.{unwrap_or}
 use Rattle.rd_pending.specs.Outcomes.{Accepted, Agrees}
-use Rattle.rd_pending.specs.Table.{Slot, TableState, fate_at, new_table, slot_at}
+use Rattle.rd_pending.specs.Table.{Slot, TableState, fate_at, new_table, slot_for}
 use Rattle.rd_pending.specs.History.{AreOutcomes, Call, Holds, May, accepted_in, after, begins, completes, drops, is_open_on, lives, removes, sends, submits, takes}
 use Rattle.rd_pending.proofs.AcceptedLemmas.{split_at}
 use Rattle.rd_pending.proofs.CountLemmas.{more_pairs, pairs}
@@ -13,7 +13,7 @@ use Rattle.rd_pending.proofs.CompleteSteps.{completes_sound}
 use Rattle.rd_pending.proofs.EndSteps.{drops_sound, removes_sound, takes_sound}
 use Rattle.rd_pending.proofs.Neutral.{channel_kept}
 use Rattle.rd_pending.proofs.RequestSteps.{sends_sound, submits_sound}
-use Rattle.rd_pending.proofs.Sound.{Sound, alike_before, course, heard_else, heard_none, held, is_open, open_on, outcome_behind}
+use Rattle.rd_pending.proofs.Sound.{Sound, alike_before, course, heard_else, heard_none, held, is_open, open_on, outcome_after}
 use Rattle.rd_pending.proofs.StepSlots.{new_slots}
 use Rattle.rd_pending.proofs.Steps.{begins_sound, lives_sound}
 
@@ -47,7 +47,7 @@ outcomes h holds earlier a later parts =
     let at = split_at earlier later a in
     let is : slice_get (accepted_in h) (length earlier) ≡ Some a = ap (λ (xs : List Accepted). slice_get xs (length earlier)) parts ∙ at.0 in
     let before : take (length earlier) (accepted_in h) ≡ earlier = ap (λ (xs : List Accepted). take (length earlier) xs) parts ∙ at.1 in
-    subst (λ (xs : List Accepted). Agrees (fate_at (after h) (suc (length earlier))) (outcome_behind (alike_before xs a) a h)) before (s.requests (length earlier) a is).agrees
+    subst (λ (xs : List Accepted). Agrees (fate_at (after h) (suc (length earlier))) (outcome_after (alike_before xs a) a h)) before (s.requests (length earlier) a is).agrees
 
 -- ---- channels that aren't open
 
@@ -99,7 +99,7 @@ past (call ∷ h) holds c d i = go (past h holds.1 c d i) (is_open_on (after (ca
         → pairs c d i (accepted_in (call ∷ h)) ≤ heard_pairs d i (course c (call ∷ h)) + 1
     go old true e =
         let even = (sound (call ∷ h) holds).balanced c (is_open (after (call ∷ h)) c e) d i in
-        omega (arith, even, one (slot_at (after (call ∷ h)) i))
+        omega (arith, even, one (slot_for (after (call ∷ h)) i))
     go old false e =
         let same = stays_shut call h holds.0 c (λ is. cc (open_on (after (call ∷ h)) c is, e)) d i in
         rw (same.0, same.1) old

@@ -83,13 +83,13 @@ indexed (drops ∷ h) holds c = record { indexed = (indexed h holds.1 c).indexed
 
 -- ---- one of them
 
-indexed_end : (front : List Accepted) (a : Accepted) (rest : List Accepted) → Indexed (front ++ a ∷ rest) → a.index ≡ length rest
+indexed_end : (prefix : List Accepted) (a : Accepted) (rest : List Accepted) → Indexed (prefix ++ a ∷ rest) → a.index ≡ length rest
 indexed_end [] a rest all = all.0
-indexed_end (x ∷ front) a rest all = indexed_end front a rest all.1
+indexed_end (x ∷ prefix) a rest all = indexed_end prefix a rest all.1
 
 -- a request has as its index how many stand before it on its channel
 pub own_place : (h : List Call) → Holds h → (n : ℕ) (a : Accepted) → slice_get (accepted_in h) n ≡ Some a → a.index ≡ length (newest a.channel (take n (accepted_in h)))
 own_place h holds n a at =
     let (later, parts) = split_of n (accepted_in h) a at in
-    let (front, split) = newest_split (take n (accepted_in h)) later a in
-    indexed_end front a (newest a.channel (take n (accepted_in h))) (subst Indexed (ap (newest a.channel) parts ∙ split) (indexed h holds a.channel).indexed)
+    let (prefix, split) = newest_split (take n (accepted_in h)) later a in
+    indexed_end prefix a (newest a.channel (take n (accepted_in h))) (subst Indexed (ap (newest a.channel) parts ∙ split) (indexed h holds a.channel).indexed)

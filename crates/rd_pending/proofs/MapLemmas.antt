@@ -1,4 +1,4 @@
--- A map with numbers as keys, looked up behind an insertion, a removal, and a change of its values.
+-- A map with numbers as keys, looked up after an insertion, a removal, and a change of its values.
 use Rattle.std.proofs.Common.{◌≡◌, ◌≢◌, ◌⊎◌, ◌∙◌, refl, sym, ap, ℕ, ◌+◌, ◌<◌, ◌≤◌, ◌==◌, Bool, true, false, cond, List, [], ◌∷◌, length, suc, Some, None, Option, arith, eq-eqb, eqb-true}
 use Rattle.std.specs.List.{AllByRecursion}
 use Rattle.std.specs.List.Sorted.{IsStrictlySortedBy}
@@ -9,9 +9,6 @@ use Rattle.std.specs.Map.{keys_of, lookup, remove_entry, set_value}
 use Rattle.std.specs.BTreeMap.{insert_entry, is_at}
 use Rattle.std.proofs.lemmas.Bool.Decides.{nat_tests}
 use Rattle.rd_pending.specs.Table.{free_from}
-
-pub same_or_other : (a b : ℕ) → (a ≡ b) ⊎ (a ≢ b)
-same_or_other a b = grind arith
 
 pub itself : (k : ℕ) → is_at (nat_cmp k) k ≡ true
 itself k = grind (arith, nat_tests)

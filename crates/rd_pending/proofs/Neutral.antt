@@ -16,7 +16,7 @@ use Rattle.rd_pending.specs.History as call
 use Rattle.rd_pending.specs.History.{Call, Holds, after, called, ended_on, heard_by, heard_on, is_open_on, lives_before}
 use Rattle.rd_pending.specs.Outcomes.{Tidings}
 use Rattle.rd_pending.specs.Table as table
-use Rattle.rd_pending.specs.Table.{Fate, Slot, TableState, Untaken, awaited, freed, known, live_refusal, slot_at, submit_refusal, untaken_at, with_fate}
+use Rattle.rd_pending.specs.Table.{Fate, Slot, TableState, Untaken, awaited, freed, known, live_refusal, slot_for, submit_refusal, untaken_at, with_fate}
 use Rattle.rd_pending.proofs.Effects as effects
 
 abbrev pub IsNeutral : Call → Type 0
@@ -67,22 +67,22 @@ take_channel t n = go (untaken_at t n) refl
     go (Some u) e = by_fate u e u.fate refl
 
 complete_channel : (t : TableState) (head : Head) (bytes : List ℕ) → ((table.complete t head bytes).0).channel ≡ t.channel
-complete_channel t head bytes = go (slot_at t head.completion) refl
+complete_channel t head bytes = go (slot_for t head.completion) refl
   where
-    reads : (slot : Slot) → slot_at t head.completion ≡ Some slot → (slot.device == head.device) ≡ true → slot.dead ≡ false → (r : Result (Body × Position) Bad)
+    reads : (slot : Slot) → slot_for t head.completion ≡ Some slot → (slot.device == head.device) ≡ true → slot.dead ≡ false → (r : Result (Body × Position) Bad)
         → met (completion_body slot.kind head.status) (at_start bytes) ≡ r → ((table.complete t head bytes).0).channel ≡ t.channel
     reads slot e same alive (Err bad) e2 = rw (e, same, alive, e2) refl
     reads slot e same alive (Ok read) e2 = rw (e, same, alive, e2) (fate_channel (freed t head.completion) slot.number _)
 
-    by_mark : (slot : Slot) → slot_at t head.completion ≡ Some slot → (slot.device == head.device) ≡ true → (b : Bool) → slot.dead ≡ b → ((table.complete t head bytes).0).channel ≡ t.channel
+    by_mark : (slot : Slot) → slot_for t head.completion ≡ Some slot → (slot.device == head.device) ≡ true → (b : Bool) → slot.dead ≡ b → ((table.complete t head bytes).0).channel ≡ t.channel
     by_mark slot e same true dead = rw (e, same, dead) refl
     by_mark slot e same false alive = reads slot e same alive (met (completion_body slot.kind head.status) (at_start bytes)) refl
 
-    by_device : (slot : Slot) → slot_at t head.completion ≡ Some slot → (b : Bool) → (slot.device == head.device) ≡ b → ((table.complete t head bytes).0).channel ≡ t.channel
+    by_device : (slot : Slot) → slot_for t head.completion ≡ Some slot → (b : Bool) → (slot.device == head.device) ≡ b → ((table.complete t head bytes).0).channel ≡ t.channel
     by_device slot e false other = rw (e, other) refl
     by_device slot e true same = by_mark slot e same slot.dead refl
 
-    go : (o : Option Slot) → slot_at t head.completion ≡ o → ((table.complete t head bytes).0).channel ≡ t.channel
+    go : (o : Option Slot) → slot_for t head.completion ≡ o → ((table.complete t head bytes).0).channel ≡ t.channel
     go None e = rw e refl
     go (Some slot) e = by_device slot e (slot.device == head.device) refl
 

@@ -8,22 +8,23 @@ use Rattle.std.specs.Map.{keys_of, lookup}
 use Rattle.std.specs.BTreeMap.{insert_entry, is_at}
 use Rattle.std.proofs.lemmas.List.Elements.{All-nil, All-rest}
 use Rattle.std.proofs.lemmas.Option.{slice_get_within}
+use Rattle.std.proofs.lemmas.Bool.{cases_eq}
 use Rattle.rd_chunk.specs.Carrier.{IsMessage}
 use Rattle.rd_irp.specs.declared.op.Op.{Op}
 use Rattle.rd_irp.specs.Fits.{kind_of, Fits}
 use Rattle.rd_pending.specs.declared.calls.Target.{Target}
-use Rattle.rd_pending.specs.Outcomes.{Accepted, Agrees, asks_pair, course_from, ended_in}
-use Rattle.rd_pending.specs.Table.{Fate, Slot, TableState, Untaken, accept, awaited, awaits, device_in, fate_at, max_slots, next_id, slot_at, submit_refusal, untaken_at}
+use Rattle.rd_pending.specs.Outcomes.{Accepted, Agrees, course_from, ended_in, is_accepted_as}
+use Rattle.rd_pending.specs.Table.{Fate, Slot, TableState, Untaken, accept, awaited, awaits, device_in, fate_at, max_slots, next_id, slot_for, submit_refusal, untaken_at}
 use Rattle.rd_pending.specs.History.{Call, accepted_in, accepted_of, after, heard_on, lives_before, sends, submits}
 use Rattle.rd_pending.proofs.CountLemmas.{more_pairs, pairs}
 use Rattle.rd_pending.proofs.CourseLemmas.{course_begins, heard_pairs, none_yet}
 use Rattle.rd_pending.proofs.Effects as effects
 use Rattle.rd_pending.proofs.Effects.{Submits}
 use Rattle.rd_pending.proofs.FateLemmas.{fate_of, is_waiting}
-use Rattle.rd_pending.proofs.MapLemmas.{beside, free, free_within, inserted, same_or_other}
+use Rattle.rd_pending.proofs.MapLemmas.{beside, free, free_within, inserted}
 use Rattle.rd_pending.proofs.SlotLemmas as slots
 use Rattle.rd_pending.proofs.AcceptedLemmas.{got_before, got_cases, got_last, take_more, take_own}
-use Rattle.rd_pending.proofs.Sound.{IsSlotOf, IsTracked, IsWithin, Sound, alike_before, course, heard_none, held, outcome_behind, outcome_quiet, own_slot}
+use Rattle.rd_pending.proofs.Sound.{IsSlotOf, IsTracked, IsWithin, Sound, alike_before, course, heard_none, held, outcome_after, outcome_quiet, own_slot}
 use Rattle.rd_pending.proofs.Steps.{still_of, tracked_same}
 
 within_submits : (x : ℕ) (named : Target) (o : Op) (h : List Call) → IsWithin (submits x named o) h
@@ -43,7 +44,7 @@ submits_sound x named o h s fits free_one = subst (λ (y : TableState). Sound y 
   shut = s.shut;
   lives = λ c e. let old = s.lives c e in rw (same_heard c) old;
   balanced = λ c e d i. more c d i ∙ balanced_new c e d i;
-  of_slot = λ j y e. placed j y e (same_or_other j id);
+  of_slot = λ j y e. placed j y e (cases_eq j id);
   requests = λ n a is. elim (got_cases (accepted_in h) n own a is) [
     | inl old ↦ tracked_old n a old
     | inr (last, same) ↦ subst (λ (m : ℕ). IsTracked new (submits x named o ∷ h) m a) (sym last) (subst (IsTracked new (submits x named o ∷ h) (length (accepted_in h))) (sym same) tracked_new)
@@ -101,15 +102,15 @@ submits_sound x named o h s fits free_one = subst (λ (y : TableState). Sound y 
     same_heard : (c : ℕ) → heard_on c (submits x named o ∷ h) ≡ heard_on c h
     same_heard c = heard_none (submits x named o) h c refl
 
-    more : (c d i : ℕ) → pairs c d i (accepted_in h ++ own ∷ []) ≡ pairs c d i (accepted_in h) + cond (asks_pair c d i own) 1 0
+    more : (c d i : ℕ) → pairs c d i (accepted_in h ++ own ∷ []) ≡ pairs c d i (accepted_in h) + cond (is_accepted_as c d i own) 1 0
     more c d i = more_pairs c d i (accepted_in h) own
 
     zero_more : (n : ℕ) → n ≡ 0 → n + 0 ≡ 0
     zero_more n e = omega (arith, e)
 
-    placed : (j : ℕ) (y : Slot) → slot_at new j ≡ Some y → (j ≡ id) ⊎ (j ≢ id) → IsSlotOf new (submits x named o ∷ h) j y
+    placed : (j : ℕ) (y : Slot) → slot_for new j ≡ Some y → (j ≡ id) ⊎ (j ≢ id) → IsSlotOf new (submits x named o ∷ h) j y
     placed j y e (inl same) =
-        let at : slot_at new j ≡ Some slot = subst (λ (k : ℕ). slot_at new k ≡ Some slot) (sym same) (inserted id slot t.slots) in
+        let at : slot_for new j ≡ Some slot = subst (λ (k : ℕ). slot_for new k ≡ Some slot) (sym same) (inserted id slot t.slots) in
         let is : slot ≡ y = cc (at, e) in
         subst (IsSlotOf new (submits x named o ∷ h) j) is (record {
           before = length (accepted_in h);
@@ -125,17 +126,17 @@ submits_sound x named o h s fits free_one = subst (λ (y : TableState). Sound y 
         let old = s.of_slot j y (sym (beside id slot j other t.slots) ∙ e) in
         record { before = old.before; numbered = old.numbered; request = old.request; is = got_before (accepted_in h) (own ∷ []) old.before old.request old.is; channel = old.channel; device = old.device; own_id = old.own_id; kind = old.kind }
 
-    other_channel : (c d i : ℕ) → t.below ≤ c → asks_pair c d i own ≡ false
+    other_channel : (c d i : ℕ) → t.below ≤ c → is_accepted_as c d i own ≡ false
     other_channel c d i le =
         let under : c0 < t.below = s.below c0 effect.is_open in
         let apart : (own.channel == c) ≡ false = ne_eqb own.channel c (λ same. omega (arith, under, le, same, own_channel)) in
         rw apart refl
 
-    balanced_new : (c : ℕ) → t.channel ≡ Some c → (d i : ℕ) → pairs c d i (accepted_in h) + cond (asks_pair c d i own) 1 0 ≡ heard_pairs d i (course c (submits x named o ∷ h)) + held (slot_at new i) d
-    balanced_new c e d i = rw (same_heard c, s.balanced c e d i) (elim (same_or_other i id) [
+    balanced_new : (c : ℕ) → t.channel ≡ Some c → (d i : ℕ) → pairs c d i (accepted_in h) + cond (is_accepted_as c d i own) 1 0 ≡ heard_pairs d i (course c (submits x named o ∷ h)) + held (slot_for new i) d
+    balanced_new c e d i = rw (same_heard c, s.balanced c e d i) (elim (cases_eq i id) [
       | inl same ↦
-          let there : slot_at new i ≡ Some slot = subst (λ (k : ℕ). lookup (is_at (nat_cmp k)) (insert_entry nat_cmp t.slots id slot) ≡ Some slot) (sym same) (inserted id slot t.slots) in
-          let none : slot_at t i ≡ None = subst (λ (k : ℕ). lookup (is_at (nat_cmp k)) t.slots ≡ None) (sym same) is_free in
+          let there : slot_for new i ≡ Some slot = subst (λ (k : ℕ). lookup (is_at (nat_cmp k)) (insert_entry nat_cmp t.slots id slot) ≡ Some slot) (sym same) (inserted id slot t.slots) in
+          let none : slot_for t i ≡ None = subst (λ (k : ℕ). lookup (is_at (nat_cmp k)) t.slots ≡ None) (sym same) is_free in
           rw (there, none, test_here c e d i same) (go (device_in named == d) (heard_pairs d i (course c h)))
       | inr other ↦ rw (beside id slot i other t.slots, test_else c d i other) (omega arith)
     ])
@@ -144,7 +145,7 @@ submits_sound x named o h s fits free_one = subst (λ (y : TableState). Sound y 
         go true n = omega arith
         go false n = omega arith
 
-        test_here : (c : ℕ) → t.channel ≡ Some c → (d i : ℕ) → i ≡ id → asks_pair c d i own ≡ (device_in named == d)
+        test_here : (c : ℕ) → t.channel ≡ Some c → (d i : ℕ) → i ≡ id → is_accepted_as c d i own ≡ (device_in named == d)
         test_here c e d i same =
             let channels : c0 ≡ c = cc (effect.is_open, e) in
             rw (eq-eqb own.channel c (own_channel ∙ channels), eq-eqb id i (sym same)) (both (device_in named == d))
@@ -153,7 +154,7 @@ submits_sound x named o h s fits free_one = subst (λ (y : TableState). Sound y 
             both true = refl
             both false = refl
 
-        test_else : (c d i : ℕ) → i ≢ id → asks_pair c d i own ≡ false
+        test_else : (c d i : ℕ) → i ≢ id → is_accepted_as c d i own ≡ false
         test_else c d i other = rw (ne_eqb id i (λ same. other (sym same))) (none (own.channel == c) (device_in named == d))
           where
             none : (a b : Bool) → (a && (b && false)) ≡ false
@@ -170,15 +171,15 @@ submits_sound x named o h s fits free_one = subst (λ (y : TableState). Sound y 
         let same_waits : awaits new (suc n) ≡ awaits t (suc n) = ap (λ (u : Option Untaken). is_waiting (option_map fate_of u)) same in
         record {
           below = was.below;
-          agrees = subst (λ (m : ℕ). Agrees (fate_at new (suc n)) (outcome_behind m a (submits x named o ∷ h))) (sym m_same)
-              (subst (λ (f : Option Fate). Agrees f (outcome_behind (alike_before (take n (accepted_in h)) a) a (submits x named o ∷ h))) (sym (ap (option_map fate_of) same))
+          agrees = subst (λ (m : ℕ). Agrees (fate_at new (suc n)) (outcome_after m a (submits x named o ∷ h))) (sym m_same)
+              (subst (λ (f : Option Fate). Agrees f (outcome_after (alike_before (take n (accepted_in h)) a) a (submits x named o ∷ h))) (sym (ap (option_map fate_of) same))
               (subst (Agrees (fate_at t (suc n))) (sym (outcome_quiet (submits x named o) h (alike_before (take n (accepted_in h)) a) a (within_submits x named o h) refl)) was.agrees));
           named = λ u e. was.named u (sym same ∙ e);
           alive = λ none. was.alive (sym same_waits ∙ none);
           last = λ none.
               let waits : awaits t (suc n) ≡ true = sym same_waits ∙ none in
               let other : a.id ≢ id = λ there. cc (subst (λ (k : ℕ). lookup (is_at (nat_cmp k)) t.slots ≡ Some (record { number = suc n; device = a.device; kind = kind_of a.op; dead = false })) there (own_slot t h n a s is waits).1, is_free) in
-              let apart : asks_pair a.channel a.device a.id own ≡ false = rw (ne_eqb id a.id (λ there. other (sym there))) (no_pair (own.channel == a.channel) (device_in named == a.device)) in
+              let apart : is_accepted_as a.channel a.device a.id own ≡ false = rw (ne_eqb id a.id (λ there. other (sym there))) (no_pair (own.channel == a.channel) (device_in named == a.device)) in
               more a.channel a.device a.id ∙ ap (λ (b : Bool). alike_before (accepted_in h) a + cond b 1 0) apart ∙ plus_none (alike_before (accepted_in h) a) ∙ was.last waits ∙ ap suc (sym m_same);
         }
       where
@@ -194,8 +195,8 @@ submits_sound x named o h s fits free_one = subst (λ (y : TableState). Sound y 
     tracked_new : IsTracked new (submits x named o ∷ h) (length (accepted_in h)) own
     tracked_new = record {
       below = let under : c0 < t.below = s.below c0 effect.is_open in omega (arith, under, own_channel);
-      agrees = subst (λ (f : Option Fate). Agrees f (outcome_behind (alike_before (take (length (accepted_in h)) (accepted_in h ++ own ∷ [])) own) own (submits x named o ∷ h))) (sym (ap (option_map fate_of) at_place))
-          (subst (λ (m : ℕ). outcome_behind m own (submits x named o ∷ h) ≡ None) (sym m_is) (quiet ∙ nothing));
+      agrees = subst (λ (f : Option Fate). Agrees f (outcome_after (alike_before (take (length (accepted_in h)) (accepted_in h ++ own ∷ [])) own) own (submits x named o ∷ h))) (sym (ap (option_map fate_of) at_place))
+          (subst (λ (m : ℕ). outcome_after m own (submits x named o ∷ h) ≡ None) (sym m_is) (quiet ∙ nothing));
       named = λ u e. let is : kept_own ≡ u = cc (at_place, e) in (ap (λ (v : Untaken). v.device) (sym is), ap (λ (v : Untaken). v.life) (sym is));
       alive = λ none. effect.present ∙ ap Some (sym own_life);
       last = λ none. more own.channel own.device own.id ∙ ap (λ (b : Bool). m + cond b 1 0) own_pair ∙ plus_one m ∙ ap suc (sym m_is);
@@ -213,16 +214,16 @@ submits_sound x named o h s fits free_one = subst (λ (y : TableState). Sound y 
         plus_one : (n : ℕ) → n + 1 ≡ suc n
         plus_one n = omega arith
 
-        own_pair : asks_pair own.channel own.device own.id own ≡ true
+        own_pair : is_accepted_as own.channel own.device own.id own ≡ true
         own_pair = rw (eq-eqb own.channel own.channel refl, eq-eqb own.device own.device refl, eq-eqb id id refl) refl
 
-        quiet : outcome_behind m own (submits x named o ∷ h) ≡ outcome_behind m own h
+        quiet : outcome_after m own (submits x named o ∷ h) ≡ outcome_after m own h
         quiet = outcome_quiet (submits x named o) h m own (within_submits x named o h) refl
 
         few : heard_pairs own.device own.id (course own.channel h) ≤ m
         few =
-            let even : m ≡ heard_pairs own.device own.id (course own.channel h) + held (slot_at t id) own.device = s.balanced own.channel own_open own.device own.id in
-            let none : held (slot_at t id) own.device ≡ 0 = rw is_free refl in
+            let even : m ≡ heard_pairs own.device own.id (course own.channel h) + held (slot_for t id) own.device = s.balanced own.channel own_open own.device own.id in
+            let none : held (slot_for t id) own.device ≡ 0 = rw is_free refl in
             omega (arith, even, none)
 
         goes_on : lookup (is_at (nat_cmp own.device)) (course own.channel h).lives ≡ Some own.life
@@ -231,7 +232,7 @@ submits_sound x named o h s fits free_one = subst (λ (y : TableState). Sound y 
         ends_none : ended_in own m (course_from (lives_before own.channel h)) (heard_on own.channel h) ≡ None
         ends_none = none_yet own m (course_from (lives_before own.channel h)) (heard_on own.channel h) (course_begins (lives_before own.channel h)) few goes_on
 
-        nothing : outcome_behind m own h ≡ None
+        nothing : outcome_after m own h ≡ None
         nothing = rw (ends_none, s.shut own.channel own_open) refl
 
 -- ---- a message is handed out

@@ -9,17 +9,19 @@ use Rattle.std.specs.BTreeMap.{is_at}
 use Rattle.std.proofs.lemmas.List.Elements.{All-nil, All-push}
 use Rattle.std.proofs.lemmas.Map.{keys-set_value}
 use Rattle.std.proofs.lemmas.Map.Made.{keys_of-map_values, lookup-map_values}
+use Rattle.std.proofs.lemmas.Bool.{cases_eq}
 use Rattle.rd_base.specs.declared.journal.Cause.{Cause}
 use Rattle.rd_base.specs.declared.journal.Cause.TheVariants.{Removed, Dropped}
+use Rattle.rd_base.specs.Limits.{max_devices}
 use Rattle.rd_chunk.specs.Carrier.{IsMessage}
 use Rattle.rd_irp.specs.declared.op.Op.{Op}
 use Rattle.rd_irp.specs.Fits.{kind_of, Fits}
 use Rattle.rd_pending.specs.declared.calls.Outcome.{Outcome}
 use Rattle.rd_pending.specs.declared.calls.Outcome.TheVariants.{Done, Lost}
 use Rattle.rd_pending.specs.declared.calls.Target.{Target}
-use Rattle.rd_pending.specs.Table.{AreSlots, Fate, HasSlot, IsSlotIn, Slot, TableState, Untaken, accept, awaited, awaits, dead_of, device_in, drop_channel, fate_at, file_in, freed, is_awaited, known, life_of, losing, mark_of, max_devices, max_slots, next_id, slot_at, untaken_at}
+use Rattle.rd_pending.specs.Table.{AreSlots, Fate, HasSlot, IsSlotIn, Slot, TableState, Untaken, accept, awaited, awaits, dead_of, device_in, drop_channel, fate_at, file_in, freed, is_awaited, known, life_of, losing, mark_of, max_slots, next_id, slot_for, untaken_at}
 use Rattle.rd_pending.proofs.FateLemmas.{fate_of, is_waiting, kept_known, lost, lost_at, lost_keys, still_awaited}
-use Rattle.rd_pending.proofs.MapLemmas.{beside, gone, inserted, kept, rises_with, rises_without, same_or_other, set_beside, set_here}
+use Rattle.rd_pending.proofs.MapLemmas.{beside, gone, inserted, kept, rises_with, rises_without, set_beside, set_here}
 use Rattle.rd_pending.proofs.MessageLemmas.{request_message}
 
 -- ---- what is there
@@ -29,12 +31,12 @@ some_of f None y e = absurd (cc)
 some_of f (Some x) y e = let same : f x ≡ y = cc in (x, refl, same)
 
 -- a slot of a number that is awaited has its device
-pub own_device : (t : TableState) (id : ℕ) (x : Slot) (u : Untaken) → AreSlots t → slot_at t id ≡ Some x → untaken_at t x.number ≡ Some u → is_awaited u.fate ≡ true → x.device ≡ u.device
+pub own_device : (t : TableState) (id : ℕ) (x : Slot) (u : Untaken) → AreSlots t → slot_for t id ≡ Some x → untaken_at t x.number ≡ Some u → is_awaited u.fate ≡ true → x.device ≡ u.device
 own_device t id x u s held is none =
     let its = s.of_awaited x.number u is none in
     let slot : Slot = record { number = x.number; device = u.device; kind = its.kind; dead = false } in
     let here : id ≡ its.id = s.apart id its.id x slot held its.held refl in
-    let same : x ≡ slot = cc (subst (λ (k : ℕ). slot_at t k ≡ Some x) here held, its.held) in
+    let same : x ≡ slot = cc (subst (λ (k : ℕ). slot_for t k ≡ Some x) here held, its.held) in
     ap (λ (y : Slot). y.device) same
 
 -- ---- each call
@@ -56,7 +58,7 @@ same_slots t new s slots untaken count few messages closed = record {
   closed = closed;
 }
   where
-    at_slot : (id : ℕ) → slot_at t id ≡ slot_at new id
+    at_slot : (id : ℕ) → slot_for t id ≡ slot_for new id
     at_slot id = ap (λ (es : List (ℕ × Slot)). lookup (is_at (nat_cmp id)) es) (sym slots)
 
     at_number : (n : ℕ) → untaken_at new n ≡ untaken_at t n
@@ -77,10 +79,10 @@ accepted_slots t named o c s fits is_open is_free low = record {
   rising = rises_with id slot t.slots s.rising;
   untaken_rising = rises_with number own t.untaken s.untaken_rising;
   few_lives = s.few_lives;
-  of_slot = λ j x e. placed j x e (same_or_other j id);
-  apart = λ i j x y e e2 same. one_each i j x y e e2 same (same_or_other i id) (same_or_other j id);
-  numbers = λ n u e. given n u e (same_or_other n number);
-  of_awaited = λ n u e none. waited n u e none (same_or_other n number);
+  of_slot = λ j x e. placed j x e (cases_eq j id);
+  apart = λ i j x y e e2 same. one_each i j x y e e2 same (cases_eq i id) (cases_eq j id);
+  numbers = λ n u e. given n u e (cases_eq n number);
+  of_awaited = λ n u e none. waited n u e none (cases_eq n number);
   messages = All-push IsMessage t.outbox _ s.messages (request_message (record { device = device_in named; file = file_in named; completion = id; op = o }) fits);
   closed = λ shut. absurd (cc (shut, is_open));
 }
@@ -106,16 +108,16 @@ accepted_slots t named o c s fits is_open is_free low = record {
     at_own : untaken_at new number ≡ Some own
     at_own = inserted number own t.untaken
 
-    slot_own : slot_at new id ≡ Some slot
+    slot_own : slot_for new id ≡ Some slot
     slot_own = inserted id slot t.slots
 
-    slot_else : (j : ℕ) → j ≢ id → slot_at new j ≡ slot_at t j
+    slot_else : (j : ℕ) → j ≢ id → slot_for new j ≡ slot_for t j
     slot_else j other = beside id slot j other t.slots
 
-    here : (j : ℕ) (x : Slot) → slot_at new j ≡ Some x → j ≡ id → slot ≡ x
-    here j x e same = let at : slot_at new j ≡ Some slot = subst (λ (k : ℕ). slot_at new k ≡ Some slot) (sym same) slot_own in cc (at, e)
+    here : (j : ℕ) (x : Slot) → slot_for new j ≡ Some x → j ≡ id → slot ≡ x
+    here j x e same = let at : slot_for new j ≡ Some slot = subst (λ (k : ℕ). slot_for new k ≡ Some slot) (sym same) slot_own in cc (at, e)
 
-    placed : (j : ℕ) (x : Slot) → slot_at new j ≡ Some x → (j ≡ id) ⊎ (j ≢ id) → IsSlotIn new j x
+    placed : (j : ℕ) (x : Slot) → slot_for new j ≡ Some x → (j ≡ id) ⊎ (j ≢ id) → IsSlotIn new j x
     placed j x e (inl same) = subst (IsSlotIn new j) (here j x e same) (record {
       low = subst (λ (k : ℕ). k < max_slots) (sym same) low;
       given = (omega arith, omega arith);
@@ -131,10 +133,10 @@ accepted_slots t named o c s fits is_open is_free low = record {
         }
 
     -- an earlier slot has an earlier number
-    lower : (j : ℕ) (x : Slot) → slot_at new j ≡ Some x → j ≢ id → x.number ≤ t.count
+    lower : (j : ℕ) (x : Slot) → slot_for new j ≡ Some x → j ≢ id → x.number ≤ t.count
     lower j x e other = (s.of_slot j x (sym (slot_else j other) ∙ e)).given.1
 
-    one_each : (i j : ℕ) (x y : Slot) → slot_at new i ≡ Some x → slot_at new j ≡ Some y → x.number ≡ y.number → (i ≡ id) ⊎ (i ≢ id) → (j ≡ id) ⊎ (j ≢ id) → i ≡ j
+    one_each : (i j : ℕ) (x y : Slot) → slot_for new i ≡ Some x → slot_for new j ≡ Some y → x.number ≡ y.number → (i ≡ id) ⊎ (i ≢ id) → (j ≡ id) ⊎ (j ≢ id) → i ≡ j
     one_each i j x y e e2 same (inl p) (inl q) = p ∙ sym q
     one_each i j x y e e2 same (inl p) (inr q) =
         let first : number ≡ x.number = ap (λ (z : Slot). z.number) (here i x e p) in
@@ -155,11 +157,11 @@ accepted_slots t named o c s fits is_open is_free low = record {
         subst (λ (k : ℕ). HasSlot new k u) (sym same) (subst (HasSlot new number) is (record { id = id; kind = kind_of o; held = slot_own }))
     waited n u e none (inr other) =
         let old = s.of_awaited n u (sym (at_else n other) ∙ e) none in
-        let elsewhere : old.id ≢ id = λ same. cc (subst (λ (k : ℕ). slot_at t k ≡ Some (record { number = n; device = u.device; kind = old.kind; dead = false })) same old.held, is_free) in
+        let elsewhere : old.id ≢ id = λ same. cc (subst (λ (k : ℕ). slot_for t k ≡ Some (record { number = n; device = u.device; kind = old.kind; dead = false })) same old.held, is_free) in
         record { id = old.id; kind = old.kind; held = slot_else old.id elsewhere ∙ old.held }
 
 -- a slot becomes free, which is dead
-pub freed_slots : (t : TableState) (id : ℕ) (slot : Slot) → AreSlots t → slot_at t id ≡ Some slot → slot.dead ≡ true → AreSlots (freed t id)
+pub freed_slots : (t : TableState) (id : ℕ) (slot : Slot) → AreSlots t → slot_for t id ≡ Some slot → slot.dead ≡ true → AreSlots (freed t id)
 freed_slots t id slot s held dead = record {
   rising = rises_without (is_at (nat_cmp id)) t.slots s.rising;
   untaken_rising = s.untaken_rising;
@@ -170,21 +172,21 @@ freed_slots t id slot s held dead = record {
   of_awaited = λ n u e none.
       let old = s.of_awaited n u e none in
       let other : old.id ≢ id = λ same.
-      let is : slot ≡ record { number = n; device = u.device; kind = old.kind; dead = false } = cc (subst (λ (k : ℕ). slot_at t k ≡ Some (record { number = n; device = u.device; kind = old.kind; dead = false })) same old.held, held) in
+      let is : slot ≡ record { number = n; device = u.device; kind = old.kind; dead = false } = cc (subst (λ (k : ℕ). slot_for t k ≡ Some (record { number = n; device = u.device; kind = old.kind; dead = false })) same old.held, held) in
       cc (ap (λ (x : Slot). x.dead) is, dead) in
       record { id = old.id; kind = old.kind; held = kept id old.id other t.slots ∙ old.held };
   messages = s.messages;
   closed = λ shut. let was = s.closed shut in (ap (λ (es : List (ℕ × Slot)). remove_entry (is_at (nat_cmp id)) es) was.0, was.1, was.2, was.3);
 }
   where
-    before : (j : ℕ) (x : Slot) → slot_at (freed t id) j ≡ Some x → slot_at t j ≡ Some x
-    before j x e = elim (same_or_other j id) [
-      | inl same ↦ let none : slot_at (freed t id) j ≡ None = subst (λ (k : ℕ). slot_at (freed t id) k ≡ None) (sym same) (gone id t.slots s.rising) in absurd (cc (none, e))
+    before : (j : ℕ) (x : Slot) → slot_for (freed t id) j ≡ Some x → slot_for t j ≡ Some x
+    before j x e = elim (cases_eq j id) [
+      | inl same ↦ let none : slot_for (freed t id) j ≡ None = subst (λ (k : ℕ). slot_for (freed t id) k ≡ None) (sym same) (gone id t.slots s.rising) in absurd (cc (none, e))
       | inr other ↦ sym (kept id j other t.slots) ∙ e
     ]
 
 -- a slot becomes free whose request is done
-pub done_slots : (t : TableState) (id : ℕ) (slot : Slot) (u : Untaken) (o : Outcome) → AreSlots t → slot_at t id ≡ Some slot → untaken_at t slot.number ≡ Some u → u.fate ≡ awaited
+pub done_slots : (t : TableState) (id : ℕ) (slot : Slot) (u : Untaken) (o : Outcome) → AreSlots t → slot_for t id ≡ Some slot → untaken_at t slot.number ≡ Some u → u.fate ≡ awaited
     → AreSlots (record (freed t id) { untaken = set_value (is_at (nat_cmp slot.number)) t.untaken (record u { fate = known o }) })
 done_slots t id slot u o s held waits fate = record {
   rising = rises_without (is_at (nat_cmp id)) t.slots s.rising;
@@ -192,12 +194,12 @@ done_slots t id slot u o s held waits fate = record {
   few_lives = s.few_lives;
   of_slot = λ j x e. placed j x e;
   apart = λ i j x y e e2. s.apart i j x y (before i x e).0 (before j y e2).0;
-  numbers = λ n v e. given n v e (same_or_other n slot.number);
-  of_awaited = λ n v e none. waited n v e none (same_or_other n slot.number);
+  numbers = λ n v e. given n v e (cases_eq n slot.number);
+  of_awaited = λ n v e none. waited n v e none (cases_eq n slot.number);
   messages = s.messages;
   closed = λ shut.
       let was = s.closed shut in
-      let none : slot_at t id ≡ None = ap (λ (es : List (ℕ × Slot)). lookup (is_at (nat_cmp id)) es) was.0 in
+      let none : slot_for t id ≡ None = ap (λ (es : List (ℕ × Slot)). lookup (is_at (nat_cmp id)) es) was.0 in
       absurd (cc (none, held));
 }
   where
@@ -210,13 +212,13 @@ done_slots t id slot u o s held waits fate = record {
     at_else : (n : ℕ) → n ≢ slot.number → untaken_at new n ≡ untaken_at t n
     at_else n other = set_beside slot.number n (record u { fate = known o }) other t.untaken
 
-    before : (j : ℕ) (x : Slot) → slot_at new j ≡ Some x → (slot_at t j ≡ Some x) × (j ≢ id)
-    before j x e = elim (same_or_other j id) [
-      | inl same ↦ let none : slot_at new j ≡ None = subst (λ (k : ℕ). slot_at new k ≡ None) (sym same) (gone id t.slots s.rising) in absurd (cc (none, e))
+    before : (j : ℕ) (x : Slot) → slot_for new j ≡ Some x → (slot_for t j ≡ Some x) × (j ≢ id)
+    before j x e = elim (cases_eq j id) [
+      | inl same ↦ let none : slot_for new j ≡ None = subst (λ (k : ℕ). slot_for new k ≡ None) (sym same) (gone id t.slots s.rising) in absurd (cc (none, e))
       | inr other ↦ (sym (kept id j other t.slots) ∙ e, other)
     ]
 
-    placed : (j : ℕ) (x : Slot) → slot_at new j ≡ Some x → IsSlotIn new j x
+    placed : (j : ℕ) (x : Slot) → slot_for new j ≡ Some x → IsSlotIn new j x
     placed j x e =
         let (was, other) = before j x e in
         let old = s.of_slot j x was in
@@ -236,7 +238,7 @@ done_slots t id slot u o s held waits fate = record {
     waited n v e none (inr other) =
         let old = s.of_awaited n v (sym (at_else n other) ∙ e) none in
         let apart : old.id ≢ id = λ same.
-        let is : slot ≡ record { number = n; device = v.device; kind = old.kind; dead = false } = cc (subst (λ (k : ℕ). slot_at t k ≡ Some (record { number = n; device = v.device; kind = old.kind; dead = false })) same old.held, held) in
+        let is : slot ≡ record { number = n; device = v.device; kind = old.kind; dead = false } = cc (subst (λ (k : ℕ). slot_for t k ≡ Some (record { number = n; device = v.device; kind = old.kind; dead = false })) same old.held, held) in
         other (sym (ap (λ (x : Slot). x.number) is)) in
         record { id = old.id; kind = old.kind; held = kept id old.id apart t.slots ∙ old.held }
 
@@ -288,7 +290,7 @@ removed_slots t device lives s few shut_lives = record {
     marked : Slot → Slot
     marked x = cond (x.device == device) (record x { dead = true }) x
 
-    at_slot : (id : ℕ) → slot_at new id ≡ option_map marked (slot_at t id)
+    at_slot : (id : ℕ) → slot_for new id ≡ option_map marked (slot_for t id)
     at_slot id = lookup-map_values marked (is_at (nat_cmp id)) t.slots
 
     at_number : (n : ℕ) → untaken_at new n ≡ option_map (lost test Removed) (untaken_at t n)
@@ -301,13 +303,13 @@ removed_slots t device lives s few shut_lives = record {
         go true = refl
         go false = refl
 
-    before : (id : ℕ) (x : Slot) → slot_at new id ≡ Some x → (y : Slot) × (slot_at t id ≡ Some y) × (marked y ≡ x)
-    before id x e = some_of marked (slot_at t id) x (sym (at_slot id) ∙ e)
+    before : (id : ℕ) (x : Slot) → slot_for new id ≡ Some x → (y : Slot) × (slot_for t id ≡ Some y) × (marked y ≡ x)
+    before id x e = some_of marked (slot_for t id) x (sym (at_slot id) ∙ e)
 
     number_kept : (y x : Slot) → marked y ≡ x → x.number ≡ y.number
     number_kept y x is = ap (λ (z : Slot). z.number) (sym is ∙ is_marked y)
 
-    placed : (id : ℕ) (slot : Slot) → slot_at new id ≡ Some slot → IsSlotIn new id slot
+    placed : (id : ℕ) (slot : Slot) → slot_for new id ≡ Some slot → IsSlotIn new id slot
     placed id slot e =
         let was = before id slot e in
         let old = s.of_slot id was.0 was.1 in
@@ -377,7 +379,7 @@ taken_slots t number u o s is fate = record {
   rising = s.rising;
   untaken_rising = rises_without (is_at (nat_cmp number)) t.untaken s.untaken_rising;
   few_lives = s.few_lives;
-  of_slot = λ id x e. let old = s.of_slot id x e in record { low = old.low; given = old.given; mark = mark x old.mark (same_or_other x.number number) };
+  of_slot = λ id x e. let old = s.of_slot id x e in record { low = old.low; given = old.given; mark = mark x old.mark (cases_eq x.number number) };
   apart = s.apart;
   numbers = λ n v e. s.numbers n v (before n v e).0;
   of_awaited = λ n v e none. let old = s.of_awaited n v (before n v e).0 none in record { id = old.id; kind = old.kind; held = old.held };
@@ -395,7 +397,7 @@ taken_slots t number u o s is fate = record {
     at_else n other = kept number n other t.untaken
 
     before : (n : ℕ) (v : Untaken) → untaken_at new n ≡ Some v → (untaken_at t n ≡ Some v) × (n ≢ number)
-    before n v e = elim (same_or_other n number) [
+    before n v e = elim (cases_eq n number) [
       | inl same ↦ let none : untaken_at new n ≡ None = subst (λ (k : ℕ). untaken_at new k ≡ None) (sym same) at_own in absurd (cc (none, e))
       | inr other ↦ (sym (at_else n other) ∙ e, other)
     ]
@@ -411,7 +413,7 @@ taken_slots t number u o s is fate = record {
         by (Lost cause) m = m
 
     over : (n : ℕ) → awaits t n ≡ false → awaits new n ≡ false
-    over n none = elim (same_or_other n number) [
+    over n none = elim (cases_eq n number) [
       | inl same ↦ ap (λ (p : Option Untaken). is_waiting (option_map fate_of p)) (subst (λ (k : ℕ). untaken_at new k ≡ None) (sym same) at_own)
       | inr other ↦ ap (λ (p : Option Untaken). is_waiting (option_map fate_of p)) (at_else n other) ∙ none
     ]

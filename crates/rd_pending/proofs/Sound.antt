@@ -1,13 +1,14 @@
 -- What holds of a table and its history, and what goes on whatever is called.
-use Rattle.std.proofs.Common.{◌≡◌, ◌∙◌, refl, sym, ap, subst, ℕ, suc, ◌+◌, ◌<◌, ◌≤◌, ◌==◌, Bool, true, false, cond, List, [], ◌∷◌, ◌++◌, length, take, Some, None, Option, append-nil, eq-eqb, eqb-true}
+use Rattle.std.proofs.Common.{◌≡◌, ◌∙◌, refl, sym, ap, subst, ℕ, suc, ◌+◌, ◌<◌, ◌≤◌, ◌==◌, Bool, true, false, cond, List, [], ◌∷◌, ◌++◌, length, take, Some, None, Option, append-nil, eq-eqb, eqb-true, inl, inr}
 use Rattle.std.specs.Prelude.{slice_get}
-use Rattle.std.specs.Option.{option_map}
+use Rattle.std.specs.Option.{option_map, option_or}
+use Rattle.std.proofs.lemmas.Bool.{cases_Bool}
 use Rattle.rd_base.specs.declared.journal.Cause.TheVariants.{Dropped}
 use Rattle.rd_irp.specs.Fits.{kind_of}
 use Rattle.rd_pending.specs.declared.calls.Outcome.{Outcome}
 use Rattle.rd_pending.specs.declared.calls.Outcome.TheVariants.{Lost}
-use Rattle.rd_pending.specs.Outcomes.{Accepted, Agrees, Course, course_from, ended_in, or_else}
-use Rattle.rd_pending.specs.Table.{AreSlots, Slot, TableState, Untaken, awaits, fate_at, is_awaited, life_of, slot_at, untaken_at}
+use Rattle.rd_pending.specs.Outcomes.{Accepted, Agrees, Course, course_from, ended_in}
+use Rattle.rd_pending.specs.Table.{AreSlots, Slot, TableState, Untaken, awaits, fate_at, is_awaited, life_of, slot_for, untaken_at}
 use Rattle.rd_pending.specs.History.{Call, accepted_in, after, ended_on, heard_by, heard_on, is_open_on, lives_before}
 use Rattle.rd_pending.proofs.CountLemmas.{pairs}
 use Rattle.rd_pending.proofs.CourseLemmas.{ended_more, heard_pairs, or_none, through}
@@ -23,9 +24,9 @@ held None d = 0
 held (Some s) d = cond (s.device == d) 1 0
 
 -- what came of a request before which so many have its pair
-abbrev pub outcome_behind : ℕ → Accepted → List Call → Option Outcome
-outcome_behind m a h =
-    or_else (ended_in a m (course_from (lives_before a.channel h)) (heard_on a.channel h)) (cond (ended_on a.channel h) (Some (Lost Dropped)) None)
+abbrev pub outcome_after : ℕ → Accepted → List Call → Option Outcome
+outcome_after m a h =
+    option_or (ended_in a m (course_from (lives_before a.channel h)) (heard_on a.channel h)) (cond (ended_on a.channel h) (Some (Lost Dropped)) None)
 
 -- how many have a request's pair among some
 abbrev pub alike_before : List Accepted → Accepted → ℕ
@@ -42,11 +43,11 @@ pub record IsSlotOf (t : TableState) (h : List Call) (id : ℕ) (slot : Slot) : 
   pub own_id : request.id ≡ id
   pub kind : kind_of request.op ≡ slot.kind
 
--- The request behind so many has what there is of its outcome by what was heard, and the device and life that are kept of it. While it is awaited its
+-- The request after so many has what there is of its outcome by what was heard, and the device and life that are kept of it. While it is awaited its
 -- device's life goes on, and no later one has its pair.
 pub record IsTracked (t : TableState) (h : List Call) (n : ℕ) (a : Accepted) : Type 0 where
   pub below : a.channel < t.below
-  pub agrees : Agrees (fate_at t (suc n)) (outcome_behind (alike_before (take n (accepted_in h)) a) a h)
+  pub agrees : Agrees (fate_at t (suc n)) (outcome_after (alike_before (take n (accepted_in h)) a) a h)
   pub named : (u : Untaken) → untaken_at t (suc n) ≡ Some u → (u.device ≡ a.device) × (u.life ≡ a.life)
   pub alive : awaits t (suc n) ≡ true → life_of t a.device ≡ Some a.life
   pub last : awaits t (suc n) ≡ true → alike_before (accepted_in h) a ≡ suc (alike_before (take n (accepted_in h)) a)
@@ -59,13 +60,13 @@ pub record Sound (t : TableState) (h : List Call) : Type 0 where
   pub fresh : (c : ℕ) → t.below ≤ c → (heard_on c h ≡ []) × (ended_on c h ≡ false) × ((d i : ℕ) → pairs c d i (accepted_in h) ≡ 0)
   pub shut : (c : ℕ) → t.channel ≡ Some c → ended_on c h ≡ false
   pub lives : (c : ℕ) → t.channel ≡ Some c → ((course c h).lives ≡ t.lives) × ((course c h).given ≡ t.given)
-  pub balanced : (c : ℕ) → t.channel ≡ Some c → (d i : ℕ) → pairs c d i (accepted_in h) ≡ heard_pairs d i (course c h) + held (slot_at t i) d
-  pub of_slot : (id : ℕ) (slot : Slot) → slot_at t id ≡ Some slot → IsSlotOf t h id slot
+  pub balanced : (c : ℕ) → t.channel ≡ Some c → (d i : ℕ) → pairs c d i (accepted_in h) ≡ heard_pairs d i (course c h) + held (slot_for t i) d
+  pub of_slot : (id : ℕ) (slot : Slot) → slot_for t id ≡ Some slot → IsSlotOf t h id slot
   pub requests : (n : ℕ) (a : Accepted) → slice_get (accepted_in h) n ≡ Some a → IsTracked t h n a
 
 -- a request that is awaited is one of the open channel, and has its slot there
 pub own_slot : (t : TableState) (h : List Call) (n : ℕ) (a : Accepted) → Sound t h → slice_get (accepted_in h) n ≡ Some a → awaits t (suc n) ≡ true
-    → (t.channel ≡ Some a.channel) × (slot_at t a.id ≡ Some (record { number = suc n; device = a.device; kind = kind_of a.op; dead = false }))
+    → (t.channel ≡ Some a.channel) × (slot_for t a.id ≡ Some (record { number = suc n; device = a.device; kind = kind_of a.op; dead = false }))
 own_slot t h n a s is none =
     let waits = waiting (untaken_at t (suc n)) none in
     let its = s.slots.of_awaited (suc n) waits.one waits.is (ap is_awaited waits.fate) in
@@ -77,7 +78,7 @@ own_slot t h n a s is none =
     let kind : its.kind ≡ kind_of a.op = sym own.kind ∙ ap (λ (b : Accepted). kind_of b.op) same in
     let id : its.id ≡ a.id = sym own.own_id ∙ ap (λ (b : Accepted). b.id) same in (
       own.channel ∙ ap (λ (b : Accepted). Some b.channel) same,
-      subst (λ (k : ℕ). slot_at t k ≡ Some (record { number = suc n; device = a.device; kind = kind_of a.op; dead = false })) id
+      subst (λ (k : ℕ). slot_for t k ≡ Some (record { number = suc n; device = a.device; kind = kind_of a.op; dead = false })) id
           (its.held ∙ rw (device, kind) refl),
     )
 
@@ -85,7 +86,7 @@ pub opens : (t : TableState) (h : List Call) (n : ℕ) (a : Accepted) → Sound 
 opens t h n a s is none = (own_slot t h n a s is none).0
 
 -- a slot that isn't dead is of a request that is awaited
-pub slot_waits : (t : TableState) (id : ℕ) (slot : Slot) → AreSlots t → slot_at t id ≡ Some slot → slot.dead ≡ false → awaits t slot.number ≡ true
+pub slot_waits : (t : TableState) (id : ℕ) (slot : Slot) → AreSlots t → slot_for t id ≡ Some slot → slot.dead ≡ false → awaits t slot.number ≡ true
 slot_waits t id slot s held alive =
     let waits = live_waits (untaken_at t slot.number) ((s.of_slot id slot held).mark ∙ ap Some alive) in
     ap (λ (o : Option Untaken). is_waiting (option_map fate_of o)) waits.is ∙ ap is_awaited waits.fate
@@ -123,27 +124,26 @@ pub record IsWithin (call : Call) (h : List Call) : Type 0 where
   pub ended : (c : ℕ) → ended_on c (call ∷ h) ≡ ended_on c h
 
 pub outcome_open : (call : Call) (h : List Call) (m : ℕ) (a : Accepted) → IsWithin call h → (after h).channel ≡ Some a.channel → ended_on a.channel h ≡ false
-    → outcome_behind m a (call ∷ h) ≡ or_else (outcome_behind m a h) (ended_in a m (course a.channel h) (heard_by call))
+    → outcome_after m a (call ∷ h) ≡ option_or (outcome_after m a h) (ended_in a m (course a.channel h) (heard_by call))
 outcome_open call h m a within is_open_one running =
     rw (within.lives a.channel, within.ended a.channel, running, heard_open call h a.channel is_open_one)
     (or_none (ended_in a m (course_from (lives_before a.channel h)) (heard_on a.channel h ++ heard_by call))
     ∙ ended_more a m (course_from (lives_before a.channel h)) (heard_on a.channel h) (heard_by call)
-    ∙ ap (λ (o : Option Outcome). or_else o (ended_in a m (course a.channel h) (heard_by call))) (sym (or_none (ended_in a m (course_from (lives_before a.channel h)) (heard_on a.channel h)))))
+    ∙ ap (λ (o : Option Outcome). option_or o (ended_in a m (course a.channel h) (heard_by call))) (sym (or_none (ended_in a m (course_from (lives_before a.channel h)) (heard_on a.channel h)))))
 
 pub outcome_else : (call : Call) (h : List Call) (m : ℕ) (a : Accepted) → IsWithin call h → is_open_on (after h) a.channel ≡ false
-    → outcome_behind m a (call ∷ h) ≡ outcome_behind m a h
+    → outcome_after m a (call ∷ h) ≡ outcome_after m a h
 outcome_else call h m a within elsewhere = rw (within.lives a.channel, within.ended a.channel, heard_else call h a.channel elsewhere) refl
 
-pub outcome_quiet : (call : Call) (h : List Call) (m : ℕ) (a : Accepted) → IsWithin call h → heard_by call ≡ [] → outcome_behind m a (call ∷ h) ≡ outcome_behind m a h
+pub outcome_quiet : (call : Call) (h : List Call) (m : ℕ) (a : Accepted) → IsWithin call h → heard_by call ≡ [] → outcome_after m a (call ∷ h) ≡ outcome_after m a h
 outcome_quiet call h m a within none = rw (within.lives a.channel, within.ended a.channel, heard_none call h a.channel none) refl
 
 -- an outcome stays
 pub outcome_stays : (call : Call) (h : List Call) (m : ℕ) (a : Accepted) (o : Outcome) → IsWithin call h → ((after h).channel ≡ Some a.channel → ended_on a.channel h ≡ false)
-    → outcome_behind m a h ≡ Some o → outcome_behind m a (call ∷ h) ≡ Some o
-outcome_stays call h m a o within running known_one = go (is_open_on (after h) a.channel) refl
-  where
-    go : (b : Bool) → is_open_on (after h) a.channel ≡ b → outcome_behind m a (call ∷ h) ≡ Some o
-    go true e =
-        let open_one = is_open (after h) a.channel e in
-        outcome_open call h m a within open_one (running open_one) ∙ ap (λ (x : Option Outcome). or_else x (ended_in a m (course a.channel h) (heard_by call))) known_one
-    go false e = outcome_else call h m a within e ∙ known_one
+    → outcome_after m a h ≡ Some o → outcome_after m a (call ∷ h) ≡ Some o
+outcome_stays call h m a o within running known_one = elim (cases_Bool (is_open_on (after h) a.channel)) [
+  | inl e ↦
+      let open_one = is_open (after h) a.channel e in
+      outcome_open call h m a within open_one (running open_one) ∙ ap (λ (x : Option Outcome). option_or x (ended_in a m (course a.channel h) (heard_by call))) known_one
+  | inr e ↦ outcome_else call h m a within e ∙ known_one
+]

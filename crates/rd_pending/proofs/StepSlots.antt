@@ -6,6 +6,7 @@ use Rattle.std.specs.Ordering.{nat_cmp}
 use Rattle.std.specs.Map.{remove_entry}
 use Rattle.std.specs.BTreeMap.{insert_entry, is_at}
 use Rattle.std.proofs.lemmas.List.Elements.{All-nil, All-rest}
+use Rattle.rd_base.specs.Limits.{max_devices}
 use Rattle.rd_chunk.specs.Carrier.{IsMessage}
 use Rattle.rd_irp.specs.declared.completion.Head.{Head}
 use Rattle.rd_irp.specs.declared.op.Op.{Op}
@@ -19,7 +20,7 @@ use Rattle.rd_pending.specs.declared.calls.SubmitNo.{SubmitNo}
 use Rattle.rd_pending.specs.declared.calls.SubmitNo.TheVariants as submit_no
 use Rattle.rd_pending.specs.declared.calls.Target.{Target}
 use Rattle.rd_pending.specs.Table as table
-use Rattle.rd_pending.specs.Table.{AreSlots, Fate, Slot, TableCall, TableState, TableStep, Untaken, awaited, begin, begins, begins_unfit, complete, completes, drop_channel, drop_sent, drops, drops_sent, freed, known, live, live_refusal, lives, max_devices, max_slots, new_table, next_id, remove, removes, send, sends, stages, submit, submit_refusal, submits, submits_unfit, take, takes, untaken_at, with_fate}
+use Rattle.rd_pending.specs.Table.{AreSlots, Fate, Slot, TableCall, TableState, TableStep, Untaken, awaited, begin, begins, begins_unfit, complete, completes, drop_channel, drop_sent, drops, drops_sent, freed, known, live, live_refusal, lives, max_slots, new_table, next_id, remove, removes, send, sends, stages, submit, submit_refusal, submits, submits_unfit, take, takes, untaken_at, with_fate}
 use Rattle.rd_pending.proofs.Effects as effects
 use Rattle.rd_pending.proofs.FateLemmas.{Waits, fate_set, live_waits}
 use Rattle.rd_pending.proofs.MapLemmas.{free, free_within, one_longer, one_shorter}

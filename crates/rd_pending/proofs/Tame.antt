@@ -11,9 +11,9 @@ use Rattle.rd_irp.specs.Completion.{completion_body}
 use Rattle.rd_pending.specs.declared.calls.LiveNo.{LiveNo}
 use Rattle.rd_pending.specs.History as call
 use Rattle.rd_pending.specs.History.{Call, accepted_in, after}
-use Rattle.rd_pending.specs.Outcomes.{Accepted, asks_pair}
+use Rattle.rd_pending.specs.Outcomes.{Accepted, is_accepted_as}
 use Rattle.rd_pending.specs.Table as table
-use Rattle.rd_pending.specs.Table.{Fate, Slot, TableState, Untaken, awaited, freed, known, live_refusal, slot_at, untaken_at, with_fate}
+use Rattle.rd_pending.specs.Table.{Fate, Slot, TableState, Untaken, awaited, freed, known, live_refusal, slot_for, untaken_at, with_fate}
 use Rattle.rd_pending.proofs.CountLemmas.{pairs}
 use Rattle.rd_pending.proofs.Effects as effects
 
@@ -60,25 +60,25 @@ tame_take t n = go (untaken_at t n) refl
     go (Some u) e = by_fate u e u.fate refl
 
 pub tame_complete : (t : TableState) (head : Head) (bytes : List ℕ) → Tame t (table.complete t head bytes).0
-tame_complete t head bytes = go (slot_at t head.completion) refl
+tame_complete t head bytes = go (slot_for t head.completion) refl
   where
     free_one : Tame t (freed t head.completion)
     free_one = record { outbox = refl; asked = refl; channel = refl }
 
-    reads : (slot : Slot) → slot_at t head.completion ≡ Some slot → (slot.device == head.device) ≡ true → slot.dead ≡ false → (r : Result (Body × Position) Bad)
+    reads : (slot : Slot) → slot_for t head.completion ≡ Some slot → (slot.device == head.device) ≡ true → slot.dead ≡ false → (r : Result (Body × Position) Bad)
         → met (completion_body slot.kind head.status) (at_start bytes) ≡ r → Tame t (table.complete t head bytes).0
     reads slot e same alive (Err bad) e2 = rw (e, same, alive, e2) (tame_same t)
     reads slot e same alive (Ok read) e2 = rw (e, same, alive, e2) (tame_then t (freed t head.completion) _ free_one (tame_fate (freed t head.completion) slot.number _))
 
-    by_mark : (slot : Slot) → slot_at t head.completion ≡ Some slot → (slot.device == head.device) ≡ true → (b : Bool) → slot.dead ≡ b → Tame t (table.complete t head bytes).0
+    by_mark : (slot : Slot) → slot_for t head.completion ≡ Some slot → (slot.device == head.device) ≡ true → (b : Bool) → slot.dead ≡ b → Tame t (table.complete t head bytes).0
     by_mark slot e same true dead = rw (e, same, dead) free_one
     by_mark slot e same false alive = reads slot e same alive (met (completion_body slot.kind head.status) (at_start bytes)) refl
 
-    by_device : (slot : Slot) → slot_at t head.completion ≡ Some slot → (b : Bool) → (slot.device == head.device) ≡ b → Tame t (table.complete t head bytes).0
+    by_device : (slot : Slot) → slot_for t head.completion ≡ Some slot → (b : Bool) → (slot.device == head.device) ≡ b → Tame t (table.complete t head bytes).0
     by_device slot e false other = rw (e, other) (tame_same t)
     by_device slot e true same = by_mark slot e same slot.dead refl
 
-    go : (o : Option Slot) → slot_at t head.completion ≡ o → Tame t (table.complete t head bytes).0
+    go : (o : Option Slot) → slot_for t head.completion ≡ o → Tame t (table.complete t head bytes).0
     go None e = rw e (tame_same t)
     go (Some slot) e = by_device slot e (slot.device == head.device) refl
 
@@ -148,16 +148,16 @@ newest_pairs c d i (x ∷ xs) =
     ∙ ap (λ (n : ℕ). n + length (filter (with_pair d i) (cond (x.channel == c) (x ∷ []) []))) (newest_pairs c d i xs)
     ∙ go (x.channel == c) (with_pair d i x)
   where
-    go : (p q : Bool) → pairs c d i xs + length (filter (with_pair d i) (cond p (x ∷ []) [])) ≡ length (cond (p && with_pair d i x) (x ∷ filter (asks_pair c d i) xs) (filter (asks_pair c d i) xs))
+    go : (p q : Bool) → pairs c d i xs + length (filter (with_pair d i) (cond p (x ∷ []) [])) ≡ length (cond (p && with_pair d i x) (x ∷ filter (is_accepted_as c d i) xs) (filter (is_accepted_as c d i) xs))
     go true q = by (with_pair d i x)
       where
-        by : (b : Bool) → pairs c d i xs + length (cond b (x ∷ []) []) ≡ length (cond b (x ∷ filter (asks_pair c d i) xs) (filter (asks_pair c d i) xs))
+        by : (b : Bool) → pairs c d i xs + length (cond b (x ∷ []) []) ≡ length (cond b (x ∷ filter (is_accepted_as c d i) xs) (filter (is_accepted_as c d i) xs))
         by true = omega arith
         by false = omega arith
     go false q = omega arith
 
--- a request is among those of its channel, and what stands behind it there has its earlier ones
-pub newest_split : (earlier later : List Accepted) (a : Accepted) → (front : List Accepted) × (newest a.channel (earlier ++ a ∷ later) ≡ front ++ a ∷ newest a.channel earlier)
+-- a request is among those of its channel, and what stands after it there has its earlier ones
+pub newest_split : (earlier later : List Accepted) (a : Accepted) → (prefix : List Accepted) × (newest a.channel (earlier ++ a ∷ later) ≡ prefix ++ a ∷ newest a.channel earlier)
 newest_split [] later a = (newest a.channel later, ap (λ (b : Bool). newest a.channel later ++ cond b (a ∷ []) []) (itself a.channel))
   where
     itself : (n : ℕ) → (n == n) ≡ true

@@ -7,7 +7,7 @@ use Rattle.rd_pending.specs.declared.calls.Outcome.{Outcome}
 use Rattle.rd_pending.specs.declared.calls.Taken.{Taken}
 use Rattle.rd_pending.specs.declared.calls.Target.{Target}
 use Rattle.rd_pending.specs.Outcomes as tidings
-use Rattle.rd_pending.specs.Outcomes.{Accepted, Agrees, Tidings, outcome_of}
+use Rattle.rd_pending.specs.Outcomes.{Accepted, Agrees, Tidings, accepted_outcome}
 use Rattle.rd_pending.specs.Table.{MayBegin, MaySubmit, TableState, begin, complete, device_in, drop_channel, fate_at, file_in, life_of, live, live_refusal, new_table, next_id, remove, send, submit, submit_refusal, take}
 
 pub data Call : Type 0 where
@@ -26,7 +26,7 @@ called t (completes head bytes) = (complete t head bytes).0
 called t sends = (send t).0
 called t drops = drop_channel t
 
--- the table behind a history
+-- the table after a history
 abbrev pub after : List Call → TableState
 after [] = new_table
 after (call ∷ before) = called (after before) call
@@ -94,7 +94,7 @@ ended_on c (call ∷ before) = ended_on c before
 
 -- What came of a request that was accepted after these: by what was heard on its channel, how many lives were given before it, and whether it ended.
 abbrev pub outcome_in : List Call → List Accepted → Accepted → Option Outcome
-outcome_in h earlier a = outcome_of earlier a (lives_before a.channel h) (heard_on a.channel h) (ended_on a.channel h)
+outcome_in h earlier a = accepted_outcome earlier a (lives_before a.channel h) (heard_on a.channel h) (ended_on a.channel h)
 
 -- Of each request that was accepted the table has what came of it: nothing yet, an outcome, or one that was handed out.
 abbrev pub AreOutcomes : List Call → Type 0

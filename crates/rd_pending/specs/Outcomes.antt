@@ -3,7 +3,7 @@ use Rattle.std.specs.Prelude.{◌≡◌, ℕ, ◌+◌, ◌==◌, ◌&&◌, Bool,
 use Rattle.std.specs.Map.{lookup, remove_entry}
 use Rattle.std.specs.Ordering.{nat_cmp}
 use Rattle.std.specs.BTreeMap.{insert_entry, is_at}
-use Rattle.std.specs.Option.{option_map_or}
+use Rattle.std.specs.Option.{option_map_or, option_or}
 use Rattle.rd_base.specs.declared.bad.Bad.{Bad}
 use Rattle.rd_base.specs.declared.journal.Cause.TheVariants.{Removed, Dropped}
 use Rattle.rd_base.specs.Layout.{met}
@@ -17,7 +17,7 @@ use Rattle.rd_pending.specs.declared.calls.Outcome.{Outcome}
 use Rattle.rd_pending.specs.declared.calls.Outcome.TheVariants.{Done, Lost}
 use Rattle.rd_pending.specs.Table.{Fate, awaited, known}
 
--- What a host heard on a channel and took: a device that began a life, one that is gone, or a completion by its head and the bytes behind it.
+-- What a host heard on a channel and took: a device that began a life, one that is gone, or a completion by its head and the bytes after it.
 pub data Tidings : Type 0 where
   begins : ℕ → Tidings
   removes : ℕ → Tidings
@@ -51,11 +51,11 @@ pub record Accepted : Type 0 where
   pub op : Op
 
 -- whether a head, and whether a request, has this device and completion id
-abbrev pub has_pair : ℕ → ℕ → Head → Bool
-has_pair device id head = head.device == device && head.completion == id
+abbrev pub head_has_pair : ℕ → ℕ → Head → Bool
+head_has_pair device id head = head.device == device && head.completion == id
 
-abbrev pub asks_pair : ℕ → ℕ → ℕ → Accepted → Bool
-asks_pair channel device id a = a.channel == channel && (a.device == device && a.id == id)
+abbrev pub is_accepted_as : ℕ → ℕ → ℕ → Accepted → Bool
+is_accepted_as channel device id a = a.channel == channel && (a.device == device && a.id == id)
 
 -- whether this life of the device goes on
 abbrev pub is_in_life : Course → Accepted → Bool
@@ -75,25 +75,22 @@ abbrev pub ended_by : Accepted → ℕ → Course → Tidings → Option Outcome
 ended_by a before c (begins device) = None
 ended_by a before c (removes device) = if device == a.device && is_in_life c a then Some (Lost Removed) else None
 ended_by a before c (completes head bytes) =
-    if has_pair a.device a.id head && length (filter (has_pair a.device a.id) c.heads) == before then reply_in a head bytes else None
-
--- the first, where there is one
-abbrev pub or_else : Option Outcome → Option Outcome → Option Outcome
-or_else (Some outcome) other = Some outcome
-or_else None other = other
+    if head_has_pair a.device a.id head && length (filter (head_has_pair a.device a.id) c.heads) == before then reply_in a head bytes
+    else None
 
 -- the first of what was heard that ends it
 abbrev pub ended_in : Accepted → ℕ → Course → List Tidings → Option Outcome
 ended_in a before c [] = None
-ended_in a before c (h ∷ heard) = or_else (ended_by a before c h) (ended_in a before (going_on c h) heard)
+ended_in a before c (h ∷ heard) = option_or (ended_by a before c h) (ended_in a before (going_on c h) heard)
 
 -- how many requests with a request's channel, device and completion id were accepted before it
 abbrev pub pairs_before : List Accepted → Accepted → ℕ
-pairs_before earlier a = length (filter (asks_pair a.channel a.device a.id) earlier)
+pairs_before earlier a = length (filter (is_accepted_as a.channel a.device a.id) earlier)
 
--- What came of a request behind others, by what was heard on its channel, before which so many lives were given, and by whether the channel ended.
-abbrev pub outcome_of : List Accepted → Accepted → ℕ → List Tidings → Bool → Option Outcome
-outcome_of earlier a given heard ended = or_else (ended_in a (pairs_before earlier a) (course_from given) heard) (if ended then Some (Lost Dropped) else None)
+-- What came of a request after others, by what was heard on its channel, before which so many lives were given, and by whether the channel ended.
+abbrev pub accepted_outcome : List Accepted → Accepted → ℕ → List Tidings → Bool → Option Outcome
+accepted_outcome earlier a given heard ended =
+    option_or (ended_in a (pairs_before earlier a) (course_from given) heard) (if ended then Some (Lost Dropped) else None)
 
 -- What there is of an outcome agrees with one, or with none. Of one that was handed out nothing is kept.
 abbrev pub Agrees : Option Fate → Option Outcome → Type 0

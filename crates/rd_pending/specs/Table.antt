@@ -11,15 +11,15 @@ use Rattle.rd_base.specs.declared.journal.Cause.{Cause}
 use Rattle.rd_base.specs.declared.journal.Cause.TheVariants.{Removed, Dropped}
 use Rattle.rd_base.specs.Layout.{met}
 use Rattle.rd_base.specs.Position.{at_start}
+use Rattle.rd_base.specs.Limits.{max_devices}
 use Rattle.rd_chunk.specs.Carrier.{IsMessage}
 use Rattle.rd_irp.specs.declared.op.Op.{Op}
-use Rattle.rd_irp.specs.declared.op.Op.TheVariants as op
 use Rattle.rd_irp.specs.declared.completion.Body.{Body}
 use Rattle.rd_irp.specs.declared.completion.Head.{Head}
 use Rattle.rd_irp.specs.declared.completion.Kind.{Kind}
 use Rattle.rd_irp.specs.declared.completion.Kind.TheVariants as kind
 use Rattle.rd_irp.specs.Completion.{completion_body}
-use Rattle.rd_irp.specs.Fits.{kind_of, Fits}
+use Rattle.rd_irp.specs.Fits.{kind_of, Fits, opens}
 use Rattle.rd_irp.specs.Written.{request_bytes}
 use Rattle.rd_pending.specs.declared.calls.CompleteNo.{CompleteNo}
 use Rattle.rd_pending.specs.declared.calls.CompleteNo.TheVariants as complete_no
@@ -41,10 +41,6 @@ use Rattle.rd_pending.specs.declared.calls.Target.TheVariants as target
 -- the most slots that are held; a completion id is below it
 abbrev pub max_slots : ℕ
 max_slots = 1024
-
--- the most devices that are there at once
-abbrev pub max_devices : ℕ
-max_devices = 256
 
 -- the most lives of a session, and the most numbers
 abbrev pub max_lives : ℕ
@@ -100,8 +96,8 @@ abbrev pub life_of : TableState → ℕ → Option ℕ
 life_of t device = lookup (is_at (nat_cmp device)) t.lives
 
 -- the slot with a completion id, if it is held
-abbrev pub slot_at : TableState → ℕ → Option Slot
-slot_at t id = lookup (is_at (nat_cmp id)) t.slots
+abbrev pub slot_for : TableState → ℕ → Option Slot
+slot_for t id = lookup (is_at (nat_cmp id)) t.slots
 
 -- the least number from n on that is no key of a map
 abbrev pub free_from : {V : Type 0} → ℕ → List (ℕ × V) → ℕ
@@ -185,15 +181,11 @@ abbrev pub stale : Target → ℕ → Option SubmitNo
 stale (target.Device device) now = None
 stale (target.Handle handle) now = if handle.life == now then None else Some (submit_no.StaleHandle handle.life now)
 
--- A request may be submitted that fits, and that opens a file exactly where it names a device.
-abbrev pub opens : Op → Bool
-opens (op.Create access allocation attributes share disposition options path) = true
-opens _ = false
-
 abbrev pub names_device : Target → Bool
 names_device (target.Device device) = true
 names_device (target.Handle handle) = false
 
+-- A request may be submitted that fits, and that opens a file exactly where it names a device.
 pub record MaySubmit (named : Target) (o : Op) : Type 0 where
   pub fits : Fits o
   pub names : opens o ≡ names_device named
@@ -258,9 +250,9 @@ complete_in t head bytes slot =
     by (Err bad) = (t, Err (complete_no.BodyBad bad))
     by (Ok read) = (with_fate (freed t head.completion) slot.number (known (Done (record { status = head.status; body = read.0 }))), Ok (Gave slot.number))
 
--- a completion is heard, with this head and these bytes behind it
+-- a completion is heard, with this head and these bytes after it
 abbrev pub complete : TableState → Head → List ℕ → TableState × Result Completed CompleteNo
-complete t head bytes = by (slot_at t head.completion)
+complete t head bytes = by (slot_for t head.completion)
   where
     stray : TableState × Result Completed CompleteNo
     stray = (t, Err (complete_no.Stray head.device head.completion))
@@ -335,7 +327,7 @@ pub record IsSlotIn (t : TableState) (id : ℕ) (slot : Slot) : Type 0 where
 pub record HasSlot (t : TableState) (number : ℕ) (u : Untaken) : Type 0 where
   pub id : ℕ
   pub kind : Kind
-  pub held : slot_at t id ≡ Some (record { number = number; device = u.device; kind = kind; dead = false })
+  pub held : slot_for t id ≡ Some (record { number = number; device = u.device; kind = kind; dead = false })
 
 -- Slots rise, and no two are of one number. The numbers whose outcomes weren't handed out rise, and were given. Each that is awaited has its slot. Each
 -- message fits the limit. Where no channel is open nothing is held, there, to be sent and awaited.
@@ -343,8 +335,8 @@ pub record AreSlots (t : TableState) : Type 0 where
   pub rising : IsStrictlySortedBy nat_cmp (keys_of t.slots)
   pub untaken_rising : IsStrictlySortedBy nat_cmp (keys_of t.untaken)
   pub few_lives : length t.lives ≤ max_devices
-  pub of_slot : (id : ℕ) (slot : Slot) → slot_at t id ≡ Some slot → IsSlotIn t id slot
-  pub apart : (i j : ℕ) (x y : Slot) → slot_at t i ≡ Some x → slot_at t j ≡ Some y → x.number ≡ y.number → i ≡ j
+  pub of_slot : (id : ℕ) (slot : Slot) → slot_for t id ≡ Some slot → IsSlotIn t id slot
+  pub apart : (i j : ℕ) (x y : Slot) → slot_for t i ≡ Some x → slot_for t j ≡ Some y → x.number ≡ y.number → i ≡ j
   pub numbers : (number : ℕ) (u : Untaken) → untaken_at t number ≡ Some u → (1 ≤ number) × (number ≤ t.count)
   pub of_awaited : (number : ℕ) (u : Untaken) → untaken_at t number ≡ Some u → is_awaited u.fate ≡ true → HasSlot t number u
   pub messages : All IsMessage t.outbox
@@ -371,7 +363,7 @@ pub data TableCall : Type 0 where
 -- A completion whose body is kept as bytes, if there are any: it is a success, for a slot of its device that isn't dead and has the layout of a buffer.
 pub record HasBuffer (t : TableState) (head : Head) : Type 0 where
   pub slot : Slot
-  pub held : slot_at t head.completion ≡ Some slot
+  pub held : slot_for t head.completion ≡ Some slot
   pub device : slot.device ≡ head.device
   pub alive : slot.dead ≡ false
   pub buffer : slot.kind ≡ kind.Buffer

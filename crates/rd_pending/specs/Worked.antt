@@ -1,6 +1,7 @@
 -- A table in use, for worked cases.
 use Rattle.std.specs.Prelude.{ℕ, zero, suc, ◌+◌, true, List, [], ◌∷◌, map}
 use Rattle.std.specs.List.{range_with_len}
+use Rattle.rd_base.specs.Statuses.{access_denied}
 use Rattle.rd_irp.specs.declared.completion.Body.TheVariants as body
 use Rattle.rd_irp.specs.declared.completion.Head.{Head}
 use Rattle.rd_irp.specs.declared.completion.Kind.TheVariants as kind
@@ -33,10 +34,10 @@ handle_of device life = target.Handle (record { device = device; life = life; fi
 
 -- the head of a completion that has no body
 abbrev pub refusal_of : ℕ → ℕ → Head
-refusal_of device id = record { device = device; completion = id; status = record { 0 = 0xc000_0022 } }
+refusal_of device id = record { device = device; completion = id; status = access_denied }
 
 abbrev pub refused : Reply
-refused = record { status = record { 0 = 0xc000_0022 }; body = body.Fault }
+refused = record { status = access_denied; body = body.Fault }
 
 -- the head of a completion of a success
 abbrev pub success_of : ℕ → ℕ → Head

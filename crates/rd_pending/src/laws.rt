@@ -13,7 +13,7 @@ ghost use Rattle.rd_pending.specs.declared.calls.TakeNo.TheVariants as TakeNo;
 ghost use Rattle.rd_pending.specs.declared.calls.Target.TheVariants as Target;
 ghost use Rattle.rd_pending.specs.History as Call;
 ghost use Rattle.rd_pending.specs.History.{AreOutcomes, Call, HandsOut, Holds, accepted_in, after, outcome_in};
-ghost use Rattle.rd_pending.specs.Outcomes.{outcome_of};
+ghost use Rattle.rd_pending.specs.Outcomes.{accepted_outcome};
 ghost use Rattle.rd_pending.specs.Table as Table;
 ghost use Rattle.rd_pending.specs.Table.{AreSlots, TableCall, TableState, TableStep, begin, complete, drop_channel, drop_sent, fate_at, live, new_table, next_id, remove, stage, submit, take, untaken_at};
 ghost use Rattle.rd_pending.specs.Worked.{asked_of, asked_once, first, full_table, handle_of, hears_begin, hears_refusal, hears_removal, open_table, opening, refusal_of, refused, success_of};
@@ -67,15 +67,15 @@ pub fn slots_are_few()
 
 /// What came of a request, by what was heard.
 pub fn outcomes_are_as_listed()
-    ensures done { outcome_of [] first 0 (hears_begin ∷ hears_refusal ∷ hears_removal ∷ []) true ≡ Some (Outcome.Done refused) }
-    ensures removed { outcome_of [] first 0 (hears_begin ∷ hears_removal ∷ hears_refusal ∷ []) true ≡ Some (Outcome.Lost Cause.Removed) }
-    ensures dropped { outcome_of [] first 0 (hears_begin ∷ []) true ≡ Some (Outcome.Lost Cause.Dropped) }
-    ensures awaited { outcome_of [] first 0 (hears_begin ∷ []) false ≡ None }
+    ensures done { accepted_outcome [] first 0 (hears_begin ∷ hears_refusal ∷ hears_removal ∷ []) true ≡ Some (Outcome.Done refused) }
+    ensures removed { accepted_outcome [] first 0 (hears_begin ∷ hears_removal ∷ hears_refusal ∷ []) true ≡ Some (Outcome.Lost Cause.Removed) }
+    ensures dropped { accepted_outcome [] first 0 (hears_begin ∷ []) true ≡ Some (Outcome.Lost Cause.Dropped) }
+    ensures awaited { accepted_outcome [] first 0 (hears_begin ∷ []) false ≡ None }
     // The first completion is that of an earlier request with the same id.
-    ensures second { outcome_of (first ∷ []) first 0 (hears_begin ∷ hears_refusal ∷ []) true ≡ Some (Outcome.Lost Cause.Dropped) }
+    ensures second { accepted_outcome (first ∷ []) first 0 (hears_begin ∷ hears_refusal ∷ []) true ≡ Some (Outcome.Lost Cause.Dropped) }
     // A removal before the life began ends another life.
-    ensures next_life { outcome_of [] first 0 (hears_begin ∷ hears_removal ∷ hears_begin ∷ hears_refusal ∷ []) true ≡ Some (Outcome.Lost Cause.Removed) }
-    ensures own_life { outcome_of [] (record first { life = 2 }) 0 (hears_begin ∷ hears_removal ∷ hears_begin ∷ hears_refusal ∷ []) true ≡ Some (Outcome.Done refused) }
+    ensures next_life { accepted_outcome [] first 0 (hears_begin ∷ hears_removal ∷ hears_begin ∷ hears_refusal ∷ []) true ≡ Some (Outcome.Lost Cause.Removed) }
+    ensures own_life { accepted_outcome [] (record first { life = 2 }) 0 (hears_begin ∷ hears_removal ∷ hears_begin ∷ hears_refusal ∷ []) true ≡ Some (Outcome.Done refused) }
 {}
 
 /// What a history has accepted, and what it hands out.

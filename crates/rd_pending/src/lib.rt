@@ -1,4 +1,9 @@
 //! A host's table: what it asked of devices, and what came of each request.
+//!
+//! It stands on `rd_irp`, `rd_chunk` and `rd_base`. It is definitions with laws of them, and no code yet: the layer above uses
+//! `histories_tell_outcomes` (after any calls each request has the outcome that what was heard gives it) and `outcomes_are_handed_out`.
+//!
+//! Cost: nothing of it runs.
 #![tactic(auto)]
 
 mod calls;

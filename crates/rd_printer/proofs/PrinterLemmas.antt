@@ -16,7 +16,7 @@ use Rattle.rd_irp.specs.declared.completion.Body.{Body}
 use Rattle.rd_irp.specs.declared.completion.Body.TheVariants as body
 use Rattle.rd_irp.specs.declared.completion.Reply.{Reply}
 use Rattle.rd_irp.specs.declared.request.Request.{Request}
-use Rattle.rd_irp.specs.Fits.{kind_of, IsCountable, IsOfKind, IsReplyTo, IsSendable}
+use Rattle.rd_irp.specs.Fits.{kind_of, IsCountableBody, IsOfKind, IsReplyTo, IsSendable}
 use Rattle.rd_irp.specs.Written.{IsBodyInRange}
 use Rattle.rd_drive.specs.declared.plan.Job.{Job}
 use Rattle.rd_drive.specs.declared.step.Step.{Step}
@@ -29,11 +29,12 @@ use Rattle.rd_drive.specs.Planned.{Planned}
 use Rattle.rd_drive.specs.Promise.{Applies, IsDevice}
 use Rattle.rd_drive.specs.Ranged.{AreEndsInRange, IsAnswerInRange, IsReplyInRange, IsSteppedInRange, SetsFew}
 use Rattle.rd_drive.specs.Replies.{replies_by}
-use Rattle.rd_drive.specs.Statuses.{disk_full, invalid_handle, no_memory, too_many_opened_files}
+use Rattle.rd_base.specs.Statuses.{disk_full, invalid_handle, no_memory, too_many_opened_files}
 use Rattle.rd_drive.specs.Stepped.{Stepped}
+use Rattle.rd_drive.specs.DriveState.{file_id_limit}
 use Rattle.rd_drive.proofs.AnswerLemmas.{fault_answers}
 use Rattle.rd_drive.proofs.OnceLemmas.{one_reply_each}
-use Rattle.rd_printer.specs.Printer.{PrinterState, file_id_limit, max_document, max_open, on_document, open_document, print, printer_cut, printer_step, refused, succeeded}
+use Rattle.rd_printer.specs.Printer.{PrinterState, max_document, max_open, on_document, open_document, print, printer_cut, printer_refused, printer_step, printer_succeeded}
 use Rattle.rd_printer.specs.Running.{IsAnyPrinter, printer_parked, printer_runs}
 
 -- it is answered by a reply of its layout, not for want of memory; nothing ends
@@ -46,16 +47,16 @@ pub record IsPrinted (o : Op) (came : Stepped PrinterState) : Type 0 where
   pub range : SetsFew o → IsReplyInRange reply
 
 module _ (o : Op) where
-  printed_fault : (s : PrinterState) (st : Status) → (st.0 == 0) ≡ false → (st.0 == no_memory.0) ≡ false → st.0 < 2 ^ 32 → IsPrinted o (refused s st)
+  printed_fault : (s : PrinterState) (st : Status) → (st.0 == 0) ≡ false → (st.0 == no_memory.0) ≡ false → st.0 < 2 ^ 32 → IsPrinted o (printer_refused s st)
   printed_fault s st failed fed low = record { reply = fault st; answer = refl; suits = fault_answers o st failed; fed = fed; ends = refl; range = λ few. (low, tt) }
 
-  printed_done : (s : PrinterState) (b : Body) → IsOfKind (kind_of o) b → IsCountable b → IsSendable b → (SetsFew o → IsBodyInRange b) → IsPrinted o (succeeded s b)
+  printed_done : (s : PrinterState) (b : Body) → IsOfKind (kind_of o) b → IsCountableBody b → IsSendable b → (SetsFew o → IsBodyInRange b) → IsPrinted o (printer_succeeded s b)
   printed_done s b kind counts sends range = record { reply = done b; answer = refl; suits = ((kind, counts), sends); fed = refl; ends = refl; range = λ few. (lit< tt, range few) }
 
   on_any_document : (s : PrinterState) (file : ℕ) (f : List ℕ → Stepped PrinterState) → ((bytes : List ℕ) → IsPrinted o (f bytes)) → IsPrinted o (on_document s file f)
   on_any_document s file f each = by (lookup (is_at (nat_cmp file)) s.documents)
     where
-      by : (x : Option (List ℕ)) → IsPrinted o (option_map_or f x (refused s invalid_handle))
+      by : (x : Option (List ℕ)) → IsPrinted o (option_map_or f x (printer_refused s invalid_handle))
       by None = printed_fault s _ refl refl (lit< tt)
       by (Some bytes) = each bytes
 
@@ -65,7 +66,7 @@ opened s o kind = by (nat_le max_open (length s.documents)) (nat_le file_id_limi
     new : PrinterState
     new = record s { documents = insert_entry nat_cmp s.documents s.next []; next = s.next + 1 }
 
-    by : (a b : Bool) → nat_le file_id_limit s.next ≡ b → IsPrinted o (cond (a || b) (refused s too_many_opened_files) (succeeded new (body.Created s.next 0)))
+    by : (a b : Bool) → nat_le file_id_limit s.next ≡ b → IsPrinted o (cond (a || b) (printer_refused s too_many_opened_files) (printer_succeeded new (body.Created s.next 0)))
     by true b e = printed_fault o s _ refl refl (lit< tt)
     by false true e = printed_fault o s _ refl refl (lit< tt)
     by false false e = printed_done o _ _ (kind s.next 0) tt tt (λ few. (leb-false file_id_limit s.next e, lit< tt))
@@ -73,7 +74,7 @@ opened s o kind = by (nat_le max_open (length s.documents)) (nat_le file_id_limi
 printed : (s : PrinterState) (file offset : ℕ) (bytes old : List ℕ) → IsPrinted (op.Write offset bytes) (print s file bytes old)
 printed s file offset bytes old = by (nat_lt max_document (length old + length bytes))
   where
-    by : (b : Bool) → IsPrinted (op.Write offset bytes) (cond b (refused s disk_full) (succeeded (record s { documents = insert_entry nat_cmp s.documents file (old ++ bytes) }) (body.Count (length bytes))))
+    by : (b : Bool) → IsPrinted (op.Write offset bytes) (cond b (printer_refused s disk_full) (printer_succeeded (record s { documents = insert_entry nat_cmp s.documents file (old ++ bytes) }) (body.Count (length bytes))))
     by true = printed_fault (op.Write offset bytes) s _ refl refl (lit< tt)
     by false = printed_done (op.Write offset bytes) _ _ tt tt tt (λ few. few)
 

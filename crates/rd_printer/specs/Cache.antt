@@ -14,17 +14,17 @@ abbrev pub CacheState : Type 0
 CacheState = List (List ℕ × List ℕ)
 
 -- names in the order of their bytes
-abbrev pub name_cmp : List ℕ → List ℕ → Ordering
-name_cmp = slice_cmp nat_cmp
+abbrev pub bytes_cmp : List ℕ → List ℕ → Ordering
+bytes_cmp = slice_cmp nat_cmp
 
 abbrev pub kept_for : CacheState → List ℕ → Option (List ℕ)
-kept_for cache name = lookup (is_at (name_cmp name)) cache
+kept_for cache name = lookup (is_at (bytes_cmp name)) cache
 
 abbrev pub keeping : CacheState → List ℕ → List ℕ → CacheState
-keeping cache name bytes = insert_entry name_cmp cache name bytes
+keeping cache name bytes = insert_entry bytes_cmp cache name bytes
 
 abbrev pub forgetting : CacheState → List ℕ → CacheState
-forgetting cache name = remove_entry (is_at (name_cmp name)) cache
+forgetting cache name = remove_entry (is_at (bytes_cmp name)) cache
 
 -- A notice sets a printer's bytes, sets them where there are some, forgets them, or moves them to another name where there are some.
 abbrev pub heard : CacheState → Notice → CacheState

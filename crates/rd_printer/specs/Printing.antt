@@ -16,25 +16,25 @@ use Rattle.rd_printer.specs.Printer.{PrinterState, new_printer, printer_step}
 abbrev pub key : ℕ → Key
 key n = record { channel = 1; index = n }
 
-abbrev pub opening : Op
-opening = op.Create 0 0 0 0 0 0 []
+abbrev pub opening_op : Op
+opening_op = op.Create 0 0 0 0 0 0 []
 
 -- a request by its file id and operation
 abbrev pub opening_at : ℕ → ℕ × Op
-opening_at file = (file, opening)
+opening_at file = (file, opening_op)
 
 abbrev pub writing : ℕ → List ℕ → ℕ × Op
 writing file bytes = (file, op.Write 0 bytes)
 
 -- the printer after requests
-abbrev pub after : List (ℕ × Op) → PrinterState
-after asks = fold (λ s (ask : ℕ × Op). (printer_step s (key 0) ask.0 ask.1 0).state) new_printer asks
+abbrev pub printer_after : List (ℕ × Op) → PrinterState
+printer_after asks = fold (λ s (ask : ℕ × Op). (printer_step s (key 0) ask.0 ask.1 0).state) new_printer asks
 
-abbrev pub done : Body → Step
-done body = step.Reply (outcome.done body)
+abbrev pub done_step : Body → Step
+done_step body = step.Reply (outcome.done body)
 
-abbrev pub refused : Status → Step
-refused status = step.Reply (outcome.fault status)
+abbrev pub refusal_step : Status → Step
+refusal_step status = step.Reply (outcome.fault status)
 
 -- a notice that a printer was added
 abbrev pub addition_of : List ℕ → List ℕ → Notice

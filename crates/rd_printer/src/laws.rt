@@ -21,11 +21,11 @@ ghost use Rattle.rd_drive.specs.Planned.{Planned};
 ghost use Rattle.rd_drive.specs.Promise.{Applies, CutsOff, IsDevice};
 ghost use Rattle.rd_drive.specs.Ranged.{AreEndsInRange, IsSteppedInRange, SetsFew};
 ghost use Rattle.rd_drive.specs.Replies.{replies_by};
-ghost use Rattle.rd_drive.specs.Statuses.{invalid_device_request, invalid_handle};
+ghost use Rattle.rd_base.specs.Statuses.{invalid_device_request, invalid_handle};
 ghost use Rattle.rd_printer.specs.declared.notice.Notice.TheVariants as Notice;
 ghost use Rattle.rd_printer.specs.Cache.{heard_all, HearsNotice};
 ghost use Rattle.rd_printer.specs.Printer.{new_printer, printer_cut, printer_step, PrinterState};
-ghost use Rattle.rd_printer.specs.Printing.{addition_of, after, done, key, opening, opening_at, refused, writing};
+ghost use Rattle.rd_printer.specs.Printing.{addition_of, done_step, key, opening_at, opening_op, printer_after, refusal_step, writing};
 ghost use Rattle.rd_printer.specs.Running.{printer_cuts, printer_parked, printer_runs, IsAnyPrinter};
 ghost use Rattle.rd_printer.specs.Worked as worked;
 
@@ -36,12 +36,14 @@ pub fn notice_is_decided(bytes: &[u8])
 
 /// What a printer does with requests, and what a client keeps of notices.
 pub fn printers_are_as_listed()
-    ensures opens { (printer_step new_printer (key 0) 0 opening 0).answer ≡ done (Body.Created 1 0) }
-    ensures appends { (after (opening_at 0 ∷ writing 1 (codes "a") ∷ writing 1 (codes "b") ∷ (1, Op.Close) ∷ [])).finished ≡ codes "ab" ∷ [] }
-    ensures counts { (printer_step (after (opening_at 0 ∷ [])) (key 1) 1 (Op.Write 7 (codes "abc")) 0).answer ≡ done (Body.Count 3) }
-    ensures closed { (printer_step new_printer (key 0) 1 Op.Close 0).answer ≡ refused invalid_handle }
-    ensures reads { (printer_step (after (opening_at 0 ∷ [])) (key 1) 1 (Op.Read 0 1) 0).answer ≡ refused invalid_device_request }
-    ensures cut { (printer_cut (after (opening_at 0 ∷ []))).state ≡ record new_printer { next = 2 } }
+    ensures opens { (printer_step new_printer (key 0) 0 opening_op 0).answer ≡ done_step (Body.Created 1 0) }
+    ensures appends { (printer_after (opening_at 0 ∷ writing 1 (codes "a") ∷ writing 1 (codes "b") ∷ (1, Op.Close) ∷ [])).finished ≡ codes "ab" ∷ [] }
+    ensures counts { (printer_step (printer_after (opening_at 0 ∷ [])) (key 1) 1 (Op.Write 7 (codes "abc")) 0).answer
+        ≡ done_step (Body.Count 3) }
+    ensures closed { (printer_step new_printer (key 0) 1 Op.Close 0).answer ≡ refusal_step invalid_handle }
+    ensures reads { (printer_step (printer_after (opening_at 0 ∷ [])) (key 1) 1 (Op.Read 0 1) 0).answer
+        ≡ refusal_step invalid_device_request }
+    ensures cut { (printer_cut (printer_after (opening_at 0 ∷ []))).state ≡ record new_printer { next = 2 } }
     ensures renames { heard_all [] (addition_of (codes "a") (codes "x") ∷ addition_of (codes "b") (codes "y") ∷ Notice.Rename (codes "a") (codes "b") ∷ []) ≡ (codes "b", codes "x") ∷ [] }
     ensures updates { heard_all [] (Notice.Update (codes "a") (codes "x") ∷ addition_of (codes "b") (codes "y") ∷ Notice.Update (codes "b") (codes "z") ∷ []) ≡ (codes "b", codes "z") ∷ [] }
     ensures deletes { heard_all [] (addition_of (codes "a") (codes "x") ∷ Notice.Delete (codes "a") ∷ []) ≡ [] }

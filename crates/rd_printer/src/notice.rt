@@ -1,13 +1,17 @@
 //! What the host tells a client of its printers (MS-RDPEPC 2.2.2.2 to 2.2.2.6).
 
-ghost use Rattle.std.specs.Prelude.{◌≡◌, ◌<◌, ◌^◌, ◌↔◌, ◌++◌, IsTrue, IfOk, IfErr, OnOk, length};
+ghost use Rattle.std.specs.Prelude.{◌≡◌, ◌+◌, ◌<◌, ◌≤◌, ◌^◌, ◌↔◌, ◌++◌, IsTrue, IfOk, IfErr, OnErr, OnOk, length, vec_capacity, vec_len};
+ghost use Rattle.std.specs.Int.{w32, to_le_bytes};
+ghost use Rattle.rd_base.specs.Counted.{four_fields_bytes};
+ghost use Rattle.rd_base.specs.Header.{header_bytes};
 ghost use Rattle.rd_base.specs.Reading.{ReadsInto, WithTail, ForBad};
+ghost use Rattle.rd_base.specs.declared.packet.Packet.TheVariants as packet;
 ghost use Rattle.rd_printer.specs.Notice.{cache_data, event_body, using_xps, event_bytes, notice_bytes, IsCountable, IsWritableNotice, SpellsNotice, FirstFaultOfNotice};
 
 use rd_base::{
-    Bad, Bytes, Cursor, Format, HEADER_LEN, Packet, ReadNo, Why, put_counted_bytes,
-    put_four_fields, put_header, put_two_fields, read_counted_bytes, read_eight, read_four_fields,
-    read_header_among, read_message, read_two_fields, write_message,
+    Bad, Bytes, Cursor, Format, HEADER_LEN, Packet, ReadNo, Why, append_message, put_bytes,
+    put_counted_bytes, put_four_fields, put_header, put_two_fields, put_u32, read_counted_bytes,
+    read_eight, read_four_fields, read_header_among, read_message, read_two_fields, write_message,
 };
 use std::alloc::{AllocError, Global};
 
@@ -76,8 +80,8 @@ impl Format for Notice {
         }
     }
 
-    #[tactic(auto, using(crate::proofs::NoticeLemmas::notice_spelled, std::proofs::Common::append_assoc))]
-    fn put(&self, out: &mut Vec<u8>) -> Result<(), AllocError> {
+    #[tactic(auto, using(crate::proofs::NoticeLemmas::notice_spelled, std::proofs::Common::append_assoc), unfolding(rd_base::specs::Counted::two_fields_bytes, rd_base::specs::Counted::four_fields_bytes))]
+    fn put(&self, out: &mut Vec<u8>) {
         match self {
             Notice::Add {
                 port,
@@ -85,34 +89,27 @@ impl Format for Notice {
                 driver,
                 name,
                 config,
-            } => {
-                put_event(out, ADD)?;
-                out.extend_from_slice(port)?;
-                put_four_fields(
-                    out,
-                    pnp.as_slice(),
-                    driver.as_slice(),
-                    name.as_slice(),
-                    config.as_slice(),
-                )
-            }
+            } => put_add(
+                out,
+                port,
+                pnp.as_slice(),
+                driver.as_slice(),
+                name.as_slice(),
+                config.as_slice(),
+            ),
             Notice::Update { name, config } => {
-                put_event(out, UPDATE)?;
-                put_two_fields(out, name.as_slice(), config.as_slice())
+                put_event(out, UPDATE);
+                put_two_fields(out, name.as_slice(), config.as_slice());
             }
             Notice::Delete { name } => {
-                put_event(out, DELETE)?;
-                put_counted_bytes(out, name.as_slice())
+                put_event(out, DELETE);
+                put_counted_bytes(out, name.as_slice());
             }
             Notice::Rename { old, new } => {
-                put_event(out, RENAME)?;
-                put_two_fields(out, old.as_slice(), new.as_slice())
+                put_event(out, RENAME);
+                put_two_fields(out, old.as_slice(), new.as_slice());
             }
-            Notice::UsingXps { printer, flags } => {
-                put_header(out, Packet::PrinterUsingXps)?;
-                out.extend_from_slice(&printer.to_le_bytes())?;
-                out.extend_from_slice(&flags.to_le_bytes())
-            }
+            Notice::UsingXps { printer, flags } => put_using_xps(out, *printer, *flags),
         }
     }
 
@@ -197,12 +194,48 @@ fn read_event(alloc: Global, event: u32, cursor: &mut Cursor<'_>) -> Result<Noti
     }
 }
 
-/// Writes the header and the EventId of a change of the cache.
-fn put_event(out: &mut Vec<u8>, event: u32) -> Result<(), AllocError>
-    ensures { OnOk result (out.new.items ≡ out.old.items ++ event_bytes event) }
+/// Appends the header and the EventId of a change of the cache.
+#[tactic(auto, unfolding(rd_base::specs::Fields::bytes32), using(std::proofs::Common::append_assoc))]
+fn put_event(out: &mut Vec<u8>, event: u32)
+    requires { vec_len out.old + 8 ≤ vec_capacity out.old }
+    ensures bytes { out.new.items ≡ out.old.items ++ event_bytes event }
+    ensures len { vec_len out.new ≡ vec_len out.old + 8 }
+    ensures room { vec_capacity out.old ≤ vec_capacity out.new }
 {
-    put_header(out, Packet::PrinterCacheData)?;
-    out.extend_from_slice(&event.to_le_bytes())
+    put_header(out, Packet::PrinterCacheData);
+    put_u32(out, event);
+}
+
+/// Appends the whole notice of a printer that was added.
+#[tactic(auto, using(std::proofs::Common::append_assoc))]
+fn put_add(out: &mut Vec<u8>, port: &[u8; 8], pnp: &[u8], driver: &[u8], name: &[u8], config: &[u8])
+    requires pnp { IsCountable pnp.now }
+    requires driver { IsCountable driver.now }
+    requires name { IsCountable name.now }
+    requires config { IsCountable config.now }
+    requires room { vec_len out.old + 24 + length port.now + length pnp.now + length driver.now + length name.now + length config.now ≤ vec_capacity out.old }
+    ensures bytes { out.new.items ≡ out.old.items
+        ++ (event_bytes 1 ++ port.now ++ four_fields_bytes pnp.now driver.now name.now config.now) }
+    ensures port { length port.now ≡ 8 }
+    ensures room { vec_capacity out.old ≤ vec_capacity out.new }
+{
+    put_event(out, ADD);
+    put_bytes(out, port);
+    put_four_fields(out, pnp, driver, name, config);
+}
+
+/// Appends the whole notice that the host prints in XPS format.
+#[tactic(auto, unfolding(rd_base::specs::Fields::bytes32), using(std::proofs::Common::append_assoc))]
+fn put_using_xps(out: &mut Vec<u8>, printer: u32, flags: u32)
+    requires { vec_len out.old + 12 ≤ vec_capacity out.old }
+    ensures bytes { out.new.items ≡ out.old.items
+        ++ (header_bytes packet.PrinterUsingXps ++ to_le_bytes w32 printer ++ to_le_bytes w32 flags) }
+    ensures fits { (printer < 2 ^ 32) × (flags < 2 ^ 32) }
+    ensures room { vec_capacity out.old ≤ vec_capacity out.new }
+{
+    put_header(out, Packet::PrinterUsingXps);
+    put_u32(out, printer);
+    put_u32(out, flags);
 }
 
 /// Reads a notice, and counts the ignored bytes after it.
@@ -223,13 +256,13 @@ pub fn write_notice(alloc: Global, notice: &Notice) -> Result<Bytes, AllocError>
     write_message(alloc, notice)
 }
 
-/// Writes a notice after what the buffer holds. Where memory runs out, the buffer may hold a part of it
-/// after that.
+/// Appends a notice. Where there is no memory for all of it, nothing is appended.
 pub fn put_notice(out: &mut Vec<u8>, notice: &Notice) -> Result<(), AllocError>
     requires { IsWritableNotice notice.now }
-    ensures { OnOk result (out.new.items ≡ out.old.items ++ notice_bytes notice.now) }
+    ensures bytes { OnOk result (out.new.items ≡ out.old.items ++ notice_bytes notice.now) }
+    ensures err { OnErr result (out.new.items ≡ out.old.items) }
 {
-    notice.put(out)
+    append_message(out, notice)
 }
 
 /// Whether a notice can be written: its byte fields can be counted.

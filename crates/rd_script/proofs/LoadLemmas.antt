@@ -4,10 +4,10 @@ use Rattle.std.proofs.lemmas.List.{length_push}
 use Rattle.rd_script.specs.declared.line.Line.{Line}
 use Rattle.rd_script.specs.declared.line.Line.TheVariants as line
 use Rattle.rd_script.specs.declared.line.NumberedLine.{NumberedLine}
-use Rattle.rd_script.specs.Load.{Adds, block, block_bytes, blocks, numbered, write_and_read}
+use Rattle.rd_script.specs.Load.{AddsLines, block, block_bytes, blocks, numbered, write_and_read}
 
 -- one line is added
-pub adds_one : (old new : List NumberedLine) (l : Line) → new ≡ old ++ record { number = length old + 1; line = l } ∷ [] → Adds old new (l ∷ [])
+pub adds_one : (old new : List NumberedLine) (l : Line) → new ≡ old ++ record { number = length old + 1; line = l } ∷ [] → AddsLines old new (l ∷ [])
 adds_one old new l is rest =
     let one : NumberedLine = record { number = length old + 1; line = l } in
     let long : length new ≡ length old + 1 = ap length is ∙ length_push old one in
@@ -16,11 +16,11 @@ adds_one old new l is rest =
     ∙ append_assoc old (one ∷ []) (numbered (length old + 1 + 1) rest)
 
 -- none is
-pub adds_none : (old : List NumberedLine) → Adds old old []
+pub adds_none : (old : List NumberedLine) → AddsLines old old []
 adds_none old rest = refl
 
 -- some are, and then more
-pub adds_more : (a b c : List NumberedLine) (xs ys : List Line) → Adds a b xs → Adds b c ys → Adds a c (xs ++ ys)
+pub adds_more : (a b c : List NumberedLine) (xs ys : List Line) → AddsLines a b xs → AddsLines b c ys → AddsLines a c (xs ++ ys)
 adds_more a b c xs ys first second rest =
     second rest ∙ first (ys ++ rest) ∙ ap (λ (ls : List Line). a ++ numbered (length a + 1) ls) (sym (append_assoc xs ys rest))
 
@@ -34,7 +34,7 @@ blocks-more application i (suc n) =
     ap (λ (ls : List Line). write_and_read application i ++ ls) (blocks-more application (i + 1) n ∙ ap (λ (j : ℕ). blocks application (i + 1) n ++ write_and_read application j) on)
 
 -- one block more
-pub adds_block : (a b c : List NumberedLine) (application i : ℕ) → Adds a b (blocks application 0 i) → Adds b c (write_and_read application i) → Adds a c (blocks application 0 (i + 1))
+pub adds_block : (a b c : List NumberedLine) (application i : ℕ) → AddsLines a b (blocks application 0 i) → AddsLines b c (write_and_read application i) → AddsLines a c (blocks application 0 (i + 1))
 adds_block a b c application i first second rest =
     let none : 0 + i ≡ i = omega arith in
     let more : blocks application 0 (i + 1) ≡ blocks application 0 i ++ write_and_read application i =
@@ -47,13 +47,13 @@ pub write_same : (application i : ℕ) (handle bytes : List ℕ) (m n : ℕ) →
 write_same application i handle bytes m n same_handle same_m same_n same_bytes = rw (same_handle, same_m, same_n, same_bytes) refl
 
 -- all lines, from the first on
-adds_all : (new : List NumberedLine) (ls : List Line) → Adds [] new ls → new ≡ numbered 1 ls
+adds_all : (new : List NumberedLine) (ls : List Line) → AddsLines [] new ls → new ≡ numbered 1 ls
 adds_all new ls all = sym (append-nil new) ∙ all [] ∙ ap (numbered 1) (append-nil ls)
 
 -- the same line is added
-pub adds_same : (old new : List NumberedLine) (l m : Line) → l ≡ m → Adds old new (l ∷ []) → Adds old new (m ∷ [])
-adds_same old new l m e first = subst (λ (x : Line). Adds old new (x ∷ [])) e first
+pub adds_same : (old new : List NumberedLine) (l m : Line) → l ≡ m → AddsLines old new (l ∷ []) → AddsLines old new (m ∷ [])
+adds_same old new l m e first = subst (λ (x : Line). AddsLines old new (x ∷ [])) e first
 
 -- all lines, from none on
-pub adds_from : (old new : List NumberedLine) (ls : List Line) → old ≡ [] → Adds old new ls → new ≡ numbered 1 ls
-adds_from old new ls none all = adds_all new ls (subst (λ (xs : List NumberedLine). Adds xs new ls) none all)
+pub adds_from : (old new : List NumberedLine) (ls : List Line) → old ≡ [] → AddsLines old new ls → new ≡ numbered 1 ls
+adds_from old new ls none all = adds_all new ls (subst (λ (xs : List NumberedLine). AddsLines xs new ls) none all)

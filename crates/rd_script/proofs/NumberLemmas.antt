@@ -1,10 +1,10 @@
 -- Numbers: what digits say.
-use Rattle.std.proofs.Common.{◌≡◌, refl, ap, ◌∙◌, ℕ, ◌+◌, ◌-◌, ◌*◌, ◌^◌, ◌<◌, ◌≤◌, arith, List, [], ◌∷◌, Bool, true, false, length, get_or, drop, Option, Some, None}
+use Rattle.std.proofs.Common.{◌≡◌, refl, ap, ◌∙◌, ℕ, ◌+◌, ◌-◌, ◌*◌, ◌^◌, ◌<◌, ◌≤◌, arith, List, [], ◌∷◌, Bool, true, false, inl, inr, length, get_or, drop, Option, Some, None}
 use Rattle.std.specs.Prelude.{nat_lt, nat_le, ◌&&◌, cond}
 use Rattle.std.specs.Option.{option_and_then}
 use Rattle.std.proofs.Math.Nat.{le-mul_of_pos_right, le_trans}
 use Rattle.std.proofs.lemmas.List.{drop_more, drop_all}
-use Rattle.std.proofs.lemmas.Bool.{ltb-true}
+use Rattle.std.proofs.lemmas.Bool.{cases_lt}
 use Rattle.std.proofs.lemmas.Bool.Decides.{nat_tests}
 use Rattle.rd_script.specs.Numbers.{below_base, digit_of, digits_from, small}
 
@@ -50,13 +50,17 @@ top said [] = said
 top said (c ∷ cs) = top (said * 16 + 15) cs
 
 below_base-below : (base digit d : ℕ) → below_base base digit ≡ Some d → d < base
-below_base-below base digit d e = of (nat_lt digit base) refl e
-  where
-    of : (b : Bool) → nat_lt digit base ≡ b → cond b (Some digit) None ≡ Some d → d < base
-    of true h e = let same : digit ≡ d = cc e in rw (← same) (ltb-true digit base h)
-    of false h e = cc e
+below_base-below base digit d e = elim (cases_lt digit base) [
+  | inl below ↦
+      let test : nat_lt digit base ≡ true = grind (arith, nat_tests) in
+      let same : digit ≡ d = cc (e, test) in
+      omega (arith, same)
+  | inr above ↦
+      let test : nat_lt digit base ≡ false = grind (arith, nat_tests) in
+      absurd (cc (e, test))
+]
 
-digit_below : (base c d : ℕ) → digit_of base c ≡ Some d → d < base
+pub digit_below : (base c d : ℕ) → digit_of base c ≡ Some d → d < base
 digit_below base c d e = of (nat_le 0x30 c && nat_le c 0x39) (nat_le 0x61 c && nat_le c 0x66) e
   where
     of : (a b : Bool) → cond a (below_base base (c - 0x30)) (cond b (below_base base (c - 0x61 + 10)) None) ≡ Some d → d < base
@@ -73,7 +77,7 @@ digits_top said most u (c ∷ cs) low e =
       | Some d ↦ λ h is. let below = digit_below 16 c d h in digits_top (said * 16 + d) (most * 16 + 15) u cs (omega arith) is
     ]) refl e
 
-small_is : (o : Option ℕ) (u : ℕ) → small o ≡ Some u → o ≡ Some u
+pub small_is : (o : Option ℕ) (u : ℕ) → small o ≡ Some u → o ≡ Some u
 small_is None u e = e
 small_is (Some n) u e = of (nat_lt n (2 ^ 64)) e
   where

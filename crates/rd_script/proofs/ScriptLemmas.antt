@@ -7,10 +7,10 @@ use Rattle.rd_script.specs.declared.keyword.Mode.{Mode}
 use Rattle.rd_script.specs.Row.{parts_left}
 use Rattle.rd_script.specs.declared.why.ScriptNo.{ScriptNo}
 use Rattle.rd_script.specs.declared.why.ScriptNo.TheVariants as no
-use Rattle.rd_script.specs.Script.{lines_from, lines_of, size_with, is_end, Reading, BadLine, IsBadLine, Steps, read_all, step, at_start, script_of, script_read}
+use Rattle.rd_script.specs.Script.{lines_from, lines_of, size_with, is_end, Reading, BadLine, IsBadLine, Steps, read_all, step, reading_at_start, script_of, script_read}
 
 -- a text has a part
-some_part : (text : List ℕ) → (p : List ℕ) × (ps : List (List ℕ)) × (slice_split (λ b. b == 0x0a) text ≡ p ∷ ps)
+pub some_part : (text : List ℕ) → (p : List ℕ) × (ps : List (List ℕ)) × (slice_split (λ b. b == 0x0a) text ≡ p ∷ ps)
 some_part [] = ([], [], refl)
 some_part (c ∷ cs) = of (c == 0x0a) (slice_split (λ b. b == 0x0a) cs)
   where
@@ -51,10 +51,10 @@ read_end text line others old end parts over all =
     rw lines at all
 
 -- the first bad line of the text, unless memory ran out
-pub bad_case : (m : Mode) (bytes text line : List ℕ) (others : Option (Bor (List ℕ))) (old new : Reading) (size : ℕ) (e : ScriptNo) → slice_split (λ b. b == 0x0a) text ≡ line ∷ parts_left 0x0a others → is_end line others ≡ false → size ≡ size_with line others → Steps old new (record { text = line; size = size }) (Err e) → read_all (lines_from (slice_split (λ b. b == 0x0a) text)) old ≡ read_all (lines_of bytes) (at_start m) → IsBadLine (λ bad. script_of m bytes ≡ Err bad) e
+pub bad_case : (m : Mode) (bytes text line : List ℕ) (others : Option (Bor (List ℕ))) (old new : Reading) (size : ℕ) (e : ScriptNo) → slice_split (λ b. b == 0x0a) text ≡ line ∷ parts_left 0x0a others → is_end line others ≡ false → size ≡ size_with line others → Steps old new (record { text = line; size = size }) (Err e) → read_all (lines_from (slice_split (λ b. b == 0x0a) text)) old ≡ read_all (lines_of bytes) (reading_at_start m) → IsBadLine (λ bad. script_of m bytes ≡ Err bad) e
 bad_case m bytes text line others old new size no.Memory parts more sized is all = tt
 bad_case m bytes text line others old new size (no.BadLine number cause) parts more sized is all =
-    ap (script_read m) (sym (read_bad text line others old (record { line = number; why = cause }) (read_all (lines_of bytes) (at_start m)) parts more (ap (λ (n : ℕ). step old (record { text = line; size = n })) (sym sized) ∙ is) all))
+    ap (script_read m) (sym (read_bad text line others old (record { line = number; why = cause }) (read_all (lines_of bytes) (reading_at_start m)) parts more (ap (λ (n : ℕ). step old (record { text = line; size = n })) (sym sized) ∙ is) all))
 
 -- an error that is passed on is the same
 pub err_same : {T : Type 0} (P : ScriptNo → Type 0) (r : Result T ScriptNo) (e : ScriptNo) → IsErrAnd r (λ x. x ≡ e) → P e → IfErr r P

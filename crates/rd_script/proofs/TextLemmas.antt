@@ -1,5 +1,5 @@
 -- Texts: units and ranges, one after another.
-use Rattle.std.proofs.Common.{◌≡◌, refl, sym, ap, ◌∙◌, ℕ, suc, ◌+◌, ◌-◌, ◌*◌, ◌%◌, ◌<◌, arith, List, [], ◌∷◌, ◌++◌, append-nil, append_assoc, Bool, true, false, cond, length, Option, Some, None, Result, Ok, Err}
+use Rattle.std.proofs.Common.{◌≡◌, refl, sym, ap, ◌∙◌, ℕ, suc, ◌+◌, ◌-◌, ◌*◌, ◌%◌, ◌<◌, ◌≤◌, arith, List, [], ◌∷◌, ◌++◌, append-nil, append_assoc, Bool, true, false, cond, inl, inr, length, get_or, take, drop, Option, Some, None, Result, Ok, Err}
 use Rattle.std.specs.Prelude.{nat_le, nat_lt, ◌==◌, ◌&&◌}
 use Rattle.std.specs.List.{list_all}
 use Rattle.std.specs.Borrow.{Bor}
@@ -7,38 +7,35 @@ use Rattle.std.specs.Option.{option_and_then, option_map}
 use Rattle.std.specs.Result.{MatchResult, is_ok, result_ok}
 use Rattle.std.specs.Str.{IsUtf8, is_utf8}
 use Rattle.std.proofs.lemmas.Str.{IsUtf8-from_is_utf8, is_utf8-from_IsUtf8}
+use Rattle.std.proofs.lemmas.Bool.{cases_Bool, false_from_ne_true, ne_eqb}
+use Rattle.std.proofs.lemmas.List.{take_all}
 use Rattle.std.proofs.lemmas.Bool.Decides.{nat_tests}
 use Rattle.hex.specs.Hex.{decode_pairs, digit_or_error, hex_digit_value, pair_value, ◌>>=◌}
 use Rattle.hex.specs.declared.error.FromHexError.{FromHexError}
 use Rattle.hex.specs.declared.error.FromHexError.TheVariants.{OddLength}
-use Rattle.rd_script.specs.Numbers.{digit_of, digits_from}
-use Rattle.rd_script.specs.Texts.{hex_of, is_dash, is_lower, is_place, is_visible, joined, pairs_of, units_after}
+use Rattle.rd_script.specs.Numbers.{digit_of, digits_from, small}
+use Rattle.rd_script.specs.Texts.{escaped, hex_of, is_dash, is_lower, is_place, is_visible, pairs_of, prepended, unit_before, units_after}
+use Rattle.rd_script.proofs.NumberLemmas.{small_is}
 
 -- how much is left, where the end counts too
 abbrev pub left_len : Option (Bor (List ℕ)) → ℕ
 left_len None = 0
 left_len (Some text) = suc (length text.now)
 
-filled : (w : List ℕ) → (length w == 0) ≡ false → 0 < length w
-filled [] h = cc h
-filled (c ∷ cs) h = omega arith
-
 -- a place is text
 pub is_place-of : (w : List ℕ) (b : Bool) → 0 < length w → (b ≡ true → IsUtf8 w) → (b ≡ false → ¬ (IsUtf8 w)) → b ≡ is_place w
-is_place-of w b some text no_text = of b (is_utf8 w) refl text no_text
-  where
-    long : nat_le 1 (length w) ≡ true
-    long = grind (arith, nat_tests)
-
-    of : (b : Bool) (t : Bool) → is_utf8 w ≡ t → (b ≡ true → IsUtf8 w) → (b ≡ false → ¬ (IsUtf8 w)) → b ≡ is_place w
-    of true true e text no_text = rw (long, e) refl
-    of true false e text no_text = absurd (cc (is_utf8-from_IsUtf8 w (text refl), e))
-    of false true e text no_text = absurd (no_text refl (IsUtf8-from_is_utf8 w e))
-    of false false e text no_text = rw (long, e) refl
+is_place-of w b some text no_text =
+    let long : nat_le 1 (length w) ≡ true = grind (arith, nat_tests) in
+    elim (cases_Bool b) [
+      | inl holds ↦ rw (long, is_utf8-from_IsUtf8 w (text holds)) holds
+      | inr holds ↦
+          let other : is_utf8 w ≡ false = false_from_ne_true (is_utf8 w) (λ is. no_text holds (IsUtf8-from_is_utf8 w is)) in
+          rw (long, other) holds
+    ]
 
 pub is_place-from : {T E : Type 0} (w : List ℕ) (b : Bool) (r : Result T E) (P : T → Type 0) (Q : E → Type 0) → (length w == 0) ≡ false → b ≡ is_ok r → MatchResult r (λ t. P t × IsUtf8 w) (λ e. ¬ (IsUtf8 w) × Q e) → b ≡ is_place w
-is_place-from w b (Ok t) P Q some is h = is_place-of w b (filled w some) (λ e. h.1) (λ e. cc (is, e))
-is_place-from w b (Err e) P Q some is h = is_place-of w b (filled w some) (λ e. cc (is, e)) (λ e. h.0)
+is_place-from w b (Ok t) P Q some is h = is_place-of w b (grind (arith, nat_tests)) (λ e. h.1) (λ e. cc (is, e))
+is_place-from w b (Err e) P Q some is h = is_place-of w b (grind (arith, nat_tests)) (λ e. cc (is, e)) (λ e. h.0)
 
 -- a visible character other than `%` is its own unit
 pub plain_unit : (c : ℕ) (cs : List ℕ) → (c ≡ 0x25 → ⊥) → is_visible c ≡ true → units_after 0 (c ∷ cs) ≡ option_map (λ us. c ∷ us) (units_after 0 cs)
@@ -47,24 +44,42 @@ plain_unit c cs other seen =
     let plain : (c == 0x25) ≡ false = grind (arith, nat_tests) in
     rw (plain, seen, some) refl
 
+-- four digits and what comes after them, where they say a unit
+pub four_units : (digits four others : List ℕ) (unit : ℕ) → 4 ≤ length digits → four ≡ take 4 digits → others ≡ drop 4 digits → small (digits_from 16 0 four) ≡ Some unit
+    → unit_before (escaped (take 4 digits)) (units_after 4 digits) ≡ unit_before (Some unit) (units_after 0 others)
+four_units [] four others unit long f o e = absurd (omega (arith, long))
+four_units (a ∷ []) four others unit long f o e = absurd (omega (arith, long))
+four_units (a ∷ b ∷ []) four others unit long f o e = absurd (omega (arith, long))
+four_units (a ∷ b ∷ c ∷ []) four others unit long f o e = absurd (omega (arith, long))
+four_units (a ∷ b ∷ c ∷ d ∷ cs) four others unit long f o e =
+    let says : digits_from 16 0 (a ∷ b ∷ c ∷ d ∷ []) ≡ Some unit = small_is (digits_from 16 0 (a ∷ b ∷ c ∷ d ∷ [])) unit (ap (λ (ds : List ℕ). small (digits_from 16 0 ds)) (sym f) ∙ e) in
+    ap (λ (u : Option ℕ). unit_before u (units_after 0 cs)) says ∙ ap (λ (ds : List ℕ). unit_before (Some unit) (units_after 0 ds)) (sym o)
+
+-- a unit that isn't zero stands before the others
+pub unit_kept : (unit : ℕ) (units : Option (List ℕ)) → (unit ≡ 0 → ⊥) → unit_before (Some unit) units ≡ option_map (λ us. unit ∷ us) units
+unit_kept unit units some = rw (ne_eqb unit 0 some) refl
+
+-- zero is no unit
+pub no_zero_unit : (unit : ℕ) (units : Option (List ℕ)) → unit ≡ 0 → unit_before (Some unit) units ≡ None
+no_zero_unit unit units zero = rw zero refl
+
 -- ---- bytes
 
 -- a lower-case digit stands for what any hexadecimal digit does
 digit_value : (c : ℕ) → is_lower c ≡ true → hex_digit_value c ≡ digit_of 16 c
-digit_value c is = of (nat_le 0x30 c && nat_le c 0x39) refl
-  where
-    of : (b : Bool) → (nat_le 0x30 c && nat_le c 0x39) ≡ b → hex_digit_value c ≡ digit_of 16 c
-    of true e =
-        let upper : (nat_le 65 c && nat_le c 70) ≡ false = grind (arith, nat_tests) in
-        let letter : (nat_le 97 c && nat_le c 102) ≡ false = grind (arith, nat_tests) in
-        let below : nat_lt (c - 48) 16 ≡ true = grind (arith, nat_tests) in
-        rw (upper, letter, e, below) refl
-    of false e =
-        let letter : (nat_le 97 c && nat_le c 102) ≡ true = grind (arith, nat_tests) in
-        let upper : (nat_le 65 c && nat_le c 70) ≡ false = grind (arith, nat_tests) in
-        let below : nat_lt (c - 97 + 10) 16 ≡ true = grind (arith, nat_tests) in
-        let same : c - 97 + 10 ≡ c - 87 = grind (arith, nat_tests) in
-        rw (upper, letter, e, below, same) refl
+digit_value c is = elim (cases_Bool (nat_le 0x30 c && nat_le c 0x39)) [
+  | inl e ↦
+      let upper : (nat_le 65 c && nat_le c 70) ≡ false = grind (arith, nat_tests) in
+      let letter : (nat_le 97 c && nat_le c 102) ≡ false = grind (arith, nat_tests) in
+      let below : nat_lt (c - 48) 16 ≡ true = grind (arith, nat_tests) in
+      rw (upper, letter, e, below) refl
+  | inr e ↦
+      let letter : (nat_le 97 c && nat_le c 102) ≡ true = grind (arith, nat_tests) in
+      let upper : (nat_le 65 c && nat_le c 70) ≡ false = grind (arith, nat_tests) in
+      let below : nat_lt (c - 97 + 10) 16 ≡ true = grind (arith, nat_tests) in
+      let same : c - 97 + 10 ≡ c - 87 = grind (arith, nat_tests) in
+      rw (upper, letter, e, below, same) refl
+]
 
 no_digit : (c : ℕ) → is_lower c ≡ false → digit_of 16 c ≡ None
 no_digit c is =
@@ -81,11 +96,11 @@ pair_said high low i h l = rw (digit_value high h, digit_value low l) (of (digit
     of (Some a) None = refl
     of (Some a) (Some b) = ap Some (omega arith)
 
-joined_none : (o : Option ℕ) → joined {A = ℕ} o None ≡ None
+joined_none : (o : Option ℕ) → prepended {A = ℕ} o None ≡ None
 joined_none None = refl
 joined_none (Some x) = refl
 
-joined_parts : (r : Result ℕ FromHexError) (s : Result (List ℕ) FromHexError) → result_ok (r >>= λ byte. s >>= λ bytes. Ok (byte ∷ bytes)) ≡ joined (result_ok r) (result_ok s)
+joined_parts : (r : Result ℕ FromHexError) (s : Result (List ℕ) FromHexError) → result_ok (r >>= λ byte. s >>= λ bytes. Ok (byte ∷ bytes)) ≡ prepended (result_ok r) (result_ok s)
 joined_parts (Err e) s = refl
 joined_parts (Ok x) (Err e) = refl
 joined_parts (Ok x) (Ok xs) = refl
@@ -97,7 +112,7 @@ odd_none i [] h = absurd (omega arith)
 odd_none i (c ∷ []) h = refl
 odd_none i (high ∷ low ∷ cs) h =
     joined_parts (pair_value high low i) (decode_pairs (i + 2) cs)
-    ∙ ap (joined (result_ok (pair_value high low i))) (odd_none (i + 2) cs (omega arith))
+    ∙ ap (prepended (result_ok (pair_value high low i))) (odd_none (i + 2) cs (omega arith))
     ∙ joined_none (result_ok (pair_value high low i))
 
 abbrev no_byte : Option ℕ
@@ -124,7 +139,7 @@ pairs_said i (high ∷ low ∷ cs) = of (is_lower high) (is_lower low) (list_all
     all : Option (List ℕ)
     all = result_ok (pair_value high low i >>= λ byte. decode_pairs (i + 2) cs >>= λ bytes. Ok (byte ∷ bytes))
 
-    of : (a b d : Bool) → is_lower high ≡ a → is_lower low ≡ b → cond d (result_ok (decode_pairs (i + 2) cs)) None ≡ pairs_of cs → cond (a && (b && d)) all None ≡ joined (digits_from 16 0 (high ∷ low ∷ [])) (pairs_of cs)
+    of : (a b d : Bool) → is_lower high ≡ a → is_lower low ≡ b → cond d (result_ok (decode_pairs (i + 2) cs)) None ≡ pairs_of cs → cond (a && (b && d)) all None ≡ prepended (digits_from 16 0 (high ∷ low ∷ [])) (pairs_of cs)
     of false b d h l rest = rw (no_digit high h) refl
     of true false d h l rest = rw (said_none high low l) refl
     of true true false h l rest = rw (← rest) (sym (joined_none (digits_from 16 0 (high ∷ low ∷ []))))
@@ -138,6 +153,18 @@ hex_pairs (c ∷ cs) dash some = rw dash (ap (λ (o : Option (List ℕ)). cond (
     of : (b : Bool) → (length (c ∷ cs) % 2 == 1) ≡ b → result_ok (cond b (Err OddLength) (decode_pairs 0 (c ∷ cs))) ≡ result_ok (decode_pairs 0 (c ∷ cs))
     of true e = sym (odd_none 0 (c ∷ cs) (grind (arith, nat_tests)))
     of false e = refl
+
+-- no pair is read yet
+pub none_read : (bytes : List ℕ) (all : Option (List ℕ)) → bytes ≡ [] → option_map (λ bs. bytes ++ bs) all ≡ all
+none_read bytes None none = refl
+none_read bytes (Some bs) none = ap (λ (xs : List ℕ). Some (xs ++ bs)) none
+
+-- the first pair, and those after it
+pub next_pair : (digits : List ℕ) (byte : ℕ) → 2 ≤ length digits → digits_from 16 0 (get_or digits 0 0 ∷ get_or digits 1 0 ∷ []) ≡ Some byte → pairs_of digits ≡ option_map (λ bs. byte ∷ bs) (pairs_of (take (length digits - 2) (drop 2 digits)))
+next_pair [] byte two e = absurd (omega (arith, two))
+next_pair (c ∷ []) byte two e = absurd (omega (arith, two))
+next_pair (high ∷ low ∷ cs) byte two e =
+    ap (λ (o : Option ℕ). prepended o (pairs_of cs)) e ∙ ap (λ (ds : List ℕ). option_map (λ bs. byte ∷ bs) (pairs_of ds)) (sym (take_all (suc (suc (length cs)) - 2) cs (omega arith)))
 
 -- all pairs are read
 pub none_left : (bytes rest : List ℕ) (all : Option (List ℕ)) → (length rest == 0) ≡ true → option_map (λ bs. bytes ++ bs) (pairs_of rest) ≡ all → Some bytes ≡ all

@@ -2,6 +2,7 @@
 use Rattle.std.proofs.Common.{◌≡◌, refl, sym, ap, ◌∙◌, ℕ, zero, suc, ◌+◌, ◌<◌, arith, add-one, List, [], ◌∷◌, Bool, true, false, cond, length, get_or, take, drop, Option, Some, None, Err}
 use Rattle.std.specs.Prelude.{position, ◌==◌}
 use Rattle.std.specs.List.{slice_split, onto_first}
+use Rattle.std.proofs.lemmas.Bool.{false_from_ne_true}
 use Rattle.std.proofs.lemmas.List.Quantifiers.{position-Some}
 use Rattle.rd_script.proofs.ListLemmas.{position_none}
 use Rattle.std.specs.Borrow.{Bor}
@@ -9,10 +10,6 @@ use Rattle.memchr.specs.Find.{IsFirstByte, is_byte}
 use Rattle.std.specs.Option.{is_some}
 use Rattle.rd_script.specs.Row.{words_left, words_of, none_met}
 use Rattle.rd_script.specs.declared.why.LineWhy.TheVariants as why
-
-not_true_false : (b : Bool) → ¬ (b ≡ true) → b ≡ false
-not_true_false true h = absurd (h refl)
-not_true_false false h = refl
 
 cut_none : (byte : ℕ) (text : List ℕ) → ((k : ℕ) → k < length text → (get_or text k 0 == byte) ≡ false) → slice_split (λ b. b == byte) text ≡ text ∷ []
 cut_none byte [] h = refl
@@ -40,12 +37,12 @@ parts_one byte text e = cut_none byte text (position_none (λ (b : ℕ). b == by
 -- a byte that was found first
 pub parts_before_first : (byte : ℕ) (text : List ℕ) (i : ℕ) → IsFirstByte (is_byte byte) text (Some i) → slice_split (λ b. b == byte) text ≡ take i text ∷ slice_split (λ b. b == byte) (drop (i + 1) text)
 parts_before_first byte text i h =
-    cut_at byte text i h.0.high h.1 (λ k below. not_true_false (get_or text k 0 == byte) (h.0.before k (omega arith) below))
+    cut_at byte text i h.0.high h.1 (λ k below. false_from_ne_true (get_or text k 0 == byte) (h.0.before k (omega arith) below))
     ∙ ap (λ (n : ℕ). take i text ∷ slice_split (λ b. b == byte) (drop n text)) (sym (add-one i))
 
 -- no such byte was found
 pub parts_without : (byte : ℕ) (text : List ℕ) → IsFirstByte (is_byte byte) text None → slice_split (λ b. b == byte) text ≡ text ∷ []
-parts_without byte text h = cut_none byte text (λ k below. not_true_false (get_or text k 0 == byte) (h k (omega arith) below))
+parts_without byte text h = cut_none byte text (λ k below. false_from_ne_true (get_or text k 0 == byte) (h k (omega arith) below))
 
 some_left : (text : List ℕ) → none_met (words_of text) ≡ Err why.Words
 some_left [] = refl

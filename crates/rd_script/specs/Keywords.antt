@@ -44,9 +44,6 @@ keywords =
     ∷ (codes "connect", keyword.Connect)
     ∷ []
 
-abbrev pub keyword_of : List ℕ → Option Keyword
-keyword_of word = entry_at keywords word
-
 -- what an application's line may do
 abbrev pub verbs : List (List ℕ × Verb)
 verbs =
@@ -65,9 +62,6 @@ verbs =
     ∷ (codes "notify", verb.Notify)
     ∷ []
 
-abbrev pub verb_of : List ℕ → Option Verb
-verb_of word = entry_at verbs word
-
 -- what a `do` line may ask for
 abbrev pub errand_words : List (List ℕ × ErrandWord)
 errand_words =
@@ -81,20 +75,14 @@ errand_words =
     ∷ (codes "back", errand.Back)
     ∷ []
 
-abbrev pub errand_word_of : List ℕ → Option ErrandWord
-errand_word_of word = entry_at errand_words word
-
 -- what a `cache` line may tell
-abbrev pub notices : List (List ℕ × NoticeWord)
-notices =
+abbrev pub notice_words : List (List ℕ × NoticeWord)
+notice_words =
     (codes "add", notice.Add)
     ∷ (codes "update", notice.Update)
     ∷ (codes "delete", notice.Delete)
     ∷ (codes "rename", notice.Rename)
     ∷ []
-
-abbrev pub notice_of : List ℕ → Option NoticeWord
-notice_of word = entry_at notices word
 
 -- what an `at` line may do
 abbrev pub acts : List (List ℕ × Act)
@@ -103,9 +91,6 @@ acts =
     ∷ (codes "add", act.Add)
     ∷ (codes "drop", act.Drop)
     ∷ []
-
-abbrev pub act_of : List ℕ → Option Act
-act_of word = entry_at acts word
 
 -- ---- modes
 

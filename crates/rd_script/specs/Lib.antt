@@ -6,7 +6,7 @@ pub mod Said
 pub mod Kept
 pub mod Rows
 pub mod Script
-pub mod Asking
+pub mod ReportLines
 pub mod Report
 pub mod Load
 pub mod Spelled

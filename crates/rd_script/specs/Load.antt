@@ -25,13 +25,13 @@ blocks application i zero = []
 blocks application i (suc count) = write_and_read application i ++ blocks application (i + 1) count
 
 -- the drive that an application uses: the first where its number is odd
-abbrev pub drive_of : ℕ → ℕ
-drive_of application = if application % 2 == 1 then 1 else 2
+abbrev pub drive_number : ℕ → ℕ
+drive_number application = if application % 2 == 1 then 1 else 2
 
 -- the file that it makes
 abbrev pub create_line : ℕ → Line
 create_line application =
-    line.Create application (codes "h") (drive_of application) (codes "\\f" ++ (0x30 + application) ∷ []) 2 0xc0000000 7 0 0
+    line.Create application (codes "h") (drive_number application) (codes "\\f" ++ (0x30 + application) ∷ []) 2 0xc0000000 7 0 0
 
 -- an application makes its file, writes and reads so many blocks, and closes it
 abbrev pub load_application : ℕ → ℕ → List Line
@@ -57,5 +57,5 @@ abbrev pub load_script : ℕ → Script
 load_script count = record { mode = mode.Both; lines = numbered 1 (load_lines count) }
 
 -- the new lines are the old ones and some more, numbered on, whatever comes after them
-abbrev pub Adds : List NumberedLine → List NumberedLine → List Line → Type 0
-Adds old new ls = (rest : List Line) → new ++ numbered (length new + 1) rest ≡ old ++ numbered (length old + 1) (ls ++ rest)
+abbrev pub AddsLines : List NumberedLine → List NumberedLine → List Line → Type 0
+AddsLines old new ls = (rest : List Line) → new ++ numbered (length new + 1) rest ≡ old ++ numbered (length old + 1) (ls ++ rest)

@@ -48,12 +48,12 @@ number_word least most = do
   done n
 
 -- a number of 64 bits
-abbrev pub number64 : Row ℕ
-number64 = number_word 0 (2 ^ 64 - 1)
+abbrev pub number64_word : Row ℕ
+number64_word = number_word 0 (2 ^ 64 - 1)
 
 -- a number of 32 bits
-abbrev pub number32 : Row ℕ
-number32 = number_word 0 (2 ^ 32 - 1)
+abbrev pub number32_word : Row ℕ
+number32_word = number_word 0 (2 ^ 32 - 1)
 
 -- `0` or `1`, which say whether
 abbrev pub flag_of : List ℕ → Option Bool

@@ -21,7 +21,7 @@ use Rattle.rd_script.specs.declared.outcome.Outcomes.{Outcomes}
 use Rattle.rd_script.specs.declared.outcome.Refusal.{Refusal}
 use Rattle.rd_script.specs.declared.outcome.Refusal.TheVariants as refusal
 use Rattle.rd_script.specs.declared.script.Script.{Script}
-use Rattle.rd_script.specs.Asking.{kinds_of, devices_of}
+use Rattle.rd_script.specs.ReportLines.{kinds_of, devices_of}
 
 -- a status as eight lower-case digits, the highest first
 abbrev pub status_digits : Status → List ℕ
@@ -53,13 +53,18 @@ outcome_text k (outcome.Lost why) = codes " lost " ++ cause_word why
 outcome_text k (outcome.Refused why) = codes " refused " ++ refusal_word why
 
 -- the layout of the completion of an application's line, counted from 1 in that application
-abbrev pub kind_at : List NumberedLine → ℕ × ℕ → Option Kind
-kind_at lines id = slice_get (kinds_of id.0 lines) (id.1 - 1)
+abbrev pub kind_of_line : List NumberedLine → ℕ × ℕ → Option Kind
+kind_of_line lines id = slice_get (kinds_of id.0 lines) (id.1 - 1)
+
+-- the outcomes of an application, each under its number, from a number on
+abbrev pub numbered_from : ℕ → ℕ → List Outcome → List ((ℕ × ℕ) × Outcome)
+numbered_from a number [] = []
+numbered_from a number (o ∷ os) = ((a, number), o) ∷ numbered_from a (number + 1) os
 
 -- the line of an outcome
 abbrev pub outcome_line : List NumberedLine → (ℕ × ℕ) × Outcome → List ℕ
 outcome_line lines e =
-    decimal e.0.0 ++ codes "." ++ decimal e.0.1 ++ outcome_text (unwrap_or (kind_at lines e.0) kind.Buffer) e.1 ++ codes "\n"
+    decimal e.0.0 ++ codes "." ++ decimal e.0.1 ++ outcome_text (unwrap_or (kind_of_line lines e.0) kind.Buffer) e.1 ++ codes "\n"
 
 -- the line of a control line that did nothing
 abbrev pub idle_line : ℕ → List ℕ
@@ -75,12 +80,12 @@ abbrev pub device_line : ℕ × History → List ℕ
 device_line d = codes "device " ++ decimal d.0 ++ codes " ran " ++ decimal (count_by is_run d.1.items) ++ codes "\n"
 
 -- whether a device is among some
-abbrev pub is_among : List ℕ → ℕ × History → Bool
-is_among devices d = list_any (λ id. id == d.0) devices
+abbrev pub is_of_devices : List ℕ → ℕ × History → Bool
+is_of_devices devices d = list_any (λ id. id == d.0) devices
 
 -- the line of a device, if it is among some
 abbrev pub listed_line : List ℕ → ℕ × History → List ℕ
-listed_line devices d = if is_among devices d then device_line d else []
+listed_line devices d = if is_of_devices devices d then device_line d else []
 
 -- the lines of a script's devices
 abbrev pub device_lines : List NumberedLine → List (ℕ × History) → List ℕ
@@ -97,8 +102,8 @@ abbrev pub document_lines : ℕ × List (List ℕ) → List ℕ
 document_lines d = documents_from d.0 1 d.1
 
 -- the line of what a client keeps for a printer
-abbrev pub cache_line : {A : Type 0} → Vec ℕ A × List ℕ → List ℕ
-cache_line e = codes "cache " ++ hex_text e.0.items ++ codes " " ++ hex_text e.1 ++ codes "\n"
+abbrev pub cached_line : {A : Type 0} → Vec ℕ A × List ℕ → List ℕ
+cached_line e = codes "cache " ++ hex_text e.0.items ++ codes " " ++ hex_text e.1 ++ codes "\n"
 
 -- The report: the outcomes by application and line, the lines that did nothing, the devices, the documents, and what is kept for printers.
 abbrev pub report_of : Script → Outcomes → List (ℕ × History) → List ℕ
@@ -107,7 +112,7 @@ report_of script outcomes books =
     ++ flat_map idle_line outcomes.idle.items
     ++ device_lines script.lines books
     ++ flat_map document_lines outcomes.documents.entries
-    ++ flat_map cache_line outcomes.cache.entries
+    ++ flat_map cached_line outcomes.cache.entries
 
 -- ---- what a report can be made of
 
@@ -121,7 +126,7 @@ IsOfLine (Some k) (outcome.Refused why) = Unit {0}
 -- each outcome is of an application's line
 abbrev pub AreOfLines : List NumberedLine → List ((ℕ × ℕ) × Outcome) → Type 0
 AreOfLines lines [] = Unit {0}
-AreOfLines lines (e ∷ es) = IsOfLine (kind_at lines e.0) e.1 × AreOfLines lines es
+AreOfLines lines (e ∷ es) = IsOfLine (kind_of_line lines e.0) e.1 × AreOfLines lines es
 
 -- each device of a script has a journal
 abbrev pub HasJournals : List NumberedLine → List (ℕ × History) → Type 0

@@ -2,6 +2,7 @@
 use Rattle.std.specs.Prelude.{◌≡◌, ℕ, Bool, if◌then◌else◌, List, [], ◌∷◌, Option, Some, None, Result, Ok, Err, ◌==◌}
 use Rattle.std.specs.List.{slice_split}
 use Rattle.std.specs.Borrow.{Bor}
+use Rattle.rd_base.specs.Layout.{and_then}
 use Rattle.rd_script.specs.declared.why.LineWhy.{LineWhy}
 use Rattle.rd_script.specs.declared.why.LineWhy.TheVariants as why
 use Rattle.rd_script.specs.declared.why.LineNo.{LineNo}
@@ -41,11 +42,6 @@ infixl 10 ◌>>◌
 abbrev pub ◌>>◌ : {A B : Type 0} → Row A → Row B → Row B
 l >> next = l >>= λ _. next
 
--- the next step, unless this one failed
-abbrev pub and_then : {A B : Type 0} → Result A LineWhy → (A → Result B LineWhy) → Result B LineWhy
-and_then (Ok a) f = f a
-and_then (Err e) f = Err e
-
 -- the first of some words, and the words after it
 abbrev pub first_met : List (List ℕ) → Result (List ℕ × List (List ℕ)) LineWhy
 first_met [] = Err why.Words
@@ -62,23 +58,23 @@ given_met None cause ws = Err cause
 given_met (Some x) cause ws = Ok (x, ws)
 
 -- Meets the words from left to right: the value and the words after it, or why the first word that is wrong is.
-abbrev pub met : {A : Type 0} → Row A → List (List ℕ) → Result (A × List (List ℕ)) LineWhy
-met (done x) ws = Ok (x, ws)
-met word ws = first_met ws
-met last ws = none_met ws
-met (test holds cause) ws = if holds then Ok (tt, ws) else Err cause
-met (given o cause) ws = given_met o cause ws
-met (l >>= next) ws = and_then (met l ws) (λ x. met (next x.0) x.1)
+abbrev pub met_words : {A : Type 0} → Row A → List (List ℕ) → Result (A × List (List ℕ)) LineWhy
+met_words (done x) ws = Ok (x, ws)
+met_words word ws = first_met ws
+met_words last ws = none_met ws
+met_words (test holds cause) ws = if holds then Ok (tt, ws) else Err cause
+met_words (given o cause) ws = given_met o cause ws
+met_words (l >>= next) ws = and_then (met_words l ws) (λ x. met_words (next x.0) x.1)
 
 -- ---- what readers of words return
 
 -- from the old words to the new ones it reads the row's value, as the view sees it, or why the first word that is wrong is
-abbrev pub Reads : {X A : Type 0} → (X → A) → Row A → List (List ℕ) → List (List ℕ) → Result X LineWhy → Type 0
-Reads view l old new (Ok x) = met l old ≡ Ok (view x, new)
-Reads view l old new (Err cause) = met l old ≡ Err cause
+abbrev pub ReadsWords : {X A : Type 0} → (X → A) → Row A → List (List ℕ) → List (List ℕ) → Result X LineWhy → Type 0
+ReadsWords view l old new (Ok x) = met_words l old ≡ Ok (view x, new)
+ReadsWords view l old new (Err cause) = met_words l old ≡ Err cause
 
 -- the same, unless memory runs out
-abbrev pub ReadsInto : {X A : Type 0} → (X → A) → Row A → List (List ℕ) → List (List ℕ) → Result X LineNo → Type 0
-ReadsInto view l old new (Ok x) = met l old ≡ Ok (view x, new)
-ReadsInto view l old new (Err no.Memory) = Unit {0}
-ReadsInto view l old new (Err (no.Why cause)) = met l old ≡ Err cause
+abbrev pub ReadsWordsInto : {X A : Type 0} → (X → A) → Row A → List (List ℕ) → List (List ℕ) → Result X LineNo → Type 0
+ReadsWordsInto view l old new (Ok x) = met_words l old ≡ Ok (view x, new)
+ReadsWordsInto view l old new (Err no.Memory) = Unit {0}
+ReadsWordsInto view l old new (Err (no.Why cause)) = met_words l old ≡ Err cause

@@ -6,6 +6,7 @@ use Rattle.std.specs.Cmp.Lexicographic.{slice_cmp}
 use Rattle.std.specs.declared.cmp.Ordering.{Ordering}
 use Rattle.std.specs.Map.{lookup}
 use Rattle.std.specs.BTreeMap.{insert_entry, is_at}
+use Rattle.rd_base.specs.Limits.{max_nodes}
 use Rattle.rd_dirinfo.specs.declared.naming.Naming.{Naming}
 use Rattle.rd_dirinfo.specs.declared.naming.Naming.TheVariants as naming
 use Rattle.rd_dirinfo.specs.Paths.{Names, seen_path, parent}
@@ -21,12 +22,12 @@ abbrev pub Nodes : Type 0
 Nodes = List (Names × Bool)
 
 -- the order of paths as they are seen
-abbrev pub key_cmp : Names → Names → Ordering
-key_cmp = slice_cmp (slice_cmp nat_cmp)
+abbrev pub names_cmp : Names → Names → Ordering
+names_cmp = slice_cmp (slice_cmp nat_cmp)
 
 -- whether a folder is at a path, if anything is
-abbrev pub node_at : Nodes → Names → Option Bool
-node_at nodes key = lookup (is_at (key_cmp key)) nodes
+abbrev pub said_node : Nodes → Names → Option Bool
+said_node nodes key = lookup (is_at (names_cmp key)) nodes
 
 -- a device that a line declared
 pub record SaidDevice : Type 0 where
@@ -46,16 +47,12 @@ abbrev pub nothing_said : Mode → Said
 nothing_said m = record { mode = m; devices = []; channel = 0; requests = 0 }
 
 -- the root alone
-abbrev pub root_alone : Nodes
-root_alone = ([], true) ∷ []
+abbrev pub root_node : Nodes
+root_node = ([], true) ∷ []
 
 -- the most devices of a script
-abbrev pub max_devices : ℕ
-max_devices = 32
-
--- the most nodes of a drive, with the root
-abbrev pub max_nodes : ℕ
-max_nodes = 65536
+abbrev pub max_script_devices : ℕ
+max_script_devices = 32
 
 -- ---- what a line may name
 
@@ -85,7 +82,7 @@ naming_at said id = option_and_then (λ (d : SaidDevice). naming_of d.kind) (dev
 abbrev pub is_free_key : Nodes → Names → Bool
 is_free_key nodes [] = false
 is_free_key nodes (name ∷ names) =
-    unwrap_or (node_at nodes (parent (name ∷ names))) false && not (is_some (node_at nodes (name ∷ names)))
+    unwrap_or (said_node nodes (parent (name ∷ names))) false && not (is_some (said_node nodes (name ∷ names)))
 
 -- a node can be made at a path of a device
 abbrev pub is_free_in : Names → SaidDevice → Bool
@@ -105,21 +102,21 @@ is_in_order said channel requests = nat_lt said.channel channel || said.channel 
 -- ---- what a line adds
 
 -- with one more device
-abbrev pub with_device : Said → ℕ → DeviceKind → Said
-with_device said id k = record said { devices = said.devices ++ record { id = id; kind = k; nodes = root_alone } ∷ [] }
+abbrev pub with_said_device : Said → ℕ → DeviceKind → Said
+with_said_device said id k = record said { devices = said.devices ++ record { id = id; kind = k; nodes = root_node } ∷ [] }
 
 -- with one more node, which is a folder or not
-abbrev pub with_node : Names → Bool → SaidDevice → SaidDevice
-with_node path folder d =
-    option_map_or (λ n. record d { nodes = insert_entry key_cmp d.nodes (seen_path n path) folder }) (naming_of d.kind) d
+abbrev pub with_said_node : Names → Bool → SaidDevice → SaidDevice
+with_said_node path folder d =
+    option_map_or (λ n. record d { nodes = insert_entry names_cmp d.nodes (seen_path n path) folder }) (naming_of d.kind) d
 
 -- with the first device of an id changed
-abbrev pub changed_at : ℕ → (SaidDevice → SaidDevice) → List SaidDevice → List SaidDevice
-changed_at id change [] = []
-changed_at id change (d ∷ ds) = if d.id == id then change d ∷ ds else d ∷ changed_at id change ds
+abbrev pub with_device_changed : ℕ → (SaidDevice → SaidDevice) → List SaidDevice → List SaidDevice
+with_device_changed id change [] = []
+with_device_changed id change (d ∷ ds) = if d.id == id then change d ∷ ds else d ∷ with_device_changed id change ds
 
 abbrev pub with_node_at : Said → ℕ → Names → Bool → Said
-with_node_at said id path folder = record said { devices = changed_at id (with_node path folder) said.devices }
+with_node_at said id path folder = record said { devices = with_device_changed id (with_said_node path folder) said.devices }
 
 -- with one more `at` line
 abbrev pub with_moment : Said → ℕ → ℕ → Said
@@ -127,10 +124,10 @@ with_moment said channel requests = record said { channel = channel; requests = 
 
 -- what is said with one more line
 abbrev pub with_line : Said → Line → Said
-with_line said (line.Drive device name) = with_device said device (kind.Drive naming.Exact)
-with_line said (line.DriveFold device name) = with_device said device (kind.Drive naming.Folded)
-with_line said (line.Real device name place) = with_device said device kind.Real
-with_line said (line.Printer device name driver printer) = with_device said device kind.Printer
+with_line said (line.Drive device name) = with_said_device said device (kind.Drive naming.Exact)
+with_line said (line.DriveFold device name) = with_said_device said device (kind.Drive naming.Folded)
+with_line said (line.Real device name place) = with_said_device said device kind.Real
+with_line said (line.Printer device name driver printer) = with_said_device said device kind.Printer
 with_line said (line.Folder device path) = with_node_at said device path true
 with_line said (line.File device path bytes) = with_node_at said device path false
 with_line said (line.Fill device path len byte) = with_node_at said device path false

@@ -2,6 +2,7 @@
 use Rattle.std.specs.Prelude.{◌≡◌, ℕ, ◌+◌, ◌&&◌, ◌==◌, not, nat_le, nat_lt, Bool, true, false, if◌then◌else◌, List, [], ◌∷◌, ◌++◌, length, Option, Some, None, Result, Ok, Err}
 use Rattle.std.specs.Borrow.{Bor}
 use Rattle.std.specs.List.{slice_split}
+use Rattle.rd_base.specs.Layout.{and_then}
 use Rattle.rd_script.specs.declared.why.LineWhy.{LineWhy}
 use Rattle.rd_script.specs.declared.why.LineWhy.TheVariants as why
 use Rattle.rd_script.specs.declared.why.LineNo.{LineNo}
@@ -12,7 +13,7 @@ use Rattle.rd_script.specs.declared.keyword.Mode.{Mode}
 use Rattle.rd_script.specs.declared.line.Line.{Line}
 use Rattle.rd_script.specs.declared.line.NumberedLine.{NumberedLine}
 use Rattle.rd_script.specs.declared.script.Script.{Script}
-use Rattle.rd_script.specs.Row.{words_of, and_then, met}
+use Rattle.rd_script.specs.Row.{words_of, met_words}
 use Rattle.rd_script.specs.Said.{Said, nothing_said, with_line}
 use Rattle.rd_script.specs.Rows.{line_row}
 
@@ -43,7 +44,7 @@ is_application (c ∷ cs) = nat_le 0x30 c && nat_le c 0x39
 
 -- the line of a text after what was said, or why it is none
 unfoldable pub line_of : Said → List ℕ → Result Line LineWhy
-line_of said text = and_then (met (line_row said (is_application text)) (words_of text)) (λ x. Ok x.0)
+line_of said text = and_then (met_words (line_row said (is_application text)) (words_of text)) (λ x. Ok x.0)
 
 -- the line is found, or why it is none, unless memory runs out
 abbrev pub FindsLine : Result Line LineWhy → Result Line LineNo → Type 0
@@ -67,8 +68,8 @@ pub record Reading : Type 0 where
   pub bytes : ℕ
 
 -- nothing was read
-abbrev pub at_start : Mode → Reading
-at_start m = record { said = nothing_said m; lines = []; number = 0; bytes = 0 }
+abbrev pub reading_at_start : Mode → Reading
+reading_at_start m = record { said = nothing_said m; lines = []; number = 0; bytes = 0 }
 
 -- the first bad line
 pub record BadLine : Type 0 where
@@ -126,7 +127,7 @@ script_read m (Err bad) = Err bad
 -- What a text says in a mode: its lines, each with its number, without those that are skipped; or its first line that is outside the
 -- grammar, and why.
 abbrev pub script_of : Mode → List ℕ → Result Script BadLine
-script_of m text = script_read m (read_all (lines_of text) (at_start m))
+script_of m text = script_read m (read_all (lines_of text) (reading_at_start m))
 
 -- ---- what readers return
 

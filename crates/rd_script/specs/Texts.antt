@@ -26,8 +26,8 @@ abbrev pub is_visible : ℕ → Bool
 is_visible c = nat_le 0x21 c && nat_le c 0x7e
 
 -- up to seven visible ASCII characters, and at least one
-abbrev pub is_name : List ℕ → Bool
-is_name w = nat_le 1 (length w) && nat_le (length w) 7 && list_all is_visible w
+abbrev pub is_application_name : List ℕ → Bool
+is_application_name w = nat_le 1 (length w) && nat_le (length w) 7 && list_all is_visible w
 
 -- an application's own name of a handle
 unfoldable pub handle_word : Row (List ℕ)
@@ -40,7 +40,7 @@ handle_word = do
 unfoldable pub name_word : Row (List ℕ)
 name_word = do
   w ← word
-  test (is_name w) why.Name
+  test (is_application_name w) why.Name
   done w
 
 -- UTF-8 text, and not empty
@@ -109,24 +109,24 @@ few_units cause most = do
 -- ---- bytes
 
 -- the first with those after it, if all are there
-abbrev pub joined : {A : Type 0} → Option A → Option (List A) → Option (List A)
-joined None others = None
-joined (Some x) others = option_map (λ xs. x ∷ xs) others
+abbrev pub prepended : {A : Type 0} → Option A → Option (List A) → Option (List A)
+prepended None others = None
+prepended (Some x) others = option_map (λ xs. x ∷ xs) others
 
--- the bytes that pairs of lower-case digits are, pair by pair: what `decoded` has of a word (TextLemmas)
+-- the bytes that pairs of lower-case digits are, pair by pair: what `hex_decoded` has of a word (TextLemmas)
 abbrev pub pairs_of : List ℕ → Option (List ℕ)
 pairs_of [] = Some []
 pairs_of (c ∷ []) = None
-pairs_of (high ∷ low ∷ cs) = joined (digits_from 16 0 (high ∷ low ∷ [])) (pairs_of cs)
+pairs_of (high ∷ low ∷ cs) = prepended (digits_from 16 0 (high ∷ low ∷ [])) (pairs_of cs)
 
 -- the bytes that pairs of lower-case digits are
-abbrev pub decoded : List ℕ → Option (List ℕ)
-decoded [] = None
-decoded (c ∷ cs) = if list_all is_lower (c ∷ cs) then result_ok (decode_of (c ∷ cs)) else None
+abbrev pub hex_decoded : List ℕ → Option (List ℕ)
+hex_decoded [] = None
+hex_decoded (c ∷ cs) = if list_all is_lower (c ∷ cs) then result_ok (decode_of (c ∷ cs)) else None
 
 -- the bytes that a word is
 abbrev pub hex_of : List ℕ → Option (List ℕ)
-hex_of w = if is_dash w then Some [] else decoded w
+hex_of w = if is_dash w then Some [] else hex_decoded w
 
 -- bytes
 unfoldable pub hex_word : Row (List ℕ)
@@ -144,18 +144,18 @@ few_bytes most = do
 -- ---- ranges
 
 -- an offset and a length
-abbrev pub range : ℕ → ℕ → Range
-range offset len = record { offset = offset; length = len }
+abbrev pub range_from : ℕ → ℕ → Range
+range_from offset len = record { offset = offset; length = len }
 
 -- two numbers with a colon between them
 abbrev pub range_of : List ℕ → Option Range
 range_of part =
-    option_and_then (λ i. option_and_then (λ offset. option_map (range offset) (small (number_of (drop (i + 1) part)))) (small (number_of (take i part)))) (position (λ c. c == 0x3a) part)
+    option_and_then (λ i. option_and_then (λ offset. option_map (range_from offset) (small (number_of (drop (i + 1) part)))) (small (number_of (take i part)))) (position (λ c. c == 0x3a) part)
 
 -- all parts are ranges
 abbrev pub all_ranges : List (List ℕ) → Option (List Range)
 all_ranges [] = Some []
-all_ranges (part ∷ parts) = joined (range_of part) (all_ranges parts)
+all_ranges (part ∷ parts) = prepended (range_of part) (all_ranges parts)
 
 -- the ranges that a word is, with commas between them
 abbrev pub ranges_of : List ℕ → Option (List Range)

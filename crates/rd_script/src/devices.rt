@@ -1,12 +1,9 @@
 //! The lines of settings and of devices.
 
-ghost use Rattle.std.specs.Prelude.{◌≡◌, true, false, OnOk, IfErr};
-ghost use Rattle.rd_dirinfo.specs.Paths.{path_of};
-ghost use Rattle.rd_script.specs.Row.{Reads, ReadsInto};
+ghost use Rattle.rd_dirinfo.specs.Paths.{parsed_path};
+ghost use Rattle.rd_script.specs.Row.{ReadsWords, ReadsWordsInto};
 ghost use Rattle.rd_script.specs.Rows.{SplitsInto, channels_row, clock_row, devices_row, drive_id, drive_row, drivefold_row, file_row, fill_length, fill_row, folder_row, known_device, new_device, new_path, piece_row, printer_name, printer_row, real_row, seed_row, workers_row};
 ghost use Rattle.rd_script.specs.Numbers.{number_word};
-ghost use Rattle.rd_script.specs.Said.{has_room};
-ghost use Rattle.rd_script.specs.declared.why.LineWhy.TheVariants as LineWhy;
 
 use crate::inline::BoxedUnits;
 use crate::known::Known;
@@ -26,63 +23,57 @@ const MAX_FILL: u64 = 16_777_216;
 pub const MAX_PRINTER_NAME: usize = 255;
 
 #[tactic(auto, unfolding(crate::specs::Rows::seed_row))]
-pub fn read_seed(words: &mut Words<'_>) -> Result<Line, LineWhy>
-    ensures { Reads (λ x. x) seed_row words.old words.new result }
+pub fn read_seed(words: &mut Words<'_>) -> Result<Line, LineNo>
+    ensures { ReadsWordsInto (λ x. x) seed_row words.old words.new result }
 {
     let number = read_u64(words)?;
-    words.end()?;
     Ok(Line::Seed { number })
 }
 
 #[tactic(auto, unfolding(crate::specs::Rows::clock_row))]
-pub fn read_clock(words: &mut Words<'_>) -> Result<Line, LineWhy>
-    ensures { Reads (λ x. x) clock_row words.old words.new result }
+pub fn read_clock(words: &mut Words<'_>) -> Result<Line, LineNo>
+    ensures { ReadsWordsInto (λ x. x) clock_row words.old words.new result }
 {
     let moment = read_u64(words)?;
-    words.end()?;
     Ok(Line::Clock { moment })
 }
 
 #[tactic(auto, unfolding(crate::specs::Rows::piece_row))]
-pub fn read_piece(words: &mut Words<'_>) -> Result<Line, LineWhy>
-    ensures { Reads (λ x. x) piece_row words.old words.new result }
+pub fn read_piece(words: &mut Words<'_>) -> Result<Line, LineNo>
+    ensures { ReadsWordsInto (λ x. x) piece_row words.old words.new result }
 {
     let most = read_small(words, 1, 65_536)?;
-    words.end()?;
     Ok(Line::Piece { most })
 }
 
 #[tactic(auto, unfolding(crate::specs::Rows::workers_row))]
-pub fn read_workers(words: &mut Words<'_>) -> Result<Line, LineWhy>
-    ensures { Reads (λ x. x) workers_row words.old words.new result }
+pub fn read_workers(words: &mut Words<'_>) -> Result<Line, LineNo>
+    ensures { ReadsWordsInto (λ x. x) workers_row words.old words.new result }
 {
     let count = read_small(words, 1, 16)?;
-    words.end()?;
     Ok(Line::Workers { count })
 }
 
 #[tactic(auto, unfolding(crate::specs::Rows::channels_row))]
-pub fn read_channels(words: &mut Words<'_>) -> Result<Line, LineWhy>
-    ensures { Reads (λ x. x) channels_row words.old words.new result }
+pub fn read_channels(words: &mut Words<'_>) -> Result<Line, LineNo>
+    ensures { ReadsWordsInto (λ x. x) channels_row words.old words.new result }
 {
     let count = read_small(words, 1, 64)?;
-    words.end()?;
     Ok(Line::Channels { count })
 }
 
 #[tactic(auto, unfolding(crate::specs::Rows::devices_row))]
-pub fn read_devices(words: &mut Words<'_>) -> Result<Line, LineWhy>
-    ensures { Reads (λ x. x) devices_row words.old words.new result }
+pub fn read_devices(words: &mut Words<'_>) -> Result<Line, LineNo>
+    ensures { ReadsWordsInto (λ x. x) devices_row words.old words.new result }
 {
     let count = read_small(words, 0, 256)?;
-    words.end()?;
     Ok(Line::Devices { count })
 }
 
 /// The id of a device that wasn't declared before, where one more may be.
 #[tactic(auto, unfolding(crate::specs::Rows::new_device))]
 fn read_new_device(known: &Known, words: &mut Words<'_>) -> Result<u32, LineWhy>
-    ensures { Reads (λ x. x) (new_device known.now) words.old words.new result }
+    ensures { ReadsWords (λ x. x) (new_device known.now) words.old words.new result }
 {
     let device = read_small(words, 1, u32::MAX)?;
     if known.is_declared(device) {
@@ -97,7 +88,7 @@ fn read_new_device(known: &Known, words: &mut Words<'_>) -> Result<u32, LineWhy>
 /// The id of a device that a line may name.
 #[tactic(auto, unfolding(crate::specs::Rows::known_device))]
 pub fn read_device(known: &Known, words: &mut Words<'_>) -> Result<u32, LineWhy>
-    ensures { Reads (λ x. x) (known_device known.now) words.old words.new result }
+    ensures { ReadsWords (λ x. x) (known_device known.now) words.old words.new result }
 {
     let device = read_small(words, 1, u32::MAX)?;
     if !known.is_known(device) {
@@ -109,7 +100,7 @@ pub fn read_device(known: &Known, words: &mut Words<'_>) -> Result<u32, LineWhy>
 /// The id of a drive in memory.
 #[tactic(auto, unfolding(crate::specs::Rows::drive_id))]
 fn read_drive_id(known: &Known, words: &mut Words<'_>) -> Result<u32, LineWhy>
-    ensures { Reads (λ x. x) (drive_id known.now) words.old words.new result }
+    ensures { ReadsWords (λ x. x) (drive_id known.now) words.old words.new result }
 {
     let device = read_small(words, 1, u32::MAX)?;
     if known.naming(device).is_none() {
@@ -126,7 +117,7 @@ fn read_new_path(
     device: u32,
     words: &mut Words<'_>,
 ) -> Result<Path, LineNo>
-    ensures { ReadsInto (λ x. x) (new_path known.now device) words.old words.new result }
+    ensures { ReadsWordsInto (λ x. x) (new_path known.now device) words.old words.new result }
 {
     let units = read_units(alloc, words, LineWhy::Path)?;
     let path = split(alloc, &units)?;
@@ -138,7 +129,7 @@ fn read_new_path(
 
 /// The path that units are.
 fn split(alloc: Global, units: &Units) -> Result<Path, LineNo>
-    ensures { SplitsInto (path_of units.now) result }
+    ensures { SplitsInto (parsed_path units.now) result }
 {
     match Path::split(alloc, units.as_slice()) {
         Ok(path) => Ok(path),
@@ -147,45 +138,31 @@ fn split(alloc: Global, units: &Units) -> Result<Path, LineNo>
     }
 }
 
-/// The drive has room for one more node.
-fn check_room(known: &Known, device: u32) -> Result<(), LineWhy>
-    ensures ok { OnOk result (has_room known.now device ≡ true) }
-    ensures err { IfErr result (λ why. (has_room known.now device ≡ false) × (why ≡ LineWhy.Many)) }
-{
-    if !known.has_room(device) {
-        return Err(LineWhy::Many);
-    }
-    Ok(())
-}
-
 #[tactic(auto, unfolding(crate::specs::Rows::drive_row))]
 pub fn read_drive(known: &Known, words: &mut Words<'_>) -> Result<Line, LineNo>
-    ensures { ReadsInto (λ x. x) (drive_row known.now) words.old words.new result }
+    ensures { ReadsWordsInto (λ x. x) (drive_row known.now) words.old words.new result }
 {
     let device = read_new_device(known, words)?;
     let name = read_name(words)?;
-    words.end()?;
     Ok(Line::Drive { device, name })
 }
 
 #[tactic(auto, unfolding(crate::specs::Rows::drivefold_row))]
 pub fn read_drivefold(known: &Known, words: &mut Words<'_>) -> Result<Line, LineNo>
-    ensures { ReadsInto (λ x. x) (drivefold_row known.now) words.old words.new result }
+    ensures { ReadsWordsInto (λ x. x) (drivefold_row known.now) words.old words.new result }
 {
     let device = read_new_device(known, words)?;
     let name = read_name(words)?;
-    words.end()?;
     Ok(Line::DriveFold { device, name })
 }
 
 #[tactic(auto, unfolding(crate::specs::Rows::real_row))]
 pub fn read_real(alloc: Global, known: &Known, words: &mut Words<'_>) -> Result<Line, LineNo>
-    ensures { ReadsInto (λ x. x) (real_row known.now) words.old words.new result }
+    ensures { ReadsWordsInto (λ x. x) (real_row known.now) words.old words.new result }
 {
     let device = read_new_device(known, words)?;
     let name = read_name(words)?;
     let place = read_place(alloc, words)?;
-    words.end()?;
     Ok(Line::Real {
         device,
         name,
@@ -195,24 +172,20 @@ pub fn read_real(alloc: Global, known: &Known, words: &mut Words<'_>) -> Result<
 
 #[tactic(auto, unfolding(crate::specs::Rows::folder_row))]
 pub fn read_folder(alloc: Global, known: &Known, words: &mut Words<'_>) -> Result<Line, LineNo>
-    ensures { ReadsInto (λ x. x) (folder_row known.now) words.old words.new result }
+    ensures { ReadsWordsInto (λ x. x) (folder_row known.now) words.old words.new result }
 {
     let device = read_drive_id(known, words)?;
     let path = read_new_path(alloc, known, device, words)?;
-    words.end()?;
-    check_room(known, device)?;
     Ok(Line::Folder { device, path })
 }
 
 #[tactic(auto, unfolding(crate::specs::Rows::file_row))]
 pub fn read_file(alloc: Global, known: &Known, words: &mut Words<'_>) -> Result<Line, LineNo>
-    ensures { ReadsInto (λ x. x) (file_row known.now) words.old words.new result }
+    ensures { ReadsWordsInto (λ x. x) (file_row known.now) words.old words.new result }
 {
     let device = read_drive_id(known, words)?;
     let path = read_new_path(alloc, known, device, words)?;
     let bytes = read_hex(alloc, words)?;
-    words.end()?;
-    check_room(known, device)?;
     Ok(Line::File {
         device,
         path,
@@ -223,7 +196,7 @@ pub fn read_file(alloc: Global, known: &Known, words: &mut Words<'_>) -> Result<
 /// How many bytes a `fill` line makes.
 #[tactic(auto, unfolding(crate::specs::Rows::fill_length))]
 fn read_fill_length(words: &mut Words<'_>) -> Result<u32, LineWhy>
-    ensures { Reads (λ x. x) fill_length words.old words.new result }
+    ensures { ReadsWords (λ x. x) fill_length words.old words.new result }
 {
     let length = read_u64(words)?;
     if length > MAX_FILL {
@@ -234,7 +207,7 @@ fn read_fill_length(words: &mut Words<'_>) -> Result<u32, LineWhy>
 
 /// A byte as a number.
 fn read_byte(words: &mut Words<'_>) -> Result<u8, LineWhy>
-    ensures { Reads (λ x. x) (number_word 0 255) words.old words.new result }
+    ensures { ReadsWords (λ x. x) (number_word 0 255) words.old words.new result }
 {
     let byte = read_small(words, 0, 255)?;
     Ok(byte as u8)
@@ -242,14 +215,12 @@ fn read_byte(words: &mut Words<'_>) -> Result<u8, LineWhy>
 
 #[tactic(auto, unfolding(crate::specs::Rows::fill_row))]
 pub fn read_fill(alloc: Global, known: &Known, words: &mut Words<'_>) -> Result<Line, LineNo>
-    ensures { ReadsInto (λ x. x) (fill_row known.now) words.old words.new result }
+    ensures { ReadsWordsInto (λ x. x) (fill_row known.now) words.old words.new result }
 {
     let device = read_drive_id(known, words)?;
     let path = read_new_path(alloc, known, device, words)?;
     let length = read_fill_length(words)?;
     let byte = read_byte(words)?;
-    words.end()?;
-    check_room(known, device)?;
     Ok(Line::Fill {
         device,
         path,
@@ -260,14 +231,14 @@ pub fn read_fill(alloc: Global, known: &Known, words: &mut Words<'_>) -> Result<
 
 /// The name of a printer or a driver.
 pub fn read_printer_name(alloc: Global, words: &mut Words<'_>) -> Result<Units, LineNo>
-    ensures { ReadsInto (λ x. x) printer_name words.old words.new result }
+    ensures { ReadsWordsInto (λ x. x) printer_name words.old words.new result }
 {
     read_few_units(alloc, words, LineWhy::Name, MAX_PRINTER_NAME)
 }
 
 /// The same, behind a pointer.
 pub fn read_boxed_name(alloc: Global, words: &mut Words<'_>) -> Result<BoxedUnits, LineNo>
-    ensures { ReadsInto (λ x. x) printer_name words.old words.new result }
+    ensures { ReadsWordsInto (λ x. x) printer_name words.old words.new result }
 {
     let name = read_printer_name(alloc, words)?;
     Ok(BoxedUnits::of(alloc, name)?)
@@ -275,13 +246,12 @@ pub fn read_boxed_name(alloc: Global, words: &mut Words<'_>) -> Result<BoxedUnit
 
 #[tactic(auto, unfolding(crate::specs::Rows::printer_row))]
 pub fn read_printer(alloc: Global, known: &Known, words: &mut Words<'_>) -> Result<Line, LineNo>
-    ensures { ReadsInto (λ x. x) (printer_row known.now) words.old words.new result }
+    ensures { ReadsWordsInto (λ x. x) (printer_row known.now) words.old words.new result }
 {
     let device = read_new_device(known, words)?;
     let name = read_name(words)?;
     let driver = read_boxed_name(alloc, words)?;
     let printer = read_boxed_name(alloc, words)?;
-    words.end()?;
     Ok(Line::Printer {
         device,
         name,

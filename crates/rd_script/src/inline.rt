@@ -8,7 +8,7 @@ use std::marker::Model;
 const MOST: usize = 8;
 
 /// Up to eight bytes, which lie in the value itself.
-#[derive(Debug, Drop)]
+#[derive(Drop)]
 pub struct ShortName {
     bytes: [u8; MOST],
     len: u32,
@@ -56,7 +56,7 @@ impl ShortName {
 }
 
 /// Units behind a pointer, for a line that has many other parts.
-#[derive(Debug, Drop)]
+#[derive(Drop)]
 pub struct BoxedUnits {
     units: Box<Units>,
 }

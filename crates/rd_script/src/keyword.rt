@@ -1,7 +1,7 @@
 //! The words that say which line a line is.
 
 ghost use Rattle.std.specs.Prelude.{◌≡◌};
-ghost use Rattle.rd_script.specs.Keywords.{keyword_of, verb_of, errand_word_of, notice_of, act_of, stands_in, in_both, in_client, in_host};
+ghost use Rattle.rd_script.specs.Keywords.{stands_in, in_both, in_client, in_host};
 
 /// Whose lines a script has.
 #[derive(Clone, Copy, Debug, PartialEq, Eq)]
@@ -44,7 +44,7 @@ impl Mode {
 }
 
 /// The first word of a line that no application issues.
-#[derive(Clone, Copy, Debug, PartialEq, Eq)]
+#[derive(Clone, Copy)]
 pub enum Keyword {
     Seed,
     Clock,
@@ -70,7 +70,7 @@ pub enum Keyword {
 }
 
 /// What an application's line does: its second word.
-#[derive(Clone, Copy, Debug, PartialEq, Eq)]
+#[derive(Clone, Copy)]
 pub enum Verb {
     Open,
     Create,
@@ -88,7 +88,7 @@ pub enum Verb {
 }
 
 /// The second word of a `do` line.
-#[derive(Clone, Copy, Debug, PartialEq, Eq)]
+#[derive(Clone, Copy)]
 pub enum ErrandWord {
     Issue,
     Send,
@@ -101,7 +101,7 @@ pub enum ErrandWord {
 }
 
 /// The second word of a `cache` line.
-#[derive(Clone, Copy, Debug, PartialEq, Eq)]
+#[derive(Clone, Copy)]
 pub enum NoticeWord {
     Add,
     Update,
@@ -110,43 +110,39 @@ pub enum NoticeWord {
 }
 
 /// The fourth word of an `at` line.
-#[derive(Clone, Copy, Debug, PartialEq, Eq)]
+#[derive(Clone, Copy)]
 pub enum Act {
     Remove,
     Add,
     Drop,
 }
 
-impl Keyword {
-    pub fn of(word: &[u8]) -> Option<Self>
-        ensures { result ≡ keyword_of word.now }
-    {
-        Some(match word {
-            b"seed" => Keyword::Seed,
-            b"clock" => Keyword::Clock,
-            b"piece" => Keyword::Piece,
-            b"workers" => Keyword::Workers,
-            b"channels" => Keyword::Channels,
-            b"devices" => Keyword::Devices,
-            b"drive" => Keyword::Drive,
-            b"drivefold" => Keyword::DriveFold,
-            b"real" => Keyword::Real,
-            b"folder" => Keyword::Folder,
-            b"file" => Keyword::File,
-            b"fill" => Keyword::Fill,
-            b"printer" => Keyword::Printer,
-            b"at" => Keyword::At,
-            b"settle" => Keyword::Settle,
-            b"remove" => Keyword::Remove,
-            b"add" => Keyword::Add,
-            b"do" => Keyword::Do,
-            b"cache" => Keyword::Cache,
-            b"drop" => Keyword::Drop,
-            b"connect" => Keyword::Connect,
-            _ => return None,
-        })
-    }
+/// The words with which lines begin that no application issues.
+pub const KEYWORDS: [(&[u8], Keyword); 21] = [
+    (b"seed", Keyword::Seed),
+    (b"clock", Keyword::Clock),
+    (b"piece", Keyword::Piece),
+    (b"workers", Keyword::Workers),
+    (b"channels", Keyword::Channels),
+    (b"devices", Keyword::Devices),
+    (b"drive", Keyword::Drive),
+    (b"drivefold", Keyword::DriveFold),
+    (b"real", Keyword::Real),
+    (b"folder", Keyword::Folder),
+    (b"file", Keyword::File),
+    (b"fill", Keyword::Fill),
+    (b"printer", Keyword::Printer),
+    (b"at", Keyword::At),
+    (b"settle", Keyword::Settle),
+    (b"remove", Keyword::Remove),
+    (b"add", Keyword::Add),
+    (b"do", Keyword::Do),
+    (b"cache", Keyword::Cache),
+    (b"drop", Keyword::Drop),
+    (b"connect", Keyword::Connect),
+];
 
+impl Keyword {
     /// Whether there are such lines in a mode.
     pub fn stands_in(self, mode: Mode) -> bool
         ensures { result ≡ stands_in self mode }
@@ -170,70 +166,46 @@ impl Keyword {
     }
 }
 
-impl Verb {
-    pub fn of(word: &[u8]) -> Option<Self>
-        ensures { result ≡ verb_of word.now }
-    {
-        Some(match word {
-            b"open" => Verb::Open,
-            b"create" => Verb::Create,
-            b"close" => Verb::Close,
-            b"read" => Verb::Read,
-            b"write" => Verb::Write,
-            b"query" => Verb::Query,
-            b"set" => Verb::Set,
-            b"volume" => Verb::Volume,
-            b"setvolume" => Verb::SetVolume,
-            b"dir" => Verb::Dir,
-            b"lock" => Verb::Lock,
-            b"control" => Verb::Control,
-            b"notify" => Verb::Notify,
-            _ => return None,
-        })
-    }
-}
+/// What an application's line may do.
+pub const VERBS: [(&[u8], Verb); 13] = [
+    (b"open", Verb::Open),
+    (b"create", Verb::Create),
+    (b"close", Verb::Close),
+    (b"read", Verb::Read),
+    (b"write", Verb::Write),
+    (b"query", Verb::Query),
+    (b"set", Verb::Set),
+    (b"volume", Verb::Volume),
+    (b"setvolume", Verb::SetVolume),
+    (b"dir", Verb::Dir),
+    (b"lock", Verb::Lock),
+    (b"control", Verb::Control),
+    (b"notify", Verb::Notify),
+];
 
-impl ErrandWord {
-    pub fn of(word: &[u8]) -> Option<Self>
-        ensures { result ≡ errand_word_of word.now }
-    {
-        Some(match word {
-            b"issue" => ErrandWord::Issue,
-            b"send" => ErrandWord::Send,
-            b"read" => ErrandWord::Read,
-            b"take" => ErrandWord::Take,
-            b"apply" => ErrandWord::Apply,
-            b"collect" => ErrandWord::Collect,
-            b"answer" => ErrandWord::Answer,
-            b"back" => ErrandWord::Back,
-            _ => return None,
-        })
-    }
-}
+/// What a `do` line may ask for.
+pub const ERRAND_WORDS: [(&[u8], ErrandWord); 8] = [
+    (b"issue", ErrandWord::Issue),
+    (b"send", ErrandWord::Send),
+    (b"read", ErrandWord::Read),
+    (b"take", ErrandWord::Take),
+    (b"apply", ErrandWord::Apply),
+    (b"collect", ErrandWord::Collect),
+    (b"answer", ErrandWord::Answer),
+    (b"back", ErrandWord::Back),
+];
 
-impl NoticeWord {
-    pub fn of(word: &[u8]) -> Option<Self>
-        ensures { result ≡ notice_of word.now }
-    {
-        Some(match word {
-            b"add" => NoticeWord::Add,
-            b"update" => NoticeWord::Update,
-            b"delete" => NoticeWord::Delete,
-            b"rename" => NoticeWord::Rename,
-            _ => return None,
-        })
-    }
-}
+/// What a `cache` line may tell.
+pub const NOTICE_WORDS: [(&[u8], NoticeWord); 4] = [
+    (b"add", NoticeWord::Add),
+    (b"update", NoticeWord::Update),
+    (b"delete", NoticeWord::Delete),
+    (b"rename", NoticeWord::Rename),
+];
 
-impl Act {
-    pub fn of(word: &[u8]) -> Option<Self>
-        ensures { result ≡ act_of word.now }
-    {
-        Some(match word {
-            b"remove" => Act::Remove,
-            b"add" => Act::Add,
-            b"drop" => Act::Drop,
-            _ => return None,
-        })
-    }
-}
+/// What an `at` line may do.
+pub const ACTS: [(&[u8], Act); 3] = [
+    (b"remove", Act::Remove),
+    (b"add", Act::Add),
+    (b"drop", Act::Drop),
+];

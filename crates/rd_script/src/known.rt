@@ -2,6 +2,7 @@
 //! have come.
 
 ghost use Rattle.std.specs.Option.{option_copied};
+ghost use Rattle.rd_base.specs.Limits.{max_nodes};
 
 use crate::keys::key_of;
 use crate::keyword::Mode;
@@ -13,13 +14,13 @@ use std::collections::BTreeMap;
 use std::marker::Model;
 
 /// The most devices of a script.
-const MAX_DEVICES: usize = 32;
+const MAX_SCRIPT_DEVICES: usize = 32;
 
 /// The most nodes of a drive, with the root.
 const MAX_NODES: usize = 65_536;
 
 /// What a device is.
-#[derive(Clone, Copy, Debug, PartialEq, Eq)]
+#[derive(Clone, Copy)]
 pub enum DeviceKind {
     /// A drive in memory, and how it tells names apart.
     Drive(Naming),
@@ -48,10 +49,10 @@ impl Model for Device {
 
 impl Device {
     ghost use Rattle.std.specs.Prelude.{◌≡◌, OnOk, IfOk, length, map, nat_lt};
-    ghost use Rattle.rd_script.specs.Said.{is_free_in, is_free_key, node_at, max_nodes, naming_of, root_alone, with_node};
+    ghost use Rattle.rd_script.specs.Said.{is_free_in, is_free_key, said_node, naming_of, root_node, with_said_node};
 
     fn new(alloc: Global, id: u32, kind: DeviceKind) -> Result<Self, AllocError>
-        ensures { IfOk result (λ d. d ≡ record { id = id; kind = kind; nodes = root_alone }) }
+        ensures { IfOk result (λ d. d ≡ record { id = id; kind = kind; nodes = root_node }) }
     {
         let mut nodes = BTreeMap::new(alloc);
         nodes.insert(Vec::new(alloc), true)?;
@@ -76,7 +77,7 @@ impl Device {
 
     /// Whether a folder is at a path that is seen so, if anything is.
     fn node_at(&self, key: &[Vec<u16>]) -> Option<bool>
-        ensures { result ≡ node_at self.now.nodes (map (λ name. name.items) key.now) }
+        ensures { result ≡ said_node self.now.nodes (map (λ name. name.items) key.now) }
     {
         self.nodes.get(key).copied()
     }
@@ -113,7 +114,7 @@ impl Device {
     }
 
     fn add(&mut self, alloc: Global, path: &[Units], folder: bool) -> Result<(), AllocError>
-        ensures { OnOk result (self.new ≡ with_node path.now folder self.old) }
+        ensures { OnOk result (self.new ≡ with_said_node path.now folder self.old) }
     {
         if let Some(naming) = self.naming() {
             let key = key_of(alloc, naming, path)?;
@@ -142,7 +143,7 @@ impl Model for Known {
 
 impl Known {
     ghost use Rattle.std.specs.Prelude.{◌≡◌, ◌==◌, OnOk, IfOk, length, nat_le, position};
-    ghost use Rattle.rd_script.specs.Said.{device_at, has_room, is_declared, is_free, is_in_order, is_known, max_devices, naming_at, nothing_said, with_device, with_line, with_node_at, SaidDevice};
+    ghost use Rattle.rd_script.specs.Said.{device_at, has_room, is_declared, is_free, is_in_order, is_known, max_script_devices, naming_at, nothing_said, with_said_device, with_line, with_node_at, SaidDevice};
 
     pub fn new(alloc: Global, mode: Mode) -> Self
         ensures { result ≡ nothing_said mode }
@@ -189,9 +190,9 @@ impl Known {
 
     /// Whether there is no room for one more device.
     pub fn is_full(&self) -> bool
-        ensures { result ≡ nat_le max_devices (length self.now.devices) }
+        ensures { result ≡ nat_le max_script_devices (length self.now.devices) }
     {
-        self.devices.len() >= MAX_DEVICES
+        self.devices.len() >= MAX_SCRIPT_DEVICES
     }
 
     /// How a device in memory tells the names of its nodes apart. No other device has nodes.
@@ -268,7 +269,7 @@ impl Known {
     }
 
     fn declare(&mut self, alloc: Global, id: u32, kind: DeviceKind) -> Result<(), AllocError>
-        ensures { OnOk result (self.new ≡ with_device self.old id kind) }
+        ensures { OnOk result (self.new ≡ with_said_device self.old id kind) }
     {
         let device = Device::new(alloc, id, kind)?;
         self.devices.push(device)?;

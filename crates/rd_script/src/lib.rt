@@ -10,10 +10,10 @@
 //! with its handle or its short name in it; a path or a field of bytes is copied once, into memory of its own.
 #![tactic(auto)]
 
-mod asking;
-mod asks;
+mod application;
 mod controls;
 mod devices;
+mod entry;
 mod inline;
 mod keys;
 mod keyword;
@@ -24,6 +24,7 @@ mod load;
 mod numbers;
 mod outcome;
 mod reading;
+mod report_lines;
 mod report_text;
 mod script;
 mod texts;

@@ -6,7 +6,7 @@ use rd_dirinfo::Path;
 use rd_irp::Ranges;
 
 /// What a `do` line asks for.
-#[derive(Clone, Copy, Debug, PartialEq, Eq)]
+#[derive(Clone, Copy)]
 pub enum Errand {
     /// `issue A`: the application issues its next line.
     Issue { application: u32 },
@@ -28,7 +28,7 @@ pub enum Errand {
 
 /// A line of a script, with its words as values. A handle, a name and a port are ASCII bytes. What would make the value longer than that of
 /// the lines that come most lies behind a pointer.
-#[derive(Debug, Drop)]
+#[derive(Drop)]
 pub enum Line {
     /// `seed NUM`: where the draws begin.
     Seed {
@@ -249,7 +249,7 @@ pub enum Line {
 }
 
 /// A line and its number, counted from 1 over all lines of the text, skipped ones too.
-#[derive(Debug, Drop)]
+#[derive(Drop)]
 pub struct NumberedLine {
     pub number: u32,
     pub line: Line,

@@ -2,7 +2,7 @@
 
 ghost use Rattle.std.specs.Prelude.{◌≡◌, ◌+◌, ◌*◌, ◌<◌, ◌≤◌, ◌^◌, ◌++◌, ◌∷◌, [], codes, replicate, vec_len, IfOk, OnOk};
 ghost use Rattle.rd_script.specs.declared.line.Line.TheVariants as line;
-ghost use Rattle.rd_script.specs.Load.{block, block_bytes, blocks, create_line, load_application, load_script, settings, write_and_read, Adds};
+ghost use Rattle.rd_script.specs.Load.{block, block_bytes, blocks, create_line, load_application, load_script, settings, write_and_read, AddsLines};
 
 use crate::inline::{BoxedUnits, ShortName};
 use crate::keyword::Mode;
@@ -16,7 +16,7 @@ const BLOCK: u32 = 4096;
 
 fn push(lines: &mut Vec<NumberedLine>, line: Line) -> Result<(), AllocError>
     requires { vec_len lines.old + 1 < 2 ^ 32 }
-    ensures added { OnOk result (Adds lines.old.items lines.new.items (line ∷ [])) }
+    ensures added { OnOk result (AddsLines lines.old.items lines.new.items (line ∷ [])) }
     ensures length { OnOk result (vec_len lines.new ≡ vec_len lines.old + 1) }
 {
     let number = lines.len() as u32 + 1;
@@ -73,7 +73,7 @@ fn push_block(
     requires few { vec_len lines.old + 2 < 2 ^ 32 }
     requires application { application ≤ 4 }
     requires i { i < 1000 }
-    ensures added { OnOk result (Adds lines.old.items lines.new.items (write_and_read application i)) }
+    ensures added { OnOk result (AddsLines lines.old.items lines.new.items (write_and_read application i)) }
     ensures length { OnOk result (vec_len lines.new ≡ vec_len lines.old + 2) }
 {
     let write = write_line(alloc, application, i)?;
@@ -125,7 +125,7 @@ fn push_blocks(
     requires few { vec_len lines.old < 2 ^ 20 }
     requires application { application ≤ 4 }
     requires count { count ≤ 1000 }
-    ensures added { OnOk result (Adds lines.old.items lines.new.items (blocks application 0 count)) }
+    ensures added { OnOk result (AddsLines lines.old.items lines.new.items (blocks application 0 count)) }
     ensures length { OnOk result (vec_len lines.new ≡ vec_len lines.old + 2 * count) }
 {
     for i in 0..count {
@@ -143,7 +143,7 @@ fn push_application(
     requires few { vec_len lines.old + 1 < 2 ^ 20 }
     requires application { application ≤ 4 }
     requires count { count ≤ 1000 }
-    ensures added { OnOk result (Adds lines.old.items lines.new.items (load_application count application)) }
+    ensures added { OnOk result (AddsLines lines.old.items lines.new.items (load_application count application)) }
     ensures length { OnOk result (vec_len lines.new ≡ vec_len lines.old + 2 * count + 2) }
 {
     let create = create_line(alloc, application)?;
@@ -163,7 +163,7 @@ fn push_application(
 /// The drives and the settings of a load.
 fn push_settings(alloc: Global, lines: &mut Vec<NumberedLine>, count: u32) -> Result<(), AllocError>
     requires { vec_len lines.old ≡ 0 }
-    ensures added { OnOk result (Adds lines.old.items lines.new.items (settings count)) }
+    ensures added { OnOk result (AddsLines lines.old.items lines.new.items (settings count)) }
     ensures length { OnOk result (vec_len lines.new ≡ 4) }
 {
     let name = ShortName::of(b"LOAD");

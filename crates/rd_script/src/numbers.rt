@@ -1,8 +1,8 @@
 //! Words that are numbers: decimal ones without leading zeros, and `0x` with lower-case digits.
 
 ghost use Rattle.std.specs.Prelude.{◌≡◌, ◌≤◌, ◌<◌, ◌^◌, IfOk};
-ghost use Rattle.rd_script.specs.Numbers.{digit_of, digits_from, number_of, number_word, number32, number64, flag_of, flag_word, small};
-ghost use Rattle.rd_script.specs.Row.{Reads};
+ghost use Rattle.rd_script.specs.Numbers.{digit_of, digits_from, number_of, number_word, number32_word, number64_word, flag_of, flag_word, small};
+ghost use Rattle.rd_script.specs.Row.{ReadsWords};
 
 use crate::why::LineWhy;
 use crate::words::Words;
@@ -48,7 +48,7 @@ pub fn number_of(word: &[u8]) -> Option<u64>
 /// A number of a range.
 #[tactic(auto, unfolding(crate::specs::Numbers::number_word))]
 pub fn read_number(words: &mut Words<'_>, least: u64, most: u64) -> Result<u64, LineWhy>
-    ensures read { Reads (λ n. n) (number_word least most) words.old words.new result }
+    ensures read { ReadsWords (λ n. n) (number_word least most) words.old words.new result }
     ensures within { IfOk result (λ n. (least ≤ n) × (n ≤ most)) }
 {
     let word = words.next()?;
@@ -63,14 +63,14 @@ pub fn read_number(words: &mut Words<'_>, least: u64, most: u64) -> Result<u64, 
 
 /// A number of 64 bits.
 pub fn read_u64(words: &mut Words<'_>) -> Result<u64, LineWhy>
-    ensures { Reads (λ n. n) number64 words.old words.new result }
+    ensures { ReadsWords (λ n. n) number64_word words.old words.new result }
 {
     read_number(words, 0, u64::MAX)
 }
 
 /// A number of 32 bits in a range.
 pub fn read_small(words: &mut Words<'_>, least: u32, most: u32) -> Result<u32, LineWhy>
-    ensures read { Reads (λ n. n) (number_word least most) words.old words.new result }
+    ensures read { ReadsWords (λ n. n) (number_word least most) words.old words.new result }
     ensures within { IfOk result (λ n. (least ≤ n) × (n ≤ most)) }
 {
     let number = read_number(words, u64::from(least), u64::from(most))?;
@@ -79,7 +79,7 @@ pub fn read_small(words: &mut Words<'_>, least: u32, most: u32) -> Result<u32, L
 
 /// A number of 32 bits.
 pub fn read_u32(words: &mut Words<'_>) -> Result<u32, LineWhy>
-    ensures { Reads (λ n. n) number32 words.old words.new result }
+    ensures { ReadsWords (λ n. n) number32_word words.old words.new result }
 {
     read_small(words, 0, u32::MAX)
 }
@@ -97,7 +97,7 @@ fn flag_of(word: &[u8]) -> Option<bool>
 /// `0` or `1`.
 #[tactic(auto, unfolding(crate::specs::Numbers::flag_word))]
 pub fn read_flag(words: &mut Words<'_>) -> Result<bool, LineWhy>
-    ensures { Reads (λ flag. flag) flag_word words.old words.new result }
+    ensures { ReadsWords (λ flag. flag) flag_word words.old words.new result }
 {
     let word = words.next()?;
     let Some(flag) = flag_of(word) else {

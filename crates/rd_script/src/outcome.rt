@@ -6,7 +6,7 @@ use std::alloc::Global;
 use std::collections::BTreeMap;
 
 /// Why an application's line sent no request.
-#[derive(Clone, Copy, Debug, PartialEq, Eq)]
+#[derive(Clone, Copy)]
 pub enum Refusal {
     /// No channel is open.
     NoChannel,
@@ -23,7 +23,7 @@ pub enum Refusal {
 }
 
 /// The outcome of an application's line.
-#[derive(Debug, Drop)]
+#[derive(Drop)]
 pub enum Outcome {
     /// Its request was completed, with this reply.
     Done(Reply),

@@ -1,19 +1,20 @@
 //! The report of a session.
 
-ghost use Rattle.std.specs.Prelude.{◌≡◌, ◌==◌, ◌-◌, ◌++◌, codes, count_by, decimal, Some, IfOk, OnOk, slice_get};
+ghost use Rattle.std.specs.Prelude.{◌≡◌, ◌==◌, ◌<◌, ◌^◌, ◌-◌, ◌++◌, codes, count_by, decimal, length, Some, IfOk, OnOk, slice_get};
+ghost use Rattle.std.specs.Int.{w32, to_le_bytes};
 ghost use Rattle.std.specs.List.{flat_map, list_any};
 ghost use Rattle.std.specs.Option.{unwrap_or};
 ghost use Rattle.std.specs.String.{string_bytes};
 ghost use Rattle.rd_irp.specs.declared.completion.Kind.TheVariants as kind;
 ghost use Rattle.hex.specs.Hex.{encode_lower};
-ghost use Rattle.rd_irp.specs.Fits.{IsCountable};
+ghost use Rattle.rd_irp.specs.Fits.{IsCountableBody};
 ghost use Rattle.rd_irp.specs.Written.{body_bytes};
-ghost use Rattle.rd_script.specs.Asking.{kinds_of};
-ghost use Rattle.rd_script.specs.Report.{cache_line, cause_word, device_lines, document_lines, documents_from, hex_text, idle_line, is_run, listed_line, outcome_line, outcome_text, refusal_word, report_of, status_digits, AreOfLines, HasJournals, IsOfLine};
+ghost use Rattle.rd_script.specs.ReportLines.{kinds_of};
+ghost use Rattle.rd_script.specs.Report.{cached_line, cause_word, device_lines, document_lines, documents_from, hex_text, idle_line, is_run, listed_line, outcome_line, outcome_text, refusal_word, report_of, status_digits, AreOfLines, HasJournals, IsOfLine};
 
-use crate::asking::{devices_of, kinds_of};
 use crate::line::NumberedLine;
 use crate::outcome::{Outcome, Outcomes, Refusal};
+use crate::report_lines::{devices_of, kinds_of};
 use crate::script::Script;
 use rd_base::{Books, Bytes, Cause, Item, Items, Journal, Status};
 use rd_irp::{Body, Kind, write_body};
@@ -52,6 +53,38 @@ fn hex_text(alloc: Global, bytes: &[u8]) -> Result<String, AllocError>
     hex::encode(alloc, bytes)
 }
 
+/// Bytes as digits, where there may be none.
+fn put_digits(alloc: Global, text: &mut String, bytes: &[u8]) -> Result<(), AllocError>
+    ensures { OnOk result (string_bytes text.new ≡ string_bytes text.old ++ encode_lower bytes.now) }
+{
+    let digits = hex::encode(alloc, bytes)?;
+    text.push_str(digits.as_str())
+}
+
+/// A buffer and its length, as the body of a completion has them.
+fn put_buffer(alloc: Global, text: &mut String, bytes: &[u8]) -> Result<(), AllocError>
+    requires { length bytes.now < 2 ^ 32 }
+    ensures { OnOk result (string_bytes text.new ≡ string_bytes text.old ++ encode_lower (to_le_bytes w32 (length bytes.now) ++ bytes.now)) }
+{
+    let length = (bytes.len() as u32).to_le_bytes();
+    put_digits(alloc, text, &length)?;
+    put_digits(alloc, text, bytes)
+}
+
+/// The body of a completion. A buffer goes to the text as it is; any other body has a few bytes, which are written first.
+fn put_body(alloc: Global, text: &mut String, kind: Kind, body: &Body) -> Result<(), AllocError>
+    requires { IsCountableBody body.now }
+    ensures { OnOk result (string_bytes text.new ≡ string_bytes text.old ++ encode_lower (body_bytes kind body.now)) }
+{
+    match body {
+        Body::Buffer(bytes) => put_buffer(alloc, text, bytes.as_slice()),
+        _ => {
+            let bytes = write_body(alloc, kind, body)?;
+            put_digits(alloc, text, bytes.as_slice())
+        }
+    }
+}
+
 /// The reply of a request that was completed.
 fn put_done(
     alloc: Global,
@@ -60,13 +93,12 @@ fn put_done(
     status: Status,
     body: &Body,
 ) -> Result<(), AllocError>
-    requires { IsCountable body.now }
+    requires { IsCountableBody body.now }
     ensures { OnOk result (string_bytes text.new
         ≡ string_bytes text.old ++ (codes " done " ++ status_digits status ++ codes " " ++ encode_lower (body_bytes kind body.now))) }
 {
-    let bytes = write_body(alloc, kind, body)?;
-    let digits = hex::encode(alloc, bytes.as_slice())?;
-    write!(text, " done {status} {digits}")
+    write!(text, " done {status} ")?;
+    put_body(alloc, text, kind, body)
 }
 
 fn put_outcome(
@@ -246,7 +278,7 @@ fn put_cache(
     text: &mut String,
     cache: &BTreeMap<Vec<u8>, Bytes>,
 ) -> Result<(), AllocError>
-    ensures { OnOk result (string_bytes text.new ≡ string_bytes text.old ++ flat_map cache_line cache.now.entries) }
+    ensures { OnOk result (string_bytes text.new ≡ string_bytes text.old ++ flat_map cached_line cache.now.entries) }
 {
     for (name, bytes) in cache.iter() {
         let name = hex_text(alloc, name.as_slice())?;

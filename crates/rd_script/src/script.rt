@@ -19,7 +19,7 @@ pub const MAX_LINES: u32 = 1_000_000;
 pub const MAX_BYTES: usize = 67_108_864;
 
 /// What a script says: its lines in order, without those that are skipped.
-#[derive(Debug, Drop)]
+#[derive(Drop)]
 pub struct Script {
     pub mode: Mode,
     pub lines: Lines,
@@ -36,7 +36,7 @@ fn is_skipped(text: &[u8]) -> bool
 }
 
 /// What is wrong with the first bad line of a text, for a person to read: the contract of `read_script` says what is promised.
-#[derive(Clone, Copy, Debug)]
+#[derive(Clone, Copy)]
 pub struct BadWord<'a> {
     /// Counted from 1.
     pub line: u32,
@@ -70,10 +70,10 @@ impl Model for Reader {
 impl Reader {
     ghost use Rattle.std.specs.Prelude.{◌≡◌, ◌+◌, true, OnOk, IfErr};
     ghost use Rattle.rd_script.specs.declared.why.ScriptNo.TheVariants as no;
-    ghost use Rattle.rd_script.specs.Script.{at_start, bad_line, fits, reading, skipping, Steps, TextLine};
+    ghost use Rattle.rd_script.specs.Script.{bad_line, fits, reading, reading_at_start, skipping, Steps, TextLine};
 
     fn new(alloc: Global, mode: Mode) -> Self
-        ensures { result ≡ at_start mode }
+        ensures { result ≡ reading_at_start mode }
     {
         Reader {
             known: Known::new(alloc, mode),
@@ -105,7 +105,21 @@ impl Reader {
         ensures kept { OnOk result (self.new ≡ reading self.old size line) }
         ensures memory { IfErr result (λ why. why ≡ no.Memory) }
     {
-        self.known.take(alloc, &line)?;
+        match self.known.take(alloc, &line) {
+            Ok(()) => self.push(line, size),
+            Err(_) => {
+                drop(line);
+                Err(ScriptNo::Memory)
+            }
+        }
+    }
+
+    /// The same, where what it says was taken in.
+    fn push(&mut self, line: Line, size: usize) -> Result<(), ScriptNo>
+        requires { fits self.old size ≡ true }
+        ensures pushed { OnOk result (self.new ≡ record (reading self.old size line) { said = self.old.said }) }
+        ensures memory { IfErr result (λ why. why ≡ no.Memory) }
+    {
         self.number += 1;
         self.bytes += size;
         let number = self.number;
@@ -196,6 +210,11 @@ pub fn read_script(alloc: Global, mode: Mode, bytes: &[u8]) -> Result<Script, Sc
 /// What is wrong with the first bad line of a text, if it has one and memory is found.
 pub fn bad_word(alloc: Global, mode: Mode, bytes: &[u8]) -> Option<BadWord<'_>> {
     let mut reader = Reader::new(alloc, mode);
+    next_bad_word(alloc, &mut reader, bytes)
+}
+
+/// The same, of the lines that come next.
+fn next_bad_word<'a>(alloc: Global, reader: &mut Reader, bytes: &'a [u8]) -> Option<BadWord<'a>> {
     for text in bytes.split(|byte| *byte == b'\n') {
         match reader.step(alloc, text, text.len().saturating_add(1)) {
             Ok(()) => {}

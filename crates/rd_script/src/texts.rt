@@ -5,8 +5,8 @@ ghost use Rattle.std.specs.List.{list_all};
 ghost use Rattle.std.specs.Option.{option_map};
 ghost use Rattle.std.specs.Str.{is_utf8};
 ghost use Rattle.rd_script.specs.Numbers.{digit_of, digits_from};
-ghost use Rattle.rd_script.specs.Row.{Reads, ReadsInto};
-ghost use Rattle.rd_script.specs.Texts.{is_handle_byte, is_handle, handle_word, is_visible, is_name, name_word, is_place, place_word, is_dash, units_after, units_of, units_word, few_units, pairs_of, hex_of, hex_word, few_bytes, range_of, ranges_of, few_ranges};
+ghost use Rattle.rd_script.specs.Row.{ReadsWords, ReadsWordsInto};
+ghost use Rattle.rd_script.specs.Texts.{is_handle_byte, is_handle, handle_word, is_visible, is_application_name, name_word, is_place, place_word, is_dash, units_after, units_of, units_word, few_units, pairs_of, hex_of, hex_word, few_bytes, range_of, ranges_of, few_ranges};
 
 use crate::inline::ShortName;
 use crate::numbers::{digits_from, number_of};
@@ -61,8 +61,8 @@ fn are_visible(word: &[u8]) -> bool
 }
 
 /// Up to seven visible ASCII characters, and at least one.
-fn is_name(word: &[u8]) -> bool
-    ensures { result ≡ is_name word.now }
+fn is_application_name(word: &[u8]) -> bool
+    ensures { result ≡ is_application_name word.now }
 {
     if word.is_empty() {
         return false;
@@ -76,7 +76,7 @@ fn is_name(word: &[u8]) -> bool
 /// An application's own name of a handle.
 #[tactic(auto, unfolding(crate::specs::Texts::handle_word))]
 pub fn read_handle(words: &mut Words<'_>) -> Result<ShortName, LineWhy>
-    ensures { Reads (λ name. name) handle_word words.old words.new result }
+    ensures { ReadsWords (λ name. name) handle_word words.old words.new result }
 {
     let word = words.next()?;
     if !is_handle(word) {
@@ -88,10 +88,10 @@ pub fn read_handle(words: &mut Words<'_>) -> Result<ShortName, LineWhy>
 /// The name of a device or a port.
 #[tactic(auto, unfolding(crate::specs::Texts::name_word))]
 pub fn read_name(words: &mut Words<'_>) -> Result<ShortName, LineWhy>
-    ensures { Reads (λ name. name) name_word words.old words.new result }
+    ensures { ReadsWords (λ name. name) name_word words.old words.new result }
 {
     let word = words.next()?;
-    if !is_name(word) {
+    if !is_application_name(word) {
         return Err(LineWhy::Name);
     }
     Ok(ShortName::of(word))
@@ -110,7 +110,7 @@ fn is_place(word: &[u8]) -> bool
 /// A place on this machine.
 #[tactic(auto, unfolding(crate::specs::Texts::place_word))]
 pub fn read_place(alloc: Global, words: &mut Words<'_>) -> Result<Bytes, LineNo>
-    ensures { ReadsInto (λ place. place) place_word words.old words.new result }
+    ensures { ReadsWordsInto (λ place. place) place_word words.old words.new result }
 {
     let word = words.next()?;
     if !is_place(word) {
@@ -126,7 +126,7 @@ fn is_dash(word: &[u8]) -> bool
     matches!(word, [b'-'])
 }
 
-/// The unit of four digits at the front, and what comes after them.
+/// The unit of the first four digits, and what comes after them.
 fn escaped_unit(digits: &[u8]) -> Option<(u16, &[u8])>
     ensures units { MatchOption result (units_after 0 (0x25 ∷ digits.now) ≡ None) (λ r. (units_after 0 (0x25 ∷ digits.now) ≡ option_map (λ us. r.0 ∷ us) (units_after 0 r.1.now))) }
     ensures shorter { IfSome result (λ r. length r.1.now < length digits.now) }
@@ -193,7 +193,7 @@ fn units_of(alloc: Global, word: &[u8]) -> Result<Option<Units>, AllocError>
 /// Units, with the reason where they are out of their form.
 #[tactic(auto, unfolding(crate::specs::Texts::units_word))]
 pub fn read_units(alloc: Global, words: &mut Words<'_>, why: LineWhy) -> Result<Units, LineNo>
-    ensures { ReadsInto (λ units. units) (units_word why) words.old words.new result }
+    ensures { ReadsWordsInto (λ units. units) (units_word why) words.old words.new result }
 {
     let word = words.next()?;
     let Some(units) = units_of(alloc, word)? else {
@@ -210,7 +210,7 @@ pub fn read_few_units(
     why: LineWhy,
     most: usize,
 ) -> Result<Units, LineNo>
-    ensures { ReadsInto (λ units. units) (few_units why most) words.old words.new result }
+    ensures { ReadsWordsInto (λ units. units) (few_units why most) words.old words.new result }
 {
     let units = read_units(alloc, words, why)?;
     if units.as_slice().len() > most {
@@ -277,7 +277,7 @@ fn bytes_of(alloc: Global, word: &[u8]) -> Result<Option<Bytes>, AllocError>
 /// Bytes.
 #[tactic(auto, unfolding(crate::specs::Texts::hex_word))]
 pub fn read_hex(alloc: Global, words: &mut Words<'_>) -> Result<Bytes, LineNo>
-    ensures { ReadsInto (λ bytes. bytes) hex_word words.old words.new result }
+    ensures { ReadsWordsInto (λ bytes. bytes) hex_word words.old words.new result }
 {
     let word = words.next()?;
     let Some(bytes) = bytes_of(alloc, word)? else {
@@ -289,7 +289,7 @@ pub fn read_hex(alloc: Global, words: &mut Words<'_>) -> Result<Bytes, LineNo>
 /// At most so many bytes.
 #[tactic(auto, unfolding(crate::specs::Texts::few_bytes))]
 pub fn read_few_bytes(alloc: Global, words: &mut Words<'_>, most: usize) -> Result<Bytes, LineNo>
-    ensures { ReadsInto (λ bytes. bytes) (few_bytes most) words.old words.new result }
+    ensures { ReadsWordsInto (λ bytes. bytes) (few_bytes most) words.old words.new result }
 {
     let bytes = read_hex(alloc, words)?;
     if bytes.as_slice().len() > most {
@@ -328,7 +328,7 @@ fn ranges_of(alloc: Global, word: &[u8]) -> Result<Option<Ranges>, AllocError>
 /// At most so many ranges.
 #[tactic(auto, unfolding(crate::specs::Texts::few_ranges))]
 pub fn read_few_ranges(alloc: Global, words: &mut Words<'_>, most: usize) -> Result<Ranges, LineNo>
-    ensures { ReadsInto (λ ranges. ranges) (few_ranges most) words.old words.new result }
+    ensures { ReadsWordsInto (λ ranges. ranges) (few_ranges most) words.old words.new result }
 {
     let word = words.next()?;
     let Some(ranges) = ranges_of(alloc, word)? else {

@@ -42,11 +42,9 @@ pub enum ScriptNo {
 }
 
 /// Why a line can't be read.
-#[derive(Debug, Drop, Error)]
+#[derive(Drop)]
 pub enum LineNo {
-    #[error("{0}")]
     Why(LineWhy),
-    #[error("out of memory")]
     Memory,
 }
 

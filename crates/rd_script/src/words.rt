@@ -46,7 +46,7 @@ pub fn cut_line(text: &[u8]) -> (&[u8], Option<&[u8]>)
 }
 
 /// The words of a line that aren't read yet: what stands between its spaces.
-#[derive(Debug, Drop)]
+#[derive(Drop)]
 pub struct Words<'a> {
     left: Option<&'a [u8]>,
     /// How many words were asked for.
@@ -64,7 +64,7 @@ impl<'a> Model for Words<'a> {
 
 impl<'a> Words<'a> {
     ghost use Rattle.std.specs.Prelude.{◌≡◌};
-    ghost use Rattle.rd_script.specs.Row.{word, last, words_of, Reads};
+    ghost use Rattle.rd_script.specs.Row.{word, last, words_of, ReadsWords};
 
     pub fn of(text: &'a [u8]) -> Self
         ensures { result ≡ words_of text.now }
@@ -77,7 +77,7 @@ impl<'a> Words<'a> {
 
     /// The next word, lent. Where none is left, the line has too few.
     pub fn next(&mut self) -> Result<&'a [u8], LineWhy>
-        ensures { Reads (λ word. word.now) word self.old self.new result }
+        ensures { ReadsWords (λ word. word.now) word self.old self.new result }
     {
         self.asked = self.asked.saturating_add(1);
         let Some(text) = self.left else {
@@ -90,7 +90,7 @@ impl<'a> Words<'a> {
 
     /// No word is left.
     pub fn end(&mut self) -> Result<(), LineWhy>
-        ensures { Reads (λ done. done) last self.old self.new result }
+        ensures { ReadsWords (λ done. done) last self.old self.new result }
     {
         if self.left.is_some() {
             self.asked = self.asked.saturating_add(1);

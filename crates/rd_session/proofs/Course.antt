@@ -1,4 +1,4 @@
--- The course of a session: its exchanges, one behind another, and what they leave.
+-- The course of a session: its exchanges, one after another, and what they leave.
 use Rattle.std.proofs.Common.{◌≡◌, ℕ, suc, List, [], ◌∷◌, ◌++◌}
 use Rattle.std.specs.List.{AllByRecursion}
 use Rattle.rd_base.specs.declared.journal.Key.{Key}
@@ -29,7 +29,7 @@ abbrev pub NamesFrom : (Key → Request) → ℕ → List Exchange → Type 0
 NamesFrom requests n [] = Unit {0}
 NamesFrom requests n (e ∷ es) = (requests (key_at n) ≡ e.request) × NamesFrom requests (suc n) es
 
--- the drive runs the exchanges one behind another, where the first has the key at n
+-- the drive runs the exchanges one after another, where the first has the key at n
 abbrev pub RunsAll : ℕ → ℕ → DriveState → List Exchange → DriveState → Type 0
 RunsAll moment n drive [] left = left ≡ drive
 RunsAll moment n drive (e ∷ es) left =

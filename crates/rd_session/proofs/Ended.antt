@@ -3,11 +3,12 @@ use Rattle.std.proofs.Common.{◌≡◌, ℕ, List, Option, Some}
 use Rattle.std.specs.Prelude.{◌&&◌, if◌then◌else◌, bytes_eq}
 use Rattle.rd_irp.specs.declared.completion.Reply.{Reply}
 use Rattle.rd_irp.specs.declared.request.Request.{Request}
+use Rattle.rd_irp.specs.Fits.{opens}
 use Rattle.rd_script.specs.declared.outcome.Outcome.TheVariants as outcome
 use Rattle.rd_session.specs.declared.scene.Scene.{Scene}
 use Rattle.rd_session.specs.Asking.{HandleOp}
 use Rattle.rd_session.specs.Channel.{Ends, Exchanges, EndsIn}
-use Rattle.rd_session.specs.Outcomes.{opens, given_file, request_to, file_named}
+use Rattle.rd_session.specs.Outcomes.{given_file, request_to, file_named}
 
 -- An exchange doesn't look at the files that names hold.
 with_files : (moment : ℕ) (request : Request) (reply : Reply) (before after : Ends) (files : List ℕ → Option ℕ) → Exchanges moment request reply before after

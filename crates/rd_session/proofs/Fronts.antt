@@ -1,4 +1,4 @@
--- A session that ended early recorded a front of a whole one.
+-- A session that ended early recorded a prefix of a whole one.
 use Rattle.std.proofs.Common.{◌≡◌, ◌<◌, ◌^◌, ℕ, suc, ◌+◌, List, [], ◌∷◌, ◌++◌, length, map, take, Option, Some, None, inl, inr, refl, sym, ap, subst, ◌∙◌, append_assoc, arith}
 use Rattle.std.specs.Prelude.{All, Result, Ok, Err, IsErrAnd}
 use Rattle.rd_base.specs.Faults.{one_more}
@@ -20,7 +20,7 @@ use Rattle.rd_session.specs.Asking.{HandleOp, CanBeSent}
 use Rattle.rd_session.specs.Channel.{CountsWire, Ends, Exchange, recorded_in}
 use Rattle.rd_session.specs.Early.{EndedEarly}
 use Rattle.rd_session.specs.Outcomes.{Ended, file_named, no_handle, request_to}
-use Rattle.rd_session.specs.Recording.{Entry, entry_bytes}
+use Rattle.rd_session.specs.Recording.{Entry, bytes_of_entry}
 use Rattle.rd_session.specs.Session.{IsSession, key_at}
 use Rattle.rd_session.proofs.Course.{RunsAll}
 use Rattle.rd_session.proofs.Going.{Goes, HoldSmall, goes_with}
@@ -45,7 +45,7 @@ pub front_behind : (held middle grown : Option (List ℕ)) (a b : List ℕ) → 
 front_behind held middle grown a b first front =
     (length a + front.0, subst (λ (bytes : List ℕ). Appends held grown bytes) (sym (take-append-add a b front.0)) (Appends-trans held middle grown a (take front.0 b) first front.1))
 
--- nothing is a front of anything
+-- nothing is a prefix of anything
 pub front_none : (held : Option (List ℕ)) (bytes : List ℕ) → AppendsPrefix held held bytes
 front_none held bytes = (0, Appends-nil held)
 
@@ -57,7 +57,7 @@ goes_named scene before asked (Some file) known can quiet small is =
     goes_with scene before asked file known can small is (replied scene.moment (key_at before.asked) (request_to scene.device asked.op file) before.drive quiet)
 
 -- ---- all lines go on
--- Behind lines that ended, the others did too: the ends then, and what was recorded meanwhile.
+-- After lines that ended, the others did too: the ends then, and what was recorded meanwhile.
 record Gone (scene : Scene) (start : DriveState) (written : List ℕ) (asks : List HandleOp) (gathered : List ℕ) : Type 0 where
   lines : List Ended
   ends : Ends
@@ -103,18 +103,18 @@ all_behind : (before behind : List HandleOp) → All CanBeSent (before ++ behind
 all_behind [] behind all = all
 all_behind (a ∷ before) behind all = all_behind before behind (All-tail CanBeSent a (before ++ behind) all)
 
--- the drive behind exchanges, in which none waits
+-- the drive after exchanges, in which none waits
 quiet_all : (moment n : ℕ) (start now : DriveState) (es : List Exchange) → start.waiting ≡ [] → RunsAll moment n start es now → now.waiting ≡ []
 quiet_all moment n start now [] quiet is = ap (λ (s : DriveState). s.waiting) is ∙ quiet
 quiet_all moment n start now (e ∷ es) quiet (middle, ran, others) = quiet_all moment (suc n) middle now es ran.quiet others
 
--- Behind the lines that ended, a front of what was gathered was written.
+-- After the lines that ended, a prefix of what was gathered was written.
 pub ended_early : (scene : Scene) (start : DriveState) (asks : List HandleOp) (count : ℕ) (rest : List HandleOp) (left : ℕ) (outcomes : List Outcome) (opened held grown : Option (List ℕ)) (ends : Ends) → scene.device < 2 ^ 32 → start.waiting ≡ []
     → Lines scene start asks count rest left outcomes opened held ends → AppendsPrefix held grown ends.gathered → All CanBeSent asks → EndedEarly scene start asks opened grown
 ended_early scene start asks count rest left outcomes opened held grown ends known quiet (written, ended, asks_are, outcomes_are, all, appended, so_far) part can =
     let later : All CanBeSent rest = all_behind (map (λ (l : Ended). l.0) ended) rest (subst (λ (l : List HandleOp). All CanBeSent l) asks_are can) in
     let gone = go_on scene start written asks rest ended ends known asks_are (quiet_all scene.moment 0 start ends.drive so_far.exchanges quiet so_far.ran) so_far later in
-    let whole : written ++ (ends.gathered ++ gone.bytes) ≡ flat_map entry_bytes (flat_map recorded_in gone.so_far.exchanges) = ap (λ (l : List ℕ). written ++ l) (sym gone.recorded) ∙ gone.so_far.recorded in
+    let whole : written ++ (ends.gathered ++ gone.bytes) ≡ flat_map bytes_of_entry (flat_map recorded_in gone.so_far.exchanges) = ap (λ (l : List ℕ). written ++ l) (sym gone.recorded) ∙ gone.so_far.recorded in
     let front : AppendsPrefix opened grown (written ++ (ends.gathered ++ gone.bytes)) = front_behind opened held grown written (ends.gathered ++ gone.bytes) appended (front_more held grown ends.gathered gone.bytes part) in (
       map (λ (l : Ended). l.1) gone.lines,
       gone.ends.journal,
@@ -127,7 +127,7 @@ ended_early scene start asks count rest left outcomes opened held grown ends kno
 pub early_none : (scene : Scene) (start : DriveState) (asks : List HandleOp) (held : Option (List ℕ)) → scene.device < 2 ^ 32 → start.waiting ≡ [] → All CanBeSent asks → EndedEarly scene start asks held held
 early_none scene start asks held known quiet can =
     let s = some_session scene start asks known quiet can in
-    (s.0, s.1, s.2, s.3, front_none held (flat_map entry_bytes s.2))
+    (s.0, s.1, s.2, s.3, front_none held (flat_map bytes_of_entry s.2))
 
 -- ---- faults of the recording
 -- want of memory counts none

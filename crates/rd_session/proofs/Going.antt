@@ -12,7 +12,7 @@ use Rattle.rd_irp.specs.declared.completion.Kind.{Kind}
 use Rattle.rd_irp.specs.declared.completion.Kind.TheVariants as kind
 use Rattle.rd_irp.specs.declared.completion.Reply.{Reply}
 use Rattle.rd_irp.specs.declared.request.Request.{Request}
-use Rattle.rd_irp.specs.Fits.{Fits, IsSendable, body_length, fault_length, op_length, kind_of}
+use Rattle.rd_irp.specs.Fits.{Fits, IsSendable, body_length, fault_length, op_length, kind_of, opens}
 use Rattle.rd_irp.specs.Completion.{SpellsBody}
 use Rattle.rd_irp.specs.Written.{body_bytes, body_tail, head_bytes, op_bytes, request_bytes, request_head_bytes}
 use Rattle.rd_irp.proofs.OpLemmas.{length-op_bytes}
@@ -24,10 +24,10 @@ use Rattle.rd_script.specs.declared.outcome.Outcome.TheVariants as outcome
 use Rattle.rd_session.specs.declared.scene.Scene.{Scene}
 use Rattle.rd_session.specs.Asking.{HandleOp, CanBeSent}
 use Rattle.rd_session.specs.Channel.{Ends, EndsIn, Exchange, Exchanges, IsExchange, recorded_in, starves, stored_under}
-use Rattle.rd_session.specs.Outcomes.{file_named, given_file, opens, request_to}
-use Rattle.rd_session.specs.Recording.{entry_bytes}
+use Rattle.rd_session.specs.Outcomes.{file_named, given_file, request_to}
+use Rattle.rd_session.specs.Recording.{bytes_of_entry}
 use Rattle.rd_session.specs.Session.{key_at}
-use Rattle.rd_session.specs.Told.{Completes, completion_written}
+use Rattle.rd_session.specs.Told.{CompletesRequest, completion_written}
 use Rattle.rd_session.proofs.Joined.{request_is_message}
 use Rattle.rd_session.proofs.Replied.{IsProper, Replied}
 
@@ -59,7 +59,7 @@ completion_is_message head k b sendable =
     let long : length (head_bytes head ++ body_bytes k b) ≡ 16 + body_length k b = length-append (head_bytes head) (body_bytes k b) ∙ ap (λ (n : ℕ). 16 + n) (length-body_bytes k b) in
     (omega (arith, long), omega (arith, long, body_short k b sendable))
 
-completes_own : (request : Request) (reply : Reply) → request.device < 2 ^ 32 → request.completion < 2 ^ 32 → IsProper request.op reply → Completes request reply (completion_written request reply)
+completes_own : (request : Request) (reply : Reply) → request.device < 2 ^ 32 → request.completion < 2 ^ 32 → IsProper request.op reply → CompletesRequest request reply (completion_written request reply)
 completes_own request reply device completion proper =
     let head : Head = record { device = request.device; completion = request.completion; status = reply.status } in
     let field : List ℕ = body_bytes (kind_of request.op) reply.body in
@@ -102,14 +102,14 @@ named_small opening held file small named =
     there
 
 -- ---- one line
--- both ends behind a line that was answered so
+-- both ends after a line that was answered so
 abbrev pub ends_behind : Scene → Ends → HandleOp → ℕ → Reply → DriveState → Ends
 ends_behind scene before asked file reply left = record {
   files = λ name. if opens asked.op && bytes_eq asked.handle name then given_file reply.body else before.files name;
   asked = before.asked + 1;
   drive = left;
   journal = before.journal ++ stored_under scene.moment (key_at before.asked) reply;
-  gathered = before.gathered ++ flat_map entry_bytes (recorded_in (exchange_for (request_to scene.device asked.op file) reply));
+  gathered = before.gathered ++ flat_map bytes_of_entry (recorded_in (exchange_for (request_to scene.device asked.op file) reply));
 }
 
 -- How a line ends and where, with what is recorded of it.
@@ -141,7 +141,7 @@ goes_with scene before asked file known can small named replied =
       ending = outcome.Done replied.reply;
       after = ends_behind scene before asked file replied.reply replied.left;
       ends = (file, named, exchanged, λ name. refl);
-      bytes = flat_map entry_bytes (recorded_in (exchange_for request replied.reply));
+      bytes = flat_map bytes_of_entry (recorded_in (exchange_for request replied.reply));
       recorded = refl;
       quiet = replied.ran.quiet;
     }

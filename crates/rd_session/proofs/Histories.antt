@@ -7,7 +7,7 @@ use Rattle.std.proofs.lemmas.Option.{get_or_from_slice_get}
 use Rattle.rd_base.specs.declared.journal.Key.{Key}
 use Rattle.rd_base.specs.declared.journal.Item.{Item}
 use Rattle.rd_base.specs.declared.journal.Item.TheVariants.{Ran, Sent}
-use Rattle.rd_base.specs.Lawful.{IsUnparked, named_key}
+use Rattle.rd_base.specs.Lawful.{IsUnparked, RunsAt, named_key}
 use Rattle.rd_irp.specs.declared.op.Op.TheVariants.{Close}
 use Rattle.rd_irp.specs.declared.completion.Reply.{Reply}
 use Rattle.rd_irp.specs.declared.request.Request.{Request}
@@ -15,9 +15,9 @@ use Rattle.rd_drive.specs.DriveState.{DriveState}
 use Rattle.rd_drive.specs.DriveStep.{drive_step}
 use Rattle.rd_drive.specs.Replies.{KeyedReply, end_reply, own_reply, replies_of}
 use Rattle.rd_drive.specs.Stepped.{Stepped, ran_step}
-use Rattle.rd_session.specs.Session.{IsHistory, IsUncut, RunsAt, StarvesNoClose, key_at}
+use Rattle.rd_session.specs.Session.{IsHistory, IsUncut, StarvesNoClose, key_at}
 use Rattle.rd_session.specs.Channel.{Exchange, starves, stored_under}
-use Rattle.rd_session.specs.Told.{Told, CompletesKey, Completes, sent_keys}
+use Rattle.rd_session.specs.Told.{Told, CompletesKey, CompletesRequest, sent_keys}
 use Rattle.rd_session.proofs.Course.{stored_from, keys_from, replies_from, NamesFrom, RunsAll, AreOwn}
 use Rattle.rd_session.proofs.Lawfulness.{lawful}
 
@@ -82,7 +82,7 @@ told_from requests answered journal device n [] own names within = tt
 told_from requests answered journal device n (e ∷ es) own names within =
     let rest : List (Key × Reply) = replies_from (suc n) es in
     let first : Contains (replies_from n (e ∷ es)) (key_at n, e.reply) = (0, omega arith, refl) in
-    let completes : Completes (requests (key_at n)) e.reply e.completion = rw (names.0) own.0.0.completes in (
+    let completes : CompletesRequest (requests (key_at n)) e.reply e.completion = rw (names.0) own.0.0.completes in (
       (e.reply, inl (within (key_at n) e.reply first), completes),
       told_from requests answered journal device (suc n) es own.1 names.1 (λ key reply c. within key reply (Contains-append_right ((key_at n, e.reply) ∷ []) rest (key, reply) c)),
     )

@@ -30,14 +30,14 @@ use Rattle.rd_irp.specs.declared.completion.Reply.{Reply}
 use Rattle.std.specs.List.{flat_map}
 use Rattle.std.proofs.lemmas.Grind.{flat_map-append}
 use Rattle.rd_session.specs.declared.recording.Side.TheVariants.{Host, Client}
-use Rattle.rd_session.specs.Recording.{Entry, entry_bytes, entries_of, recorded_bytes}
-use Rattle.rd_session.specs.Channel.{CarriesRequest, CarriesCompletion, Serves, HearsIn, Ends, Exchange, Exchanges, recorded_in}
+use Rattle.rd_session.specs.Recording.{Entry, bytes_of_entry, entries_of, recorded_bytes}
+use Rattle.rd_session.specs.Channel.{CarriesRequest, CarriesCompletion, ServesRequest, HearsIn, Ends, Exchange, Exchanges, recorded_in}
 use Rattle.rd_session.specs.Session.{key_at}
 use Rattle.rd_chunk.specs.Carrier.{IsMessage}
 use Rattle.rd_irp.specs.Written.{request_bytes}
-use Rattle.rd_session.specs.Told.{Completes}
+use Rattle.rd_session.specs.Told.{CompletesRequest}
 
--- No front of one message's frames brings a fault.
+-- No prefix of one message's frames brings a fault.
 pub brings_none : (held : Held) (before : ℕ) (message frames : List ℕ) (count : ℕ) (bad : ChunkBad) → StandsFor held before [] → One message frames → BringsFault held (take count frames) bad → ⊥
 brings_none held before message frames count bad stands one faults =
     let found = faults before [] stands in
@@ -56,7 +56,7 @@ found_some : (o : Option (List ℕ)) → IsSome o → (x : List ℕ) × (o ≡ S
 found_some (Some x) some = (x, refl)
 found_some None some = absurd cc
 
--- A joiner that took a front of one message's frames, and more only if no message waits, took them all, and that message waits.
+-- A joiner that took a prefix of one message's frames, and more only if no message waits, took them all, and that message waits.
 pub takes_all : (message frames : List ℕ) (n : ℕ) (waits : Option (List ℕ)) → One message frames → (n < length frames → IsSome waits) → ((m : List ℕ) → (waits ≡ Some m) ↔ One m (take n frames)) → (waits ≡ Some message) × (take n frames ≡ frames)
 takes_all message frames n waits one left whole =
     elim (cases_lt n (length frames)) [
@@ -107,23 +107,23 @@ read_prompt frames message read tail carries one spelled =
 
 -- A request that is carried to the client is the one that it serves.
 pub served : (moment : ℕ) (request read : Request) (key : Key) (drive left : DriveState) (journal stored : List Item) (sent asked completion message : List ℕ) (tail : ℕ)
-    → SpellsRequest request 0 sent → One sent asked → One message asked → SpellsRequest read tail message → Serves moment read key drive left journal stored completion
-    → Serves moment request key drive left journal stored completion
+    → SpellsRequest request 0 sent → One sent asked → One message asked → SpellsRequest read tail message → ServesRequest moment read key drive left journal stored completion
+    → ServesRequest moment request key drive left journal stored completion
 served moment request read key drive left journal stored sent asked completion message tail spelled one_sent one_read read_spelled serves =
     let same = same_message message sent asked one_read one_sent in
     let same_request : read ≡ request = (request_one_value read request tail 0 sent (subst (λ (m : List ℕ). SpellsRequest read tail m) same read_spelled) spelled).0 in
-    subst (λ (r : Request). Serves moment r key drive left journal stored completion) same_request serves
+    subst (λ (r : Request). ServesRequest moment r key drive left journal stored completion) same_request serves
 
 -- The frames of the completion of a request that was served carry a completion of its kind.
 pub carries_reply : (moment : ℕ) (request : Request) (key : Key) (drive left : DriveState) (journal stored : List Item) (completion answered : List ℕ)
-    → Serves moment request key drive left journal stored completion → One completion answered → CarriesCompletion (kind_of request.op) answered
+    → ServesRequest moment request key drive left journal stored completion → One completion answered → CarriesCompletion (kind_of request.op) answered
 carries_reply moment request key drive left journal stored completion answered own one =
     let done = own.completes in
     (completion, record { device = request.device; completion = request.completion; status = own.reply.status }, own.reply.body, length (drop 16 completion), done.tail, one, done.head, done.body)
 
 -- What is heard in the frames of a completion of a request is its reply.
 pub reply_heard : (request : Request) (reply : Reply) (completion answered : List ℕ) (kind : Kind) (heard : Reply)
-    → Completes request reply completion → One completion answered → HearsIn kind answered heard → kind ≡ kind_of request.op → heard ≡ reply
+    → CompletesRequest request reply completion → One completion answered → HearsIn kind answered heard → kind ≡ kind_of request.op → heard ≡ reply
 reply_heard request reply completion answered kind heard own one_completion hears kind_is =
     let same_completion = same_message hears.message completion answered hears.carried one_completion in
     let heard_head : SpellsHead (record { device = hears.device; completion = hears.completion; status = heard.status }) (length completion - 16) completion =
@@ -137,14 +137,14 @@ reply_heard request reply completion answered kind heard own one_completion hear
     let same_body : heard.body ≡ reply.body = (one_value (completion_body (kind_of request.op) reply.status) 0 (drop 16 completion) _ _ _ _ heard_body own.body).0 in
     λ i. record { status = same_status i; body = same_body i }
 
--- The frames of an exchange are those of its request and those of its completion, one behind the other.
-pub exchange_frames : (e : Exchange) → flat_map entry_bytes (recorded_in e) ≡ recorded_bytes Host e.sent ++ recorded_bytes Client e.completion
+-- The frames of an exchange are those of its request and those of its completion, one after the other.
+pub exchange_frames : (e : Exchange) → flat_map bytes_of_entry (recorded_in e) ≡ recorded_bytes Host e.sent ++ recorded_bytes Client e.completion
 exchange_frames e =
     let sent : List Entry = entries_of (Host, e.sent) in
     let told : List Entry = entries_of (Client, e.completion) in
-    flat_map-append entry_bytes sent (told ++ []) ∙ ap (λ (l : List Entry). flat_map entry_bytes sent ++ flat_map entry_bytes l) (append-nil told)
+    flat_map-append bytes_of_entry sent (told ++ []) ∙ ap (λ (l : List Entry). flat_map bytes_of_entry sent ++ flat_map bytes_of_entry l) (append-nil told)
 
-both_recorded : (old middle new : List ℕ) (e : Exchange) → middle ≡ old ++ recorded_bytes Host e.sent → new ≡ middle ++ recorded_bytes Client e.completion → new ≡ old ++ flat_map entry_bytes (recorded_in e)
+both_recorded : (old middle new : List ℕ) (e : Exchange) → middle ≡ old ++ recorded_bytes Host e.sent → new ≡ middle ++ recorded_bytes Client e.completion → new ≡ old ++ flat_map bytes_of_entry (recorded_in e)
 both_recorded old middle new e first second =
     second ∙ ap (λ (l : List ℕ). l ++ recorded_bytes Client e.completion) first
     ∙ append_assoc old (recorded_bytes Host e.sent) (recorded_bytes Client e.completion)
@@ -163,7 +163,7 @@ request_is_message op message fits long = (omega (arith, long), omega (arith, lo
 
 -- A request that went to the drive and back: its own message was read there, and what is heard in the frames of the completion is the reply.
 pub exchanged : (moment : ℕ) (request : Request) (kind : Kind) (sent completion answered : List ℕ) (before after : Ends) (middle : List ℕ) (heard : Reply)
-    → IsMessage sent → SpellsRequest request 0 sent → sent ≡ request_bytes request → IsMessage completion → Serves moment request (key_at before.asked) before.drive after.drive before.journal after.journal completion
+    → IsMessage sent → SpellsRequest request 0 sent → sent ≡ request_bytes request → IsMessage completion → ServesRequest moment request (key_at before.asked) before.drive after.drive before.journal after.journal completion
     → One completion answered → HearsIn kind answered heard → kind ≡ kind_of request.op → after.asked ≡ before.asked + 1
     → middle ≡ before.gathered ++ recorded_bytes Host sent → after.gathered ≡ middle ++ recorded_bytes Client completion
     → Exchanges moment request heard before after

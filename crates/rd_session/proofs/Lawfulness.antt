@@ -12,7 +12,7 @@ use Rattle.rd_base.specs.declared.journal.Cause.{Cause}
 use Rattle.rd_base.specs.declared.journal.Cause.TheVariants.{Dropped}
 use Rattle.rd_base.specs.declared.journal.Item.{Item}
 use Rattle.rd_base.specs.declared.journal.Item.TheVariants.{Came, Ran, Cancelled, Sent, Cut}
-use Rattle.rd_base.specs.Lawful.{IsLawful, EachAfter, IsBefore, named_key, NoneAboveChannel, Settles, RisesAbove, SettlesFirst, SendsFirst, RunsUncut, CancelsRemoved, NamesRemembered, CutsFewUnsent, FewUnsent, IsUnparked, sends, is_unsent}
+use Rattle.rd_base.specs.Lawful.{IsLawful, EachEntry, IsBefore, named_key, NoneAboveChannel, Settles, RisesAbove, SettlesFirst, SendsFirst, RunsUncut, CancelsRemoved, NamesRemembered, CutsFewUnsent, FewUnsent, IsUnparked, sends, is_unsent}
 use Rattle.rd_base.proofs.JournalLemmas.{EachInTurn, EachAfter-from_turns, IsEnded-unparked}
 use Rattle.rd_session.specs.Channel.{Exchange, starves}
 use Rattle.rd_session.specs.Session.{key_at}
@@ -22,7 +22,7 @@ use Rattle.rd_session.proofs.Course.{stored_from}
 abbrev IsOldKey : ℕ → Key → Type 0
 IsOldKey n key = (key.channel ≡ 1) × (key.index < n)
 
--- an entry of a journal behind n requests
+-- an entry of a journal after n requests
 abbrev IsOld : ℕ → Item → Type 0
 IsOld n (Came key) = IsOldKey n key
 IsOld n (Ran key moment starved parked) = IsOldKey n key × (parked ≡ false)
@@ -38,7 +38,7 @@ older n (Sent key) old = (old.0, omega (arith, old.1))
 older n (Cut cause) old = absurd old
 
 module _ (moment : ℕ) where
-  -- the entries of one more request stand behind the journal
+  -- the entries of one more request stand after the journal
   abbrev behind_came : ℕ → List Item → List Item
   behind_came n front = front ++ Came (key_at n) ∷ []
 
@@ -60,7 +60,7 @@ module _ (moment : ℕ) where
   sent_old : (n : ℕ) (starved : Bool) (front : List Item) → All (IsOld n) front → All (IsOld (suc n)) (behind_sent n starved front)
   sent_old n starved front old = All-push (IsOld (suc n)) (behind_ran n starved front) (Sent (key_at n)) (ran_old n starved front old) (new_key n)
 
-  -- What holds of each entry of a request behind those before it, holds of each entry of the journal.
+  -- What holds of each entry of a request after those before it, holds of each entry of the journal.
   turns : (P : List Item → Item → Type 0)
       → ((n : ℕ) (front : List Item) → All (IsOld n) front → P front (Came (key_at n)))
       → ((n : ℕ) (starved : Bool) (front : List Item) → All (IsOld n) front → P (behind_came n front) (Ran (key_at n) moment starved false))
@@ -75,7 +75,7 @@ module _ (moment : ℕ) where
       → ((n : ℕ) (front : List Item) → All (IsOld n) front → P front (Came (key_at n)))
       → ((n : ℕ) (starved : Bool) (front : List Item) → All (IsOld n) front → P (behind_came n front) (Ran (key_at n) moment starved false))
       → ((n : ℕ) (starved : Bool) (front : List Item) → All (IsOld n) front → P (behind_ran n starved front) (Sent (key_at n)))
-      → (es : List Exchange) → EachAfter P (stored_from moment 0 es)
+      → (es : List Exchange) → EachEntry P (stored_from moment 0 es)
   each P came ran sent es = EachAfter-from_turns P (stored_from moment 0 es) (turns P came ran sent 0 [] es (All-nil (IsOld 0)))
 
   -- ---- the rules that speak of the entries before

@@ -2,7 +2,7 @@
 use Rattle.std.proofs.Common.{◌≡◌, refl, sym, ap, ◌∙◌, arith, ℕ, zero, suc, ◌+◌, ◌-◌, ◌≤◌, ◌<◌, Bool, true, false, cond, List, [], ◌∷◌, ◌++◌, append-nil, length, Option, Some, None, Result, Ok, Err, ◌⊎◌, inl, inr}
 use Rattle.std.specs.Prelude.{◌==◌, not}
 use Rattle.std.specs.List.{onto_first, slice_split}
-use Rattle.std.proofs.lemmas.Bool.{cases_lt}
+use Rattle.std.proofs.lemmas.Bool.{cases_lt, eqb-true, false_from_ne_true}
 use Rattle.std.proofs.lemmas.Bool.Decides.{nat_tests}
 use Rattle.std.proofs.lemmas.List.{length-append}
 use Rattle.rd_script.specs.declared.keyword.Mode.TheVariants as mode
@@ -10,23 +10,14 @@ use Rattle.rd_script.specs.declared.line.Line.{Line}
 use Rattle.rd_script.specs.declared.script.Script.{Script}
 use Rattle.rd_script.specs.declared.why.LineWhy.{LineWhy}
 use Rattle.rd_script.specs.declared.why.LineWhy.TheVariants as why
-use Rattle.rd_script.specs.Script.{BadLine, Reading, TextLine, at_start, bad_line, fits, go_on, is_skipped, line_of, lines_from, lines_of, max_bytes, read_all, reading, script_of, script_read, skipping, step, taken}
+use Rattle.rd_script.specs.Script.{BadLine, Reading, TextLine, bad_line, fits, go_on, is_skipped, line_of, lines_from, lines_of, max_bytes, read_all, reading, reading_at_start, script_of, script_read, skipping, step, taken}
+use Rattle.rd_script.proofs.ScriptLemmas.{some_part}
 use Rattle.rd_session.specs.Served.{first_lines, first_unserved, lines_read, served_as, served_of, unless_unserved}
-use Rattle.rd_session.proofs.HandleLemmas.{decides_not}
 use Rattle.rd_session.proofs.ReadingLemmas.{Stepped, stepped, within_bytes}
 
 -- the parts of a text between its line feeds
 abbrev parts : List ℕ → List (List ℕ)
 parts text = slice_split (λ b. b == 0x0a) text
-
-some_part : (text : List ℕ) → (p : List ℕ) × (ps : List (List ℕ)) × (parts text ≡ p ∷ ps)
-some_part [] = ([], [], refl)
-some_part (c ∷ cs) = of (c == 0x0a) (parts cs)
-  where
-    of : (b : Bool) (rest : List (List ℕ)) → (p : List ℕ) × (ps : List (List ℕ)) × (cond b ([] ∷ rest) (onto_first c rest) ≡ p ∷ ps)
-    of true rest = ([], rest, refl)
-    of false [] = (c ∷ [], [], refl)
-    of false (q ∷ qs) = (c ∷ q, qs, refl)
 
 -- A text has no line feed, or a first line with one. What comes after it doesn't change that line.
 data Cut (text : List ℕ) : Type 0 where
@@ -38,9 +29,6 @@ cut : (text : List ℕ) → Cut text
 cut [] = unfed (λ rest. some_part rest)
 cut (c ∷ cs) = by (c == 0x0a) refl (cut cs)
   where
-    is_feed : (c == 0x0a) ≡ true → c ≡ 0x0a
-    is_feed e = grind (arith, nat_tests, e)
-
     split_feed : (c == 0x0a) ≡ true → (rest : List ℕ) → parts ((c ∷ cs) ++ rest) ≡ [] ∷ parts (cs ++ rest)
     split_feed e rest = rw e refl
 
@@ -48,7 +36,7 @@ cut (c ∷ cs) = by (c == 0x0a) refl (cut cs)
     split_other e rest = rw e refl
 
     lines_feed : (c == 0x0a) ≡ true → (n : ℕ) (rest : List ℕ) → first_lines (suc n) ((c ∷ cs) ++ rest) ≡ ([] ++ 0x0a ∷ []) ++ first_lines n (cs ++ rest)
-    lines_feed e n rest = rw e (ap (λ (k : ℕ). k ∷ first_lines n (cs ++ rest)) (is_feed e))
+    lines_feed e n rest = rw e (ap (λ (k : ℕ). k ∷ first_lines n (cs ++ rest)) (eqb-true c 0x0a e))
 
     lines_other : (c == 0x0a) ≡ false → (n : ℕ) (rest : List ℕ) → first_lines (suc n) ((c ∷ cs) ++ rest) ≡ c ∷ first_lines (suc n) (cs ++ rest)
     lines_other e n rest = rw e refl
@@ -88,7 +76,7 @@ step_line r l bad is = by (fits r l.size) (is_skipped l.text) (line_of r.said l.
 too_long : (r : Reading) (l : TextLine) → max_bytes < r.bytes + l.size → step r l ≡ Err (bad_line r why.Many)
 unfolding step
 too_long r l long =
-    let over : fits r l.size ≡ false = decides_not (fits r l.size) (within_bytes r l.size) (λ most. omega (arith, most, long)) in
+    let over : fits r l.size ≡ false = false_from_ne_true (fits r l.size) (λ is. omega (arith, within_bytes r l.size is, long)) in
     rw over refl
 
 none_before : (text : List ℕ) (bad : BadLine) (r : Reading) → bad.line ≡ r.number + 1 → (rest : List ℕ) → first_lines (bad.line - 1 - r.number) (text ++ rest) ≡ first_lines (bad.line - 1 - r.number) text
@@ -172,11 +160,11 @@ long_text (suc fuel) text r enough few long = by (long_text fuel) (cut text)
     by rec (unfed more) = unfed_long text r few long more
     by rec (fed first behind size split_is lines_are) = on rec first behind size split_is lines_are (step r (fed_line first)) refl
 
-long_at_start : (text : List ℕ) → max_bytes < length text → Long text (at_start mode.Both)
-long_at_start text long = long_text (suc (length text)) text (at_start mode.Both) (omega arith) (omega arith) (omega (arith, long))
+long_at_start : (text : List ℕ) → max_bytes < length text → Long text (reading_at_start mode.Both)
+long_at_start text long = long_text (suc (length text)) text (reading_at_start mode.Both) (omega arith) (omega arith) (omega (arith, long))
 
 -- the refusal of a text that is too long, whatever comes after it
-refusal : (text rest : List ℕ) (l : Long text (at_start mode.Both)) → served_of (text ++ rest) ≡ unless_unserved (first_unserved false (lines_read (script_of mode.Both (first_lines (l.bad.line - 1) text)))) (Err l.bad)
+refusal : (text rest : List ℕ) (l : Long text (reading_at_start mode.Both)) → served_of (text ++ rest) ≡ unless_unserved (first_unserved false (lines_read (script_of mode.Both (first_lines (l.bad.line - 1) text)))) (Err l.bad)
 refusal text rest l =
     let count : l.bad.line - 1 - 0 ≡ l.bad.line - 1 = omega arith in
     let alike : first_lines (l.bad.line - 1) (text ++ rest) ≡ first_lines (l.bad.line - 1) text =

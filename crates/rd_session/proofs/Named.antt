@@ -35,11 +35,11 @@ header_is packet u field behind s =
     let second : s.2 ≡ n.1 = n.3 ∙ ap (λ (x : List ℕ). n.1 ++ x) end ∙ append-nil n.1 in
     s.3 ∙ ap (λ (x : List ℕ). x ++ s.2) first ∙ ap (λ (x : List ℕ). to_le_bytes w16 (component_of packet) ++ x) (second ∙ third)
 
--- bytes with this front
+-- bytes with this prefix
 abbrev pub Begins : List ℕ → List ℕ → Type 0
 Begins front bytes = (rest : List ℕ) × (bytes ≡ front ++ rest)
 
--- the front of a front is one
+-- a prefix of a prefix is one
 begins_more : (front field behind bytes : List ℕ) → Begins front field → bytes ≡ field ++ behind → Begins front bytes
 begins_more front field behind bytes b e =
     (b.0 ++ behind, e ∙ ap (λ (x : List ℕ). x ++ behind) b.1 ∙ append_assoc front b.0 behind)
@@ -95,7 +95,7 @@ head_begins head field behind s =
     join_row s.2 d.1 d.2 c.1 (to_le_bytes w32 head.device) (to_le_bytes w32 head.completion) c.2 d.3 c.3 device completion in
     (c.2, s.3 ∙ ap (λ (y : List ℕ). y ++ s.2) first ∙ ap (λ (y : List ℕ). header_bytes IoCompletion ++ y) behind_pair)
 
--- the eight bytes behind a completion's header
+-- the eight bytes after a completion's header
 pub pair_is : (head : Head) (tail : ℕ) (bytes : List ℕ) → SpellsHead head tail bytes → take 8 (drop 4 bytes) ≡ pair_bytes head.device head.completion
 pair_is head tail bytes s =
     let b = begins_more (header_bytes IoCompletion ++ pair_bytes head.device head.completion) s.0 s.1 bytes (head_begins head s.0 s.1 s.4) s.2 in

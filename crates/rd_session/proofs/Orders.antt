@@ -18,7 +18,7 @@ use Rattle.rd_chunk.specs.Carrier.{IsMessage}
 use Rattle.rd_session.specs.Channel.{Exchange, recorded_in}
 use Rattle.rd_session.specs.Recording.{Entry, Passed, entries_of}
 use Rattle.rd_session.specs.Session.{Asks, key_at, in_turn, first_keys, Hears}
-use Rattle.rd_session.specs.Told.{Counted, InOrder, Completes, CompletesKey, RanAt, completes, is_request, has_pair, names_pair}
+use Rattle.rd_session.specs.Told.{Counted, InOrder, CompletesRequest, CompletesKey, RanAt, completes, is_request_passed, request_has_pair, names_pair}
 use Rattle.rd_session.proofs.Course.{stored_from, keys_from, replies_from, NamesFrom, AreOwn}
 use Rattle.rd_session.proofs.Histories.{sent_keys-stored_from}
 use Rattle.rd_session.proofs.Named.{request_begins, names_own}
@@ -60,7 +60,7 @@ pub heard : (device : ℕ) (es : List Exchange) → AreOwn device es → AllZip 
 heard device [] own = tt
 heard device (e ∷ es) own = ((own.0.0.completes, own.0.0.completion_bytes), heard device es own.1)
 
--- the first keys, and those behind them
+-- the first keys, and those after them
 keys_first : (n : ℕ) (es : List Exchange) (m : ℕ) → m ≡ n + length es → first_keys m ≡ first_keys n ++ keys_from n es
 keys_first n [] m is = let same : m ≡ n = omega (arith, is) in ap first_keys same ∙ sym (append-nil (first_keys n))
 keys_first n (e ∷ es) m is =
@@ -94,12 +94,12 @@ ran_place moment n (e ∷ es) (suc (suc (suc i))) k r =
     omega (arith, there)
 
 -- ---- the order
--- one more in front of a count
+-- one more before a count
 counts : {X : Type 0} (p : X → Bool) (x : X) (xs : List X) → count_by p (x ∷ xs) ≡ cond (p x) 1 0 + count_by p xs
 counts p x xs = sum_by-cons (λ y. cond (p y) 1 0) x xs
 
 -- a message that spells a request counts as one
-spells_counts : (r : Request) (tail : ℕ) (message : List ℕ) → SpellsRequest r tail message → is_request (Host, message) ≡ true
+spells_counts : (r : Request) (tail : ℕ) (message : List ℕ) → SpellsRequest r tail message → is_request_passed (Host, message) ≡ true
 spells_counts r tail message s =
     let b = request_begins r tail message s in
     (bytes_eq-Decides (take 4 message) (header_bytes IoRequest)).1 (ap (λ (x : List ℕ). take 4 x) b.1)
@@ -108,12 +108,12 @@ at_most_one : (b : Bool) → cond b 1 0 ≤ 1
 at_most_one true = omega arith
 at_most_one false = omega arith
 
--- a request, and one that completes at most one, in front of others
-two_more : (device : ℕ) (x y : Passed) (before : List Passed) → completes device x ≡ false → is_request x ≡ true → count_by (completes device) before ≤ count_by is_request before
-    → count_by (completes device) (x ∷ y ∷ before) ≤ count_by is_request (x ∷ y ∷ before)
+-- a request, and one that completes at most one, before others
+two_more : (device : ℕ) (x y : Passed) (before : List Passed) → completes device x ≡ false → is_request_passed x ≡ true → count_by (completes device) before ≤ count_by is_request_passed before
+    → count_by (completes device) (x ∷ y ∷ before) ≤ count_by is_request_passed (x ∷ y ∷ before)
 two_more device x y before silent asks most =
     let none : ◌≡◌ {A = ℕ} (cond (completes device x) 1 0) 0 = ap (λ (b : Bool). cond b 1 0) silent in
-    let one : ◌≡◌ {A = ℕ} (cond (is_request x) 1 0) 1 = ap (λ (b : Bool). cond b 1 0) asks in
+    let one : ◌≡◌ {A = ℕ} (cond (is_request_passed x) 1 0) 1 = ap (λ (b : Bool). cond b 1 0) asks in
     omega (
       arith,
       none,
@@ -122,12 +122,12 @@ two_more device x y before silent asks most =
       at_most_one (completes device y),
       counts (completes device) x (y ∷ before),
       counts (completes device) y before,
-      counts is_request x (y ∷ before),
-      counts is_request y before,
+      counts is_request_passed x (y ∷ before),
+      counts is_request_passed y before,
     )
 
--- no front has more completions than requests
-fronts : (device : ℕ) (es : List Exchange) → AreOwn device es → (before behind : List Passed) → in_turn (zip (sents es) (completions es)) ≡ before ++ behind → count_by (completes device) before ≤ count_by is_request before
+-- no prefix has more completions than requests
+fronts : (device : ℕ) (es : List Exchange) → AreOwn device es → (before behind : List Passed) → in_turn (zip (sents es) (completions es)) ≡ before ++ behind → count_by (completes device) before ≤ count_by is_request_passed before
 fronts device es own [] behind is = omega arith
 fronts device [] own (x ∷ xs) behind is = absurd cc
 fronts device (e ∷ es) own (x ∷ []) behind is =
@@ -137,16 +137,16 @@ fronts device (e ∷ es) own (x ∷ y ∷ before) behind is =
     let first : (Host, e.sent) ≡ x = cc in
     let rest : in_turn (zip (sents es) (completions es)) ≡ before ++ behind = cc in
     let silent : completes device x ≡ false = ap (completes device) (sym first) in
-    let asks : is_request x ≡ true = ap is_request (sym first) ∙ spells_counts e.request 0 e.sent own.0.0.spelled in
+    let asks : is_request_passed x ≡ true = ap is_request_passed (sym first) ∙ spells_counts e.request 0 e.sent own.0.0.spelled in
     two_more device x y before silent asks (fronts device es own.1 before behind rest)
 
--- What was completed ran before what was asked behind it.
+-- What was completed ran before what was asked after it.
 pub in_order : (moment device : ℕ) (es : List Exchange) → AreOwn device es → InOrder device 1 (in_turn (zip (sents es) (completions es))) (stored_from moment 0 es)
 in_order moment device es own before behind k l is completed channel asked i j ran_i ran_j =
     let among : Contains (take (count_by (completes device) before) (keys_from 0 es)) k =
     subst (λ (ks : List Key). Contains (take (count_by (completes device) before) ks) k) (sent_keys-stored_from moment 0 es) completed in
     let below : k.index < 0 + count_by (completes device) before = index_below (count_by (completes device) before) 0 es k among in
-    let most : count_by (completes device) before ≤ count_by is_request before = fronts device es own before behind is in
+    let most : count_by (completes device) before ≤ count_by is_request_passed before = fronts device es own before behind is in
     let at_k : i + 3 * 0 ≡ 3 * k.index + 1 = ran_place moment 0 es i k ran_i in
     let at_l : j + 3 * 0 ≡ 3 * l.index + 1 = ran_place moment 0 es j l ran_j in
     omega (arith, below, most, asked, at_k, at_l)
@@ -164,14 +164,14 @@ abbrev is_own_pair : ℕ → ℕ → ℕ → Bool
 is_own_pair own device completion = own == device && 0 == completion
 
 keys_pair : (requests : Key → Request) (own device completion n : ℕ) (es : List Exchange) → AreOwn own es → NamesFrom requests n es
-    → AllByRecursion (λ key. has_pair device completion (requests key) ≡ is_own_pair own device completion) (keys_from n es)
+    → AllByRecursion (λ key. request_has_pair device completion (requests key) ≡ is_own_pair own device completion) (keys_from n es)
 keys_pair requests own device completion n [] all named = tt
 keys_pair requests own device completion n (e ∷ es) all named = (
-  ap (has_pair device completion) named.0 ∙ ap (λ (m : ℕ). m == device && e.request.completion == completion) all.0.1 ∙ ap (λ (m : ℕ). own == device && m == completion) all.0.2,
+  ap (request_has_pair device completion) named.0 ∙ ap (λ (m : ℕ). m == device && e.request.completion == completion) all.0.1 ∙ ap (λ (m : ℕ). own == device && m == completion) all.0.2,
   keys_pair requests own device completion (suc n) es all.1 named.1,
 )
 
-names_itself : (r : Request) (reply : Reply) (own device completion : ℕ) (message : List ℕ) → r.device ≡ own → r.completion ≡ 0 → device < 2 ^ 32 → completion < 2 ^ 32 → Completes r reply message
+names_itself : (r : Request) (reply : Reply) (own device completion : ℕ) (message : List ℕ) → r.device ≡ own → r.completion ≡ 0 → device < 2 ^ 32 → completion < 2 ^ 32 → CompletesRequest r reply message
     → names_pair device completion message ≡ is_own_pair own device completion
 names_itself r reply own device completion message one none fits_device fits_completion done =
     names_own _ _ device completion message fits_device fits_completion done.head
@@ -190,7 +190,7 @@ each_answers : (requests : Key → Request) (replies : List (Key × Reply)) (jou
     → AllByRecursion (Contains replies) (replies_from n es) → AllZip (CompletesKey requests replies journal) (keys_from n es) (completions es)
 each_answers requests replies journal device n [] own named among = tt
 each_answers requests replies journal device n (e ∷ es) own named among = (
-  (e.reply, inl among.0, subst (λ (r : Request). Completes r e.reply e.completion) (sym named.0) own.0.0.completes),
+  (e.reply, inl among.0, subst (λ (r : Request). CompletesRequest r e.reply e.completion) (sym named.0) own.0.0.completes),
   each_answers requests replies journal device (suc n) es own.1 named.1 among.1,
 )
 
@@ -216,7 +216,7 @@ counted requests moment own es all named device completion fits_device fits_comp
     each_answers requests (replies_from 0 es) journal own 0 es all named (recursion_from_All (Contains (replies_from 0 es)) (replies_from 0 es) (All-contains_itself (replies_from 0 es))) in
     told_of (CompletesKey requests (replies_from 0 es) journal) (is_own_pair own device completion) (keys_from 0 es) _ (completions es) _ each
     (
-    ap (filter (λ key. has_pair device completion (requests key))) (first_are es)
-    ∙ filter_same (λ key. has_pair device completion (requests key)) (is_own_pair own device completion) (keys_from 0 es) (keys_pair requests own device completion 0 es all named)
+    ap (filter (λ key. request_has_pair device completion (requests key))) (first_are es)
+    ∙ filter_same (λ key. request_has_pair device completion (requests key)) (is_own_pair own device completion) (keys_from 0 es) (keys_pair requests own device completion 0 es all named)
     )
     (filter_same (names_pair device completion) (is_own_pair own device completion) (completions es) (messages_pair own device completion es fits_device fits_completion all))

@@ -4,7 +4,7 @@ use Rattle.std.specs.Prelude.{◌==◌, ◌||◌, not, All, IfSome}
 use Rattle.std.specs.List.{AllByRecursion, cons_option}
 use Rattle.std.specs.Result.{result_unwrap_or}
 use Rattle.std.proofs.lemmas.List.Elements.{All-from_recursion}
-use Rattle.std.specs.Option.{is_some, option_map, option_to_list, unwrap_or}
+use Rattle.std.specs.Option.{is_some, option_map, option_or, option_to_list, unwrap_or}
 use Rattle.std.proofs.lemmas.Bool.{and_parts}
 use Rattle.rd_irp.specs.declared.completion.Kind.{Kind}
 use Rattle.rd_irp.specs.Fits.{kind_of}
@@ -13,16 +13,16 @@ use Rattle.rd_script.specs.declared.line.Line.{Line}
 use Rattle.rd_script.specs.declared.line.Line.TheVariants as line
 use Rattle.rd_script.specs.declared.line.NumberedLine.{NumberedLine}
 use Rattle.rd_script.specs.declared.script.Script.{Script}
-use Rattle.rd_script.specs.Asking.{asking, declared_by, devices_of, kind_for, kinds_of}
+use Rattle.rd_script.specs.ReportLines.{declared_by, devices_of, issued, kind_for, kinds_of}
 use Rattle.rd_script.specs.Script.{BadLine, max_lines, script_of}
 use Rattle.rd_session.specs.Asking.{AsksPlayable, CanBeSent, HandleOp, IsPrompt, ask_in, asks_of, create_in, handle_in, op_in}
-use Rattle.rd_session.specs.Opening.{AreMakable, Declared, IsMakable, device_of, drive_in, drive_of, or_else, scene_of}
+use Rattle.rd_session.specs.Opening.{AreMakable, DeclaredDrive, IsMakable, device_of, drive_in, first_drive, scene_of}
 use Rattle.rd_session.specs.Served.{first_unserved, is_served, served_as, served_of, unless_unserved}
 use Rattle.rd_session.proofs.LimitLemmas.{never_ok}
 use Rattle.rd_session.proofs.LineLemmas.{IsGood}
 use Rattle.rd_session.proofs.ReadingLemmas.{script_good}
 
-small_in : (l : Line) → IsMakable l → IfSome (drive_in l) (λ (d : Declared). d.device < 2 ^ 32)
+small_in : (l : Line) → IsMakable l → IfSome (drive_in l) (λ (d : DeclaredDrive). d.device < 2 ^ 32)
 unfolding IsMakable drive_in
 small_in (line.Drive device name) makable = makable.0
 small_in (line.DriveFold device name) makable = makable.0
@@ -37,8 +37,8 @@ not_true false is = refl
 -- none where there is one.
 record Served (declared : Bool) (l : Line) : Type 0 where
   prompt : IfSome (ask_in l) IsPrompt
-  kind_is : kind_for 1 (asking l) ≡ option_map (λ (a : HandleOp). kind_of a.op) (ask_in l)
-  device_is : declared_by l ≡ option_map (λ (d : Declared). d.device) (drive_in l)
+  kind_is : kind_for 1 (issued l) ≡ option_map (λ (a : HandleOp). kind_of a.op) (ask_in l)
+  device_is : declared_by l ≡ option_map (λ (d : DeclaredDrive). d.device) (drive_in l)
   once : declared ≡ true → drive_in l ≡ None
 
 served_line : (declared : Bool) (l : Line) → is_served declared l ≡ true → Served declared l
@@ -125,7 +125,7 @@ none_more : (lines : List NumberedLine) → first_unserved true lines ≡ None �
 none_more [] none = refl
 none_more (l ∷ lines) none =
     let first = first_served true l lines none in
-    let no_device : declared_by l.line ≡ None = first.0.device_is ∙ ap (option_map (λ (d : Declared). d.device)) (first.0.once refl) in
+    let no_device : declared_by l.line ≡ None = first.0.device_is ∙ ap (option_map (λ (d : DeclaredDrive). d.device)) (first.0.once refl) in
     ap (λ (o : Option ℕ). option_to_list o ++ devices_of lines) no_device ∙ none_more lines first.1
 
 one_device : (lines : List NumberedLine) → first_unserved false lines ≡ None → devices_of lines ≡ option_to_list (device_of lines)
@@ -134,22 +134,22 @@ one_device (l ∷ lines) none =
     let first = first_served false l lines none in
     ap (λ (o : Option ℕ). option_to_list o ++ devices_of lines) first.0.device_is ∙ by (drive_in l.line) first.1 (one_device lines)
   where
-    device : Option Declared → Option ℕ
-    device o = option_map (λ (d : Declared). d.device) o
+    device : Option DeclaredDrive → Option ℕ
+    device o = option_map (λ (d : DeclaredDrive). d.device) o
 
-    by : (o : Option Declared) → first_unserved (is_some o) lines ≡ None → (first_unserved false lines ≡ None → devices_of lines ≡ option_to_list (device_of lines)) → option_to_list (device o) ++ devices_of lines ≡ option_to_list (device (or_else o (drive_of lines)))
+    by : (o : Option DeclaredDrive) → first_unserved (is_some o) lines ≡ None → (first_unserved false lines ≡ None → devices_of lines ≡ option_to_list (device_of lines)) → option_to_list (device o) ++ devices_of lines ≡ option_to_list (device (option_or o (first_drive lines)))
     by None none rest = rest none
     by (Some d) none rest = ap (λ (ds : List ℕ). d.device ∷ ds) (none_more lines none)
 
-device_small : (lines : List NumberedLine) → AreMakable lines → IfSome (drive_of lines) (λ (d : Declared). d.device < 2 ^ 32)
+device_small : (lines : List NumberedLine) → AreMakable lines → IfSome (first_drive lines) (λ (d : DeclaredDrive). d.device < 2 ^ 32)
 device_small [] makable = tt
 device_small (l ∷ lines) makable = by (drive_in l.line) (small_in l.line makable.0) (device_small lines makable.1)
   where
-    by : (o : Option Declared) → IfSome o (λ (d : Declared). d.device < 2 ^ 32) → IfSome (drive_of lines) (λ (d : Declared). d.device < 2 ^ 32) → IfSome (or_else o (drive_of lines)) (λ (d : Declared). d.device < 2 ^ 32)
+    by : (o : Option DeclaredDrive) → IfSome o (λ (d : DeclaredDrive). d.device < 2 ^ 32) → IfSome (first_drive lines) (λ (d : DeclaredDrive). d.device < 2 ^ 32) → IfSome (option_or o (first_drive lines)) (λ (d : DeclaredDrive). d.device < 2 ^ 32)
     by None own rest = rest
     by (Some d) own rest = own
 
-scene_small : (lines : List NumberedLine) (o : Option Declared) → IfSome o (λ (d : Declared). d.device < 2 ^ 32) → unwrap_or (option_map (λ (d : Declared). d.device) o) 1 < 2 ^ 32
+scene_small : (lines : List NumberedLine) (o : Option DeclaredDrive) → IfSome o (λ (d : DeclaredDrive). d.device < 2 ^ 32) → unwrap_or (option_map (λ (d : DeclaredDrive). d.device) o) 1 < 2 ^ 32
 scene_small lines None own = lit< tt
 scene_small lines (Some d) own = own
 
@@ -182,7 +182,7 @@ all_of text script is none =
       asks = asks;
       can = All-from_recursion CanBeSent (asks_of script.lines) (asks_all script.lines asks);
       makable = makable;
-      known = scene_small script.lines (drive_of script.lines) (device_small script.lines makable);
+      known = scene_small script.lines (first_drive script.lines) (device_small script.lines makable);
       kinds = all_kinds false script.lines none;
       devices = one_device script.lines none;
       few = good.1;

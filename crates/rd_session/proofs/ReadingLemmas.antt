@@ -11,7 +11,7 @@ use Rattle.rd_script.specs.declared.line.NumberedLine.{NumberedLine}
 use Rattle.rd_script.specs.declared.script.Script.{Script}
 use Rattle.rd_script.specs.declared.why.LineWhy.{LineWhy}
 use Rattle.rd_script.specs.declared.why.LineWhy.TheVariants as why
-use Rattle.rd_script.specs.Script.{BadLine, Reading, TextLine, at_start, bad_line, fits, go_on, is_skipped, line_of, lines_from, lines_of, max_bytes, max_lines, read_all, reading, script_of, script_read, skipping, step, taken}
+use Rattle.rd_script.specs.Script.{BadLine, Reading, TextLine, bad_line, fits, go_on, is_skipped, line_of, lines_from, lines_of, max_bytes, max_lines, read_all, reading, reading_at_start, script_of, script_read, skipping, step, taken}
 use Rattle.rd_session.proofs.LineLemmas.{IsGood, line_good}
 
 -- ---- one line
@@ -101,7 +101,7 @@ script_read_of m (Err bad) script is = absurd cc
 -- Of a script that some text is each line is good, and there are at most as many as a script may have.
 pub script_good : (m : Mode) (text : List ℕ) (script : Script) → script_of m text ≡ Ok script → AllByRecursion (λ (l : NumberedLine). IsGood l.line) script.lines × (length script.lines ≤ max_lines)
 script_good m text script is =
-    let read = script_read_of m (read_all (lines_of text) (at_start m)) script is in
-    let known = read_rest (lines_of text) (at_start m) read.0 (record { good = tt; few = omega arith; within = omega arith }) (sized (slice_split (λ b. b == 0x0a) text)) read.1 in
+    let read = script_read_of m (read_all (lines_of text) (reading_at_start m)) script is in
+    let known = read_rest (lines_of text) (reading_at_start m) read.0 (record { good = tt; few = omega arith; within = omega arith }) (sized (slice_split (λ b. b == 0x0a) text)) read.1 in
     let few : length read.0.lines ≤ max_lines = omega (arith, known.few, known.within) in
     (subst (λ (lines : List NumberedLine). AllByRecursion (λ (l : NumberedLine). IsGood l.line) lines) read.2 known.good, subst (λ (lines : List NumberedLine). length lines ≤ max_lines) read.2 few)

@@ -8,7 +8,7 @@ use Rattle.std.proofs.lemmas.List.{append-nil, length-append, length-take, lengt
 use Rattle.rd_base.proofs.ListLemmas.{concat-push}
 use Rattle.std.proofs.Math.Seq.{take-append_seam, drop-append_seam}
 use Rattle.rd_chunk.specs.Carrier.{carrier_data, carrier_frame, carrier_frames}
-use Rattle.rd_session.specs.Recording.{sends, entry_bytes, mark}
+use Rattle.rd_session.specs.Recording.{sends, bytes_of_entry, mark}
 use Rattle.rd_session.specs.declared.recording.Side.{Side}
 
 -- so many frames from frame k on
@@ -16,7 +16,7 @@ abbrev pub frames_from : List ℕ → ℕ → ℕ → List ℕ
 frames_from message k zero = []
 frames_from message k (suc more) = carrier_frame message k ++ frames_from message (suc k) more
 
--- the first k of n frames, and those behind them
+-- the first k of n frames, and those after them
 frames_split : (message : List ℕ) (n k more : ℕ) → k + more ≡ n → concat (carrier_frames message n) ≡ concat (carrier_frames message k) ++ frames_from message k more
 frames_split message n k zero all =
     let same : n ≡ k = omega (arith, all) in
@@ -31,7 +31,7 @@ frame_length : (message : List ℕ) (k : ℕ) → length (carrier_frame message 
 unfolding carrier_frame
 frame_length message k = omega arith
 
--- a frame in front of another is a full one, and none is longer
+-- a frame before another is a full one, and none is longer
 frame_full : (message : List ℕ) (k : ℕ) → 1600 * k + 1600 ≤ length message → length (carrier_frame message k) ≡ 1612
 frame_full message k room = omega (arith, frame_length message k, length-take 1600 (drop (1600 * k) message), length-drop (1600 * k) message)
 
@@ -44,11 +44,11 @@ next_length message k zero room = omega (arith, ap length (append-nil (carrier_f
 next_length message k (suc more) room =
     omega (arith, length-append (carrier_frame message k) (frames_from message (suc k) (suc more)), frame_full message k (omega arith))
 
--- Of the stream of a message the first frames are written, each behind the end's mark, and these are left.
+-- Of the stream of a message the first frames are written, each after the side's mark, and these are left.
 abbrev pub IsLeft : Side → List ℕ → List ℕ → List ℕ → Type 0
 IsLeft end message entries rest =
     (k : ℕ) × (more : ℕ) × (k + more ≡ div_ceil (length message) 1600) × (rest ≡ frames_from message k more) ×
-    (entries ≡ flat_map entry_bytes (map (λ frame. sends end frame) (carrier_frames message k)))
+    (entries ≡ flat_map bytes_of_entry (map (λ frame. sends end frame) (carrier_frames message k)))
 
 -- at first all are left
 pub left_all : (end : Side) (message : List ℕ) → IsLeft end message [] (concat (carrier_frames message (div_ceil (length message) 1600)))
@@ -58,10 +58,10 @@ left_all end message =
     (0, n, all, frames_split message n 0 n all, refl)
 
 entries_more : (end : Side) (frames : List (List ℕ)) (frame : List ℕ)
-    → flat_map entry_bytes (map (λ f. sends end f) (frames ++ frame ∷ [])) ≡ (flat_map entry_bytes (map (λ f. sends end f) frames) ++ mark end ∷ []) ++ frame
+    → flat_map bytes_of_entry (map (λ f. sends end f) (frames ++ frame ∷ [])) ≡ (flat_map bytes_of_entry (map (λ f. sends end f) frames) ++ mark end ∷ []) ++ frame
 entries_more end [] frame = append-nil (mark end ∷ frame)
 entries_more end (f ∷ fs) frame =
-    let others : List ℕ = flat_map entry_bytes (map (λ g. sends end g) fs) in
+    let others : List ℕ = flat_map bytes_of_entry (map (λ g. sends end g) fs) in
     ap (λ (l : List ℕ). (mark end ∷ f) ++ l) (entries_more end fs frame)
     ∙ sym (append_assoc (mark end ∷ f) (others ++ mark end ∷ []) frame)
     ∙ ap (λ (l : List ℕ). l ++ frame) (sym (append_assoc (mark end ∷ f) others (mark end ∷ [])))
@@ -84,16 +84,16 @@ left_less end message entries rest frame behind (k, suc more, all, left, written
     let room = room_left (length message) k more all in
     let long : length (carrier_frame message k) ≡ length frame = sym (size ∙ ap (λ (l : List ℕ). min 1612 (length l)) left ∙ next_length message k more room) in
     let same = same_fronts (carrier_frame message k) (frames_from message (suc k) more) frame behind (sym left ∙ parts) long in
-    let entries_are : (entries ++ mark end ∷ []) ++ frame ≡ flat_map entry_bytes (map (λ f. sends end f) (carrier_frames message (suc k))) =
-    ap (λ (l : List ℕ). (l ++ mark end ∷ []) ++ frame) written ∙ ap (λ (l : List ℕ). (flat_map entry_bytes (map (λ f. sends end f) (carrier_frames message k)) ++ mark end ∷ []) ++ l) (sym same.0)
+    let entries_are : (entries ++ mark end ∷ []) ++ frame ≡ flat_map bytes_of_entry (map (λ f. sends end f) (carrier_frames message (suc k))) =
+    ap (λ (l : List ℕ). (l ++ mark end ∷ []) ++ frame) written ∙ ap (λ (l : List ℕ). (flat_map bytes_of_entry (map (λ f. sends end f) (carrier_frames message k)) ++ mark end ∷ []) ++ l) (sym same.0)
     ∙ sym (entries_more end (carrier_frames message k) (carrier_frame message k)) in
     (suc k, more, omega (arith, all), sym same.1, entries_are)
 
 -- and at last none is left
 pub left_none : (end : Side) (message entries rest : List ℕ) → IsLeft end message entries rest → length rest ≡ 0
-    → entries ≡ flat_map entry_bytes (map (λ frame. sends end frame) (carrier_frames message (div_ceil (length message) 1600)))
+    → entries ≡ flat_map bytes_of_entry (map (λ frame. sends end frame) (carrier_frames message (div_ceil (length message) 1600)))
 left_none end message entries rest (k, zero, all, left, written) none =
     let same : k ≡ div_ceil (length message) 1600 = omega (arith, all) in
-    written ∙ ap (λ (n : ℕ). flat_map entry_bytes (map (λ frame. sends end frame) (carrier_frames message n))) same
+    written ∙ ap (λ (n : ℕ). flat_map bytes_of_entry (map (λ frame. sends end frame) (carrier_frames message n))) same
 left_none end message entries rest (k, suc more, all, left, written) none =
     absurd (omega (arith, none, ap length left, length-append (carrier_frame message k) (frames_from message (suc k) more), frame_length message k))

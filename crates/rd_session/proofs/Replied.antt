@@ -16,7 +16,7 @@ use Rattle.rd_drive.specs.Close.{close}
 use Rattle.rd_drive.specs.DriveState.{DriveState, Handle, Node, Waiting}
 use Rattle.rd_drive.specs.DriveStep.{drive_step, step_of}
 use Rattle.rd_drive.specs.Outcome.{News, Outcome, done, fault, given, on_handle, one_of, refused, succeeded}
-use Rattle.rd_drive.specs.Statuses.{invalid_handle, no_memory}
+use Rattle.rd_base.specs.Statuses.{invalid_handle, no_memory}
 use Rattle.rd_drive.specs.Stepped.{Settled, Stepped, ran_step}
 use Rattle.rd_drive.specs.Waiting.{settles}
 use Rattle.rd_session.specs.Channel.{Runs, starves}

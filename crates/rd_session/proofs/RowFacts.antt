@@ -11,15 +11,18 @@ use Rattle.std.proofs.lemmas.Option.{option_and_then_some, same_Some}
 use Rattle.hex.proofs.HexLemmas.{decode_of-ok}
 use Rattle.hex.specs.Hex.{decode_of}
 use Rattle.hex.specs.declared.error.FromHexError.{FromHexError}
+use Rattle.rd_base.specs.Layout.{and_then}
 use Rattle.rd_irp.specs.declared.op.Range.{Range}
 use Rattle.rd_irp.specs.Fits.{IsWritablePath, max_path, max_buffer}
 use Rattle.rd_irp.specs.Op.{max_ranges}
 use Rattle.rd_irp.specs.Written.{IsRangeInRange}
 use Rattle.rd_script.specs.declared.why.LineWhy.{LineWhy}
 use Rattle.rd_script.specs.declared.why.LineWhy.TheVariants as why
-use Rattle.rd_script.specs.Numbers.{below_base, digit_of, digits_from, digits_in, number32, number64, number_of, number_word, small}
-use Rattle.rd_script.specs.Row.{Row, and_then, done, given, last, met, test, word, ◌>>=◌}
-use Rattle.rd_script.specs.Texts.{all_ranges, decoded, escaped, few_bytes, few_ranges, few_units, hex_of, hex_word, is_dash, is_lower, is_name, is_visible, joined, name_word, range, range_of, ranges_of, some_units, unit_before, units_after, units_of, units_word}
+use Rattle.rd_script.proofs.NumberLemmas.{digit_below}
+use Rattle.rd_script.proofs.RowLemmas.{ok_same, then_ok}
+use Rattle.rd_script.specs.Numbers.{digit_of, digits_from, digits_in, number32_word, number64_word, number_of, number_word, small}
+use Rattle.rd_script.specs.Row.{◌>>=◌, Row, done, given, last, met_words, test, word}
+use Rattle.rd_script.specs.Texts.{all_ranges, escaped, few_bytes, few_ranges, few_units, hex_decoded, hex_of, hex_word, is_application_name, is_dash, is_lower, is_visible, name_word, prepended, range_from, range_of, ranges_of, some_units, unit_before, units_after, units_of, units_word}
 
 -- each word has at most so many bytes
 abbrev pub AreShort : ℕ → List (List ℕ) → Type 0
@@ -27,15 +30,7 @@ AreShort n ws = AllByRecursion (λ (w : List ℕ). length w ≤ n) ws
 
 -- Of words of at most so many bytes a row gives such a value, and leaves such words.
 pub record Gives {A : Type 0} (n : ℕ) (P : A → Type 0) (l : Row A) : Type 0 where
-  pub each : (ws : List (List ℕ)) (a : A) (rest : List (List ℕ)) → AreShort n ws → met l ws ≡ Ok (a, rest) → P a × AreShort n rest
-
--- a success is of a success before it
-then_ok : {A B : Type 0} (r : Result A LineWhy) (f : A → Result B LineWhy) (y : B) → and_then r f ≡ Ok y → (x : A) × (r ≡ Ok x) × (f x ≡ Ok y)
-then_ok (Ok x) f y e = (x, refl, e)
-then_ok (Err cause) f y e = absurd cc
-
-pub ok_same : {A : Type 0} (x y : A) → ◌≡◌ {A = Result A LineWhy} (Ok x) (Ok y) → x ≡ y
-ok_same {A = A} x y e = ap (λ (r : Result A LineWhy). result_unwrap_or r x) e
+  pub each : (ws : List (List ℕ)) (a : A) (rest : List (List ℕ)) → AreShort n ws → met_words l ws ≡ Ok (a, rest) → P a × AreShort n rest
 
 module _ (n : ℕ) where
   -- a pair that is met has what the pair that is there has
@@ -45,28 +40,28 @@ module _ (n : ℕ) where
   pub gives_done : {A : Type 0} (P : A → Type 0) (x : A) → P x → Gives n P (done x)
   gives_done P x own = record { each = λ ws a rest short e. same_pair P x a ws rest e own short }
 
-  word_each : (ws : List (List ℕ)) (w : List ℕ) (rest : List (List ℕ)) → AreShort n ws → met word ws ≡ Ok (w, rest) → (length w ≤ n) × AreShort n rest
+  word_each : (ws : List (List ℕ)) (w : List ℕ) (rest : List (List ℕ)) → AreShort n ws → met_words word ws ≡ Ok (w, rest) → (length w ≤ n) × AreShort n rest
   word_each [] w rest short e = absurd cc
   word_each (v ∷ vs) w rest short e = same_pair (λ (w : List ℕ). length w ≤ n) v w vs rest e short.0 short.1
 
   pub gives_word : Gives n (λ (w : List ℕ). length w ≤ n) word
   gives_word = record { each = word_each }
 
-  last_each : (ws : List (List ℕ)) (u : Unit {0}) (rest : List (List ℕ)) → AreShort n ws → met last ws ≡ Ok (u, rest) → Unit {0} × AreShort n rest
+  last_each : (ws : List (List ℕ)) (u : Unit {0}) (rest : List (List ℕ)) → AreShort n ws → met_words last ws ≡ Ok (u, rest) → Unit {0} × AreShort n rest
   last_each [] u rest short e = same_pair (λ (u : Unit {0}). Unit {0}) tt u [] rest e tt tt
   last_each (v ∷ vs) u rest short e = absurd cc
 
   pub gives_last : Gives n (λ (u : Unit {0}). Unit {0}) last
   gives_last = record { each = last_each }
 
-  test_each : (b : Bool) (cause : LineWhy) (ws : List (List ℕ)) (u : Unit {0}) (rest : List (List ℕ)) → AreShort n ws → met (test b cause) ws ≡ Ok (u, rest) → (b ≡ true) × AreShort n rest
+  test_each : (b : Bool) (cause : LineWhy) (ws : List (List ℕ)) (u : Unit {0}) (rest : List (List ℕ)) → AreShort n ws → met_words (test b cause) ws ≡ Ok (u, rest) → (b ≡ true) × AreShort n rest
   test_each true cause ws u rest short e = same_pair (λ (u : Unit {0}). ◌≡◌ {A = Bool} true true) tt u ws rest e refl short
   test_each false cause ws u rest short e = absurd cc
 
   pub gives_test : (b : Bool) (cause : LineWhy) → Gives n (λ (u : Unit {0}). b ≡ true) (test b cause)
   gives_test b cause = record { each = test_each b cause }
 
-  given_each : {A : Type 0} (o : Option A) (cause : LineWhy) (ws : List (List ℕ)) (a : A) (rest : List (List ℕ)) → AreShort n ws → met (given o cause) ws ≡ Ok (a, rest) → (o ≡ Some a) × AreShort n rest
+  given_each : {A : Type 0} (o : Option A) (cause : LineWhy) (ws : List (List ℕ)) (a : A) (rest : List (List ℕ)) → AreShort n ws → met_words (given o cause) ws ≡ Ok (a, rest) → (o ≡ Some a) × AreShort n rest
   given_each None cause ws a rest short e = absurd cc
   given_each (Some x) cause ws a rest short e = same_pair (λ a. Some x ≡ Some a) x a ws rest e refl short
 
@@ -76,7 +71,7 @@ module _ (n : ℕ) where
   pub gives_then : {A B : Type 0} (P : A → Type 0) (Q : B → Type 0) (l : Row A) (next : A → Row B) → Gives n P l → ((a : A) → P a → Gives n Q (next a)) → Gives n Q (l >>= next)
   gives_then P Q l next first second = record {
     each = λ ws b rest short e.
-        let a = then_ok (met l ws) (λ x. met (next x.0) x.1) (b, rest) e in
+        let a = then_ok (met_words l ws) (λ x. met_words (next x.0) x.1) (b, rest) e in
         let known = first.each ws a.0.0 a.0.1 short a.1 in
         (second a.0.0 known.0).each a.0.1 b rest known.1 a.2;
   }
@@ -104,16 +99,16 @@ module _ (n : ℕ) where
       gives_after _ word _ (λ w. gives_after _ (given (small (number_of w)) why.Number) _ (λ k. gives_then _ _ (test (nat_le least k && nat_le k most) why.Number) _ (gives_test _ _)
       (λ u holds. gives_done _ k (leb-true k most (and_parts (nat_le least k) (nat_le k most) holds).1))))
 
-  pub gives_number32 : Gives n (λ (k : ℕ). k < 2 ^ 32) number32
-  gives_number32 = gives_weaker _ _ number32 (λ k known. omega (arith, known)) (gives_number 0 (2 ^ 32 - 1))
+  pub gives_number32 : Gives n (λ (k : ℕ). k < 2 ^ 32) number32_word
+  gives_number32 = gives_weaker _ _ number32_word (λ k known. omega (arith, known)) (gives_number 0 (2 ^ 32 - 1))
 
-  pub gives_number64 : Gives n (λ (k : ℕ). k < 2 ^ 64) number64
-  gives_number64 = gives_weaker _ _ number64 (λ k known. omega (arith, known)) (gives_number 0 (2 ^ 64 - 1))
+  pub gives_number64 : Gives n (λ (k : ℕ). k < 2 ^ 64) number64_word
+  gives_number64 = gives_weaker _ _ number64_word (λ k known. omega (arith, known)) (gives_number 0 (2 ^ 64 - 1))
 
   -- ---- names
   pub gives_name : Gives n (λ (w : List ℕ). length w ≤ 32) name_word
   unfolding name_word
-  gives_name = gives_after _ word _ (λ w. gives_then _ _ (test (is_name w) why.Name) _ (gives_test _ _)
+  gives_name = gives_after _ word _ (λ w. gives_then _ _ (test (is_application_name w) why.Name) _ (gives_test _ _)
       (λ u holds. gives_done _ w (omega (arith, leb-true (length w) 7 (and_parts _ _ (and_parts _ _ holds).0).1))))
 
 -- ---- units
@@ -121,24 +116,9 @@ module _ (n : ℕ) where
 abbrev IsUnit : ℕ → Type 0
 IsUnit unit = (unit ≢ 0) × (unit < 2 ^ 16)
 
-below_small : (base digit k : ℕ) → below_base base digit ≡ Some k → k < base
-below_small base digit k is = by (nat_lt digit base) refl is
-  where
-    by : (b : Bool) → nat_lt digit base ≡ b → cond b (Some digit) None ≡ Some k → k < base
-    by true e h = let same = same_Some digit k h in omega (arith, same, ltb-true digit base e)
-    by false e h = absurd cc
-
-digit_small : (c k : ℕ) → digit_of 16 c ≡ Some k → k < 16
-digit_small c k is = by (nat_le 0x30 c && nat_le c 0x39) (nat_le 0x61 c && nat_le c 0x66) is
-  where
-    by : (a b : Bool) → cond a (below_base 16 (c - 0x30)) (cond b (below_base 16 (c - 0x61 + 10)) None) ≡ Some k → k < 16
-    by true b h = below_small 16 (c - 0x30) k h
-    by false true h = below_small 16 (c - 0x61 + 10) k h
-    by false false h = absurd cc
-
 -- one digit more
 more_digits : (said c k : ℕ) (cs : List ℕ) → digits_from 16 said (c ∷ cs) ≡ Some k → (digit : ℕ) × (digit < 16) × (digits_from 16 (said * 16 + digit) cs ≡ Some k)
-more_digits said c k cs is = option_and_then_some (λ digit. digits_from 16 (said * 16 + digit) cs) (digit_of 16 c) k is (λ digit found rest. (digit, digit_small c digit found, rest))
+more_digits said c k cs is = option_and_then_some (λ digit. digits_from 16 (said * 16 + digit) cs) (digit_of 16 c) k is (λ digit found rest. (digit, digit_below 16 c digit found, rest))
 
 four_small : (digits : List ℕ) (k : ℕ) → length digits ≡ 4 → digits_in 16 digits ≡ Some k → k < 2 ^ 16
 four_small [] k four is = absurd cc
@@ -217,7 +197,7 @@ decoded_ok : (r : Result (List ℕ) FromHexError) (bytes : List ℕ) → result_
 decoded_ok (Ok x) bytes is = ap (λ (b : List ℕ). Ok b) (same_Some x bytes is)
 decoded_ok (Err e) bytes is = absurd cc
 
-decoded_short : (w bytes : List ℕ) → decoded w ≡ Some bytes → length bytes ≤ length w
+decoded_short : (w bytes : List ℕ) → hex_decoded w ≡ Some bytes → length bytes ≤ length w
 decoded_short [] bytes is = absurd cc
 decoded_short (c ∷ cs) bytes is = by (list_all is_lower (c ∷ cs)) is
   where
@@ -228,7 +208,7 @@ decoded_short (c ∷ cs) bytes is = by (list_all is_lower (c ∷ cs)) is
 hex_short : (w bytes : List ℕ) → hex_of w ≡ Some bytes → length bytes ≤ length w
 hex_short w bytes is = by (is_dash w) is
   where
-    by : (b : Bool) → cond b (Some []) (decoded w) ≡ Some bytes → length bytes ≤ length w
+    by : (b : Bool) → cond b (Some []) (hex_decoded w) ≡ Some bytes → length bytes ≤ length w
     by true h = let same = ap length (same_Some [] bytes h) in omega (arith, same)
     by false h = decoded_short w bytes h
 
@@ -249,23 +229,23 @@ mapped f (Some x) y is = (x, refl, same_Some (f x) y is)
 abbrev number_in : List ℕ → Option ℕ
 number_in part = small (number_of part)
 
-length_in : (part : List ℕ) (offset : ℕ) (r : Range) → offset < 2 ^ 64 → option_map (range offset) (number_in part) ≡ Some r → IsRangeInRange r
-length_in part offset r first is = let found = mapped (range offset) (number_in part) r is in subst IsRangeInRange found.2 (first, small_is (number_of part) found.0 found.1)
+length_in : (part : List ℕ) (offset : ℕ) (r : Range) → offset < 2 ^ 64 → option_map (range_from offset) (number_in part) ≡ Some r → IsRangeInRange r
+length_in part offset r first is = let found = mapped (range_from offset) (number_in part) r is in subst IsRangeInRange found.2 (first, small_is (number_of part) found.0 found.1)
 
-offset_in : (part rest : List ℕ) (r : Range) → option_and_then (λ offset. option_map (range offset) (number_in rest)) (number_in part) ≡ Some r → IsRangeInRange r
+offset_in : (part rest : List ℕ) (r : Range) → option_and_then (λ offset. option_map (range_from offset) (number_in rest)) (number_in part) ≡ Some r → IsRangeInRange r
 offset_in part rest r is =
-    option_and_then_some (λ offset. option_map (range offset) (number_in rest)) (number_in part) r is (λ offset first more. length_in rest offset r (small_is (number_of part) offset first) more)
+    option_and_then_some (λ offset. option_map (range_from offset) (number_in rest)) (number_in part) r is (λ offset first more. length_in rest offset r (small_is (number_of part) offset first) more)
 
 range_is : (part : List ℕ) (r : Range) → range_of part ≡ Some r → IsRangeInRange r
 range_is part r is =
-    option_and_then_some (λ i. option_and_then (λ offset. option_map (range offset) (number_in (drop (i + 1) part))) (number_in (take i part))) (position (λ c. c == 0x3a) part) r is
+    option_and_then_some (λ i. option_and_then (λ offset. option_map (range_from offset) (number_in (drop (i + 1) part))) (number_in (take i part))) (position (λ c. c == 0x3a) part) r is
     (λ i at more. offset_in (take i part) (drop (i + 1) part) r more)
 
 ranges_are : (parts : List (List ℕ)) (ranges : List Range) → all_ranges parts ≡ Some ranges → AllByRecursion IsRangeInRange ranges
 ranges_are [] ranges is = subst (AllByRecursion IsRangeInRange) (same_Some [] ranges is) tt
 ranges_are (part ∷ parts) ranges is = by (ranges_are parts) (range_of part) (all_ranges parts) refl refl is
   where
-    by : ((rs : List Range) → all_ranges parts ≡ Some rs → AllByRecursion IsRangeInRange rs) → (o : Option Range) (others : Option (List Range)) → range_of part ≡ o → all_ranges parts ≡ others → joined o others ≡ Some ranges → AllByRecursion IsRangeInRange ranges
+    by : ((rs : List Range) → all_ranges parts ≡ Some rs → AllByRecursion IsRangeInRange rs) → (o : Option Range) (others : Option (List Range)) → range_of part ≡ o → all_ranges parts ≡ others → prepended o others ≡ Some ranges → AllByRecursion IsRangeInRange ranges
     by rest None others e f h = absurd cc
     by rest (Some r) None e f h = absurd cc
     by rest (Some r) (Some rs) e f h = subst (AllByRecursion IsRangeInRange) (same_Some (r ∷ rs) ranges h) (range_is part r e, rest rs f)

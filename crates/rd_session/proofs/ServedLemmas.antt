@@ -3,17 +3,11 @@ use Rattle.std.proofs.Common.{◌≡◌, ◌∙◌, refl, sym, ap, arith, ℕ, z
 use Rattle.std.specs.Prelude.{◌==◌, slice_index_or}
 use Rattle.std.proofs.Math.Seq.{drop-cons, take-suc}
 use Rattle.std.proofs.lemmas.List.{drop_all}
-use Rattle.std.proofs.lemmas.Bool.{eqb-true}
 use Rattle.rd_session.specs.Served.{first_lines}
-use Rattle.rd_session.proofs.HandleLemmas.{decides_not}
 
 nothing_left : (left : ℕ) → first_lines left [] ≡ []
 nothing_left zero = refl
 nothing_left (suc left) = refl
-
--- a byte that is no line feed
-pub no_feed : (c : ℕ) → (c ≡ 0x0a → ⊥) → (c == 0x0a) ≡ false
-no_feed c apart = decides_not (c == 0x0a) (eqb-true c 0x0a) apart
 
 -- a byte, and the lines after it
 next_byte : (left c : ℕ) (cs : List ℕ) (b : Bool) → 0 < left → (c == 0x0a) ≡ b → first_lines left (c ∷ cs) ≡ c ∷ first_lines (cond b (left - 1) left) cs

@@ -11,7 +11,7 @@ use Rattle.rd_base.specs.declared.journal.Item.{Item}
 use Rattle.rd_base.specs.declared.journal.Key.{Key}
 use Rattle.rd_irp.specs.declared.completion.Reply.{Reply}
 use Rattle.rd_irp.specs.declared.op.Op.{Op}
-use Rattle.rd_irp.specs.Fits.{BodyFits, kind_of}
+use Rattle.rd_irp.specs.Fits.{BodyFits, kind_of, opens}
 use Rattle.rd_drive.specs.Replies.{replies_of}
 use Rattle.rd_irp.specs.declared.request.Request.{Request}
 use Rattle.rd_drive.specs.DriveState.{DriveState}
@@ -22,8 +22,8 @@ use Rattle.rd_script.specs.declared.outcome.Refusal.TheVariants as refusal
 use Rattle.rd_session.specs.declared.scene.Scene.{Scene}
 use Rattle.rd_session.specs.Asking.{HandleOp}
 use Rattle.rd_session.specs.Channel.{Ends, Exchange, Exchanges, EndsIn, IsExchange, Runs, recorded_in, stored_under}
-use Rattle.rd_session.specs.Outcomes.{Ended, FitsLine, answers_in, given_file, held_file, no_handle, opened_file, opens, request_of, request_to, requests_of, file_named}
-use Rattle.rd_session.specs.Recording.{Entry, entry_bytes}
+use Rattle.rd_session.specs.Outcomes.{Ended, FitsLine, answers_in, given_file, held_file, no_handle, opened_file, request_asked, request_to, requests_of, file_named}
+use Rattle.rd_session.specs.Recording.{Entry, bytes_of_entry}
 use Rattle.rd_session.specs.Told.{Told, Counted, InOrder}
 use Rattle.rd_session.proofs.Going.{HoldSmall, small_either}
 use Rattle.rd_session.proofs.GivenLemmas.{given_small}
@@ -52,13 +52,13 @@ stored_more moment n m (x ∷ es) e at =
     ∙ sym (append_assoc (stored_under moment (key_at n) x.reply) (stored_from moment (suc n) es) (stored_under moment (key_at m) e.reply))
 
 -- ---- one more line
-requests_more : (device : ℕ) (before lines : List Ended) (line : Ended) → requests_of device before (lines ++ line ∷ []) ≡ requests_of device before lines ++ option_to_list (request_of device (before ++ lines) line.0)
+requests_more : (device : ℕ) (before lines : List Ended) (line : Ended) → requests_of device before (lines ++ line ∷ []) ≡ requests_of device before lines ++ option_to_list (request_asked device (before ++ lines) line.0)
 requests_more device before [] line =
-    append-nil (option_to_list (request_of device before line.0)) ∙ ap (λ (ended : List Ended). option_to_list (request_of device ended line.0)) (sym (append-nil before))
+    append-nil (option_to_list (request_asked device before line.0)) ∙ ap (λ (ended : List Ended). option_to_list (request_asked device ended line.0)) (sym (append-nil before))
 requests_more device before (l ∷ lines) line =
-    ap (λ (rs : List Request). option_to_list (request_of device before l.0) ++ rs)
-    (requests_more device (before ++ l ∷ []) lines line ∙ ap (λ (ended : List Ended). requests_of device (before ++ l ∷ []) lines ++ option_to_list (request_of device ended line.0)) (append_assoc before (l ∷ []) lines))
-    ∙ sym (append_assoc (option_to_list (request_of device before l.0)) (requests_of device (before ++ l ∷ []) lines) (option_to_list (request_of device (before ++ l ∷ lines) line.0)))
+    ap (λ (rs : List Request). option_to_list (request_asked device before l.0) ++ rs)
+    (requests_more device (before ++ l ∷ []) lines line ∙ ap (λ (ended : List Ended). requests_of device (before ++ l ∷ []) lines ++ option_to_list (request_asked device ended line.0)) (append_assoc before (l ∷ []) lines))
+    ∙ sym (append_assoc (option_to_list (request_asked device before l.0)) (requests_of device (before ++ l ∷ []) lines) (option_to_list (request_asked device (before ++ l ∷ lines) line.0)))
 
 answers_more : (lines : List Ended) (line : Ended) → flat_map answers_in (map (λ (l : Ended). l.1) (lines ++ line ∷ [])) ≡ flat_map answers_in (map (λ (l : Ended). l.1) lines) ++ answers_in line.1
 answers_more [] line = append-nil (answers_in line.1)
@@ -106,11 +106,11 @@ pub record SoFar (scene : Scene) (start : DriveState) (written : List ℕ) (ende
   pub few : length exchanges ≤ length ended
   pub sent : map (λ (e : Exchange). e.request) exchanges ≡ requests_of scene.device [] ended
   pub heard : map (λ (e : Exchange). e.reply) exchanges ≡ flat_map answers_in (map (λ (l : Ended). l.1) ended)
-  pub refused : (before : List Ended) (line : Ended) (behind : List Ended) → ended ≡ before ++ line ∷ behind → (line.1 ≡ no_handle) ↔ IsNone (request_of scene.device before line.0)
+  pub refused : (before : List Ended) (line : Ended) (behind : List Ended) → ended ≡ before ++ line ∷ behind → (line.1 ≡ no_handle) ↔ IsNone (request_asked scene.device before line.0)
   pub fitting : AllByRecursion (λ (l : Ended). FitsLine l.0 l.1) ended
   pub holds : (name : List ℕ) → ends.files name ≡ held_file name ended
   pub small : HoldSmall ends.files
-  pub recorded : written ++ ends.gathered ≡ flat_map entry_bytes (flat_map recorded_in exchanges)
+  pub recorded : written ++ ends.gathered ≡ flat_map bytes_of_entry (flat_map recorded_in exchanges)
 
 -- before the first line
 pub none_yet : (scene : Scene) (start : DriveState) (ends : Ends) → ends.drive ≡ start → ends.journal ≡ [] → ends.asked ≡ 0 → ends.gathered ≡ [] → ((name : List ℕ) → ends.files name ≡ None) → SoFar scene start [] [] ends
@@ -150,9 +150,9 @@ written_more scene start written piece left ended ends so_far parts = record {
 }
 
 -- what is refused so far, with a line that is or isn't
-refused_more : (device : ℕ) (ended : List Ended) (last : Ended) → ((before : List Ended) (line : Ended) (behind : List Ended) → ended ≡ before ++ line ∷ behind → (line.1 ≡ no_handle) ↔ IsNone (request_of device before line.0))
-    → ((last.1 ≡ no_handle) ↔ IsNone (request_of device ended last.0))
-    → (before : List Ended) (line : Ended) (behind : List Ended) → ended ++ last ∷ [] ≡ before ++ line ∷ behind → (line.1 ≡ no_handle) ↔ IsNone (request_of device before line.0)
+refused_more : (device : ℕ) (ended : List Ended) (last : Ended) → ((before : List Ended) (line : Ended) (behind : List Ended) → ended ≡ before ++ line ∷ behind → (line.1 ≡ no_handle) ↔ IsNone (request_asked device before line.0))
+    → ((last.1 ≡ no_handle) ↔ IsNone (request_asked device ended last.0))
+    → (before : List Ended) (line : Ended) (behind : List Ended) → ended ++ last ∷ [] ≡ before ++ line ∷ behind → (line.1 ≡ no_handle) ↔ IsNone (request_asked device before line.0)
 refused_more device ended last all here before line behind same =
     elim (cut ended last before line behind same) [
       | at_end e f ↦ rw (e, f) here
@@ -164,7 +164,7 @@ fitting_more [] last all own = (own, tt)
 fitting_more (l ∷ ended) last all own = (all.0, fitting_more ended last all.1 own)
 
 -- the request of a line, by the file that it names
-request_named : (device : ℕ) (files : List ℕ → Option ℕ) (ended : List Ended) (asked : HandleOp) → ((name : List ℕ) → files name ≡ held_file name ended) → request_of device ended asked ≡ option_map (request_to device asked.op) (file_named files asked)
+request_named : (device : ℕ) (files : List ℕ → Option ℕ) (ended : List Ended) (asked : HandleOp) → ((name : List ℕ) → files name ≡ held_file name ended) → request_asked device ended asked ≡ option_map (request_to device asked.op) (file_named files asked)
 request_named device files ended asked holds =
     ap (λ (file : Option ℕ). option_map (request_to device asked.op) (if opens asked.op then Some 0 else file)) (sym (holds asked.handle))
 
@@ -183,7 +183,7 @@ more_refused : (scene : Scene) (start : DriveState) (written : List ℕ) (ended 
 more_refused scene start written ended ends asked so_far none =
     let line : Ended = (asked, no_handle) in
     let device : ℕ = scene.device in
-    let no_request : request_of device ended asked ≡ None = request_named device ends.files ended asked so_far.holds ∙ ap (λ (file : Option ℕ). option_map (request_to device asked.op) file) none in
+    let no_request : request_asked device ended asked ≡ None = request_named device ends.files ended asked so_far.holds ∙ ap (λ (file : Option ℕ). option_map (request_to device asked.op) file) none in
     record {
       exchanges = so_far.exchanges;
       own = so_far.own;
@@ -203,16 +203,16 @@ more_refused scene start written ended ends asked so_far none =
 some_or_none : (request : Request) → IsNone (Some request) → ⊥
 some_or_none request none = absurd (cc)
 
-bytes_more : (es : List Exchange) (e : Exchange) → flat_map entry_bytes (flat_map recorded_in (es ++ e ∷ [])) ≡ flat_map entry_bytes (flat_map recorded_in es) ++ flat_map entry_bytes (recorded_in e)
+bytes_more : (es : List Exchange) (e : Exchange) → flat_map bytes_of_entry (flat_map recorded_in (es ++ e ∷ [])) ≡ flat_map bytes_of_entry (flat_map recorded_in es) ++ flat_map bytes_of_entry (recorded_in e)
 bytes_more es e =
-    ap (λ (entries : List Entry). flat_map entry_bytes entries) (flat_map-append recorded_in es (e ∷ []) ∙ ap (λ (entries : List Entry). flat_map recorded_in es ++ entries) (append-nil (recorded_in e)))
-    ∙ flat_map-append entry_bytes (flat_map recorded_in es) (recorded_in e)
+    ap (λ (entries : List Entry). flat_map bytes_of_entry entries) (flat_map-append recorded_in es (e ∷ []) ∙ ap (λ (entries : List Entry). flat_map recorded_in es ++ entries) (append-nil (recorded_in e)))
+    ∙ flat_map-append bytes_of_entry (flat_map recorded_in es) (recorded_in e)
 
-recorded_more : (written before after : List ℕ) (es : List Exchange) (e : Exchange) → written ++ before ≡ flat_map entry_bytes (flat_map recorded_in es) → after ≡ before ++ flat_map entry_bytes (recorded_in e)
-    → written ++ after ≡ flat_map entry_bytes (flat_map recorded_in (es ++ e ∷ []))
+recorded_more : (written before after : List ℕ) (es : List Exchange) (e : Exchange) → written ++ before ≡ flat_map bytes_of_entry (flat_map recorded_in es) → after ≡ before ++ flat_map bytes_of_entry (recorded_in e)
+    → written ++ after ≡ flat_map bytes_of_entry (flat_map recorded_in (es ++ e ∷ []))
 recorded_more written before after es e all more =
-    ap (λ (l : List ℕ). written ++ l) more ∙ sym (append_assoc written before (flat_map entry_bytes (recorded_in e)))
-    ∙ ap (λ (l : List ℕ). l ++ flat_map entry_bytes (recorded_in e)) all ∙ sym (bytes_more es e)
+    ap (λ (l : List ℕ). written ++ l) more ∙ sym (append_assoc written before (flat_map bytes_of_entry (recorded_in e)))
+    ∙ ap (λ (l : List ℕ). l ++ flat_map bytes_of_entry (recorded_in e)) all ∙ sym (bytes_more es e)
 
 -- A line that was answered adds its exchange.
 more_done : (scene : Scene) (start : DriveState) (written : List ℕ) (ended : List Ended) (before after : Ends) (asked : HandleOp) (reply : Reply) (file : ℕ) → SoFar scene start written ended before
@@ -227,7 +227,7 @@ more_done scene start written ended before after asked reply file so_far named e
     let es : List Exchange = so_far.exchanges in
     let sound : IsExchange e = exchanged.sound in
     let same_op = ap (λ (r : Request). r.op) exchanged.request_is in
-    let has_request : request_of device ended asked ≡ Some (request_to device asked.op file) = request_named device before.files ended asked so_far.holds ∙ ap (λ (f : Option ℕ). option_map (request_to device asked.op) f) named in
+    let has_request : request_asked device ended asked ≡ Some (request_to device asked.op file) = request_named device before.files ended asked so_far.holds ∙ ap (λ (f : Option ℕ). option_map (request_to device asked.op) f) named in
     let ran : Runs moment (key_at before.asked) e.request e.reply before.drive after.drive = subst (λ (r : Request). Runs moment (key_at before.asked) r e.reply before.drive after.drive) (sym exchanged.request_is) exchanged.ran in
     let given : IfSome (given_file reply.body) (λ f. f < 2 ^ 32) = subst (λ (a : Reply). IfSome (given_file a.body) (λ f. f < 2 ^ 32)) (sym exchanged.answer_is) (given_small e sound) in
     let fits : FitsLine asked (outcome.Done reply) = subst (λ (a : Reply). BodyFits (kind_of asked.op) a.status a.body) (sym exchanged.answer_is) (subst (λ (o : Op). BodyFits (kind_of o) e.reply.status e.reply.body) same_op sound.answers.0) in
@@ -311,7 +311,7 @@ session scene start written ended ends so_far =
       heard = heard device es so_far.own;
     }
 
--- ---- the lines behind some of which the session stands
+-- ---- the lines after some of which the session stands
 -- Of all that was asked some lines ended, with these outcomes, and these are left; so many stand there in all. What the recording held has grown
 -- by what was written.
 abbrev pub Lines : Scene → DriveState → List HandleOp → ℕ → List HandleOp → ℕ → List Outcome → (opened held : Option (List ℕ)) → Ends → Type 0
@@ -365,7 +365,7 @@ lines_fit scene start asks count left outcomes opened held ends (written, ended,
 
 -- Where no line is left, and what was gathered is written, it is the session.
 pub whole_session : (scene : Scene) (start : DriveState) (asks : List HandleOp) (count left : ℕ) (outcomes : List Outcome) (opened held grown : Option (List ℕ)) (ends : Ends) → Lines scene start asks count [] left outcomes opened held ends
-    → Appends held grown ends.gathered → (recorded : List Entry) × IsSession scene start asks outcomes ends.journal recorded × Appends opened grown (flat_map entry_bytes recorded)
+    → Appends held grown ends.gathered → (recorded : List Entry) × IsSession scene start asks outcomes ends.journal recorded × Appends opened grown (flat_map bytes_of_entry recorded)
 whole_session scene start asks count left outcomes opened held grown ends (written, ended, asks_are, outcomes_are, all, appended, so_far) last = (
   flat_map recorded_in so_far.exchanges,
   subst (λ (l : List HandleOp). IsSession scene start l outcomes ends.journal (flat_map recorded_in so_far.exchanges)) (sym (asks_are ∙ append-nil (map (λ (l : Ended). l.0) ended)))

@@ -7,23 +7,24 @@ use Rattle.rd_irp.specs.declared.op.Op.TheVariants as op
 use Rattle.rd_irp.specs.declared.completion.Body.{Body}
 use Rattle.rd_irp.specs.declared.completion.Body.TheVariants as body
 use Rattle.rd_irp.specs.declared.completion.Reply.{Reply}
-use Rattle.rd_session.specs.Asking.{HandleOp, asked, generic_read, open_existing, share_all}
+use Rattle.rd_drive.specs.Create.{open_existing}
+use Rattle.rd_session.specs.Asking.{HandleOp, generic_read, handle_op, share_all}
 use Rattle.rd_session.specs.Session.{IsUncut, first_keys, in_turn, key_at}
 use Rattle.rd_session.specs.declared.recording.Side.TheVariants.{Host, Client}
 use Rattle.rd_script.specs.declared.outcome.Outcome.TheVariants as outcome
 use Rattle.rd_session.specs.Outcomes.{held_file, no_handle, requests_of}
 use Rattle.rd_session.specs.Recording.{recording_of, begins, sends}
-use Rattle.rd_session.specs.Told.{names_pair, completes, is_request}
+use Rattle.rd_session.specs.Told.{names_pair, completes, is_request_passed}
 
 -- What some lines ask for, and how they are answered.
 open_a : HandleOp
-open_a = asked (codes "h") (op.Create generic_read 0 0 share_all open_existing 0 (codes "\\a"))
+open_a = handle_op (codes "h") (op.Create generic_read 0 0 share_all open_existing 0 (codes "\\a"))
 
 read_five : HandleOp
-read_five = asked (codes "h") (op.Read 0 5)
+read_five = handle_op (codes "h") (op.Read 0 5)
 
 close_it : HandleOp
-close_it = asked (codes "h") op.Close
+close_it = handle_op (codes "h") op.Close
 
 done : Body → Reply
 done b = record { status = record { 0 = 0 }; body = b }
@@ -83,6 +84,6 @@ is_its_completion : completes 1 (Client, close_completion) ≡ true
 unfolding close_completion
 is_its_completion = refl
 
-is_no_request : is_request (Host, close_completion) ≡ false
+is_no_request : is_request_passed (Host, close_completion) ≡ false
 unfolding close_completion
 is_no_request = refl

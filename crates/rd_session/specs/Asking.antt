@@ -7,6 +7,7 @@ use Rattle.rd_irp.specs.declared.op.Op.TheVariants as op
 use Rattle.rd_irp.specs.Fits.{Fits}
 use Rattle.rd_irp.specs.Written.{IsOpInRange}
 use Rattle.rd_drive.specs.Device.{may_wait}
+use Rattle.rd_drive.specs.Create.{open_existing}
 use Rattle.rd_script.specs.declared.line.Line.{Line}
 use Rattle.rd_script.specs.declared.line.Line.TheVariants as line
 use Rattle.rd_script.specs.declared.line.NumberedLine.{NumberedLine}
@@ -31,10 +32,6 @@ generic_read = 0x8000_0000
 -- the SharedAccess that lets everybody read, write and delete
 abbrev pub share_all : ℕ
 share_all = 7
-
--- FILE_OPEN, the CreateDisposition that opens what is there and makes nothing
-abbrev pub open_existing : ℕ
-open_existing = 1
 
 -- the operation of a line that opens a handle
 unfoldable pub create_in : Line → Option Op
@@ -74,12 +71,12 @@ handle_in (line.Control application handle code output bytes) = Some handle
 handle_in _ = None
 
 -- an operation on a handle
-abbrev pub asked : List ℕ → Op → HandleOp
-asked handle op = record { handle = handle; op = op }
+abbrev pub handle_op : List ℕ → Op → HandleOp
+handle_op handle op = record { handle = handle; op = op }
 
 -- what a line asks for, if it asks for anything
 abbrev pub ask_in : Line → Option HandleOp
-ask_in l = option_and_then (λ handle. option_map (asked handle) (op_in l)) (handle_in l)
+ask_in l = option_and_then (λ handle. option_map (handle_op handle) (op_in l)) (handle_in l)
 
 -- the same of a numbered line
 abbrev pub asks_at : NumberedLine → List HandleOp

@@ -15,7 +15,7 @@ use Rattle.rd_irp.specs.declared.completion.Head.{Head}
 use Rattle.rd_irp.specs.declared.completion.Kind.{Kind}
 use Rattle.rd_irp.specs.declared.completion.Reply.{Reply}
 use Rattle.rd_irp.specs.declared.request.Request.{Request}
-use Rattle.rd_irp.specs.Fits.{IsReplyTo}
+use Rattle.rd_irp.specs.Fits.{IsReplyTo, opens}
 use Rattle.rd_irp.specs.Request.{SpellsRequest}
 use Rattle.rd_irp.specs.Completion.{SpellsHead, SpellsBody}
 use Rattle.rd_irp.specs.Written.{request_bytes}
@@ -36,9 +36,9 @@ use Rattle.rd_session.specs.declared.run_no.RunNo.{RunNo}
 use Rattle.rd_session.specs.declared.run_no.RunNo.TheVariants as no
 use Rattle.rd_session.specs.declared.scene.Scene.{Scene}
 use Rattle.rd_session.specs.Asking.{HandleOp}
-use Rattle.rd_session.specs.Outcomes.{opens, given_file, file_named, request_to}
-use Rattle.rd_session.specs.Recording.{Entry, Passed, entry_bytes, entries_of}
-use Rattle.rd_session.specs.Told.{Completes, completion_written}
+use Rattle.rd_session.specs.Outcomes.{given_file, file_named, request_to}
+use Rattle.rd_session.specs.Recording.{Entry, Passed, bytes_of_entry, entries_of}
+use Rattle.rd_session.specs.Told.{CompletesRequest, completion_written}
 use Rattle.rd_session.specs.Session.{key_at}
 
 -- A step that ended for the recording counts one fault of it, and any other none.
@@ -103,7 +103,7 @@ pub record IsExchange (e : Exchange) : Type 0 where
   pub sent_fits : IsMessage e.sent
   pub completion_fits : IsMessage e.completion
   pub spelled : SpellsRequest e.request 0 e.sent
-  pub completes : Completes e.request e.reply e.completion
+  pub completes : CompletesRequest e.request e.reply e.completion
   pub sent_bytes : e.sent ≡ request_bytes e.request
   pub completion_bytes : e.completion ≡ completion_written e.request e.reply
   pub answers : IsReplyTo e.request.op e.reply
@@ -117,13 +117,13 @@ pub record Runs (moment : ℕ) (key : Key) (request : Request) (reply : Reply) (
 
 -- What came of a request at the drive's end: it ran once, at this moment, or no memory was found for it, which a Close always does;
 -- the journal says so; and the message completes the request with the drive's reply, as this program writes it.
-pub record Serves (moment : ℕ) (request : Request) (key : Key) (drive left : DriveState) (journal stored : List Item) (completion : List ℕ) : Type 0 where
+pub record ServesRequest (moment : ℕ) (request : Request) (key : Key) (drive left : DriveState) (journal stored : List Item) (completion : List ℕ) : Type 0 where
   pub reply : Reply
   pub ran : Runs moment key request reply drive left
   pub answers : IsReplyTo request.op reply
   pub close_fed : request.op ≡ op.Close → IsFalse (starves reply)
   pub kept : stored ≡ journal ++ stored_under moment key reply
-  pub completes : Completes request reply completion
+  pub completes : CompletesRequest request reply completion
   pub written : completion ≡ completion_written request reply
 
 -- What an application hears in the frames of a completion of this kind: its status and body, whatever device and completion id
@@ -155,7 +155,7 @@ pub record Exchanges (moment : ℕ) (request : Request) (answer : Reply) (before
   pub ran : Runs moment (key_at before.asked) request exchange.reply before.drive after.drive
   pub counted : after.asked ≡ before.asked + 1
   pub kept : after.journal ≡ before.journal ++ stored_under moment (key_at before.asked) exchange.reply
-  pub recorded : after.gathered ≡ before.gathered ++ flat_map entry_bytes (recorded_in exchange)
+  pub recorded : after.gathered ≡ before.gathered ++ flat_map bytes_of_entry (recorded_in exchange)
   pub answer_is : answer ≡ exchange.reply
 
 -- How a line ended. Refused: its handle holds no file, and both ends are as before. Answered: its request, for the file that its

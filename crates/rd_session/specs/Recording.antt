@@ -16,14 +16,14 @@ mark Host = 0
 mark Client = 1
 
 -- the bytes of an entry
-abbrev pub entry_bytes : Entry → List ℕ
-entry_bytes begins = 2 ∷ []
-entry_bytes ends = 3 ∷ []
-entry_bytes (sends side frame) = mark side ∷ frame
+abbrev pub bytes_of_entry : Entry → List ℕ
+bytes_of_entry begins = 2 ∷ []
+bytes_of_entry ends = 3 ∷ []
+bytes_of_entry (sends side frame) = mark side ∷ frame
 
 -- the bytes of a recording: the magic, and the entries
 abbrev pub recording_of : List Entry → List ℕ
-recording_of entries = codes "RDRREC01" ++ flat_map entry_bytes entries
+recording_of entries = codes "RDRREC01" ++ flat_map bytes_of_entry entries
 
 -- a message that passed, and the side that sent it
 abbrev pub Passed : Type 0
@@ -35,7 +35,7 @@ entries_of passed = map (λ frame. sends passed.0 frame) (frames_for passed.1)
 
 -- the bytes of the entries of a message
 abbrev pub recorded_bytes : Side → List ℕ → List ℕ
-recorded_bytes side message = flat_map entry_bytes (entries_of (side, message))
+recorded_bytes side message = flat_map bytes_of_entry (entries_of (side, message))
 
 -- whether the host sent it
 abbrev pub is_host : Passed → Bool

@@ -5,7 +5,7 @@ use Rattle.std.specs.List.{AllZip, flat_map}
 use Rattle.rd_base.specs.declared.journal.Key.{Key}
 use Rattle.rd_base.specs.declared.journal.Item.{Item}
 use Rattle.rd_base.specs.declared.journal.Item.TheVariants.{Ran, Cut, Cancelled}
-use Rattle.rd_base.specs.Lawful.{IsLawful, IsUnparked, named_key}
+use Rattle.rd_base.specs.Lawful.{IsLawful, IsUnparked, RunsAt, named_key}
 use Rattle.rd_irp.specs.declared.completion.Reply.{Reply}
 use Rattle.rd_irp.specs.declared.request.Request.{Request}
 use Rattle.rd_irp.specs.declared.op.Op.TheVariants.{Close}
@@ -18,9 +18,9 @@ use Rattle.rd_script.specs.declared.outcome.Outcome.{Outcome}
 use Rattle.rd_session.specs.declared.recording.Side.TheVariants.{Host, Client}
 use Rattle.rd_session.specs.declared.scene.Scene.{Scene}
 use Rattle.rd_session.specs.Asking.{HandleOp}
-use Rattle.rd_session.specs.Outcomes.{AreOutcomes}
+use Rattle.rd_session.specs.Outcomes.{OutcomesMatch}
 use Rattle.rd_session.specs.Recording.{Entry, Passed, entries_of}
-use Rattle.rd_session.specs.Told.{Told, Counted, InOrder, Completes, completion_written}
+use Rattle.rd_session.specs.Told.{Told, Counted, InOrder, CompletesRequest, completion_written}
 
 -- the key of the request at a place of the one channel
 abbrev pub key_at : ℕ → Key
@@ -35,11 +35,6 @@ in_turn (pair ∷ pairs) = (Host, pair.0) ∷ (Client, pair.1) ∷ in_turn pairs
 abbrev pub first_keys : ℕ → List Key
 first_keys zero = []
 first_keys (suc count) = first_keys count ++ key_at count ∷ []
-
--- Each run of the journal is at this moment.
-abbrev pub RunsAt : ℕ → Item → Type 0
-RunsAt now (Ran key moment starved parked) = moment ≡ now
-RunsAt now _ = Unit {0}
 
 -- An entry doesn't say that a Close found no memory, since it needs none.
 abbrev pub StarvesNoClose : (Key → Request) → Item → Type 0
@@ -60,7 +55,7 @@ Asks request message = SpellsRequest request 0 message × (message ≡ request_b
 
 -- the application hears this reply in the completion of its request, which is as this program writes it
 abbrev pub Hears : Request × Reply → List ℕ → Type 0
-Hears heard message = Completes heard.0 heard.1 message × (message ≡ completion_written heard.0 heard.1)
+Hears heard message = CompletesRequest heard.0 heard.1 message × (message ≡ completion_written heard.0 heard.1)
 
 -- the one lawful history of the drive: each key that it names is a request on the wire, each run at the script's moment, and
 -- nothing else happened to the drive
@@ -73,7 +68,7 @@ pub record IsHistory (moment : ℕ) (requests : Key → Request) (asked : List R
   pub uncut : All IsUncut journal
 
 -- The session at a scene of a drive that begins in a state, and of an application that asks for this: these outcomes came of it, this journal
--- was stored, and these entries stand in the recording behind the channel's begin.
+-- was stored, and these entries stand in the recording after the channel's begin.
 pub record IsSession (scene : Scene) (start : DriveState) (asks : List HandleOp) (outcomes : List Outcome) (journal : List Item) (recorded : List Entry) : Type 0 where
   -- the requests that were sent, and the messages of each and of its completion; nothing else passed
   pub asked : List Request
@@ -95,5 +90,5 @@ pub record IsSession (scene : Scene) (start : DriveState) (asks : List HandleOp)
   pub in_order : InOrder scene.device 1 passed journal
   -- each line of the application has its one outcome: the reply in its completion, or that its handle holds no file
   pub answers : List Reply
-  pub outcomes_are : AreOutcomes scene.device asks outcomes asked answers
+  pub outcomes_are : OutcomesMatch scene.device asks outcomes asked answers
   pub heard : AllZip Hears (zip asked answers) completions

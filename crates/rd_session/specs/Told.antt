@@ -3,33 +3,20 @@ use Rattle.std.specs.Prelude.{◌≡◌, ℕ, ◌<◌, ◌≤◌, ◌^◌, ◌�
 use Rattle.std.specs.List.{AllZip, filter_map}
 use Rattle.std.specs.Int.{w32, to_le_bytes}
 use Rattle.rd_base.specs.declared.journal.Key.{Key}
-use Rattle.rd_base.specs.declared.status.Status.{Status}
 use Rattle.rd_base.specs.declared.journal.Item.{Item}
-use Rattle.rd_base.specs.declared.journal.Item.TheVariants.{Ran, Cancelled, Sent}
+use Rattle.rd_base.specs.declared.journal.Item.TheVariants.{Ran, Sent}
 use Rattle.rd_irp.specs.declared.completion.Reply.{Reply}
-use Rattle.rd_irp.specs.declared.completion.Body.TheVariants.{Fault}
 use Rattle.rd_irp.specs.declared.request.Request.{Request}
 use Rattle.rd_irp.specs.Fits.{kind_of}
 use Rattle.rd_irp.specs.Completion.{SpellsHead, SpellsBody}
 use Rattle.rd_base.specs.declared.packet.Packet.TheVariants.{IoRequest, IoCompletion}
 use Rattle.rd_base.specs.Header.{header_bytes}
 use Rattle.rd_irp.specs.Written.{completion_bytes}
+use Rattle.rd_drive.specs.Replies.{IsAnswer, cancellation}
 use Rattle.rd_session.specs.Recording.{Passed, is_host, is_client}
 
--- STATUS_CANCELLED (MS-ERREF 2.3): the request was given up before it ran
-abbrev pub cancelled : Status
-cancelled = record { 0 = 0xc000_0120 }
-
--- the reply of a request that was cancelled
-abbrev pub cancelled_reply : Reply
-cancelled_reply = record { status = cancelled; body = Fault }
-
--- the answer to a key: its reply where it ran, and CANCELLED where it was cancelled
-abbrev pub IsAnswer : List (Key × Reply) → List Item → Key → Reply → Type 0
-IsAnswer replies journal key reply = Contains replies (key, reply) ⊎ (Contains journal (Cancelled key) × (reply ≡ cancelled_reply))
-
 -- the message is the completion of this request with this reply: the request's device, completion id and kind
-pub record Completes (request : Request) (reply : Reply) (message : List ℕ) : Type 0 where
+pub record CompletesRequest (request : Request) (reply : Reply) (message : List ℕ) : Type 0 where
   pub head : SpellsHead (record { device = request.device; completion = request.completion; status = reply.status }) (length (drop 16 message)) message
   pub tail : ℕ
   pub body : SpellsBody (kind_of request.op) reply.status reply.body tail (drop 16 message)
@@ -50,7 +37,7 @@ sent_keys channel journal = filter_map (sent_key channel) journal
 
 -- the message completes the request of this key with its answer
 abbrev pub CompletesKey : (Key → Request) → List (Key × Reply) → List Item → Key → List ℕ → Type 0
-CompletesKey requests replies journal key message = (reply : Reply) × IsAnswer replies journal key reply × Completes (requests key) reply message
+CompletesKey requests replies journal key message = (reply : Reply) × IsAnswer replies journal key reply × CompletesRequest (requests key) reply message
 
 -- A device's completions on a channel are those of the keys that were handed out there, in the order of its journal, each with
 -- its key's answer.
@@ -58,8 +45,8 @@ abbrev pub Told : ℕ → (Key → Request) → List (Key × Reply) → List Ite
 Told channel requests replies journal completions = AllZip (CompletesKey requests replies journal) (sent_keys channel journal) completions
 
 -- whether a request has this device and completion id
-abbrev pub has_pair : ℕ → ℕ → Request → Bool
-has_pair device completion request = request.device == device && request.completion == completion
+abbrev pub request_has_pair : ℕ → ℕ → Request → Bool
+request_has_pair device completion request = request.device == device && request.completion == completion
 
 -- whether a completion names them, in the eight bytes after its header (MS-RDPEFS 2.2.1.5)
 abbrev pub names_pair : ℕ → ℕ → List ℕ → Bool
@@ -68,7 +55,7 @@ names_pair device completion message = bytes_eq (take 8 (drop 4 message)) (to_le
 -- Of each pair of a device and a completion id, the m-th completion completes the m-th request.
 abbrev pub Counted : (Key → Request) → List (Key × Reply) → List Item → List Key → List (List ℕ) → Type 0
 Counted requests replies journal keys completions = (device completion : ℕ) → device < 2 ^ 32 → completion < 2 ^ 32 →
-    let with_pair = filter (λ key. has_pair device completion (requests key)) keys in
+    let with_pair = filter (λ key. request_has_pair device completion (requests key)) keys in
     let of_pair = filter (names_pair device completion) completions in
     (length of_pair ≤ length with_pair) × AllZip (CompletesKey requests replies journal) (take (length of_pair) with_pair) of_pair
 
@@ -77,21 +64,21 @@ abbrev pub RanAt : List Item → ℕ → Key → Type 0
 RanAt journal place key = (moment : ℕ) × (starved : Bool) × (parked : Bool) × (slice_get journal place ≡ Some (Ran key moment starved parked))
 
 -- whether a message names a device, in the four bytes after its header
-abbrev pub names_device : ℕ → List ℕ → Bool
-names_device device message = bytes_eq (take 4 (drop 4 message)) (to_le_bytes w32 device)
+abbrev pub is_for_device : ℕ → List ℕ → Bool
+is_for_device device message = bytes_eq (take 4 (drop 4 message)) (to_le_bytes w32 device)
 
 -- whether it is a request of the host for some device
-abbrev pub is_request : Passed → Bool
-is_request passed = is_host passed && bytes_eq (take 4 passed.1) (header_bytes IoRequest)
+abbrev pub is_request_passed : Passed → Bool
+is_request_passed passed = is_host passed && bytes_eq (take 4 passed.1) (header_bytes IoRequest)
 
 -- whether it is a completion of the client for the device
 abbrev pub completes : ℕ → Passed → Bool
-completes device passed = is_client passed && bytes_eq (take 4 passed.1) (header_bytes IoCompletion) && names_device device passed.1
+completes device passed = is_client passed && bytes_eq (take 4 passed.1) (header_bytes IoCompletion) && is_for_device device passed.1
 
 -- At each moment of a channel, what a device completed before it ran before what is requested of it after it. The indices of its keys
 -- count the requests of the channel.
 abbrev pub InOrder : ℕ → ℕ → List Passed → List Item → Type 0
 InOrder device channel passed journal = (before after : List Passed) (k l : Key) → passed ≡ before ++ after →
     Contains (take (count_by (completes device) before) (sent_keys channel journal)) k →
-    l.channel ≡ channel → count_by is_request before ≤ l.index →
+    l.channel ≡ channel → count_by is_request_passed before ≤ l.index →
     (i j : ℕ) → RanAt journal i k → RanAt journal j l → i < j

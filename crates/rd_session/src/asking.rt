@@ -21,7 +21,7 @@ const SHARE_ALL: u32 = 7;
 const OPEN_EXISTING: u32 = 1;
 
 /// An application's line: its own name of a handle, and an operation that can be sent and never waits.
-#[derive(Debug, Drop)]
+#[derive(Drop)]
 pub struct Ask {
     handle: Bytes,
     op: Op,

@@ -6,7 +6,7 @@ ghost use Rattle.rd_chunk.specs.Sizes.{max_message};
 ghost use Rattle.rd_irp.specs.declared.request.Request.{Request};
 ghost use Rattle.rd_irp.specs.Request.{SpellsRequest};
 ghost use Rattle.rd_drive.specs.Device.{may_wait};
-ghost use Rattle.rd_session.specs.Channel.{IsIdle, IsQuiet, IsReady, starves, CarriesRequest, Runs, Serves};
+ghost use Rattle.rd_session.specs.Channel.{IsIdle, IsQuiet, IsReady, starves, CarriesRequest, Runs, ServesRequest};
 ghost use Rattle.rd_irp.specs.Fits.{IsReplyTo};
 ghost use Rattle.rd_irp.specs.declared.op.Op.TheVariants as Op;
 ghost use Rattle.rd_session.specs.Session.{key_at};
@@ -60,7 +60,7 @@ impl Client {
         ensures asked { OnOk result (self.new.asked ≡ self.old.asked + 1) }
         ensures served { IfOk result (λ completion. (message : List ℕ) × (request : Request) × (tail : ℕ) ×
             One message frames.now × SpellsRequest request tail message ×
-            Serves moment request (key_at self.old.asked) self.old.drive self.new.drive self.old.journal.items self.new.journal.items completion) }
+            ServesRequest moment request (key_at self.old.asked) self.old.drive self.new.drive self.old.journal.items self.new.journal.items completion) }
     {
         let message = join(&mut self.joiner, frames)?;
         let (request, _) = match read_request(alloc, message.as_slice()) {
@@ -81,7 +81,7 @@ impl Client {
         ensures joiner { self.new.joiner ≡ self.old.joiner }
         ensures quiet { OnOk result (IsQuiet self.new) }
         ensures asked { OnOk result (self.new.asked ≡ self.old.asked + 1) }
-        ensures served { IfOk result (Serves moment request (key_at self.old.asked) self.old.drive self.new.drive self.old.journal.items self.new.journal.items) }
+        ensures served { IfOk result (ServesRequest moment request (key_at self.old.asked) self.old.drive self.new.drive self.old.journal.items self.new.journal.items) }
     {
         self.journal.reserve(3)?;
         let key = Key {

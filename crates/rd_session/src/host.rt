@@ -1,8 +1,9 @@
 //! The application's end of the channel.
 
 ghost use Rattle.std.specs.Prelude.{◌≡◌, ◌&&◌, ℕ, List, None, Some, if◌then◌else◌, bytes_eq, IfOk, OnOk};
+ghost use Rattle.rd_irp.specs.Fits.{opens};
 ghost use Rattle.rd_session.specs.Channel.{IsIdle, CarriesCompletion, HearsIn, file_under};
-ghost use Rattle.rd_session.specs.Outcomes.{opens, given_file};
+ghost use Rattle.rd_session.specs.Outcomes.{given_file};
 
 use crate::frames::join;
 use rd_base::{Bytes, ReadNo};
@@ -39,7 +40,7 @@ impl Host {
         self.files.get(handle.as_slice()).copied().flatten()
     }
 
-    /// Lets a handle hold the file that its open gave, or nothing where that failed. Behind anything else it holds what it held.
+    /// Lets a handle hold the file that its open gave, or nothing where that failed. After anything else it holds what it held.
     pub fn hold(&mut self, handle: Bytes, op: &Op, body: &Body) -> Result<(), AllocError>
         ensures joiner { self.new.joiner ≡ self.old.joiner }
         ensures held { OnOk result ((name : List ℕ) → file_under self.new.files name ≡

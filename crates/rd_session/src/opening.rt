@@ -3,7 +3,7 @@
 ghost use Rattle.std.specs.Prelude.{◌≡◌, ◌≢◌, ◌≤◌, length, Err, IfOk, OnOk};
 ghost use Rattle.rd_drive.specs.DriveState.{empty_drive};
 ghost use Rattle.rd_tree.specs.declared.refusal.AddNo.TheVariants as add;
-ghost use Rattle.rd_session.specs.Opening.{clock_in, device_of, drive_of, empty_of, moment_of, opening_of, scene_of, with_line, AreMakable, IsMakable};
+ghost use Rattle.rd_session.specs.Opening.{clock_in, device_of, first_drive, empty_of, moment_of, opening_of, scene_of, with_line_node, AreMakable, IsMakable};
 
 use crate::scene::Scene;
 use rd_base::{Bytes, Units};
@@ -75,7 +75,7 @@ pub fn open_drive(alloc: Global, lines: &[NumberedLine]) -> Result<MemoryDrive, 
 #[tactic(auto, unfolding(crate::specs::Opening::drive_in, crate::specs::Opening::IsMakable))]
 fn empty_drive(alloc: Global, lines: &[NumberedLine]) -> Result<MemoryDrive, AllocError>
     requires { AreMakable lines.now }
-    ensures { IfOk result (λ drive. drive ≡ empty_of (drive_of lines.now)) }
+    ensures { IfOk result (λ drive. drive ≡ empty_of (first_drive lines.now)) }
 {
     for line in lines {
         match &line.line {
@@ -103,7 +103,7 @@ fn named_drive(alloc: Global, name: &ShortName, naming: Naming) -> Result<Memory
 #[tactic(auto, unfolding(crate::specs::Opening::node_in, crate::specs::Opening::IsMakable))]
 fn hold(alloc: Global, drive: &mut MemoryDrive, line: &NumberedLine) -> Result<(), AllocError>
     requires { IsMakable line.now.line }
-    ensures { OnOk result (drive.new ≡ with_line drive.old line.now) }
+    ensures { OnOk result (drive.new ≡ with_line_node drive.old line.now) }
 {
     match &line.line {
         Line::Folder { path, .. } => held(drive.add_folder(path)),

@@ -51,7 +51,7 @@ pub fn begin_recording<R: Sink>(recording: &mut R) -> Result<(), Failed>
     write_all(recording, OPENING)
 }
 
-/// Puts the frames of one message, each after the mark of its sender, behind what was gathered.
+/// Puts the frames of one message, each after the mark of its sender, after what was gathered.
 pub fn record(gathered: &mut Vec<u8>, side: Side, frames: &[u8]) -> Result<(), AllocError>
     ensures { OnOk result ((message : List ℕ) → frames.now ≡ carrier_of message →
         gathered.new.items ≡ gathered.old.items ++ recorded_bytes side message) }

@@ -9,7 +9,7 @@ ghost use Rattle.rd_session.specs.Asking.{CanBeSent};
 ghost use Rattle.rd_session.specs.Channel.{IsIdle, IsReady, CountsWire, Exchanges, EndsIn, ends_of};
 ghost use Rattle.rd_session.specs.Early.{EndedEarly};
 ghost use Rattle.rd_session.specs.Outcomes.{FitsLine};
-ghost use Rattle.rd_session.specs.Recording.{Entry, entry_bytes};
+ghost use Rattle.rd_session.specs.Recording.{Entry, bytes_of_entry};
 ghost use Rattle.rd_session.specs.Session.{IsSession};
 
 use crate::asking::Ask;
@@ -29,7 +29,7 @@ use std::alloc::{AllocError, Global};
 const COMPLETION: u32 = 0;
 
 /// What came of a session.
-#[derive(Debug, Drop)]
+#[derive(Drop)]
 pub struct Session {
     /// How each line ended, in order.
     pub outcomes: Vec<Outcome>,
@@ -51,7 +51,7 @@ pub fn run_session<R: Sink>(
     ensures fits { IfOk result (λ session. AllZip FitsLine asks.items session.outcomes.items) }
     ensures session { IfOk result (λ session. (recorded : List Entry) ×
         IsSession scene drive asks.items session.outcomes.items session.journal.items recorded ×
-        Appends (R.held wire.old) (R.held wire.new) (flat_map entry_bytes recorded)) }
+        Appends (R.held wire.old) (R.held wire.new) (flat_map bytes_of_entry recorded)) }
 {
     let mut host = Host::new(alloc);
     let mut client = Client::new(alloc, drive)?;

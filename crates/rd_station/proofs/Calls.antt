@@ -5,12 +5,12 @@ use Rattle.std.proofs.lemmas.List.Elements.{All-nil}
 use Rattle.std.proofs.lemmas.List.Kept.{AllPairs-cons}
 use Rattle.rd_base.specs.declared.journal.Key.{Key}
 use Rattle.rd_base.specs.declared.journal.Item.{Item}
-use Rattle.rd_base.specs.Lawful.{CancelsRemoved, CutsFewUnsent, EachAfter, IsLawful, NamesRemembered, RisesAbove, RunsUncut, SendsFirst, SettlesFirst, is_unsent, named_key}
+use Rattle.rd_base.specs.Lawful.{CancelsRemoved, CutsFewUnsent, EachEntry, IsLawful, NamesRemembered, RisesAbove, RunsUncut, SendsFirst, SettlesFirst, is_unsent, named_key}
 use Rattle.rd_irp.specs.Fits.{kind_of}
 use Rattle.rd_drive.specs.declared.plan.Job.{Job}
 use Rattle.rd_drive.specs.declared.step.Step.{Step}
 use Rattle.rd_drive.specs.declared.step.End.{End}
-use Rattle.rd_drive.specs.Device.{Completes, Parked, is_parked}
+use Rattle.rd_drive.specs.Device.{CompletesKind, Parked, is_parked}
 use Rattle.rd_drive.specs.Planned.{Planned}
 use Rattle.rd_drive.specs.Stepped.{Stepped}
 use Rattle.rd_station.specs.declared.answers.Applied.{Applied}
@@ -44,7 +44,7 @@ pub is_kept : {S : Type 0} (parked_in : S → List Parked) (c : ℕ) (s : Statio
 is_kept parked_in c s keeps = record {
   lawful = keeps.lawful;
   parked = keeps.parked;
-  ready = all_of (λ (x : Completion). Completes x.kind x.reply) s.ready keeps.ready;
+  ready = all_of (λ (x : Completion). CompletesKind x.kind x.reply) s.ready keeps.ready;
   few = omega (arith, cnt_all (held s), in_one every s, keeps.few.few);
   keys_apart = apart_pairs (λ (x : Key × ℕ). x.0) with_key (λ x. key_self x.0) (held s) (λ k. omega (arith, in_one (with_key k) s, keeps.few.keys k));
   completions_apart = apart_pairs (λ (x : Key × ℕ). x.1) with_id (λ x. eq-eqb x.1 x.1 refl) (held s) (λ id. omega (arith, in_one (with_id id) s, keeps.few.ids id));
@@ -146,7 +146,7 @@ module _ {S : Type 0} (Runs : S → Planned → ℕ → Step → List End → S 
   steps_keep (call ∷ calls) old new good e = steps_keep calls e.0 new (step_keeps good.0 old e.0 good.1 call e.1) e.2
 
   -- nothing is asked of no entries
-  nothing_after : (P : List Item → Item → Type 0) → EachAfter P []
+  nothing_after : (P : List Item → Item → Type 0) → EachEntry P []
   nothing_after P [] entry after e = absurd (cc)
   nothing_after P (x ∷ before) entry after e = absurd (cc)
 

@@ -6,7 +6,7 @@ use Rattle.std.specs.Option.{option_map_or}
 use Rattle.std.proofs.lemmas.List.{length-append, length-map}
 use Rattle.rd_base.specs.declared.journal.Key.{Key}
 use Rattle.rd_drive.specs.declared.step.End.{End}
-use Rattle.rd_drive.specs.Device.{AreEnded, Completes, IsEndOf, Parked}
+use Rattle.rd_drive.specs.Device.{AreEnded, CompletesKind, IsEndOf, Parked}
 use Rattle.rd_station.specs.declared.answers.Completion.{Completion}
 use Rattle.rd_station.specs.Station.{ParkedJob, completion_of, ended_completion, is_ended, is_key}
 use Rattle.rd_station.specs.Tied.{as_parked}
@@ -97,10 +97,10 @@ only (x ∷ ps) apart p q one other same = elim one [
 ]
 
 -- what is ready by the ends fits
-one_completes : (ps : List ParkedJob) → AreApart (map parked_key ps) → (e : End) (w : Parked) → Has w (map as_parked ps) → IsEndOf w e → (x : Completion) → Has x (ended_completion ps e) → Completes x.kind x.reply
+one_completes : (ps : List ParkedJob) → AreApart (map parked_key ps) → (e : End) (w : Parked) → Has w (map as_parked ps) → IsEndOf w e → (x : Completion) → Has x (ended_completion ps e) → CompletesKind x.kind x.reply
 one_completes ps apart e w has is x there = go (find (λ (p : ParkedJob). is_key p.key e.key) ps) refl there
   where
-    go : (found : Option ParkedJob) → find (λ (p : ParkedJob). is_key p.key e.key) ps ≡ found → Has x (option_map_or (λ (p : ParkedJob). completion_of p.key p.completion p.kind e.reply ∷ []) found []) → Completes x.kind x.reply
+    go : (found : Option ParkedJob) → find (λ (p : ParkedJob). is_key p.key e.key) ps ≡ found → Has x (option_map_or (λ (p : ParkedJob). completion_of p.key p.completion p.kind e.reply ∷ []) found []) → CompletesKind x.kind x.reply
     go None f there = absurd there
     go (Some p) f there = elim there [
       | inl same ↦
@@ -108,14 +108,14 @@ one_completes ps apart e w has is x there = go (find (λ (p : ParkedJob). is_key
           let from = map_has as_parked w ps has in
           let key : p.key ≡ (from.0).key = same_key p.key e.key here.1 ∙ is.0 ∙ ap request_key from.2 in
           let job : p ≡ from.0 = only ps apart p from.0 here.0 from.1 key in
-          subst (λ (c : Completion). Completes c.kind c.reply) (sym same) (subst (λ (q : ParkedJob). Completes q.kind e.reply) (sym job) (subst (λ (v : Parked). Completes v.kind e.reply) from.2 is.1))
+          subst (λ (c : Completion). CompletesKind c.kind c.reply) (sym same) (subst (λ (q : ParkedJob). CompletesKind q.kind e.reply) (sym job) (subst (λ (v : Parked). CompletesKind v.kind e.reply) from.2 is.1))
       | inr none ↦ absurd none
     ]
 
-pub ends_complete : (ps : List ParkedJob) (ends : List End) (left : List Parked) → AreEnded (map as_parked ps) ends left → AreApart (map parked_key ps) → (x : Completion) → Has x (flat_map (ended_completion ps) ends) → Completes x.kind x.reply
+pub ends_complete : (ps : List ParkedJob) (ends : List End) (left : List Parked) → AreEnded (map as_parked ps) ends left → AreApart (map parked_key ps) → (x : Completion) → Has x (flat_map (ended_completion ps) ends) → CompletesKind x.kind x.reply
 ends_complete ps ends left are apart x has = each ends (λ e h. end_of (map as_parked ps) ends left are e h) has
   where
-    each : (es : List End) → ((e : End) → Has e es → (w : Parked) × Has w (map as_parked ps) × IsEndOf w e) → Has x (flat_map (ended_completion ps) es) → Completes x.kind x.reply
+    each : (es : List End) → ((e : End) → Has e es → (w : Parked) × Has w (map as_parked ps) × IsEndOf w e) → Has x (flat_map (ended_completion ps) es) → CompletesKind x.kind x.reply
     each [] from has = absurd has
     each (e ∷ es) from has = elim (has_append x (ended_completion ps e) (flat_map (ended_completion ps) es) has) [
       | inl h ↦ let w = from e (inl refl) in one_completes ps apart e w.0 w.1 w.2 x h

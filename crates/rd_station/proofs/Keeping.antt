@@ -16,15 +16,16 @@ use Rattle.rd_irp.specs.Fits.{kind_of}
 use Rattle.rd_drive.specs.declared.plan.Job.{Job}
 use Rattle.rd_drive.specs.declared.step.Step.{Step}
 use Rattle.rd_drive.specs.declared.step.Step.TheVariants as step
-use Rattle.rd_drive.specs.Device.{AreEnded, Completes, IsAnswerTo, Parked, Parks, is_parked, is_starved, parked_by}
+use Rattle.rd_drive.specs.Device.{AreEnded, CompletesKind, IsAnswerTo, Parked, Parks, is_parked, is_starved, parked_by}
 use Rattle.rd_drive.specs.Stepped.{Stepped}
+use Rattle.rd_drive.specs.Replies.{cancellation}
 use Rattle.rd_station.specs.declared.answers.Completion.{Completion}
 use Rattle.rd_station.specs.declared.answers.Given.{Given}
 use Rattle.rd_station.specs.declared.answers.Given.TheVariants as given
 use Rattle.rd_station.specs.declared.refusals.AnnounceNo.{AnnounceNo}
 use Rattle.rd_station.specs.declared.refusals.AnnounceNo.TheVariants as refused
 use Rattle.rd_station.specs.declared.refusals.PutWhy.TheVariants as why
-use Rattle.rd_station.specs.Station.{InHand, IsKnown, MayPut, announce, collect, take, without_taken, ParkedJob, StationState, cancellation, cancelled_in_hand, cancelled_parked, cancelled_waiting, collect_first, completion_of, drop_channel, emptied, ended_completion, entry_count, held, is_ended, marked_removed, max_entries, own_completion, put_refusal, ran, remove, take_first, is_key}
+use Rattle.rd_station.specs.Station.{InHand, IsKnown, MayPut, announce, collect, take, without_taken, ParkedJob, StationState, cancelled_in_hand, cancelled_parked, cancelled_waiting, collect_first, completion_of, drop_channel, emptied, ended_completion, entry_count, held, is_ended, marked_removed, max_entries, own_completion, put_refusal, ran, remove, take_first, is_key}
 use Rattle.rd_station.specs.Tied.{as_parked}
 use Rattle.rd_station.proofs.Members.{AreApart, Has, apart_key, filter_has, has_append, key_self, map_has, same_key}
 use Rattle.rd_station.proofs.Cancelling.{AreCancelled, AreOvertaken, cancellations, cancels_each, cancels_leave, job_key}
@@ -71,7 +72,7 @@ module _ {S : Type 0} (parked_in : S → List Parked) where
     pub unsent : unsent_on c s.journal ≤ length s.waiting + length s.taken + length s.parked + length s.ready
     -- the four lists themselves
     pub parked : map as_parked s.parked ≡ parked_in s.device
-    pub ready : (x : Completion) → Has x s.ready → Completes x.kind x.reply
+    pub ready : (x : Completion) → Has x s.ready → CompletesKind x.kind x.reply
     pub few : IsFew s
     pub room : entry_count s ≤ max_entries
     pub idle : s.live ≡ false → (s.waiting ≡ []) × (s.parked ≡ []) × ((t : InHand) → Has t s.taken → t.removed ≡ true)
@@ -363,7 +364,7 @@ module _ {S : Type 0} (parked_in : S → List Parked) where
   -- ---- a job is given back
 
   -- a cancellation completes a request of any layout
-  gives_up : (kind : Kind) → Completes kind cancellation
+  gives_up : (kind : Kind) → CompletesKind kind cancellation
   gives_up kind = ((refl, tt), tt)
 
   module _ (c : ℕ) (s : StationState S) (keeps : Keeps c s) (t : InHand) (has : Has t s.taken) where
@@ -428,7 +429,7 @@ module _ {S : Type 0} (parked_in : S → List Parked) where
           parked = keeps.parked;
           ready = λ x there. elim (has_append x s.ready (given_up ∷ []) there) [
             | inl h ↦ keeps.ready x h
-            | inr h ↦ elim h [ inl same ↦ subst (λ (y : Completion). Completes y.kind y.reply) (sym same) (gives_up kind) | inr none ↦ absurd none ]
+            | inr h ↦ elim h [ inl same ↦ subst (λ (y : Completion). CompletesKind y.kind y.reply) (sym same) (gives_up kind) | inr none ↦ absurd none ]
           ];
           few = few_stays s (cancelled_in_hand s t kind) (λ p. omega (arith, one_gone (of_hand p) (λ (x : InHand). not (is_key x.key t.key)) t (ap not (key_self t.key)) s.taken has, cnt_append (of_ready p) s.ready (given_up ∷ []), cnt_one (of_ready p) given_up)) keeps.few;
           room = omega (arith, keeps.room, one_less, length-append s.journal (Cancelled t.key ∷ []), length-append s.ready (given_up ∷ []));
@@ -447,8 +448,8 @@ module _ {S : Type 0} (parked_in : S → List Parked) where
   own_as_parked job t same (step.Reply reply) = refl
 
   -- its own completion fits
-  own_completes : (job : Job) (t : InHand) (answer : Step) → IsAnswerTo job.op answer → (x : Completion) → Has x (own_completion t (kind_of job.op) answer) → Completes x.kind x.reply
-  own_completes job t (step.Reply reply) is x has = elim has [ inl same ↦ subst (λ (y : Completion). Completes y.kind y.reply) (sym same) is | inr none ↦ absurd none ]
+  own_completes : (job : Job) (t : InHand) (answer : Step) → IsAnswerTo job.op answer → (x : Completion) → Has x (own_completion t (kind_of job.op) answer) → CompletesKind x.kind x.reply
+  own_completes job t (step.Reply reply) is x has = elim has [ inl same ↦ subst (λ (y : Completion). CompletesKind y.kind y.reply) (sym same) is | inr none ↦ absurd none ]
   own_completes job t step.Parked is x has = absurd has
 
   -- the job itself waits with its key, or its completion has it
@@ -520,7 +521,7 @@ module _ {S : Type 0} (parked_in : S → List Parked) where
     ]
 
     -- and fits
-    completes_then : (x : Completion) → Has x (s.ready ++ own ++ by_ends) → Completes x.kind x.reply
+    completes_then : (x : Completion) → Has x (s.ready ++ own ++ by_ends) → CompletesKind x.kind x.reply
     completes_then x there = elim (has_append x (s.ready ++ own) by_ends there) [
       | inl h ↦ elim (has_append x s.ready own h) [ inl g ↦ keeps.ready x g | inr g ↦ own_completes job t came.answer answers x g ]
       | inr h ↦ ends_complete s.parked came.ends parks.left ended apart x h
@@ -630,13 +631,13 @@ module _ {S : Type 0} (parked_in : S → List Parked) where
     ]
 
     -- and fits
-    completes_after : (x : Completion) → Has x (s.ready ++ map cancelled_parked s.parked ++ map cancelled_waiting s.waiting) → Completes x.kind x.reply
+    completes_after : (x : Completion) → Has x (s.ready ++ map cancelled_parked s.parked ++ map cancelled_waiting s.waiting) → CompletesKind x.kind x.reply
     completes_after x there = elim (has_append x (s.ready ++ map cancelled_parked s.parked) (map cancelled_waiting s.waiting) there) [
       | inl h ↦ elim (has_append x s.ready (map cancelled_parked s.parked) h) [
         | inl g ↦ keeps.ready x g
-        | inr g ↦ let found = map_has cancelled_parked x s.parked g in subst (λ (y : Completion). Completes y.kind y.reply) (sym found.2) (gives_up (found.0).kind)
+        | inr g ↦ let found = map_has cancelled_parked x s.parked g in subst (λ (y : Completion). CompletesKind y.kind y.reply) (sym found.2) (gives_up (found.0).kind)
       ]
-      | inr h ↦ let found = map_has cancelled_waiting x s.waiting h in subst (λ (y : Completion). Completes y.kind y.reply) (sym found.2) (gives_up (kind_of (found.0).op))
+      | inr h ↦ let found = map_has cancelled_waiting x s.waiting h in subst (λ (y : Completion). CompletesKind y.kind y.reply) (sym found.2) (gives_up (kind_of (found.0).op))
     ]
 
     -- the station then, with a journal

@@ -49,15 +49,15 @@ map_has f y [] none = absurd none
 map_has f y (x ∷ xs) (inl here) = (x, inl refl, here)
 map_has f y (x ∷ xs) (inr later) = let (z, has, is) = map_has f y xs later in (z, inr has, is)
 
--- what stands in a list with one more in front where a test passes
-pub in_front : {A : Type 0} (b : Bool) (y x : A) (xs : List A) → Has x (cond b (y ∷ xs) xs) → ((x ≡ y) × (b ≡ true)) ⊎ Has x xs
-in_front true y x xs (inl here) = inl (here, refl)
-in_front true y x xs (inr later) = inr later
-in_front false y x xs has = inr has
+-- what stands in a list with one more before it where a test passes
+pub with_one_before : {A : Type 0} (b : Bool) (y x : A) (xs : List A) → Has x (cond b (y ∷ xs) xs) → ((x ≡ y) × (b ≡ true)) ⊎ Has x xs
+with_one_before true y x xs (inl here) = inl (here, refl)
+with_one_before true y x xs (inr later) = inr later
+with_one_before false y x xs has = inr has
 
 pub filter_has : {A : Type 0} (p : A → Bool) (x : A) (xs : List A) → Has x (filter p xs) → Has x xs × (p x ≡ true)
 filter_has p x [] none = absurd none
-filter_has p x (y ∷ xs) has = elim (in_front (p y) y x (filter p xs) has) [
+filter_has p x (y ∷ xs) has = elim (with_one_before (p y) y x (filter p xs) has) [
   | inl here ↦ (inl here.0, ap p here.0 ∙ here.1)
   | inr later ↦ let (among, passes) = filter_has p x xs later in (inr among, passes)
 ]

@@ -21,7 +21,7 @@ use Rattle.rd_drive.specs.declared.step.End.{End}
 use Rattle.rd_drive.specs.Device.{Parked, is_parked, is_starved}
 use Rattle.rd_drive.specs.Planned.{Planned}
 use Rattle.rd_drive.specs.Promise.{cut_end}
-use Rattle.rd_drive.specs.Replies.{AreToldBy, KeyedReply, end_reply, last_state_by, own_reply, replies_at, replies_by, run_of, state_after}
+use Rattle.rd_drive.specs.Replies.{AreToldBy, IsAnswer, KeyedReply, cancellation, end_reply, last_state_by, own_reply, replies_at, replies_by, run_of, state_after}
 use Rattle.rd_drive.specs.Stepped.{Settled, Stepped, ran_step}
 use Rattle.rd_station.specs.declared.answers.Applied.{Applied}
 use Rattle.rd_station.specs.declared.answers.Applied.TheVariants as applied
@@ -32,8 +32,8 @@ use Rattle.rd_station.specs.declared.refusals.AnnounceNo.{AnnounceNo}
 use Rattle.rd_station.specs.declared.refusals.AnnounceNo.TheVariants as refused
 use Rattle.rd_station.specs.declared.refusals.PutWhy.{PutWhy}
 use Rattle.rd_station.specs.declared.refusals.PutWhy.TheVariants as why
-use Rattle.rd_station.specs.Station.{CameOf, DidRun, InHand, ParkedJob, PutRefused, StationCall, StationState, StationStep, StationSteps, announce, announces, applies, apply_from, cancellation, cancelled_in_hand, cancelled_parked, cancelled_waiting, collect, collect_first, collects, completion_of, drop_channel, drops, emptied, ended_completion, ends, entry_count, is_key, marked_removed, max_entries, new_station, own_completion, put_refusal, put_unless, puts, puts_unfit, ran, remove, removes, take, take_first, takes}
-use Rattle.rd_station.specs.Tied.{IsAnswer, IsReached, IsRunBy, IsTied, RunsOwn, as_parked}
+use Rattle.rd_station.specs.Station.{CameOf, DidRun, InHand, ParkedJob, PutRefused, StationCall, StationState, StationStep, StationSteps, announce, announces, applies, apply_from, cancelled_in_hand, cancelled_parked, cancelled_waiting, collect, collect_first, collects, completion_of, drop_channel, drops, emptied, ended_completion, ends, entry_count, is_key, marked_removed, max_entries, new_station, own_completion, put_refusal, put_unless, puts, puts_unfit, ran, remove, removes, take, take_first, takes}
+use Rattle.rd_station.specs.Tied.{IsReached, IsRunBy, IsTied, RunsOwn, as_parked}
 use Rattle.rd_station.proofs.Members.{Has, all_of, find_has, from_contains, has_append, has_left, has_map, has_right, map_has, same_key, to_contains}
 use Rattle.rd_station.proofs.Cancelling.{cancellations}
 use Rattle.rd_station.proofs.Calls.{did_run, reached_kept, reached_new, reached_step, was_removed}

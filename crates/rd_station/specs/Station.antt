@@ -17,10 +17,9 @@ use Rattle.rd_drive.specs.declared.step.Step.TheVariants as step
 use Rattle.rd_drive.specs.declared.step.End.{End}
 use Rattle.rd_drive.specs.Planned.{Planned}
 use Rattle.rd_drive.specs.Device.{Parked, is_parked, is_starved}
-use Rattle.rd_drive.specs.Outcome.{fault}
 use Rattle.rd_drive.specs.Promise.{Applies, CutsOff}
 use Rattle.rd_drive.specs.Stepped.{Stepped}
-use Rattle.rd_drive.specs.Statuses.{cancelled}
+use Rattle.rd_drive.specs.Replies.{cancellation}
 use Rattle.rd_station.specs.declared.refusals.PutNo.{PutNo}
 use Rattle.rd_station.specs.declared.refusals.StationNo.{StationNo}
 use Rattle.rd_station.specs.declared.refusals.PutWhy.{PutWhy}
@@ -73,10 +72,6 @@ pub record StationState (S : Type 0) : Type 0 where
 abbrev pub is_key : Key → Key → Bool
 is_key a b = a.channel == b.channel && a.index == b.index
 
--- the reply to a request that was given up
-abbrev pub cancellation : Reply
-cancellation = fault cancelled
-
 -- A device's completion as it is handed out: the request's key, its completion id and its layout, and the reply.
 abbrev pub completion_of : Key → ℕ → Kind → Reply → Completion
 completion_of key completion kind reply = record { key = key; completion = completion; kind = kind; reply = reply }
@@ -94,7 +89,7 @@ ended_completion parked ended =
 abbrev pub is_ended : List End → ParkedJob → Bool
 is_ended ends p = list_any (λ (ended : End). is_key ended.key p.key) ends
 
--- The jobs that are left inside the device behind a run: those that didn't end, and then the job itself where it isn't answered.
+-- The jobs that are left inside the device after a run: those that didn't end, and then the job itself where it isn't answered.
 abbrev pub parked_after : List ParkedJob → InHand → Kind → Step → List End → List ParkedJob
 parked_after parked t kind answer ends =
     filter (λ p. not (is_ended ends p)) parked

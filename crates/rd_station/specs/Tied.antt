@@ -1,25 +1,18 @@
 -- What ties a station to its journal, in every state.
-use Rattle.std.specs.Prelude.{◌≡◌, ◌≢◌, ◌⊎◌, ◌≤◌, ℕ, List, [], All, AllPairs, Contains, length, map}
+use Rattle.std.specs.Prelude.{◌≡◌, ◌≢◌, ◌⊎◌, ◌≤◌, ℕ, List, [], All, AllPairs, length, map}
 use Rattle.rd_base.specs.declared.journal.Key.{Key}
-use Rattle.rd_base.specs.declared.journal.Item.{Item}
-use Rattle.rd_base.specs.declared.journal.Item.TheVariants.{Cancelled}
 use Rattle.rd_base.specs.Lawful.{IsLawful}
-use Rattle.rd_irp.specs.declared.completion.Reply.{Reply}
 use Rattle.rd_irp.specs.declared.op.Op.{Op}
 use Rattle.rd_irp.specs.declared.request.Request.{Request}
 use Rattle.rd_drive.specs.declared.step.End.{End}
 use Rattle.rd_drive.specs.declared.step.Step.{Step}
-use Rattle.rd_drive.specs.Device.{Completes, Parked, is_starved}
+use Rattle.rd_drive.specs.Device.{CompletesKind, Parked, is_starved}
 use Rattle.rd_drive.specs.Planned.{Planned}
 use Rattle.rd_drive.specs.Promise.{Cancels}
-use Rattle.rd_drive.specs.Replies.{AreToldBy, KeyedReply, last_state_by, replies_by}
+use Rattle.rd_drive.specs.Replies.{AreToldBy, IsAnswer, last_state_by, replies_by}
 use Rattle.rd_drive.specs.Stepped.{Settled, Stepped, ran_step}
 use Rattle.rd_station.specs.declared.answers.Completion.{Completion}
-use Rattle.rd_station.specs.Station.{DidRun, ParkedJob, StationCall, StationState, applies, cancellation, entry_count, held, max_entries, max_held, new_station, StationSteps}
-
--- the answer to a key that came: the reply that the journal gives it, or CANCELLED where it was cancelled before it ran
-abbrev pub IsAnswer : List KeyedReply → List Item → Key → Reply → Type 0
-IsAnswer replies journal key reply = Contains replies (key, reply) ⊎ (Contains journal (Cancelled key) × (reply ≡ cancellation))
+use Rattle.rd_station.specs.Station.{DidRun, ParkedJob, StationCall, StationState, applies, entry_count, held, max_entries, max_held, new_station, StationSteps}
 
 -- a parked job, as the device tells it
 abbrev pub as_parked : ParkedJob → Parked
@@ -31,7 +24,7 @@ pub record IsKept {S : Type 0} (parked_in : S → List Parked) (s : StationState
   -- the parked jobs are those of the device
   pub parked : map as_parked s.parked ≡ parked_in s.device
   -- each completion that is ready fits its layout, and can be sent
-  pub ready : All (λ (c : Completion). Completes c.kind c.reply) s.ready
+  pub ready : All (λ (c : Completion). CompletesKind c.kind c.reply) s.ready
   -- few jobs are held, and no two have the same key or the same completion id
   pub few : length (held s) ≤ max_held
   pub keys_apart : AllPairs (λ (a : Key × ℕ) (b : Key × ℕ). a.0 ≢ b.0) (held s)

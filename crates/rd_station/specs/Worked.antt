@@ -16,8 +16,9 @@ use Rattle.rd_drive.specs.Device.{Parked}
 use Rattle.rd_drive.specs.Outcome.{done}
 use Rattle.rd_drive.specs.Planned.{Planned}
 use Rattle.rd_drive.specs.Stepped.{Settled, Stepped}
+use Rattle.rd_drive.specs.Replies.{cancellation}
 use Rattle.rd_station.specs.declared.answers.Completion.{Completion}
-use Rattle.rd_station.specs.Station.{StationState, announce, apply, cancellation, completion_of, new_station, put, remove, take}
+use Rattle.rd_station.specs.Station.{StationState, announce, apply, completion_of, new_station, put, remove, take}
 
 -- the key of the request at a place of the first channel
 abbrev pub key : ℕ → Key

@@ -1,4 +1,10 @@
-//! The requests of one device, from the moment when they come until their completions are handed out.
+//! The requests of one device, from the moment when they come until their completions are handed out, and the device's journal.
+//!
+//! It stands on `rd_drive`, `rd_irp` and `rd_base`. It is definitions with laws of them, and no code yet: the layer above uses
+//! `stations_are_kept` (after any calls the journal is lawful, and what is held is bounded) and `stations_stay_tied` (the device and what is
+//! ready are as the journal tells).
+//!
+//! Cost: nothing of it runs.
 #![tactic(auto)]
 
 mod answers;

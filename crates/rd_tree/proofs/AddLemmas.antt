@@ -1,42 +1,39 @@
 -- Adding: why it is refused, and what a new node changes.
 use Rattle.std.proofs.Common.{◌≡◌, ◌∙◌, refl, sym, ap, subst, ℕ, ◌<◌, ◌≤◌, ◌^◌, ⊎_elim, Bool, true, false, not, cond, nat_le, eqb, List, [], ◌∷◌, ◌++◌, length, Option, Some, None, arith, length-append}
 use Rattle.std.proofs.lemmas.List.{length-map}
-use Rattle.std.specs.Option.{option_map, unwrap_or, is_some, IsSome}
+use Rattle.std.specs.Option.{option_map, is_some, IsSome}
 use Rattle.std.proofs.lemmas.Bool.Decides.{nat_tests}
-use Rattle.std.proofs.lemmas.Bool.{cases_eq}
+use Rattle.std.proofs.lemmas.Bool.{cases_eq, le-leb, lt-leb}
+use Rattle.rd_base.specs.Limits.{max_nodes}
 use Rattle.slab.specs.Slab.{Slab, slab_len}
 use Rattle.rd_dirinfo.specs.declared.naming.Naming.{Naming}
 use Rattle.rd_dirinfo.specs.Naming.{Name, seen}
 use Rattle.rd_dirinfo.specs.Paths.{Names, is_name, seen_path, parent}
 use Rattle.rd_tree.specs.declared.node.Node.{Node}
 use Rattle.rd_tree.specs.declared.refusal.AddNo.TheVariants as add
-use Rattle.rd_tree.specs.Walk.{Key, path_of, kind_at}
-use Rattle.rd_tree.specs.Places.{Places, node_at, is_folder_at, asked_path, most_nodes, add_refusal, new_place, Adds}
-use Rattle.rd_tree.specs.Nodes.{child_of, link_of, up_of, kind_of, placed, places_of, Locates, LacksFolder, Inserts, SameNodes, IsSound}
+use Rattle.rd_tree.specs.Walk.{Key, path_of}
+use Rattle.rd_tree.specs.Places.{Places, node_at, is_folder_at, asked_path, add_refusal, new_place, Adds}
+use Rattle.rd_tree.specs.Nodes.{child_of, link_of, up_of, kind_of, placed, places_of, Locates, LacksFolder, Inserts, SameNodes, IsSoundTree}
 use Rattle.rd_tree.proofs.TreeLemmas.{not_some, inside, sound_added}
 use Rattle.rd_tree.proofs.NodeLemmas.{up_of-at, up_of-same, kind_of-same}
 use Rattle.rd_tree.proofs.ViewLemmas.{place_seen, placed_at, unchanged}
 use Rattle.rd_tree.proofs.WayLemmas.{same_way, live_above, way_step}
 use Rattle.rd_tree.proofs.SoundLemmas.{sound_kept}
-use Rattle.rd_tree.proofs.PlaceLemmas.{place_kept, live_file, asked_is, folder_seen, located_folder, located_node, nodes_seen, lacks_folder}
+use Rattle.rd_tree.proofs.PlaceLemmas.{place_kept, live_file, asked_is, located_folder, located_node, nodes_seen, lacks_folder}
 
 -- the refusal, by its three tests
-pub refusal_is : (tree : Places) (path : Names) (folder there full : Bool) → 0 < length path → is_folder_at tree (parent path) ≡ folder → is_some (node_at tree path) ≡ there → nat_le most_nodes (length tree.list) ≡ full
+pub refusal_is : (tree : Places) (path : Names) (folder there full : Bool) → 0 < length path → is_folder_at tree (parent path) ≡ folder → is_some (node_at tree path) ≡ there → nat_le max_nodes (length tree.list) ≡ full
     → add_refusal tree path ≡ cond (not folder) (Some add.PathNotFound) (cond there (Some add.Collision) (cond full (Some add.Full) None))
 refusal_is tree [] folder there full some e f g = absurd (omega arith)
 refusal_is tree (x ∷ xs) folder there full some e f g = λ i. cond (not (e i)) (Some add.PathNotFound) (cond (f i) (Some add.Collision) (cond (g i) (Some add.Full) None))
 
-pub no_child_is : (o : Option ℕ) → is_some o ≡ false → o ≡ None
-no_child_is None e = refl
-no_child_is (Some n) e = absurd (cc)
-
-pub some_names : (n : ℕ) (b : Bool) → b ≡ eqb n 0 → b ≡ false → 0 < n
-some_names n b is none = grind (arith, nat_tests)
+pub above_zero : (n : ℕ) (b : Bool) → b ≡ eqb n 0 → b ≡ false → 0 < n
+above_zero n b is none = grind (arith, nat_tests)
 
 -- the refusal, by what is found on the way
-module _ (naming : Naming) (nodes : Slab Node) (s : IsSound naming nodes) (names : Names) where
+module _ (naming : Naming) (nodes : Slab Node) (s : IsSoundTree naming nodes) (names : Names) where
   pub refused_lost : 0 < length names → LacksFolder naming nodes names → add_refusal (places_of naming nodes) names ≡ Some add.PathNotFound
-  refused_lost some lacks = refusal_is (places_of naming nodes) names false (is_some (node_at (places_of naming nodes) names)) (nat_le most_nodes (length (places_of naming nodes).list)) some
+  refused_lost some lacks = refusal_is (places_of naming nodes) names false (is_some (node_at (places_of naming nodes) names)) (nat_le max_nodes (length (places_of naming nodes).list)) some
       (lacks_folder naming nodes s names lacks) refl refl
 
   module _ (folder : ℕ) (name : Name) (l : Locates naming nodes names folder name) where
@@ -47,19 +44,13 @@ module _ (naming : Naming) (nodes : Slab Node) (s : IsSound naming nodes) (names
     there_is b e = ap is_some (located_node naming nodes s names folder name l) ∙ e
 
     pub refused_there : is_some (child_of nodes folder (seen naming name)) ≡ true → add_refusal (places_of naming nodes) names ≡ Some add.Collision
-    refused_there e = refusal_is (places_of naming nodes) names true true (nat_le most_nodes (length (places_of naming nodes).list)) some (located_folder naming nodes s names folder name l) (there_is true e) refl
+    refused_there e = refusal_is (places_of naming nodes) names true true (nat_le max_nodes (length (places_of naming nodes).list)) some (located_folder naming nodes s names folder name l) (there_is true e) refl
 
-    pub refused_full : is_some (child_of nodes folder (seen naming name)) ≡ false → most_nodes ≤ slab_len nodes → add_refusal (places_of naming nodes) names ≡ Some add.Full
-    refused_full e full = refusal_is (places_of naming nodes) names true false true some (located_folder naming nodes s names folder name l) (there_is false e) (ap (nat_le most_nodes) (nodes_seen naming nodes) ∙ under most_nodes (slab_len nodes) full)
-      where
-        under : (a b : ℕ) → a ≤ b → nat_le a b ≡ true
-        under a b h = grind (arith, nat_tests)
+    pub refused_full : is_some (child_of nodes folder (seen naming name)) ≡ false → max_nodes ≤ slab_len nodes → add_refusal (places_of naming nodes) names ≡ Some add.Full
+    refused_full e full = refusal_is (places_of naming nodes) names true false true some (located_folder naming nodes s names folder name l) (there_is false e) (ap (nat_le max_nodes) (nodes_seen naming nodes) ∙ le-leb max_nodes (slab_len nodes) full)
 
-    pub not_refused : is_some (child_of nodes folder (seen naming name)) ≡ false → slab_len nodes < most_nodes → add_refusal (places_of naming nodes) names ≡ None
-    not_refused e room = refusal_is (places_of naming nodes) names true false false some (located_folder naming nodes s names folder name l) (there_is false e) (ap (nat_le most_nodes) (nodes_seen naming nodes) ∙ over most_nodes (slab_len nodes) room)
-      where
-        over : (a b : ℕ) → b < a → nat_le a b ≡ false
-        over a b h = grind (arith, nat_tests)
+    pub not_refused : is_some (child_of nodes folder (seen naming name)) ≡ false → slab_len nodes < max_nodes → add_refusal (places_of naming nodes) names ≡ None
+    not_refused e room = refusal_is (places_of naming nodes) names true false false some (located_folder naming nodes s names folder name l) (there_is false e) (ap (nat_le max_nodes) (nodes_seen naming nodes) ∙ lt-leb max_nodes (slab_len nodes) room)
 
 -- nothing changes for callers where each step is taken back
 pub same_seen : (naming : Naming) (old new : Slab Node) → SameNodes old new → places_of naming new ≡ places_of naming old
@@ -67,10 +58,10 @@ same_seen naming old new same =
     let links : link_of new ≡ link_of old = λ i. λ n. (same.links n) i in
     unchanged naming old new (λ k. place_kept naming old new k (same.files k) (λ live. λ i. path_of (links i) k))
 
-pub sound_seen : (naming : Naming) (old new : Slab Node) → IsSound naming old → SameNodes old new → IsSound naming new
+pub sound_seen : (naming : Naming) (old new : Slab Node) → IsSoundTree naming old → SameNodes old new → IsSoundTree naming new
 sound_seen naming old new s same = sound_kept naming old new s same.children same.links (λ n. kind_of-same old new n (same.files n))
 
-module _ (naming : Naming) (old new : Slab Node) (s : IsSound naming old) (names : Names) (folder : ℕ) (name : Name) (l : Locates naming old names folder name) (short : length names ≤ 64)
+module _ (naming : Naming) (old new : Slab Node) (s : IsSoundTree naming old) (names : Names) (folder : ℕ) (name : Name) (l : Locates naming old names folder name) (short : length names ≤ 64)
     (free : child_of old folder (seen naming name) ≡ None) (bytes : Option (List ℕ)) (m : ℕ) (h : Inserts naming old new folder name bytes m) where
   dead : kind_of old m ≡ None
   dead = ap (option_map (λ bytes. not (is_some bytes))) h.fresh
@@ -78,7 +69,7 @@ module _ (naming : Naming) (old new : Slab Node) (s : IsSound naming old) (names
   live_other : (k : ℕ) → IsSome (kind_of old k) → k ≡ m → ⊥
   live_other k live e = not_some (kind_of old m) dead (subst (λ (j : ℕ). IsSome (kind_of old j)) e live)
 
-  pub sound_inserted : IsSound naming new
+  pub sound_inserted : IsSoundTree naming new
   sound_inserted = record {
     tree = sound_added (child_of old) (up_of naming old) (kind_of old) s.tree (child_of new) (up_of naming new) (kind_of new) (seen_path naming l.front) (seen naming name) folder m (not (is_some bytes)) l.at
         (omega (arith, length-map l.front (seen naming), ap (λ (p : Names). length p) l.split, length-append l.front (name ∷ [])))

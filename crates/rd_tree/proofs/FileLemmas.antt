@@ -1,7 +1,6 @@
 -- What callers see of a file, and of a change of its bytes.
-use Rattle.std.proofs.Common.{◌≡◌, ◌∙◌, refl, sym, ap, ℕ, true, false, Bool, List, Option, Some, None, cond, Result, Ok, Err, [], arith}
+use Rattle.std.proofs.Common.{◌≡◌, ◌∙◌, refl, sym, ap, ℕ, true, false, Bool, List, Option, Some, None, cond, [], arith}
 use Rattle.std.specs.Option.{option_map, option_map_or, option_and_then, unwrap_or, is_some, IsSome}
-use Rattle.std.specs.Result.{OnOk}
 use Rattle.slab.specs.Slab.{Slab, get, with_value}
 use Rattle.rd_dirinfo.specs.declared.naming.Naming.{Naming}
 use Rattle.rd_tree.specs.declared.node.Node.{Node}
@@ -56,7 +55,3 @@ module _ (naming : Naming) (nodes : Slab Node) (n : ℕ) (was : Node) (is : get 
 -- it is a file still, whatever its bytes
 pub file_still : (naming : Naming) (nodes : Slab Node) (n : ℕ) (was now : Node) → get nodes n ≡ Some was → IsFile (places_of naming nodes) n → now.folder ≡ was.folder → IsFile (places_of naming (with_value nodes n now)) n
 file_still naming nodes n was now is file folder = ap is_some (bytes_is naming (with_value nodes n now) n now (exchange nodes n was now is).changed ∙ ap (λ b. cond b None (Some now.contents)) (folder ∙ is_file naming nodes n was is file))
-
-pub on_ok : {T E P Q : Type 0} (r : Result T E) → (P → Q) → OnOk r P → OnOk r Q
-on_ok (Ok v) f p = f p
-on_ok (Err e) f p = tt

@@ -6,7 +6,7 @@ use Rattle.std.specs.Bool.{Decides}
 use Rattle.std.proofs.lemmas.Slice.Eq.{bytes_eq-Decides}
 use Rattle.std.proofs.lemmas.Bool.Decides.{not_from_Decides}
 use Rattle.std.proofs.lemmas.List.{append-nil}
-use Rattle.rd_tree.specs.Walk.{Key, Keys, Child, Up, onward, down, up_path, Starts, Agrees}
+use Rattle.rd_tree.specs.Walk.{Key, Keys, Child, Up, onward, down, up_path, Starts, LinksAgree}
 
 -- ---- keys
 pub same_key : (x y : Key) → (x ≡ y) ⊎ (x ≡ y → ⊥)
@@ -39,7 +39,7 @@ pub down_lost : (child : Child) (n : ℕ) (p q : Keys) → down child n p ≡ No
 down_lost child n p q is = down-append child n p q ∙ ap (λ o. onward o (λ m. down child m q)) is
 
 -- ---- one way to a node
-up_down : (child : Child) (up : Up) → Agrees child up → (p : Keys) (n m fuel : ℕ) (path : Keys) → down child n p ≡ Some m → length p ≤ fuel → up_path fuel up m path ≡ up_path (fuel - length p) up n (p ++ path)
+up_down : (child : Child) (up : Up) → LinksAgree child up → (p : Keys) (n m fuel : ℕ) (path : Keys) → down child n p ≡ Some m → length p ≤ fuel → up_path fuel up m path ≡ up_path (fuel - length p) up n (p ++ path)
 up_down child up agrees [] n m fuel path is long = ap (λ k. up_path fuel up k path) (cc) ∙ ap (λ f. up_path f up n path) (omega arith)
 up_down child up agrees (x ∷ p) n m fuel path is long = by (λ k there. up_down child up agrees p k m fuel path there (omega arith)) (child n x) refl
   where
@@ -57,10 +57,10 @@ up_root : (up : Up) → up 0 ≡ None → (fuel : ℕ) (path : Keys) → up_path
 up_root up root zero path = refl
 up_root up root (suc fuel) path = ap (λ o. option_map_or (λ p. up_path fuel up p.0 (p.1 ∷ path)) o path) root
 
-pub path_found : (child : Child) (up : Up) → Agrees child up → (p : Keys) (m fuel : ℕ) → down child 0 p ≡ Some m → length p ≤ fuel → up_path fuel up m [] ≡ p
+pub path_found : (child : Child) (up : Up) → LinksAgree child up → (p : Keys) (m fuel : ℕ) → down child 0 p ≡ Some m → length p ≤ fuel → up_path fuel up m [] ≡ p
 path_found child up agrees p m fuel is long = up_down child up agrees p 0 m fuel [] is long ∙ up_root up agrees.root (fuel - length p) (p ++ []) ∙ append-nil p
 
-pub one_path : (child : Child) (up : Up) → Agrees child up → (p q : Keys) (m : ℕ) → down child 0 p ≡ Some m → down child 0 q ≡ Some m → p ≡ q
+pub one_path : (child : Child) (up : Up) → LinksAgree child up → (p q : Keys) (m : ℕ) → down child 0 p ≡ Some m → down child 0 q ≡ Some m → p ≡ q
 one_path child up agrees p q m is also =
     sym (path_found child up agrees p m (length p + length q) is (omega arith)) ∙ path_found child up agrees q m (length p + length q) also (omega arith)
 
@@ -81,7 +81,7 @@ same_walk old new E same (x ∷ p) n avoids =
 abbrev pub Edge : ℕ → Key → ℕ → Key → Type 0
 Edge n x m y = (m ≡ n) × (y ≡ x)
 
-module _ (old : Child) (up : Up) (agrees : Agrees old up) where
+module _ (old : Child) (up : Up) (agrees : LinksAgree old up) where
   -- only a way that begins with the way to an edge has that edge
   met : (front p r s : Keys) (x y : Key) (n m : ℕ) → down old 0 front ≡ Some n → p ≡ r ++ y ∷ s → down old 0 r ≡ Some m → m ≡ n → y ≡ x → Starts (front ++ x ∷ []) p
   met front p r s x y n m at is walk e f =

@@ -1,5 +1,6 @@
 pub mod KeyLemmas
 pub mod TreeLemmas
+pub mod WithoutLemmas
 pub mod ViewLemmas
 pub mod NodeLemmas
 pub mod SoundLemmas

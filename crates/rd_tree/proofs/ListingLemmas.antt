@@ -9,7 +9,7 @@ use Rattle.slab.proofs.SlabLemmas.{Contains-cons, Contains-cons_cases}
 use Rattle.rd_dirinfo.specs.declared.naming.Naming.{Naming}
 use Rattle.rd_dirinfo.specs.Naming.{Name, name_cmp}
 use Rattle.rd_dirinfo.proofs.NamingLemmas.{name_order}
-use Rattle.rd_tree.specs.Places.{first_of, least}
+use Rattle.rd_tree.specs.Places.{first_name, least}
 use Rattle.rd_tree.specs.Nodes.{first_in}
 
 -- ---- the least of some names
@@ -46,9 +46,9 @@ module _ (naming : Naming) where
           no_member [] e y c = absurd (omega (arith, c.1))
           no_member (z ∷ zs) e y c = absurd (cc)
 
-      by : ((m : Name) → least naming xs ≡ Some m → Contains xs m × IsFirst xs m) → (o : Option Name) → least naming xs ≡ o → Some (option_map_or (first_of naming x) (least naming xs) x) ≡ Some m → Contains (x ∷ xs) m × IsFirst (x ∷ xs) m
+      by : ((m : Name) → least naming xs ≡ Some m → Contains xs m × IsFirst xs m) → (o : Option Name) → least naming xs ≡ o → Some (option_map_or (first_name naming x) (least naming xs) x) ≡ Some m → Contains (x ∷ xs) m × IsFirst (x ∷ xs) m
       by later None e f =
-          let same : x ≡ m = let both : Some (option_map_or (first_of naming x) None x) ≡ Some m = sym (ap (λ (o : Option Name). Some (option_map_or (first_of naming x) o x)) e) ∙ f in cc in (
+          let same : x ≡ m = let both : Some (option_map_or (first_name naming x) None x) ≡ Some m = sym (ap (λ (o : Option Name). Some (option_map_or (first_name naming x) o x)) e) ∙ f in cc in (
             subst (λ (z : Name). Contains (x ∷ xs) z) same (0, omega arith, refl),
             subst (λ (z : Name). IsFirst (x ∷ xs) z) same (λ y c less. ⊎_elim (λ h. never x (subst (λ (z : Name). name_cmp naming z x ≡ Less) (sym h) less)) (λ h. none e y h) (Contains-cons_cases x y xs c)),
           )
@@ -57,8 +57,8 @@ module _ (naming : Naming) where
           tail : Contains xs z × IsFirst xs z
           tail = later z e
 
-          value : first_of naming x z ≡ m
-          value = let both : Some (option_map_or (first_of naming x) (Some z) x) ≡ Some m = sym (ap (λ (o : Option Name). Some (option_map_or (first_of naming x) o x)) e) ∙ f in cc
+          value : first_name naming x z ≡ m
+          value = let both : Some (option_map_or (first_name naming x) (Some z) x) ≡ Some m = sym (ap (λ (o : Option Name). Some (option_map_or (first_name naming x) o x)) e) ∙ f in cc
 
           pick : (b : Bool) → is_lt (name_cmp naming z x) ≡ b → Contains (x ∷ xs) m × IsFirst (x ∷ xs) m
           pick true t =

@@ -7,8 +7,10 @@ use Rattle.std.proofs.Math.Seq.{drop-append_seam}
 use Rattle.std.specs.Prelude.{T}
 use Rattle.std.specs.Option.{option_map, option_map_or, option_and_then, unwrap_or, is_some, IsSome}
 use Rattle.std.specs.Ordering.{nat_cmp, is_lt, eq_by_cmp}
-use Rattle.std.specs.FinMap.{find, is_sorted, nat_cmp-IsAntisymmetric}
-use Rattle.std.specs.FinMap.Entries.{below_all, is_sorted-where_key, find-where_key}
+use Rattle.std.specs.FinMap.{find, is_sorted}
+use Rattle.std.specs.FinMap.Entries.{below_all, is_sorted-where_key}
+use Rattle.std.proofs.lemmas.Option.{same_Some, none-some}
+use Rattle.rd_tree.proofs.WithoutLemmas.{place_without}
 use Rattle.slab.specs.Slab.{Slab}
 use Rattle.rd_dirinfo.specs.declared.naming.Naming.{Naming}
 use Rattle.rd_dirinfo.specs.Naming.{Name, seen}
@@ -17,7 +19,7 @@ use Rattle.rd_tree.specs.declared.node.Node.{Node}
 use Rattle.rd_tree.specs.Walk.{Key, Keys, onward, down, path_of, Starts}
 use Rattle.rd_tree.specs.Places.{Place, Places, place, without, own_path, asked_path, cleared, moved}
 use Rattle.rd_dirinfo.specs.Paths.{moved_path}
-use Rattle.rd_tree.specs.Nodes.{child_of, link_of, up_of, file_of, kind_of, placed, places_of, Locates, LacksFolder, Relinks, Retitles, IsSound}
+use Rattle.rd_tree.specs.Nodes.{child_of, link_of, up_of, file_of, kind_of, placed, places_of, Locates, LacksFolder, Relinks, Retitles, IsSoundTree}
 use Rattle.rd_tree.proofs.KeyLemmas.{one_path, down_on}
 use Rattle.rd_tree.proofs.TreeLemmas.{not_some, inside, sound_same}
 use Rattle.rd_tree.proofs.NodeLemmas.{up_of-at, up_of-same, kind_of-same}
@@ -25,7 +27,6 @@ use Rattle.rd_tree.proofs.ViewLemmas.{place_seen, seen_sorted, naming_seen, same
 use Rattle.rd_tree.proofs.WayLemmas.{keys_of_way, same_way, live_above, way_step, node_found}
 use Rattle.rd_tree.proofs.PlaceLemmas.{path_seen, live_file, asked_is, located_node, keys_split}
 use Rattle.rd_tree.proofs.ParentLemmas.{linked}
-use Rattle.rd_tree.proofs.ThroughLemmas.{same_number, lost_not}
 use Rattle.rd_tree.proofs.RefuseLemmas.{prefix_split, split_prefix, own_keys, there, only_way}
 
 -- ---- lists of places
@@ -46,9 +47,6 @@ sorted_mapped : (g : Place → Place) (es : List (ℕ × Place)) → is_sorted n
 sorted_mapped g [] = refl
 sorted_mapped g (e ∷ es) = λ i. below_mapped g e.0 es i && sorted_mapped g es i
 
-without_at : (tree : Places) (n k : ℕ) → place (without tree n) k ≡ cond (not (eq_by_cmp nat_cmp n k)) (place tree k) None
-without_at tree n k = find-where_key nat_cmp (λ k. not (eq_by_cmp nat_cmp n k)) k (λ x e. ap (λ j. not (eq_by_cmp nat_cmp n j)) (sym (nat_cmp-IsAntisymmetric k x e))) tree.list
-
 -- the tree without a number, if there is one
 abbrev pub less : Places → Option ℕ → Places
 less tree gone = option_map_or (λ t. without tree t) gone tree
@@ -58,18 +56,18 @@ less_sorted tree None t = t
 less_sorted tree (Some n) t = is_sorted-where_key nat_cmp (λ k. not (eq_by_cmp nat_cmp n k)) tree.list t
 
 less_gone : (tree : Places) (gone : Option ℕ) (k : ℕ) → gone ≡ Some k → place (less tree gone) k ≡ None
-less_gone tree None k e = absurd (lost_not k e)
-less_gone tree (Some n) k e = without_at tree n k ∙ ap (λ b. cond (not b) (place tree k) None) (ap (λ j. eq_by_cmp nat_cmp j k) (same_number n k e) ∙ itself k)
+less_gone tree None k e = absurd (none-some k e)
+less_gone tree (Some n) k e = place_without tree n k ∙ ap (λ b. cond (not b) (place tree k) None) (ap (λ j. eq_by_cmp nat_cmp j k) (same_Some n k e) ∙ itself k)
 
 less_kept : (tree : Places) (gone : Option ℕ) (k : ℕ) → (gone ≡ Some k → ⊥) → place (less tree gone) k ≡ place tree k
 less_kept tree None k other = refl
-less_kept tree (Some n) k other = without_at tree n k ∙ ap (λ b. cond (not b) (place tree k) None) (apart n k (λ e. other (ap Some e)))
+less_kept tree (Some n) k other = place_without tree n k ∙ ap (λ b. cond (not b) (place tree k) None) (apart n k (λ e. other (ap Some e)))
 
 pub is_gone : (gone : Option ℕ) (k : ℕ) → (gone ≡ Some k) ⊎ (gone ≡ Some k → ⊥)
-is_gone None k = inr (lost_not k)
-is_gone (Some n) k = ⊎_elim (λ e. inl (ap Some e)) (λ not. inr (λ e. not (same_number n k e))) (cases_eq n k)
+is_gone None k = inr (none-some k)
+is_gone (Some n) k = ⊎_elim (λ e. inl (ap Some e)) (λ not. inr (λ e. not (same_Some n k e))) (cases_eq n k)
 
-prefix_itself : (naming : Naming) (p : Names) → is_prefix naming p p ≡ true
+pub prefix_itself : (naming : Naming) (p : Names) → is_prefix naming p p ≡ true
 prefix_itself naming p = (split_prefix naming p p [] (sym (append-nil (seen_path naming p)))).0
 
 prefix_longer : (naming : Naming) (p q : Names) (x : Name) → is_prefix naming p q ≡ true → is_prefix naming p (q ++ x ∷ []) ≡ true
@@ -77,7 +75,7 @@ prefix_longer naming p q x t = (split_prefix naming p (q ++ x ∷ []) (seen_path
     (map-append (seen naming) q (x ∷ []) ∙ ap (λ (k : Keys). k ++ seen naming x ∷ []) (prefix_split naming p q t) ∙ append_assoc (seen_path naming p) (seen_path naming (drop (length p) q)) (seen naming x ∷ []))).0
 
 -- ---- what callers see
-module _ (naming : Naming) (old new : Slab Node) (s : IsSound naming old) (t : IsSound naming new) (m : ℕ) (live : IsSome (kind_of old m)) (to : Names) (b : ℕ) (y : Name) (l : Locates naming old to b y) (gone : Option ℕ)
+module _ (naming : Naming) (old new : Slab Node) (s : IsSoundTree naming old) (t : IsSoundTree naming new) (m : ℕ) (live : IsSome (kind_of old m)) (to : Names) (b : ℕ) (y : Name) (l : Locates naming old to b y) (gone : Option ℕ)
     (r : Relinks old new m b y gone) (bare : (k : ℕ) (x : Key) → gone ≡ Some k → child_of old k x ≡ None) (not_folder : gone ≡ Some b → ⊥) (outside : Starts (path_of (up_of naming old) m) (seen_path naming l.front) → ⊥) where
   own : Names
   own = path_of (link_of old) m
@@ -89,7 +87,7 @@ module _ (naming : Naming) (old new : Slab Node) (s : IsSound naming old) (t : I
   ways_stay k o = same_way IsOutside (link_of old) (link_of new)
       (λ j a x p link. (
         live_above naming old s j a x link,
-        λ g. lost_not j (sym (bare a (seen naming x) g) ∙ s.tree.back j a (seen naming x) (up_of-at naming old j a x link)),
+        λ g. none-some j (sym (bare a (seen naming x) g) ∙ s.tree.back j a (seen naming x) (up_of-at naming old j a x link)),
         λ pre. p.2 (ap (is_prefix naming (path_of (link_of old) m)) (way_step naming old s j a x link) ∙ prefix_longer naming (path_of (link_of old) m) (path_of (link_of old) a) x pre),
       ))
       (λ j p. r.links j (λ e. p.2 (ap (λ i. is_prefix naming (path_of (link_of old) m) (path_of (link_of old) i)) e ∙ prefix_itself naming (path_of (link_of old) m))) p.1) 64 k [] o
@@ -98,7 +96,7 @@ module _ (naming : Naming) (old new : Slab Node) (s : IsSound naming old) (t : I
   ways_on : (q p : Keys) (j k : ℕ) → down (child_of old) 0 (path_of (up_of naming old) m ++ p) ≡ Some j → down (child_of old) j q ≡ Some k → (gone ≡ Some k → ⊥)
       → (d : Names) × (path_of (link_of old) k ≡ path_of (link_of old) j ++ d) × (path_of (link_of new) k ≡ path_of (link_of new) j ++ d)
   ways_on [] p j k at is stays =
-      let e : j ≡ k = same_number j k is in
+      let e : j ≡ k = same_Some j k is in
       ([], ap (path_of (link_of old)) (sym e) ∙ sym (append-nil (path_of (link_of old) j)), ap (path_of (link_of new)) (sym e) ∙ sym (append-nil (path_of (link_of new) j)))
   ways_on (x ∷ q) p j k at is stays = by (λ i. ways_on q (p ++ x ∷ []) i k) (child_of old j x) refl
     where
@@ -107,12 +105,12 @@ module _ (naming : Naming) (old new : Slab Node) (s : IsSound naming old) (t : I
 
       not_gone : (i : ℕ) (w : Keys) → down (child_of old) i w ≡ Some k → gone ≡ Some i → ⊥
       not_gone i [] f g = stays (g ∙ f)
-      not_gone i (z ∷ w) f g = lost_not k (sym (ap (λ o. onward o (λ h. down (child_of old) h w)) (bare i z g)) ∙ f)
+      not_gone i (z ∷ w) f g = none-some k (sym (ap (λ o. onward o (λ h. down (child_of old) h w)) (bare i z g)) ∙ f)
 
       by : ((i : ℕ) → down (child_of old) 0 (path_of (up_of naming old) m ++ (p ++ x ∷ [])) ≡ Some i → down (child_of old) i q ≡ Some k → (gone ≡ Some k → ⊥)
           → (d : Names) × (path_of (link_of old) k ≡ path_of (link_of old) i ++ d) × (path_of (link_of new) k ≡ path_of (link_of new) i ++ d))
           → (o : Option ℕ) → child_of old j x ≡ o → (d : Names) × (path_of (link_of old) k ≡ path_of (link_of old) j ++ d) × (path_of (link_of new) k ≡ path_of (link_of new) j ++ d)
-      by later None f = absurd (lost_not k (sym (ap (λ o. onward o (λ h. down (child_of old) h q)) f) ∙ is))
+      by later None f = absurd (none-some k (sym (ap (λ o. onward o (λ h. down (child_of old) h q)) f) ∙ is))
       by later (Some i) f =
           let on : down (child_of old) i q ≡ Some k = sym (ap (λ o. onward o (λ h. down (child_of old) h q)) f) ∙ is in
           let full : down (child_of old) 0 ((keys ++ p) ++ x ∷ []) ≡ Some i = down_on (child_of old) 0 j (keys ++ p) (x ∷ []) at ∙ ap (λ o. onward o (λ h. Some h)) f in
@@ -190,7 +188,7 @@ module _ (naming : Naming) (old new : Slab Node) (s : IsSound naming old) (t : I
       ∙ sym (moved_as (path_of (link_of old) m) (less (places_of naming old) gone) (ap (λ (o : Option Names). unwrap_or o []) (path_seen naming old m live)) is)
 
 -- ---- a new name for the same key
-module _ (naming : Naming) (old new : Slab Node) (s : IsSound naming old) (m : ℕ) (to : Names) (b : ℕ) (y : Name) (l : Locates naming old to b y) (is : down (child_of old) 0 (seen_path naming to) ≡ Some m) (r : Retitles old new m b y) where
+module _ (naming : Naming) (old new : Slab Node) (s : IsSoundTree naming old) (m : ℕ) (to : Names) (b : ℕ) (y : Name) (l : Locates naming old to b y) (is : down (child_of old) 0 (seen_path naming to) ≡ Some m) (r : Retitles old new m b y) where
   onward_same : (o : Option ℕ) → onward o (λ k. Some k) ≡ o
   onward_same None = refl
   onward_same (Some n) = refl
@@ -201,19 +199,19 @@ module _ (naming : Naming) (old new : Slab Node) (s : IsSound naming old) (m : �
   ups : (k : ℕ) → up_of naming new k ≡ up_of naming old k
   ups k = ⊎_elim
       (λ e. ap (up_of naming new) e ∙ up_of-at naming new m b y r.steps.link ∙ sym (s.tree.agrees.links b (seen naming y) m own_edge) ∙ ap (up_of naming old) (sym e))
-      (λ other. up_of-same naming old new k (r.steps.links k other (lost_not k))) (cases_eq k m)
+      (λ other. up_of-same naming old new k (r.steps.links k other (none-some k))) (cases_eq k m)
 
-  pub sound_retitled : IsSound naming new
+  pub sound_retitled : IsSoundTree naming new
   sound_retitled = record {
-    tree = sound_same (child_of old) (child_of new) (up_of naming old) (up_of naming new) (kind_of old) (kind_of new) s.tree r.children ups (λ k. kind_of-same old new k (r.steps.files k (lost_not k)));
+    tree = sound_same (child_of old) (child_of new) (up_of naming old) (up_of naming new) (kind_of old) (kind_of new) s.tree r.children ups (λ k. kind_of-same old new k (r.steps.files k (none-some k)));
     names = λ n a x link. ⊎_elim
         (λ e. let p : ◌≡◌ {A = ℕ × Key} (b, y) (a, x) = inside (b, y) (a, x) (sym r.steps.link ∙ ap (link_of new) (sym e) ∙ link) in sym (ap (λ q. is_name q.1) p) ∙ l.named)
-        (λ other. s.names n a x (sym (r.steps.links n other (lost_not n)) ∙ link)) (cases_eq n m);
-    small = λ n alive. s.small n (subst (λ (o : Option Bool). IsSome o) (kind_of-same old new n (r.steps.files n (lost_not n))) alive);
+        (λ other. s.names n a x (sym (r.steps.links n other (none-some n)) ∙ link)) (cases_eq n m);
+    small = λ n alive. s.small n (subst (λ (o : Option Bool). IsSome o) (kind_of-same old new n (r.steps.files n (none-some n))) alive);
   }
 
   pub retitled_seen : IsSome (kind_of old m) → places_of naming new ≡ moved (places_of naming old) m to
-  retitled_seen live = moved_seen naming old new s sound_retitled m live to b y l None r.steps (λ k x e. absurd (lost_not k e)) (lost_not b)
+  retitled_seen live = moved_seen naming old new s sound_retitled m live to b y l None r.steps (λ k x e. absurd (none-some k e)) (none-some b)
       (λ w. absurd (omega (arith, ap (λ (p : Keys). length p) w.1, length-append (path_of (up_of naming old) m) w.0, ap (λ (p : Keys). length p) keys_are, length-append (seen_path naming l.front) (seen naming y ∷ []))))
       (ap (λ o. option_map_or (λ t. cond (t == m) (places_of naming old) (without (places_of naming old) t)) o (places_of naming old)) (node_found naming old s to ∙ is) ∙ ap (λ v. cond v (places_of naming old) (without (places_of naming old) m)) (same m))
     where
@@ -224,7 +222,7 @@ module _ (naming : Naming) (old new : Slab Node) (s : IsSound naming old) (m : �
       same n = grind (arith, nat_tests)
 
 -- the own path has a folder above it
-pub own_found : (naming : Naming) (nodes : Slab Node) → IsSound naming nodes → (m a : ℕ) (x : Name) (to : Names) → IsSome (kind_of nodes m) → link_of nodes m ≡ Some (a, x) → down (child_of nodes) 0 (seen_path naming to) ≡ Some m → LacksFolder naming nodes to → ⊥
+pub own_found : (naming : Naming) (nodes : Slab Node) → IsSoundTree naming nodes → (m a : ℕ) (x : Name) (to : Names) → IsSome (kind_of nodes m) → link_of nodes m ≡ Some (a, x) → down (child_of nodes) 0 (seen_path naming to) ≡ Some m → LacksFolder naming nodes to → ⊥
 own_found naming nodes s m a x to live link is lacks =
     let above : Names = path_of (link_of nodes) a in
     let keys : seen_path naming to ≡ seen_path naming above ++ seen naming x ∷ [] = only_way naming nodes s m live (seen_path naming to) is ∙ ap (seen_path naming) (way_step naming nodes s m a x link) ∙ map-append (seen naming) above (x ∷ []) in
@@ -238,4 +236,4 @@ own_found naming nodes s m a x to live link is lacks =
     by : (o : Option Bool) → kind_of nodes a ≡ o → IsSome o → kind_of nodes a ≡ Some true
     by None e some = absurd (not_some {T = Bool} None refl some)
     by (Some true) e some = e
-    by (Some false) e some = absurd (lost_not m (sym (s.tree.files a (seen naming x) e) ∙ s.tree.back m a (seen naming x) (up_of-at naming nodes m a x link)))
+    by (Some false) e some = absurd (none-some m (sym (s.tree.files a (seen naming x) e) ∙ s.tree.back m a (seen naming x) (up_of-at naming nodes m a x link)))

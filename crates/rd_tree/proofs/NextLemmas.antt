@@ -19,7 +19,7 @@ use Rattle.rd_tree.specs.declared.node.Node.{Node}
 use Rattle.rd_tree.specs.Walk.{Key, path_of}
 use Rattle.rd_dirinfo.specs.Patterns.{is_wanted}
 use Rattle.rd_tree.specs.Places.{Place, child_names, next_name}
-use Rattle.rd_tree.specs.Nodes.{child_of, link_of, up_of, kind_of, node_bytes, placed, places_of, to_kept, get_key, key_cmp, name_of, names_in, first_in, IsSound}
+use Rattle.rd_tree.specs.Nodes.{child_of, link_of, up_of, kind_of, node_bytes, placed, places_of, to_kept, get_key, key_cmp, name_of, names_in, first_in, IsSoundTree}
 use Rattle.rd_tree.proofs.TreeLemmas.{some_is, inside}
 use Rattle.rd_tree.proofs.NodeLemmas.{child_of-at, kind_of-at, up_of-at}
 use Rattle.rd_tree.proofs.WayLemmas.{link_live, live_node, way_step}
@@ -68,7 +68,7 @@ name_is nodes (suc k) a x link = by (get nodes (suc k)) link
     by None h = absurd (cc)
     by (Some node) h = ap Some (ap (λ (q : ℕ × Key). q.1) (inside (node.parent, node.name) (a, x) h))
 
-module _ (naming : Naming) (nodes : Slab Node) (s : IsSound naming nodes) (n : ℕ) (node : Node) (is : get nodes n ≡ Some node) (ordered : IsStrictlySortedBy key_cmp (keys_of node.children.entries)) where
+module _ (naming : Naming) (nodes : Slab Node) (s : IsSoundTree naming nodes) (n : ℕ) (node : Node) (is : get nodes n ≡ Some node) (ordered : IsStrictlySortedBy key_cmp (keys_of node.children.entries)) where
   live : IsSome (kind_of nodes n)
   live = some_is (kind_of nodes n) node.folder (kind_of-at nodes n node is)
 

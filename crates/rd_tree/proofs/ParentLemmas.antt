@@ -1,10 +1,10 @@
 -- The children of a node, as callers see them: the nodes whose path has its path as parent.
-use Rattle.std.proofs.Common.{◌≡◌, ◌∙◌, refl, sym, ap, ℕ, ◌+◌, ◌≤◌, ◌==◌, Bool, true, false, ◌&&◌, nat_le, List, [], ◌∷◌, ◌++◌, length, take, map, Option, Some, None, ◌||◌, ◌⊎◌, inl, inr, arith, length-append}
+use Rattle.std.proofs.Common.{◌≡◌, ◌∙◌, refl, sym, ap, ℕ, ◌+◌, ◌==◌, Bool, true, false, ◌&&◌, nat_le, List, [], ◌∷◌, ◌++◌, length, take, map, Option, Some, None, ◌||◌, ◌⊎◌, inl, inr, arith, length-append}
 use Rattle.std.proofs.lemmas.List.{take-append-le, take_all}
-use Rattle.std.proofs.lemmas.Bool.{cases_eq}
-use Rattle.std.proofs.lemmas.Bool.Decides.{nat_tests}
+use Rattle.std.proofs.lemmas.Bool.{cases_eq, and_parts, eqb-true, eq-eqb, le-leb}
 use Rattle.std.specs.List.{Contains, list_any}
 use Rattle.std.specs.Option.{option_map, option_map_or, unwrap_or, IsSome}
+use Rattle.std.proofs.Math.Bool.{or-true}
 use Rattle.slab.specs.Slab.{Slab, entries}
 use Rattle.slab.proofs.SlabLemmas.{Contains-cons, Contains-cons_cases, Contains-entries}
 use Rattle.rd_dirinfo.specs.declared.naming.Naming.{Naming}
@@ -13,52 +13,35 @@ use Rattle.rd_dirinfo.specs.Paths.{Names, seen_path, is_same_path, is_prefix, is
 use Rattle.rd_tree.specs.declared.node.Node.{Node}
 use Rattle.rd_tree.specs.Walk.{Key, down, up_path, path_of}
 use Rattle.rd_tree.specs.Places.{Place, has_child}
-use Rattle.rd_tree.specs.Nodes.{child_of, link_of, up_of, kind_of, node_bytes, placed, places_of, HasChild, IsSound}
+use Rattle.rd_tree.specs.Nodes.{child_of, link_of, up_of, kind_of, node_bytes, placed, places_of, HasChild, IsSoundTree}
 use Rattle.rd_tree.proofs.TreeLemmas.{some_is, not_some, inside}
 use Rattle.rd_tree.proofs.NodeLemmas.{kind_of-at, up_of-at, up_of-none, link_of-root}
 use Rattle.rd_tree.proofs.WayLemmas.{keys_of_way, live_above, link_live, live_node, way_step, same_true, true_same}
 use Rattle.rd_tree.proofs.PlaceLemmas.{path_seen}
 
-pub both_true : (a b : Bool) → (a && b) ≡ true → (a ≡ true) × (b ≡ true)
-both_true true b e = (refl, e)
-both_true false b e = absurd (cc)
-
-pub equals : (a b : ℕ) → (a == b) ≡ true → a ≡ b
-equals a b e = grind (arith, nat_tests)
-
-is_equal : (a b : ℕ) → a ≡ b → (a == b) ≡ true
-is_equal a b e = grind (arith, nat_tests)
-
-pub at_most : (a b : ℕ) → a ≤ b → nat_le a b ≡ true
-at_most a b e = grind (arith, nat_tests)
-
 -- a path with one more name has the path as parent, and only paths that are the same
 pub parent_same : (naming : Naming) (p q : Names) (x : Name) → is_parent naming p (q ++ x ∷ []) ≡ true → seen_path naming p ≡ seen_path naming q
 parent_same naming p q x e =
-    let parts = both_true (is_prefix naming p (q ++ x ∷ [])) (length (q ++ x ∷ []) == length p + 1) e in
-    let same = both_true (nat_le (length p) (length (q ++ x ∷ []))) (is_same_path naming p (take (length p) (q ++ x ∷ []))) parts.0 in
-    let long : length q ≡ length p = omega (arith, equals (length (q ++ x ∷ [])) (length p + 1) parts.1, length-append q (x ∷ [])) in
+    let parts = and_parts (is_prefix naming p (q ++ x ∷ [])) (length (q ++ x ∷ []) == length p + 1) e in
+    let same = and_parts (nat_le (length p) (length (q ++ x ∷ []))) (is_same_path naming p (take (length p) (q ++ x ∷ []))) parts.0 in
+    let long : length q ≡ length p = omega (arith, eqb-true (length (q ++ x ∷ [])) (length p + 1) parts.1, length-append q (x ∷ [])) in
     let front : take (length p) (q ++ x ∷ []) ≡ q = ap (λ n. take n (q ++ x ∷ [])) (sym long) ∙ take-append-le (length q) q (x ∷ []) (omega arith) ∙ take_all (length q) q (omega arith) in
     true_same naming p (take (length p) (q ++ x ∷ [])) same.1 ∙ ap (seen_path naming) front
 
 pub same_parent : (naming : Naming) (p : Names) (x : Name) → is_parent naming p (p ++ x ∷ []) ≡ true
 same_parent naming p x =
     let front : take (length p) (p ++ x ∷ []) ≡ p = take-append-le (length p) p (x ∷ []) (omega arith) ∙ take_all (length p) p (omega arith) in
-    let prefix : is_prefix naming p (p ++ x ∷ []) ≡ true = λ i. at_most (length p) (length (p ++ x ∷ [])) (omega (arith, length-append p (x ∷ []))) i && (ap (is_same_path naming p) front ∙ same_true naming p p refl) i in
-    λ i. prefix i && is_equal (length (p ++ x ∷ [])) (length p + 1) (omega (arith, length-append p (x ∷ []))) i
+    let prefix : is_prefix naming p (p ++ x ∷ []) ≡ true = λ i. le-leb (length p) (length (p ++ x ∷ [])) (omega (arith, length-append p (x ∷ []))) i && (ap (is_same_path naming p) front ∙ same_true naming p p refl) i in
+    λ i. prefix i && eq-eqb (length (p ++ x ∷ [])) (length p + 1) (omega (arith, length-append p (x ∷ []))) i
 
 -- ---- tests of all places
 pub any_from : (f : ℕ × Node → ℕ × Place) (test : ℕ × Place → Bool) (es : List (ℕ × Node)) (e : ℕ × Node) → Contains es e → test (f e) ≡ true → list_any test (map f es) ≡ true
 any_from f test [] e c t = absurd (omega (arith, c.1))
 any_from f test (d ∷ es) e c t = by (any_from f test es e) (Contains-cons_cases d e es c)
   where
-    or_true : (b : Bool) → (b || true) ≡ true
-    or_true true = refl
-    or_true false = refl
-
     by : (Contains es e → test (f e) ≡ true → list_any test (map f es) ≡ true) → (d ≡ e) ⊎ Contains es e → (test (f d) || list_any test (map f es)) ≡ true
     by more (inl same) = ap (λ b. b || list_any test (map f es)) (ap (λ x. test (f x)) same ∙ t)
-    by more (inr later) = ap (λ b. test (f d) || b) (more later t) ∙ or_true (test (f d))
+    by more (inr later) = ap (λ b. test (f d) || b) (more later t) ∙ or-true (test (f d))
 
 pub from_any : (f : ℕ × Node → ℕ × Place) (test : ℕ × Place → Bool) (es : List (ℕ × Node)) → list_any test (map f es) ≡ true → (e : ℕ × Node) × Contains es e × (test (f e) ≡ true)
 from_any f test [] t = absurd (cc)
@@ -68,7 +51,7 @@ from_any f test (d ∷ es) t = by (from_any f test es) (test (f d)) refl t
     by more true is h = (d, (0, omega arith, refl), is)
     by more false is h = let e = more h in (e.0, Contains-cons d e.0 es e.1, e.2)
 
-module _ (naming : Naming) (nodes : Slab Node) (s : IsSound naming nodes) where
+module _ (naming : Naming) (nodes : Slab Node) (s : IsSoundTree naming nodes) where
   -- a live number has a link, but for the root
   pub link_is : (m : ℕ) → IsSome (kind_of nodes m) → (0 ≡ m → ⊥) → (a : ℕ) × (x : Name) × (link_of nodes m ≡ Some (a, x))
   link_is m live other = by (link_of nodes m) refl
@@ -93,7 +76,7 @@ module _ (naming : Naming) (nodes : Slab Node) (s : IsSound naming nodes) where
   linked_parent n k live alive t = by (cases_eq 0 k)
     where
       no_parent : (p : Names) → is_parent naming p [] ≡ true → ⊥
-      no_parent p e = absurd (omega (arith, equals 0 (length p + 1) (both_true (is_prefix naming p []) (0 == length p + 1) e).1))
+      no_parent p e = absurd (omega (arith, eqb-true 0 (length p + 1) (and_parts (is_prefix naming p []) (0 == length p + 1) e).1))
 
       root : path_of (link_of nodes) 0 ≡ []
       root = ap (λ o. option_map_or (λ (p : ℕ × Key). up_path 63 (link_of nodes) p.0 (p.1 ∷ [])) o []) (link_of-root nodes)

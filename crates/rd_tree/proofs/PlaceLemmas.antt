@@ -11,7 +11,7 @@ use Rattle.rd_dirinfo.specs.Paths.{Names, seen_path, parent, last_name}
 use Rattle.rd_tree.specs.declared.node.Node.{Node}
 use Rattle.rd_tree.specs.Walk.{onward, down, kind_at, path_of}
 use Rattle.rd_tree.specs.Places.{Place, place, path_at, node_at, is_folder, is_folder_at, kept_path, asked_path}
-use Rattle.rd_tree.specs.Nodes.{child_of, link_of, file_of, kind_of, node_bytes, placed, places_of, LacksFolder, Locates, IsSound}
+use Rattle.rd_tree.specs.Nodes.{child_of, link_of, file_of, kind_of, node_bytes, placed, places_of, LacksFolder, Locates, IsSoundTree}
 use Rattle.rd_tree.proofs.KeyLemmas.{down_on}
 use Rattle.rd_tree.proofs.ViewLemmas.{place_seen}
 use Rattle.rd_tree.proofs.WayLemmas.{node_found}
@@ -71,14 +71,14 @@ folder_kind naming nodes n = ap (option_map (λ (p : Place). not (is_some p.byte
     by None = refl
     by (Some b) = refl
 
-pub folder_seen : (naming : Naming) (nodes : Slab Node) → IsSound naming nodes → (path : Names) → is_folder_at (places_of naming nodes) path ≡ unwrap_or (kind_at (child_of nodes) (kind_of nodes) (seen_path naming path)) false
+pub folder_seen : (naming : Naming) (nodes : Slab Node) → IsSoundTree naming nodes → (path : Names) → is_folder_at (places_of naming nodes) path ≡ unwrap_or (kind_at (child_of nodes) (kind_of nodes) (seen_path naming path)) false
 folder_seen naming nodes s path =
     let kinds : is_folder (places_of naming nodes) ≡ kind_of nodes = λ i. λ n. (folder_kind naming nodes n) i in
     ap (λ (o : Option ℕ). unwrap_or (option_and_then (is_folder (places_of naming nodes)) o) false) (node_found naming nodes s path)
     ∙ ap (λ (f : ℕ → Option Bool). unwrap_or (option_and_then f (down (child_of nodes) 0 (seen_path naming path))) false) kinds
 
 -- where all names but the last lead to no folder, there is none
-pub lacks_folder : (naming : Naming) (nodes : Slab Node) → IsSound naming nodes → (names : Names) → LacksFolder naming nodes names → is_folder_at (places_of naming nodes) (parent names) ≡ false
+pub lacks_folder : (naming : Naming) (nodes : Slab Node) → IsSoundTree naming nodes → (names : Names) → LacksFolder naming nodes names → is_folder_at (places_of naming nodes) (parent names) ≡ false
 lacks_folder naming nodes s names lacks = folder_seen naming nodes s (parent names) ∙ none (kind_at (child_of nodes) (kind_of nodes) (seen_path naming (parent names))) lacks
   where
     none : (o : Option Bool) → (o ≡ Some true → ⊥) → unwrap_or o false ≡ false
@@ -99,7 +99,7 @@ last_from (x ∷ front) name o = last_from front name (Some x)
 pub last_of : (front : Names) (name : Name) → last_name (front ++ name ∷ []) ≡ name
 last_of front name = ap (λ (o : Option Name). unwrap_or o []) (last_from front name None)
 
-module _ (naming : Naming) (nodes : Slab Node) (s : IsSound naming nodes) (names : Names) (folder : ℕ) (name : Name) (l : Locates naming nodes names folder name) where
+module _ (naming : Naming) (nodes : Slab Node) (s : IsSoundTree naming nodes) (names : Names) (folder : ℕ) (name : Name) (l : Locates naming nodes names folder name) where
   pub parent_is : parent names ≡ l.front
   parent_is = ap parent l.split ∙ parent_of l.front name
 

@@ -8,20 +8,20 @@ use Rattle.rd_dirinfo.specs.Naming.{Name, seen}
 use Rattle.rd_tree.specs.declared.node.Node.{Node}
 use Rattle.rd_tree.specs.Walk.{Key, path_of}
 use Rattle.rd_tree.specs.Places.{without}
-use Rattle.rd_tree.specs.Nodes.{child_of, link_of, up_of, file_of, kind_of, placed, places_of, Removes, IsSound}
+use Rattle.rd_tree.specs.Nodes.{child_of, link_of, up_of, file_of, kind_of, placed, places_of, Removes, IsSoundTree}
 use Rattle.rd_tree.proofs.TreeLemmas.{none_some, sound_removed}
 use Rattle.rd_tree.proofs.NodeLemmas.{up_of-at, up_of-none, up_of-same, kind_of-same}
 use Rattle.rd_tree.proofs.ViewLemmas.{place_seen, placed_without}
 use Rattle.rd_tree.proofs.WayLemmas.{same_way, live_above}
 use Rattle.rd_tree.proofs.PlaceLemmas.{place_kept, live_file}
 
-module _ (naming : Naming) (old new : Slab Node) (s : IsSound naming old) (m a : ℕ) (x : Name) (link : link_of old m ≡ Some (a, x)) (bare : (y : Key) → child_of old m y ≡ None) (h : Removes old new a (seen naming x) m) where
+module _ (naming : Naming) (old new : Slab Node) (s : IsSoundTree naming old) (m a : ℕ) (x : Name) (link : link_of old m ≡ Some (a, x)) (bare : (y : Key) → child_of old m y ≡ None) (h : Removes old new a (seen naming x) m) where
   others : (n : ℕ) (y : Key) → ((n ≡ a) × (y ≡ seen naming x) → ⊥) → child_of new n y ≡ child_of old n y
   others n y apart = ⊎_elim
       (λ e. ap (λ k. child_of new k y) e ∙ h.bare y ∙ sym (bare y) ∙ ap (λ k. child_of old k y) (sym e))
       (λ other. h.others n y apart other) (cases_eq n m)
 
-  pub sound_taken : IsSound naming new
+  pub sound_taken : IsSoundTree naming new
   sound_taken = record {
     tree = sound_removed (child_of old) (up_of naming old) (kind_of old) s.tree (child_of new) (up_of naming new) (kind_of new) (path_of (up_of naming old) a) (seen naming x) a m
         (s.tree.rooted a (live_above naming old s m a x link)) (s.tree.back m a (seen naming x) (up_of-at naming old m a x link)) bare others h.gone

@@ -1,38 +1,37 @@
 -- A node that is another folder's child: the nodes are a tree still, and callers see it moved.
 use Rattle.std.proofs.Common.{◌≡◌, ◌∙◌, refl, sym, ap, subst, ℕ, ◌-◌, ◌≤◌, ◌==◌, ⊎_elim, Bool, true, false, not, ◌&&◌, ◌||◌, cond, List, [], ◌∷◌, ◌++◌, length, Option, Some, None, arith, append_assoc, length-append}
 use Rattle.std.proofs.lemmas.List.{length-map}
-use Rattle.std.proofs.lemmas.Bool.{cases_eq}
+use Rattle.std.proofs.lemmas.Bool.{cases_eq, eqb-true, false_from_ne_true}
 use Rattle.std.specs.Option.{option_map, option_map_or, option_and_then, unwrap_or, is_some, IsSome}
 use Rattle.slab.specs.Slab.{Slab}
 use Rattle.rd_dirinfo.specs.declared.naming.Naming.{Naming}
 use Rattle.rd_dirinfo.specs.Naming.{Name, seen}
 use Rattle.rd_dirinfo.specs.Paths.{Names, is_name, seen_path}
 use Rattle.rd_tree.specs.declared.node.Node.{Node}
-use Rattle.rd_tree.specs.Walk.{Key, Keys, onward, down, path_of, Starts, LeadsThrough, Fits, added_units}
+use Rattle.rd_tree.specs.Walk.{Key, Keys, onward, down, path_of, Starts, LeadsThrough, FitsWithin, added_units}
 use Rattle.rd_tree.specs.Places.{without, moved}
-use Rattle.rd_tree.specs.Nodes.{child_of, link_of, up_of, kind_of, places_of, Locates, Shifts, IsSound}
+use Rattle.rd_tree.specs.Nodes.{child_of, link_of, up_of, kind_of, places_of, Locates, Shifts, IsSoundTree}
 use Rattle.rd_tree.proofs.KeyLemmas.{one_path, down_on, Edge}
 use Rattle.rd_tree.proofs.TreeLemmas.{not_some, none_some, inside, sound_moved}
 use Rattle.rd_tree.proofs.NodeLemmas.{up_of-at, up_of-none, up_of-same, kind_of-same}
 use Rattle.rd_tree.proofs.WayLemmas.{live_above, node_found}
 use Rattle.rd_tree.proofs.PlaceLemmas.{located_node, keys_split}
-use Rattle.rd_tree.proofs.ParentLemmas.{equals}
-use Rattle.rd_tree.proofs.RefuseLemmas.{bool_false, there}
+use Rattle.rd_tree.proofs.RefuseLemmas.{there}
 use Rattle.rd_tree.proofs.MoveLemmas.{less, is_gone, moved_seen}
 
-module _ (naming : Naming) (old : Slab Node) (s : IsSound naming old) (m a : ℕ) (x : Name) (live : IsSome (kind_of old m)) (link : link_of old m ≡ Some (a, x)) (to : Names) (b : ℕ) (y : Name) (l : Locates naming old to b y) (target : Option ℕ)
+module _ (naming : Naming) (old : Slab Node) (s : IsSoundTree naming old) (m a : ℕ) (x : Name) (live : IsSome (kind_of old m)) (link : link_of old m ≡ Some (a, x)) (to : Names) (b : ℕ) (y : Name) (l : Locates naming old to b y) (target : Option ℕ)
     (is_target : target ≡ down (child_of old) 0 (seen_path naming to)) (other : down (child_of old) 0 (seen_path naming to) ≡ Some m → ⊥) (past : LeadsThrough (child_of old) 0 m (seen_path naming to) → ⊥) (few : length to ≤ 64)
-    (fits : Fits (child_of old) m (64 - length to) (4097 - added_units to)) (replace : Bool) (free : (is_some target && (not replace || unwrap_or (option_and_then (kind_of old) target) false)) ≡ false) where
+    (fits : FitsWithin (child_of old) m (64 - length to) (4097 - added_units to)) (replace : Bool) (free : (is_some target && (not replace || unwrap_or (option_and_then (kind_of old) target) false)) ≡ false) where
   at_target : target ≡ child_of old b (seen naming y)
   at_target = is_target ∙ sym (node_found naming old s to) ∙ located_node naming old s to b y l
 
   edge : child_of old a (seen naming x) ≡ Some m
   edge = s.tree.back m a (seen naming x) (up_of-at naming old m a x link)
 
-  pub elsewhere : (b ≡ a) × (seen naming y ≡ seen naming x) → ⊥
+  elsewhere : (b ≡ a) × (seen naming y ≡ seen naming x) → ⊥
   elsewhere e = other (sym is_target ∙ at_target ∙ ap (λ k. child_of old k (seen naming y)) e.0 ∙ ap (child_of old a) e.1 ∙ edge)
 
-  pub not_itself : target ≡ Some m → ⊥
+  not_itself : target ≡ Some m → ⊥
   not_itself e = other (sym is_target ∙ e)
 
   is_file : (t : ℕ) → target ≡ Some t → kind_of old t ≡ Some false
@@ -47,7 +46,7 @@ module _ (naming : Naming) (old : Slab Node) (s : IsSound naming old) (m a : ℕ
       by (Some true) k alive = absurd (taken replace (sym (ap (λ (o : Option Bool). not replace || unwrap_or o false) k) ∙ sym (ap (λ (o : Option ℕ). is_some o && (not replace || unwrap_or (option_and_then (kind_of old) o) false)) e) ∙ free))
       by (Some false) k alive = k
 
-  pub not_parent : target ≡ Some b → ⊥
+  not_parent : target ≡ Some b → ⊥
   not_parent e = two (sym (is_file b e) ∙ l.is_folder)
     where
       two : Some false ≡ Some true → ⊥
@@ -67,7 +66,7 @@ module _ (naming : Naming) (old : Slab Node) (s : IsSound naming old) (m a : ℕ
     gone : (k : ℕ) → target ≡ Some k → kind_of new k ≡ None
     gone k g = ap (option_map (λ (bytes : Option (List ℕ)). not (is_some bytes))) (h.steps.dead k g)
 
-    pub sound_shifted : IsSound naming new
+    sound_shifted : IsSoundTree naming new
     sound_shifted = record {
       tree = sound_moved (child_of old) (up_of naming old) (kind_of old) s.tree (child_of new) (up_of naming new) (kind_of new) (path_of (up_of naming old) a) (seen_path naming l.front) (seen naming x) (seen naming y) a b m
           (s.tree.rooted a (live_above naming old s m a x link)) edge l.at l.is_folder (λ w. outside (w.0, w.1 ∙ ap (λ (p : Keys). p ++ w.0) (sym own_way))) elsewhere (λ t e. is_file t (at_target ∙ e))
@@ -85,10 +84,15 @@ module _ (naming : Naming) (old : Slab Node) (s : IsSound naming old) (m a : ℕ
           (λ stays. s.small n (subst (λ (o : Option Bool). IsSome o) (kind_of-same old new n (h.steps.files n stays)) alive)) (is_gone target n);
     }
 
-    pub shifted_seen : places_of naming new ≡ moved (places_of naming old) m to
+    shifted_seen : places_of naming new ≡ moved (places_of naming old) m to
     shifted_seen = moved_seen naming old new s sound_shifted m live to b y l target h.steps (λ k z g. s.tree.files k z (is_file k g)) not_parent outside
         (ap (λ o. option_map_or (λ t. cond (t == m) (places_of naming old) (without (places_of naming old) t)) o (places_of naming old)) (node_found naming old s to ∙ sym is_target) ∙ by target not_itself)
       where
         by : (o : Option ℕ) → (o ≡ Some m → ⊥) → option_map_or (λ t. cond (t == m) (places_of naming old) (without (places_of naming old) t)) o (places_of naming old) ≡ less (places_of naming old) o
         by None apart = refl
-        by (Some t) apart = ap (λ v. cond v (places_of naming old) (without (places_of naming old) t)) (bool_false (t == m) (λ e. apart (ap Some (equals t m e))))
+        by (Some t) apart = ap (λ v. cond v (places_of naming old) (without (places_of naming old) t)) (false_from_ne_true (t == m) (λ e. apart (ap Some (eqb-true t m e))))
+
+  -- where a shift is asked for so, its nodes are sound, and callers see the node moved
+  pub shifted : (new : Slab Node) → (((b ≡ a) × (seen naming y ≡ seen naming x) → ⊥) → (target ≡ Some m → ⊥) → (target ≡ Some b → ⊥) → Shifts naming old new m a x b y target)
+      → IsSoundTree naming new × (places_of naming new ≡ moved (places_of naming old) m to)
+  shifted new shifts = let h = shifts elsewhere not_itself not_parent in (sound_shifted new h, shifted_seen new h)

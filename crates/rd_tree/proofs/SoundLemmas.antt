@@ -8,13 +8,13 @@ use Rattle.rd_dirinfo.specs.declared.naming.Naming.{Naming}
 use Rattle.rd_tree.specs.declared.node.Node.{Node}
 use Rattle.rd_tree.specs.Walk.{Key, Keys, Up, down, up_path, path_of}
 use Rattle.rd_tree.specs.Places.{Place, root_alone}
-use Rattle.rd_tree.specs.Nodes.{child_of, link_of, up_of, file_of, kind_of, node_bytes, get_key, placed, places_of, IsSound}
+use Rattle.rd_tree.specs.Nodes.{child_of, link_of, up_of, file_of, kind_of, node_bytes, get_key, placed, places_of, IsSoundTree}
 use Rattle.rd_tree.proofs.NodeLemmas.{child_of-at, child_of-none, link_of-none, link_of-root, up_of-none, up_of-same, kind_of-at, kind_of-none, file_of-at, file_of-none}
 use Rattle.rd_tree.proofs.TreeLemmas.{not_some, none_some, sound_same}
 use Rattle.rd_tree.proofs.ViewLemmas.{place_seen, seen_sorted, naming_seen, same_places, apart}
 
 -- ---- each edge, link and kind is as before
-pub sound_kept : (naming : Naming) (old new : Slab Node) → IsSound naming old → ((n : ℕ) (x : Key) → child_of new n x ≡ child_of old n x) → ((n : ℕ) → link_of new n ≡ link_of old n) → ((n : ℕ) → kind_of new n ≡ kind_of old n) → IsSound naming new
+pub sound_kept : (naming : Naming) (old new : Slab Node) → IsSoundTree naming old → ((n : ℕ) (x : Key) → child_of new n x ≡ child_of old n x) → ((n : ℕ) → link_of new n ≡ link_of old n) → ((n : ℕ) → kind_of new n ≡ kind_of old n) → IsSoundTree naming new
 sound_kept naming old new s children links kinds = record {
   tree = sound_same (child_of old) (child_of new) (up_of naming old) (up_of naming new) (kind_of old) (kind_of new) s.tree children (λ n. up_of-same naming old new n (links n)) kinds;
   names = λ n a x e. s.names n a x (sym (links n) ∙ e);
@@ -47,7 +47,7 @@ module _ (naming : Naming) (nodes : Slab Node) (node : Node) (is : get nodes 0 �
   only : (n : ℕ) → IsSome (kind_of nodes n) → n ≡ 0
   only n live = ⊎_elim (λ e. e) (λ not. absurd (not_some (kind_of nodes n) (kind_of-none nodes n (alone n not)) live)) (cases_eq n 0)
 
-  pub sound_alone : IsSound naming nodes
+  pub sound_alone : IsSoundTree naming nodes
   sound_alone = record {
     tree = record {
       agrees = record { root = no_up 0; links = λ a x m found. absurd (lost m (child_of nodes a x) (no_child a x) found) };

@@ -3,7 +3,7 @@ use Rattle.std.proofs.Common.{◌≡◌, ◌∙◌, refl, sym, ap, subst, ℕ, z
 use Rattle.std.specs.Option.{option_map_or, IsSome}
 use Rattle.std.proofs.lemmas.Bool.{cases_eq}
 use Rattle.std.proofs.lemmas.List.{append-nil}
-use Rattle.rd_tree.specs.Walk.{Key, Keys, Child, Up, onward, down, up_path, path_of, Starts, Agrees, IsTree}
+use Rattle.rd_tree.specs.Walk.{Key, Keys, Child, Up, onward, down, up_path, path_of, Starts, LinksAgree, IsTree}
 use Rattle.rd_tree.proofs.KeyLemmas.{same_key, starts, down_on, down_lost, path_found, Edge, added, removed, moved_to, moved_others}
 
 -- two edges are one, or not
@@ -24,7 +24,7 @@ pub length-path_of : (up : Up) (n : ℕ) → length (path_of up n) ≤ 64
 length-path_of up n = omega (arith, length-up_path up 64 n [])
 
 -- the way to a node leads there if some way of at most 64 keys does
-pub rooted_by : (child : Child) (up : Up) → Agrees child up → (p : Keys) (m : ℕ) → down child 0 p ≡ Some m → length p ≤ 64 → down child 0 (path_of up m) ≡ Some m
+pub rooted_by : (child : Child) (up : Up) → LinksAgree child up → (p : Keys) (m : ℕ) → down child 0 p ≡ Some m → length p ≤ 64 → down child 0 (path_of up m) ≡ Some m
 rooted_by child up agrees p m is short = ap (down child 0) (path_found child up agrees p m 64 is short) ∙ is
 
 pub some_is : {T : Type 0} (o : Option T) (x : T) → o ≡ Some x → IsSome o
@@ -50,7 +50,7 @@ module _ (child : Child) (up : Up) (kind : ℕ → Option Bool) (tree : IsTree c
   sound_added new links kinds front x n m folder at short is_folder free fresh same is sames link kinds_same made bare =
       let live : (k : ℕ) → IsSome (kind k) → k ≡ m → ⊥ = λ k h e. not_some (kind m) fresh (subst (λ (j : ℕ). IsSome (kind j)) e h) in
       let top : 0 ≡ m → ⊥ = live 0 (some_is (kind 0) true tree.root) in
-      let agrees : Agrees new links = record {
+      let agrees : LinksAgree new links = record {
         root = sames 0 top ∙ tree.agrees.root;
         links = λ a y j found. ⊎_elim
             (λ e. let j_is : j ≡ m = let there : Some j ≡ Some m = sym found ∙ ap (λ k. new k y) e.0 ∙ ap (λ z. new n z) e.1 ∙ is in cc in
@@ -100,7 +100,7 @@ module _ (child : Child) (up : Up) (kind : ℕ → Option Bool) (tree : IsTree c
       let edge : up m ≡ Some (n, x) = tree.agrees.links n x m is in
       let top : 0 ≡ m → ⊥ = λ e. let both : None ≡ Some (n, x) = sym tree.agrees.root ∙ ap up e ∙ edge in absurd (cc) in
       let here : down child 0 (front ++ x ∷ []) ≡ Some m = down_on child 0 n front (x ∷ []) at ∙ ap (λ o. onward o (λ k. Some k)) is in
-      let agrees : Agrees new links = record {
+      let agrees : LinksAgree new links = record {
         root = sames 0 top ∙ tree.agrees.root;
         links = λ a y j found. ⊎_elim
             (λ e. let both : None ≡ Some j = sym gone ∙ sym (ap (λ k. new k y) e.0 ∙ ap (λ z. new n z) e.1) ∙ found in absurd (cc))
@@ -161,7 +161,7 @@ module _ (child : Child) (up : Up) (kind : ℕ → Option Bool) (tree : IsTree c
         (λ e. let both : Some j ≡ Some m = sym old ∙ ap (λ k. child k z) e.0 ∙ ap (λ w. child n w) e.1 ∙ is in not (cc))
         (λ e. stays (sym (ap (λ k. child k z) e.0 ∙ ap (λ w. child b w) e.1) ∙ old)) ∙ old
 
-    moved_agrees : Agrees new links
+    moved_agrees : LinksAgree new links
     moved_agrees = record {
       root = sames 0 top_stays.1 top_stays.0 ∙ tree.agrees.root;
       links = λ a z j found. ⊎_elim

@@ -4,10 +4,11 @@ use Rattle.std.specs.Prelude.{T}
 use Rattle.std.specs.Option.{option_map}
 use Rattle.std.specs.Ordering.{nat_cmp, is_lt, eq_by_cmp}
 use Rattle.std.specs.FinMap.{find, is_sorted, nat_cmp-IsAntisymmetric}
-use Rattle.std.specs.FinMap.Entries.{below_all, same_entries, is_sorted-put, find-put, is_sorted-where_key, find-where_key}
+use Rattle.std.specs.FinMap.Entries.{below_all, same_entries, is_sorted-put, find-put, is_sorted-where_key}
 use Rattle.std.proofs.lemmas.Cmp.{nat_cmp_total}
 use Rattle.std.proofs.lemmas.Bool.{cases_eq}
 use Rattle.std.proofs.lemmas.Bool.Decides.{nat_tests}
+use Rattle.rd_tree.proofs.WithoutLemmas.{place_without}
 use Rattle.slab.specs.Slab.{Slab, get, entries_from}
 use Rattle.rd_dirinfo.specs.declared.naming.Naming.{Naming}
 use Rattle.rd_tree.specs.declared.node.Node.{Node}
@@ -105,7 +106,7 @@ pub placed_without : (naming : Naming) (old new : Slab Node) (n : ℕ) → place
 placed_without naming old new n gone others =
     same_places (places_of naming new) (without (places_of naming old) n) (seen_sorted naming new) (is_sorted-where_key nat_cmp (λ k. not (eq_by_cmp nat_cmp n k)) (places_of naming old).list (seen_sorted naming old))
     (naming_seen naming new ∙ sym (naming_seen naming old))
-    (λ k. by k (cases_eq k n) ∙ sym (find-where_key nat_cmp (λ k. not (eq_by_cmp nat_cmp n k)) k (λ x e. ap (λ j. not (eq_by_cmp nat_cmp n j)) (sym (nat_cmp-IsAntisymmetric k x e))) (places_of naming old).list))
+    (λ k. by k (cases_eq k n) ∙ sym (place_without (places_of naming old) n k))
   where
     by : (k : ℕ) → (k ≡ n) ⊎ (k ≡ n → ⊥) → place (places_of naming new) k ≡ cond (not (eq_by_cmp nat_cmp n k)) (place (places_of naming old) k) None
     by k (inl e) = ap (place (places_of naming new)) e ∙ gone ∙ sym (ap (λ b. cond (not b) (place (places_of naming old) k) None) (ap (eq_by_cmp nat_cmp n) e ∙ itself n))

@@ -15,7 +15,7 @@ use Rattle.rd_dirinfo.proofs.NamingLemmas.{equal_is_same_path}
 use Rattle.rd_tree.specs.declared.node.Node.{Node}
 use Rattle.rd_tree.specs.Walk.{Key, Keys, Child, Up, onward, down, up_path, path_of, IsTree}
 use Rattle.rd_tree.specs.Places.{Place, first_at, node_at}
-use Rattle.rd_tree.specs.Nodes.{child_of, link_of, up_of, kind_of, node_bytes, placed, places_of, IsSound}
+use Rattle.rd_tree.specs.Nodes.{child_of, link_of, up_of, kind_of, node_bytes, placed, places_of, IsSoundTree}
 use Rattle.rd_tree.proofs.KeyLemmas.{one_path, path_found, down_on}
 use Rattle.rd_tree.proofs.TreeLemmas.{some_is, not_some, length-path_of}
 use Rattle.rd_tree.proofs.NodeLemmas.{kind_of-at, kind_of-none, up_of-at, child_of-none}
@@ -90,7 +90,7 @@ true_same naming p q t = (equal_is_same_path naming p q).0 (by (path_cmp naming 
     by Greater e = absurd (cc)
 
 -- the node at a path is the one that its keys lead to
-pub node_found : (naming : Naming) (nodes : Slab Node) → IsSound naming nodes → (path : Names) → node_at (places_of naming nodes) path ≡ down (child_of nodes) 0 (seen_path naming path)
+pub node_found : (naming : Naming) (nodes : Slab Node) → IsSoundTree naming nodes → (path : Names) → node_at (places_of naming nodes) path ≡ down (child_of nodes) 0 (seen_path naming path)
 unfolding places_of
 node_found naming nodes s path = first_is naming path (λ k node. placed (link_of nodes) k (node_bytes node)) (down (child_of nodes) 0 (seen_path naming path)) (entries nodes) at from
   where
@@ -151,7 +151,7 @@ no_child nodes n x dead = by (get nodes n) refl
     by None is = child_of-none nodes n x is
     by (Some node) is = let both : None ≡ Some node.folder = sym dead ∙ kind_of-at nodes n node is in absurd (cc)
 
-module _ (naming : Naming) (nodes : Slab Node) (s : IsSound naming nodes) where
+module _ (naming : Naming) (nodes : Slab Node) (s : IsSoundTree naming nodes) where
   pub live_above : (k a : ℕ) (x : Key) → link_of nodes k ≡ Some (a, x) → IsSome (kind_of nodes a)
   live_above k a x link = by (kind_of nodes a) refl
     where

@@ -8,7 +8,7 @@ use Rattle.rd_dirinfo.specs.Paths.{Names, is_name, last_name, seen_path, parent,
 use Rattle.rd_tree.specs.declared.node.Node.{Node}
 use Rattle.rd_tree.specs.Walk.{Key, down, up_path, path_of}
 use Rattle.rd_tree.specs.Places.{own_path, is_folder_at, IsLive, IsWhole}
-use Rattle.rd_tree.specs.Nodes.{child_of, link_of, up_of, file_of, kind_of, placed, places_of, IsSound}
+use Rattle.rd_tree.specs.Nodes.{child_of, link_of, up_of, file_of, kind_of, placed, places_of, IsSoundTree}
 use Rattle.rd_tree.proofs.KeyLemmas.{one_path}
 use Rattle.rd_tree.proofs.TreeLemmas.{not_some}
 use Rattle.rd_tree.proofs.NodeLemmas.{link_of-root, up_of-at}
@@ -28,7 +28,7 @@ is_true : (b : Bool) → T b → b ≡ true
 is_true true t = refl
 is_true false t = absurd t
 
-module _ (naming : Naming) (nodes : Slab Node) (s : IsSound naming nodes) where
+module _ (naming : Naming) (nodes : Slab Node) (s : IsSoundTree naming nodes) where
   -- no way leads to the root but the one without names
   pub root_alone_at : (path : Names) → down (child_of nodes) 0 (seen_path naming path) ≡ Some 0 → path ≡ []
   root_alone_at path is = no_keys naming path (one_path (child_of nodes) (up_of naming nodes) s.tree.agrees (seen_path naming path) [] 0 is refl)

@@ -56,7 +56,7 @@ unfoldable pub places_of : Naming → Slab Node → Places
 places_of naming nodes = record { naming = naming; list = map (λ e. (e.0, placed (link_of nodes) e.0 (node_bytes e.1))) (entries nodes) }
 
 -- what holds between calls: the nodes are a tree by the keys of their names, the names are names, and the numbers fit 32 bits
-pub record IsSound (naming : Naming) (nodes : Slab Node) : Type 0 where
+pub record IsSoundTree (naming : Naming) (nodes : Slab Node) : Type 0 where
   pub tree : IsTree (child_of nodes) (up_of naming nodes) (kind_of nodes)
   pub names : (n a : ℕ) (x : Name) → link_of nodes n ≡ Some (a, x) → is_name x ≡ true
   pub small : (n : ℕ) → IsSome (kind_of nodes n) → n < 2 ^ 32

@@ -5,6 +5,7 @@ use Rattle.std.specs.Option.{IsSome, is_some, option_map, option_map_or, option_
 use Rattle.std.specs.Ordering.{nat_cmp, eq_by_cmp, is_lt}
 use Rattle.std.specs.FinMap.{find, put, is_sorted}
 use Rattle.std.specs.FinMap.Entries.{where_key}
+use Rattle.rd_base.specs.Limits.{max_nodes}
 use Rattle.rd_tree.specs.declared.refusal.AddNo.{AddNo}
 use Rattle.rd_tree.specs.declared.refusal.AddNo.TheVariants as add
 use Rattle.rd_tree.specs.declared.refusal.MoveNo.{MoveNo}
@@ -119,17 +120,13 @@ pub record IsWhole (tree : Places) : Type 0 where
 
 -- ---- adding
 
--- the most nodes of a tree
-abbrev pub most_nodes : ℕ
-most_nodes = 65536
-
 -- why nothing can be added at a path: it is the root's; no folder is at its parent; a node is there; or there is no room for one more
 abbrev pub add_refusal : Places → Names → Option AddNo
 add_refusal tree [] = Some add.Collision
 add_refusal tree (name ∷ names) =
     if not (is_folder_at tree (parent (name ∷ names))) then Some add.PathNotFound
     else (if is_some (node_at tree (name ∷ names)) then Some add.Collision
-    else (if nat_le most_nodes (length tree.list) then Some add.Full
+    else (if nat_le max_nodes (length tree.list) then Some add.Full
     else None))
 
 -- a new folder, or an empty file
@@ -191,13 +188,13 @@ abbrev pub child_names : Places → ℕ → List Name
 child_names tree n = map (λ (e : ℕ × Place). last_name e.1.path) (filter (λ (e : ℕ × Place). is_parent tree.naming (own_path tree n) e.1.path) tree.list)
 
 -- the first of two names in the order of a naming
-abbrev pub first_of : Naming → Name → Name → Name
-first_of naming x y = if is_lt (name_cmp naming y x) then y else x
+abbrev pub first_name : Naming → Name → Name → Name
+first_name naming x y = if is_lt (name_cmp naming y x) then y else x
 
 -- the first of some names
 abbrev pub least : Naming → List Name → Option Name
 least naming [] = None
-least naming (x ∷ xs) = Some (option_map_or (first_of naming x) (least naming xs) x)
+least naming (x ∷ xs) = Some (option_map_or (first_name naming x) (least naming xs) x)
 
 -- the first name of a child that is wanted
 abbrev pub next_name : Places → ℕ → Option Name → List ℕ → Option Name

@@ -45,13 +45,13 @@ abbrev pub Starts : Keys → Keys → Type 0
 Starts front path = (rest : Keys) × (path ≡ front ++ rest)
 
 -- Each edge has its link back, and the root, 0, has none.
-pub record Agrees (child : Child) (up : Up) : Type 0 where
+pub record LinksAgree (child : Child) (up : Up) : Type 0 where
   pub root : up 0 ≡ None
   pub links : (a : ℕ) (x : Key) (m : ℕ) → child a x ≡ Some m → up m ≡ Some (a, x)
 
 -- Three functions are a tree: the edges down, the links back, and which numbers are live, a folder's or a file's.
 pub record IsTree (child : Child) (up : Up) (kind : ℕ → Option Bool) : Type 0 where
-  pub agrees : Agrees child up
+  pub agrees : LinksAgree child up
   pub root : kind 0 ≡ Some true
   -- each link back has its edge, and is that of a live number
   pub back : (m a : ℕ) (x : Key) → up m ≡ Some (a, x) → child a x ≡ Some m
@@ -74,8 +74,8 @@ added_units [] = 0
 added_units (x ∷ path) = length x + 1 + added_units path
 
 -- no way down from a node has more keys, or adds more units, than there is room for
-abbrev pub Fits : Child → ℕ → ℕ → ℕ → Type 0
-Fits child n names units = (q : Keys) (j : ℕ) → down child n q ≡ Some j → (length q ≤ names) × (added_units q ≤ units)
+abbrev pub FitsWithin : Child → ℕ → ℕ → ℕ → Type 0
+FitsWithin child n names units = (q : Keys) (j : ℕ) → down child n q ≡ Some j → (length q ≤ names) × (added_units q ≤ units)
 
 -- some way down does
 abbrev pub IsDeep : Child → ℕ → ℕ → ℕ → Type 0

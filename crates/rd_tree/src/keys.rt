@@ -6,7 +6,7 @@ ghost use Rattle.rd_dirinfo.specs.Naming.{folding, seen};
 use rd_dirinfo::Naming;
 use std::alloc::{AllocError, Global};
 
-/// The folding of a name, at the front of a buffer.
+/// The folding of a name, at the start of a buffer.
 pub fn fold_into(name: &[u16], buffer: &mut [u16])
     requires { length name.now ≤ length buffer.old }
     ensures { take (length name.now) buffer.new ≡ folding name.now }

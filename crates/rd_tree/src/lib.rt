@@ -20,6 +20,6 @@ mod tree;
 pub use laws::{
     adding_is_as_listed, finding_is_as_listed, listing_is_as_listed, renaming_is_as_listed,
 };
-pub use node::NodeId;
+pub use node::{Found, NodeId};
 pub use refusal::{AddNo, MoveNo, NotEmpty};
 pub use tree::{MAX_NODES, Tree};

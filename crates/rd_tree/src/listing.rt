@@ -5,7 +5,7 @@ ghost use Rattle.std.specs.Option.{option_map};
 ghost use Rattle.std.specs.List.{filter};
 ghost use Rattle.std.specs.List.Sorted.{IsStrictlySortedBy};
 ghost use Rattle.std.specs.Map.{keys_of};
-ghost use Rattle.rd_tree.specs.Nodes.{key_cmp, kind_of, places_of, IsSound};
+ghost use Rattle.rd_tree.specs.Nodes.{key_cmp, kind_of, places_of, IsSoundTree};
 ghost use Rattle.rd_dirinfo.specs.Naming.{seen};
 ghost use Rattle.rd_dirinfo.specs.Patterns.{is_wanted};
 ghost use Rattle.rd_tree.specs.Places.{next_name};
@@ -100,7 +100,7 @@ pub fn next_name<'a>(
     after: Option<&Units>,
     pattern: &Pattern,
 ) -> Option<&'a Units>
-    requires sound { IsSound naming nodes.now }
+    requires sound { IsSoundTree naming nodes.now }
     requires live { IsSome (kind_of nodes.now folder) }
     ensures { option_map (λ name. name.now) result ≡ next_name (places_of naming nodes.now) folder (option_map (λ other. other.now) after.entry) pattern.now }
 {

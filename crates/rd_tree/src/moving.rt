@@ -5,7 +5,7 @@ ghost use Rattle.std.specs.Option.{is_some, IsSome, option_and_then, unwrap_or};
 ghost use Rattle.std.specs.List.{list_all};
 ghost use Rattle.rd_dirinfo.specs.Naming.{Name, seen};
 ghost use Rattle.rd_dirinfo.specs.Paths.{is_name, seen_path};
-ghost use Rattle.rd_tree.specs.Walk.{Key, LeadsThrough, Fits, IsDeep, added_units};
+ghost use Rattle.rd_tree.specs.Walk.{Key, LeadsThrough, FitsWithin, IsDeep, added_units};
 ghost use Rattle.rd_tree.specs.Nodes.{child_of, file_of, kind_of, link_of, Retitles, SameNodes, Shifts};
 
 use crate::keys::key_of;
@@ -50,7 +50,7 @@ pub fn units_left(names: &[Units]) -> usize
 
 /// Whether no way down from a node has more names, or adds more units, than there is room for.
 pub fn fits(nodes: &Slab<Node>, node: usize, names: usize, units: usize) -> bool
-    ensures fits { result ≡ true → Fits (child_of nodes.now) node names units }
+    ensures fits { result ≡ true → FitsWithin (child_of nodes.now) node names units }
     ensures deep { result ≡ false → IsDeep (child_of nodes.now) node names units }
 {
     let Some(folder) = nodes.get(node) else {

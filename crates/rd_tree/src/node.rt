@@ -8,6 +8,15 @@ use std::collections::BTreeMap;
 #[derive(Clone, Copy, Debug, PartialEq, Eq)]
 pub struct NodeId(pub u32);
 
+/// Where a path leads.
+#[derive(Clone, Copy)]
+pub struct Found {
+    /// The folder in which its last name stands, if one is there; of the root's path the root itself.
+    pub folder: Option<NodeId>,
+    /// The node at it.
+    pub node: Option<NodeId>,
+}
+
 /// A file or a folder. A file has no children, and a folder no bytes.
 #[derive(Drop)]
 pub struct Node {

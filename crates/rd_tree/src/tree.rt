@@ -1,7 +1,7 @@
 //! The tree.
 
-ghost use Rattle.std.specs.Prelude.{◌≡◌, ◌≢◌, ◌↔◌, ◌<◌, ◌≤◌, ℕ, [], ◌∷◌, ◌++◌, length, IsTrue, true, false, Some, Err, IfSome, IfNone, IfOk, IfErr, OnOk, OnErr};
-ghost use Rattle.std.specs.Option.{option_map, unwrap_or};
+ghost use Rattle.std.specs.Prelude.{◌≡◌, ◌≢◌, ◌↔◌, ◌<◌, ◌≤◌, ◌^◌, ℕ, [], ◌∷◌, ◌++◌, length, not, IsTrue, true, false, Some, None, Err, IfSome, IfNone, IfOk, IfErr, OnOk, OnErr};
+ghost use Rattle.std.specs.Option.{option_map, unwrap_or, is_some};
 ghost use Rattle.rd_dirinfo.specs.Paths.{is_name, last_name, parent};
 ghost use Rattle.rd_contents.specs.Contents.{part, written, resized, max_len, EndsTooFar};
 ghost use Rattle.rd_contents.specs.declared.contents.SizeNo.TheVariants as SizeNo;
@@ -10,7 +10,7 @@ ghost use Rattle.rd_tree.specs.Places.{add_refusal, node_at, Adds, bytes_at, fil
 
 use crate::listing::next_name;
 use crate::moving::{fits, is_taken, leads_through, retitle, shift, units_left};
-use crate::node::{Node, NodeId};
+use crate::node::{Found, Node, NodeId};
 use crate::nodes::{ROOT, child, find, has_child, insert, locate, take_out};
 use crate::refusal::{AddNo, MoveNo, NotEmpty};
 use rd_base::{Bytes, Units};
@@ -37,17 +37,29 @@ impl Model for Tree {
 
     ghost Value = { Places };
 
-    ghost use Rattle.rd_tree.specs.Nodes.{places_of, IsSound};
+    ghost use Rattle.rd_tree.specs.Nodes.{places_of, IsSoundTree};
 
     ghost view = { λ t. places_of t.naming t.nodes };
 
-    ghost invariant = { λ t. IsSound t.naming t.nodes };
+    ghost invariant = { λ t. IsSoundTree t.naming t.nodes };
+}
+
+/// A number that was found, which fits 32 bits.
+fn numbered(found: Option<usize>) -> Option<NodeId>
+    requires { IfSome found (λ n. n < 2 ^ 32) }
+    ensures { option_map (λ node. node.0) result ≡ found }
+{
+    match found {
+        Some(node) => Some(NodeId(node as u32)),
+        None => None,
+    }
 }
 
 impl Tree {
     /// The root alone.
     pub fn new(alloc: Global, naming: Naming) -> Result<Self, AllocError>
-        ensures { IfOk result (λ tree. tree ≡ root_alone naming) }
+        ensures made { IfOk result (λ tree. tree ≡ root_alone naming) }
+        ensures is_whole { IfOk result (λ tree. IsWhole tree) }
     {
         let mut nodes = Slab::new(alloc);
         nodes.insert(Node {
@@ -64,39 +76,55 @@ impl Tree {
         })
     }
 
-    /// What every tree is, whatever made it: its paths differ and lead from the root through folders. It does nothing, and is called for
-    /// what it promises.
-    pub fn whole(&self)
-        ensures { IsWhole self.now }
-    {
-        let _ = &self.nodes;
-    }
-
     /// The node at a path.
     pub fn find(&self, path: &Path) -> Option<NodeId>
         ensures found { option_map (λ node. node.0) result ≡ node_at self.now path.now }
         ensures live { IfSome result (λ node. IsLive self.now node.0) }
         ensures root { IfSome result (λ node. 0 ≡ node.0 → path.now ≡ []) }
     {
-        match find(&self.nodes, self.naming, path.names()) {
-            Some(node) => Some(NodeId(node as u32)),
-            None => None,
-        }
+        numbered(find(&self.nodes, self.naming, path.names()))
     }
 
-    /// The folder in which the last name of a path stands, if one is there; of the root's path the root itself.
-    pub fn folder_of(&self, path: &Path) -> Option<NodeId>
-        ensures found { option_map (λ node. node.0) result ≡ folder_of self.now path.now }
-        ensures live { IfSome result (λ node. IsLive self.now node.0) }
+    /// The folder and the node that a path leads to, by one way down.
+    pub fn look(&self, path: &Path) -> Found
+        ensures folder { option_map (λ folder. folder.0) result.folder ≡ folder_of self.now path.now }
+        ensures node { option_map (λ node. node.0) result.node ≡ node_at self.now path.now }
+        ensures folder_live { IfSome result.folder (λ folder. IsLive self.now folder.0) }
+        ensures node_live { IfSome result.node (λ node. IsLive self.now node.0) }
+        ensures lost { IfNone result.folder (add_refusal self.now path.now ≡ Some AddNo.PathNotFound) }
     {
         let nodes = &self.nodes;
         let names = path.names();
         if names.is_empty() {
-            return Some(NodeId(ROOT as u32));
+            let root = NodeId(ROOT as u32);
+            return Found {
+                folder: Some(root),
+                node: Some(root),
+            };
         }
-        match locate(nodes, self.naming, names) {
-            Some((folder, _)) => Some(NodeId(folder as u32)),
-            None => None,
+        let Some((folder, name)) = locate(nodes, self.naming, names) else {
+            return Found {
+                folder: None,
+                node: None,
+            };
+        };
+        Found {
+            folder: Some(NodeId(folder as u32)),
+            node: numbered(child(nodes, self.naming, folder, name)),
+        }
+    }
+
+    /// The folder in which a node may be added at a path, but for want of room.
+    pub fn free(&self, path: &Path) -> Result<NodeId, AddNo>
+        ensures folder { IfOk result (λ folder. folder_of self.now path.now ≡ Some folder.0) }
+        ensures free { OnOk result (node_at self.now path.now ≡ None) }
+        ensures refused { IfErr result (λ no. add_refusal self.now path.now ≡ Some no) }
+    {
+        let found = self.look(path);
+        match found.folder {
+            Some(folder) if found.node.is_none() => Ok(folder),
+            Some(_) => Err(AddNo::Collision),
+            None => Err(AddNo::PathNotFound),
         }
     }
 
@@ -107,10 +135,7 @@ impl Tree {
         ensures found { option_map (λ node. node.0) result ≡ node_at self.now (own_path self.now folder.0 ++ name.now ∷ []) }
         ensures live { IfSome result (λ node. IsLive self.now node.0) }
     {
-        match child(&self.nodes, self.naming, folder.0 as usize, name) {
-            Some(node) => Some(NodeId(node as u32)),
-            None => None,
-        }
+        numbered(child(&self.nodes, self.naming, folder.0 as usize, name))
     }
 
     /// The folder in which a node stands that isn't the root.
@@ -146,6 +171,18 @@ impl Tree {
         ensures { result ≡ has_child self.now node.0 }
     {
         has_child(&self.nodes, node.0 as usize)
+    }
+
+    /// Whether a node is a folder.
+    pub fn is_folder(&self, node: NodeId) -> bool
+        requires { IsLive self.now node.0 }
+        ensures kind { is_folder self.now node.0 ≡ Some result }
+        ensures bytes { result ≡ not (is_some (bytes_at self.now node.0)) }
+    {
+        match self.nodes.get(node.0 as usize) {
+            Some(node) => node.folder,
+            None => unreachable!(),
+        }
     }
 
     /// How many bytes a file has; a folder has none.
@@ -200,19 +237,32 @@ impl Tree {
         ensures live { IfOk result (λ node. IsLive self.new node.0) }
         ensures file { IfOk result (λ node. folder ≡ false → IsFile self.new node.0) }
         ensures other { IfOk result (λ node. 0 ≢ node.0) }
+        ensures is_whole { OnOk result (IsWhole self.new) }
         ensures refused { IfErr result (λ no. no ≡ unwrap_or (add_refusal self.old path.now) AddNo.Memory) }
         ensures err { OnErr result (self.new ≡ self.old) }
     {
-        let names = path.names();
-        if names.is_empty() {
-            return Err(AddNo::Collision);
-        }
-        let Some((parent, name)) = locate(&self.nodes, self.naming, names) else {
-            return Err(AddNo::PathNotFound);
+        let parent = match self.free(path) {
+            Ok(parent) => parent,
+            Err(no) => return Err(no),
         };
-        if child(&self.nodes, self.naming, parent, name).is_some() {
-            return Err(AddNo::Collision);
-        }
+        self.add_in(parent, path, folder)
+    }
+
+    /// The same where the path is known to be free, in the folder that was found.
+    pub fn add_in(&mut self, parent: NodeId, path: &Path, folder: bool) -> Result<NodeId, AddNo>
+        requires place { folder_of self.old path.now ≡ Some parent.0 }
+        requires free { node_at self.old path.now ≡ None }
+        ensures added { IfOk result (λ node. Adds self.old self.new path.now folder node.0) }
+        ensures live { IfOk result (λ node. IsLive self.new node.0) }
+        ensures file { IfOk result (λ node. folder ≡ false → IsFile self.new node.0) }
+        ensures other { IfOk result (λ node. 0 ≢ node.0) }
+        ensures is_whole { OnOk result (IsWhole self.new) }
+        ensures refused { IfErr result (λ no. no ≡ unwrap_or (add_refusal self.old path.now) AddNo.Memory) }
+        ensures err { OnErr result (self.new ≡ self.old) }
+    {
+        let Some((name, _)) = path.names().split_last() else {
+            unreachable!()
+        };
         if self.nodes.len() >= MAX_NODES {
             return Err(AddNo::Full);
         }
@@ -220,8 +270,8 @@ impl Tree {
             &mut self.nodes,
             self.alloc,
             self.naming,
-            parent,
-            name,
+            parent.0 as usize,
+            name.as_slice(),
             folder,
         );
         let Ok(node) = made else {
@@ -237,6 +287,7 @@ impl Tree {
         requires other { 0 ≢ node.0 }
         ensures name { IfOk result (λ name. name ≡ last_name (own_path self.old node.0)) }
         ensures removed { OnOk result (self.new ≡ without self.old node.0) }
+        ensures is_whole { OnOk result (IsWhole self.new) }
         ensures not_empty { (result ≡ Err (record {})) ↔ IsTrue (has_child self.old node.0) }
         ensures err { OnErr result (self.new ≡ self.old) }
     {
@@ -252,7 +303,8 @@ impl Tree {
         requires live { IsLive self.old node.0 }
         requires other { 0 ≢ node.0 }
         requires target { 0 < length to.now }
-        ensures { Renames self.old self.new node.0 to.now replace result }
+        ensures renames { Renames self.old self.new node.0 to.now replace result }
+        ensures is_whole { OnOk result (IsWhole self.new) }
     {
         let names = to.names();
         let node = node.0 as usize;
@@ -311,6 +363,7 @@ impl Tree {
         requires { IsFile self.old node.0 }
         ensures file { IsFile self.new node.0 }
         ensures written { OnOk result (self.new ≡ with_bytes self.old node.0 (λ file. written file offset bytes.now)) }
+        ensures is_whole { OnOk result (IsWhole self.new) }
         ensures too_big { (result ≡ Err SizeNo.TooBig) ↔ EndsTooFar offset bytes.now }
         ensures err { OnErr result (self.new ≡ self.old) }
     {
@@ -325,6 +378,7 @@ impl Tree {
         requires { IsFile self.old node.0 }
         ensures file { IsFile self.new node.0 }
         ensures resized { OnOk result (self.new ≡ with_bytes self.old node.0 (λ file. resized file end)) }
+        ensures is_whole { OnOk result (IsWhole self.new) }
         ensures too_big { (result ≡ Err SizeNo.TooBig) ↔ max_len < end }
         ensures err { OnErr result (self.new ≡ self.old) }
     {

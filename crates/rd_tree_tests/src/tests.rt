@@ -161,7 +161,7 @@ fn listed(rt: &(impl Abort + AllocGlobal), naming: Naming, after: Option<&Units>
         assert_eq!(rt; made.err(), None);
     }
     let root = tree.find(&path(rt, b"\\")).expect(rt, "the root");
-    if tree.end(root).is_some() {
+    if !tree.is_folder(root) {
         return None;
     }
     let name = tree.next(root, after, &Pattern::any(rt.alloc()))?;
@@ -180,7 +180,7 @@ fn lists_by_each_naming(rt: HostRuntime) {
 /// The first unit of the root's first name.
 fn first_unit(rt: &(impl Abort + AllocGlobal), tree: &Tree) -> Option<u16> {
     let root = tree.find(&path(rt, b"\\")).expect(rt, "the root");
-    if tree.end(root).is_some() {
+    if !tree.is_folder(root) {
         return None;
     }
     let name = tree.next(root, None, &Pattern::any(rt.alloc()))?;

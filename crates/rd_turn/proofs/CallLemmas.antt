@@ -1,6 +1,7 @@
 -- What the steps of one call make together.
 use Rattle.std.proofs.Common.{◌≡◌, ℕ, suc, Option, Some, None, List, [], ◌∷◌, ◌++◌, get_or, All, ◌≤◌, sym, ap, ◌∙◌, subst, arith}
 use Rattle.std.proofs.lemmas.List.Elements.{All-push}
+use Rattle.std.proofs.lemmas.Option.{same_Some}
 use Rattle.atomic_table.specs.Table.{Me, rest}
 use Rattle.rd_turn.specs.declared.object.Entry.{Entry}
 use Rattle.rd_turn.specs.declared.rule.Stage.TheVariants.{AtTurn}
@@ -12,7 +13,6 @@ use mathlib.Core.Option.{some}
 use lib.ListN.{get_elem?}
 use Rattle.rd_turn.specs.Seats.{HasCalled}
 use Rattle.rd_turn.proofs.HistoryLemmas.{leads-snoc, count_of-append, count_of_one}
-use Rattle.rd_turn.proofs.ChangeLemmas.{some_same}
 
 pub one_held : {S : Type 0} (l : List (ℕ × S)) (y : ℕ × S) → l ≡ y ∷ [] → l ≡ y ∷ rest l
 one_held l y e = e ∙ ap (λ z. y ∷ rest z) (sym e)
@@ -51,7 +51,7 @@ module _ {O C R : Type 0} (steps : O → C → R → O → Type 0) where
       let e₂ : m₂ ≡ (turn_view v seen t c, (0, Some o) ∷ []) = comes.5 ∙ ap (λ (m : M). (turn_view m.0 seen t c, (0, Some o) ∷ [])) e₁ in
       let e₃' : m₃ ≡ (turn_view v seen t c, (0, None) ∷ []) = e₃ ∙ ap (λ (m : M). (m.0, (0, None) ∷ rest m.1)) e₂ in
       let same : x ≡ Some o = held_is m₂.1 x (Some o) (ap (λ (m : M). m.1) e₂) out in
-      let same_b : b ≡ o = some_same b o (sym is ∙ same) in
+      let same_b : b ≡ o = same_Some b o (sym is ∙ same) in
       let g : Grown (waiting_view v t c) seen comes.3 = subst (λ (m : M). Grown m.0 seen comes.3) e₁ comes.7 in
       record {
         first = comes.0;

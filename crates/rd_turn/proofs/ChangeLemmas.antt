@@ -1,5 +1,5 @@
 -- What the rule becomes where one view, which is not spent, becomes another and the history may go on.
-use Rattle.std.proofs.Common.{◌≡◌, ℕ, ◌+◌, ◌<◌, ◌≤◌, ◌≢◌, ◌⊎◌, Option, Some, List, ◌++◌, length, set, All, sym, refl, ap, ◌∙◌, subst, inl, inr, ⊎_elim, arith, length-set}
+use Rattle.std.proofs.Common.{◌≡◌, ℕ, ◌+◌, ◌<◌, ◌≤◌, ◌≢◌, ◌⊎◌, Option, List, ◌++◌, length, set, All, sym, refl, ap, ◌∙◌, subst, inl, inr, ⊎_elim, arith, length-set}
 use mathlib.Core.Option.{none, some, some-injective, some-ne-none}
 use mathlib.Core.Option as maybe
 use mathlib.Core.Logic.{dite}
@@ -16,9 +16,6 @@ use Rattle.rd_turn.specs.declared.rule.View.{View}
 use Rattle.rd_turn.specs.Rule.{ticket_limit, count_of, total, has_ticket, is_at_turn, live, waits, at_turn, IsPlaced, FitsFirst, Fits, IsSeenWhole, IsHome, IsOut, Rule}
 use Rattle.rd_turn.proofs.TotalLemmas.{total-set, total-bound, at_length}
 use Rattle.rd_turn.proofs.HistoryLemmas.{prefix_more, count_of-append}
-
-pub some_same : {A : Type 0} (a b : A) → Some a ≡ Some b → a ≡ b
-some_same a b e = cc e
 
 module _ {C : Type 0} where
   one_at_most : (st : Stage C) → has_ticket st ≤ 1

@@ -6,6 +6,7 @@ use native.Mathlib.Decide.{ℕ_discrete, dec_le}
 use lib.ListN.{get_elem?}
 use lib.Seq.{set-get_or}
 use Rattle.std.proofs.lemmas.List.Elements.{All-weaker, All-cons}
+use Rattle.std.proofs.lemmas.Option.{same_Some}
 use Rattle.atomic_table.specs.Table.{State, Me, Act, Valid, step, keeps, takes, gives, stepped, rest, put_back, carried_after, Allows}
 use Rattle.atomic_table.proofs.Lists.{set_again}
 use Rattle.rd_turn.specs.declared.object.Entry.{Entry}
@@ -14,10 +15,10 @@ use Rattle.rd_turn.specs.declared.rule.Stage.TheVariants.{Idle, Waiting, AtTurn,
 use Rattle.rd_turn.specs.declared.rule.View.{View}
 use Rattle.rd_turn.specs.History.{Leads, entry}
 use Rattle.rd_turn.specs.Rule.{ticket_limit, one_if, count_of, total, is_live, has_ticket, holds_ticket, is_at_turn, live, waits, holds, at_turn, IsPlaced, Fits, IsHome, IsOut, Rule}
-use Rattle.rd_turn.specs.Plays.{waiting_view, turn_view, passed_view, Grown, Draws, IsServed, Looks, PassesOn, Learns}
+use Rattle.rd_turn.specs.Plays.{waiting_view, turn_view, passed_view, Grown, Draws, HasTurn, Looks, PassesOn, Learns}
 use Rattle.rd_turn.proofs.TotalLemmas.{total-set, total-at, total-two, total-some, at_length}
 use Rattle.rd_turn.proofs.HistoryLemmas.{prefix_self, prefix_shorter, one_if_same, one_if_not, count_of-append, count_of_one, count_of_other, leads-snoc, All-prefix}
-use Rattle.rd_turn.proofs.ChangeLemmas.{some_same, ticket_low, head_from, longer_prefix, each_set, root_set, numbers_set, place_stays, placed_off, longest_seen, longest_kept}
+use Rattle.rd_turn.proofs.ChangeLemmas.{ticket_low, head_from, longer_prefix, each_set, root_set, numbers_set, place_stays, placed_off, longest_seen, longest_kept}
 
 module _ {C : Type 0} where
   abbrev ticket_of : Stage C → ℕ
@@ -212,7 +213,7 @@ module _ {O C R : Type 0} (steps : O → C → R → O → Type 0) (opening : O)
       let n_is : n ≡ r.serving = ap (λ ws. get_or ws 1 0) r.words in
       let lv : live v ≡ 1 = ap is_live stage in
       let f = r.each id v at lv in
-      let no : ¬ IsServed n t → (w : V) × (a : Act (Option O)) × Valid s.homes me.1 a × Ru (stepped s 1 n id me.1 w a) × Looks steps (step slots 1 0 0 none) me n (w, carried_after me.1 a)
+      let no : ¬ HasTurn n t → (w : V) × (a : Act (Option O)) × Valid s.homes me.1 a × Ru (stepped s 1 n id me.1 w a) × Looks steps (step slots 1 0 0 none) me n (w, carried_after me.1 a)
       = λ not. (
         v,
         keeps,
@@ -256,7 +257,7 @@ module _ {O C R : Type 0} (steps : O → C → R → O → Type 0) (opening : O)
       let up : (n + 1) % 18446744073709551616 ≡ r.serving + 1 = omega arith in
       let out : IsOut steps opening s.homes s.views = ⊎_elim (λ (h : IsHome steps opening r.log s.homes s.views). let z = h.0 in absurd (omega arith)) (λ (h : IsOut steps opening s.homes s.views). h) r.place in
       let one_at = out.0 in
-      let same_opening : first ≡ opening = some_same first opening (sym opened ∙ f.opening_is) in
+      let same_opening : first ≡ opening = same_Some first opening (sym opened ∙ f.opening_is) in
       let leads' : Leads steps opening log' after = leads-snoc steps opening v.seen before e after (subst (λ (o : O). Leads steps o v.seen before) same_opening leads) stepped_to in
       let own' : count_of id log' ≡ suc v.calls = let sum = count_of-append id v.seen (e ∷ []) in let o = f.own in
       let one : count_of id (e ∷ []) ≡ 1 = subst (λ (k : ℕ). count_of k (e ∷ []) ≡ 1) num (count_of_one v.number c reply) in omega arith in

@@ -11,8 +11,8 @@ use Rattle.rd_turn.specs.History.{Leads, entry}
 use Rattle.rd_turn.specs.Rule.{ticket_limit, count_of}
 
 -- the serving word is this ticket, which is one that may be served
-abbrev pub IsServed : ℕ → ℕ → Type 0
-IsServed serving ticket = (serving ≡ ticket) × (serving < ticket_limit)
+abbrev pub HasTurn : ℕ → ℕ → Type 0
+HasTurn serving ticket = (serving ≡ ticket) × (serving < ticket_limit)
 
 module _ {C R : Type 0} where
   abbrev pub longer_of : List (Entry C R) → List (Entry C R) → List (Entry C R)
@@ -64,7 +64,7 @@ module _ {O C R : Type 0} where
 
     -- look: the view comes to its turn exactly where its ticket is served
     abbrev pub Looks : Step (Option O) → Me (Option O) (View O C R) → ℕ → Me (Option O) (View O C R) → Type 0
-    Looks st m found m' = (t : ℕ) (c : C) → m.0.stage ≡ Waiting t c → (IsServed found t → Comes t c m m') × (¬ IsServed found t → m' ≡ m)
+    Looks st m found m' = (t : ℕ) (c : C) → m.0.stage ≡ Waiting t c → (HasTurn found t → Comes t c m m') × (¬ HasTurn found t → m' ≡ m)
 
   -- pass on: the list ends with the view's call and the reply that is said, and the slot goes home
   abbrev pub PassesOn : Option R → Step (Option O) → Me (Option O) (View O C R) → ℕ → Me (Option O) (View O C R) → Type 0

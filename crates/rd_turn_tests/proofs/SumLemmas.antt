@@ -5,17 +5,17 @@ use Rattle.rd_turn.specs.declared.object.Entry.{Entry}
 use Rattle.rd_turn.specs.History.{Leads, entry, calls_of}
 use Rattle.rd_turn.specs.Rule.{total}
 use Rattle.rd_turn_tests.specs.declared.adder.Adder.{Adder}
-use Rattle.rd_turn_tests.specs.Calls.{Adds, adder}
+use Rattle.rd_turn_tests.specs.Calls.{AddsOnce, adder}
 
 abbrev E : Type 0
 E = Entry ℕ ℕ
 
 -- the adder's sum is what was added to it, and its count that of the calls
-sum_led : (a : Adder) (es : List E) (b : Adder) → a.sum < 18446744073709551616 → Leads Adds a es b → b.sum ≡ (a.sum + total (λ (e : E). e.call) es) % 18446744073709551616
+sum_led : (a : Adder) (es : List E) (b : Adder) → a.sum < 18446744073709551616 → Leads AddsOnce a es b → b.sum ≡ (a.sum + total (λ (e : E). e.call) es) % 18446744073709551616
 sum_led a [] b less l = let same : a.sum ≡ b.sum = ap (λ (x : Adder). x.sum) l in omega arith
 sum_led a (e ∷ es) b less l = let s = l.1.0 in let t = sum_led l.0 es b (omega arith) l.2 in omega arith
 
-calls_led : (a : Adder) (es : List E) (b : Adder) → a.calls < 18446744073709551616 → Leads Adds a es b → b.calls ≡ (a.calls + total (λ (e : E). 1) es) % 18446744073709551616
+calls_led : (a : Adder) (es : List E) (b : Adder) → a.calls < 18446744073709551616 → Leads AddsOnce a es b → b.calls ≡ (a.calls + total (λ (e : E). 1) es) % 18446744073709551616
 calls_led a [] b less l = let same : a.calls ≡ b.calls = ap (λ (x : Adder). x.calls) l in omega arith
 calls_led a (e ∷ es) b less l = let s = l.1.1 in let t = calls_led l.0 es b (omega arith) l.2 in omega arith
 
@@ -39,7 +39,7 @@ total_of_two f (e ∷ es) h =
     parts (suc (suc n)) a b c d x y le p q t = absurd (omega arith)
 
 -- the adder after two calls of one pass and one of another, in whatever order
-pub added_by_two : (es : List E) (last : Adder) (x y z p q r : ℕ) → Leads Adds (adder 0 0) es last → All (λ e. e.by ≤ 1) es
+pub added_by_two : (es : List E) (last : Adder) (x y z p q r : ℕ) → Leads AddsOnce (adder 0 0) es last → All (λ e. e.by ≤ 1) es
     → calls_of 0 es ≡ entry 0 x p ∷ entry 0 y q ∷ [] → calls_of 1 es ≡ entry 1 z r ∷ [] → (last.sum ≡ (x + y + z) % 18446744073709551616) × (last.calls ≡ 3)
 added_by_two es last x y z p q r leads numbers own other =
     let s = sum_led (adder 0 0) es last (omega arith) leads in

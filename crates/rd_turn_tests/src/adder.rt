@@ -10,13 +10,13 @@ pub struct Adder {
 }
 
 impl Object for Adder {
-    ghost use Rattle.rd_turn_tests.specs.Calls.{Adds};
+    ghost use Rattle.rd_turn_tests.specs.Calls.{AddsOnce};
 
     type Call = u64;
 
     type Reply = u64;
 
-    ghost steps = { Adds };
+    ghost steps = { AddsOnce };
 
     fn call(&mut self, call: u64) -> u64 {
         self.sum = self.sum.wrapping_add(call);

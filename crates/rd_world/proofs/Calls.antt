@@ -3,9 +3,8 @@ use Rattle.std.proofs.Common.{◌≡◌, ◌∙◌, refl, sym, ap, subst, ℕ, �
 use Rattle.std.specs.Prelude.{fold, is_ok, Result, Ok, Err}
 use Rattle.rd_devices.specs.declared.list.Announce.{Announce}
 use Rattle.rd_hello.specs.declared.end_fault.EndFault.{EndFault}
-use Rattle.rd_host.specs.Core as host
-use Rattle.rd_host.specs.Core.{HostCoreState}
-use Rattle.rd_host.specs.Served.{is_served}
+use Rattle.rd_host.specs.Core.{HostCoreState, host_hear}
+use Rattle.rd_host.specs.Served.{is_served_type}
 use Rattle.rd_host.specs.declared.act.Act.{Act}
 use Rattle.rd_host.specs.declared.act.Act.TheVariants as act
 use Rattle.rd_irp.specs.declared.completion.Head.{Head}
@@ -20,23 +19,23 @@ use Rattle.rd_pending.specs.Table.{TableState, live_refusal}
 use Rattle.rd_pending.proofs.Effects as effects
 use Rattle.rd_pending.proofs.Neutral.{AreNeutral, channel_all, heard_all, heard_more, neutral_more}
 use Rattle.rd_pending.proofs.Tame.{AreTame, Tame, tame_all, tame_more}
-use Rattle.rd_world.specs.Host.{HostSide, admits, forgets, hears, sends}
-use Rattle.rd_world.specs.HostDeeds.{MayDo, admitted_by, admitting, admitting_one, calls_by, calls_in, calls_of, completing, forgetting, lives_by, sending, side_of}
+use Rattle.rd_world.specs.Host.{HostSide, admits, forgets, hears, side_sends}
+use Rattle.rd_world.specs.HostDeeds.{MayDo, admitted_by, admitting, admitting_one, calls_by, calls_in, calls_of, completing, lives_by, removal_calls, sending, side_of}
 use Rattle.rd_world.specs.Joining.{accepted}
 use Rattle.rd_world.specs.Talk.{Deed, EachAfter, adds, client_reads, client_writes, completes, host_begins, host_ends, host_reads, host_writes, removes, stores, submits, takes, tells}
 
 -- ---- the table after them
 
 pub admits_table : (s : HostSide) (a : Announce) → (admits s a).table ≡ admitted_by s.table a
-admits_table s a = go (is_served a.kind) refl (live_refusal s.table a.id) refl
+admits_table s a = go (is_served_type a.kind) refl (live_refusal s.table a.id) refl
   where
-    go : (b : Bool) → is_served a.kind ≡ b → (o : Option LiveNo) → live_refusal s.table a.id ≡ o → (admits s a).table ≡ admitted_by s.table a
+    go : (b : Bool) → is_served_type a.kind ≡ b → (o : Option LiveNo) → live_refusal s.table a.id ≡ o → (admits s a).table ≡ admitted_by s.table a
     go false e o e2 = rw e refl
     go true e None e2 = rw (e, e2) refl
     go true e (Some cause) e2 = rw (e, e2) refl
 
 admitted_one : (t : TableState) (a : Announce) (h : List Call) → after h ≡ t → after (admitting_one t a ++ h) ≡ admitted_by t a
-admitted_one t a h e = go (is_served a.kind) (live_refusal t a.id) refl
+admitted_one t a h e = go (is_served_type a.kind) (live_refusal t a.id) refl
   where
     go : (b : Bool) (o : Option LiveNo) → live_refusal t a.id ≡ o → after (cond b (lives_by (live_refusal t a.id) a.id) [] ++ h) ≡ cond b (table.live t a.id).0 t
     go false o e2 = e
@@ -49,10 +48,10 @@ admitted_all s t (a ∷ devices) h same e =
     ap after (append_assoc (admitting (admitted_by t a) devices) (admitting_one t a) h)
     ∙ admitted_all (admits s a) (admitted_by t a) devices (admitting_one t a ++ h) (admits_table s a ∙ ap (λ (x : TableState). admitted_by x a) same) (admitted_one t a h e)
 
-forgot_all : (s : HostSide) (ids : List ℕ) (h : List Call) → after h ≡ s.table → after (forgetting ids ++ h) ≡ (fold forgets s ids).table
+forgot_all : (s : HostSide) (ids : List ℕ) (h : List Call) → after h ≡ s.table → after (removal_calls ids ++ h) ≡ (fold forgets s ids).table
 forgot_all s [] h e = e
 forgot_all s (id ∷ ids) h e =
-    ap after (append_assoc (forgetting ids) (call.removes id ∷ []) h)
+    ap after (append_assoc (removal_calls ids) (call.removes id ∷ []) h)
     ∙ forgot_all (forgets s id) ids (call.removes id ∷ h) (ap (λ (t : TableState). (table.remove t id).0) e)
 
 completed_one : (t : TableState) (head : Head) (bytes : List ℕ) (h : List Call) → after h ≡ t
@@ -63,20 +62,20 @@ completed_one t head bytes h e = go (table.complete t head bytes).1 refl
     go (Ok gave) e2 = ap (λ (x : TableState). (table.complete x head bytes).0) e
     go (Err cause) e2 = e ∙ sym (effects.refused t head bytes cause e2)
 
-heard_table : (s : HostSide) (message : List ℕ) (h : List Call) → after h ≡ s.table → after (calls_in s.table (host.hear s.core message).1 ++ h) ≡ (hears s message).table
-heard_table s message h e = go (host.hear s.core message) refl
+heard_table : (s : HostSide) (message : List ℕ) (h : List Call) → after h ≡ s.table → after (calls_in s.table (host_hear s.core message).1 ++ h) ≡ (hears s message).table
+heard_table s message h e = go (host_hear s.core message) refl
   where
-    go : (r : HostCoreState × Result Act EndFault) → host.hear s.core message ≡ r → after (calls_in s.table (host.hear s.core message).1 ++ h) ≡ (hears s message).table
+    go : (r : HostCoreState × Result Act EndFault) → host_hear s.core message ≡ r → after (calls_in s.table (host_hear s.core message).1 ++ h) ≡ (hears s message).table
     go (c, Err fault) e2 = rw e2 e
     go (c, Ok act.Nothing) e2 = rw e2 e
     go (c, Ok (act.Announced devices)) e2 = rw e2 (admitted_all (record s { core = c }) s.table devices h refl e)
     go (c, Ok (act.Removed ids)) e2 = rw e2 (forgot_all (record s { core = c }) ids h e)
     go (c, Ok (act.Complete head bytes)) e2 = rw e2 (completed_one s.table head bytes h e)
 
-sent_table : (s : HostSide) (h : List Call) → after h ≡ s.table → after (sending ((s.core).core).outbox ++ h) ≡ (sends s).table
+sent_table : (s : HostSide) (h : List Call) → after h ≡ s.table → after (sending ((s.core).core).outbox ++ h) ≡ (side_sends s).table
 sent_table s h e = go ((s.core).core).outbox refl
   where
-    go : (o : List (List ℕ)) → ((s.core).core).outbox ≡ o → after (sending ((s.core).core).outbox ++ h) ≡ (sends s).table
+    go : (o : List (List ℕ)) → ((s.core).core).outbox ≡ o → after (sending ((s.core).core).outbox ++ h) ≡ (side_sends s).table
     go [] e2 = rw e2 (ap (λ (t : TableState). (table.send t).0) e)
     go (message ∷ others) e2 = rw e2 e
 
@@ -100,7 +99,7 @@ table_of client (stores device item ∷ before) = table_of client before
 -- ---- they do something
 
 holds_one : (t : TableState) (a : Announce) (h : List Call) → after h ≡ t → Holds h → Holds (admitting_one t a ++ h)
-holds_one t a h e holds = go (is_served a.kind) (live_refusal t a.id) refl
+holds_one t a h e holds = go (is_served_type a.kind) (live_refusal t a.id) refl
   where
     go : (b : Bool) (o : Option LiveNo) → live_refusal t a.id ≡ o → Holds (cond b (lives_by (live_refusal t a.id) a.id) [] ++ h)
     go false o e2 = holds
@@ -113,10 +112,10 @@ holds_admitting t (a ∷ devices) h e holds =
     subst Holds (sym (append_assoc (admitting (admitted_by t a) devices) (admitting_one t a) h))
     (holds_admitting (admitted_by t a) devices (admitting_one t a ++ h) (admitted_one t a h e) (holds_one t a h e holds))
 
-holds_forgetting : (c : ℕ) (ids : List ℕ) (h : List Call) → (after h).channel ≡ Some c → Holds h → Holds (forgetting ids ++ h)
+holds_forgetting : (c : ℕ) (ids : List ℕ) (h : List Call) → (after h).channel ≡ Some c → Holds h → Holds (removal_calls ids ++ h)
 holds_forgetting c [] h is holds = holds
 holds_forgetting c (id ∷ ids) h is holds =
-    subst Holds (sym (append_assoc (forgetting ids) (call.removes id ∷ []) h))
+    subst Holds (sym (append_assoc (removal_calls ids) (call.removes id ∷ []) h))
     (holds_forgetting c ids (call.removes id ∷ h) (channel_all (call.removes id ∷ []) h (tt, tt) ∙ is) ((c, is), holds))
 
 holds_completing : (c : ℕ) (t : TableState) (head : Head) (bytes : List ℕ) (h : List Call) → after h ≡ t → t.channel ≡ Some c → Holds h
@@ -155,7 +154,7 @@ calls_hold client (takes number ∷ before) may = (ap (λ (x : TableState). is_o
 calls_hold client (tells n ∷ before) may = calls_hold client before may.1
 calls_hold client (host_writes channel message ∷ before) may = holds_sending (((side_of client before).core).core).outbox (calls_of client before) (calls_hold client before may.1)
 calls_hold client (host_reads channel message ∷ before) may =
-    holds_reading channel (side_of client before).table (host.hear (side_of client before).core message).1 (calls_of client before) (table_of client before) may.0 (calls_hold client before may.1)
+    holds_reading channel (side_of client before).table (host_hear (side_of client before).core message).1 (calls_of client before) (table_of client before) may.0 (calls_hold client before may.1)
 calls_hold client (client_reads channel message ∷ before) may = calls_hold client before may.1
 calls_hold client (client_writes channel message ∷ before) may = calls_hold client before may.1
 calls_hold client (completes key message ∷ before) may = calls_hold client before may.1
@@ -164,7 +163,7 @@ calls_hold client (stores device item ∷ before) may = calls_hold client before
 -- ---- what is heard by them
 
 neutral_one : (t : TableState) (a : Announce) → AreNeutral (admitting_one t a)
-neutral_one t a = go (is_served a.kind) (live_refusal t a.id)
+neutral_one t a = go (is_served_type a.kind) (live_refusal t a.id)
   where
     go : (b : Bool) (o : Option LiveNo) → AreNeutral (cond b (lives_by o a.id) [])
     go false o = tt
@@ -175,9 +174,9 @@ neutral_admitting : (t : TableState) (devices : List Announce) → AreNeutral (a
 neutral_admitting t [] = tt
 neutral_admitting t (a ∷ devices) = neutral_more (admitting (admitted_by t a) devices) (admitting_one t a) (neutral_admitting (admitted_by t a) devices) (neutral_one t a)
 
-neutral_forgetting : (ids : List ℕ) → AreNeutral (forgetting ids)
+neutral_forgetting : (ids : List ℕ) → AreNeutral (removal_calls ids)
 neutral_forgetting [] = tt
-neutral_forgetting (id ∷ ids) = neutral_more (forgetting ids) (call.removes id ∷ []) (neutral_forgetting ids) (tt, tt)
+neutral_forgetting (id ∷ ids) = neutral_more (removal_calls ids) (call.removes id ∷ []) (neutral_forgetting ids) (tt, tt)
 
 pub neutral_reading : (t : TableState) (r : Result Act EndFault) → AreNeutral (calls_in t r)
 neutral_reading t (Err fault) = tt
@@ -194,7 +193,7 @@ neutral_reading t (Ok (act.Complete head bytes)) = go (table.complete t head byt
 
 -- what was heard and taken by a message
 abbrev pub taken : HostSide → List ℕ → List Tidings
-taken s message = heard_all (calls_in s.table (host.hear s.core message).1)
+taken s message = heard_all (calls_in s.table (host_hear s.core message).1)
 
 -- what is heard by a deed on a channel
 abbrev pub heard_by_deed : ℕ → ℕ → List Deed → Deed → List Tidings
@@ -210,7 +209,7 @@ heard_no_more c x h none = rw none (go (is_open_on (after h) c))
 
 pub heard_step : (client c : ℕ) (before : List Deed) (deed : Deed) → Does client (deed ∷ before) → heard_on c (calls_of client (deed ∷ before)) ≡ heard_on c (calls_of client before) ++ heard_by_deed client c before deed
 heard_step client c before (host_reads channel message) may =
-    heard_more c (calls_in s.table (host.hear s.core message).1) (calls_of client before) (neutral_reading s.table (host.hear s.core message).1)
+    heard_more c (calls_in s.table (host_hear s.core message).1) (calls_of client before) (neutral_reading s.table (host_hear s.core message).1)
     ∙ ap (λ (b : Bool). heard_on c (calls_of client before) ++ cond b (taken s message) []) opened
   where
     s : HostSide
@@ -247,16 +246,16 @@ calls_since client (deed ∷ late) early =
 
 tame_admitting : (t : TableState) (devices : List Announce) → AreTame (admitting t devices)
 tame_admitting t [] = tt
-tame_admitting t (a ∷ devices) = tame_more (admitting (admitted_by t a) devices) (admitting_one t a) (tame_admitting (admitted_by t a) devices) (one (is_served a.kind) (live_refusal t a.id))
+tame_admitting t (a ∷ devices) = tame_more (admitting (admitted_by t a) devices) (admitting_one t a) (tame_admitting (admitted_by t a) devices) (one (is_served_type a.kind) (live_refusal t a.id))
   where
     one : (b : Bool) (o : Option LiveNo) → AreTame (cond b (lives_by o a.id) [])
     one false o = tt
     one true None = (tt, tt)
     one true (Some cause) = tt
 
-tame_forgetting : (ids : List ℕ) → AreTame (forgetting ids)
+tame_forgetting : (ids : List ℕ) → AreTame (removal_calls ids)
 tame_forgetting [] = tt
-tame_forgetting (id ∷ ids) = tame_more (forgetting ids) (call.removes id ∷ []) (tame_forgetting ids) (tt, tt)
+tame_forgetting (id ∷ ids) = tame_more (removal_calls ids) (call.removes id ∷ []) (tame_forgetting ids) (tt, tt)
 
 tame_reading : (t : TableState) (r : Result Act EndFault) → AreTame (calls_in t r)
 tame_reading t (Err fault) = tt
@@ -274,7 +273,7 @@ pub read_tame : (client c : ℕ) (m : List ℕ) (before : List Deed) → Tame (s
     × (accepted client (host_reads c m ∷ before) ≡ accepted client before)
 read_tame client c m before =
     let s = side_of client before in
-    let both = tame_all (calls_in s.table (host.hear s.core m).1) (calls_of client before) (tame_reading s.table (host.hear s.core m).1) in
+    let both = tame_all (calls_in s.table (host_hear s.core m).1) (calls_of client before) (tame_reading s.table (host_hear s.core m).1) in
     (subst (λ (t : TableState). Tame t (hears s m).table) (table_of client before) (subst (λ (t : TableState). Tame (after (calls_of client before)) t) (table_of client (host_reads c m ∷ before)) both.0), both.1)
 
 -- nor does a message that it writes

@@ -11,11 +11,12 @@ use Rattle.rd_base.specs.declared.journal.Cause.{Cause}
 use Rattle.rd_base.specs.declared.journal.Item.{Item}
 use Rattle.rd_base.specs.declared.journal.Item.TheVariants.{Cut}
 use Rattle.rd_base.specs.declared.journal.Key.{Key}
+use Rattle.rd_base.specs.Statuses.{no_such_device}
 use Rattle.rd_devices.specs.DeviceList.{announce, device_list}
 use Rattle.rd_devices.specs.DeviceReply.{device_reply}
 use Rattle.rd_devices.specs.Removal.{removal}
 use Rattle.rd_drive.specs.Outcome.{checked, fault, given, one_of}
-use Rattle.rd_drive.specs.Replies.{KeyedReply}
+use Rattle.rd_drive.specs.Replies.{KeyedReply, cancellation}
 use Rattle.rd_hello.specs.Capability.{body_of, capability, general, other, sets, special}
 use Rattle.rd_hello.specs.Hello.{hello, name, version}
 use Rattle.rd_irp.specs.declared.completion.Reply.{Reply}
@@ -23,10 +24,8 @@ use Rattle.rd_irp.specs.declared.request.Request.{Request}
 use Rattle.rd_irp.specs.Completion.{completion_body, completion_head, success_body}
 use Rattle.rd_irp.specs.Op.{close_body, create_body, directory_body, lock_body, notify_body, op_body, range, read_body, write_body}
 use Rattle.rd_irp.specs.Request.{request_head}
-use Rattle.rd_station.specs.Station.{cancellation}
 use Rattle.rd_world.specs.Example.{Submission, read_reply, close, close_reply, example_deeds, example_outcomes, example_replies, gives, last_read, late_read, lost_read, outcomes_in, read, watch, watch_reply}
 use Rattle.rd_pending.specs.History.{Call}
-use Rattle.rd_world.specs.Hearing.{no_such_device}
 use Rattle.rd_world.specs.Host.{HostSide}
 use Rattle.rd_world.specs.Joining.{AreJoined}
 use Rattle.rd_world.specs.Talk.{Deed, EachAfter, journal}
@@ -34,7 +33,7 @@ use Rattle.rd_world.specs.Told.{Answers, IsAnswerAt, IsReplied, worn_entries}
 use Rattle.rd_world.proofs.TestedDeeds.{carried_by_test, host_by_test, along, along_is}
 use Rattle.rd_world.proofs.TestedJournals.{are_distinct, is_lawful, is_sent, lawful_by_test, one_of_key}
 use Rattle.rd_world.proofs.TestedTelling.{are_known, comes_by_test, direct_by_test, of_journals, sent_by_test, stands_by_test}
-use Rattle.rd_world.proofs.TestedAnswers.{before_sent, behind_sent, sent_parts, each_answered, completes_with, removed_since}
+use Rattle.rd_world.proofs.TestedAnswers.{before_sent, after_sent, sent_parts, each_answered, completes_with, removed_since}
 
 -- ---- the replies
 
@@ -53,7 +52,7 @@ replied : (device : ℕ) (key : Key) (r : Request) (reply : Reply) (before : Lis
     → Contains (example_replies device (before_sent key (reverse (journal device before)))) (key, reply) → IsReplied example_replies device key r reply before
 replied device key r reply before e has = record {
   earlier = before_sent key (reverse (journal device before));
-  later = behind_sent key (reverse (journal device before));
+  later = after_sent key (reverse (journal device before));
   stands = sent_parts key (reverse (journal device before)) e;
   given = has;
   cut = λ first last cause parts hasnt has_now. absurd (hasnt (subst (λ (replies : List KeyedReply). Contains replies (key, reply)) (cut_gives_none first cause) has_now));

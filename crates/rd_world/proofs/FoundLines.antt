@@ -29,7 +29,7 @@ use Rattle.rd_pending.specs.declared.calls.Outcome.TheVariants as came
 use Rattle.rd_pending.specs.declared.calls.Target.TheVariants as target
 use Rattle.rd_printer.specs.Cache.{CacheState}
 use Rattle.rd_printer.specs.Notice.{add_event, update_event, delete_event, rename_event, event_body, cache_data, using_xps, notice, notice_bytes}
-use Rattle.rd_script.specs.Asking.{declared_by}
+use Rattle.rd_script.specs.ReportLines.{declared_by}
 use Rattle.rd_script.specs.Report.{report_of}
 use Rattle.rd_script.specs.declared.outcome.Outcome.{Outcome}
 use Rattle.rd_script.specs.declared.outcome.Outcome.TheVariants as outcome
@@ -38,12 +38,12 @@ use Rattle.rd_world.specs.Acts.{is_settle, AreActed, AreSaid, IsCutThere, Tells,
 use Rattle.rd_world.specs.Control.{controlled, Control, begun, control_of, ended, lists, removed}
 use Rattle.rd_world.specs.Control as control
 use Rattle.rd_world.specs.Devices.{declaring, furnishing, Declared}
-use Rattle.rd_world.specs.Found.{AreFound, file_named, found_deeds, found_devices, found_lines, found_outcomes, gives_file, read_dropped, read_removed, found_journal, found_script, found_books, found_output}
+use Rattle.rd_world.specs.Found.{AreFound, handle_target, found_deeds, found_devices, found_lines, found_outcomes, gives_file, read_dropped, read_removed, found_journal, found_script, found_books, found_output}
 use Rattle.rd_world.specs.Hearing.{holding_after}
 use Rattle.rd_world.specs.Lines.{HaveOutcomes, LinesEnd, Waits, outcome_at, submitted, waits_of}
 use Rattle.rd_world.specs.Recording.{host_stand}
 use Rattle.rd_world.specs.Report.{ordered}
-use Rattle.rd_world.specs.Run.{asked_by, controls, notice_of, on_device, on_handle, open_op, setting, WorldRun, run_of}
+use Rattle.rd_world.specs.Run.{asked_by, controls, notice_of, on_device, asked_on_handle, open_op, setting, WorldRun, run_of}
 use Rattle.rd_world.specs.Session.{IsReported, IsRun, IsStill, WasStill, at_settles, printed_in}
 use Rattle.rd_world.specs.Talk.{Deed, EndsWith, Has, answered, asked, open_channel, client_wrote, has_ended, host_read, host_wrote, is_request, on, AtEachPoint, EachAfter, journal, notice_in}
 use Rattle.rd_world.specs.Worked.{ran}
@@ -84,13 +84,13 @@ abbrev open_h : Waits
 open_h = record { asked = on_device (codes "h") 1 (open_op (codes "\\a")); acts = 1 }
 
 abbrev read_h : Waits
-read_h = record { asked = on_handle (codes "h") (op.Read 0 1); acts = 1 }
+read_h = record { asked = asked_on_handle (codes "h") (op.Read 0 1); acts = 1 }
 
 abbrev open_k : Waits
 open_k = record { asked = on_device (codes "k") 1 (open_op (codes "\\a")); acts = 3 }
 
 abbrev read_k : Waits
-read_k = record { asked = on_handle (codes "k") (op.Read 0 1); acts = 3 }
+read_k = record { asked = asked_on_handle (codes "k") (op.Read 0 1); acts = 3 }
 
 waits : waits_of found_devices 1 found_lines ≡ open_h ∷ read_h ∷ open_k ∷ read_k ∷ []
 unfolding asked_by notice_of controlled
@@ -110,7 +110,7 @@ Knows count o later = outcome_at later count ≡ Some o
 -- each line ends so, from where the one before was accepted; the last one first
 line_4 : LinesEnd found_devices found_deeds 1 with_k (read_k ∷ []) (outcome.Lost Removed ∷ []) (Knows 2 (came.Done (gives_file 2))) (drop 18 found_deeds)
 unfolding count_to counted counted_bytes two_fields four_fields two_fields_bytes four_fields_bytes bytes8 bytes16 bytes32 bytes64 component_field header header_among announce device_list device_reply removal checked one_of given special general other body_of capability sets version name hello completion_head success_body completion_body create_body close_body read_body write_body notify_body range lock_body directory_body op_body request_head
-line_4 = line_accepted found_devices found_deeds 1 with_k with_k read_k [] (outcome.Lost Removed) [] (Knows 2 (came.Done (gives_file 2))) (drop 18 found_deeds) (drop 10 found_deeds) (take 9 found_deeds) (file_named read_removed) 3 (came.Lost Removed)
+line_4 = line_accepted found_devices found_deeds 1 with_k with_k read_k [] (outcome.Lost Removed) [] (Knows 2 (came.Done (gives_file 2))) (drop 18 found_deeds) (drop 10 found_deeds) (take 9 found_deeds) (handle_target read_removed) 3 (came.Lost Removed)
     (quiet_by 1 8 (drop 10 found_deeds) (drop 18 found_deeds) refl refl)
     (outcome_along (drop 10 found_deeds) 2 ∙ refl)
     (record { acted = lit≤ tt; opened = opens_by found_devices 9 (drop 10 found_deeds) 2 second_open })
@@ -129,7 +129,7 @@ line_3 = line_accepted found_devices found_deeds 1 with_h with_k open_k (read_k 
 
 line_2 : LinesEnd found_devices found_deeds 1 with_h (read_h ∷ open_k ∷ read_k ∷ []) (outcome.Lost Dropped ∷ outcome.Done (gives_file 2) ∷ outcome.Lost Removed ∷ []) (Knows 0 (came.Done (gives_file 1))) (drop 53 found_deeds)
 unfolding count_to counted counted_bytes two_fields four_fields two_fields_bytes four_fields_bytes bytes8 bytes16 bytes32 bytes64 component_field header header_among announce device_list device_reply removal checked one_of given special general other body_of capability sets version name hello completion_head success_body completion_body create_body close_body read_body write_body notify_body range lock_body directory_body op_body request_head
-line_2 = line_accepted found_devices found_deeds 1 with_h with_h read_h (open_k ∷ read_k ∷ []) (outcome.Lost Dropped) (outcome.Done (gives_file 2) ∷ outcome.Lost Removed ∷ []) (Knows 0 (came.Done (gives_file 1))) (drop 53 found_deeds) (drop 45 found_deeds) (take 44 found_deeds) (file_named read_dropped) 1 (came.Lost Dropped)
+line_2 = line_accepted found_devices found_deeds 1 with_h with_h read_h (open_k ∷ read_k ∷ []) (outcome.Lost Dropped) (outcome.Done (gives_file 2) ∷ outcome.Lost Removed ∷ []) (Knows 0 (came.Done (gives_file 1))) (drop 53 found_deeds) (drop 45 found_deeds) (take 44 found_deeds) (handle_target read_dropped) 1 (came.Lost Dropped)
     (quiet_by 1 8 (drop 45 found_deeds) (drop 53 found_deeds) refl refl)
     (outcome_along (drop 45 found_deeds) 0 ∙ refl)
     (record { acted = lit≤ tt; opened = opens_by found_devices 9 (drop 45 found_deeds) 1 first_open })

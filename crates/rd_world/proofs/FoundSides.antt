@@ -12,16 +12,15 @@ use Rattle.rd_pending.specs.History.{Call, lives_before}
 use Rattle.rd_script.specs.declared.line.NumberedLine.{NumberedLine}
 use Rattle.rd_world.specs.Devices.{Declared, device_cut, device_step, declaring, furnishing}
 use Rattle.rd_world.specs.Found.{found_books, found_deeds, found_devices, found_drive, found_lines, found_recording, gives_file, open_first, open_second, read_removed}
-use Rattle.rd_world.specs.Hearing.{no_such_device}
 use Rattle.rd_world.specs.Host.{HostSide}
 use Rattle.rd_world.specs.HostDeeds.{calls_of}
 use Rattle.rd_world.specs.Joining.{AreJoined, Joins}
 use Rattle.rd_world.specs.Recording.{IsRecorded, announced_of, client_id, is_gone_at}
-use Rattle.rd_world.specs.Run.{devices_of, setting}
+use Rattle.rd_world.specs.Run.{declared_devices, setting}
 use Rattle.rd_world.specs.Acts.{AreSaid, Tells, of_channel, tellings_on}
 use Rattle.rd_world.specs.Control.{Telling}
 use Rattle.rd_world.specs.Recording.{request_of}
-use Rattle.rd_world.specs.Session.{AllTold, AreJournals, IsLeftOver, IsNamed, RunsAt, moment_of, replies_in, IsPlain}
+use Rattle.rd_world.specs.Session.{AllTold, AreJournals, IsLeftOver, IsOfDevice, world_moment, replies_in, IsPlain}
 use Rattle.rd_world.specs.Talk.{Deed, EachAfter, answered, asked, client_moves, client_read, has_ended, host_moves, host_wrote, journal, EndsWith, indices_of}
 use Rattle.rd_world.specs.Told.{Answers, IsHeeded, Replies, worn_entries, IsLeft, unserved, told, requests_to, without_last}
 use Rattle.rd_world.proofs.TestedAnswers.{completes_with, each_answered, each_plain}
@@ -29,11 +28,13 @@ use Rattle.rd_world.proofs.TestedDeeds.{along, along_is, carried_by_test, each, 
 use Rattle.rd_world.proofs.TestedJournals.{are_distinct, is_lawful, lawful_by_test, one_of_key}
 use Rattle.rd_world.proofs.TestedReplies.{in_growing, in_nothing, replied_by_run}
 use Rattle.rd_world.proofs.TestedTelling.{are_known, comes_by_test, direct_by_test, no_journal, of_journals, sent_by_test, stands_by_test, strange}
-use Rattle.rd_world.proofs.TestedWire.{carried_messages, is_on, named_by_test, no_client_moves, no_host_moves, none_read, none_written, not_ended, of_few, open_by_test, runs_by_test, stored_by_test, none_answered}
+use Rattle.rd_world.proofs.TestedWire.{carried_messages, is_on, named_by_test, no_client_moves, no_host_moves, none_read, none_written, not_ended, open_by_test, runs_by_test, stored_by_test, none_answered}
 use Rattle.rd_world.proofs.Joining.{all_join}
 use Rattle.rd_base.specs.Counted.{count_to, counted, counted_bytes, two_fields, four_fields, two_fields_bytes, four_fields_bytes}
 use Rattle.rd_base.specs.Fields.{bytes8, bytes16, bytes32, bytes64}
 use Rattle.rd_base.specs.Header.{component_field, header, header_among}
+use Rattle.rd_base.specs.Lawful.{RunsAt}
+use Rattle.rd_base.specs.Statuses.{no_such_device}
 use Rattle.rd_devices.specs.DeviceList.{announce, device_list}
 use Rattle.rd_devices.specs.DeviceReply.{device_reply}
 use Rattle.rd_devices.specs.Removal.{removal}
@@ -42,6 +43,7 @@ use Rattle.rd_hello.specs.Hello.{version, name, hello}
 use Rattle.rd_irp.specs.Completion.{completion_head, success_body, completion_body}
 use Rattle.rd_irp.specs.Op.{create_body, close_body, read_body, write_body, notify_body, range, lock_body, directory_body, op_body}
 use Rattle.rd_irp.specs.Request.{request_head}
+use Rattle.rd_world.proofs.TestedLines.{of_each}
 
 abbrev channels : List ℕ
 channels = 1 ∷ 2 ∷ []
@@ -51,7 +53,7 @@ devices = 1 ∷ []
 
 -- ---- the devices
 
-pub devices_are : found_devices ≡ devices_of (map (λ (l : NumberedLine). l.line) found_lines)
+pub devices_are : found_devices ≡ declared_devices (map (λ (l : NumberedLine). l.line) found_lines)
 unfolding declaring furnishing
 devices_are = refl
 
@@ -88,7 +90,7 @@ unfolding count_to counted counted_bytes two_fields four_fields two_fields_bytes
 client_second = refl
 
 host_order : (c : ℕ) → HostOrder client_id (lives_before c (calls_of client_id found_deeds)) (reverse (host_moves c found_deeds))
-host_order = of_few (λ c. HostOrder client_id (lives_before c (calls_of client_id found_deeds)) (reverse (host_moves c found_deeds))) channels (
+host_order = of_each (λ c. HostOrder client_id (lives_before c (calls_of client_id found_deeds)) (reverse (host_moves c found_deeds))) channels (
   subst (λ (n : ℕ). HostOrder client_id n (reverse (host_moves 1 found_deeds))) (sym first_lives) host_first,
   (subst (λ (n : ℕ). HostOrder client_id n (reverse (host_moves 2 found_deeds))) (sym second_lives) host_second, tt),
 )
@@ -96,7 +98,7 @@ host_order = of_few (λ c. HostOrder client_id (lives_before c (calls_of client_
     subst (λ ms. HostOrder client_id (lives_before c (calls_of client_id found_deeds)) (reverse ms)) (sym none) refl)
 
 client_order : (c : ℕ) → ClientOrder (announced_of found_devices) (is_gone_at c found_deeds) (reverse (client_moves c found_deeds))
-client_order = of_few (λ c. ClientOrder (announced_of found_devices) (is_gone_at c found_deeds) (reverse (client_moves c found_deeds))) channels
+client_order = of_each (λ c. ClientOrder (announced_of found_devices) (is_gone_at c found_deeds) (reverse (client_moves c found_deeds))) channels
     (client_first, (client_second, tt))
     (λ c isnt. let none = no_client_moves channels found_deeds on_channels c isnt in
     subst (λ ms. ClientOrder (announced_of found_devices) (is_gone_at c found_deeds) (reverse ms)) (sym none) refl)
@@ -117,18 +119,18 @@ known : are_known channels devices found_deeds ≡ true
 unfolding count_to counted counted_bytes two_fields four_fields two_fields_bytes four_fields_bytes bytes8 bytes16 bytes32 bytes64 component_field header header_among announce device_list device_reply removal checked one_of given special general other body_of capability sets version name hello completion_head success_body completion_body create_body close_body read_body write_body notify_body range lock_body directory_body op_body request_head
 known = refl
 
-named : (device : ℕ) → All (IsNamed found_deeds device) (journal device found_deeds)
+named : (device : ℕ) → All (IsOfDevice found_deeds device) (journal device found_deeds)
 unfolding count_to counted counted_bytes two_fields four_fields two_fields_bytes four_fields_bytes bytes8 bytes16 bytes32 bytes64 component_field header header_among announce device_list device_reply removal checked one_of given special general other body_of capability sets version name hello completion_head success_body completion_body create_body close_body read_body write_body notify_body range lock_body directory_body op_body request_head
-named = of_few (λ device. All (IsNamed found_deeds device) (journal device found_deeds)) devices
+named = of_each (λ device. All (IsOfDevice found_deeds device) (journal device found_deeds)) devices
     (named_by_test found_deeds 1 (journal 1 found_deeds) refl, tt)
-    (λ device isnt. subst (λ (items : List Item). All (IsNamed found_deeds device) items) (sym (no_journal channels devices found_deeds known device isnt)) (named_by_test found_deeds device [] refl))
+    (λ device isnt. subst (λ (items : List Item). All (IsOfDevice found_deeds device) items) (sym (no_journal channels devices found_deeds known device isnt)) (named_by_test found_deeds device [] refl))
 
 still_clock : (device : ℕ) → All (RunsAt 0) (journal device found_deeds)
-still_clock = of_few (λ device. All (RunsAt 0) (journal device found_deeds)) devices
+still_clock = of_each (λ device. All (RunsAt 0) (journal device found_deeds)) devices
     (runs_by_test 0 (journal 1 found_deeds) refl, tt)
     (λ device isnt. subst (λ (items : List Item). All (RunsAt 0) items) (sym (no_journal channels devices found_deeds known device isnt)) (runs_by_test 0 [] refl))
 
-now : moment_of found_lines ≡ 0
+now : world_moment found_lines ≡ 0
 unfolding declaring furnishing setting
 now = refl
 
@@ -136,7 +138,7 @@ marked : AreToldBy device_step device_cut (request_of found_deeds) found_drive.s
 unfolding count_to counted counted_bytes two_fields four_fields two_fields_bytes four_fields_bytes bytes8 bytes16 bytes32 bytes64 component_field header header_among announce device_list device_reply removal checked one_of given special general other body_of capability sets version name hello completion_head success_body completion_body create_body close_body read_body write_body notify_body range lock_body directory_body op_body request_head
 marked = (tt, ((refl, λ e. absurd (cc)), (tt, (tt, (tt, (tt, ((refl, λ e. absurd (cc)), (tt, (tt, tt)))))))))
 
-pub journals : AreJournals (moment_of found_lines) found_devices found_books found_deeds
+pub journals : AreJournals (world_moment found_lines) found_devices found_books found_deeds
 journals = record {
   each = refl;
   named = named;
@@ -171,7 +173,7 @@ few = of_journals channels devices (λ items. ltb (length items) worn_entries) f
 
 distinct : (device : ℕ) → are_distinct (found_replies device (reverse (journal device found_deeds))) ≡ true
 unfolding count_to counted counted_bytes two_fields four_fields two_fields_bytes four_fields_bytes bytes8 bytes16 bytes32 bytes64 component_field header header_among announce device_list device_reply removal checked one_of given special general other body_of capability sets version name hello completion_head success_body completion_body create_body close_body read_body write_body notify_body range lock_body directory_body op_body request_head
-distinct = of_few (λ device. are_distinct (found_replies device (reverse (journal device found_deeds))) ≡ true) devices (refl, tt)
+distinct = of_each (λ device. are_distinct (found_replies device (reverse (journal device found_deeds))) ≡ true) devices (refl, tt)
     (λ device isnt. subst (λ (items : List Item). are_distinct (found_replies device (reverse items)) ≡ true) (sym (no_journal channels devices found_deeds known device isnt))
     (subst (λ (rs : List KeyedReply). are_distinct rs ≡ true) (sym (in_nothing found_devices found_deeds device)) refl))
 
@@ -218,7 +220,7 @@ second_goes_on : ¬ (has_ended 2 found_deeds ≡ true)
 second_goes_on e = absurd (cc)
 
 all_read : (c : ℕ) → has_ended c found_deeds ≡ false → client_read c found_deeds ≡ host_wrote c found_deeds
-all_read = of_few (λ c. has_ended c found_deeds ≡ false → client_read c found_deeds ≡ host_wrote c found_deeds) channels
+all_read = of_each (λ c. has_ended c found_deeds ≡ false → client_read c found_deeds ≡ host_wrote c found_deeds) channels
     ((λ e. absurd (first_ended e)), ((λ e. second_read), tt))
     (λ c isnt e. none_read channels found_deeds on_channels c isnt ∙ sym (none_written channels found_deeds on_channels c isnt))
 
@@ -232,7 +234,7 @@ second_completed device id = go (1 == device && 0 == id)
     go false = refl
 
 all_completed : (c device id : ℕ) → has_ended c found_deeds ≡ false → asked c device id found_deeds ≡ answered c device id found_deeds
-all_completed c device id = of_few (λ c. has_ended c found_deeds ≡ false → asked c device id found_deeds ≡ answered c device id found_deeds) channels
+all_completed c device id = of_each (λ c. has_ended c found_deeds ≡ false → asked c device id found_deeds ≡ answered c device id found_deeds) channels
     ((λ e. absurd (first_ended e)), ((λ e. second_completed device id), tt))
     (λ c isnt e. ap (λ ms. indices_of device id ms) (none_read channels found_deeds on_channels c isnt) ∙ sym (none_answered channels found_deeds on_channels c isnt device id))
     c
@@ -241,7 +243,7 @@ all_completed c device id = of_few (λ c. has_ended c found_deeds ≡ false → 
 each_came : (device : ℕ)
     → EndsWith (unserved 1 device found_deeds (told 1 device found_deeds)) (unserved 1 device found_deeds (requests_to device (without_last (client_read 1 found_deeds))))
 unfolding count_to counted counted_bytes two_fields four_fields two_fields_bytes four_fields_bytes bytes8 bytes16 bytes32 bytes64 component_field header header_among announce device_list device_reply removal checked one_of given special general other body_of capability sets version name hello completion_head success_body completion_body create_body close_body read_body write_body notify_body range lock_body directory_body op_body request_head
-each_came = of_few (λ device. EndsWith (unserved 1 device found_deeds (told 1 device found_deeds)) (unserved 1 device found_deeds (requests_to device (without_last (client_read 1 found_deeds))))) devices
+each_came = of_each (λ device. EndsWith (unserved 1 device found_deeds (told 1 device found_deeds)) (unserved 1 device found_deeds (requests_to device (without_last (client_read 1 found_deeds))))) devices
     (([], refl), tt)
     (λ device isnt. go device (unserved 1 device found_deeds (told 1 device found_deeds)) (1 == device) (strange 1 device devices refl isnt))
   where
@@ -261,7 +263,7 @@ module _ (told : List (ℕ × Telling)) (said : AreSaid (Tells found_devices fou
   IsCutShort c = has_ended c found_deeds ≡ true → (rest : List Deed) × IsLeftOver found_devices told found_replies c found_deeds rest
 
   heeded : (c : ℕ) → IsCutShort c
-  heeded = of_few IsCutShort channels
+  heeded = of_each IsCutShort channels
       ((λ e. ([], record { heeded = first_heeded; tells = said })), ((λ e. absurd (second_goes_on e)), tt))
       (λ c isnt e. let never = not_ended channels found_deeds on_channels c isnt in absurd (cc (never, e)))
 

@@ -1,8 +1,9 @@
 -- What a host makes of a message, and that what its end writes is no request.
-use Rattle.std.proofs.Common.{◌≡◌, refl, sym, ap, subst, ℕ, ◌==◌, Bool, true, false, List, [], ◌∷◌, ◌++◌, map, Some, None, Option}
+use Rattle.std.proofs.Common.{◌≡◌, refl, sym, ap, subst, ℕ, ◌==◌, Bool, true, false, List, [], ◌∷◌, ◌++◌, map, Some, None, Option, inl, inr}
 use Rattle.std.specs.Prelude.{fold, is_some, Result, Ok, Err}
 use Rattle.std.specs.List.{AllByRecursion}
 use Rattle.std.specs.Option.{option_to_list}
+use Rattle.std.proofs.lemmas.Bool.{cases_Bool}
 use Rattle.rd_base.specs.declared.bad.Bad.{Bad}
 use Rattle.rd_base.specs.declared.packet.Packet.{Packet}
 use Rattle.rd_base.specs.declared.packet.Packet.TheVariants as packet
@@ -21,11 +22,11 @@ use Rattle.rd_hello.specs.Hello.{hello as hello_layout, hello_bytes}
 use Rattle.rd_hello.specs.HostTable.{host_step}
 use Rattle.rd_hello.specs.Moves.{packet_in}
 use Rattle.rd_hello.specs.Own.{host_announce}
-use Rattle.rd_hello.specs.Rows.{Row}
+use Rattle.rd_hello.specs.Rows.{OrderRow}
 use Rattle.rd_core.specs.Hearing as hearing
-use Rattle.rd_core.specs.Hearing.{Said, nothing, opens, read_as, says, wrong}
+use Rattle.rd_core.specs.Hearing.{Meaning, nothing, opens, read_as, says, wrong}
 use Rattle.rd_host.specs.Core as host
-use Rattle.rd_host.specs.Core.{HostCoreState, host_side}
+use Rattle.rd_host.specs.Core.{HostCoreState, host_hear, host_hear_made, host_side}
 use Rattle.rd_host.specs.declared.act.Act.{Act}
 use Rattle.rd_host.specs.declared.act.Act.TheVariants as act
 use Rattle.rd_irp.specs.declared.completion.Head.{Head}
@@ -34,9 +35,9 @@ use Rattle.rd_printer.specs.declared.notice.Notice.{Notice}
 use Rattle.rd_printer.specs.declared.notice.Notice.TheVariants as notice
 use Rattle.rd_printer.specs.Notice.{notice_bytes}
 use Rattle.rd_pending.specs.Table as table
-use Rattle.rd_host.specs.Served.{is_served}
-use Rattle.rd_drive.specs.Statuses as status
-use Rattle.rd_world.specs.Host.{HostSide, admits, forgets, hears, live_code, sends}
+use Rattle.rd_host.specs.Served.{is_served_type}
+use Rattle.rd_base.specs.Statuses as status
+use Rattle.rd_world.specs.Host.{HostSide, admits, forgets, hears, live_code, side_sends}
 use Rattle.rd_world.specs.HostDeeds.{side_of}
 use Rattle.rd_world.specs.Talk.{Deed, adds, announced_in, client_reads, client_writes, completes, head_in, host_begins, host_ends, host_reads, host_writes, is_request, removed_in, removes, stores, submits, takes, tells}
 use Rattle.rd_world.proofs.Lists.{all_more}
@@ -53,8 +54,8 @@ Heard h m (c, Ok (act.Complete head bytes)) =
     × (q : Position) × (met completion_head (at_start m) ≡ Ok (head, q)) × (bytes ≡ q.left)
 
 -- what a host makes of what a message says
-abbrev made : HostCoreState → Said HostState Act → HostCoreState × Result Act EndFault
-made h s = host.hear_made h (hearing.hear_said host_side h.core s)
+abbrev made : HostCoreState → Meaning HostState Act → HostCoreState × Result Act EndFault
+made h s = host_hear_made h (hearing.hear_said host_side h.core s)
 
 -- of what other packets is
 idle : (h c : HostCoreState) (p : Packet) (m : List ℕ) → (h.core).fault ≡ None → (c.core).fault ≡ None → packet_in m ≡ Some p → (packet_id p == packet_id packet.DeviceListRemove) ≡ false
@@ -67,7 +68,7 @@ heard_hello : (h : HostCoreState) (p : Packet) (m : List ℕ) → (h.core).fault
 heard_hello h p m e is a b d (Err bad) = refl
 heard_hello h p m e is a b d (Ok read) = go (host_step (h.core).shake read.0)
   where
-    go : (r : Option (Row HostState)) → Heard h m (made h (hearing.by_row host_side r))
+    go : (r : Option (OrderRow HostState)) → Heard h m (made h (hearing.by_row host_side r))
     go None = idle h h p m e e is a b d
     go (Some row) = idle h (record h { core = hearing.after_row host_side h.core row }) p m e e is a b d
 
@@ -105,13 +106,13 @@ heard_packet h packet.ServerCapability m e is = heard_hello h packet.ServerCapab
 heard_packet h packet.ClientCapability m e is = heard_hello h packet.ClientCapability m e is refl refl refl (met hello_layout (at_start m))
 heard_packet h packet.UserLoggedOn m e is = heard_hello h packet.UserLoggedOn m e is refl refl refl (met hello_layout (at_start m))
 
-deaf : (h : HostCoreState) (m : List ℕ) (fault : EndFault) → (h.core).fault ≡ Some fault → host.hear h m ≡ (h, Err fault)
+deaf : (h : HostCoreState) (m : List ℕ) (fault : EndFault) → (h.core).fault ≡ Some fault → host_hear h m ≡ (h, Err fault)
 deaf h m fault e = rw e refl
 
-listening : (h : HostCoreState) (m : List ℕ) → (h.core).fault ≡ None → host.hear h m ≡ made h (hearing.said host_side (h.core).shake m)
+listening : (h : HostCoreState) (m : List ℕ) → (h.core).fault ≡ None → host_hear h m ≡ made h (hearing.said host_side (h.core).shake m)
 listening h m e = rw e refl
 
-pub heard : (h : HostCoreState) (m : List ℕ) → Heard h m (host.hear h m)
+pub heard : (h : HostCoreState) (m : List ℕ) → Heard h m (host_hear h m)
 heard h m = by_fault (h.core).fault refl
   where
     by_state : (p : Packet) → (h.core).fault ≡ None → packet_in m ≡ Some p → (b : Bool) → hearing.is_read_in host_side (h.core).shake p ≡ b → Heard h m (made h (hearing.from_known host_side (h.core).shake m p))
@@ -126,7 +127,7 @@ heard h m = by_fault (h.core).fault refl
         (e, e, nothing.0, nothing.1, nothing.2)
     by_header e (Ok (Some p, rest)) e2 = by_state p e (rw e2 refl) (hearing.is_read_in host_side (h.core).shake p) refl
 
-    by_fault : (f : Option EndFault) → (h.core).fault ≡ f → Heard h m (host.hear h m)
+    by_fault : (f : Option EndFault) → (h.core).fault ≡ f → Heard h m (host_hear h m)
     by_fault (Some fault) e = subst (Heard h m) (sym (deaf h m fault e)) (ap is_some e)
     by_fault None e = subst (Heard h m) (sym (listening h m e)) (by_header e (met any_header (at_start m)) refl)
 
@@ -160,25 +161,24 @@ notice_quiet (notice.UsingXps printer flags) = packet_is packet.PrinterUsingXps 
 reply_quiet : (h : HostCoreState) (device : ℕ) (code : Status) → AreQuiet (h.core).outbox → AreQuiet ((host.reply h device code).core).outbox
 reply_quiet h device code all = all_more IsQuiet (h.core).outbox _ all (packet_is packet.DeviceReply packet.IoRequest _ (written_packet packet.DeviceReply _), tt)
 
-heard_quiet : (h : HostCoreState) (m : List ℕ) → AreQuiet (h.core).outbox → AreQuiet (((host.hear h m).0).core).outbox
+heard_quiet : (h : HostCoreState) (m : List ℕ) → AreQuiet (h.core).outbox → AreQuiet (((host_hear h m).0).core).outbox
 heard_quiet h m all = by_fault (h.core).fault refl
   where
-    by : (s : Said HostState Act) → AreQuiet (((made h s).0).core).outbox
+    by : (s : Meaning HostState Act) → AreQuiet (((made h s).0).core).outbox
     by (wrong fault) = all
     by nothing = all
     by (opens row) = all_more IsQuiet (h.core).outbox _ all (hellos_quiet (option_to_list row.first ++ option_to_list row.second))
     by (says a) = all
 
-    by_fault : (f : Option EndFault) → (h.core).fault ≡ f → AreQuiet (((host.hear h m).0).core).outbox
+    by_fault : (f : Option EndFault) → (h.core).fault ≡ f → AreQuiet (((host_hear h m).0).core).outbox
     by_fault (Some fault) e = subst (λ (x : HostCoreState × Result Act EndFault). AreQuiet ((x.0).core).outbox) (sym (deaf h m fault e)) all
     by_fault None e = subst (λ (x : HostCoreState × Result Act EndFault). AreQuiet ((x.0).core).outbox) (sym (listening h m e)) (by (hearing.said host_side (h.core).shake m))
 
 admits_quiet : (s : HostSide) (a : Announce) → AreQuiet ((s.core).core).outbox → AreQuiet (((admits s a).core).core).outbox
-admits_quiet s a all = go (is_served a.kind) refl
-  where
-    go : (b : Bool) → is_served a.kind ≡ b → AreQuiet (((admits s a).core).core).outbox
-    go false e = rw e (reply_quiet s.core a.id status.not_supported all)
-    go true e = rw e (reply_quiet s.core a.id (live_code (table.live s.table a.id).1) all)
+admits_quiet s a all = elim (cases_Bool (is_served_type a.kind)) [
+  | inl e ↦ rw e (reply_quiet s.core a.id (live_code (table.live s.table a.id).1) all)
+  | inr e ↦ rw e (reply_quiet s.core a.id status.not_supported all)
+]
 
 admitted_quiet : (s : HostSide) (devices : List Announce) → AreQuiet ((s.core).core).outbox → AreQuiet (((fold admits s devices).core).core).outbox
 admitted_quiet s [] all = all
@@ -189,19 +189,19 @@ forgot_quiet s [] all = all
 forgot_quiet s (id ∷ ids) all = forgot_quiet (forgets s id) ids all
 
 hears_quiet : (s : HostSide) (m : List ℕ) → AreQuiet ((s.core).core).outbox → AreQuiet (((hears s m).core).core).outbox
-hears_quiet s m all = go (host.hear s.core m) refl (heard_quiet s.core m all)
+hears_quiet s m all = go (host_hear s.core m) refl (heard_quiet s.core m all)
   where
-    go : (r : HostCoreState × Result Act EndFault) → host.hear s.core m ≡ r → AreQuiet (((host.hear s.core m).0).core).outbox → AreQuiet (((hears s m).core).core).outbox
+    go : (r : HostCoreState × Result Act EndFault) → host_hear s.core m ≡ r → AreQuiet (((host_hear s.core m).0).core).outbox → AreQuiet (((hears s m).core).core).outbox
     go (c, Err fault) e quiet = rw e (subst (λ (x : HostCoreState × Result Act EndFault). AreQuiet ((x.0).core).outbox) e quiet)
     go (c, Ok act.Nothing) e quiet = rw e (subst (λ (x : HostCoreState × Result Act EndFault). AreQuiet ((x.0).core).outbox) e quiet)
     go (c, Ok (act.Announced devices)) e quiet = rw e (admitted_quiet (record s { core = c }) devices (subst (λ (x : HostCoreState × Result Act EndFault). AreQuiet ((x.0).core).outbox) e quiet))
     go (c, Ok (act.Removed ids)) e quiet = rw e (forgot_quiet (record s { core = c }) ids (subst (λ (x : HostCoreState × Result Act EndFault). AreQuiet ((x.0).core).outbox) e quiet))
     go (c, Ok (act.Complete head bytes)) e quiet = rw e (subst (λ (x : HostCoreState × Result Act EndFault). AreQuiet ((x.0).core).outbox) e quiet)
 
-sends_quiet : (s : HostSide) → AreQuiet ((s.core).core).outbox → AreQuiet (((sends s).core).core).outbox
+sends_quiet : (s : HostSide) → AreQuiet ((s.core).core).outbox → AreQuiet (((side_sends s).core).core).outbox
 sends_quiet s all = go ((s.core).core).outbox refl
   where
-    go : (o : List (List ℕ)) → ((s.core).core).outbox ≡ o → AreQuiet (((sends s).core).core).outbox
+    go : (o : List (List ℕ)) → ((s.core).core).outbox ≡ o → AreQuiet (((side_sends s).core).core).outbox
     go [] e = rw e tt
     go (m ∷ ms) e = rw e (subst AreQuiet e all).1
 

@@ -7,9 +7,8 @@ use Rattle.rd_base.specs.declared.journal.Key.{Key}
 use Rattle.rd_base.specs.declared.status.Status.{Status}
 use Rattle.rd_devices.specs.declared.list.Announce.{Announce}
 use Rattle.rd_hello.specs.declared.end_fault.EndFault.{EndFault}
-use Rattle.rd_host.specs.Core as host
-use Rattle.rd_host.specs.Core.{HostCoreState}
-use Rattle.rd_host.specs.Served.{is_served}
+use Rattle.rd_host.specs.Core.{HostCoreState, host_hear}
+use Rattle.rd_host.specs.Served.{is_served_type}
 use Rattle.rd_host.specs.declared.act.Act.{Act}
 use Rattle.rd_host.specs.declared.act.Act.TheVariants as act
 use Rattle.rd_irp.specs.declared.completion.Head.{Head}
@@ -28,13 +27,13 @@ use Rattle.rd_pending.proofs.Histories.{past}
 use Rattle.rd_pending.proofs.Neutral.{heard_all, heard_all_more}
 use Rattle.rd_pending.proofs.Sound.{course}
 use Rattle.rd_world.specs.Host.{HostSide}
-use Rattle.rd_world.specs.HostDeeds.{admitted_by, admitting, admitting_one, calls_of, forgetting, lives_by, side_of}
-use Rattle.rd_world.specs.Joining.{Counted, IsCarried, Stands}
-use Rattle.rd_world.specs.Talk.{AtEachPoint, Deed, EachAfter, EndsWith, Has, adds, answered, asked, asks_pair, client_read, client_reads, client_writes, client_wrote, completes, has_pair, head_in, host_begins, host_ends, host_read, host_reads, host_writes, indices_of, is_request, removes, request_at, request_in, stores, submits, takes, tells}
+use Rattle.rd_world.specs.HostDeeds.{admitted_by, admitting, admitting_one, calls_of, lives_by, removal_calls, side_of}
+use Rattle.rd_world.specs.Joining.{AnswersAreAsked, IsCarried, Stands}
+use Rattle.rd_world.specs.Talk.{AtEachPoint, Deed, EachAfter, EndsWith, Has, adds, answered, asked, client_read, client_reads, client_writes, client_wrote, completes, head_in, host_begins, host_ends, host_read, host_reads, host_writes, indices_of, is_request, message_asks_pair, message_has_pair, removes, request_at, request_in, stores, submits, takes, tells}
 use Rattle.rd_world.proofs.Calls.{Does, calls_hold, heard_by_deed, heard_step, taken}
 use Rattle.rd_world.proofs.Counting.{asked_pairs, length-answered}
 use Rattle.rd_world.proofs.Hearings.{Heard, heard}
-use Rattle.rd_world.proofs.Lists.{at_front, fewer_in_end}
+use Rattle.rd_world.proofs.Lists.{is_first, fewer_in_end}
 use Rattle.rd_world.proofs.Telling.{Tells}
 
 -- ---- completions that were taken
@@ -43,7 +42,7 @@ abbrev pub pairs_in : ℕ → ℕ → List Tidings → ℕ
 pairs_in d i [] = 0
 pairs_in d i (outcomes.begins e ∷ xs) = pairs_in d i xs
 pairs_in d i (outcomes.removes e ∷ xs) = pairs_in d i xs
-pairs_in d i (outcomes.completes head bytes ∷ xs) = cond (outcomes.has_pair d i head) 1 0 + pairs_in d i xs
+pairs_in d i (outcomes.completes head bytes ∷ xs) = cond (outcomes.head_has_pair d i head) 1 0 + pairs_in d i xs
 
 pub pairs_more : (d i : ℕ) (xs ys : List Tidings) → pairs_in d i (xs ++ ys) ≡ pairs_in d i xs + pairs_in d i ys
 pairs_more d i [] ys = omega arith
@@ -70,7 +69,7 @@ none_admitting d i t [] = refl
 none_admitting d i t (a ∷ devices) =
     ap (pairs_in d i) (heard_all_more (admitting (admitted_by t a) devices) (admitting_one t a))
     ∙ pairs_more d i (heard_all (admitting_one t a)) (heard_all (admitting (admitted_by t a) devices))
-    ∙ both (pairs_in d i (heard_all (admitting_one t a))) (pairs_in d i (heard_all (admitting (admitted_by t a) devices))) (one (is_served a.kind) (live_refusal t a.id)) (none_admitting d i (admitted_by t a) devices)
+    ∙ both (pairs_in d i (heard_all (admitting_one t a))) (pairs_in d i (heard_all (admitting (admitted_by t a) devices))) (one (is_served_type a.kind) (live_refusal t a.id)) (none_admitting d i (admitted_by t a) devices)
   where
     one : (b : Bool) (o : Option LiveNo) → pairs_in d i (heard_all (cond b (lives_by o a.id) [])) ≡ 0
     one false o = refl
@@ -80,35 +79,35 @@ none_admitting d i t (a ∷ devices) =
     both : (x y : ℕ) → x ≡ 0 → y ≡ 0 → x + y ≡ 0
     both x y e e2 = omega (arith, e, e2)
 
-none_removed : (d i : ℕ) (ids : List ℕ) → pairs_in d i (heard_all (forgetting ids)) ≡ 0
+none_removed : (d i : ℕ) (ids : List ℕ) → pairs_in d i (heard_all (removal_calls ids)) ≡ 0
 none_removed d i [] = refl
-none_removed d i (id ∷ ids) = ap (pairs_in d i) (heard_all_more (forgetting ids) (call.removes id ∷ [])) ∙ none_removed d i ids
+none_removed d i (id ∷ ids) = ap (pairs_in d i) (heard_all_more (removal_calls ids) (call.removes id ∷ [])) ∙ none_removed d i ids
 
-pub taken_pairs : (d i : ℕ) (s : HostSide) (m : List ℕ) → pairs_in d i (taken s m) ≤ cond (has_pair d i m) 1 0
-taken_pairs d i s m = go (host.hear s.core m) refl (heard s.core m)
+pub taken_pairs : (d i : ℕ) (s : HostSide) (m : List ℕ) → pairs_in d i (taken s m) ≤ cond (message_has_pair d i m) 1 0
+taken_pairs d i s m = go (host_hear s.core m) refl (heard s.core m)
   where
     low : (b : Bool) → 0 ≤ cond b 1 0
     low b = omega arith
 
-    completion : (head : Head) (bytes : List ℕ) → (host.hear s.core m).1 ≡ Ok (act.Complete head bytes) → has_pair d i m ≡ outcomes.has_pair d i head
-        → (r : Result Completed CompleteNo) → (table.complete s.table head bytes).1 ≡ r → pairs_in d i (taken s m) ≤ cond (has_pair d i m) 1 0
-    completion head bytes e same (Ok gave) e2 = rw (e, e2, same) (plus_none (cond (outcomes.has_pair d i head) 1 0))
+    completion : (head : Head) (bytes : List ℕ) → (host_hear s.core m).1 ≡ Ok (act.Complete head bytes) → message_has_pair d i m ≡ outcomes.head_has_pair d i head
+        → (r : Result Completed CompleteNo) → (table.complete s.table head bytes).1 ≡ r → pairs_in d i (taken s m) ≤ cond (message_has_pair d i m) 1 0
+    completion head bytes e same (Ok gave) e2 = rw (e, e2, same) (plus_none (cond (outcomes.head_has_pair d i head) 1 0))
       where
         plus_none : (n : ℕ) → n + 0 ≤ n
         plus_none n = omega arith
-    completion head bytes e same (Err cause) e2 = rw (e, e2) (low (has_pair d i m))
+    completion head bytes e same (Err cause) e2 = rw (e, e2) (low (message_has_pair d i m))
 
-    go : (r : HostCoreState × Result Act EndFault) → host.hear s.core m ≡ r → Heard s.core m (host.hear s.core m) → pairs_in d i (taken s m) ≤ cond (has_pair d i m) 1 0
-    go (c, Err fault) e is = rw e (low (has_pair d i m))
-    go (c, Ok act.Nothing) e is = rw e (low (has_pair d i m))
-    go (c, Ok (act.Announced devices)) e is = rw (e, none_admitting d i s.table devices) (low (has_pair d i m))
-    go (c, Ok (act.Removed ids)) e is = rw (e, none_removed d i ids) (low (has_pair d i m))
+    go : (r : HostCoreState × Result Act EndFault) → host_hear s.core m ≡ r → Heard s.core m (host_hear s.core m) → pairs_in d i (taken s m) ≤ cond (message_has_pair d i m) 1 0
+    go (c, Err fault) e is = rw e (low (message_has_pair d i m))
+    go (c, Ok act.Nothing) e is = rw e (low (message_has_pair d i m))
+    go (c, Ok (act.Announced devices)) e is = rw (e, none_admitting d i s.table devices) (low (message_has_pair d i m))
+    go (c, Ok (act.Removed ids)) e is = rw (e, none_removed d i ids) (low (message_has_pair d i m))
     go (c, Ok (act.Complete head bytes)) e is =
         let facts = subst (Heard s.core m) e is in
         completion head bytes (ap (λ (x : HostCoreState × Result Act EndFault). x.1) e) (rw facts.5 refl) (table.complete s.table head bytes).1 refl
 
 -- no more are taken than are read
-pub heard_read : (client c d i : ℕ) (deeds : List Deed) → Does client deeds → pairs_in d i (heard_on c (calls_of client deeds)) ≤ length (filter (has_pair d i) (host_read c deeds))
+pub heard_read : (client c d i : ℕ) (deeds : List Deed) → Does client deeds → pairs_in d i (heard_on c (calls_of client deeds)) ≤ length (filter (message_has_pair d i) (host_read c deeds))
 heard_read client c d i [] may = omega arith
 heard_read client c d i (deed ∷ before) may = step deed may (heard_read client c d i before may.1)
   where
@@ -118,22 +117,22 @@ heard_read client c d i (deed ∷ before) may = step deed may (heard_read client
     all : (deed : Deed) → Does client (deed ∷ before) → pairs_in d i (heard_on c (calls_of client (deed ∷ before))) ≡ pairs_in d i heard + pairs_in d i (heard_by_deed client c before deed)
     all deed may = ap (pairs_in d i) (heard_step client c before deed may) ∙ pairs_more d i heard (heard_by_deed client c before deed)
 
-    quiet : (deed : Deed) → Does client (deed ∷ before) → heard_by_deed client c before deed ≡ [] → pairs_in d i heard ≤ length (filter (has_pair d i) (host_read c before))
-        → pairs_in d i (heard_on c (calls_of client (deed ∷ before))) ≤ length (filter (has_pair d i) (host_read c before))
+    quiet : (deed : Deed) → Does client (deed ∷ before) → heard_by_deed client c before deed ≡ [] → pairs_in d i heard ≤ length (filter (message_has_pair d i) (host_read c before))
+        → pairs_in d i (heard_on c (calls_of client (deed ∷ before))) ≤ length (filter (message_has_pair d i) (host_read c before))
     quiet deed may none old = omega (arith, old, all deed may, ap (pairs_in d i) none)
 
-    read : (channel : ℕ) (m : List ℕ) → Does client (host_reads channel m ∷ before) → pairs_in d i heard ≤ length (filter (has_pair d i) (host_read c before))
-        → (b : Bool) → (channel == c) ≡ b → pairs_in d i (heard_on c (calls_of client (host_reads channel m ∷ before))) ≤ length (filter (has_pair d i) (cons_option (cond b (Some m) None) (host_read c before)))
+    read : (channel : ℕ) (m : List ℕ) → Does client (host_reads channel m ∷ before) → pairs_in d i heard ≤ length (filter (message_has_pair d i) (host_read c before))
+        → (b : Bool) → (channel == c) ≡ b → pairs_in d i (heard_on c (calls_of client (host_reads channel m ∷ before))) ≤ length (filter (message_has_pair d i) (cons_option (cond b (Some m) None) (host_read c before)))
     read channel m may old false e =
         let none : heard_by_deed client c before (host_reads channel m) ≡ [] = rw e refl in
         omega (arith, old, all (host_reads channel m) may, ap (pairs_in d i) none)
-    read channel m may old true e = by (has_pair d i m) refl
+    read channel m may old true e = by (message_has_pair d i m) refl
       where
         own : heard_by_deed client c before (host_reads channel m) ≡ taken (side_of client before) m
         own = rw e refl
 
-        by : (b : Bool) → has_pair d i m ≡ b
-            → pairs_in d i (heard_on c (calls_of client (host_reads channel m ∷ before))) ≤ length (cond (has_pair d i m) (m ∷ filter (has_pair d i) (host_read c before)) (filter (has_pair d i) (host_read c before)))
+        by : (b : Bool) → message_has_pair d i m ≡ b
+            → pairs_in d i (heard_on c (calls_of client (host_reads channel m ∷ before))) ≤ length (cond (message_has_pair d i m) (m ∷ filter (message_has_pair d i) (host_read c before)) (filter (message_has_pair d i) (host_read c before)))
         by true e2 =
             let one : pairs_in d i (taken (side_of client before) m) ≤ 1 = subst (λ (b : Bool). pairs_in d i (taken (side_of client before) m) ≤ cond b 1 0) e2 (taken_pairs d i (side_of client before) m) in
             rw e2 (omega (arith, old, one, all (host_reads channel m) may, ap (pairs_in d i) own))
@@ -141,8 +140,8 @@ heard_read client c d i (deed ∷ before) may = step deed may (heard_read client
             let none : pairs_in d i (taken (side_of client before) m) ≤ 0 = subst (λ (b : Bool). pairs_in d i (taken (side_of client before) m) ≤ cond b 1 0) e2 (taken_pairs d i (side_of client before) m) in
             rw e2 (omega (arith, old, none, all (host_reads channel m) may, ap (pairs_in d i) own))
 
-    step : (deed : Deed) → Does client (deed ∷ before) → pairs_in d i heard ≤ length (filter (has_pair d i) (host_read c before))
-        → pairs_in d i (heard_on c (calls_of client (deed ∷ before))) ≤ length (filter (has_pair d i) (host_read c (deed ∷ before)))
+    step : (deed : Deed) → Does client (deed ∷ before) → pairs_in d i heard ≤ length (filter (message_has_pair d i) (host_read c before))
+        → pairs_in d i (heard_on c (calls_of client (deed ∷ before))) ≤ length (filter (message_has_pair d i) (host_read c (deed ∷ before)))
     step (host_reads channel m) may old = read channel m may old (channel == c) refl
     step (host_begins channel) may old = quiet (host_begins channel) may refl old
     step (host_ends channel) may old = quiet (host_ends channel) may refl old
@@ -159,7 +158,7 @@ heard_read client c d i (deed ∷ before) may = step deed may (heard_read client
 
 pub heard_answered : (client : ℕ) (deeds : List Deed) → Does client deeds → IsCarried deeds → EachAfter Stands deeds → (c d i : ℕ) → pairs_in d i (heard_on c (calls_of client deeds)) ≤ length (answered c d i deeds)
 heard_answered client deeds may carried stands c d i =
-    omega (arith, heard_read client c d i deeds may, fewer_in_end (has_pair d i) (client_wrote c deeds) (host_read c deeds) (carried.to_host c), length-answered deeds stands c d i)
+    omega (arith, heard_read client c d i deeds may, fewer_in_end (message_has_pair d i) (client_wrote c deeds) (host_read c deeds) (carried.to_host c), length-answered deeds stands c d i)
 
 -- ---- the count of what is answered
 
@@ -177,26 +176,26 @@ has_index r d i k (m ∷ older) e e2 found = go (is_request m) (length (filter i
     more false has = has
 
     go : (b q : Bool) → (length (filter is_request older) == k) ≡ q → cond (b && q) (request_in m) (request_at older k) ≡ Some r → (request_at older k ≡ Some r → Has k (indices_of d i older))
-        → Has k (cond (b && asks_pair d i m) (length (filter is_request older) ∷ indices_of d i older) (indices_of d i older))
+        → Has k (cond (b && message_asks_pair d i m) (length (filter is_request older) ∷ indices_of d i older) (indices_of d i older))
     go true true e3 found later =
-        let test : asks_pair d i m ≡ true = rw (found, eq-eqb r.device d e, eq-eqb r.completion i e2) refl in
+        let test : message_asks_pair d i m ≡ true = rw (found, eq-eqb r.device d e, eq-eqb r.completion i e2) refl in
         rw test (inl (sym (eqb-true (length (filter is_request older)) k e3)))
-    go true false e3 found later = more (asks_pair d i m) (later found)
+    go true false e3 found later = more (message_asks_pair d i m) (later found)
     go false q e3 found later = later found
 
 -- what completes a pair answers a request with it
-own_pair : (d i : ℕ) (m : List ℕ) (r : Request) (s : Status) → head_in m ≡ Some (record { device = r.device; completion = r.completion; status = s }) → has_pair d i m ≡ true → (r.device ≡ d) × (r.completion ≡ i)
+own_pair : (d i : ℕ) (m : List ℕ) (r : Request) (s : Status) → head_in m ≡ Some (record { device = r.device; completion = r.completion; status = s }) → message_has_pair d i m ≡ true → (r.device ≡ d) × (r.completion ≡ i)
 own_pair d i m r s e has =
     let test : (r.device == d && r.completion == i) ≡ true = sym (rw e refl) ∙ has in
     (grind (arith, nat_tests), grind (arith, nat_tests))
 
 -- a completion answers the newest request with its pair, and the only one that isn't answered
-pub answers_newest : (client : ℕ) (before : List Deed) (key : Key) (m : List ℕ) (d i : ℕ) → Does client before → IsCarried before → EachAfter Stands before → Counted before
-    → Tells before (completes key m) → has_pair d i m ≡ true → asked key.channel d i before ≡ key.index ∷ answered key.channel d i before
+pub answers_newest : (client : ℕ) (before : List Deed) (key : Key) (m : List ℕ) (d i : ℕ) → Does client before → IsCarried before → EachAfter Stands before → AnswersAreAsked before
+    → Tells before (completes key m) → message_has_pair d i m ≡ true → asked key.channel d i before ≡ key.index ∷ answered key.channel d i before
 answers_newest client before key m d i may carried stands counted told has =
     let r = told.0.0 in
     let pair = own_pair d i m r told.0.2 told.0.3 has in
-    at_front (asked key.channel d i before) (answered key.channel d i before) key.index (counted key.channel d i)
+    is_first (asked key.channel d i before) (answered key.channel d i before) key.index (counted key.channel d i)
     (at_most_one client before may carried stands key.channel d i) (has_index r d i key.index (client_read key.channel before) pair.0 pair.1 told.0.1) (told.1 d i)
 
 ends_more : {A : Type 0} (b : Bool) (x : A) (xs ys : List A) → EndsWith xs ys → EndsWith (cond b (x ∷ xs) xs) ys
@@ -207,11 +206,11 @@ pub carried_now : (deeds : List Deed) → AtEachPoint IsCarried deeds → IsCarr
 carried_now [] carried = carried
 carried_now (deed ∷ before) carried = carried.0
 
-pub counted : (client : ℕ) (deeds : List Deed) → Does client deeds → AtEachPoint IsCarried deeds → EachAfter Stands deeds → EachAfter Tells deeds → Counted deeds
+pub counted : (client : ℕ) (deeds : List Deed) → Does client deeds → AtEachPoint IsCarried deeds → EachAfter Stands deeds → EachAfter Tells deeds → AnswersAreAsked deeds
 counted client [] may carried stands told c d i = ([], refl)
-counted client (completes key m ∷ before) may carried stands told c d i = go (key.channel == c) refl (has_pair d i m) refl (counted client before may.1 carried.1 stands.1 told.1)
+counted client (completes key m ∷ before) may carried stands told c d i = go (key.channel == c) refl (message_has_pair d i m) refl (counted client before may.1 carried.1 stands.1 told.1)
   where
-    go : (p : Bool) → (key.channel == c) ≡ p → (q : Bool) → has_pair d i m ≡ q → Counted before → EndsWith (asked c d i before) (cons_option (cond (p && q) (Some key.index) None) (answered c d i before))
+    go : (p : Bool) → (key.channel == c) ≡ p → (q : Bool) → message_has_pair d i m ≡ q → AnswersAreAsked before → EndsWith (asked c d i before) (cons_option (cond (p && q) (Some key.index) None) (answered c d i before))
     go true e true e2 old =
         let all = answers_newest client before key m d i may.1 (carried_now before carried.1) stands.1 old told.0 e2 in
         subst (λ (x : ℕ). EndsWith (asked x d i before) (key.index ∷ answered x d i before)) (eqb-true key.channel c e) ([], all)
@@ -220,7 +219,7 @@ counted client (completes key m ∷ before) may carried stands told c d i = go (
 counted client (client_reads channel m ∷ before) may carried stands told c d i = go (channel == c) (counted client before may.1 carried.1 stands.1 told.1 c d i)
   where
     go : (b : Bool) → EndsWith (asked c d i before) (answered c d i before) → EndsWith (indices_of d i (cons_option (cond b (Some m) None) (client_read c before))) (answered c d i before)
-    go true old = ends_more (is_request m && asks_pair d i m) (length (filter is_request (client_read c before))) _ _ old
+    go true old = ends_more (is_request m && message_asks_pair d i m) (length (filter is_request (client_read c before))) _ _ old
     go false old = old
 counted client (host_begins channel ∷ before) may carried stands told c d i = counted client before may.1 carried.1 stands.1 told.1 c d i
 counted client (host_ends channel ∷ before) may carried stands told c d i = counted client before may.1 carried.1 stands.1 told.1 c d i

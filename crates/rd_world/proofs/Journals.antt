@@ -12,9 +12,6 @@ use Rattle.rd_world.specs.Talk.{EachAfter, Has}
 
 -- ---- lists in both orders
 
-last_first : {A : Type 0} (x : A) (xs : List A) → reverse (x ∷ xs) ≡ reverse xs ++ x ∷ []
-last_first x xs = reverse-append (x ∷ []) xs
-
 contains_one : {A : Type 0} (x : A) → Contains (x ∷ []) x
 contains_one x = (0, lit< tt, refl)
 
@@ -24,14 +21,14 @@ one_contains x y (suc k, low, e) = absurd (omega (arith, low))
 
 pub has_contains : {A : Type 0} (x : A) (xs : List A) → Has x xs → Contains (reverse xs) x
 has_contains x [] has = absurd has
-has_contains {A} x (y ∷ ys) has = subst (λ (zs : List A). Contains zs x) (sym (last_first y ys)) (elim has [
+has_contains {A} x (y ∷ ys) has = subst (λ (zs : List A). Contains zs x) (sym (reverse-append (y ∷ []) ys)) (elim has [
   | inl same ↦ Contains-append_right (reverse ys) (y ∷ []) x (subst (λ (z : A). Contains (z ∷ []) x) same (contains_one x))
   | inr later ↦ Contains-append_left (reverse ys) (y ∷ []) x (has_contains x ys later)
 ])
 
 pub contains_has : {A : Type 0} (x : A) (xs : List A) → Contains (reverse xs) x → Has x xs
 contains_has x [] has = absurd (omega (arith, has.1))
-contains_has {A} x (y ∷ ys) has = elim (Contains-append_cases (reverse ys) (y ∷ []) x (subst (λ (zs : List A). Contains zs x) (last_first y ys) has)) [
+contains_has {A} x (y ∷ ys) has = elim (Contains-append_cases (reverse ys) (y ∷ []) x (subst (λ (zs : List A). Contains zs x) (reverse-append (y ∷ []) ys) has)) [
   | inl later ↦ inr (contains_has x ys later)
   | inr here ↦ inl (one_contains y x here)
 ]
@@ -48,12 +45,12 @@ IsPlain before (Cancelled key) = Has (Came key) before × (¬ (HasRun key before
 IsPlain before (Sent key) = (HasRun key before ⊎ Has (Cancelled key) before) × (¬ (Has (Sent key) before))
 IsPlain before _ = Unit {0}
 
-head_of : {P : List Item → Item → Type 0} (x : Item) (older : List Item) → base.EachAfter P (reverse (x ∷ older)) → P (reverse older) x
-head_of x older each = each (reverse older) x [] (last_first x older)
+head_of : {P : List Item → Item → Type 0} (x : Item) (older : List Item) → base.EachEntry P (reverse (x ∷ older)) → P (reverse older) x
+head_of x older each = each (reverse older) x [] (reverse-append (x ∷ []) older)
 
-older_of : {P : List Item → Item → Type 0} (x : Item) (older : List Item) → base.EachAfter P (reverse (x ∷ older)) → base.EachAfter P (reverse older)
+older_of : {P : List Item → Item → Type 0} (x : Item) (older : List Item) → base.EachEntry P (reverse (x ∷ older)) → base.EachEntry P (reverse older)
 older_of x older each before entry after same =
-    each before entry (after ++ x ∷ []) (last_first x older ∙ ap (λ (ys : List Item). ys ++ x ∷ []) same ∙ append_assoc before (entry ∷ after) (x ∷ []))
+    each before entry (after ++ x ∷ []) (reverse-append (x ∷ []) older ∙ ap (λ (ys : List Item). ys ++ x ∷ []) same ∙ append_assoc before (entry ∷ after) (x ∷ []))
 
 unsettled : (key : Key) (older : List Item) → base.IsUnsettled (reverse older) key → Has (Came key) older × (¬ (HasRun key older)) × (¬ (Has (Cancelled key) older))
 unsettled key older is = (
@@ -72,7 +69,7 @@ settled key older (k, x, low, at, settles) = go x (contains_has x older (k, low,
     go (Sent j) has same = absurd same
     go (Cut cause) has same = absurd same
 
-pub plain : (items : List Item) → base.EachAfter SettlesFirst (reverse items) → base.EachAfter SendsFirst (reverse items) → EachAfter IsPlain items
+pub plain : (items : List Item) → base.EachEntry SettlesFirst (reverse items) → base.EachEntry SendsFirst (reverse items) → EachAfter IsPlain items
 plain [] runs sends = tt
 plain (Came key ∷ older) runs sends = (tt, plain older (older_of (Came key) older runs) (older_of (Came key) older sends))
 plain (Ran key moment starved parked ∷ older) runs sends =

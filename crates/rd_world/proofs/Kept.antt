@@ -2,8 +2,9 @@
 use Rattle.std.proofs.Common.{◌≡◌, ◌⊎◌, ◌∙◌, sym, ap, inl, inr, ℕ, zero, suc, ◌<◌, ◌≤◌, ◌==◌, Bool, true, false, cond, List, [], ◌∷◌, ◌++◌, length, take, Some, arith, length-append}
 use Rattle.std.specs.Prelude.{filter, slice_get}
 use Rattle.std.proofs.lemmas.List.{take-append-le, take_all}
+use Rattle.std.proofs.lemmas.Bool.{cases_lt}
 use Rattle.rd_pending.specs.History.{accepted_in}
-use Rattle.rd_pending.specs.Outcomes.{Accepted, asks_pair}
+use Rattle.rd_pending.specs.Outcomes.{Accepted, is_accepted_as}
 use Rattle.rd_pending.proofs.AcceptedLemmas.{accepted_since}
 use Rattle.rd_pending.proofs.CountLemmas.{pairs}
 use Rattle.rd_pending.proofs.Tame.{newest}
@@ -48,17 +49,14 @@ was xs new n a (more, e) low at = record {
 
 -- ---- places
 
-less_or_not : (a b : ℕ) → (a < b) ⊎ (b ≤ a)
-less_or_not a b = grind arith
-
 pairs_taken : (c d i n k : ℕ) (xs : List Accepted) → n ≤ k → pairs c d i (take n xs) ≤ pairs c d i (take k xs)
 pairs_taken c d i zero k xs low = omega arith
 pairs_taken c d i (suc n) zero xs low = absurd (omega (arith, low))
 pairs_taken c d i (suc n) (suc k) [] low = omega arith
-pairs_taken c d i (suc n) (suc k) (x ∷ xs) low = by (asks_pair c d i x) (pairs_taken c d i n k xs (omega (arith, low)))
+pairs_taken c d i (suc n) (suc k) (x ∷ xs) low = by (is_accepted_as c d i x) (pairs_taken c d i n k xs (omega (arith, low)))
   where
     by : (b : Bool) → pairs c d i (take n xs) ≤ pairs c d i (take k xs)
-        → length (cond b (x ∷ filter (asks_pair c d i) (take n xs)) (filter (asks_pair c d i) (take n xs))) ≤ length (cond b (x ∷ filter (asks_pair c d i) (take k xs)) (filter (asks_pair c d i) (take k xs)))
+        → length (cond b (x ∷ filter (is_accepted_as c d i) (take n xs)) (filter (is_accepted_as c d i) (take n xs))) ≤ length (cond b (x ∷ filter (is_accepted_as c d i) (take k xs)) (filter (is_accepted_as c d i) (take k xs)))
     by true old = omega (arith, old)
     by false old = old
 
@@ -76,14 +74,14 @@ all_first xs new (more, e) = ap (take (length xs)) e ∙ take-append-le (length 
 
 -- one before which fewer have the pair than all of the first ones is among them
 pub placed_by_pair : (xs new : List Accepted) (c d i n : ℕ) → Kept xs new → pairs c d i (take n new) < pairs c d i xs → n < length xs
-placed_by_pair xs new c d i n kept fewer = elim (less_or_not n (length xs)) [
+placed_by_pair xs new c d i n kept fewer = elim (cases_lt n (length xs)) [
   | inl low ↦ low
   | inr high ↦ absurd (omega (arith, fewer, ap (pairs c d i) (all_first xs new kept), pairs_taken c d i (length xs) n new high))
 ]
 
 -- and so is one before which fewer are of a channel
 pub placed_by_channel : (xs new : List Accepted) (c n : ℕ) → Kept xs new → length (newest c (take n new)) < length (newest c xs) → n < length xs
-placed_by_channel xs new c n kept fewer = elim (less_or_not n (length xs)) [
+placed_by_channel xs new c n kept fewer = elim (cases_lt n (length xs)) [
   | inl low ↦ low
   | inr high ↦ absurd (omega (arith, fewer, ap (λ (ys : List Accepted). length (newest c ys)) (all_first xs new kept), newest_taken c (length xs) n new high))
 ]

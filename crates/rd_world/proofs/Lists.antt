@@ -36,11 +36,6 @@ same_end {A} [] b (y ∷ c) d e long = absurd (omega (arith, ap length e, length
 same_end {A} (x ∷ a) b [] d e long = absurd (omega (arith, ap length e, length-append {A = A} a b, long))
 same_end (x ∷ a) b (y ∷ c) d e long = same_end a b c d (cc e) long
 
--- a list of no members is empty
-pub none_long : {A : Type 0} (xs : List A) → length xs ≡ 0 → xs ≡ []
-none_long [] e = refl
-none_long (x ∷ xs) e = absurd (omega (arith, e))
-
 -- of two ends of a list one is an end of the other
 pub ends_either : {A : Type 0} (a x b y : List A) → a ++ x ≡ b ++ y → EndsWith x y ⊎ EndsWith y x
 ends_either [] x b y e = inl (b, e)
@@ -66,19 +61,19 @@ pub fewer_in_end : {A : Type 0} (p : A → Bool) (whole part : List A) → EndsW
 fewer_in_end {A} p whole part ends =
     rw (ends.1, filter-append p ends.0 part, length-append {A = A} (filter p ends.0) (filter p part)) (omega arith)
 
--- what is in a list, and not in its end, is the front, where that is short
-pub at_front : (whole part : List ℕ) (k : ℕ) → EndsWith whole part → length whole ≤ length part + 1 → Has k whole → ¬ (Has k part) → whole ≡ k ∷ part
-at_front whole part k ([], e) short has hasnt = absurd (hasnt (subst (Has k) e has))
-at_front whole part k (x ∷ [], e) short has hasnt =
+-- what is in a list, and not in its end, is the first, where that is short
+pub is_first : (whole part : List ℕ) (k : ℕ) → EndsWith whole part → length whole ≤ length part + 1 → Has k whole → ¬ (Has k part) → whole ≡ k ∷ part
+is_first whole part k ([], e) short has hasnt = absurd (hasnt (subst (Has k) e has))
+is_first whole part k (x ∷ [], e) short has hasnt =
     elim (subst (Has k) e has) [ inl same ↦ rw (same) e | inr h ↦ absurd (hasnt h) ]
-at_front whole part k (x ∷ y ∷ zs, e) short has hasnt = absurd (omega (arith, ap length e, length-append {A = ℕ} zs part))
+is_first whole part k (x ∷ y ∷ zs, e) short has hasnt = absurd (omega (arith, ap length e, length-append {A = ℕ} zs part))
 
 -- no end is as long but the whole
 pub all_of : {A : Type 0} (whole part : List A) → EndsWith whole part → length whole ≤ length part → whole ≡ part
 all_of whole part ([], e) short = e
 all_of {A} whole part (x ∷ xs, e) short = absurd (omega (arith, ap length e, length-append {A = A} xs part))
 
--- what holds of each member and those behind it holds of them in an end
+-- what holds of each member and those after it holds of them in an end
 pub each_end : {A : Type 0} (P : List A → A → Type 0) (xs ys : List A) → EachAfter P (xs ++ ys) → EachAfter P ys
 each_end P [] ys each = each
 each_end P (x ∷ xs) ys each = each_end P xs ys each.1

@@ -6,11 +6,11 @@ use Rattle.std.specs.Map.{keys_of, lookup, remove_entry}
 use Rattle.std.specs.Ordering.{nat_cmp}
 use Rattle.std.specs.BTreeMap.{insert_entry, is_at}
 use Rattle.std.specs.List.Sorted.{IsStrictlySortedBy}
+use Rattle.std.proofs.lemmas.Bool.{cases_eq}
 use Rattle.rd_devices.specs.declared.list.Announce.{Announce}
 use Rattle.rd_hello.specs.declared.end_fault.EndFault.{EndFault}
-use Rattle.rd_host.specs.Core as host
-use Rattle.rd_host.specs.Core.{HostCoreState}
-use Rattle.rd_host.specs.Served.{is_served}
+use Rattle.rd_host.specs.Core.{HostCoreState, host_hear}
+use Rattle.rd_host.specs.Served.{is_served_type}
 use Rattle.rd_host.specs.declared.act.Act.{Act}
 use Rattle.rd_host.specs.declared.act.Act.TheVariants as act
 use Rattle.rd_irp.specs.declared.completion.Head.{Head}
@@ -23,9 +23,9 @@ use Rattle.rd_pending.specs.Table as table
 use Rattle.rd_pending.specs.Table.{Fate, TableState, Untaken, freed, life_of, live_refusal, untaken_at, with_fate}
 use Rattle.rd_pending.proofs.CourseLemmas.{course_begins, through_course}
 use Rattle.rd_pending.proofs.Effects as effects
-use Rattle.rd_pending.proofs.MapLemmas.{beside, gone, kept, rises_without, same_or_other}
+use Rattle.rd_pending.proofs.MapLemmas.{beside, gone, kept, rises_without}
 use Rattle.rd_pending.proofs.Tame.{tame_take}
-use Rattle.rd_world.specs.Host.{HostSide, admits, forgets, hears, sends}
+use Rattle.rd_world.specs.Host.{HostSide, admits, forgets, hears, side_sends}
 use Rattle.rd_world.specs.HostDeeds.{calls_of, side_of}
 use Rattle.rd_world.specs.Talk.{Deed, adds, announced_in, client_reads, client_writes, completes, host_begins, host_ends, host_read, host_reads, host_writes, removed_in, removes, stores, submits, takes, tells}
 use Rattle.rd_world.specs.Told.{is_said_gone}
@@ -68,7 +68,7 @@ begun_one t d e there = go (live_refusal t d) refl
   where
     go : (o : Option LiveNo) → live_refusal t d ≡ o → ((d == e) ≡ true) ⊎ (is_there t e ≡ true)
     go (Some cause) is = let same : (table.live t d).0 ≡ t = rw is refl in inr (subst (λ (x : TableState). is_there x e ≡ true) same there)
-    go None is = elim (same_or_other e d) [
+    go None is = elim (cases_eq e d) [
       | inl same ↦ inl (eq-eqb d e (sym same))
       | inr other ↦
           let new : is_some (lookup (is_at (nat_cmp e)) (insert_entry nat_cmp t.lives d (t.given + 1))) ≡ true = subst (λ (x : TableState). is_there x e ≡ true) (effects.lives t d is).new there in
@@ -82,7 +82,7 @@ removed_one t d e rising there = elim (effects.removes t d) [
       (ne_eqb d e (λ same. absurd (cc (old, ap is_some none.absent, same))), old)
   | inr effect ↦
       let new : is_some (lookup (is_at (nat_cmp e)) (remove_entry (is_at (nat_cmp d)) t.lives)) ≡ true = subst (λ (x : TableState). is_there x e ≡ true) effect.new there in
-      elim (same_or_other e d) [
+      elim (cases_eq e d) [
         | inl same ↦
             let none : is_some (lookup (is_at (nat_cmp e)) (remove_entry (is_at (nat_cmp d)) t.lives)) ≡ false = subst (λ (x : ℕ). is_some (lookup (is_at (nat_cmp x)) (remove_entry (is_at (nat_cmp d)) t.lives)) ≡ false) (sym same) (ap is_some (gone d t.lives rising)) in
             absurd (cc (new, none))
@@ -99,7 +99,7 @@ removed_rises t d rising = elim (effects.removes t d) [
 -- ---- a message
 
 admitted_one : (s : HostSide) (a : Announce) (d : ℕ) → is_there (admits s a).table d ≡ true → ((a.id == d) ≡ true) ⊎ (is_there s.table d ≡ true)
-admitted_one s a d there = go (is_served a.kind) (subst (λ (x : TableState). is_there x d ≡ true) (admits_table s a) there)
+admitted_one s a d there = go (is_served_type a.kind) (subst (λ (x : TableState). is_there x d ≡ true) (admits_table s a) there)
   where
     go : (b : Bool) → is_there (cond b (table.live s.table a.id).0 s.table) d ≡ true → ((a.id == d) ≡ true) ⊎ (is_there s.table d ≡ true)
     go true there = begun_one s.table a.id d there
@@ -125,18 +125,18 @@ forgot_all s (id ∷ ids) d rising there =
     let here = removed_one s.table id d rising later.1 in
     (rw (here.0, later.0) refl, here.1)
 
--- a device that is there behind a message that was understood wasn't removed by it, and was there, or was announced by it
+-- a device that is there after a message that was understood wasn't removed by it, and was there, or was announced by it
 pub record Stays (s : HostSide) (m : List ℕ) (d : ℕ) : Type 0 where
   pub unremoved : list_any (λ (id : ℕ). id == d) (removed_in m) ≡ false
   pub since : (list_any (λ (a : Announce). a.id == d) (announced_in m) ≡ true) ⊎ (is_there s.table d ≡ true)
 
 pub stays : (s : HostSide) (m : List ℕ) (d : ℕ) → Rises s.table → (((hears s m).core).core).fault ≡ None → is_there (hears s m).table d ≡ true → Stays s m d
-stays s m d rising fine there = go (host.hear s.core m) refl (heard s.core m)
+stays s m d rising fine there = go (host_hear s.core m) refl (heard s.core m)
   where
     told : (x : HostSide) → hears s m ≡ x → is_there x.table d ≡ true
     told x e = subst (λ (y : HostSide). is_there y.table d ≡ true) e there
 
-    go : (r : HostCoreState × Result Act EndFault) → host.hear s.core m ≡ r → Heard s.core m (host.hear s.core m) → Stays s m d
+    go : (r : HostCoreState × Result Act EndFault) → host_hear s.core m ≡ r → Heard s.core m (host_hear s.core m) → Stays s m d
     go (c, Err fault) e says =
         let faulty : is_some (c.core).fault ≡ true = subst (Heard s.core m) e says in
         let same : (hears s m).core ≡ c = rw e refl in
@@ -167,9 +167,9 @@ stays s m d rising fine there = go (host.hear s.core m) refl (heard s.core m)
 
 -- an end that has no fault had none
 pub was_fine : (s : HostSide) (m : List ℕ) → (((hears s m).core).core).fault ≡ None → ((s.core).core).fault ≡ None
-was_fine s m fine = go (host.hear s.core m) refl (heard s.core m)
+was_fine s m fine = go (host_hear s.core m) refl (heard s.core m)
   where
-    go : (r : HostCoreState × Result Act EndFault) → host.hear s.core m ≡ r → Heard s.core m (host.hear s.core m) → ((s.core).core).fault ≡ None
+    go : (r : HostCoreState × Result Act EndFault) → host_hear s.core m ≡ r → Heard s.core m (host_hear s.core m) → ((s.core).core).fault ≡ None
     go (c, Err fault) e says =
         let faulty : is_some (c.core).fault ≡ true = subst (Heard s.core m) e says in
         let same : (hears s m).core ≡ c = rw e refl in
@@ -192,10 +192,10 @@ pub record Open (client : ℕ) (deeds : List Deed) (c : ℕ) : Type 0 where
   pub channel : ((side_of client deeds).table).channel ≡ Some c
   pub fine : (((side_of client deeds).core).core).fault ≡ None
 
-sends_open : (s : HostSide) → (((sends s).table).channel ≡ (s.table).channel) × ((((sends s).core).core).fault ≡ ((s.core).core).fault)
+sends_open : (s : HostSide) → (((side_sends s).table).channel ≡ (s.table).channel) × ((((side_sends s).core).core).fault ≡ ((s.core).core).fault)
 sends_open s = go ((s.core).core).outbox refl (s.table).outbox refl
   where
-    go : (o : List (List ℕ)) → ((s.core).core).outbox ≡ o → (p : List (List ℕ)) → (s.table).outbox ≡ p → (((sends s).table).channel ≡ (s.table).channel) × ((((sends s).core).core).fault ≡ ((s.core).core).fault)
+    go : (o : List (List ℕ)) → ((s.core).core).outbox ≡ o → (p : List (List ℕ)) → (s.table).outbox ≡ p → (((side_sends s).table).channel ≡ (s.table).channel) × ((((side_sends s).core).core).fault ≡ ((s.core).core).fault)
     go (m ∷ ms) e p e2 = rw e (refl, refl)
     go [] e [] e2 = rw (e, e2) (refl, refl)
     go [] e (m ∷ ms) e2 = rw (e, e2) (refl, refl)
@@ -241,10 +241,10 @@ nothing_begun client before channel d may =
         go None e = rw e refl
         go (Some x) e = rw e refl
 
-sends_lives : (s : HostSide) → ((sends s).table).lives ≡ (s.table).lives
+sends_lives : (s : HostSide) → ((side_sends s).table).lives ≡ (s.table).lives
 sends_lives s = go ((s.core).core).outbox refl (s.table).outbox refl
   where
-    go : (o : List (List ℕ)) → ((s.core).core).outbox ≡ o → (p : List (List ℕ)) → (s.table).outbox ≡ p → ((sends s).table).lives ≡ (s.table).lives
+    go : (o : List (List ℕ)) → ((s.core).core).outbox ≡ o → (p : List (List ℕ)) → (s.table).outbox ≡ p → ((side_sends s).table).lives ≡ (s.table).lives
     go (m ∷ ms) e p e2 = rw e refl
     go [] e [] e2 = rw (e, e2) refl
     go [] e (m ∷ ms) e2 = rw (e, e2) refl

@@ -12,7 +12,7 @@ use Rattle.rd_base.proofs.HeaderLemmas.{header_then, named_back}
 use Rattle.rd_base.proofs.LayoutLemmas.{again}
 use Rattle.rd_base.proofs.ResultLemmas.{and_then_ok, ok_one}
 use Rattle.rd_base.proofs.WrittenLemmas.{done_last}
-use Rattle.rd_client.specs.Core.{op_read, request_of}
+use Rattle.rd_client.specs.Core.{op_read, request_with_head}
 use Rattle.rd_devices.specs.declared.list.Announce.{Announce}
 use Rattle.rd_devices.specs.DeviceList.{device_list}
 use Rattle.rd_devices.specs.Removal.{removal}
@@ -30,8 +30,8 @@ use Rattle.rd_world.specs.Talk.{announced_in, head_in, is_request, removed_in, r
 -- ---- packets
 
 -- bytes that a packet's header is met in are of that packet
-pub behind_header : (p : Packet) (bytes : List ℕ) (x : Unit {0} × Position) → met (header p) (at_start bytes) ≡ Ok x → packet_in bytes ≡ Some p
-behind_header p bytes x e =
+pub after_header : (p : Packet) (bytes : List ℕ) (x : Unit {0} × Position) → met (header p) (at_start bytes) ≡ Ok x → packet_in bytes ≡ Some p
+after_header p bytes x e =
     let named : met any_header (at_start bytes) ≡ Ok (Some p, x.1) = named_back p (at_start bytes) x.1 e in
     rw named refl
 
@@ -46,7 +46,7 @@ written_packet p rest =
     let own : met (alone p) (record { at = 0; left = (header_bytes p ++ []) ++ rest }) ≡ Ok (tt, q) = again {A = Unit {0}} (alone p) 0 tt (header_bytes p ++ []) rest spelled in
     let there : met (alone p) (at_start (header_bytes p ++ rest)) ≡ Ok (tt, q) = subst (λ (w : List ℕ). met (alone p) (at_start (w ++ rest)) ≡ Ok (tt, q)) (append-nil (header_bytes p)) own in
     let first = and_then_ok (met (header p) (at_start (header_bytes p ++ rest))) _ (tt, q) there in
-    behind_header p (header_bytes p ++ rest) first.0 first.1
+    after_header p (header_bytes p ++ rest) first.0 first.1
 
 pub packet_is : (p q : Packet) (bytes : List ℕ) → packet_in bytes ≡ Some p → is_of q bytes ≡ (packet_id p == packet_id q)
 packet_is p q bytes e = rw e refl
@@ -59,7 +59,7 @@ request_read r tail bytes spelled = go (met request_head (at_start bytes)) refl
     both : reading bytes ≡ Ok (r, tail)
     both = request_reading r tail bytes spelled
 
-    same : (h : RequestHead) (q : Position) (o : Result (Op × Position) Bad) → request_of h (op_read h o) ≡ (with_body h q o).0
+    same : (h : RequestHead) (q : Position) (o : Result (Op × Position) Bad) → request_with_head h (op_read h o) ≡ (with_body h q o).0
     same h q (Ok x) = refl
     same h q (Err bad) = refl
 
@@ -74,7 +74,7 @@ request_read r tail bytes spelled = go (met request_head (at_start bytes)) refl
 
 head_packet : (bytes : List ℕ) (x : RequestHead × Position) → met request_head (at_start bytes) ≡ Ok x → packet_in bytes ≡ Some IoRequest
 unfolding request_head
-head_packet bytes x e = let first = and_then_ok (met (header IoRequest) (at_start bytes)) _ x e in behind_header IoRequest bytes first.0 first.1
+head_packet bytes x e = let first = and_then_ok (met (header IoRequest) (at_start bytes)) _ x e in after_header IoRequest bytes first.0 first.1
 
 pub request_is : (bytes : List ℕ) (r : Request) → request_in bytes ≡ Some r → is_request bytes ≡ true
 request_is bytes r e = go (met request_head (at_start bytes)) refl
@@ -87,7 +87,7 @@ request_is bytes r e = go (met request_head (at_start bytes)) refl
 
 completion_packet : (bytes : List ℕ) (x : Head × Position) → met completion_head (at_start bytes) ≡ Ok x → packet_in bytes ≡ Some IoCompletion
 unfolding completion_head
-completion_packet bytes x e = let first = and_then_ok (met (header IoCompletion) (at_start bytes)) _ x e in behind_header IoCompletion bytes first.0 first.1
+completion_packet bytes x e = let first = and_then_ok (met (header IoCompletion) (at_start bytes)) _ x e in after_header IoCompletion bytes first.0 first.1
 
 pub head_is : (bytes : List ℕ) (h : Head) → head_in bytes ≡ Some h → packet_in bytes ≡ Some IoCompletion
 head_is bytes h e = go (met completion_head (at_start bytes)) refl
@@ -96,7 +96,7 @@ head_is bytes h e = go (met completion_head (at_start bytes)) refl
     go (Ok y) e2 = completion_packet bytes y e2
     go (Err bad) e2 = let none : head_in bytes ≡ None = rw e2 refl in absurd (cc (none, e))
 
--- a spelled head is read, and the body is behind it
+-- a spelled head is read, and the body is after it
 pub head_read : (h : Head) (bytes : List ℕ) → SpellsHead h (length (drop 16 bytes)) bytes
     → (q : Position) × (met completion_head (at_start bytes) ≡ Ok (h, q)) × (q.left ≡ drop 16 bytes)
 head_read h bytes spelled =
@@ -111,11 +111,11 @@ head_read h bytes spelled =
 
 removal_packet : (bytes : List ℕ) (x : List ℕ × Position) → met removal (at_start bytes) ≡ Ok x → packet_in bytes ≡ Some DeviceListRemove
 unfolding removal
-removal_packet bytes x e = let first = and_then_ok (met (header DeviceListRemove) (at_start bytes)) _ x e in behind_header DeviceListRemove bytes first.0 first.1
+removal_packet bytes x e = let first = and_then_ok (met (header DeviceListRemove) (at_start bytes)) _ x e in after_header DeviceListRemove bytes first.0 first.1
 
 list_packet : (bytes : List ℕ) (x : List Announce × Position) → met device_list (at_start bytes) ≡ Ok x → packet_in bytes ≡ Some DeviceListAnnounce
 unfolding device_list
-list_packet bytes x e = let first = and_then_ok (met (header DeviceListAnnounce) (at_start bytes)) _ x e in behind_header DeviceListAnnounce bytes first.0 first.1
+list_packet bytes x e = let first = and_then_ok (met (header DeviceListAnnounce) (at_start bytes)) _ x e in after_header DeviceListAnnounce bytes first.0 first.1
 
 apart : (p q : Packet) (bytes : List ℕ) → packet_in bytes ≡ Some p → packet_in bytes ≡ Some q → (packet_id p == packet_id q) ≡ false → ⊥
 apart p q bytes e e2 other =

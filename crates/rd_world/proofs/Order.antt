@@ -7,8 +7,8 @@ use Rattle.rd_base.specs.declared.journal.Item.{Item}
 use Rattle.rd_base.specs.declared.journal.Item.TheVariants.{Came, Ran, Cancelled, Sent}
 use Rattle.rd_base.specs.declared.journal.Key.{Key}
 use Rattle.rd_irp.specs.declared.request.Request.{Request}
-use Rattle.rd_world.specs.Joining.{InOrder, IsAlone, IsCarried, Stands, requests_written}
-use Rattle.rd_world.specs.Talk.{AtEachPoint, Deed, EachAfter, Has, adds, answered, asked, client_read, client_reads, client_writes, completes, has_pair, host_begins, host_ends, host_reads, host_writes, host_wrote, is_completion_of, is_request, journal, removes, request_in, stored_by, stores, submits, takes, tells}
+use Rattle.rd_world.specs.Joining.{IsAlone, IsCarried, RunsInOrder, Stands, requests_written}
+use Rattle.rd_world.specs.Talk.{AtEachPoint, Deed, EachAfter, Has, adds, answered, asked, client_read, client_reads, client_writes, completes, host_begins, host_ends, host_reads, host_writes, host_wrote, is_completion_of, is_request, journal, message_has_pair, removes, request_in, stored_by, stores, submits, takes, tells}
 use Rattle.rd_world.proofs.Calls.{Does}
 use Rattle.rd_world.proofs.Joined.{at_most_one, carried_now, counted}
 use Rattle.rd_world.proofs.Journals.{HasRun, IsPlain}
@@ -82,8 +82,8 @@ ran_written : (deeds : List Deed) (d : ℕ) (k : Key) → IsCarried deeds → Ea
 ran_written deeds d k carried stands plain ran =
     omega (arith, came_read deeds d k stands (came_first k (journal d deeds) plain ran), fewer_in_end is_request (host_wrote k.channel deeds) (client_read k.channel deeds) (carried.to_client k.channel))
 
-run_in : (k : Key) (front back : List Item) → HasRun k back → HasRun k (front ++ back)
-run_in k front back (m, s, p, ran) = (m, s, p, has_later _ front back ran)
+run_in : (k : Key) (prefix back : List Item) → HasRun k back → HasRun k (prefix ++ back)
+run_in k prefix back (m, s, p, ran) = (m, s, p, has_later _ prefix back ran)
 
 -- a completion is written after the `Sent` of its key, where the key comes at all
 abbrev pub SendsFirst : List Deed → List Deed → Deed → Type 0
@@ -144,8 +144,8 @@ each_sends_first deeds late [] parts stands = tt
 each_sends_first deeds late (x ∷ before) parts stands =
     (sends_first deeds late before x parts stands, each_sends_first deeds (late ++ x ∷ []) before (parts ∙ sym (append_assoc late (x ∷ []) before)) stands)
 
-pub in_order : (deeds : List Deed) → AtEachPoint IsCarried deeds → EachAfter Stands deeds → ((device : ℕ) → EachAfter IsPlain (journal device deeds)) → InOrder deeds
-in_order deeds all_carried all_stand plain k l answer asking r s after between before same index asks found devices moment later starved parked later_starved later_parked behind_k before_k behind_l before_l k_ran l_ran =
+pub in_order : (deeds : List Deed) → AtEachPoint IsCarried deeds → EachAfter Stands deeds → ((device : ℕ) → EachAfter IsPlain (journal device deeds)) → RunsInOrder deeds
+in_order deeds all_carried all_stand plain k l answer asking r s after between before same index asks found devices moment later starved parked later_starved later_parked after_k before_k after_l before_l k_ran l_ran =
     let d : ℕ = r.device in
     let middle : List Deed = between ++ completes k answer ∷ before in
     let newer : List Deed = after ++ host_writes l.channel asking ∷ [] in
@@ -156,7 +156,7 @@ in_order deeds all_carried all_stand plain k l answer asking r s after between b
     let carried : IsCarried middle = carried_now middle (point_end IsCarried newer middle (subst (AtEachPoint IsCarried) all all_carried)) in
     let not_l : ¬ (HasRun l (journal d middle)) = λ ran. omega (arith, ran_written middle d l carried stands plain_then ran, index) in
     let items_then : journal d middle ≡ journal d between ++ journal d before = filter_map-append (stored_by d) between (completes k answer ∷ before) in
-    let ran : HasRun k (journal d deeds) = (moment, starved, parked, rw k_ran (has_split (Ran k moment starved parked) behind_k before_k)) in
+    let ran : HasRun k (journal d deeds) = (moment, starved, parked, rw k_ran (has_split (Ran k moment starved parked) after_k before_k)) in
     let completed : deeds ≡ (newer ++ between) ++ completes k answer ∷ before = all ∙ sym (append_assoc newer between (completes k answer ∷ before)) in
     let sent : Has (Sent k) (journal d before) = sends_first deeds (newer ++ between) before (completes k answer) completed all_stand d (came_first k (journal d deeds) (plain d) ran) in
     let plain_before : EachAfter IsPlain (journal d before) = each_end IsPlain (journal d between) (journal d before) (subst (EachAfter IsPlain) items_then plain_then) in
@@ -166,11 +166,11 @@ in_order deeds all_carried all_stand plain k l answer asking r s after between b
       | inr h ↦ absurd (never_both k (journal d deeds) (plain d) ran (rw (items, items_then) (has_later (Cancelled k) (journal d newer) _ (has_later (Cancelled k) (journal d between) (journal d before) h))))
     ] in
     let k_before : length before_k < length (journal d middle) =
-    elim (split_cases (journal d newer) (journal d middle) behind_k (Ran k moment starved parked) before_k (sym items ∙ k_ran)) [
+    elim (split_cases (journal d newer) (journal d middle) after_k (Ran k moment starved parked) before_k (sym items ∙ k_ran)) [
       | inl (zs, h, e) ↦ omega (arith, ap length e, length-append {A = Item} zs (Ran k moment starved parked ∷ before_k))
-      | inr (zs, g, e) ↦ absurd ((each_end IsPlain behind_k (Ran k moment starved parked ∷ before_k) (subst (EachAfter IsPlain) k_ran (plain d))).0.1 (subst (HasRun k) (sym e) (run_in k zs (journal d middle) ran_k)))
+      | inr (zs, g, e) ↦ absurd ((each_end IsPlain after_k (Ran k moment starved parked ∷ before_k) (subst (EachAfter IsPlain) k_ran (plain d))).0.1 (subst (HasRun k) (sym e) (run_in k zs (journal d middle) ran_k)))
     ] in
-    elim (split_cases (journal d newer) (journal d middle) behind_l (Ran l later later_starved later_parked) before_l (sym items ∙ l_ran)) [
+    elim (split_cases (journal d newer) (journal d middle) after_l (Ran l later later_starved later_parked) before_l (sym items ∙ l_ran)) [
       | inl (zs, h, e) ↦ absurd (not_l (later, later_starved, later_parked, rw e (has_split (Ran l later later_starved later_parked) zs before_l)))
       | inr (zs, g, e) ↦ omega (arith, k_before, ap length e, length-append {A = Item} zs (journal d middle))
     ]
@@ -187,8 +187,8 @@ key_at c k = record { channel = c; index = k }
 answered_sent : (before deeds : List Deed) (c d i k : ℕ) → EachAfter (SendsFirst deeds) before → Has k (answered c d i before) → Has (Came (key_at c k)) (journal d deeds) → Has (Sent (key_at c k)) (journal d before)
 answered_sent [] deeds c d i k stands has came = absurd has
 answered_sent (completes key m ∷ before) deeds c d i k stands has came =
-    elim (option_cases (key.channel == c && has_pair d i m) k key.index (answered c d i before) has) [
-      | inl (test, same) ↦ here (key.channel == c) refl (has_pair d i m) test same
+    elim (option_cases (key.channel == c && message_has_pair d i m) k key.index (answered c d i before) has) [
+      | inl (test, same) ↦ here (key.channel == c) refl (message_has_pair d i m) test same
       | inr h ↦ answered_sent before deeds c d i k stands.1 h came
     ]
   where

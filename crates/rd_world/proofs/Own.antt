@@ -2,7 +2,7 @@
 use Rattle.std.proofs.Common.{◌≡◌, ◌∙◌, refl, sym, ap, subst, ℕ, suc, ◌+◌, ◌≤◌, ◌==◌, ◌&&◌, Bool, true, false, cond, List, [], ◌∷◌, ◌++◌, length, map, take, Some, None, Option, arith, append_assoc, length-append, eq-eqb, eqb-true}
 use Rattle.std.specs.Prelude.{filter, slice_get}
 use Rattle.std.specs.List.{cons_option}
-use Rattle.std.proofs.lemmas.List.{length-map}
+use Rattle.std.proofs.lemmas.List.{length-map, nil_from_length}
 use Rattle.std.proofs.lemmas.List.Elements.{filter-append, filter_map-append}
 use Rattle.rd_base.specs.declared.journal.Key.{Key}
 use Rattle.rd_base.specs.declared.packet.Packet.TheVariants.{IoCompletion}
@@ -10,7 +10,7 @@ use Rattle.rd_hello.specs.Moves.{is_of}
 use Rattle.rd_irp.specs.declared.completion.Head.{Head}
 use Rattle.rd_irp.specs.declared.request.Request.{Request}
 use Rattle.rd_pending.specs.Outcomes.{Accepted}
-use Rattle.rd_pending.specs.Table.{Slot, slot_at}
+use Rattle.rd_pending.specs.Table.{Slot, slot_for}
 use Rattle.rd_pending.proofs.AcceptedLemmas.{split_of}
 use Rattle.rd_pending.proofs.CountLemmas.{pairs}
 use Rattle.rd_pending.proofs.CourseLemmas.{heard_pairs}
@@ -19,26 +19,26 @@ use Rattle.rd_pending.proofs.Sound.{alike_before, course, held}
 use Rattle.rd_pending.proofs.Tame.{newest, newest_pairs, newest_split, with_pair}
 use Rattle.rd_world.specs.HostDeeds.{calls_of, side_of}
 use Rattle.rd_world.specs.Joining.{IsCarried, Stands, accepted, request_of_accepted}
-use Rattle.rd_world.specs.Talk.{AtEachPoint, Deed, EachAfter, adds, answered, asked, asks_pair, client_read, client_reads, client_writes, client_wrote, completes, has_pair, head_in, host_begins, host_ends, host_read, host_reads, host_writes, host_wrote, indices_of, is_request, read_by_client, removes, request_at, request_in, stores, submits, takes, tells, written_by_client}
+use Rattle.rd_world.specs.Talk.{AtEachPoint, Deed, EachAfter, adds, answered, asked, client_read, client_reads, client_writes, client_wrote, completes, head_in, host_begins, host_ends, host_read, host_reads, host_writes, host_wrote, indices_of, is_request, message_asks_pair, message_has_pair, read_by_client, removes, request_at, request_in, stores, submits, takes, tells, written_by_client}
 use Rattle.rd_world.proofs.Calls.{Does, calls_hold}
 use Rattle.rd_world.proofs.Counting.{length-answered}
 use Rattle.rd_world.proofs.Joined.{answers_newest, carried_now, counted, heard_is, heard_read}
-use Rattle.rd_world.proofs.Lists.{each_end, filter_split, none_long, point_end, same_end}
+use Rattle.rd_world.proofs.Lists.{each_end, filter_split, point_end, same_end}
 use Rattle.rd_world.proofs.Messages.{head_is, packet_is}
 use Rattle.rd_world.proofs.Telling.{Tells}
 use Rattle.rd_world.proofs.Written.{Matches, Spells, requests_on, sound_side, written}
 
 -- ---- requests that were read, among those that were accepted
 
-split_matches : (xs : List Accepted) (us vs : List (List ℕ)) → Matches xs (us ++ vs) → (front : List Accepted) × (back : List Accepted) × (xs ≡ front ++ back) × Matches back vs
+split_matches : (xs : List Accepted) (us vs : List (List ℕ)) → Matches xs (us ++ vs) → (prefix : List Accepted) × (back : List Accepted) × (xs ≡ prefix ++ back) × Matches back vs
 split_matches xs [] vs p = ([], xs, refl, p)
 split_matches [] (u ∷ us) vs p = absurd p
 split_matches (x ∷ xs) (u ∷ us) vs p =
-    let (front, back, e, rest) = split_matches xs us vs p.1 in (x ∷ front, back, ap (λ (ys : List Accepted). x ∷ ys) e, rest)
+    let (prefix, back, e, rest) = split_matches xs us vs p.1 in (x ∷ prefix, back, ap (λ (ys : List Accepted). x ∷ ys) e, rest)
 
-pub indexed_end : (front back : List Accepted) → Indexed (front ++ back) → Indexed back
+pub indexed_end : (prefix back : List Accepted) → Indexed (prefix ++ back) → Indexed back
 indexed_end [] back p = p
-indexed_end (x ∷ front) back p = indexed_end front back p.1
+indexed_end (x ∷ prefix) back p = indexed_end prefix back p.1
 
 pub matches_long : (xs : List Accepted) (ms : List (List ℕ)) → Matches xs ms → length ms ≡ length xs
 matches_long [] [] p = refl
@@ -58,7 +58,7 @@ indices_matched d i xs (m ∷ ms) p indexed = go (is_request m) refl xs p indexe
     here : (x : Accepted) (xs : List Accepted) → is_request m ≡ true → Spells x m → x.index ≡ length xs → length (filter is_request ms) ≡ length xs → indices_of d i ms ≡ pair_indices d i xs
         → indices_of d i (m ∷ ms) ≡ pair_indices d i (x ∷ xs)
     here x xs e spelled index long old =
-        let same : asks_pair d i m ≡ with_pair d i x = rw spelled refl in
+        let same : message_asks_pair d i m ≡ with_pair d i x = rw spelled refl in
         rw (e, same) (by (with_pair d i x))
       where
         by : (b : Bool) → cond b (length (filter is_request ms) ∷ indices_of d i ms) (indices_of d i ms) ≡ map (λ (a : Accepted). a.index) (cond b (x ∷ filter (with_pair d i) xs) (filter (with_pair d i) xs))
@@ -73,10 +73,10 @@ indices_matched d i xs (m ∷ ms) p indexed = go (is_request m) refl xs p indexe
 
 -- a request that was read is one that was accepted
 pub record IsAccepted (xs : List Accepted) (k : ℕ) (r : Request) : Type 0 where
-  pub front : List Accepted
+  pub prefix : List Accepted
   pub own : Accepted
   pub back : List Accepted
-  pub parts : xs ≡ front ++ own ∷ back
+  pub parts : xs ≡ prefix ++ own ∷ back
   pub index : own.index ≡ k
   pub request : r ≡ request_of_accepted own
 
@@ -91,7 +91,7 @@ element_at xs (m ∷ ms) k r p indexed found = go (is_request m) refl xs p index
     go true e (x ∷ xs) p indexed true e2 found later =
         let same : r ≡ request_of_accepted x = cc (p.0, found) in
         record {
-          front = [];
+          prefix = [];
           own = x;
           back = xs;
           parts = refl;
@@ -100,7 +100,7 @@ element_at xs (m ∷ ms) k r p indexed found = go (is_request m) refl xs p index
         }
     go true e (x ∷ xs) p indexed false e2 found later =
         let old = later xs p.1 indexed.1 found in
-        record { front = x ∷ old.front; own = old.own; back = old.back; parts = ap (λ (ys : List Accepted). x ∷ ys) old.parts; index = old.index; request = old.request }
+        record { prefix = x ∷ old.prefix; own = old.own; back = old.back; parts = ap (λ (ys : List Accepted). x ∷ ys) old.parts; index = old.index; request = old.request }
     go false e xs p indexed q e2 found later = later xs p indexed found
 
 -- ---- the deed that wrote what is read
@@ -143,7 +143,7 @@ pub record Origin (before : List Deed) (c : ℕ) (m : List ℕ) (head : Head) : 
   pub request : Request
   pub found : request_at (client_read c early) key.index ≡ Some request
   pub newest_one : asked c head.device head.completion early ≡ key.index ∷ answered c head.device head.completion early
-  pub count : length (answered c head.device head.completion early) ≡ length (filter (has_pair head.device head.completion) (host_read c before))
+  pub count : length (answered c head.device head.completion early) ≡ length (filter (message_has_pair head.device head.completion) (host_read c before))
 
 same_channel : (c : ℕ) (m : List ℕ) (ms : List (List ℕ)) → cons_option (cond (c == c) (Some m) None) ms ≡ m ∷ ms
 same_channel c m ms = rw (eq-eqb c c refl) refl
@@ -151,9 +151,9 @@ same_channel c m ms = rw (eq-eqb c c refl) refl
 pub origin : (client : ℕ) (before : List Deed) (c : ℕ) (m : List ℕ) (head : Head) → Does client before → AtEachPoint IsCarried (host_reads c m ∷ before) → EachAfter Stands before
     → EachAfter Tells before → head_in m ≡ Some head → Origin before c m head
 origin client before c m head may carried stands told is =
-    let front = carried.0.to_host c in
-    let wrote : client_wrote c before ≡ front.0 ++ m ∷ host_read c before = front.1 ∙ ap (λ (ms : List (List ℕ)). front.0 ++ ms) (same_channel c m (host_read c before)) in
-    let (u, x, v, e1, e2, same) = filter_split (written_by_client c) before front.0 m (host_read c before) wrote in
+    let prefix = carried.0.to_host c in
+    let wrote : client_wrote c before ≡ prefix.0 ++ m ∷ host_read c before = prefix.1 ∙ ap (λ (ms : List (List ℕ)). prefix.0 ++ ms) (same_channel c m (host_read c before)) in
+    let (u, x, v, e1, e2, same) = filter_split (written_by_client c) before prefix.0 m (host_read c before) wrote in
     let stands_x : EachAfter Stands (x ∷ v) = each_end Stands u (x ∷ v) (subst (EachAfter Stands) e1 stands) in
     let (key, is_x, channel) = wrote_completion v c m head x stands_x.0 is e2 in
     let split : before ≡ u ++ completes key m ∷ v = subst (λ (y : Deed). before ≡ u ++ y ∷ v) is_x e1 in
@@ -162,7 +162,7 @@ origin client before c m head may carried stands told is =
     let stands_v : EachAfter Stands (completes key m ∷ v) = each_end Stands u (completes key m ∷ v) (subst (EachAfter Stands) split stands) in
     let told_v : EachAfter Tells (completes key m ∷ v) = each_end Tells u (completes key m ∷ v) (subst (EachAfter Tells) split told) in
     let own = told_v.0.0 in
-    let pair : has_pair head.device head.completion m ≡ true = rw (is, eq-eqb head.device head.device refl, eq-eqb head.completion head.completion refl) refl in
+    let pair : message_has_pair head.device head.completion m ≡ true = rw (is, eq-eqb head.device head.device refl, eq-eqb head.completion head.completion refl) refl in
     let turn = counted client v may_v.1 carried_v.1 stands_v.1 told_v.1 in
     record {
       late = u;
@@ -175,14 +175,14 @@ origin client before c m head may carried stands told is =
       found = subst (λ (y : ℕ). request_at (client_read y v) key.index ≡ Some own.0) channel own.1;
       newest_one = subst (λ (y : ℕ). asked y head.device head.completion v ≡ key.index ∷ answered y head.device head.completion v) channel
           (answers_newest client v key m head.device head.completion may_v.1 (carried_now v carried_v.1) stands_v.1 turn told_v.0 pair);
-      count = length-answered v stands_v.1 c head.device head.completion ∙ ap (λ (ms : List (List ℕ)). length (filter (has_pair head.device head.completion) ms)) same;
+      count = length-answered v stands_v.1 c head.device head.completion ∙ ap (λ (ms : List (List ℕ)). length (filter (message_has_pair head.device head.completion) ms)) same;
     }
 
 -- ---- its own request
 
 -- what was read by an earlier point is the end of what was accepted
 read_part : (client : ℕ) (before late early : List Deed) (c : ℕ) → before ≡ late ++ early → Does client before → IsCarried before
-    → (front : List Accepted) × (back : List Accepted) × (newest c (accepted client before) ≡ front ++ back) × Matches back (filter is_request (client_read c early)) × Indexed back
+    → (prefix : List Accepted) × (back : List Accepted) × (newest c (accepted client before) ≡ prefix ++ back) × Matches back (filter is_request (client_read c early)) × Indexed back
 read_part client before late early c parts may carried =
     let w = written client before may c in
     let unread = carried.to_client c in
@@ -193,9 +193,9 @@ read_part client before late early c parts may carried =
     ap (filter is_request) all ∙ filter-append is_request (unread.0 ++ client_read c late) (client_read c early) in
     let whole : w.unsent ++ requests_on c before ≡ (w.unsent ++ filter is_request (unread.0 ++ client_read c late)) ++ filter is_request (client_read c early) =
     ap (λ (ms : List (List ℕ)). w.unsent ++ ms) requests ∙ sym (append_assoc w.unsent (filter is_request (unread.0 ++ client_read c late)) (filter is_request (client_read c early))) in
-    let (front, back, e, matched) = split_matches (newest c (accepted client before)) (w.unsent ++ filter is_request (unread.0 ++ client_read c late)) (filter is_request (client_read c early))
+    let (prefix, back, e, matched) = split_matches (newest c (accepted client before)) (w.unsent ++ filter is_request (unread.0 ++ client_read c late)) (filter is_request (client_read c early))
     (subst (Matches (newest c (accepted client before))) whole w.matches) in
-    (front, back, e, matched, indexed_end front back (subst Indexed e (indexed (calls_of client before) (calls_hold client before may) c).indexed))
+    (prefix, back, e, matched, indexed_end prefix back (subst Indexed e (indexed (calls_of client before) (calls_hold client before may) c).indexed))
 
 module _ (client : ℕ) (before : List Deed) (c : ℕ) (m : List ℕ) (head : Head) (may : Does client before) (carried : AtEachPoint IsCarried before)
     (is_open : ((side_of client before).table).channel ≡ Some c) (o : Origin before c m head) where
@@ -204,7 +204,7 @@ module _ (client : ℕ) (before : List Deed) (c : ℕ) (m : List ℕ) (head : He
 
   -- all requests with the pair were read by then, and all their completions but this one were taken
   pub counts : (pairs c head.device head.completion (accepted client before) ≡ suc n) × (heard_pairs head.device head.completion (course c (calls_of client before)) ≡ n)
-      × (held (slot_at (side_of client before).table head.completion) head.device ≡ 1)
+      × (held (slot_for (side_of client before).table head.completion) head.device ≡ 1)
   counts =
       let part = read_part client before (o.late ++ completes o.key m ∷ []) o.early c (o.parts ∙ sym (append_assoc o.late (completes o.key m ∷ []) o.early)) may (carried_now before carried) in
       let asked_long : length (asked c head.device head.completion o.early) ≡ suc n = ap length o.newest_one in
@@ -216,7 +216,7 @@ module _ (client : ℕ) (before : List Deed) (c : ℕ) (m : List ℕ) (head : He
       let even = (sound_side client before may).balanced c is_open head.device head.completion in
       let taken_few : heard_pairs head.device head.completion (course c (calls_of client before)) ≤ n =
       omega (arith, heard_is client before c head.device head.completion, heard_read client c head.device head.completion before may, o.count) in
-      let one = held_one (slot_at (side_of client before).table head.completion) head.device in
+      let one = held_one (slot_for (side_of client before).table head.completion) head.device in
       (omega (arith, all, part_long, even, taken_few, one), omega (arith, all, part_long, even, taken_few, one), omega (arith, all, part_long, even, taken_few, one))
     where
       held_one : (x : Option Slot) (d : ℕ) → held x d ≤ 1
@@ -238,30 +238,30 @@ module _ (client : ℕ) (before : List Deed) (c : ℕ) (m : List ℕ) (head : He
       let parts : newest c (accepted client before) ≡ split.0 ++ a ∷ newest c (take k (accepted client before)) =
       subst (λ (x : ℕ). newest x (accepted client before) ≡ split.0 ++ a ∷ newest x (take k (accepted client before))) in_c (ap (newest a.channel) (split_of k (accepted client before) a at).1 ∙ split.1) in
       let own_pair : with_pair d i a ≡ true = rw (eq-eqb a.device d of_d, eq-eqb a.id i with_i) refl in
-      let behind : length (filter (with_pair d i) (newest c (take k (accepted client before)))) ≡ n = newest_pairs c d i (take k (accepted client before)) ∙ sym (same_pairs (take k (accepted client before))) ∙ earlier in
+      let pairs_are : length (filter (with_pair d i) (newest c (take k (accepted client before)))) ≡ n = newest_pairs c d i (take k (accepted client before)) ∙ sym (same_pairs (take k (accepted client before))) ∙ earlier in
       let filtered : filter (with_pair d i) (newest c (accepted client before)) ≡ filter (with_pair d i) split.0 ++ a ∷ filter (with_pair d i) (newest c (take k (accepted client before))) =
       ap (filter (with_pair d i)) parts ∙ filter-append (with_pair d i) split.0 (a ∷ newest c (take k (accepted client before)))
       ∙ ap (λ (b : Bool). filter (with_pair d i) split.0 ++ cond b (a ∷ filter (with_pair d i) (newest c (take k (accepted client before)))) (filter (with_pair d i) (newest c (take k (accepted client before))))) own_pair in
       let total : length (filter (with_pair d i) (newest c (accepted client before))) ≡ suc n = newest_pairs c d i (accepted client before) ∙ counts.0 in
       let none : filter (with_pair d i) split.0 ≡ [] =
-      none_long (filter (with_pair d i) split.0) (omega (arith, total, ap length filtered, length-append {A = Accepted} (filter (with_pair d i) split.0) (a ∷ filter (with_pair d i) (newest c (take k (accepted client before)))), behind)) in
+      nil_from_length (filter (with_pair d i) split.0) (omega (arith, total, ap length filtered, length-append {A = Accepted} (filter (with_pair d i) split.0) (a ∷ filter (with_pair d i) (newest c (take k (accepted client before)))), pairs_are)) in
       let first : pair_indices d i (newest c (accepted client before)) ≡ a.index ∷ pair_indices d i (newest c (take k (accepted client before))) =
       ap (map (λ (x : Accepted). x.index)) (filtered ∙ ap (λ (xs : List Accepted). xs ++ a ∷ filter (with_pair d i) (newest c (take k (accepted client before)))) none) in
       let asked_is : asked c d i o.early ≡ pair_indices d i part.1 = indices_matched d i part.1 (client_read c o.early) part.3 part.4 in
       let part_long : length (filter (with_pair d i) part.1) ≡ suc n = sym (length-map (filter (with_pair d i) part.1) (λ (x : Accepted). x.index)) ∙ ap length (sym asked_is) ∙ ap length o.newest_one in
       let parted : filter (with_pair d i) (newest c (accepted client before)) ≡ filter (with_pair d i) part.0 ++ filter (with_pair d i) part.1 = ap (filter (with_pair d i)) part.2 ∙ filter-append (with_pair d i) part.0 part.1 in
       let none_more : filter (with_pair d i) part.0 ≡ [] =
-      none_long (filter (with_pair d i) part.0) (omega (arith, total, ap length parted, length-append {A = Accepted} (filter (with_pair d i) part.0) (filter (with_pair d i) part.1), part_long)) in
+      nil_from_length (filter (with_pair d i) part.0) (omega (arith, total, ap length parted, length-append {A = Accepted} (filter (with_pair d i) part.0) (filter (with_pair d i) part.1), part_long)) in
       let second : pair_indices d i (newest c (accepted client before)) ≡ o.key.index ∷ answered c d i o.early =
       ap (map (λ (x : Accepted). x.index)) (parted ∙ ap (λ (xs : List Accepted). xs ++ filter (with_pair d i) part.1) none_more) ∙ sym asked_is ∙ o.newest_one in
       let index : a.index ≡ o.key.index = first_of (sym first ∙ second) in
       let found = element_at part.1 (client_read c o.early) o.key.index o.request part.3 part.4 o.found in
-      let placed : newest c (accepted client before) ≡ (part.0 ++ found.front) ++ found.own ∷ found.back = part.2 ∙ ap (λ (xs : List Accepted). part.0 ++ xs) found.parts ∙ sym (append_assoc part.0 found.front (found.own ∷ found.back)) in
+      let placed : newest c (accepted client before) ≡ (part.0 ++ found.prefix) ++ found.own ∷ found.back = part.2 ∙ ap (λ (xs : List Accepted). part.0 ++ xs) found.parts ∙ sym (append_assoc part.0 found.prefix (found.own ∷ found.back)) in
       let all_indexed = (indexed (calls_of client before) (calls_hold client before may) c).indexed in
       let own_index : a.index ≡ length (newest c (take k (accepted client before))) = (indexed_end split.0 (a ∷ newest c (take k (accepted client before))) (subst Indexed parts all_indexed)).0 in
-      let its_index : (found.own).index ≡ length found.back = (indexed_end (part.0 ++ found.front) (found.own ∷ found.back) (subst Indexed placed all_indexed)).0 in
+      let its_index : (found.own).index ≡ length found.back = (indexed_end (part.0 ++ found.prefix) (found.own ∷ found.back) (subst Indexed placed all_indexed)).0 in
       let ends : a ∷ newest c (take k (accepted client before)) ≡ found.own ∷ found.back =
-      same_end split.0 (a ∷ newest c (take k (accepted client before))) (part.0 ++ found.front) (found.own ∷ found.back) (sym parts ∙ placed) (omega (arith, own_index, its_index, index, found.index)) in
+      same_end split.0 (a ∷ newest c (take k (accepted client before))) (part.0 ++ found.prefix) (found.own ∷ found.back) (sym parts ∙ placed) (omega (arith, own_index, its_index, index, found.index)) in
       let same : a ≡ found.own = first_one ends in
       (index, found.request ∙ ap request_of_accepted (sym same))
     where

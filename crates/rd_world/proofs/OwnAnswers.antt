@@ -9,25 +9,25 @@ use Rattle.std.specs.Option.{unwrap_or}
 use Rattle.rd_base.specs.declared.journal.Key.{Key}
 use Rattle.rd_base.specs.declared.status.Status.{Status}
 use Rattle.rd_dirinfo.specs.Naming.{Name}
-use Rattle.rd_dirinfo.specs.Paths.{Names, is_same_path, path_of}
+use Rattle.rd_dirinfo.specs.Paths.{Names, is_same_path, parsed_path}
 use Rattle.rd_drive.specs.declared.asked.Asked.{Asked}
 use Rattle.rd_drive.specs.declared.step.End.{End}
 use Rattle.rd_drive.specs.declared.step.Step.{Step}
 use Rattle.rd_drive.specs.declared.step.Step.TheVariants as step
 use Rattle.rd_drive.specs.Close.{close}
 use Rattle.rd_drive.specs.Create.{create, open_node, open_or_make, replaces}
-use Rattle.rd_drive.specs.DriveState.{DriveState, Handle, Node, Notice, Ranges, Waiting, Wish, handle_at, node_at, open_path}
+use Rattle.rd_drive.specs.DriveState.{DriveState, Handle, Node, Notice, Ranges, Waiting, Wish, handle_at, node_of_path, open_path}
 use Rattle.rd_drive.specs.DriveStep.{drive_step, outcome_of}
-use Rattle.rd_drive.specs.Locking.{conflicts, is_unlock, lock, locks_on, wanted_locks}
+use Rattle.rd_drive.specs.Locking.{asked_locks, conflicts, is_unlock, lock, locks_on}
 use Rattle.rd_drive.specs.Notify.{notify}
 use Rattle.rd_drive.specs.Outcome.{Change, News, Outcome, checked, fault, given, on_handle, one_of}
 use Rattle.rd_drive.specs.Query.{query_file, query_volume}
 use Rattle.rd_drive.specs.QueryDir.{lists, next_node, query_dir}
 use Rattle.rd_drive.specs.ReadWrite.{read, write}
 use Rattle.rd_drive.specs.Rename.{rename_to}
-use Rattle.rd_drive.specs.SetFile.{checks_by_class, set_checks, set_file, sets}
+use Rattle.rd_drive.specs.SetFile.{checks_by_class, set_checks, set_file, set_outcome}
 use Rattle.rd_drive.specs.SetVolume.{set_volume}
-use Rattle.rd_drive.specs.Statuses.{cancelled, invalid_handle}
+use Rattle.rd_base.specs.Statuses.{cancelled, invalid_handle, no_such_device, no_such_file, no_more_files}
 use Rattle.rd_drive.specs.Stepped.{Settled, Stepped, ran_step}
 use Rattle.rd_drive.specs.Waiting.{closing_reply, is_closed, is_told, is_tried, settles, settles_change, settles_open, settles_ranges}
 use Rattle.rd_fileinfo.specs.declared.set_info.SetInfo.{SetInfo}
@@ -38,7 +38,6 @@ use Rattle.rd_irp.specs.declared.op.Op.TheVariants as op
 use Rattle.rd_irp.specs.declared.op.Range.{Range}
 use Rattle.rd_printer.specs.Printer.{PrinterState, finish, on_document, open_document, print, printer_step}
 use Rattle.rd_world.specs.Devices.{DeviceState, as_drive, as_printer, device_step}
-use Rattle.rd_world.specs.Hearing.{no_such_device}
 
 -- whether a status is neither of these two
 abbrev pub is_own : Status → Bool
@@ -80,7 +79,7 @@ given_own s (Some x) status o own all = all x refl
 
 handle_own : (s : DriveState) (file : ℕ) (o : Handle → Node → Outcome) → ((handle : Handle) (node : Node) → IsOwnAnswer (o handle node).answer) → IsOwnAnswer (on_handle s file o).answer
 handle_own s file o all =
-    given_own s (handle_at s file) invalid_handle _ refl (λ handle e. given_own s (node_at s handle.path) invalid_handle (o handle) refl (λ node e. all handle node))
+    given_own s (handle_at s file) invalid_handle _ refl (λ handle e. given_own s (node_of_path s handle.path) invalid_handle (o handle) refl (λ node e. all handle node))
 
 -- ---- the operations
 
@@ -88,7 +87,7 @@ open_own : (s : DriveState) (asked : Asked) (moment : ℕ) (node : Node) → IsO
 open_own s asked moment node = checked_own s _ _ (refl, (refl, (refl, (refl, (refl, (refl, (refl, tt))))))) (one_of_own (replaces asked) _ _ refl refl)
 
 create_own : (s : DriveState) (moment : ℕ) (asked : Asked) (units : List ℕ) → IsOwnAnswer (create s moment asked units).answer
-create_own s moment asked units = checked_own s _ _ (refl, tt) (given_own s (path_of units) _ _ refl (λ path e. checked_own s _ _ (refl, (refl, tt)) (by path (node_at s path))))
+create_own s moment asked units = checked_own s _ _ (refl, tt) (given_own s (parsed_path units) _ _ refl (λ path e. checked_own s _ _ (refl, (refl, tt)) (by path (node_of_path s path))))
   where
     by : (path : Names) (o : Option Node) → IsOwnAnswer (open_or_make s asked moment path o).answer
     by path (Some node) = open_own s asked moment node
@@ -115,7 +114,7 @@ label_own s class buffer handle node = checked_own s _ _ (refl, tt) (given_own s
 dir_own : (s : DriveState) (file class : ℕ) (initial : Bool) (units : List ℕ) (handle : Handle) (node : Node) → IsOwnAnswer (query_dir s file class initial units handle node).answer
 dir_own s file class initial units handle node = checked_own s _ _ (refl, (refl, (refl, tt))) (by _ _ (next_node s node.path _ _))
   where
-    none : (b : Bool) → IsOwn (fault (cond b (record { 0 = 0xc000_000f }) (record { 0 = 0x8000_0006 })))
+    none : (b : Bool) → IsOwn (fault (cond b no_such_file no_more_files))
     none true = refl
     none false = refl
 
@@ -133,10 +132,10 @@ lock_own s key file operation wait ranges handle node =
 
 rename_own : (s : DriveState) (moment count : ℕ) (node : Node) (replace : Bool) (units : List ℕ) → IsOwnAnswer (rename_to s moment count node replace units).answer
 rename_own s moment count node replace units =
-    given_own s (path_of units) _ _ refl (λ path e. checked_own s _ _ (refl, tt)
+    given_own s (parsed_path units) _ _ refl (λ path e. checked_own s _ _ (refl, tt)
     (one_of_own (is_same_path s.naming path node.path) _ _ (one_of_own _ _ _ refl refl) (checked_own s _ _ (refl, (refl, (refl, (refl, (refl, tt))))) refl)))
 
-sets_own : (s : DriveState) (moment count : ℕ) (node : Node) (x : SetInfo) → IsOwnAnswer (sets s moment count node x).answer
+sets_own : (s : DriveState) (moment count : ℕ) (node : Node) (x : SetInfo) → IsOwnAnswer (set_outcome s moment count node x).answer
 sets_own s moment count node (set.Basic moments attributes) = refl
 sets_own s moment count node (set.Rename replace units) = rename_own s moment count node replace units
 sets_own s moment count node (set.Disposition pending) = checked_own s _ _ (refl, (refl, tt)) refl
@@ -195,7 +194,7 @@ settles_own news old w all = by_closed (is_closed news w)
         by_change path deep filter None e = rw e all
         by_change path deep filter (Some change) e = rw e (one_more old.ends _ all refl)
 
-        by_try : (path : Names) (exclusive : Bool) (ranges : List Range) (b : Bool) → (is_tried old.state news path && not (conflicts (locks_on old.state path) (wanted_locks w.file exclusive ranges))) ≡ b
+        by_try : (path : Names) (exclusive : Bool) (ranges : List Range) (b : Bool) → (is_tried old.state news path && not (conflicts (locks_on old.state path) (asked_locks w.file exclusive ranges))) ≡ b
             → AreOwnEnds (settles_ranges news old w path exclusive ranges).ends
         by_try path exclusive ranges true e = rw e (one_more old.ends _ all refl)
         by_try path exclusive ranges false e = rw e all

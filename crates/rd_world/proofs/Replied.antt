@@ -12,9 +12,9 @@ use Rattle.rd_base.specs.declared.status.Status.{Status}
 use Rattle.rd_base.specs.Layout.{met}
 use Rattle.rd_base.specs.Position.{Position, at_start}
 use Rattle.rd_hello.specs.declared.end_fault.EndFault.{EndFault}
-use Rattle.rd_host.specs.Core as host
 use Rattle.rd_host.specs.declared.act.Act.{Act}
 use Rattle.rd_host.specs.declared.act.Act.TheVariants as act
+use Rattle.rd_host.specs.Core.{host_hear}
 use Rattle.rd_irp.specs.declared.completion.Body.{Body}
 use Rattle.rd_irp.specs.declared.completion.Head.{Head}
 use Rattle.rd_irp.specs.declared.completion.Kind.{Kind}
@@ -32,7 +32,7 @@ use Rattle.rd_pending.proofs.Indices.{own_place}
 use Rattle.rd_pending.proofs.Sound.{alike_before}
 use Rattle.rd_pending.proofs.Tame.{newest}
 use Rattle.rd_world.specs.HostDeeds.{calls_of, side_of}
-use Rattle.rd_world.specs.Joining.{AreJoined, IsCarried, CameTo, Replied, Stands, Uncut, accepted, key_of, request_of_accepted}
+use Rattle.rd_world.specs.Joining.{AreJoined, IsCarried, ClientCameTo, Replied, Stands, Uncut, accepted, key_of, request_of_accepted}
 use Rattle.rd_world.specs.Talk.{AtEachPoint, Deed, answered, EachAfter, client_read, client_writes, client_wrote, completes, head_in, host_read, host_reads, host_wrote, is_request, journal, read_by_client, read_by_host, removed_in, request_at, stored_by, written_by_client}
 use Rattle.rd_world.specs.Told.{Answers, CompletesWith, IsAnswerAt, IsReplied, RemovedSince, Replies, is_said_gone, worn_entries}
 use Rattle.rd_world.proofs.Calls.{Does, calls_hold}
@@ -127,7 +127,7 @@ record Located (client : ℕ) (deeds : List Deed) (c n : ℕ) (a : Accepted) (re
   parts : deeds ≡ late ++ host_reads c message ∷ early
   head : Head
   bytes : List ℕ
-  read : (host.hear (side_of client early).core message).1 ≡ Ok (act.Complete head bytes)
+  read : (host_hear (side_of client early).core message).1 ≡ Ok (act.Complete head bytes)
   device : head.device ≡ a.device
   id : head.completion ≡ a.id
   reads : reply_in a head bytes ≡ Some (Done reply)
@@ -142,7 +142,7 @@ located : (client : ℕ) (deeds : List Deed) → Does client deeds → (c n : �
 located client deeds may c n a reply e =
     let m : ℕ = alike_before (take n (accepted client deeds)) a in
     let end = ends a m (course_from (lives_before c (calls_of client deeds))) (heard_on c (calls_of client deeds)) reply e in
-    let here = heard_at client c deeds may end.front end.head end.bytes end.back end.parts in
+    let here = heard_at client c deeds may end.prefix end.head end.bytes end.back end.parts in
     record {
       late = here.late;
       message = here.message;
@@ -155,7 +155,7 @@ located client deeds may c n a reply e =
       id = end.id;
       reads = end.reads;
       none = subst (λ (xs : List Tidings). ended_in a m (course_from (lives_before c (calls_of client deeds))) xs ≡ None) (sym here.before) end.none;
-      count = ap (pairs_in a.device a.id) here.before ∙ sym (from_none (pairs_in a.device a.id end.front)) ∙ sym (through_pairs a.device a.id (course_from (lives_before c (calls_of client deeds))) end.front) ∙ end.count;
+      count = ap (pairs_in a.device a.id) here.before ∙ sym (from_none (pairs_in a.device a.id end.prefix)) ∙ sym (through_pairs a.device a.id (course_from (lives_before c (calls_of client deeds))) end.prefix) ∙ end.count;
     }
 
 -- the completion that the host reads there
@@ -176,8 +176,8 @@ module _ (client : ℕ) (replies : Replies) (deeds : List Deed) (is : AreJoined 
   answers : EachAfter (Answers replies) (host_reads c l.message ∷ l.early)
   answers = each_end (Answers replies) l.late (host_reads c l.message ∷ l.early) (subst (EachAfter (Answers replies)) l.parts is.told.answers)
 
-  says : Heard (side_of client l.early).core l.message ((host.hear (side_of client l.early).core l.message).0, Ok (act.Complete l.head l.bytes))
-  says = subst (Heard (side_of client l.early).core l.message) (ap (λ (y : Result Act EndFault). ((host.hear (side_of client l.early).core l.message).0, y)) l.read) (heard (side_of client l.early).core l.message)
+  says : Heard (side_of client l.early).core l.message ((host_hear (side_of client l.early).core l.message).0, Ok (act.Complete l.head l.bytes))
+  says = subst (Heard (side_of client l.early).core l.message) (ap (λ (y : Result Act EndFault). ((host_hear (side_of client l.early).core l.message).0, y)) l.read) (heard (side_of client l.early).core l.message)
 
   opened : Open client l.early c
   opened = record { channel = may.0; fine = says.0 }
@@ -354,7 +354,7 @@ module _ (client : ℕ) (replies : Replies) (deeds : List Deed) (is : AreJoined 
         | inr (zs, e, rest) ↦ never_since (by_journal.cut first zs cause e (λ had. hasnt (gave first had)) (given_of (first ++ Cut cause ∷ []) has))
       ]
 
-is_located : (client : ℕ) (deeds : List Deed) → Does client deeds → (a : Accepted) (reply : Reply) → (done : CameTo client deeds a (Done reply))
+is_located : (client : ℕ) (deeds : List Deed) → Does client deeds → (a : Accepted) (reply : Reply) → (done : ClientCameTo client deeds a (Done reply))
     → (slice_get (accepted client deeds) (length done.earlier) ≡ Some a) × Located client deeds a.channel (length done.earlier) a reply
 is_located client deeds may a reply done =
     let n : ℕ = length done.earlier in

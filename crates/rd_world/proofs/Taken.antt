@@ -7,8 +7,7 @@ use Rattle.rd_base.specs.Position.{Position, at_start}
 use Rattle.rd_base.proofs.LayoutLemmas.{meets}
 use Rattle.rd_base.proofs.ResultLemmas.{ok_one}
 use Rattle.rd_hello.specs.declared.end_fault.EndFault.{EndFault}
-use Rattle.rd_host.specs.Core as host
-use Rattle.rd_host.specs.Core.{HostCoreState}
+use Rattle.rd_host.specs.Core.{HostCoreState, host_hear}
 use Rattle.rd_host.specs.declared.act.Act.{Act}
 use Rattle.rd_host.specs.declared.act.Act.TheVariants as act
 use Rattle.rd_irp.specs.declared.completion.Head.{Head}
@@ -21,7 +20,7 @@ use Rattle.rd_pending.specs.declared.calls.Completed.{Completed}
 use Rattle.rd_pending.specs.declared.calls.Completed.TheVariants.{Gave, Late}
 use Rattle.rd_pending.specs.Outcomes.{Accepted}
 use Rattle.rd_pending.specs.Table as table
-use Rattle.rd_pending.specs.Table.{Slot, TableState, awaits, slot_at}
+use Rattle.rd_pending.specs.Table.{Slot, TableState, awaits, slot_for}
 use Rattle.rd_pending.proofs.CountLemmas.{pairs}
 use Rattle.rd_pending.proofs.Sound.{alike_before, held, slot_waits}
 use Rattle.rd_world.specs.HostDeeds.{side_of}
@@ -41,15 +40,15 @@ use Rattle.rd_world.proofs.Written.{sound_side}
 pub same_request : (ms : List (List ℕ)) (k : ℕ) (r s : Request) → request_at ms k ≡ Some r → request_at ms k ≡ Some s → r ≡ s
 same_request ms k r s e f = cc (e, f)
 
--- the body reads behind the head
+-- the body reads after the head
 pub body_reads : (r : Request) (reply : Reply) (m bytes : List ℕ) (head : Head) (q : Position) → CompletesWith r reply m → met completion_head (at_start m) ≡ Ok (head, q) → bytes ≡ q.left
     → (head ≡ record { device = r.device; completion = r.completion; status = reply.status }) × (p : Position) × (met (completion_body (kind_of r.op) head.status) (at_start bytes) ≡ Ok (reply.body, p))
 body_reads r reply m bytes head q answers is left =
     let own_head : Head = record { device = r.device; completion = r.completion; status = reply.status } in
-    let (p, read, behind) = head_read own_head m answers.head in
+    let (p, read, tail_is) = head_read own_head m answers.head in
     let both : (head, q) ≡ (own_head, p) = ok_one (met completion_head (at_start m)) (head, q) (own_head, p) is read in
     let status : head.status ≡ reply.status = ap (λ (x : Head × Position). (x.0).status) both in
-    let bytes_are : bytes ≡ drop 16 m = left ∙ ap (λ (x : Head × Position). (x.1).left) both ∙ behind in
+    let bytes_are : bytes ≡ drop 16 m = left ∙ ap (λ (x : Head × Position). (x.1).left) both ∙ tail_is in
     let (end, body, long) = meets (completion_body (kind_of r.op) reply.status) 0 (drop 16 m) reply.body answers.tail answers.body in (
       ap (λ (x : Head × Position). x.0) both,
       end,
@@ -71,11 +70,11 @@ slot_held (Some slot) d e = go (slot.device == d) refl e
     go true of one = (slot, refl, eqb-true slot.device d of)
     go false of one = absurd (omega (arith, one))
 
-late_one : (t : TableState) (head : Head) (bytes : List ℕ) (slot : Slot) → slot_at t head.completion ≡ Some slot → slot.device ≡ head.device → slot.dead ≡ true
+late_one : (t : TableState) (head : Head) (bytes : List ℕ) (slot : Slot) → slot_for t head.completion ≡ Some slot → slot.device ≡ head.device → slot.dead ≡ true
     → (table.complete t head bytes).1 ≡ Ok (Late slot.number)
 late_one t head bytes slot is of dead = rw (is, eq-eqb slot.device head.device of, dead) refl
 
-given_one : (t : TableState) (head : Head) (bytes : List ℕ) (slot : Slot) (read : _ × Position) → slot_at t head.completion ≡ Some slot → slot.device ≡ head.device → slot.dead ≡ false
+given_one : (t : TableState) (head : Head) (bytes : List ℕ) (slot : Slot) (read : _ × Position) → slot_for t head.completion ≡ Some slot → slot.device ≡ head.device → slot.dead ≡ false
     → met (completion_body slot.kind head.status) (at_start bytes) ≡ Ok read → (table.complete t head bytes).1 ≡ Ok (Gave slot.number)
 given_one t head bytes slot read is of alive body = rw (is, eq-eqb slot.device head.device of, alive, body) refl
 
@@ -103,8 +102,8 @@ takes_it client replies before c m head q bytes may carried stands told answers 
     o : Origin before c m head
     o = origin client before c m head may carried stands told (rw is refl)
 
-    slot : (x : Slot) × (slot_at t head.completion ≡ Some x) × (x.device ≡ head.device)
-    slot = slot_held (slot_at t head.completion) head.device (counts client before c m head may carried.1 is_open o).2
+    slot : (x : Slot) × (slot_for t head.completion ≡ Some x) × (x.device ≡ head.device)
+    slot = slot_held (slot_for t head.completion) head.device (counts client before c m head may carried.1 is_open o).2
 
     by : (b : Bool) → (slot.0).dead ≡ b → (gave : Completed) × ((table.complete t head bytes).1 ≡ Ok gave)
     by true dead = (Late (slot.0).number, late_one t head bytes slot.0 slot.1 slot.2 dead)
@@ -128,9 +127,9 @@ takes_it client replies before c m head q bytes may carried stands told answers 
 taken_one : (client : ℕ) (replies : Replies) (before : List Deed) (deed : Deed) → Does client (deed ∷ before) → AtEachPoint IsCarried (deed ∷ before) → EachAfter Stands before
     → EachAfter Tells before → EachAfter (Answers replies) before → IsTaken (side_of client before) deed
 taken_one client replies before (host_reads c m) may carried stands told answers =
-    go (host.hear (side_of client before).core m) refl (heard (side_of client before).core m)
+    go (host_hear (side_of client before).core m) refl (heard (side_of client before).core m)
   where
-    go : (r : HostCoreState × Result Act EndFault) → host.hear (side_of client before).core m ≡ r → Heard (side_of client before).core m (host.hear (side_of client before).core m)
+    go : (r : HostCoreState × Result Act EndFault) → host_hear (side_of client before).core m ≡ r → Heard (side_of client before).core m (host_hear (side_of client before).core m)
         → IsTaken (side_of client before) (host_reads c m)
     go (x, Err fault) e says = rw e tt
     go (x, Ok act.Nothing) e says = rw e tt

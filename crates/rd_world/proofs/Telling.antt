@@ -10,8 +10,8 @@ use Rattle.rd_base.specs.declared.journal.Key.{Key}
 use Rattle.rd_base.specs.declared.status.Status.{Status}
 use Rattle.rd_base.specs.Lawful.{IsLawful}
 use Rattle.rd_irp.specs.declared.request.Request.{Request}
-use Rattle.rd_world.specs.Talk.{Deed, EachAfter, Has, adds, answered, client_read, client_reads, client_writes, completes, has_pair, head_in, host_begins, host_ends, host_reads, host_writes, is_request, journal, removes, request_at, request_in, stores, submits, takes, tells}
-use Rattle.rd_world.specs.Told.{Answers, IsTold, Replies, came, is_of_device, requests_to, sent, told}
+use Rattle.rd_world.specs.Talk.{Deed, EachAfter, Has, adds, answered, client_read, client_reads, client_writes, completes, head_in, host_begins, host_ends, host_reads, host_writes, is_request, journal, message_has_pair, removes, request_at, request_in, stores, submits, takes, tells}
+use Rattle.rd_world.specs.Told.{Answers, AreAnswered, Replies, came, is_of_device, requests_to, sent, told}
 use Rattle.rd_world.proofs.Journals.{IsPlain, plain_of}
 use Rattle.rd_world.proofs.Lists.{each_end, each_weaker}
 use Rattle.rd_world.proofs.Messages.{head_read}
@@ -127,7 +127,7 @@ requests_distinct d (m ∷ older) = go (is_request m && option_map_or (λ (r : R
     go true later = ((λ has. omega (arith, requests_below d (length (filter is_request older)) older has)), later)
     go false later = later
 
-told_distinct : (replies : Replies) (deeds : List Deed) → IsTold replies deeds → ((device : ℕ) → IsLawful (reverse (journal device deeds))) → (c d : ℕ) → IsDistinct (told c d deeds)
+told_distinct : (replies : Replies) (deeds : List Deed) → AreAnswered replies deeds → ((device : ℕ) → IsLawful (reverse (journal device deeds))) → (c d : ℕ) → IsDistinct (told c d deeds)
 told_distinct replies deeds is_told lawful c d =
     let p : ℕ → Bool = came c (journal d deeds) in
     let direct = is_told.direct_in_order c d in
@@ -176,12 +176,12 @@ option_cases false k x xs has = inr has
 answered_told : (deeds : List Deed) (c d i k : ℕ) → EachAfter IsOwn deeds → Has k (answered c d i deeds) → Has k (told c d deeds) × ((r : Request) × (request_at (client_read c deeds) k ≡ Some r) × (r.device ≡ d))
 answered_told [] c d i k own has = absurd has
 answered_told (completes key m ∷ before) c d i k own has =
-    elim (option_cases (key.channel == c && has_pair d i m) k key.index (answered c d i before) has) [
-      | inl (test, same) ↦ here (key.channel == c) refl (has_pair d i m) refl test same
+    elim (option_cases (key.channel == c && message_has_pair d i m) k key.index (answered c d i before) has) [
+      | inl (test, same) ↦ here (key.channel == c) refl (message_has_pair d i m) refl test same
       | inr h ↦ let old = answered_told before c d i k own.1 h in (has_option (key.channel == c && is_of_device d m) k key.index (told c d before) old.0, old.1)
     ]
   where
-    here : (p : Bool) → (key.channel == c) ≡ p → (q : Bool) → has_pair d i m ≡ q → (p && q) ≡ true → k ≡ key.index
+    here : (p : Bool) → (key.channel == c) ≡ p → (q : Bool) → message_has_pair d i m ≡ q → (p && q) ≡ true → k ≡ key.index
         → Has k (told c d (completes key m ∷ before)) × ((r : Request) × (request_at (client_read c before) k ≡ Some r) × (r.device ≡ d))
     here true e true e2 test same =
         let r = own.0.0 in
@@ -239,6 +239,6 @@ all_tell (client_reads channel m ∷ before) own distinct = (tt, all_tell before
 all_tell (client_writes channel m ∷ before) own distinct = (tt, all_tell before own.1 distinct)
 all_tell (stores device item ∷ before) own distinct = (tt, all_tell before own.1 distinct)
 
-pub each_tells : (replies : Replies) (deeds : List Deed) → IsTold replies deeds → ((device : ℕ) → IsLawful (reverse (journal device deeds))) → EachAfter Tells deeds
+pub each_tells : (replies : Replies) (deeds : List Deed) → AreAnswered replies deeds → ((device : ℕ) → IsLawful (reverse (journal device deeds))) → EachAfter Tells deeds
 each_tells replies deeds is_told lawful =
     all_tell deeds (each_weaker (Answers replies) IsOwn (own_of replies) deeds is_told.answers) (told_distinct replies deeds is_told lawful)

@@ -1,14 +1,14 @@
 -- Deeds that pass tests did what control lines say: what was told in time, and where devices were cut.
-use Rattle.std.proofs.Common.{◌≡◌, refl, sym, ap, subst, ℕ, ◌≤◌, ◌==◌, ◌&&◌, not, Bool, true, false, List, [], ◌∷◌, length, reverse, leb, leb-true, eqb-true, bytes_eq, filter, arith}
+use Rattle.std.proofs.Common.{◌≡◌, refl, sym, ap, subst, ℕ, ◌≤◌, ◌==◌, ◌&&◌, not, Bool, true, false, List, [], ◌∷◌, length, reverse, leb, leb-true, eqb-true, bytes_eq, filter, arith, inl, inr}
 use Rattle.std.specs.Cmp.Lexicographic.{bytes_decides}
 use Rattle.std.specs.List.{list_all}
+use Rattle.std.proofs.lemmas.Bool.{and_parts, not-true, cases_Bool}
 use Rattle.rd_base.specs.declared.journal.Cause.TheVariants.{Dropped, Removed}
 use Rattle.rd_base.specs.declared.journal.Item.TheVariants.{Came, Cut}
 use Rattle.rd_world.specs.Acts.{AreSaid, IsCutThere, IsToldInTime, cut_last, is_telling, tellings_due, tellings_on, there_at}
 use Rattle.rd_world.specs.Devices.{Declared}
 use Rattle.rd_world.specs.Talk.{AtEachPoint, Deed, EachAfter, host_ends, is_removed, removes, stores}
 use Rattle.rd_world.proofs.TestedDeeds.{each, each_passes}
-use Rattle.rd_world.proofs.TestedJournals.{both, passes_not}
 use Rattle.rd_world.proofs.TestedLines.{are_within, none_client_wrote, rest_within}
 use Rattle.rd_world.proofs.TestedTelling.{among, of_members}
 
@@ -36,16 +36,15 @@ module _ (channels devices applications : List ℕ) where
   none_told_on deeds within c isnt = ap (λ (ms : List (List ℕ)). filter is_telling (reverse ms)) (none_client_wrote channels devices applications deeds within c isnt)
 
   told_now : (deeds : List Deed) → are_within channels devices applications deeds ≡ true → is_told_in_time channels deeds ≡ true → IsToldInTime deeds
-  told_now deeds within e c = go (among c channels) refl
-    where
-      go : (b : Bool) → among c channels ≡ b → length (tellings_on c deeds) ≤ tellings_due c deeds
-      go true is = leb-true (length (tellings_on c deeds)) (tellings_due c deeds) (of_members (λ x. leb (length (tellings_on x deeds)) (tellings_due x deeds)) channels e c is)
-      go false isnt = subst (λ (ms : List (List ℕ)). length ms ≤ tellings_due c deeds) (sym (none_told_on deeds within c isnt)) (omega arith)
+  told_now deeds within e c = elim (cases_Bool (among c channels)) [
+    | inl is ↦ leb-true (length (tellings_on c deeds)) (tellings_due c deeds) (of_members (λ x. leb (length (tellings_on x deeds)) (tellings_due x deeds)) channels e c is)
+    | inr isnt ↦ subst (λ (ms : List (List ℕ)). length ms ≤ tellings_due c deeds) (sym (none_told_on deeds within c isnt)) (omega arith)
+  ]
 
   pub told_in_time_by_test : (deeds : List Deed) → are_within channels devices applications deeds ≡ true → at_points (is_told_in_time channels) deeds ≡ true → AtEachPoint IsToldInTime deeds
   told_in_time_by_test [] within e = told_now [] within e
   told_in_time_by_test (x ∷ before) within e =
-      let parts = both e in
+      let parts = and_parts _ _ e in
       (told_now (x ∷ before) within parts.0, told_in_time_by_test before (rest_within channels devices applications x before within) parts.1)
 
 -- ---- where devices are cut
@@ -81,7 +80,7 @@ cut_is devices (removes d ∷ before) deed e = removal_is d deed e
 cut_is devices before (host_ends channel) e = (bytes_decides (reverse (cut_last before)) (there_at devices before)).0 e
 cut_is devices (stores device (Cut Dropped) ∷ before) (stores other (Cut Dropped)) e = tt
 cut_is devices (stores device (Cut Dropped) ∷ before) deed e = absurd (cc)
-cut_is devices before (stores device (Came key)) e = passes_not (is_removed device before) e
+cut_is devices before (stores device (Came key)) e = not-true (is_removed device before) e
 cut_is devices before deed e = tt
 
 pub cut_by_test : (devices : List (ℕ × Declared)) (deeds : List Deed) → each (is_cut_there devices) deeds ≡ true → EachAfter (IsCutThere devices) deeds

@@ -1,6 +1,7 @@
 -- Completions that pass tests answer their requests, and are written plainly.
 use Rattle.std.proofs.Common.{◌≡◌, refl, sym, ap, subst, ℕ, ◌<◌, ◌^◌, ◌==◌, ◌&&◌, ◌||◌, Bool, true, false, cond, List, [], ◌∷◌, ◌++◌, length, eqb-true, Some, ap₂, drop, ◌∙◌}
 use Rattle.std.specs.List.{list_any}
+use Rattle.std.proofs.lemmas.Bool.{and_parts}
 use Rattle.rd_world.specs.Talk.{Deed, EachAfter, client_read, client_writes, completes, removed_in, request_at}
 use Rattle.rd_world.specs.Told.{Answers, CompletesWith, RemovedSince, Replies}
 use Rattle.rd_world.specs.Session.{IsPlain}
@@ -18,7 +19,7 @@ use Rattle.rd_irp.specs.Fits.{BodyFits, kind_of}
 use Rattle.rd_irp.specs.Written.{IsBodyInRange, body_bytes, body_tail, completion_bytes}
 use Rattle.rd_irp.proofs.WrittenLemmas.{body_after_head, body_spelled, head_spelled}
 use Rattle.rd_base.proofs.LayoutLemmas.{one_value}
-use Rattle.rd_world.proofs.TestedJournals.{both, is_sent, sent_is}
+use Rattle.rd_world.proofs.TestedJournals.{is_sent, sent_is}
 use Rattle.rd_world.proofs.Taken.{same_request}
 
 -- ---- completions
@@ -54,22 +55,22 @@ abbrev pub before_sent : Key → List Item → List Item
 before_sent key [] = []
 before_sent key (x ∷ xs) = cond (is_sent key x) [] (x ∷ before_sent key xs)
 
-abbrev pub behind_sent : Key → List Item → List Item
-behind_sent key [] = []
-behind_sent key (x ∷ xs) = cond (is_sent key x) xs (behind_sent key xs)
+abbrev pub after_sent : Key → List Item → List Item
+after_sent key [] = []
+after_sent key (x ∷ xs) = cond (is_sent key x) xs (after_sent key xs)
 
-pub sent_parts : (key : Key) (items : List Item) → list_any (is_sent key) items ≡ true → items ≡ before_sent key items ++ Sent key ∷ behind_sent key items
+pub sent_parts : (key : Key) (items : List Item) → list_any (is_sent key) items ≡ true → items ≡ before_sent key items ++ Sent key ∷ after_sent key items
 sent_parts key [] e = absurd (cc)
 sent_parts key (x ∷ xs) e = go (is_sent key x) refl (sent_parts key xs) e
   where
-    go : (b : Bool) → is_sent key x ≡ b → (list_any (is_sent key) xs ≡ true → xs ≡ before_sent key xs ++ Sent key ∷ behind_sent key xs) → (b || list_any (is_sent key) xs) ≡ true
-        → x ∷ xs ≡ cond b [] (x ∷ before_sent key xs) ++ Sent key ∷ cond b xs (behind_sent key xs)
+    go : (b : Bool) → is_sent key x ≡ b → (list_any (is_sent key) xs ≡ true → xs ≡ before_sent key xs ++ Sent key ∷ after_sent key xs) → (b || list_any (is_sent key) xs) ≡ true
+        → x ∷ xs ≡ cond b [] (x ∷ before_sent key xs) ++ Sent key ∷ cond b xs (after_sent key xs)
     go true is older e = ap (λ (y : Item). y ∷ xs) (sent_is key x is)
     go false isnt older e = ap (λ (ys : List Item). x ∷ ys) (older e)
 
 -- ---- what is removed
 
--- the last removal of the device on the channel stands behind the read of the request
+-- the last removal of the device on the channel stands after the read of the request
 abbrev pub RemovedLast : ℕ → Key → Request → List Deed → Type 0
 RemovedLast device key r [] = ⊥
 RemovedLast device key r (client_writes c m ∷ before) =
@@ -86,7 +87,7 @@ removed_since device key r (client_writes c m ∷ before) last = go (c == key.ch
     go : (b : Bool) → (c == key.channel && list_any (λ id. id == device) (removed_in m)) ≡ b → (RemovedLast device key r before → RemovedSince device key r before)
         → cond b (request_at (client_read key.channel before) key.index ≡ Some r) (RemovedLast device key r before) → RemovedSince device key r (client_writes c m ∷ before)
     go true is older asked =
-        let parts = both is in
+        let parts = and_parts _ _ is in
         ([], before, m, ap (λ (x : ℕ). client_writes x m ∷ before) (eqb-true c key.channel parts.0), parts.1, asked)
     go false isnt older last = farther device key r (client_writes c m) before (older last)
 removed_since device key r (x ∷ before) last = farther device key r x before (removed_since device key r before last)

@@ -2,6 +2,7 @@
 use Rattle.std.proofs.Common.{◌≡◌, ◌∙◌, refl, sym, ap, ap₂, subst, ℕ, ◌-◌, ◌^◌, ◌==◌, ◌&&◌, Bool, true, false, cond, List, [], ◌∷◌, ◌++◌, length, take, drop, ltb, leb, ltb-true, leb-true, eqb-true, take-append-drop, is_none, is_ok, Option, Some, None, bytes_eq, filter, ◌≢◌, lit<, arith, ◌<◌}
 use Rattle.std.specs.Cmp.Lexicographic.{bytes_decides}
 use Rattle.std.specs.List.{cons_option, list_all}
+use Rattle.std.proofs.lemmas.Bool.{and_parts}
 use Rattle.rd_irp.specs.declared.op.Op.{Op}
 use Rattle.rd_irp.specs.declared.op.Op.TheVariants as op
 use Rattle.rd_pending.specs.declared.calls.Target.{Target}
@@ -12,7 +13,7 @@ use Rattle.rd_world.specs.Host.{HostSide, next_message, new_side}
 use Rattle.rd_world.specs.HostDeeds.{IsInRange, MayDo, side_of, calls_of, calls_by, side_after}
 use Rattle.rd_world.specs.Joining.{IsCarried}
 use Rattle.rd_world.specs.Talk.{AtEachPoint, Deed, EachAfter, EndsWith, client_read, client_reads, client_writes, client_wrote, completes, host_begins, host_ends, host_read, host_reads, host_writes, host_wrote, submits, takes, tells}
-use Rattle.rd_world.proofs.TestedJournals.{both, all_pass}
+use Rattle.rd_world.proofs.TestedJournals.{all_pass}
 use Rattle.rd_irp.specs.Fits.{max_path}
 use Rattle.rd_pending.specs.History.{Call}
 
@@ -25,7 +26,7 @@ each p (x ∷ before) = p before x && each p before
 
 pub each_passes : {P : List Deed → Deed → Type 0} (p : List Deed → Deed → Bool) → ((before : List Deed) (x : Deed) → p before x ≡ true → P before x) → (deeds : List Deed) → each p deeds ≡ true → EachAfter P deeds
 each_passes p sound [] e = tt
-each_passes p sound (x ∷ before) e = let parts = both e in (sound before x parts.0, each_passes p sound before parts.1)
+each_passes p sound (x ∷ before) e = let parts = and_parts _ _ e in (sound before x parts.0, each_passes p sound before parts.1)
 
 -- ---- what is carried
 
@@ -37,7 +38,7 @@ same _ _ = false
 same_is : (xs ys : List (List ℕ)) → same xs ys ≡ true → xs ≡ ys
 same_is [] [] e = refl
 same_is (x ∷ xs) (y ∷ ys) e =
-    let parts = both e in
+    let parts = and_parts _ _ e in
     ap₂ (λ (z : List ℕ) (zs : List (List ℕ)). z ∷ zs) ((bytes_decides x y).0 parts.0) (same_is xs ys parts.1)
 same_is [] (y ∷ ys) e = absurd (cc)
 same_is (x ∷ xs) [] e = absurd (cc)
@@ -87,7 +88,7 @@ now (x ∷ before) at = at.0
 pub carried_by_test : (deeds : List Deed) → each reads_next deeds ≡ true → AtEachPoint IsCarried deeds
 carried_by_test [] e = record { to_client = λ c. ([], refl); to_host = λ c. ([], refl) }
 carried_by_test (x ∷ before) e =
-    let parts = both e in
+    let parts = and_parts _ _ e in
     let older = carried_by_test before parts.1 in
     (carries before x (now before older) parts.0, older)
 
@@ -108,14 +109,14 @@ is_small _ _ = false
 
 unit_is : (unit : ℕ) → is_unit unit ≡ true → (unit ≢ 0) × (unit < 2 ^ 16)
 unit_is unit e =
-    let parts = both e in
+    let parts = and_parts _ _ e in
     let some = ltb-true 0 unit parts.0 in ((λ (none : unit ≡ 0). absurd (omega (arith, some, none))), ltb-true unit (2 ^ 16) parts.1)
 
 small_is : (named : Target) (o : Op) → is_small named o ≡ true → MaySubmit named o × IsInRange named o
 small_is (target.Handle h) (op.Read offset len) e =
-    let parts = both e in
-    let names = both parts.0 in
-    let numbers = both parts.1 in (
+    let parts = and_parts _ _ e in
+    let names = and_parts _ _ parts.0 in
+    let numbers = and_parts _ _ parts.1 in (
       record { fits = tt; names = refl },
       record {
         device = ltb-true h.device (2 ^ 32) names.0;
@@ -124,21 +125,21 @@ small_is (target.Handle h) (op.Read offset len) e =
       },
     )
 small_is (target.Handle h) op.Close e =
-    let names = both e in
+    let names = and_parts _ _ e in
     (record { fits = tt; names = refl }, record { device = ltb-true h.device (2 ^ 32) names.0; file = ltb-true h.file (2 ^ 32) names.1; op = tt })
 small_is (target.Handle h) (op.Notify tree filter) e =
-    let parts = both e in
-    let names = both parts.0 in
+    let parts = and_parts _ _ e in
+    let names = and_parts _ _ parts.0 in
     (record { fits = tt; names = refl }, record { device = ltb-true h.device (2 ^ 32) names.0; file = ltb-true h.file (2 ^ 32) names.1; op = ltb-true filter (2 ^ 32) parts.1 })
 small_is (target.Device device) (op.Create access allocation attributes share disposition options path) e =
-    let parts = both e in
-    let n0 = both parts.0 in
-    let n1 = both n0.1 in
-    let n2 = both n1.1 in
-    let n3 = both n2.1 in
-    let n4 = both n3.1 in
-    let n5 = both n4.1 in
-    let units = both parts.1 in (
+    let parts = and_parts _ _ e in
+    let n0 = and_parts _ _ parts.0 in
+    let n1 = and_parts _ _ n0.1 in
+    let n2 = and_parts _ _ n1.1 in
+    let n3 = and_parts _ _ n2.1 in
+    let n4 = and_parts _ _ n3.1 in
+    let n5 = and_parts _ _ n4.1 in
+    let units = and_parts _ _ parts.1 in (
       record { fits = (leb-true (length path) max_path units.0, all_pass {P = λ unit. unit ≢ 0} is_unit (λ unit is. (unit_is unit is).0) path units.1); names = refl },
       record {
         device = ltb-true device (2 ^ 32) n0.0;
@@ -188,15 +189,15 @@ may s _ = true
 
 may_is : (s : HostSide) (x : Deed) → may s x ≡ true → MayDo s x
 may_is s (host_begins c) e =
-    let parts = both e in (none_is (s.table).channel parts.0, leb-true (s.table).below c parts.1)
+    let parts = and_parts _ _ e in (none_is (s.table).channel parts.0, leb-true (s.table).below c parts.1)
 may_is s (submits x named o) e =
-    let parts = both e in
+    let parts = and_parts _ _ e in
     let small = small_is named o parts.0 in
     (small.0, small.1, none_is (submit_refusal s.table named) parts.1)
 may_is s (takes number) e = e
 may_is s (tells n) e = absurd (cc)
 may_is s (host_writes c m) e =
-    let parts = both e in (open_is (s.table).channel c parts.0, next_is (next_message s) m parts.1)
+    let parts = and_parts _ _ e in (open_is (s.table).channel c parts.0, next_is (next_message s) m parts.1)
 may_is s (host_reads c m) e = open_is (s.table).channel c e
 may_is s (host_ends c) e = open_is (s.table).channel c e
 may_is s _ e = tt

@@ -3,6 +3,7 @@ use Rattle.std.proofs.Common.{◌≡◌, ◌∙◌, refl, sym, ap, subst, inl, i
 use Rattle.std.specs.Prelude.{filter_map}
 use Rattle.std.specs.List.{AllByRecursion, list_all, list_any}
 use Rattle.std.specs.Option.{option_and_then, option_map_or}
+use Rattle.std.proofs.lemmas.Bool.{and_parts, or_cases, cases_Bool}
 use Rattle.rd_pending.specs.declared.calls.Outcome as table_outcome
 use Rattle.rd_pending.specs.declared.calls.Handle.{Handle}
 use Rattle.rd_pending.specs.declared.calls.Target.{Target}
@@ -16,38 +17,36 @@ use Rattle.rd_world.specs.Control.{Control, controlled}
 use Rattle.rd_world.specs.Devices.{Declared}
 use Rattle.rd_world.specs.Events.{target_of}
 use Rattle.rd_world.specs.Host.{HostSide}
-use Rattle.rd_world.specs.Hearing.{given_handle, holding_after, outcome_of}
+use Rattle.rd_world.specs.Hearing.{given_handle, holding_after, reported_outcome}
 use Rattle.rd_world.specs.HostDeeds.{side_of}
-use Rattle.rd_world.specs.Lines.{AskedEnds, IsAccepted, IsDue, IsQuiet, LineEnds, LinesEnd, Waits, given_at, is_submission_of, outcome_at, submitted, waits_behind}
+use Rattle.rd_world.specs.Lines.{AskedEnds, IsAccepted, IsDue, LineEnds, LinesEnd, SubmitsNothing, Waits, given_at, is_submission_of, outcome_at, submitted, waits_after}
 use Rattle.rd_world.specs.Recording.{client_id}
 use Rattle.rd_world.specs.Run.{asked_by}
 use Rattle.rd_world.specs.Talk.{Deed, client_wrote, completes, client_writes, host_begins, host_ends, host_read, host_reads, host_writes, host_wrote, is_open_at, journal, on, read_by_host, stored_by, stores, submits, written_by_client, written_by_host}
 use Rattle.rd_world.specs.World.{Application, Asked}
 use Rattle.rd_world.proofs.TestedDeeds.{along, along_is}
-use Rattle.rd_world.proofs.TestedJournals.{both, either}
 use Rattle.rd_world.proofs.TestedTelling.{among, strange}
 
 -- ---- few are named
 
 of_named : (P : ℕ → Type 0) (xs : List ℕ) → AllByRecursion P xs → (x : ℕ) → among x xs ≡ true → P x
 of_named P [] all x is = absurd (cc)
-of_named P (y ∷ ys) all x is = elim (either is) [
+of_named P (y ∷ ys) all x is = elim (or_cases _ _ is) [
   | inl same ↦ subst P (sym (eqb-true x y same)) all.0
   | inr later ↦ of_named P ys all.1 x later
 ]
 
 -- what holds of those that are named, and of each other one, holds of all
 pub of_each : (P : ℕ → Type 0) (xs : List ℕ) → AllByRecursion P xs → ((x : ℕ) → among x xs ≡ false → P x) → (x : ℕ) → P x
-of_each P xs all others x = go (among x xs) refl
-  where
-    go : (b : Bool) → among x xs ≡ b → P x
-    go true is = of_named P xs all x is
-    go false isnt = others x isnt
+of_each P xs all others x = elim (cases_Bool (among x xs)) [
+  | inl is ↦ of_named P xs all x is
+  | inr isnt ↦ others x isnt
+]
 
 -- nothing is kept of a list where nothing is kept of each member
 none_kept : {A B : Type 0} (f : A → Option B) (p : A → Bool) → ((x : A) → p x ≡ true → f x ≡ None) → (xs : List A) → list_all p xs ≡ true → filter_map f xs ≡ []
 none_kept f p none [] e = refl
-none_kept f p none (x ∷ xs) e = let parts = both e in rw (none x parts.0) (none_kept f p none xs parts.1)
+none_kept f p none (x ∷ xs) e = let parts = and_parts _ _ e in rw (none x parts.0) (none_kept f p none xs parts.1)
 
 -- what stands under other numbers is not on a channel
 not_on : {A : Type 0} (named : List ℕ) (c : ℕ) → among c named ≡ false → (channel : ℕ) (x : A) → among channel named ≡ true → on c channel x ≡ None
@@ -108,26 +107,26 @@ module _ (channels devices applications : List ℕ) where
         one _ e = refl
 
   pub rest_within : (x : Deed) (before : List Deed) → are_within (x ∷ before) ≡ true → are_within before ≡ true
-  rest_within x before e = (both {a = is_within channels devices applications x} e).1
+  rest_within x before e = (and_parts _ _ {a = is_within channels devices applications x} e).1
 
   pub none_by : (deeds : List Deed) → are_within deeds ≡ true → (a : ℕ) → among a applications ≡ false → list_any (is_submission_of a) deeds ≡ false
   none_by [] within a isnt = refl
   none_by (submits application named o ∷ before) within a isnt =
-      let parts = both within in
+      let parts = and_parts _ _ within in
       let other = strange application a applications parts.0 isnt in
       rw other (none_by before parts.1 a isnt)
   none_by (x ∷ before) within a isnt = none_by before (rest_within x before within) a isnt
 
   not_open : (deeds : List Deed) → are_within deeds ≡ true → (c : ℕ) → among c channels ≡ false → is_open_at c deeds ≡ false
   not_open [] within c isnt = refl
-  not_open (host_begins channel ∷ before) within c isnt = strange channel c channels (both within).0 isnt
+  not_open (host_begins channel ∷ before) within c isnt = strange channel c channels (and_parts _ _ within).0 isnt
   not_open (host_ends channel ∷ before) within c isnt = refl
   not_open (x ∷ before) within c isnt = not_open before (rest_within x before within) c isnt
 
   pub none_submitted : (deeds : List Deed) → are_within deeds ≡ true → (c : ℕ) → among c channels ≡ false → submitted c deeds ≡ []
   none_submitted [] within c isnt = refl
   none_submitted (submits application named o ∷ before) within c isnt =
-      let older : are_within before ≡ true = (both within).1 in
+      let older : are_within before ≡ true = (and_parts _ _ within).1 in
       let closed = not_open before older c isnt in
       rw closed (none_submitted before older c isnt)
   none_submitted (x ∷ before) within c isnt = none_submitted before (rest_within x before within) c isnt
@@ -143,10 +142,10 @@ none_asked : (applications : List ℕ) (a : ℕ) → among a applications ≡ fa
 none_asked applications a isnt None e = refl
 none_asked applications a isnt (Some x) e = not_on applications a isnt x.0 x.1 e
 
-pub none_waits : (applications : List ℕ) (lines : List NumberedLine) → list_all (is_line_within applications) lines ≡ true → (a : ℕ) → among a applications ≡ false → (c : Control) → waits_behind a c lines ≡ []
+pub none_waits : (applications : List ℕ) (lines : List NumberedLine) → list_all (is_line_within applications) lines ≡ true → (a : ℕ) → among a applications ≡ false → (c : Control) → waits_after a c lines ≡ []
 none_waits applications [] e a isnt c = refl
 none_waits applications (l ∷ ls) e a isnt c =
-    let parts = both e in
+    let parts = and_parts _ _ e in
     let none = none_asked applications a isnt (asked_by l.line) parts.0 in
     rw none (none_waits applications ls parts.1 a isnt (controlled c l.number l.line))
 
@@ -155,7 +154,7 @@ none_waits applications (l ∷ ls) e a isnt c =
 pub opens_by : (devices : List (ℕ × Declared)) (since : ℕ) (deeds : List Deed) (c : ℕ) → HasOpened devices (drop since deeds) c → Opens devices deeds c
 opens_by devices since deeds c has = (take since deeds, drop since deeds, sym (take-append-drop since deeds), has)
 
-pub quiet_by : (a since : ℕ) (later earlier : List Deed) → drop since later ≡ earlier → list_any (is_submission_of a) (take since later) ≡ false → IsQuiet a later earlier
+pub quiet_by : (a since : ℕ) (later earlier : List Deed) → drop since later ≡ earlier → list_any (is_submission_of a) (take since later) ≡ false → SubmitsNothing a later earlier
 quiet_by a since later earlier same none = (take since later, sym (take-append-drop since later) ∙ ap (λ (deeds : List Deed). take since later ++ deeds) same, none)
 
 -- ---- what came of a request
@@ -177,8 +176,8 @@ given_along deeds count o = ap (λ (made : HostSide × List Call). given_of_call
 
 module _ (devices : List (ℕ × Declared)) (deeds : List Deed) (a : ℕ) where
   pub line_accepted : (holds next : Application) (x : Waits) (xs : List Waits) (o : Outcome) (os : List Outcome) (known : List Deed → Type 0) (from before after : List Deed) (named : Target) (count : ℕ) (came : table_outcome.Outcome)
-      → IsQuiet a before from → known before → IsDue devices x.acts before → target_of holds x.asked ≡ Some named → submit_refusal (side_of client_id before).table named ≡ None
-      → ((side_of client_id before).table).count ≡ count → deeds ≡ after ++ submits a named (x.asked).op ∷ before → outcome_at deeds count ≡ Some came → o ≡ outcome_of came
+      → SubmitsNothing a before from → known before → IsDue devices x.acts before → target_of holds x.asked ≡ Some named → submit_refusal (side_of client_id before).table named ≡ None
+      → ((side_of client_id before).table).count ≡ count → deeds ≡ after ++ submits a named (x.asked).op ∷ before → outcome_at deeds count ≡ Some came → o ≡ reported_outcome came
       → holding_after holds x.asked (given_at deeds count came) ≡ next
       → LinesEnd devices deeds a next xs os (λ later. outcome_at later count ≡ Some came) (submits a named (x.asked).op ∷ before)
       → LinesEnd devices deeds a holds (x ∷ xs) (o ∷ os) known from

@@ -7,6 +7,7 @@ use Rattle.std.specs.Option.{option_map_or}
 use Rattle.std.specs.Ordering.{nat_cmp}
 use Rattle.std.specs.BTreeMap.{is_at}
 use Rattle.std.proofs.lemmas.List.Elements.{Contains-append_left}
+use Rattle.std.proofs.lemmas.Bool.{and_parts}
 use Rattle.rd_base.specs.declared.journal.Cause.{Cause}
 use Rattle.rd_base.specs.declared.journal.Item.{Item}
 use Rattle.rd_base.specs.declared.journal.Item.TheVariants.{Cut}
@@ -20,8 +21,8 @@ use Rattle.rd_world.specs.Recording.{request_of}
 use Rattle.rd_world.specs.Session.{replies_in}
 use Rattle.rd_world.specs.Talk.{Deed, journal}
 use Rattle.rd_world.specs.Told.{IsReplied}
-use Rattle.rd_world.proofs.TestedAnswers.{before_sent, behind_sent, sent_parts}
-use Rattle.rd_world.proofs.TestedJournals.{both, is_sent}
+use Rattle.rd_world.proofs.TestedAnswers.{before_sent, after_sent, sent_parts}
+use Rattle.rd_world.proofs.TestedJournals.{is_sent}
 
 -- ---- what stands before
 
@@ -77,9 +78,9 @@ no_ends (x ∷ xs) e = absurd (cc)
 
 cut_gives_none : (requests : Key → Request) (s : DeviceState) (first last : List Item) (cause : Cause) → quiet_cuts requests s (first ++ Cut cause ∷ last) ≡ true
     → replies_by device_step device_cut requests s (first ++ Cut cause ∷ []) ≡ replies_by device_step device_cut requests s first
-cut_gives_none requests s [] last cause e = append-nil (map end_reply (device_cut s).ends) ∙ no_ends (device_cut s).ends (both e).0
+cut_gives_none requests s [] last cause e = append-nil (map end_reply (device_cut s).ends) ∙ no_ends (device_cut s).ends (and_parts _ _ e).0
 cut_gives_none requests s (x ∷ first) last cause e =
-    ap (λ (rs : List KeyedReply). replies_at device_step device_cut requests s x ++ rs) (cut_gives_none requests (state_after device_step device_cut requests s x) first last cause (both e).1)
+    ap (λ (rs : List KeyedReply). replies_at device_step device_cut requests s x ++ rs) (cut_gives_none requests (state_after device_step device_cut requests s x) first last cause (and_parts _ _ e).1)
 
 -- a key that was sent has the reply that the journal gives before, where no cut gives one
 pub replied_by_run : (devices : List (ℕ × Declared)) (deeds : List Deed) (device : ℕ) (d : Declared) → lookup (is_at (nat_cmp device)) devices ≡ Some d
@@ -91,7 +92,7 @@ replied_by_run devices deeds device d is key r reply before e quiet has =
     let earlier = before_sent key (reverse (journal device before)) in
     record {
       earlier = earlier;
-      later = behind_sent key (reverse (journal device before));
+      later = after_sent key (reverse (journal device before));
       stands = sent_parts key (reverse (journal device before)) e;
       given = subst (λ (rs : List KeyedReply). Contains rs (key, reply)) (sym (same earlier)) has;
       cut = λ first last cause parts hasnt has_now.

@@ -3,6 +3,7 @@ use Rattle.std.proofs.Common.{◌≡◌, refl, sym, subst, inl, inr, ℕ, ◌-�
 use Rattle.std.specs.Cmp.Lexicographic.{bytes_decides}
 use Rattle.std.specs.List.{cons_option, list_all, list_any}
 use Rattle.std.specs.Option.{option_map_or}
+use Rattle.std.proofs.lemmas.Bool.{and_parts, or_cases, not-true, cases_Bool}
 use Rattle.rd_base.specs.declared.journal.Item.{Item}
 use Rattle.rd_base.specs.declared.journal.Item.TheVariants.{Came, Sent}
 use Rattle.rd_base.specs.declared.journal.Key.{Key}
@@ -12,11 +13,11 @@ use Rattle.rd_irp.specs.declared.completion.Head.{Head}
 use Rattle.rd_irp.specs.declared.request.Request.{Request}
 use Rattle.rd_world.specs.Joining.{Stands}
 use Rattle.rd_world.specs.Talk.{Deed, EachAfter, EndsWith, Has, client_read, client_reads, client_writes, completes, head_in, is_completion_of, is_request, journal, request_at, request_in, stores}
-use Rattle.rd_drive.specs.Statuses.{insufficient_resources}
+use Rattle.rd_base.specs.Statuses.{insufficient_resources}
 use Rattle.rd_world.specs.Told.{ComesUnworn, says_worn, came, is_of_device, requests_to, sent, sent_at, told, unserved}
 use Rattle.rd_world.proofs.TestedDeeds.{each, end_is}
 use Rattle.rd_station.proofs.Members.{key_self}
-use Rattle.rd_world.proofs.TestedJournals.{both, either, is_came, is_sent, passes_not, sent_is}
+use Rattle.rd_world.proofs.TestedJournals.{is_came, is_sent, sent_is}
 
 -- ---- few channels and few devices
 
@@ -33,10 +34,10 @@ strange x y xs is isnt = go (x == y) refl
 pub of_members : (p : ℕ → Bool) (xs : List ℕ) → list_all p xs ≡ true → (x : ℕ) → among x xs ≡ true → p x ≡ true
 of_members p [] e x is = absurd (cc)
 of_members p (y ∷ ys) e x is =
-    let parts = both e in
-    elim (either is) [
+    let parts = and_parts _ _ e in
+    elim (or_cases _ _ is) [
       | inl same ↦ subst (λ z. p z ≡ true) (sym (eqb-true x y same)) parts.0
-      | inr behind ↦ of_members p ys parts.1 x behind
+      | inr later ↦ of_members p ys parts.1 x later
     ]
 
 abbrev is_keyed : List ℕ → Item → Bool
@@ -61,29 +62,29 @@ module _ (channels devices : List ℕ) where
   are_known deeds = each (is_known channels devices) deeds
 
   older_known : (x : Deed) (before : List Deed) → are_known (x ∷ before) ≡ true → are_known before ≡ true
-  older_known x before e = (both e).1
+  older_known x before e = (and_parts _ _ e).1
 
   pub no_journal : (deeds : List Deed) → are_known deeds ≡ true → (d : ℕ) → among d devices ≡ false → journal d deeds ≡ []
   no_journal [] e d isnt = refl
   no_journal (stores device item ∷ before) e d isnt =
-      let parts = both e in
-      let other = strange device d devices (both parts.0).0 isnt in
+      let parts = and_parts _ _ e in
+      let other = strange device d devices (and_parts _ _ parts.0).0 isnt in
       rw other (no_journal before parts.1 d isnt)
   no_journal (x ∷ before) e d isnt = no_journal before (older_known x before e) d isnt
 
   nothing_read : (deeds : List Deed) → are_known deeds ≡ true → (c : ℕ) → among c channels ≡ false → client_read c deeds ≡ []
   nothing_read [] e c isnt = refl
   nothing_read (client_reads channel m ∷ before) e c isnt =
-      let parts = both e in
-      let other = strange channel c channels (both parts.0).0 isnt in
+      let parts = and_parts _ _ e in
+      let other = strange channel c channels (and_parts _ _ parts.0).0 isnt in
       rw other (nothing_read before parts.1 c isnt)
   nothing_read (x ∷ before) e c isnt = nothing_read before (older_known x before e) c isnt
 
   nothing_told : (deeds : List Deed) → are_known deeds ≡ true → (c : ℕ) → among c channels ≡ false → (d : ℕ) → told c d deeds ≡ []
   nothing_told [] e c isnt d = refl
   nothing_told (completes key m ∷ before) e c isnt d =
-      let parts = both e in
-      let other = strange key.channel c channels (both parts.0).0 isnt in
+      let parts = and_parts _ _ e in
+      let other = strange key.channel c channels (and_parts _ _ parts.0).0 isnt in
       rw other (nothing_told before parts.1 c isnt d)
   nothing_told (x ∷ before) e c isnt d = nothing_told before (older_known x before e) c isnt d
 
@@ -97,8 +98,8 @@ module _ (channels devices : List ℕ) where
   none_told : (deeds : List Deed) → are_known deeds ≡ true → (c d : ℕ) → among d devices ≡ false → told c d deeds ≡ []
   none_told [] e c d isnt = refl
   none_told (completes key m ∷ before) e c d isnt =
-      let parts = both e in
-      let other = not_of_device m (both parts.0).1 d isnt in
+      let parts = and_parts _ _ e in
+      let other = not_of_device m (and_parts _ _ parts.0).1 d isnt in
       go (key.channel == c) (is_of_device d m) other (none_told before parts.1 c d isnt)
     where
       go : (b q : Bool) → q ≡ false → {xs : List ℕ} → xs ≡ [] → cons_option (cond (b && q) (Some key.index) None) xs ≡ []
@@ -111,7 +112,7 @@ module _ (channels devices : List ℕ) where
   no_requests : (ms : List (List ℕ)) → list_all (is_asking devices) ms ≡ true → (d : ℕ) → among d devices ≡ false → requests_to d ms ≡ []
   no_requests [] e d isnt = refl
   no_requests (m ∷ ms) e d isnt =
-      let parts = both e in
+      let parts = and_parts _ _ e in
       go (is_request m) (option_map_or (λ (r : Request). r.device == d) (request_in m) false) (other (request_in m) parts.0) _ _ (no_requests ms parts.1 d isnt)
     where
       other : (o : Option Request) → option_map_or (λ (r : Request). among r.device devices) o true ≡ true → option_map_or (λ (r : Request). r.device == d) o false ≡ false
@@ -126,8 +127,8 @@ module _ (channels devices : List ℕ) where
   asks_known : (deeds : List Deed) → are_known deeds ≡ true → (c : ℕ) → list_all (is_asking devices) (client_read c deeds) ≡ true
   asks_known [] e c = refl
   asks_known (client_reads channel m ∷ before) e c =
-      let parts = both e in
-      go (channel == c) (both parts.0).1 (client_read c before) (asks_known before parts.1 c)
+      let parts = and_parts _ _ e in
+      go (channel == c) (and_parts _ _ parts.0).1 (client_read c before) (asks_known before parts.1 c)
     where
       go : (b : Bool) → is_asking devices m ≡ true → (ms : List (List ℕ)) → list_all (is_asking devices) ms ≡ true → list_all (is_asking devices) (cons_option (cond b (Some m) None) ms) ≡ true
       go true asks ms old = rw asks old
@@ -138,8 +139,8 @@ module _ (channels devices : List ℕ) where
   nothing_sent : (deeds : List Deed) → are_known deeds ≡ true → (c : ℕ) → among c channels ≡ false → (d : ℕ) → sent c (journal d deeds) ≡ []
   nothing_sent [] e c isnt d = refl
   nothing_sent (stores device item ∷ before) e c isnt d =
-      let parts = both e in
-      go (device == d) (unsent item (both parts.0).1) (journal d before) (nothing_sent before parts.1 c isnt d)
+      let parts = and_parts _ _ e in
+      go (device == d) (unsent item (and_parts _ _ parts.0).1) (journal d before) (nothing_sent before parts.1 c isnt d)
     where
       unsent : (x : Item) → is_keyed channels x ≡ true → sent_at c x ≡ None
       unsent (Sent key) e = let other = strange key.channel c channels e isnt in rw other refl
@@ -154,11 +155,10 @@ module _ (channels devices : List ℕ) where
 
   -- what holds of the journals of these devices and of an empty one holds of all
   pub of_journals : (p : List Item → Bool) (deeds : List Deed) → are_known deeds ≡ true → list_all (λ d. p (journal d deeds)) devices ≡ true → p [] ≡ true → (d : ℕ) → p (journal d deeds) ≡ true
-  of_journals p deeds known e none d = go (among d devices) refl
-    where
-      go : (b : Bool) → among d devices ≡ b → p (journal d deeds) ≡ true
-      go true is = of_members (λ d. p (journal d deeds)) devices e d is
-      go false isnt = let empty = no_journal deeds known d isnt in subst (λ items. p items ≡ true) (sym empty) none
+  of_journals p deeds known e none d = elim (cases_Bool (among d devices)) [
+    | inl is ↦ of_members (λ d. p (journal d deeds)) devices e d is
+    | inr isnt ↦ let empty = no_journal deeds known d isnt in subst (λ items. p items ≡ true) (sym empty) none
+  ]
 
   -- of all of these channels and devices
   abbrev pub of_all : (ℕ → ℕ → Bool) → Bool
@@ -213,7 +213,7 @@ module _ (channels devices : List ℕ) where
 
   any_has : (p : Item → Bool) (x : Item) → ((y : Item) → p y ≡ true → y ≡ x) → (items : List Item) → list_any p items ≡ true → Has x items
   any_has p x only [] e = absurd (cc)
-  any_has p x only (y ∷ ys) e = elim (either e) [ inl here ↦ inl (sym (only y here)) | inr there ↦ inr (any_has p x only ys there) ]
+  any_has p x only (y ∷ ys) e = elim (or_cases _ _ e) [ inl here ↦ inl (sym (only y here)) | inr there ↦ inr (any_has p x only ys there) ]
 
   has_any : (p : Item → Bool) (x : Item) → p x ≡ true → (items : List Item) → Has x items → list_any p items ≡ true
   has_any p x is [] has = absurd has
@@ -233,27 +233,27 @@ module _ (channels devices : List ℕ) where
 
       go : (b : Bool) → among device devices ≡ b → Has (Sent key) (journal device before)
       go true is =
-          elim (either (of_members (sent_if_came before key) devices e device is)) [
-            | inl never ↦ let none = passes_not (list_any (is_came key) (journal device before)) never in absurd (cc (none, came_there))
+          elim (or_cases _ _ (of_members (sent_if_came before key) devices e device is)) [
+            | inl never ↦ let none = not-true (list_any (is_came key) (journal device before)) never in absurd (cc (none, came_there))
             | inr found ↦ any_has (is_sent key) (Sent key) (sent_is key) (journal device before) found
           ]
       go false isnt = absurd (subst (Has (Came key)) (no_journal before known device isnt) has)
 
   stand_is : (before : List Deed) → are_known before ≡ true → (x : Deed) → stands before x ≡ true → Stands before x
-  stand_is before known (stores device (Came key)) e = go (request_at (client_read key.channel before) key.index) refl (both e).0
+  stand_is before known (stores device (Came key)) e = go (request_at (client_read key.channel before) key.index) refl (and_parts _ _ e).0
     where
       go : (o : Option Request) → request_at (client_read key.channel before) key.index ≡ o → is_to device o ≡ true
           → (r : Request) × (request_at (client_read key.channel before) key.index ≡ Some r) × (r.device ≡ device) × (list_any (is_completion_of key) before ≡ false)
-      go (Some r) is e2 = (r, is, eqb-true r.device device e2, passes_not (list_any (is_completion_of key) before) (both e).1)
+      go (Some r) is e2 = (r, is, eqb-true r.device device e2, not-true (list_any (is_completion_of key) before) (and_parts _ _ e).1)
       go None is e2 = absurd (cc)
   stand_is before known (completes key m) e = was_sent before known key e
-  stand_is before known (client_writes c m) e = passes_not (is_of IoCompletion m) e
+  stand_is before known (client_writes c m) e = not-true (is_of IoCompletion m) e
   stand_is before known _ e = tt
 
   pub stands_by_test : (deeds : List Deed) → are_known deeds ≡ true → each stands deeds ≡ true → EachAfter Stands deeds
   stands_by_test [] known e = tt
   stands_by_test (x ∷ before) known e =
-      let parts = both e in
+      let parts = and_parts _ _ e in
       let older = older_known x before known in
       (stand_is before older x parts.0, stands_by_test before older parts.1)
 
@@ -272,21 +272,21 @@ worn_says d m e = go (head_in m) e
     go : (o : Option Head) → option_map_or (λ (h : Head). h.device == d && (h.status).0 == insufficient_resources.0) o false ≡ true
         → option_map_or (λ (h : Head). (h.status).0 == insufficient_resources.0) o false ≡ true
     go None e = e
-    go (Some h) e = (both e).1
+    go (Some h) e = (and_parts _ _ e).1
 
 none_worn : (deeds : List Deed) → each is_unworn deeds ≡ true → (k : Key) (m : List ℕ) → Has (completes k m) deeds → says_insufficient m ≡ false
 none_worn [] e k m has = absurd has
 none_worn (x ∷ before) e k m has =
-    let parts = both e in
+    let parts = and_parts _ _ e in
     elim has [
-      | inl same ↦ passes_not (says_insufficient m) (subst (λ (y : Deed). is_unworn before y ≡ true) (sym same) parts.0)
+      | inl same ↦ not-true (says_insufficient m) (subst (λ (y : Deed). is_unworn before y ≡ true) (sym same) parts.0)
       | inr older ↦ none_worn before parts.1 k m older
     ]
 
 pub comes_by_test : (deeds : List Deed) → each is_unworn deeds ≡ true → EachAfter ComesUnworn deeds
 comes_by_test [] e = tt
-comes_by_test (x ∷ before) e = (one x, comes_by_test before (both e).1)
+comes_by_test (x ∷ before) e = (one x, comes_by_test before (and_parts _ _ e).1)
   where
     one : (x : Deed) → ComesUnworn before x
-    one (stores device (Came key)) = λ k m has same worn never. let none = none_worn before (both e).1 k m has in let says = worn_says device m worn in absurd (cc (none, says))
+    one (stores device (Came key)) = λ k m has same worn never. let none = none_worn before (and_parts _ _ e).1 k m has in let says = worn_says device m worn in absurd (cc (none, says))
     one _ = tt

@@ -1,39 +1,24 @@
 -- Deeds on few channels that pass tests are in order on the wire.
-use Rattle.std.proofs.Common.{◌≡◌, refl, sym, subst, ap, ℕ, ◌==◌, ◌&&◌, Bool, true, false, List, [], ◌∷◌, length, leb, leb-true, eqb-true, Option, Some, None, ◌||◌}
+use Rattle.std.proofs.Common.{◌≡◌, refl, ap, ℕ, ◌==◌, ◌&&◌, Bool, true, false, List, [], ◌∷◌, length, leb, leb-true, eqb-true, Option, Some, None, ◌||◌}
 use Rattle.std.specs.Prelude.{All, IfSome}
-use Rattle.std.specs.List.{AllByRecursion, list_all}
+use Rattle.std.specs.List.{list_all}
 use Rattle.std.specs.Option.{option_map_or}
+use Rattle.std.proofs.lemmas.Bool.{and_parts}
 use Rattle.rd_base.specs.declared.journal.Item.{Item}
 use Rattle.rd_base.specs.declared.journal.Item.TheVariants.{Ran}
 use Rattle.rd_base.specs.declared.journal.Key.{Key}
-use Rattle.rd_base.specs.Lawful.{named_key}
+use Rattle.rd_base.specs.Lawful.{RunsAt, named_key}
 use Rattle.rd_chunk.specs.Carrier.{IsMessage}
 use Rattle.rd_chunk.specs.Sizes.{max_message}
 use Rattle.rd_irp.specs.declared.request.Request.{Request}
 use Rattle.rd_world.specs.Recording.{client_channel, written_by}
-use Rattle.rd_world.specs.Session.{IsNamed, IsStoredOpen, RunsAt}
+use Rattle.rd_world.specs.Session.{IsOfDevice, IsStoredOpen}
 use Rattle.rd_world.specs.Talk.{Deed, EachAfter, client_moves, client_read, client_reads, client_writes, completes, has_ended, host_ends, host_moves, host_reads, host_writes, host_wrote, is_open_at, open_channel, request_at, stores, answered}
 use Rattle.rd_world.proofs.TestedDeeds.{each, each_passes}
-use Rattle.rd_world.proofs.TestedJournals.{all_pass, both}
+use Rattle.rd_world.proofs.TestedJournals.{all_pass}
 use Rattle.rd_world.proofs.TestedTelling.{among, strange}
 
 -- ---- of few numbers
-
-of_few_here : (P : ℕ → Type 0) (xs : List ℕ) → AllByRecursion P xs → (x : ℕ) → among x xs ≡ true → P x
-of_few_here P [] all x is = absurd (cc)
-of_few_here P (y ∷ ys) all x is = go (x == y) refl (of_few_here P ys all.1 x) is
-  where
-    go : (b : Bool) → (x == y) ≡ b → (among x ys ≡ true → P x) → (b || among x ys) ≡ true → P x
-    go true same older e = subst P (sym (eqb-true x y same)) all.0
-    go false other older e = older e
-
--- what holds of these numbers and of all others holds of all
-pub of_few : (P : ℕ → Type 0) (xs : List ℕ) → AllByRecursion P xs → ((x : ℕ) → among x xs ≡ false → P x) → (x : ℕ) → P x
-of_few P xs all others x = go (among x xs) refl
-  where
-    go : (b : Bool) → among x xs ≡ b → P x
-    go true is = of_few_here P xs all x is
-    go false isnt = others x isnt
 
 -- ---- messages
 
@@ -48,7 +33,7 @@ pub carried_messages : (deeds : List Deed) → list_all is_carried deeds ≡ tru
 carried_messages deeds e = all_pass {P = λ deed. IfSome (written_by deed) IsMessage} is_carried (λ deed is. go (written_by deed) is) deeds e
   where
     go : (o : Option (List ℕ)) → option_map_or fits_in o true ≡ true → IfSome o IsMessage
-    go (Some m) e = let parts = both e in (leb-true 1 (length m) parts.0, leb-true (length m) max_message parts.1)
+    go (Some m) e = let parts = and_parts _ _ e in (leb-true 1 (length m) parts.0, leb-true (length m) max_message parts.1)
     go None e = tt
 
 -- ---- open channels
@@ -94,8 +79,8 @@ is_asked device None = false
 abbrev pub names_request : List Deed → ℕ → Item → Bool
 names_request deeds device entry = option_map_or (λ (key : Key). is_asked device (request_at (host_wrote key.channel deeds) key.index)) (named_key entry) true
 
-pub named_by_test : (deeds : List Deed) (device : ℕ) (items : List Item) → list_all (names_request deeds device) items ≡ true → All (IsNamed deeds device) items
-named_by_test deeds device items e = all_pass {P = IsNamed deeds device} (names_request deeds device) (λ entry is. go (named_key entry) is) items e
+pub named_by_test : (deeds : List Deed) (device : ℕ) (items : List Item) → list_all (names_request deeds device) items ≡ true → All (IsOfDevice deeds device) items
+named_by_test deeds device items e = all_pass {P = IsOfDevice deeds device} (names_request deeds device) (λ entry is. go (named_key entry) is) items e
   where
     found : (key : Key) (o : Option Request) → request_at (host_wrote key.channel deeds) key.index ≡ o → is_asked device o ≡ true
         → (r : Request) × (request_at (host_wrote key.channel deeds) key.index ≡ Some r) × (r.device ≡ device)
@@ -135,37 +120,37 @@ is_on channels before deed = option_map_or (λ c. among c channels) (channel_of 
 
 module _ (channels : List ℕ) where
   older_on : (x : Deed) (before : List Deed) → each (is_on channels) (x ∷ before) ≡ true → each (is_on channels) before ≡ true
-  older_on x before e = (both e).1
+  older_on x before e = (and_parts _ _ e).1
 
   pub no_host_moves : (deeds : List Deed) → each (is_on channels) deeds ≡ true → (c : ℕ) → among c channels ≡ false → host_moves c deeds ≡ []
   no_host_moves [] e c isnt = refl
-  no_host_moves (host_writes x m ∷ before) e c isnt = let parts = both e in rw (strange x c channels parts.0 isnt) (no_host_moves before parts.1 c isnt)
-  no_host_moves (host_reads x m ∷ before) e c isnt = let parts = both e in rw (strange x c channels parts.0 isnt) (no_host_moves before parts.1 c isnt)
+  no_host_moves (host_writes x m ∷ before) e c isnt = let parts = and_parts _ _ e in rw (strange x c channels parts.0 isnt) (no_host_moves before parts.1 c isnt)
+  no_host_moves (host_reads x m ∷ before) e c isnt = let parts = and_parts _ _ e in rw (strange x c channels parts.0 isnt) (no_host_moves before parts.1 c isnt)
   no_host_moves (x ∷ before) e c isnt = no_host_moves before (older_on x before e) c isnt
 
   pub no_client_moves : (deeds : List Deed) → each (is_on channels) deeds ≡ true → (c : ℕ) → among c channels ≡ false → client_moves c deeds ≡ []
   no_client_moves [] e c isnt = refl
-  no_client_moves (client_reads x m ∷ before) e c isnt = let parts = both e in rw (strange x c channels parts.0 isnt) (no_client_moves before parts.1 c isnt)
-  no_client_moves (client_writes x m ∷ before) e c isnt = let parts = both e in rw (strange x c channels parts.0 isnt) (no_client_moves before parts.1 c isnt)
-  no_client_moves (completes key m ∷ before) e c isnt = let parts = both e in rw (strange key.channel c channels parts.0 isnt) (no_client_moves before parts.1 c isnt)
+  no_client_moves (client_reads x m ∷ before) e c isnt = let parts = and_parts _ _ e in rw (strange x c channels parts.0 isnt) (no_client_moves before parts.1 c isnt)
+  no_client_moves (client_writes x m ∷ before) e c isnt = let parts = and_parts _ _ e in rw (strange x c channels parts.0 isnt) (no_client_moves before parts.1 c isnt)
+  no_client_moves (completes key m ∷ before) e c isnt = let parts = and_parts _ _ e in rw (strange key.channel c channels parts.0 isnt) (no_client_moves before parts.1 c isnt)
   no_client_moves (x ∷ before) e c isnt = no_client_moves before (older_on x before e) c isnt
 
   pub none_written : (deeds : List Deed) → each (is_on channels) deeds ≡ true → (c : ℕ) → among c channels ≡ false → host_wrote c deeds ≡ []
   none_written [] e c isnt = refl
-  none_written (host_writes x m ∷ before) e c isnt = let parts = both e in rw (strange x c channels parts.0 isnt) (none_written before parts.1 c isnt)
+  none_written (host_writes x m ∷ before) e c isnt = let parts = and_parts _ _ e in rw (strange x c channels parts.0 isnt) (none_written before parts.1 c isnt)
   none_written (x ∷ before) e c isnt = none_written before (older_on x before e) c isnt
 
   pub none_read : (deeds : List Deed) → each (is_on channels) deeds ≡ true → (c : ℕ) → among c channels ≡ false → client_read c deeds ≡ []
   none_read [] e c isnt = refl
-  none_read (client_reads x m ∷ before) e c isnt = let parts = both e in rw (strange x c channels parts.0 isnt) (none_read before parts.1 c isnt)
+  none_read (client_reads x m ∷ before) e c isnt = let parts = and_parts _ _ e in rw (strange x c channels parts.0 isnt) (none_read before parts.1 c isnt)
   none_read (x ∷ before) e c isnt = none_read before (older_on x before e) c isnt
 
   pub not_ended : (deeds : List Deed) → each (is_on channels) deeds ≡ true → (c : ℕ) → among c channels ≡ false → has_ended c deeds ≡ false
   not_ended [] e c isnt = refl
-  not_ended (host_ends x ∷ before) e c isnt = let parts = both e in rw (strange x c channels parts.0 isnt) (not_ended before parts.1 c isnt)
+  not_ended (host_ends x ∷ before) e c isnt = let parts = and_parts _ _ e in rw (strange x c channels parts.0 isnt) (not_ended before parts.1 c isnt)
   not_ended (x ∷ before) e c isnt = not_ended before (older_on x before e) c isnt
 
   pub none_answered : (deeds : List Deed) → each (is_on channels) deeds ≡ true → (c : ℕ) → among c channels ≡ false → (device id : ℕ) → answered c device id deeds ≡ []
   none_answered [] e c isnt device id = refl
-  none_answered (completes key m ∷ before) e c isnt device id = let parts = both e in rw (strange key.channel c channels parts.0 isnt) (none_answered before parts.1 c isnt device id)
+  none_answered (completes key m ∷ before) e c isnt device id = let parts = and_parts _ _ e in rw (strange key.channel c channels parts.0 isnt) (none_answered before parts.1 c isnt device id)
   none_answered (x ∷ before) e c isnt device id = none_answered before (older_on x before e) c isnt device id

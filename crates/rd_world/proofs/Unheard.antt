@@ -19,7 +19,7 @@ use Rattle.rd_irp.specs.declared.request.Request.{Request}
 use Rattle.rd_pending.specs.declared.calls.Outcome.TheVariants.{Done}
 use Rattle.rd_pending.specs.Outcomes.{Accepted}
 use Rattle.rd_world.specs.Devices.{Declared, DeviceState, device_cut, device_step}
-use Rattle.rd_world.specs.Joining.{AreJoined, CameTo, key_of}
+use Rattle.rd_world.specs.Joining.{AreJoined, ClientCameTo, key_of}
 use Rattle.rd_world.specs.Recording.{request_of}
 use Rattle.rd_world.specs.Session.{replies_in}
 use Rattle.rd_world.specs.Talk.{Deed, journal}
@@ -84,7 +84,7 @@ module _ (requests : Key → Request) (opening : DeviceState) where
 nothing_contained : (x : KeyedReply) → ¬ (Contains [] x)
 nothing_contained x has = absurd (omega (arith, has.1))
 
-pub unheard : (client : ℕ) (devices : List (ℕ × Declared)) (deeds : List Deed) → AreJoined client (replies_in devices deeds) deeds → (a : Accepted) (reply : Reply) → CameTo client deeds a (Done reply) → ¬ (is_own reply.status ≡ false)
+pub unheard : (client : ℕ) (devices : List (ℕ × Declared)) (deeds : List Deed) → AreJoined client (replies_in devices deeds) deeds → (a : Accepted) (reply : Reply) → ClientCameTo client deeds a (Done reply) → ¬ (is_own reply.status ≡ false)
 unheard client devices deeds is a reply came foreign = go (lookup (is_at (nat_cmp a.device)) devices) refl
   where
     has : Contains (replies_in devices deeds a.device (reverse (journal a.device deeds))) (key_of a, reply)

@@ -2,19 +2,19 @@
 use Rattle.std.proofs.Common.{◌≡◌, ◌⊎◌, ◌∙◌, refl, sym, ap, subst, inl, inr, ℕ, suc, ◌<◌, ◌≤◌, ◌==◌, Bool, true, false, cond, List, [], ◌∷◌, ◌++◌, length, take, Some, None, Option, arith, length-append, eq-eqb, eqb-true, ne_eqb}
 use Rattle.std.specs.Prelude.{filter, is_some, slice_get}
 use Rattle.std.specs.List.{list_any}
-use Rattle.std.specs.Option.{option_map_or}
+use Rattle.std.specs.Option.{option_map_or, option_or}
 use Rattle.std.proofs.lemmas.List.Elements.{filter_map-append}
 use Rattle.rd_base.specs.declared.journal.Cause.TheVariants.{Dropped}
 use Rattle.rd_pending.specs.declared.calls.Outcome.{Outcome}
 use Rattle.rd_pending.specs.declared.calls.Outcome.TheVariants.{Lost}
 use Rattle.rd_pending.specs.History as call
 use Rattle.rd_pending.specs.History.{Call, Holds, May, accepted_in, after, ended_on, heard_on, lives_before}
-use Rattle.rd_pending.specs.Outcomes.{Accepted, Agrees, Course, Tidings, course_from, ended_in, or_else}
+use Rattle.rd_pending.specs.Outcomes.{Accepted, Agrees, Course, Tidings, course_from, ended_in}
 use Rattle.rd_pending.specs.Table.{Fate, awaited, awaits, fate_at, is_awaited, known}
 use Rattle.rd_pending.proofs.CourseLemmas.{ended_more, or_none, through}
 use Rattle.rd_pending.proofs.Handed.{still_there}
 use Rattle.rd_pending.proofs.Histories.{sound}
-use Rattle.rd_pending.proofs.Sound.{alike_before, outcome_behind}
+use Rattle.rd_pending.proofs.Sound.{alike_before, outcome_after}
 use Rattle.rd_world.specs.HostDeeds.{calls_of, side_of}
 use Rattle.rd_world.specs.Joining.{IsCarried, accepted}
 use Rattle.rd_world.specs.Talk.{Deed, EndsWith, adds, client_read, client_reads, client_writes, client_wrote, completes, host_begins, host_ends, host_read, host_reads, host_writes, is_request, read_by_client, read_by_host, removed_in, removes, stores, submits, takes, tells, written_by_client}
@@ -42,10 +42,10 @@ waits_on client deeds c n a may is_open at in_c waits =
     let s = sound_side client deeds may in
     let h = calls_of client deeds in
     let m : ℕ = alike_before (take n (accepted client deeds)) a in
-    let none : or_else (ended_in a m (course_from (lives_before c h)) (heard_on c h)) (cond (ended_on c h) (Some (Lost Dropped)) None) ≡ None =
+    let none : option_or (ended_in a m (course_from (lives_before c h)) (heard_on c h)) (cond (ended_on c h) (Some (Lost Dropped)) None) ≡ None =
     rw (s.shut c is_open) (or_none _ ∙ waits) in
-    let behind : outcome_behind m a h ≡ None = subst (λ (x : ℕ). or_else (ended_in a m (course_from (lives_before x h)) (heard_on x h)) (cond (ended_on x h) (Some (Lost Dropped)) None) ≡ None) (sym in_c) none in
-    agrees_waits (fate_at (side_of client deeds).table (suc n)) (subst (Agrees (fate_at (side_of client deeds).table (suc n))) behind (s.requests n a at).agrees)
+    let nothing_yet : outcome_after m a h ≡ None = subst (λ (x : ℕ). option_or (ended_in a m (course_from (lives_before x h)) (heard_on x h)) (cond (ended_on x h) (Some (Lost Dropped)) None) ≡ None) (sym in_c) none in
+    agrees_waits (fate_at (side_of client deeds).table (suc n)) (subst (Agrees (fate_at (side_of client deeds).table (suc n))) nothing_yet (s.requests n a at).agrees)
 
 -- its device is there
 pub waits_there : (client : ℕ) (deeds : List Deed) (c n : ℕ) (a : Accepted) → Does client deeds → ((side_of client deeds).table).channel ≡ Some c → slice_get (accepted client deeds) n ≡ Some a
@@ -92,7 +92,7 @@ waited client c n deed before a may w in_c waits =
     (subst (λ (xs : List Tidings). ended_in a (alike_before (take n (accepted client (deed ∷ before))) a) (course_from (lives_before c (calls_of client (deed ∷ before)))) xs ≡ None) (heard_step client c before deed may) waits)) in
     first_none (ended_in a m k (heard_on c h)) (ended_in a m (through k (heard_on c h)) more) (sym (ended_more a m k (heard_on c h) more) ∙ now)
   where
-    first_none : (x y : Option Outcome) → or_else x y ≡ None → x ≡ None
+    first_none : (x y : Option Outcome) → option_or x y ≡ None → x ≡ None
     first_none None y e = refl
     first_none (Some x) y e = absurd (cc e)
 
@@ -149,7 +149,7 @@ read_by_then c m v early carried same (inl (w, e)) =
 read_by_then c m v early carried same (inr ([], e)) = rw (sym e) (omega arith)
 read_by_then c m v early carried same (inr (x ∷ w, e)) =
     let rest : early ≡ w ++ v = cc e in
-    let (front, wrote) = carried.to_host c in
-    let all : client_wrote c v ≡ front ++ m ∷ client_wrote c early = wrote ∙ ap (λ (ms : List (List ℕ)). front ++ ms) (rw (eq-eqb c c refl) (ap (λ (ms : List (List ℕ)). m ∷ ms) same)) in
-    let behind : client_wrote c early ≡ client_wrote c w ++ client_wrote c v = ap (client_wrote c) rest ∙ filter_map-append (written_by_client c) w v in
-    absurd (omega (arith, ap length all, length-append {A = List ℕ} front (m ∷ client_wrote c early), ap length behind, length-append {A = List ℕ} (client_wrote c w) (client_wrote c v)))
+    let (prefix, wrote) = carried.to_host c in
+    let all : client_wrote c v ≡ prefix ++ m ∷ client_wrote c early = wrote ∙ ap (λ (ms : List (List ℕ)). prefix ++ ms) (rw (eq-eqb c c refl) (ap (λ (ms : List (List ℕ)). m ∷ ms) same)) in
+    let early_wrote : client_wrote c early ≡ client_wrote c w ++ client_wrote c v = ap (client_wrote c) rest ∙ filter_map-append (written_by_client c) w v in
+    absurd (omega (arith, ap length all, length-append {A = List ℕ} prefix (m ∷ client_wrote c early), ap length early_wrote, length-append {A = List ℕ} (client_wrote c w) (client_wrote c v)))

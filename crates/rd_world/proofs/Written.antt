@@ -19,7 +19,7 @@ use Rattle.rd_pending.proofs.Indices.{none_before}
 use Rattle.rd_pending.proofs.MapLemmas.{free_within}
 use Rattle.rd_pending.proofs.Sound.{Sound}
 use Rattle.rd_pending.proofs.Tame.{Tame, newest, newest_more, tame_take}
-use Rattle.rd_world.specs.Host.{HostSide, hears, next_message, sends}
+use Rattle.rd_world.specs.Host.{HostSide, hears, next_message, side_sends}
 use Rattle.rd_world.specs.HostDeeds.{IsInRange, calls_of, side_of}
 use Rattle.rd_world.specs.Joining.{accepted, request_of_accepted}
 use Rattle.rd_world.specs.Talk.{Deed, adds, client_reads, client_writes, completes, host_begins, host_ends, host_reads, host_writes, host_wrote, is_request, removes, request_in, stores, submits, takes, tells}
@@ -68,9 +68,6 @@ tamed t new xs ys wrote c tame same w = record {
 
 -- ---- each deed
 
-reverse_last : (xs : List (List ℕ)) (x : List ℕ) → reverse (xs ++ x ∷ []) ≡ x ∷ reverse xs
-reverse_last xs x = reverse-append xs (x ∷ [])
-
 abbrev own_message : (t : TableState) (named : Target) (o : Op) → List ℕ
 own_message t named o = request_bytes (record { device = device_in named; file = file_in named; completion = next_id t; op = o })
 
@@ -110,7 +107,7 @@ submitted t x named o xs wrote c effect may range w = go (own.channel == c) refl
         record {
           unsent = message ∷ w.unsent;
           matches = rw (there true e) (spelled, w.matches);
-          in_outbox = λ is. ap (λ (ms : List (List ℕ)). message ∷ ms) (w.in_outbox here) ∙ sym (reverse_last t.outbox message);
+          in_outbox = λ is. ap (λ (ms : List (List ℕ)). message ∷ ms) (w.in_outbox here) ∙ sym (reverse-append t.outbox (message ∷ []));
         }
 
 -- the first of what was matched is a request
@@ -121,19 +118,19 @@ first_request (x ∷ xs) [] m ms p = request_is m (request_of_accepted x) p.0
 first_request (x ∷ xs) (b ∷ bs) m ms p = first_request xs bs m ms p.1
 
 wrote_one : (s : HostSide) (rs : List Accepted) (c channel : ℕ) (m : List ℕ) (wrote : List (List ℕ)) → AreQuiet ((s.core).core).outbox → (s.table).channel ≡ Some channel → next_message s ≡ Some m
-    → Written s.table rs (filter is_request wrote) c → Written (sends s).table rs (filter is_request (cons_option (cond (channel == c) (Some m) None) wrote)) c
+    → Written s.table rs (filter is_request wrote) c → Written (side_sends s).table rs (filter is_request (cons_option (cond (channel == c) (Some m) None) wrote)) c
 wrote_one s rs c channel m wrote quiet_core is_open_one next w = go ((s.core).core).outbox refl (channel == c) refl
   where
     at : (b : Bool) → is_request m ≡ b → filter is_request (m ∷ wrote) ≡ cond b (m ∷ filter is_request wrote) (filter is_request wrote)
     at b e = rw e refl
 
-    go : (o : List (List ℕ)) → ((s.core).core).outbox ≡ o → (b : Bool) → (channel == c) ≡ b → Written (sends s).table rs (filter is_request (cons_option (cond b (Some m) None) wrote)) c
+    go : (o : List (List ℕ)) → ((s.core).core).outbox ≡ o → (b : Bool) → (channel == c) ≡ b → Written (side_sends s).table rs (filter is_request (cons_option (cond b (Some m) None) wrote)) c
     -- one of the end's own
     go (x ∷ xs) e b e2 =
         let head : next_message s ≡ Some x = rw e refl in
         let own : x ≡ m = cc (head, next) in
         let silent : is_request m ≡ false = subst (λ (y : List ℕ). is_request y ≡ false) own (subst AreQuiet e quiet_core).0 in
-        let same : (sends s).table ≡ s.table = rw e refl in
+        let same : (side_sends s).table ≡ s.table = rw e refl in
         subst (λ (t : TableState). Written t rs (filter is_request (cons_option (cond b (Some m) None) wrote)) c) (sym same) (by b silent)
       where
         by : (b : Bool) → is_request m ≡ false → Written s.table rs (filter is_request (cons_option (cond b (Some m) None) wrote)) c
@@ -142,12 +139,12 @@ wrote_one s rs c channel m wrote quiet_core is_open_one next w = go ((s.core).co
     -- one of the table's
     go [] e b e2 = by (s.table).outbox refl
       where
-        by : (o : List (List ℕ)) → (s.table).outbox ≡ o → Written (sends s).table rs (filter is_request (cons_option (cond b (Some m) None) wrote)) c
+        by : (o : List (List ℕ)) → (s.table).outbox ≡ o → Written (side_sends s).table rs (filter is_request (cons_option (cond b (Some m) None) wrote)) c
         by [] e3 = let none : next_message s ≡ None = rw (e, e3) refl in absurd (cc (none, next))
         by (x ∷ xs) e3 =
             let head : next_message s ≡ Some x = rw (e, e3) refl in
             let own : x ≡ m = cc (head, next) in
-            let new : (sends s).table ≡ record s.table { outbox = xs } = rw (e, e3) refl in
+            let new : (side_sends s).table ≡ record s.table { outbox = xs } = rw (e, e3) refl in
             subst (λ (t : TableState). Written t rs (filter is_request (cons_option (cond b (Some m) None) wrote)) c) (sym new) (here b e2 own)
           where
             here : (b : Bool) → (channel == c) ≡ b → x ≡ m → Written (record s.table { outbox = xs }) rs (filter is_request (cons_option (cond b (Some m) None) wrote)) c
@@ -216,7 +213,7 @@ written client (tells n ∷ before) may c = written client before may.1 c
 written client (host_writes channel message ∷ before) may c =
     let s = side_of client before in
     let same : accepted client (host_writes channel message ∷ before) ≡ accepted client before = sent_same ((s.core).core).outbox (calls_of client before) in
-    subst (λ (xs : List Accepted). Written (sends s).table xs (requests_on c (host_writes channel message ∷ before)) c) (sym same)
+    subst (λ (xs : List Accepted). Written (side_sends s).table xs (requests_on c (host_writes channel message ∷ before)) c) (sym same)
     (wrote_one s (accepted client before) c channel message (host_wrote c before) (quiet client before) may.0.0 may.0.1 (written client before may.1 c))
 written client (host_reads channel message ∷ before) may c =
     let tame = read_tame client channel message before in

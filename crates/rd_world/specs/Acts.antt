@@ -15,7 +15,9 @@ use Rattle.rd_drive.specs.Device.{Parked}
 use Rattle.rd_drive.specs.Replies.{last_state_by}
 use Rattle.rd_hello.specs.Moves.{is_of}
 use Rattle.rd_client.specs.Order as client
+use Rattle.rd_client.specs.Order.{is_client_ready}
 use Rattle.rd_host.specs.Order as host
+use Rattle.rd_host.specs.Order.{is_host_ready}
 use Rattle.rd_printer.specs.Cache.{CacheState, heard_all}
 use Rattle.rd_printer.specs.declared.notice.Notice.{Notice}
 use Rattle.rd_printer.specs.Notice.{notice_bytes}
@@ -24,8 +26,7 @@ use Rattle.rd_script.specs.declared.line.Line.TheVariants as line
 use Rattle.rd_script.specs.declared.line.NumberedLine.{NumberedLine}
 use Rattle.rd_world.specs.Control.{Act, Control, Telling, added, addition, begun, control_of, dropped_at, ended, first_control, is_among, lists, noticed, removal, removed}
 use Rattle.rd_world.specs.Devices.{Declared, announce_of, device_cut, device_parked, device_step}
-use Rattle.rd_world.specs.Events.{is_empty, is_host_ready}
-use Rattle.rd_world.specs.Hearing.{is_client_ready}
+use Rattle.rd_world.specs.Events.{is_empty}
 use Rattle.rd_world.specs.Recording.{client_stand, host_stand, request_of}
 use Rattle.rd_world.specs.Talk.{AtEachPoint, Deed, EachAfter, adds, client_reads, client_wrote, has_ended, host_begins, host_ends, host_read, host_wrote, is_open_at, is_removed, is_request, journal, notice_in, on, removes, stores, tells, until_begin}
 
@@ -36,7 +37,7 @@ abbrev pub notice_read : Deed → Option Notice
 notice_read (client_reads channel message) = notice_in message
 notice_read _ = None
 
--- what is kept for printers behind deeds
+-- what is kept for printers after deeds
 abbrev pub cache_after : List Deed → CacheState
 cache_after deeds = heard_all [] (filter_map notice_read (reverse deeds))
 
@@ -80,11 +81,11 @@ abbrev pub of_channel : {A : Type 0} → ℕ → List (ℕ × A) → List A
 of_channel c things = filter_map (λ t. on c t.0 t.1) things
 
 -- whether a host stands ready, and owes no message of the opening and no reply
-abbrev pub is_settled_host : host.Stand → Bool
+abbrev pub is_settled_host : host.HostStanding → Bool
 is_settled_host s = is_host_ready s.shake && (is_empty s.owed && is_empty (s.own).due)
 
 -- whether a client stands ready, and owes no message of the opening and no list
-abbrev pub is_settled_client : client.Stand → Bool
+abbrev pub is_settled_client : client.ClientStanding → Bool
 is_settled_client s = is_client_ready s.shake && (is_empty s.owed && not (s.own).lists)
 
 -- The channel opened: the client listed its devices, the host heard all of that and replied, and no request and no notice stands before.

@@ -107,7 +107,7 @@ controlled c number (line.Add device) =
     where_open c number (λ channel. if is_among c.absent device then added_at c device channel else idled c number)
 controlled c number l = option_map_or (λ n. where_open c number (noticed_at c n)) (notice_of l) c
 
--- the control of a session's devices behind its first channel's begin
+-- the control of a session's devices after its first channel's begin
 abbrev pub first_control : List ℕ → Control
 first_control devices = connected (record {
   devices = devices;
@@ -121,6 +121,6 @@ first_control devices = connected (record {
   idle = [];
 })
 
--- behind a script's lines
+-- after a script's lines
 abbrev pub control_of : List ℕ → List NumberedLine → Control
 control_of devices lines = fold (λ c (l : NumberedLine). controlled c l.number l.line) (first_control devices) lines

@@ -15,7 +15,7 @@ use Rattle.rd_drive.specs.Device.{Parked}
 use Rattle.rd_drive.specs.DriveState.{DriveState, empty_drive, holding}
 use Rattle.rd_drive.specs.DriveStep.{drive_cut, drive_step}
 use Rattle.rd_drive.specs.Stepped.{Settled, Stepped}
-use Rattle.rd_host.specs.Served.{file_system, print}
+use Rattle.rd_host.specs.Served.{file_system, print_type}
 use Rattle.rd_irp.specs.declared.op.Op.{Op}
 use Rattle.rd_printer.specs.Cache.{CacheState, kept_for}
 use Rattle.rd_printer.specs.Printer.{PrinterState, new_printer, printer_cut, printer_step}
@@ -71,7 +71,7 @@ unfoldable pub declaring : List (ℕ × Declared) → Line → List (ℕ × Decl
 declaring devices (line.Drive device name) = insert_entry nat_cmp devices device (declared_drive device naming.Exact name)
 declaring devices (line.DriveFold device name) = insert_entry nat_cmp devices device (declared_drive device naming.Folded name)
 declaring devices (line.Printer device name driver printer) =
-    insert_entry nat_cmp devices device (record { id = device; state = as_printer new_printer; kind = print; name = name; printer = Some (record { driver = driver; printer = printer }) })
+    insert_entry nat_cmp devices device (record { id = device; state = as_printer new_printer; kind = print_type; name = name; printer = Some (record { driver = driver; printer = printer }) })
 declaring devices _ = devices
 
 -- a folder, or a file with bytes, on a drive; a printer has none
@@ -98,7 +98,7 @@ furnishing devices _ = devices
 abbrev pub dos_name : List ℕ → List ℕ
 dos_name name = name ++ replicate (8 - length name) 0
 
--- the bytes of a text with a zero unit behind it
+-- the bytes of a text with a zero unit after it
 abbrev pub zero_text : List ℕ → List ℕ
 zero_text units = text_bytes (units ++ 0 ∷ [])
 

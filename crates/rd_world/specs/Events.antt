@@ -4,10 +4,9 @@ use Rattle.std.specs.Map.{lookup}
 use Rattle.std.specs.Option.{option_and_then, option_map_or}
 use Rattle.rd_base.specs.declared.journal.Key.{Key}
 use Rattle.rd_client.specs.Core as client
-use Rattle.rd_client.specs.Core.{ClientCoreState, Outgoing}
+use Rattle.rd_client.specs.Core.{ClientCoreState, Outgoing, client_begin}
+use Rattle.rd_client.specs.Order.{is_client_ready}
 use Rattle.rd_drive.specs.declared.plan.Job.{Job}
-use Rattle.rd_hello.specs.declared.host.HostState.{HostState}
-use Rattle.rd_hello.specs.declared.host.HostState.TheVariants as host_state
 use Rattle.rd_drive.specs.Stepped.{Stepped, ran_step}
 use Rattle.rd_irp.specs.declared.op.Op.{Op}
 use Rattle.rd_irp.specs.declared.op.Op.TheVariants as op
@@ -28,11 +27,12 @@ use Rattle.rd_station.specs.declared.answers.Given.{Given}
 use Rattle.rd_station.specs.declared.answers.Given.TheVariants as given
 use Rattle.rd_station.specs.Station as station
 use Rattle.rd_station.specs.Station.{StationState}
+use Rattle.rd_host.specs.Order.{is_host_ready}
 use Rattle.rd_world.specs.Devices.{Declared, DeviceState, device_cut, device_data, device_step}
-use Rattle.rd_world.specs.Host.{begins_on, ends_channel, next_message, sends, tells_of}
+use Rattle.rd_world.specs.Host.{begins_on, ends_channel, next_message, side_sends, tells_of}
 use Rattle.rd_world.specs.Talk.{Deed, adds, client_writes, completes, host_begins, host_ends, removes, submits, tells}
-use Rattle.rd_world.specs.World.{Application, Asked, WorldState, application_at, client_sends, handle_at, host_sends, marks_of, new_joined, station_at, with_application, with_deed, with_station, with_table}
-use Rattle.rd_world.specs.Hearing.{all_take, announcing, client_takes, ends_line, host_takes, is_client_ready, tries_kept, with_client}
+use Rattle.rd_world.specs.World.{Application, Asked, WorldState, application_at, client_sends, handle_named, host_sends, marks_of, new_joined, station_at, with_application, with_deed, with_station, with_table}
+use Rattle.rd_world.specs.Hearing.{all_take, announcing, client_takes, ends_line, host_takes, tries_kept, with_client}
 
 -- an event; a device and a hand by their numbers, a hand counted from 1, and a read by how many bytes it takes
 pub data Event : Type 0 where
@@ -50,16 +50,12 @@ pub data Event : Type 0 where
 
 -- ---- when it can happen
 
-abbrev pub is_open : WorldState → Bool
-is_open w = is_some ((w.side).table).channel
-
-abbrev pub is_host_ready : HostState → Bool
-is_host_ready host_state.Ready = true
-is_host_ready _ = false
+abbrev pub is_channel_open : WorldState → Bool
+is_channel_open w = is_some ((w.side).table).channel
 
 -- a channel is ready
 abbrev pub is_ready : WorldState → Bool
-is_ready w = is_open w && is_client_ready ((w.client).core).shake
+is_ready w = is_channel_open w && is_client_ready ((w.client).core).shake
 
 abbrev pub is_empty : {A : Type 0} → List A → Bool
 is_empty [] = true
@@ -106,9 +102,9 @@ is_enabled w (take_job device hand) = is_hand_free w hand && job_waits w device
 is_enabled w (apply_job hand) = is_hand_full w hand
 is_enabled w (remove device) = is_ready w && (client.has_device w.client device && not (client.is_gone w.client device))
 is_enabled w (add device) = is_ready w && client.is_gone w.client device
-is_enabled w drop_channel = is_open w
-is_enabled w connect = not (is_open w)
-is_enabled w (tell n) = is_open w && is_host_ready (((w.side).core).core).shake
+is_enabled w drop_channel = is_channel_open w
+is_enabled w connect = not (is_channel_open w)
+is_enabled w (tell n) = is_channel_open w && is_host_ready (((w.side).core).core).shake
 
 -- ---- what comes of it
 
@@ -123,7 +119,7 @@ refusal_of submit_no.Memory = refusal.NoChannel
 
 -- what a line names: the device that it opens a file of, or what its handle holds
 abbrev pub target_of : Application → Asked → Option Target
-target_of a asked = option_map_or (λ device. Some (target.Device device)) asked.device (option_map_or (λ (h : Handle). Some (target.Handle h)) (handle_at a asked.handle) None)
+target_of a asked = option_map_or (λ device. Some (target.Device device)) asked.device (option_map_or (λ (h : Handle). Some (target.Handle h)) (handle_named a asked.handle) None)
 
 -- an application's line asked for this, and its request is accepted, or the line is refused at once
 abbrev pub comes_of_asking : WorldState → ℕ → Asked → Target → TableState × Result ℕ SubmitNo → WorldState
@@ -149,7 +145,7 @@ issues w a = issues_first w a (application_at w a).queue
 
 -- the host sends the message that is next
 abbrev pub host_sends_next : WorldState → WorldState
-host_sends_next w = option_map_or (host_sends (record w { side = sends w.side })) (next_message w.side) w
+host_sends_next w = option_map_or (host_sends (record w { side = side_sends w.side })) (next_message w.side) w
 
 -- what the client does with a message of its own: it completes a request, or writes it
 abbrev pub own_deed : WorldState → Outgoing → Deed
@@ -160,15 +156,15 @@ client_sends_first w (c, None) = w
 client_sends_first w (c, Some o) = client_sends (with_client w c) (own_deed w o) o.message
 
 abbrev pub client_sends_next : WorldState → WorldState
-client_sends_next w = client_sends_first w (client.send w.client)
+client_sends_next w = client_sends_first w (client.client_send w.client)
 
 -- the bytes of a device's completion
-abbrev pub bytes_of : ℕ → Completion → List ℕ
-bytes_of device c = completion_bytes c.kind (record { device = device; completion = c.completion; status = (c.reply).status }) (c.reply).body
+abbrev pub completion_message : ℕ → Completion → List ℕ
+completion_message device c = completion_bytes c.kind (record { device = device; completion = c.completion; status = (c.reply).status }) (c.reply).body
 
 abbrev pub collects_from : WorldState → ℕ → StationState DeviceState × Option Completion → WorldState
 collects_from w device (s, None) = w
-collects_from w device (s, Some c) = let bytes = bytes_of device c in tries_kept (client_sends (with_station w device s) (completes c.key bytes) bytes) device
+collects_from w device (s, Some c) = let bytes = completion_message device c in tries_kept (client_sends (with_station w device s) (completes c.key bytes) bytes) device
 
 -- a completion of a device is collected and sent, and a job that was kept back is tried again
 abbrev pub collects : WorldState → ℕ → WorldState
@@ -248,7 +244,7 @@ connects w =
     let channel = w.channels + 1 in
     record (with_deed fresh (host_begins channel)) {
       channels = channel;
-      client = client.begin fresh.client channel;
+      client = client_begin fresh.client channel;
       side = begins_on w.side channel;
       client_joined = new_joined;
       host_joined = new_joined;

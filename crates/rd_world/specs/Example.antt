@@ -10,8 +10,9 @@ use Rattle.rd_devices.specs.DeviceList.{list_bytes}
 use Rattle.rd_devices.specs.DeviceReply.{reply_bytes}
 use Rattle.rd_devices.specs.Removal.{removal_bytes}
 use Rattle.rd_drive.specs.Outcome.{fault}
-use Rattle.rd_drive.specs.Replies.{KeyedReply}
-use Rattle.rd_drive.specs.Statuses as status
+use Rattle.rd_drive.specs.Replies.{KeyedReply, cancellation}
+use Rattle.rd_base.specs.Statuses as status
+use Rattle.rd_base.specs.Statuses.{no_such_device}
 use Rattle.rd_irp.specs.declared.completion.Body.TheVariants as body
 use Rattle.rd_irp.specs.declared.completion.Reply.{Reply}
 use Rattle.rd_irp.specs.declared.op.Op.{Op}
@@ -23,8 +24,7 @@ use Rattle.rd_pending.specs.declared.calls.Outcome.{Outcome}
 use Rattle.rd_pending.specs.declared.calls.Target.TheVariants as target
 use Rattle.rd_pending.specs.History.{Call, accepted_in, outcome_in}
 use Rattle.rd_pending.specs.Outcomes.{Accepted}
-use Rattle.rd_station.specs.Station.{cancellation, is_key}
-use Rattle.rd_world.specs.Hearing.{no_such_device}
+use Rattle.rd_station.specs.Station.{is_key}
 use Rattle.rd_world.specs.HostDeeds.{calls_of}
 use Rattle.rd_world.specs.Talk.{Deed, client_reads, client_writes, completes, host_begins, host_ends, host_reads, host_writes, removes, stores, submits, takes}
 use Rattle.rd_world.specs.Told.{Replies}
@@ -166,7 +166,7 @@ example_deeds = reverse oldest_first
 
 -- ---- what it comes to
 
--- The requests behind others: of each its channel and device, and what came of it.
+-- The requests after others: of each its channel and device, and what came of it.
 abbrev pub come_to : List Call → List Accepted → List Accepted → List (ℕ × ℕ × Option Outcome)
 come_to h earlier [] = []
 come_to h earlier (a ∷ later) = (a.channel, a.device, outcome_in h earlier a) ∷ come_to h (earlier ++ a ∷ []) later

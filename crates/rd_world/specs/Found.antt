@@ -10,7 +10,8 @@ use Rattle.rd_devices.specs.Removal.{removal_bytes}
 use Rattle.rd_dirinfo.specs.declared.naming.Naming.TheVariants as naming
 use Rattle.rd_drive.specs.DriveState.{empty_drive, holding}
 use Rattle.rd_drive.specs.Outcome.{fault}
-use Rattle.rd_drive.specs.Statuses as status
+use Rattle.rd_base.specs.Statuses as status
+use Rattle.rd_base.specs.Statuses.{no_such_device}
 use Rattle.rd_host.specs.Served.{file_system}
 use Rattle.rd_irp.specs.declared.completion.Body.TheVariants as body
 use Rattle.rd_irp.specs.declared.completion.Reply.{Reply}
@@ -28,8 +29,7 @@ use Rattle.rd_script.specs.declared.outcome.Outcomes.{Outcomes}
 use Rattle.rd_script.specs.declared.script.Script.{Script}
 use Rattle.rd_world.specs.Devices.{Declared, announce_of, as_drive}
 use Rattle.rd_world.specs.Example.{Submission, arrives, comes, from_client, from_host, is_completed, is_handed_out, runs, submission, welcome}
-use Rattle.rd_world.specs.Hearing.{no_such_device}
-use Rattle.rd_world.specs.Recording.{recording_of}
+use Rattle.rd_world.specs.Recording.{recording_of_deeds}
 use Rattle.rd_world.specs.Run.{open_op}
 use Rattle.rd_world.specs.Talk.{Deed, client_reads, client_writes, host_begins, host_ends, host_reads, host_writes, removes, stores, submits, takes}
 use Rattle.rd_world.specs.Worked.{numbered}
@@ -109,8 +109,8 @@ abbrev pub is_written : Submission → List Deed
 is_written s = host_writes (s.key).channel (request_bytes s.request) ∷ []
 
 -- the file that an earlier request opened
-abbrev pub file_named : Submission → Target
-file_named s = let r = s.request in target.Handle (record { device = r.device; life = s.life; file = r.file })
+abbrev pub handle_target : Submission → Target
+handle_target s = let r = s.request in target.Handle (record { device = r.device; life = s.life; file = r.file })
 
 -- a file is opened, from its request to the outcome
 abbrev pub opens_file : Submission → ℕ → ℕ → List Deed
@@ -121,13 +121,13 @@ opens_file s file number =
 -- the channel ends under work
 abbrev pub is_dropped : List Deed
 is_dropped =
-    is_accepted read_dropped (file_named read_dropped) ++ is_written read_dropped ++ arrives read_dropped ++ comes read_dropped
+    is_accepted read_dropped (handle_target read_dropped) ++ is_written read_dropped ++ arrives read_dropped ++ comes read_dropped
     ++ stores 1 (Cut Dropped) ∷ host_ends 1 ∷ takes 2 ∷ []
 
 -- the device is removed under work
 abbrev pub is_removed_then : List Deed
 is_removed_then =
-    is_accepted read_removed (file_named read_removed)
+    is_accepted read_removed (handle_target read_removed)
     ++ removes 1 ∷ stores 1 (Cut Removed) ∷ is_written read_removed
     ++ from_client 2 (removal_bytes (1 ∷ []))
     ++ takes 4 ∷ arrives read_removed
@@ -142,7 +142,7 @@ abbrev pub found_deeds : List Deed
 found_deeds = reverse found_oldest_first
 
 abbrev pub found_recording : List ℕ
-found_recording = recording_of found_deeds
+found_recording = recording_of_deeds found_deeds
 
 -- ---- what came of it
 

@@ -1,18 +1,19 @@
 -- What each end makes of the bytes that it reads, and what the applications make of what comes back.
-use Rattle.std.specs.Prelude.{ℕ, zero, suc, not, ◌&&◌, ◌+◌, ◌-◌, ◌==◌, Bool, true, false, if◌then◌else◌, List, [], ◌∷◌, ◌++◌, length, map, fold, Option, Some, None, is_some, Result, Ok, Err}
+use Rattle.std.specs.Prelude.{ℕ, zero, suc, not, ◌&&◌, ◌+◌, ◌-◌, ◌==◌, Bool, if◌then◌else◌, List, [], ◌∷◌, ◌++◌, length, map, fold, Option, Some, None, is_some, Result, Ok, Err}
 use Rattle.std.specs.Map.{remove_entry}
 use Rattle.std.specs.BTreeMap.{insert_entry, is_at}
 use Rattle.std.specs.Option.{option_map_or}
 use Rattle.rd_base.specs.declared.status.Status.{Status}
 use Rattle.rd_client.specs.Core as client
-use Rattle.rd_client.specs.Core.{ClientCoreState, listed}
+use Rattle.rd_client.specs.Core.{ClientCoreState, client_hear, listed}
 use Rattle.rd_client.specs.declared.heard.Heard.{Heard}
 use Rattle.rd_client.specs.declared.heard.Heard.TheVariants.{Nothing, Ask, Print}
+use Rattle.rd_client.specs.Order.{is_client_ready}
 use Rattle.rd_devices.specs.declared.list.Announce.{Announce}
 use Rattle.rd_drive.specs.declared.plan.Job.{Job}
-use Rattle.rd_drive.specs.Statuses as status
+use Rattle.rd_base.specs.Statuses as status
+use Rattle.rd_base.specs.Statuses.{no_such_device}
 use Rattle.rd_hello.specs.declared.client.ClientState.{ClientState}
-use Rattle.rd_hello.specs.declared.client.ClientState.TheVariants as client_state
 use Rattle.rd_hello.specs.declared.end_fault.EndFault.{EndFault}
 use Rattle.rd_irp.specs.declared.completion.Body.{Body}
 use Rattle.rd_irp.specs.declared.completion.Body.TheVariants.{Created}
@@ -24,6 +25,7 @@ use Rattle.rd_pending.specs.declared.calls.TakeNo.{TakeNo}
 use Rattle.rd_pending.specs.Table as table
 use Rattle.rd_pending.specs.Table.{TableState}
 use Rattle.rd_printer.specs.Cache as cache
+use Rattle.rd_printer.specs.Cache.{bytes_cmp}
 use Rattle.rd_script.specs.declared.outcome.Outcome.{Outcome}
 use Rattle.rd_script.specs.declared.outcome.Outcome.TheVariants as outcome
 use Rattle.rd_station.specs.declared.refusals.PutWhy.{PutWhy}
@@ -33,18 +35,9 @@ use Rattle.rd_station.specs.Station.{StationState}
 use Rattle.rd_world.specs.Devices.{DeviceState}
 use Rattle.rd_world.specs.Host.{hears}
 use Rattle.rd_world.specs.Talk.{client_reads, host_reads, takes}
-use Rattle.rd_world.specs.World.{Application, Asked, Kept, WorldState, application_at, first_message, name_cmp, station_at, with_application, with_deed, with_station, with_table}
+use Rattle.rd_world.specs.World.{Application, Asked, Kept, WorldState, application_at, first_message, station_at, with_application, with_deed, with_station, with_table}
 
 -- ---- the client
-
--- what needs no device: there is no such device, or its journal is worn
-abbrev pub no_such_device : Status
-no_such_device = record { 0 = 0xc000_000e }
-
--- whether a client is ready
-abbrev pub is_client_ready : ClientState → Bool
-is_client_ready client_state.Ready = true
-is_client_ready _ = false
 
 abbrev pub with_client : WorldState → ClientCoreState → WorldState
 with_client w c = record w { client = c }
@@ -58,13 +51,14 @@ abbrev pub announcing : WorldState → ℕ → WorldState
 announcing w device = option_map_or (λ (s : StationState DeviceState). with_station w device (station.announce s).0) (station_at w device) w
 
 -- whether the host was last told that a device is there
-abbrev pub is_told : WorldState → ℕ → Bool
-is_told w device = is_client_ready ((w.client).core).shake && (client.has_device w.client device && not (client.is_gone w.client device))
+abbrev pub is_device_told : WorldState → ℕ → Bool
+is_device_told w device =
+    is_client_ready ((w.client).core).shake && (client.has_device w.client device && not (client.is_gone w.client device))
 
 -- A job doesn't come to its station. A device that the host was told of has a station that isn't live only where its journal is worn. Where the station is
 -- full the job is kept back, with the bytes after it.
 abbrev pub refused_put : WorldState → ℕ → Job → List ℕ → PutWhy → WorldState
-refused_put w device job rest why.Gone = answers_directly w device job (if is_told w device then status.insufficient_resources else no_such_device)
+refused_put w device job rest why.Gone = answers_directly w device job (if is_device_told w device then status.insufficient_resources else no_such_device)
 refused_put w device job rest (why.Full held) = record w { kept = Some (record { device = device; job = job; rest = rest }) }
 refused_put w device job rest (why.Worn count) = answers_directly w device job status.insufficient_resources
 refused_put w device job rest (why.Duplicate key) = w
@@ -83,22 +77,22 @@ abbrev pub putting : WorldState → ℕ → Job → List ℕ → WorldState
 putting w device job rest = put_at w device job rest (station_at w device)
 
 -- where the client becomes ready, the devices that it lists are announced to their stations
-abbrev pub opened : ClientState → WorldState → WorldState
-opened shake w =
+abbrev pub after_opening : ClientState → WorldState → WorldState
+after_opening shake w =
     if client.becomes_ready shake ((w.client).core).shake then fold (λ x (a : Announce). announcing x a.id) w (listed w.client)
     else w
 
 -- what a message asks for is done, which the client heard in this state, and after which these bytes came
 abbrev pub heard_by_client : ClientState → List ℕ → WorldState → Result Heard EndFault → WorldState
 heard_by_client shake rest w (Err fault) = w
-heard_by_client shake rest w (Ok Nothing) = opened shake w
+heard_by_client shake rest w (Ok Nothing) = after_opening shake w
 heard_by_client shake rest w (Ok (Ask device job)) = putting w device job rest
 heard_by_client shake rest w (Ok (Print n)) = record w { cache = cache.heard w.cache n }
 
 -- the client heard a message, after which these bytes came
 abbrev pub client_hears : WorldState → List ℕ → List ℕ → WorldState
 client_hears w message rest =
-    let heard = client.hear w.client message in
+    let heard = client_hear w.client message in
     heard_by_client ((w.client).core).shake rest (with_deed (with_client w heard.0) (client_reads w.channels message)) heard.1
 
 -- no further message is whole: these bytes are a part of one
@@ -163,30 +157,30 @@ host_handles (suc most) w bytes = host_handles_first w bytes (first_message byte
 -- ---- the applications
 
 -- the file id that a reply gives, if it opens a file
-abbrev pub file_of : Status → Body → Option ℕ
-file_of st (Created file information) = if st.0 == 0 then Some file else None
-file_of st _ = None
+abbrev pub created_file : Status → Body → Option ℕ
+created_file st (Created file information) = if st.0 == 0 then Some file else None
+created_file st _ = None
 
 abbrev pub file_given : table_outcome.Outcome → Option ℕ
-file_given (settled.Done reply) = file_of reply.status reply.body
+file_given (settled.Done reply) = created_file reply.status reply.body
 file_given (settled.Lost cause) = None
 
 -- what an open gives its handle: the file id of a device in a life
 abbrev pub given_handle : Taken → Option Handle
 given_handle t = option_map_or (λ file. Some (record { device = t.device; life = t.life; file = file })) (file_given t.outcome) None
 
-abbrev pub outcome_of : table_outcome.Outcome → Outcome
-outcome_of (settled.Done reply) = outcome.Done reply
-outcome_of (settled.Lost cause) = outcome.Lost cause
+abbrev pub reported_outcome : table_outcome.Outcome → Outcome
+reported_outcome (settled.Done reply) = outcome.Done reply
+reported_outcome (settled.Lost cause) = outcome.Lost cause
 
 -- a name holds this handle, or none
-abbrev pub holding : Application → List ℕ → Option Handle → Application
-holding a name None = record a { handles = remove_entry (is_at (name_cmp name)) a.handles }
-holding a name (Some h) = record a { handles = insert_entry name_cmp a.handles name h }
+abbrev pub with_named_handle : Application → List ℕ → Option Handle → Application
+with_named_handle a name None = record a { handles = remove_entry (is_at (bytes_cmp name)) a.handles }
+with_named_handle a name (Some h) = record a { handles = insert_entry bytes_cmp a.handles name h }
 
 -- the name of a handle holds what an open gave, or nothing where it gave none; any other line leaves it as it is
 abbrev pub holding_after : Application → Asked → Option Handle → Application
-holding_after a asked given = if is_some asked.device then holding a asked.handle given else a
+holding_after a asked given = if is_some asked.device then with_named_handle a asked.handle given else a
 
 -- the line that an application issued last has its outcome
 abbrev pub ends_line : WorldState → ℕ → Asked → Outcome → Option Handle → WorldState
@@ -196,7 +190,7 @@ ends_line w a asked o given =
 
 abbrev pub takes_from : WorldState → ℕ → ℕ → Asked → TableState × Result Taken TakeNo → WorldState
 takes_from w a number asked (t, Err cause) = w
-takes_from w a number asked (t, Ok taken) = ends_line (with_deed (with_table w t) (takes number)) a asked (outcome_of taken.outcome) (given_handle taken)
+takes_from w a number asked (t, Ok taken) = ends_line (with_deed (with_table w t) (takes number)) a asked (reported_outcome taken.outcome) (given_handle taken)
 
 abbrev pub takes_awaited : WorldState → ℕ → Option (ℕ × Asked) → WorldState
 takes_awaited w a None = w

@@ -5,7 +5,8 @@ use Rattle.rd_hello.specs.declared.end_fault.EndFault.{EndFault}
 use Rattle.rd_host.specs.Core as host
 use Rattle.rd_host.specs.declared.act.Act.{Act}
 use Rattle.rd_host.specs.declared.act.Act.TheVariants as act
-use Rattle.rd_host.specs.Served.{is_served}
+use Rattle.rd_host.specs.Served.{is_served_type}
+use Rattle.rd_host.specs.Core.{host_hear}
 use Rattle.rd_irp.specs.declared.completion.Head.{Head}
 use Rattle.rd_irp.specs.declared.op.Op.{Op}
 use Rattle.rd_irp.specs.Written.{IsOpInRange}
@@ -17,7 +18,7 @@ use Rattle.rd_pending.specs.History as call
 use Rattle.rd_pending.specs.History.{Call}
 use Rattle.rd_pending.specs.Table as table
 use Rattle.rd_pending.specs.Table.{MayBegin, MaySubmit, TableState, device_in, file_in, live_refusal, submit_refusal}
-use Rattle.rd_world.specs.Host.{HostSide, begins_on, ends_channel, hears, new_side, next_message, sends, tells_of}
+use Rattle.rd_world.specs.Host.{HostSide, begins_on, ends_channel, hears, new_side, next_message, side_sends, tells_of}
 use Rattle.rd_world.specs.Talk.{Deed, host_begins, host_ends, host_reads, host_writes, submits, takes, tells}
 
 -- what is left of it by a deed
@@ -26,7 +27,7 @@ side_after s (host_begins channel) = begins_on s channel
 side_after s (submits application named o) = record s { table = (table.submit s.table application named o).0 }
 side_after s (takes number) = record s { table = (table.take s.table number).0 }
 side_after s (tells n) = tells_of s n
-side_after s (host_writes channel message) = sends s
+side_after s (host_writes channel message) = side_sends s
 side_after s (host_reads channel message) = hears s message
 side_after s (host_ends channel) = ends_channel s
 side_after s _ = s
@@ -62,19 +63,19 @@ lives_by None device = call.lives device ∷ []
 lives_by (Some cause) device = []
 
 abbrev pub admitting_one : TableState → Announce → List Call
-admitting_one t a = if is_served a.kind then lives_by (live_refusal t a.id) a.id else []
+admitting_one t a = if is_served_type a.kind then lives_by (live_refusal t a.id) a.id else []
 
 -- the table after an announcement
 abbrev pub admitted_by : TableState → Announce → TableState
-admitted_by t a = if is_served a.kind then (table.live t a.id).0 else t
+admitted_by t a = if is_served_type a.kind then (table.live t a.id).0 else t
 
 abbrev pub admitting : TableState → List Announce → List Call
 admitting t [] = []
 admitting t (a ∷ devices) = admitting (admitted_by t a) devices ++ admitting_one t a
 
-abbrev pub forgetting : List ℕ → List Call
-forgetting [] = []
-forgetting (id ∷ ids) = forgetting ids ++ call.removes id ∷ []
+abbrev pub removal_calls : List ℕ → List Call
+removal_calls [] = []
+removal_calls (id ∷ ids) = removal_calls ids ++ call.removes id ∷ []
 
 -- a completion that is taken
 abbrev pub completing : Result Completed CompleteNo → Head → List ℕ → List Call
@@ -86,7 +87,7 @@ abbrev pub calls_in : TableState → Result Act EndFault → List Call
 calls_in t (Err fault) = []
 calls_in t (Ok act.Nothing) = []
 calls_in t (Ok (act.Announced devices)) = admitting t devices
-calls_in t (Ok (act.Removed ids)) = forgetting ids
+calls_in t (Ok (act.Removed ids)) = removal_calls ids
 calls_in t (Ok (act.Complete head bytes)) = completing (table.complete t head bytes).1 head bytes
 
 -- a message of the table is sent, where the end has none of its own
@@ -100,7 +101,7 @@ calls_by s (host_ends channel) = call.drops ∷ []
 calls_by s (submits application named o) = call.submits application named o ∷ []
 calls_by s (takes number) = call.takes number ∷ []
 calls_by s (host_writes channel message) = sending ((s.core).core).outbox
-calls_by s (host_reads channel message) = calls_in s.table (host.hear s.core message).1
+calls_by s (host_reads channel message) = calls_in s.table (host_hear s.core message).1
 calls_by s _ = []
 
 -- the calls of a list of deeds: the history of the table, which tells what was accepted, what was heard and what came of it

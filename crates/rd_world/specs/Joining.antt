@@ -11,9 +11,9 @@ use Rattle.rd_drive.specs.Replies.{KeyedReply}
 use Rattle.rd_base.specs.declared.packet.Packet.TheVariants.{IoCompletion}
 use Rattle.rd_hello.specs.declared.end_fault.EndFault.{EndFault}
 use Rattle.rd_hello.specs.Moves.{is_of}
-use Rattle.rd_host.specs.Core as host
 use Rattle.rd_host.specs.declared.act.Act.{Act}
 use Rattle.rd_host.specs.declared.act.Act.TheVariants as act
+use Rattle.rd_host.specs.Core.{host_hear}
 use Rattle.rd_irp.specs.declared.completion.Reply.{Reply}
 use Rattle.rd_irp.specs.declared.request.Request.{Request}
 use Rattle.rd_pending.specs.declared.calls.Outcome.{Outcome}
@@ -28,7 +28,7 @@ use Rattle.rd_pending.specs.Table.{TableState}
 use Rattle.rd_world.specs.Host.{HostSide}
 use Rattle.rd_world.specs.HostDeeds.{MayDo, calls_of, side_of}
 use Rattle.rd_world.specs.Talk.{AtEachPoint, EachAfter, EndsWith, Deed, Has, answered, asked, client_read, client_reads, client_writes, client_wrote, completes, host_read, host_reads, host_writes, host_wrote, is_completion_of, is_request, journal, request_at, request_in, stores}
-use Rattle.rd_world.specs.Told.{IsTold, Replies, worn_entries}
+use Rattle.rd_world.specs.Told.{AreAnswered, Replies, worn_entries}
 
 -- What an end has read on a channel are the first of the messages that the other one wrote there.
 pub record IsCarried (deeds : List Deed) : Type 0 where
@@ -55,7 +55,7 @@ pub record HasReply (replies : List KeyedReply) (key : Key) (reply : Reply) : Ty
 pub record AreJoined (client : ℕ) (replies : Replies) (deeds : List Deed) : Type 0 where
   pub carried : AtEachPoint IsCarried deeds
   pub host : EachAfter (λ before deed. MayDo (side_of client before) deed) deeds
-  pub told : IsTold replies deeds
+  pub told : AreAnswered replies deeds
   -- what the beginning of a device's journal gives stays, whatever is stored after it
   pub grows : (device : ℕ) (earlier more later : List Item) → reverse (journal device deeds) ≡ (earlier ++ more) ++ later
       → (reply : KeyedReply) → Contains (replies device earlier) reply → Contains (replies device (earlier ++ more)) reply
@@ -69,22 +69,22 @@ pub record AreJoined (client : ℕ) (replies : Replies) (deeds : List Deed) : Ty
 -- ---- what it gives
 
 -- On each channel, of each pair of a device and a completion id, the m-th completion answers the m-th request.
-abbrev pub Counted : List Deed → Type 0
-Counted deeds = (c device id : ℕ) → EndsWith (asked c device id deeds) (answered c device id deeds)
+abbrev pub AnswersAreAsked : List Deed → Type 0
+AnswersAreAsked deeds = (c device id : ℕ) → EndsWith (asked c device id deeds) (answered c device id deeds)
 
 -- how many requests stand on a channel
 abbrev pub requests_written : ℕ → List Deed → ℕ
 requests_written c deeds = length (filter is_request (host_wrote c deeds))
 
 -- Where the completion of one key was written before the request of another of the same device, and both ran, the first one ran first.
-abbrev pub InOrder : List Deed → Type 0
-InOrder deeds = (k l : Key) (answer asking : List ℕ) (r s : Request) (after between before : List Deed)
+abbrev pub RunsInOrder : List Deed → Type 0
+RunsInOrder deeds = (k l : Key) (answer asking : List ℕ) (r s : Request) (after between before : List Deed)
     → deeds ≡ after ++ host_writes l.channel asking ∷ (between ++ completes k answer ∷ before)
     → requests_written l.channel (between ++ completes k answer ∷ before) ≡ l.index
     → request_in asking ≡ Some s → request_at (client_read k.channel before) k.index ≡ Some r → r.device ≡ s.device
-    → (moment later_moment : ℕ) (starved parked later_starved later_parked : Bool) (behind_k before_k behind_l before_l : List Item)
-    → journal r.device deeds ≡ behind_k ++ Ran k moment starved parked ∷ before_k
-    → journal r.device deeds ≡ behind_l ++ Ran l later_moment later_starved later_parked ∷ before_l
+    → (moment later_moment : ℕ) (starved parked later_starved later_parked : Bool) (after_k before_k after_l before_l : List Item)
+    → journal r.device deeds ≡ after_k ++ Ran k moment starved parked ∷ before_k
+    → journal r.device deeds ≡ after_l ++ Ran l later_moment later_starved later_parked ∷ before_l
     → length before_k < length before_l
 
 -- the requests that a host accepted, in the order of their numbers
@@ -92,8 +92,8 @@ abbrev pub accepted : ℕ → List Deed → List Accepted
 accepted client deeds = accepted_in (calls_of client deeds)
 
 -- what came of a request, by what was heard on its channel, whether it was handed out or not
-abbrev pub CameTo : ℕ → List Deed → Accepted → Outcome → Type 0
-CameTo client deeds a outcome = history.CameTo (calls_of client deeds) a outcome
+abbrev pub ClientCameTo : ℕ → List Deed → Accepted → Outcome → Type 0
+ClientCameTo client deeds a outcome = history.CameTo (calls_of client deeds) a outcome
 
 -- the key of a request that was accepted
 abbrev pub key_of : Accepted → Key
@@ -110,11 +110,11 @@ pub record IsOwnReply (replies : Replies) (deeds : List Deed) (a : Accepted) (re
   pub given : HasReply (replies a.device (reverse (journal a.device deeds))) (key_of a) reply
 
 abbrev pub Replied : ℕ → Replies → List Deed → Type 0
-Replied client replies deeds = (a : Accepted) (reply : Reply) → CameTo client deeds a (Done reply) → IsOwnReply replies deeds a reply
+Replied client replies deeds = (a : Accepted) (reply : Reply) → ClientCameTo client deeds a (Done reply) → IsOwnReply replies deeds a reply
 
 -- No cut alone gives that reply: what a cut answers to a request that waits reaches no application.
 abbrev pub Uncut : ℕ → Replies → List Deed → Type 0
-Uncut client replies deeds = (a : Accepted) (reply : Reply) → CameTo client deeds a (Done reply) → (first last : List Item) (cause : Cause)
+Uncut client replies deeds = (a : Accepted) (reply : Reply) → ClientCameTo client deeds a (Done reply) → (first last : List Item) (cause : Cause)
     → reverse (journal a.device deeds) ≡ first ++ Cut cause ∷ last → ¬ (Contains (replies a.device first) (key_of a, reply)) → ¬ (Contains (replies a.device (first ++ Cut cause ∷ [])) (key_of a, reply))
 
 -- a completion is taken
@@ -128,7 +128,7 @@ TakesHeard t _ = Unit {0}
 
 -- The host finds the slot of each completion that comes to its table; where that one's request isn't lost, the body reads.
 abbrev pub IsTaken : HostSide → Deed → Type 0
-IsTaken s (host_reads channel message) = TakesHeard s.table (host.hear s.core message).1
+IsTaken s (host_reads channel message) = TakesHeard s.table (host_hear s.core message).1
 IsTaken s _ = Unit {0}
 
 -- A request is read only where each earlier one on its channel with its pair, whose key comes at all, was sent before. So its device holds no job with
@@ -141,8 +141,8 @@ IsAlone deeds before _ = Unit {0}
 
 -- What joined sides come to.
 pub record Joins (client : ℕ) (replies : Replies) (deeds : List Deed) : Type 0 where
-  pub counted : Counted deeds
-  pub in_order : InOrder deeds
+  pub counted : AnswersAreAsked deeds
+  pub in_order : RunsInOrder deeds
   pub outcomes : AreOutcomes (calls_of client deeds)
   pub handed_out : (later before : List Call) (call : Call) → calls_of client deeds ≡ later ++ call ∷ before → HandsOut (calls_of client deeds) before call
   pub replied : Replied client replies deeds

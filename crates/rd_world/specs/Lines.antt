@@ -15,11 +15,13 @@ use Rattle.rd_script.specs.declared.line.NumberedLine.{NumberedLine}
 use Rattle.rd_script.specs.declared.outcome.Outcome.{Outcome}
 use Rattle.rd_script.specs.declared.outcome.Outcome.TheVariants as outcome
 use Rattle.rd_script.specs.declared.outcome.Refusal.TheVariants as refusal
+use Rattle.rd_script.specs.Report.{numbered_from}
+use Rattle.rd_script.specs.Rows.{max_applications}
 use Rattle.rd_world.specs.Acts.{Opens, act_by, first_control_of}
 use Rattle.rd_world.specs.Control.{Control, controlled}
 use Rattle.rd_world.specs.Devices.{Declared}
 use Rattle.rd_world.specs.Events.{refusal_of, target_of}
-use Rattle.rd_world.specs.Hearing.{given_handle, holding_after, outcome_of}
+use Rattle.rd_world.specs.Hearing.{given_handle, holding_after, reported_outcome}
 use Rattle.rd_world.specs.HostDeeds.{calls_of, side_of}
 use Rattle.rd_world.specs.Joining.{accepted}
 use Rattle.rd_world.specs.Recording.{client_id}
@@ -39,8 +41,8 @@ is_submission_of a (submits application named o) = application == a
 is_submission_of a _ = false
 
 -- the application has no request accepted between two points
-abbrev pub IsQuiet : ℕ → List Deed → List Deed → Type 0
-IsQuiet a later earlier = (between : List Deed) × (later ≡ between ++ earlier) × (list_any (is_submission_of a) between ≡ false)
+abbrev pub SubmitsNothing : ℕ → List Deed → List Deed → Type 0
+SubmitsNothing a later earlier = (between : List Deed) × (later ≡ between ++ earlier) × (list_any (is_submission_of a) between ≡ false)
 
 -- what a handle is given by the outcome of a request with so many accepted before it
 abbrev pub given_at : List Deed → ℕ → table_outcome.Outcome → Option Handle
@@ -80,7 +82,7 @@ module _ (devices : List (ℕ × Declared)) (deeds : List Deed) (a : ℕ) where
   abbrev pub IsAccepted : Application → Asked → Outcome → GoesOn → List Deed → Target → ℕ → Type 0
   IsAccepted holds x o goes_on before named count =
       (after : List Deed) × (deeds ≡ after ++ submits a named x.op ∷ before) × (came : table_outcome.Outcome) × (outcome_at deeds count ≡ Some came)
-      × (o ≡ outcome_of came) × goes_on (holding_after holds x (given_at deeds count came)) (λ later. outcome_at later count ≡ Some came) (submits a named x.op ∷ before)
+      × (o ≡ reported_outcome came) × goes_on (holding_after holds x (given_at deeds count came)) (λ later. outcome_at later count ≡ Some came) (submits a named x.op ∷ before)
 
   -- what a line asks for of what it names, which the host's table refuses or not
   abbrev pub AskedEnds : Application → Asked → Outcome → GoesOn → List Deed → Target → Option SubmitNo → Type 0
@@ -95,32 +97,23 @@ module _ (devices : List (ℕ × Declared)) (deeds : List Deed) (a : ℕ) where
   -- The lines of an application end so, one after the other, from a point on. A line is issued where it is due, and the outcome of the one before is
   -- known.
   abbrev pub LinesEnd : Application → List Waits → List Outcome → (List Deed → Type 0) → List Deed → Type 0
-  LinesEnd holds [] [] IsKnown from = IsQuiet a deeds from
+  LinesEnd holds [] [] IsKnown from = SubmitsNothing a deeds from
   LinesEnd holds [] (o ∷ os) IsKnown from = ⊥
   LinesEnd holds (x ∷ xs) [] IsKnown from = ⊥
   LinesEnd holds (x ∷ xs) (o ∷ os) IsKnown from =
-      (before : List Deed) × IsQuiet a before from × IsKnown before × IsDue devices x.acts before
+      (before : List Deed) × SubmitsNothing a before from × IsKnown before × IsDue devices x.acts before
       × LineEnds holds x.asked o (λ next known after. LinesEnd next xs os known after) before (target_of holds x.asked)
 
--- the lines of an application, behind what control lines come to
-abbrev pub waits_behind : ℕ → Control → List NumberedLine → List Waits
-waits_behind a c [] = []
-waits_behind a c (l ∷ ls) =
+-- the lines of an application, after what control lines come to
+abbrev pub waits_after : ℕ → Control → List NumberedLine → List Waits
+waits_after a c [] = []
+waits_after a c (l ∷ ls) =
     option_map_or (λ asked. record { asked = asked; acts = length c.acts } ∷ []) (option_and_then (λ (x : ℕ × Asked). on a x.0 x.1) (asked_by l.line)) []
-    ++ waits_behind a (controlled c l.number l.line) ls
+    ++ waits_after a (controlled c l.number l.line) ls
 
 -- the lines of an application in a script
 abbrev pub waits_of : List (ℕ × Declared) → ℕ → List NumberedLine → List Waits
-waits_of devices a lines = waits_behind a (first_control_of devices) lines
-
--- the outcomes of an application, each under its number, from a number on
-abbrev pub numbered_from : ℕ → ℕ → List Outcome → List ((ℕ × ℕ) × Outcome)
-numbered_from a number [] = []
-numbered_from a number (o ∷ os) = ((a, number), o) ∷ numbered_from a (number + 1) os
-
--- the most applications of a script
-abbrev pub max_applications : ℕ
-max_applications = 64
+waits_of devices a lines = waits_after a (first_control_of devices) lines
 
 -- ---- what is sent and heard
 

@@ -5,10 +5,10 @@ use Rattle.std.specs.Option.{unwrap_or}
 use Rattle.rd_base.specs.declared.journal.Key.{Key}
 use Rattle.rd_chunk.specs.Carrier.{IsMessage, frames_for}
 use Rattle.rd_client.specs.Order as client
-use Rattle.rd_client.specs.Order.{ClientOrder}
+use Rattle.rd_client.specs.Order.{ClientOrder, client_at_first}
 use Rattle.rd_devices.specs.declared.list.Announce.{Announce}
 use Rattle.rd_host.specs.Order as host
-use Rattle.rd_host.specs.Order.{HostOrder}
+use Rattle.rd_host.specs.Order.{HostOrder, host_at_first}
 use Rattle.rd_irp.specs.declared.op.Op.TheVariants.{Close}
 use Rattle.rd_irp.specs.declared.request.Request.{Request}
 use Rattle.rd_pending.specs.History.{lives_before}
@@ -21,19 +21,19 @@ abbrev pub client_id : ℕ
 client_id = 1
 
 -- an entry: a channel begins, it ended, the host sent a frame, or the client did
-pub data Entry : Type 0 where
-  begins ends : Entry
-  from_host from_client : List ℕ → Entry
+pub data RecordingEntry : Type 0 where
+  begins ends : RecordingEntry
+  from_host from_client : List ℕ → RecordingEntry
 
 -- the bytes of an entry
-abbrev pub entry_bytes : Entry → List ℕ
-entry_bytes (from_host frame) = 0 ∷ frame
-entry_bytes (from_client frame) = 1 ∷ frame
-entry_bytes begins = 2 ∷ []
-entry_bytes ends = 3 ∷ []
+abbrev pub recording_entry_bytes : RecordingEntry → List ℕ
+recording_entry_bytes (from_host frame) = 0 ∷ frame
+recording_entry_bytes (from_client frame) = 1 ∷ frame
+recording_entry_bytes begins = 2 ∷ []
+recording_entry_bytes ends = 3 ∷ []
 
 -- what a deed leaves in the recording
-abbrev pub entries_by : Deed → List Entry
+abbrev pub entries_by : Deed → List RecordingEntry
 entries_by (host_begins channel) = begins ∷ []
 entries_by (host_ends channel) = ends ∷ []
 entries_by (host_writes channel message) = map from_host (frames_for message)
@@ -42,8 +42,8 @@ entries_by (completes key message) = map from_client (frames_for message)
 entries_by _ = []
 
 -- the recording of deeds, of which the newest stands first
-abbrev pub recording_of : List Deed → List ℕ
-recording_of deeds = codes "RDRREC01" ++ flat_map entry_bytes (flat_map entries_by (reverse deeds))
+abbrev pub recording_of_deeds : List Deed → List ℕ
+recording_of_deeds deeds = codes "RDRREC01" ++ flat_map recording_entry_bytes (flat_map entries_by (reverse deeds))
 
 -- the message that is written by it
 abbrev pub written_by : Deed → Option (List ℕ)
@@ -69,18 +69,18 @@ is_gone_at c deeds device = is_removed device (until_begin c deeds)
 
 -- The recording has the channels' begins and ends, and between them the frames of whole messages, which are in order on each channel.
 pub record IsRecorded (devices : List (ℕ × Declared)) (recording : List ℕ) (deeds : List Deed) : Type 0 where
-  pub bytes : recording ≡ recording_of deeds
+  pub bytes : recording ≡ recording_of_deeds deeds
   pub fit : All (λ deed. IfSome (written_by deed) IsMessage) deeds
   pub on_open : EachAfter (λ before deed. IfSome (client_channel deed) (λ c. open_channel before ≡ Some c)) deeds
   pub host_order : (c : ℕ) → HostOrder client_id (lives_before c (calls_of client_id deeds)) (reverse (host_moves c deeds))
   pub client_order : (c : ℕ) → ClientOrder (announced_of devices) (is_gone_at c deeds) (reverse (client_moves c deeds))
 
 -- where the sides stand on a channel
-abbrev pub client_stand : List (ℕ × Declared) → List Deed → ℕ → Option client.Stand
-client_stand devices deeds c = client.stand_after (announced_of devices) (is_gone_at c deeds) client.at_first (reverse (client_moves c deeds))
+abbrev pub client_stand : List (ℕ × Declared) → List Deed → ℕ → Option client.ClientStanding
+client_stand devices deeds c = client.stand_after (announced_of devices) (is_gone_at c deeds) client_at_first (reverse (client_moves c deeds))
 
-abbrev pub host_stand : List Deed → ℕ → Option host.Stand
-host_stand deeds c = host.stand_after (host.at_first client_id (lives_before c (calls_of client_id deeds))) (reverse (host_moves c deeds))
+abbrev pub host_stand : List Deed → ℕ → Option host.HostStanding
+host_stand deeds c = host.stand_after (host_at_first client_id (lives_before c (calls_of client_id deeds))) (reverse (host_moves c deeds))
 
 -- ---- the requests that stand in it
 

@@ -1,7 +1,7 @@
 -- The session of a script: its lines one after the other, and draws among what can happen.
 use Rattle.std.specs.Prelude.{◌≡◌, ℕ, zero, suc, ◌+◌, ◌*◌, ◌^◌, ◌/◌, ◌%◌, ◌==◌, ◌&&◌, Bool, false, not, max, if◌then◌else◌, List, [], ◌∷◌, ◌++◌, length, map, fold, replicate, Option, Some, None, slice_get, min}
 use Rattle.std.specs.List.{flat_map, list_any, range_with_len}
-use Rattle.std.specs.Option.{option_map_or, unwrap_or}
+use Rattle.std.specs.Option.{option_and_then, option_map_or, unwrap_or}
 use Rattle.rd_base.specs.declared.journal.Key.{Key}
 use Rattle.rd_base.specs.declared.journal.Item.{Item}
 use Rattle.rd_base.specs.declared.journal.Item.TheVariants.{Ran}
@@ -20,7 +20,7 @@ use Rattle.rd_station.specs.Station.{StationState, new_station}
 use Rattle.rd_world.specs.Devices.{Declared, DeviceState, announce_of, declaring, dos_name, furnishing, zero_text}
 use Rattle.rd_world.specs.Host.{new_side}
 use Rattle.rd_world.specs.World.{Application, Asked, WorldState, application_at, marks_of, new_joined, with_application}
-use Rattle.rd_world.specs.Events.{Event, act, add, apply_job, client_has_message, client_read, client_send, collect, connect, drop_channel, host_has_message, host_read, host_send, is_empty, is_enabled, is_open, issue, remove, take_job, tell}
+use Rattle.rd_world.specs.Events.{Event, act, add, apply_job, client_has_message, client_read, client_send, collect, connect, drop_channel, host_has_message, host_read, host_send, is_channel_open, is_empty, is_enabled, issue, remove, take_job, tell}
 
 -- ---- the draws
 
@@ -32,11 +32,11 @@ abbrev pub picked : ℕ → ℕ → ℕ
 picked x choices = (x / 2 ^ 33) % choices
 
 -- what settling may draw: an event, or a read of a pipe, whose count is drawn too
-pub data Choice : Type 0 where
-  event : Event → Choice
-  reads_client reads_host : Choice
+pub data NextStep : Type 0 where
+  event : Event → NextStep
+  reads_client reads_host : NextStep
 
-abbrev pub where_true : Bool → Choice → List Choice
+abbrev pub where_true : Bool → NextStep → List NextStep
 where_true b c = if b then c ∷ [] else []
 
 -- the applications, the devices and the hands by their numbers
@@ -49,11 +49,11 @@ device_ids w = map (λ (e : ℕ × StationState DeviceState). e.0) w.stations
 abbrev pub hand_numbers : WorldState → List ℕ
 hand_numbers w = map suc (range_with_len 0 (length w.hands))
 
-abbrev pub takes_of : WorldState → ℕ → List Choice
+abbrev pub takes_of : WorldState → ℕ → List NextStep
 takes_of w device = flat_map (λ hand. where_true (is_enabled w (take_job device hand)) (event (take_job device hand))) (hand_numbers w)
 
 -- what can happen by itself, in its order
-abbrev pub choices : WorldState → List Choice
+abbrev pub choices : WorldState → List NextStep
 choices w =
     flat_map (λ a. where_true (is_enabled w (issue a)) (event (issue a))) (application_ids w)
     ++ where_true (host_has_message w) (event host_send)
@@ -81,13 +81,13 @@ is_quiet w = not (host_has_message w) && not (client_has_message w) && is_empty 
 -- the runs that find no memory
 module _ (starves : Key → Bool) where
   -- what comes of a choice
-  abbrev pub chosen : WorldState → Choice → WorldState
+  abbrev pub chosen : WorldState → NextStep → WorldState
   chosen w (event e) = act starves w e
   chosen w reads_client = let x = drawing w in act starves x (client_read (drawn_count x x.to_client))
   chosen w reads_host = let x = drawing w in act starves x (host_read (drawn_count x x.to_host))
 
   -- a draw among choices, and on; where there is none the world is settled
-  abbrev pub settles_by : WorldState → List Choice → (WorldState → Option WorldState) → Option WorldState
+  abbrev pub settles_by : WorldState → List NextStep → (WorldState → Option WorldState) → Option WorldState
   settles_by w [] on = Some w
   settles_by w (c ∷ cs) on =
       let x = drawing w in
@@ -132,8 +132,8 @@ module _ (starves : Key → Bool) where
 abbrev pub open_op : List ℕ → Op
 open_op path = op.Create 0x8000_0000 0 0 7 1 0 path
 
-abbrev pub on_handle : List ℕ → Op → Asked
-on_handle handle o = record { handle = handle; device = None; op = o }
+abbrev pub asked_on_handle : List ℕ → Op → Asked
+asked_on_handle handle o = record { handle = handle; device = None; op = o }
 
 abbrev pub on_device : List ℕ → ℕ → Op → Asked
 on_device handle device o = record { handle = handle; device = Some device; op = o }
@@ -143,17 +143,17 @@ unfoldable pub asked_by : Line → Option (ℕ × Asked)
 asked_by (line.Open a handle device path) = Some (a, on_device handle device (open_op path))
 asked_by (line.Create a handle device path disposition access share options attributes) =
     Some (a, on_device handle device (op.Create access 0 attributes share disposition options path))
-asked_by (line.Close a handle) = Some (a, on_handle handle op.Close)
-asked_by (line.Read a handle offset len) = Some (a, on_handle handle (op.Read offset len))
-asked_by (line.Write a handle offset bytes) = Some (a, on_handle handle (op.Write offset bytes))
-asked_by (line.Query a handle class) = Some (a, on_handle handle (op.QueryFile class))
-asked_by (line.Set a handle class bytes) = Some (a, on_handle handle (op.SetFile class bytes))
-asked_by (line.Volume a handle class) = Some (a, on_handle handle (op.QueryVolume class))
-asked_by (line.SetVolume a handle class bytes) = Some (a, on_handle handle (op.SetVolume class bytes))
-asked_by (line.Dir a handle class initial path) = Some (a, on_handle handle (op.QueryDir class initial path))
-asked_by (line.Lock a handle operation wait ranges) = Some (a, on_handle handle (op.Lock operation wait ranges))
-asked_by (line.Control a handle code output bytes) = Some (a, on_handle handle (op.Control output code bytes))
-asked_by (line.Notify a handle tree filters) = Some (a, on_handle handle (op.Notify tree filters))
+asked_by (line.Close a handle) = Some (a, asked_on_handle handle op.Close)
+asked_by (line.Read a handle offset len) = Some (a, asked_on_handle handle (op.Read offset len))
+asked_by (line.Write a handle offset bytes) = Some (a, asked_on_handle handle (op.Write offset bytes))
+asked_by (line.Query a handle class) = Some (a, asked_on_handle handle (op.QueryFile class))
+asked_by (line.Set a handle class bytes) = Some (a, asked_on_handle handle (op.SetFile class bytes))
+asked_by (line.Volume a handle class) = Some (a, asked_on_handle handle (op.QueryVolume class))
+asked_by (line.SetVolume a handle class bytes) = Some (a, asked_on_handle handle (op.SetVolume class bytes))
+asked_by (line.Dir a handle class initial path) = Some (a, asked_on_handle handle (op.QueryDir class initial path))
+asked_by (line.Lock a handle operation wait ranges) = Some (a, asked_on_handle handle (op.Lock operation wait ranges))
+asked_by (line.Control a handle code output bytes) = Some (a, asked_on_handle handle (op.Control output code bytes))
+asked_by (line.Notify a handle tree filters) = Some (a, asked_on_handle handle (op.Notify tree filters))
 asked_by _ = None
 
 -- a line of an application waits after the others of that one
@@ -190,10 +190,6 @@ pub record Most : Type 0 where
   pub draws : ℕ
   pub rounds : ℕ
 
-abbrev pub and_then : Option WorldState → (WorldState → Option WorldState) → Option WorldState
-and_then None on = None
-and_then (Some w) on = on w
-
 -- the runs that find no memory, and the most steps
 module _ (starves : Key → Bool) (most : Most) where
   -- what comes of a `do` line, where its event can happen
@@ -225,7 +221,7 @@ module _ (starves : Key → Bool) (most : Most) where
 
   abbrev pub plays : List NumberedLine → WorldState → Option WorldState
   plays [] w = Some w
-  plays (l ∷ ls) w = and_then (plays_line w l) (plays ls)
+  plays (l ∷ ls) w = option_and_then (plays ls) (plays_line w l)
 
 -- ---- the beginning and the end
 
@@ -241,8 +237,8 @@ abbrev pub station_of : ℕ × Declared → ℕ × StationState DeviceState
 station_of e = (e.0, new_station (e.1).state)
 
 -- the devices that lines declare, with what is on them, by their ids
-abbrev pub devices_of : List Line → List (ℕ × Declared)
-devices_of lines = fold furnishing (fold declaring [] lines) lines
+abbrev pub declared_devices : List Line → List (ℕ × Declared)
+declared_devices lines = fold furnishing (fold declaring [] lines) lines
 
 -- a session before its first channel
 abbrev pub new_world : List (ℕ × Declared) → WorldState
@@ -270,27 +266,29 @@ new_world devices = record {
 
 -- the session that lines begin
 abbrev pub world_of : List NumberedLine → WorldState
-world_of lines = let ls = map (λ (l : NumberedLine). l.line) lines in fold setting (new_world (devices_of ls)) ls
+world_of lines = let ls = map (λ (l : NumberedLine). l.line) lines in fold setting (new_world (declared_devices ls)) ls
 
 -- whether an entry says that a request on a channel was left waiting, whose completion wasn't handed out
-abbrev pub is_left : List Item → ℕ → Item → Bool
-is_left journal channel (Ran key moment starved parked) = parked && (key.channel == channel && not (list_any (sends key) journal))
-is_left journal channel _ = false
+abbrev pub is_left_parked : List Item → ℕ → Item → Bool
+is_left_parked journal channel (Ran key moment starved parked) = parked && (key.channel == channel && not (list_any (sends key) journal))
+is_left_parked journal channel _ = false
 
 -- whether some device has such a request of the last channel
 abbrev pub some_left : WorldState → Bool
-some_left w = list_any (λ (e : ℕ × StationState DeviceState). let s = e.1 in list_any (is_left s.journal w.channels) s.journal) w.stations
+some_left w =
+    list_any (λ (e : ℕ × StationState DeviceState). let s = e.1 in list_any (is_left_parked s.journal w.channels) s.journal) w.stations
 
 -- after the last settling a channel on which a request waits is dropped, and what is queued then is issued
 abbrev pub ends_session : (Key → Bool) → Most → WorldState → Option WorldState
-ends_session starves most w = if is_open w && some_left w then settled starves most.draws (act starves w drop_channel) else Some w
+ends_session starves most w = if is_channel_open w && some_left w then settled starves most.draws (act starves w drop_channel) else Some w
 
 -- The session of a script's lines, in which these runs find no memory: a channel begins, the lines are played, and the session settles. There is none
 -- where so few draws and rounds don't do.
 abbrev pub run_of : Most → (Key → Bool) → List NumberedLine → Option WorldState
 run_of most starves lines =
     let begun = connects_on starves most (world_of lines) in
-    and_then (and_then (and_then begun (plays starves most lines)) (settled starves most.draws)) (ends_session starves most)
+    option_and_then (ends_session starves most)
+    (option_and_then (settled starves most.draws) (option_and_then (plays starves most lines) begun))
 
 -- The session of a script's lines comes to this world, where the runs find no memory of which its journals say so.
 abbrev pub WorldRun : List NumberedLine → WorldState → Type 0

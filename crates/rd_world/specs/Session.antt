@@ -10,7 +10,7 @@ use Rattle.rd_base.specs.declared.journal.Item.{Item}
 use Rattle.rd_base.specs.declared.journal.Item.TheVariants.{Ran}
 use Rattle.rd_base.specs.declared.journal.Key.{Key}
 use Rattle.rd_base.specs.History.{History}
-use Rattle.rd_base.specs.Lawful.{named_key}
+use Rattle.rd_base.specs.Lawful.{RunsAt, named_key}
 use Rattle.rd_drive.specs.Replies.{AreToldBy, last_state_by, replies_by}
 use Rattle.rd_irp.specs.declared.completion.Reply.{Reply}
 use Rattle.rd_irp.specs.declared.request.Request.{Request}
@@ -26,9 +26,9 @@ use Rattle.rd_world.specs.Control.{Control, Telling, controlled}
 use Rattle.rd_world.specs.Devices.{Declared, DeviceState, as_drive, as_printer, device_cut, device_step}
 use Rattle.rd_world.specs.Joining.{AreJoined, Joins}
 use Rattle.rd_world.specs.Lines.{HaveOutcomes, submitted}
-use Rattle.rd_world.specs.Recording.{IsRecorded, client_id, host_stand, no_request, recording_of, request_of}
+use Rattle.rd_world.specs.Recording.{IsRecorded, client_id, host_stand, no_request, recording_of_deeds, request_of}
 use Rattle.rd_world.specs.Report.{ordered}
-use Rattle.rd_world.specs.Run.{WorldRun, devices_of, world_of}
+use Rattle.rd_world.specs.Run.{WorldRun, declared_devices, world_of}
 use Rattle.rd_world.specs.Talk.{Deed, EachAfter, Has, answered, asked, client_read, client_wrote, completes, has_ended, host_read, host_wrote, is_request, journal, open_channel, request_at, stores}
 use Rattle.rd_world.specs.Told.{CompletesWith, IsHeeded, Replies}
 use Rattle.rd_world.specs.World.{WorldState, journals_in, station_at}
@@ -54,14 +54,9 @@ abbrev pub RanRead : List Deed → Item → Type 0
 RanRead deeds (Ran key moment starved parked) = (r : Request) × (request_at (client_read key.channel deeds) key.index ≡ Some r)
 RanRead deeds _ = Unit {0}
 
--- each run is at this moment
-abbrev pub RunsAt : ℕ → Item → Type 0
-RunsAt now (Ran key moment starved parked) = moment ≡ now
-RunsAt now _ = Unit {0}
-
 -- the key that the entry names is of a request that stands on the wire and names the device
-abbrev pub IsNamed : List Deed → ℕ → Item → Type 0
-IsNamed deeds device entry =
+abbrev pub IsOfDevice : List Deed → ℕ → Item → Type 0
+IsOfDevice deeds device entry =
     IfSome (named_key entry) (λ key. (r : Request) × (request_at (host_wrote key.channel deeds) key.index ≡ Some r) × (r.device ≡ device))
 
 -- An entry that names a key is stored while that key's channel is open.
@@ -73,7 +68,7 @@ IsStoredOpen before deed = Unit {0}
 -- session's moment, and the marks of its runs are those of the device.
 pub record AreJournals (moment : ℕ) (devices : List (ℕ × Declared)) (books : List (ℕ × History)) (deeds : List Deed) : Type 0 where
   pub each : map {B = ℕ × List Item} (λ (b : ℕ × History). (b.0, (b.1).items)) books ≡ map (λ (d : ℕ × Declared). (d.0, reverse (journal d.0 deeds))) devices
-  pub named : (device : ℕ) → All (IsNamed deeds device) (journal device deeds)
+  pub named : (device : ℕ) → All (IsOfDevice deeds device) (journal device deeds)
   pub on_open : EachAfter IsStoredOpen deeds
   pub still_clock : (device : ℕ) → All (RunsAt moment) (journal device deeds)
   pub marked : All (λ (d : ℕ × Declared). AreToldBy device_step device_cut (request_of deeds) (d.1).state (reverse (journal d.0 deeds))) devices
@@ -161,17 +156,18 @@ pub record IsRun (script : Script) (books : List (ℕ × History)) (told : Outco
 -- ---- the whole
 
 -- The moment of a script's session: what its last clock line says.
-abbrev pub moment_of : List NumberedLine → ℕ
-moment_of lines = (world_of lines).moment
+abbrev pub world_moment : List NumberedLine → ℕ
+world_moment lines = (world_of lines).moment
 
 -- A session of a script that came to its end: this recording, these journals and outcomes, and this output came of it.
-pub record IsSession (script : Script) (recording : List ℕ) (books : List (ℕ × History)) (told : Outcomes) (output : List ℕ) : Type 0 where
+pub record IsWholeSession (script : Script) (recording : List ℕ) (books : List (ℕ × History)) (told : Outcomes) (output : List ℕ)
+    : Type 0 where
   -- what both sides did, the newest first
   pub deeds : List Deed
   pub devices : List (ℕ × Declared)
-  pub devices_are : devices ≡ devices_of (map (λ (l : NumberedLine). l.line) script.lines)
+  pub devices_are : devices ≡ declared_devices (map (λ (l : NumberedLine). l.line) script.lines)
   pub wire : IsRecorded devices recording deeds
-  pub journals : AreJournals (moment_of script.lines) devices books deeds
+  pub journals : AreJournals (world_moment script.lines) devices books deeds
   -- what the joining law takes of it, and what the law says of it
   pub joined : AreJoined client_id (replies_in devices deeds) deeds
   pub joins : Joins client_id (replies_in devices deeds) deeds
@@ -190,5 +186,5 @@ pub record IsCutOff (lines : List NumberedLine) (written : List ℕ) (books : Li
   pub world : WorldState
   pub run : WorldRun lines world
   pub rest : List ℕ
-  pub recorded : recording_of world.deeds ≡ written ++ rest
+  pub recorded : recording_of_deeds world.deeds ≡ written ++ rest
   pub stored : All (λ (b : ℕ × List Item). (s : StationState DeviceState) × (later : List Item) × (station_at world b.0 ≡ Some s) × (s.journal ≡ b.1 ++ later)) books

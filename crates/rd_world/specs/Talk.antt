@@ -9,7 +9,7 @@ use Rattle.rd_base.specs.declared.journal.Key.{Key}
 use Rattle.rd_base.specs.declared.packet.Packet.TheVariants.{IoRequest}
 use Rattle.rd_base.specs.Layout.{met}
 use Rattle.rd_base.specs.Position.{Position, at_start}
-use Rattle.rd_client.specs.Core.{op_read, request_of}
+use Rattle.rd_client.specs.Core.{op_read, request_with_head}
 use Rattle.rd_devices.specs.declared.list.Announce.{Announce}
 use Rattle.rd_devices.specs.DeviceList.{device_list}
 use Rattle.rd_devices.specs.Removal.{removal}
@@ -108,7 +108,7 @@ abbrev pub request_in : List ℕ → Option Request
 request_in message = by (met request_head (at_start message))
   where
     by : Result (RequestHead × Position) Bad → Option Request
-    by (Ok read) = Some (request_of read.0 (op_read read.0 (met (body_after read.0) read.1)))
+    by (Ok read) = Some (request_with_head read.0 (op_read read.0 (met (body_after read.0) read.1)))
     by (Err bad) = None
 
 -- the head of the completion that a message is, if it is one
@@ -149,25 +149,25 @@ request_at (message ∷ older) index =
     if is_request message && length (filter is_request older) == index then request_in message else request_at older index
 
 -- whether a request, and whether a completion, has this device and completion id
-abbrev pub asks_pair : ℕ → ℕ → List ℕ → Bool
-asks_pair device id message = option_map_or (λ (r : Request). r.device == device && r.completion == id) (request_in message) false
+abbrev pub message_asks_pair : ℕ → ℕ → List ℕ → Bool
+message_asks_pair device id message = option_map_or (λ (r : Request). r.device == device && r.completion == id) (request_in message) false
 
-abbrev pub has_pair : ℕ → ℕ → List ℕ → Bool
-has_pair device id message = option_map_or (λ (h : Head). h.device == device && h.completion == id) (head_in message) false
+abbrev pub message_has_pair : ℕ → ℕ → List ℕ → Bool
+message_has_pair device id message = option_map_or (λ (h : Head). h.device == device && h.completion == id) (head_in message) false
 
 -- The indices of the requests with a pair among the messages that were read, and the indices that the completions with that pair answer; the newest
 -- first.
 abbrev pub indices_of : ℕ → ℕ → List (List ℕ) → List ℕ
 indices_of device id [] = []
 indices_of device id (message ∷ older) =
-    if is_request message && asks_pair device id message then length (filter is_request older) ∷ indices_of device id older
+    if is_request message && message_asks_pair device id message then length (filter is_request older) ∷ indices_of device id older
     else indices_of device id older
 
 abbrev pub asked : ℕ → ℕ → ℕ → List Deed → List ℕ
 asked c device id deeds = indices_of device id (client_read c deeds)
 
 abbrev pub answer_to : ℕ → ℕ → ℕ → Deed → Option ℕ
-answer_to c device id (completes key message) = if key.channel == c && has_pair device id message then Some key.index else None
+answer_to c device id (completes key message) = if key.channel == c && message_has_pair device id message then Some key.index else None
 answer_to c device id _ = None
 
 abbrev pub answered : ℕ → ℕ → ℕ → List Deed → List ℕ
@@ -216,7 +216,7 @@ until_begin c (deed ∷ before) = until_begin c before
 
 -- the second is what the first began with
 abbrev pub EndsWith : {A : Type 0} → List A → List A → Type 0
-EndsWith {A} whole part = (front : List A) × (whole ≡ front ++ part)
+EndsWith {A} whole part = (prefix : List A) × (whole ≡ prefix ++ part)
 
 abbrev pub Has : {A : Type 0} → A → List A → Type 0
 Has x [] = ⊥

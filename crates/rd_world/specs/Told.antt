@@ -8,15 +8,13 @@ use Rattle.rd_base.specs.declared.journal.Item.TheVariants.{Came, Cancelled, Sen
 use Rattle.rd_base.specs.declared.journal.Key.{Key}
 use Rattle.rd_devices.specs.declared.list.Announce.{Announce}
 use Rattle.rd_drive.specs.Outcome.{fault}
-use Rattle.rd_drive.specs.Replies.{KeyedReply}
-use Rattle.rd_drive.specs.Statuses.{insufficient_resources}
+use Rattle.rd_drive.specs.Replies.{KeyedReply, cancellation}
+use Rattle.rd_base.specs.Statuses.{insufficient_resources, no_such_device}
 use Rattle.rd_irp.specs.declared.completion.Head.{Head}
 use Rattle.rd_irp.specs.declared.completion.Reply.{Reply}
 use Rattle.rd_irp.specs.declared.request.Request.{Request}
 use Rattle.rd_irp.specs.Fits.{kind_of}
 use Rattle.rd_irp.specs.Completion.{SpellsBody, SpellsHead}
-use Rattle.rd_station.specs.Station.{cancellation}
-use Rattle.rd_world.specs.Hearing.{no_such_device}
 use Rattle.rd_world.specs.Talk.{EachAfter, EndsWith, Deed, Has, announced_in, client_read, client_wrote, client_writes, completes, head_in, is_request, journal, on, removed_in, request_at, request_in, stores}
 
 -- The replies that a device's journal gives, the oldest entry first: by the device's id.
@@ -134,7 +132,7 @@ ComesUnworn before _ = Unit {0}
 
 -- What a client tells: of each device on each channel the completions of the keys that came are those that its journal sent, in its order; the others
 -- are answers to the requests that never came, in the order of reading, up to some; and each is the answer to its own request.
-pub record IsTold (replies : Replies) (deeds : List Deed) : Type 0 where
+pub record AreAnswered (replies : Replies) (deeds : List Deed) : Type 0 where
   pub sent_in_order : (c device : ℕ) → filter (came c (journal device deeds)) (told c device deeds) ≡ sent c (journal device deeds)
   pub direct_in_order : (c device : ℕ) →
       EndsWith (unserved c device deeds (requests_to device (client_read c deeds))) (unserved c device deeds (told c device deeds))

@@ -4,8 +4,6 @@ use Rattle.std.specs.Prelude.{ℕ, zero, Bool, false, suc, ◌+◌, ◌&&◌, na
 use Rattle.std.specs.List.{list_any}
 use Rattle.std.specs.Map.{lookup}
 use Rattle.std.specs.Ordering.{nat_cmp}
-use Rattle.std.specs.Cmp.Lexicographic.{slice_cmp}
-use Rattle.std.specs.declared.cmp.Ordering.{Ordering}
 use Rattle.std.specs.BTreeMap.{insert_entry, is_at}
 use Rattle.std.specs.Option.{option_map_or, unwrap_or}
 use Rattle.rd_base.specs.declared.journal.Item.{Item}
@@ -18,7 +16,7 @@ use Rattle.rd_drive.specs.declared.plan.Job.{Job}
 use Rattle.rd_irp.specs.declared.op.Op.{Op}
 use Rattle.rd_pending.specs.declared.calls.Handle.{Handle}
 use Rattle.rd_pending.specs.Table.{TableState}
-use Rattle.rd_printer.specs.Cache.{CacheState}
+use Rattle.rd_printer.specs.Cache.{CacheState, bytes_cmp}
 use Rattle.rd_script.specs.declared.outcome.Outcome.{Outcome}
 use Rattle.rd_station.specs.Station.{StationState, is_key}
 use Rattle.rd_world.specs.Devices.{Declared, DeviceState}
@@ -133,11 +131,8 @@ abbrev pub with_application : WorldState → ℕ → Application → WorldState
 with_application w a application = record w { applications = insert_entry nat_cmp w.applications a application }
 
 -- the handle that a name holds
-abbrev pub name_cmp : List ℕ → List ℕ → Ordering
-name_cmp = slice_cmp nat_cmp
-
-abbrev pub handle_at : Application → List ℕ → Option Handle
-handle_at a name = lookup (is_at (name_cmp name)) a.handles
+abbrev pub handle_named : Application → List ℕ → Option Handle
+handle_named a name = lookup (is_at (bytes_cmp name)) a.handles
 
 -- the host's table
 abbrev pub with_table : WorldState → TableState → WorldState

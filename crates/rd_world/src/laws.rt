@@ -2,7 +2,7 @@
 
 ghost use Rattle.std.specs.Prelude.{◌≡◌, ◌≢◌, ◌++◌, ◌∷◌, ℕ, List, [], Some, codes, filter_map, map, true};
 ghost use Rattle.rd_base.specs.declared.journal.Cause.TheVariants.{Dropped, Removed};
-ghost use Rattle.rd_drive.specs.Statuses.{cancelled};
+ghost use Rattle.rd_base.specs.Statuses.{cancelled, no_such_device};
 ghost use Rattle.rd_base.specs.declared.journal.Item.{Item};
 ghost use Rattle.rd_base.specs.declared.journal.Key.{Key};
 ghost use Rattle.rd_irp.specs.declared.completion.Reply.{Reply};
@@ -19,10 +19,9 @@ ghost use Rattle.rd_script.specs.declared.outcome.Outcomes.{Outcomes};
 ghost use Rattle.rd_world.specs.Found.{AreFound, found_books, found_devices, found_drive, found_output, found_recording, found_script};
 ghost use Rattle.rd_world.specs.Lines.{IsDue};
 ghost use Rattle.rd_world.specs.Example.{close_reply, example_deeds, example_outcomes, example_replies, left_waiting, read_reply, watch, watch_reply};
-ghost use Rattle.rd_world.specs.Hearing.{no_such_device};
-ghost use Rattle.rd_world.specs.Joining.{AreJoined, CameTo, IsCarried, Joins};
+ghost use Rattle.rd_world.specs.Joining.{AreJoined, ClientCameTo, IsCarried, Joins};
 ghost use Rattle.rd_world.specs.Recording.{request_of};
-ghost use Rattle.rd_world.specs.Session.{IsSession, IsStoredOpen, RanRead, replies_in, replies_read};
+ghost use Rattle.rd_world.specs.Session.{IsStoredOpen, IsWholeSession, RanRead, replies_in, replies_read};
 ghost use Rattle.rd_world.specs.Talk.{Deed, client_read, client_writes, host_begins, host_ends, journal, removes, request_at, stores};
 ghost use Rattle.rd_world.specs.Told.{Replies};
 ghost use Rattle.rd_world.specs.Worked.{cached_bytes_announced, device_removed_and_added, drop_and_reconnect, idle_control_lines, notification_never_ended, notification_of_new_file, printer_cache_renamed, removal_before_sent_request, removal_under_work, removed_device_not_announced_again, sharing_violation, waiting_lock, done_in, reported, said_in, scripts, settles_in, standing, told_by_deeds};
@@ -71,7 +70,7 @@ pub fn joined_sides_agree()
 
 /// So over the devices of a script no request is done by a reply that says that it was cancelled, or that its device isn't there.
 pub fn losses_are_no_replies()
-    ensures { (client : ℕ) (devices : List (ℕ × Declared)) (deeds : List Deed) → AreJoined client (replies_in devices deeds) deeds → (a : Accepted) (reply : Reply) → CameTo client deeds a (Done reply) → (reply.status ≢ cancelled) × (reply.status ≢ no_such_device) }
+    ensures { (client : ℕ) (devices : List (ℕ × Declared)) (deeds : List Deed) → AreJoined client (replies_in devices deeds) deeds → (a : Accepted) (reply : Reply) → ClientCameTo client deeds a (Done reply) → (reply.status ≢ cancelled) × (reply.status ≢ no_such_device) }
 {}
 
 /// A key that was read names the same request by what the client read as by what the host wrote, and a device's journal whose runs are of such keys
@@ -93,7 +92,7 @@ pub fn a_session_is_joined()
 /// A whole session that is all that is promised: a script whose first channel ends while a read is under way, and whose device is removed, on its
 /// second channel, while another one is. So of its four lines two are done, one is lost by the drop and one by the removal.
 pub fn a_session_is_there()
-    ensures { (told : Outcomes) → AreFound told → IsSession found_script found_recording found_books told found_output }
+    ensures { (told : Outcomes) → AreFound told → IsWholeSession found_script found_recording found_books told found_output }
 {}
 
 /// Wrong turns of a session, each at the clause that refuses it.
@@ -106,7 +105,7 @@ pub fn wrong_turns_are_refused()
     ensures came_removed { ¬ (IsCutThere found_devices (stores 1 (Cut Removed) ∷ removes 1 ∷ host_begins 1 ∷ []) (stores 1 (Came (record { channel = 1; index = 0 })))) }
     // A removal is told before it is done.
     ensures told_early { ¬ (IsToldInTime (client_writes 1 (removal_bytes (1 ∷ [])) ∷ client_writes 1 (list_bytes (announce_of [] found_drive ∷ [])) ∷ host_begins 1 ∷ [])) }
-    // A line behind a `drop` line is issued before the drop, and another before the first channel is open.
+    // A line after a `drop` line is issued before the drop, and another before the first channel is open.
     ensures issued_early { ¬ (IsDue found_devices 2 (host_begins 1 ∷ [])) }
     ensures issued_unopened { ¬ (IsDue found_devices 0 []) }
 {}

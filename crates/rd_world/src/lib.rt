@@ -1,4 +1,10 @@
-//! Both sides of a session in one state.
+//! A whole session: both sides in one state, what was done in it, and what joins its sides.
+//!
+//! It stands on both ends, the table, the stations, the devices and the scripts. It is definitions with laws of them, and little code:
+//! `joined_sides_agree` is the joining law, `a_session_is_there` a session that meets every clause of one, and `found_told` makes the bytes
+//! of replies of which the clauses speak.
+//!
+//! Cost: nothing of it runs but `found_told`, once.
 #![tactic(auto)]
 
 mod found;

@@ -1,32 +1,41 @@
 //! `rdr`: both ends of Remote Desktop drive redirection.
 //!
-//! It makes the real input, output and notes, and leaves the rest to `command`.
+//! It makes the real input, output, recording and notes, a line each, and leaves the rest to `rd_cli::program`.
 #![tactic(auto)]
 
-mod command;
-mod words;
-
-use command::{Ended, command};
-use rd_base::{StdSink, StdSource};
+use rd_base::{FileSink, StdSink, StdSource};
+use rd_cli::{program, words_of};
 use std::fs::File;
 use std::io;
-use words::words_of;
+use std::process::ExitCode;
+
+/// Where the recording goes, in the current folder.
+const RECORDING: &str = "rdr.rec";
 
 /// A folder that every system has.
 const ROOT: &str = "/";
 
-fn main(rt: HostRuntime) -> Ended {
+fn main(rt: HostRuntime) -> ExitCode {
     // These take the lowest free descriptors, so that no file of ours stands in for a standard stream that is closed: a folder can
     // be neither read nor written.
     let _closed = [ROOT; 3].map(|path| File::open(&rt, path));
     let words = words_of(&rt);
     let mut input = StdSource::new(rt.reader());
     let mut output = StdSink::new(io::writer(&rt));
+    let mut recording = FileSink::new(&rt, RECORDING);
     let mut notes = StdSink::new(rt.stderr());
-    let ended = command(&rt, words, &mut input, &mut output, &mut notes);
+    let code = program(
+        rt.alloc(),
+        words,
+        &mut input,
+        &mut output,
+        &mut recording,
+        &mut notes,
+    );
     say_why(&rt, "standard input", input.last_error());
     say_why(&rt, "standard output", output.last_error());
-    ended
+    say_why(&rt, RECORDING, recording.last_error());
+    code
 }
 
 /// Says on the standard error which stream failed, and the system's reason.

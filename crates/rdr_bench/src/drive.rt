@@ -1,13 +1,14 @@
 //! How long a drive in memory takes for a request, from its plan to its reply, with one handle open and with many.
 
 use crate::figures::time_of_one;
-use crate::tree::units;
-use anyhow::{Result, bail, ensure};
+use crate::stop::{Stop, ensure};
+use crate::tree::{path_of, units};
 use rd_base::{Bytes, Key, Status, Units};
-use rd_dirinfo::{Naming, Path};
-use rd_drive::{Device, Ends, Job, MemoryDrive, Step, prepare};
+use rd_dirinfo::Naming;
+use rd_drive::{Device, Ends, Job, MemoryDrive, Plan, Step, prepare};
 use rd_irp::{Body, Op, Range, Ranges};
 use std::alloc::Global;
+use std::io;
 use std::time::{Duration, Instant};
 
 /// How many files the folder has.
@@ -82,41 +83,55 @@ impl Work {
     }
 
     /// One of the requests.
-    fn request(self, rt: &HostRuntime, k: u32) -> Result<Op> {
+    fn request(self, alloc: Global, k: u32) -> Result<Op, Stop> {
         match self {
-            Work::Open => Ok(open(units_of_file(rt, k)?)),
-            Work::Write => write(rt.alloc(), k),
+            Work::Open => open_file(alloc, k),
+            Work::Write => write(alloc, k),
             Work::Read => Ok(read(k)),
-            Work::List => list(rt, k),
-            Work::Lock => lock(rt.alloc(), k),
+            Work::List => list(alloc, k),
+            Work::Lock => lock(alloc, k),
         }
     }
 }
 
 /// Few requests of each kind, with one handle and with several.
-pub fn try_once(rt: &HostRuntime) -> Result<()> {
+pub fn try_once(rt: &HostRuntime) -> Result<(), Stop> {
     for handles in [1, 64] {
-        let mut bench = Bench::new(rt, handles)?;
-        for work in WORKS {
-            bench.time_of(rt, work, 1)?;
-        }
+        try_works(rt, handles)?;
         println!(rt; "requests of a drive, handles: {handles}")?;
     }
     Ok(())
 }
 
-/// Prints how long a request of each kind takes on average, with one handle open and with many.
-pub fn measure(rt: &HostRuntime) -> Result<()> {
-    for handles in [1, 4000] {
-        let mut bench = Bench::new(rt, handles)?;
-        for work in WORKS {
-            let time = bench.time_of(rt, work, ROUNDS)?;
-            let name = work.name();
-            let one = time_of_one(ROUNDS.saturating_mul(work.count()), time);
-            println!(rt; "handles: {handles}: {name} {one} ns")?;
-        }
+fn try_works(rt: &HostRuntime, handles: u32) -> Result<(), Stop> {
+    let mut bench = Bench::new(rt.alloc(), handles)?;
+    for work in WORKS {
+        bench.time_of(rt, work, 1)?;
     }
     Ok(())
+}
+
+/// Prints how long a request of each kind takes on average, with one handle open and with many.
+pub fn measure(rt: &HostRuntime) -> Result<(), Stop> {
+    for handles in [1, 4000] {
+        measure_works(rt, handles)?;
+    }
+    Ok(())
+}
+
+fn measure_works(rt: &HostRuntime, handles: u32) -> Result<(), Stop> {
+    let mut bench = Bench::new(rt.alloc(), handles)?;
+    for work in WORKS {
+        let time = bench.time_of(rt, work, ROUNDS)?;
+        print(rt, handles, work, time)?;
+    }
+    Ok(())
+}
+
+fn print(rt: &HostRuntime, handles: u32, work: Work, time: Duration) -> io::Result<()> {
+    let name = work.name();
+    let one = time_of_one(ROUNDS.saturating_mul(work.count()), time);
+    println!(rt; "handles: {handles}: {name} {one} ns")
 }
 
 /// A drive with a folder of files, and where the ends of requests go, of which none waits.
@@ -128,104 +143,131 @@ struct Bench {
 
 impl Bench {
     /// A drive on which all but one of so many handles are open.
-    fn new(rt: &HostRuntime, handles: u32) -> Result<Self> {
+    fn new(alloc: Global, handles: u32) -> Result<Self, Stop> {
         let mut bench = Bench {
-            drive: new_drive(rt)?,
-            ends: Ends::new(rt.alloc())?,
+            drive: new_drive(alloc)?,
+            ends: Ends::new(alloc)?,
         };
-        for k in 1..handles {
-            bench.open(rt, units_of_file(rt, k % FILES)?)?;
-        }
+        bench.open_many(alloc, handles)?;
         Ok(bench)
     }
 
+    fn open_many(&mut self, alloc: Global, handles: u32) -> Result<(), Stop> {
+        for k in 1..handles {
+            let op = open_file(alloc, k % FILES)?;
+            self.open(alloc, op)?;
+        }
+        Ok(())
+    }
+
     /// How long so many rounds of a work's requests take, on a handle of their own.
-    fn time_of(&mut self, rt: &HostRuntime, work: Work, rounds: u32) -> Result<Duration> {
-        let file = self.open(rt, units(rt, work.target())?)?;
+    fn time_of(&mut self, rt: &HostRuntime, work: Work, rounds: u32) -> Result<Duration, Stop> {
+        let op = open(units(rt.alloc(), work.target())?);
+        let file = self.open(rt.alloc(), op)?;
         let mut time = Duration::ZERO;
         for _ in 0..rounds {
-            let requests = requests(rt, work)?;
-            let started = Instant::now(rt)?;
-            self.run_all(rt.alloc(), file, requests)?;
-            time = time.saturating_add(started.elapsed(rt)?);
+            time = time.saturating_add(self.time_of_round(rt, work, file)?);
         }
-        self.run(rt.alloc(), file, Op::Close)?;
+        self.close(rt.alloc(), file)?;
         Ok(time)
     }
 
+    fn time_of_round(&mut self, rt: &HostRuntime, work: Work, file: u32) -> Result<Duration, Stop> {
+        let requests = requests(rt.alloc(), work)?;
+        let started = Instant::now(rt)?;
+        self.run_all(rt.alloc(), file, requests)?;
+        Ok(started.elapsed(rt)?)
+    }
+
     /// Runs requests on a handle. One that opens a file has it closed at once.
-    fn run_all(&mut self, alloc: Global, file: u32, requests: Vec<Op>) -> Result<()> {
+    fn run_all(&mut self, alloc: Global, file: u32, requests: Vec<Op>) -> Result<(), Stop> {
         for op in requests {
-            if let Body::Created { file, .. } = self.run(alloc, file, op)? {
-                self.run(alloc, file, Op::Close)?;
+            if let Some(opened) = self.run(alloc, file, op)? {
+                self.close(alloc, opened)?;
             }
         }
         Ok(())
     }
 
     /// Opens a file or a folder.
-    fn open(&mut self, rt: &HostRuntime, path: Units) -> Result<u32> {
-        match self.run(rt.alloc(), 0, open(path))? {
-            Body::Created { file, .. } => Ok(file),
-            _ => bail!("an open has another reply"),
+    fn open(&mut self, alloc: Global, op: Op) -> Result<u32, Stop> {
+        match self.run(alloc, 0, op)? {
+            Some(file) => Ok(file),
+            None => Err(Stop::Wrong("an open has another reply")),
         }
     }
 
-    /// Runs a request, which succeeds.
-    fn run(&mut self, alloc: Global, file: u32, op: Op) -> Result<Body> {
-        ensure!(self.ends.is_empty(), "a request waited");
+    fn close(&mut self, alloc: Global, file: u32) -> Result<(), Stop> {
+        self.run(alloc, file, Op::Close)?;
+        Ok(())
+    }
+
+    /// Runs a request, which succeeds, and returns the file that it opens, if it opens one.
+    fn run(&mut self, alloc: Global, file: u32, op: Op) -> Result<Option<u32>, Stop> {
         let key = Key {
             channel: 1,
             index: 0,
         };
-        let plan = prepare(
-            alloc,
-            Job {
-                key,
-                file,
-                completion: 0,
-                op,
-            },
-        );
+        let job = Job {
+            key,
+            file,
+            completion: 0,
+            op,
+        };
+        match self.apply(prepare(alloc, job))? {
+            Body::Created { file, .. } => Ok(Some(file)),
+            _ => Ok(None),
+        }
+    }
+
+    fn apply(&mut self, plan: Plan) -> Result<Body, Stop> {
+        ensure(self.ends.is_empty(), "a request waited")?;
         match self.drive.apply(plan, 0, &mut self.ends) {
-            Step::Reply(reply) => {
-                ensure!(reply.status == Status::SUCCESS, "a request was refused");
-                Ok(reply.body)
-            }
-            Step::Parked => bail!("a request waits"),
+            Step::Reply(reply) if reply.status == Status::SUCCESS => Ok(reply.body),
+            _ => Err(Stop::Wrong("a request waits or was refused")),
         }
     }
 }
 
 /// A drive with a folder of files.
-fn new_drive(rt: &HostRuntime) -> Result<MemoryDrive> {
-    let label = Units::of(Vec::new(rt.alloc()));
-    let mut drive = MemoryDrive::new(rt.alloc(), label, Naming::Exact)?;
-    drive.add_folder(&path(rt, units(rt, "\\d")?)?)?;
-    let nothing = Bytes::of(Vec::new(rt.alloc()));
+fn new_drive(alloc: Global) -> Result<MemoryDrive, Stop> {
+    let label = Units::of(Vec::new(alloc));
+    let mut drive = MemoryDrive::new(alloc, label, Naming::Exact)?;
+    add_folder(alloc, &mut drive)?;
     for k in 0..FILES {
-        drive.add_file(&path(rt, units_of_file(rt, k)?)?, &nothing)?;
+        add_file(alloc, &mut drive, k)?;
     }
     Ok(drive)
 }
 
-fn path(rt: &HostRuntime, units: Units) -> Result<Path> {
-    Ok(Path::split(rt.alloc(), units.as_slice())?)
+fn add_folder(alloc: Global, drive: &mut MemoryDrive) -> Result<(), Stop> {
+    let path = path_of(alloc, "\\d")?;
+    ensure(drive.add_folder(&path).is_ok(), "a folder can't be added")
 }
 
-/// The path of one of the files.
-fn units_of_file(rt: &HostRuntime, k: u32) -> Result<Units> {
-    let text = format!(in rt.alloc(); "\\d\\file{k}")?;
-    units(rt, text.as_str())
+fn add_file(alloc: Global, drive: &mut MemoryDrive, k: u32) -> Result<(), Stop> {
+    let text = format!(in alloc; "\\d\\file{k}")?;
+    let path = path_of(alloc, text.as_str())?;
+    let nothing = Bytes::of(Vec::new(alloc));
+    ensure(
+        drive.add_file(&path, &nothing).is_ok(),
+        "a file can't be added",
+    )
 }
 
 /// The requests of a round.
-fn requests(rt: &HostRuntime, work: Work) -> Result<Vec<Op>> {
-    let mut requests = Vec::new(rt.alloc());
+fn requests(alloc: Global, work: Work) -> Result<Vec<Op>, Stop> {
+    let mut requests = Vec::new(alloc);
     for k in 0..work.count() {
-        requests.push(work.request(rt, k)?)?;
+        requests.push(work.request(alloc, k)?)?;
     }
     Ok(requests)
+}
+
+/// Opens one of the files.
+fn open_file(alloc: Global, k: u32) -> Result<Op, Stop> {
+    let text = format!(in alloc; "\\d\\file{k}")?;
+    Ok(open(units(alloc, text.as_str())?))
 }
 
 /// Opens what is there, to read and write it, shared by all.
@@ -241,7 +283,7 @@ fn open(path: Units) -> Op {
     }
 }
 
-fn write(alloc: Global, k: u32) -> Result<Op> {
+fn write(alloc: Global, k: u32) -> Result<Op, Stop> {
     Ok(Op::Write {
         offset: u64::from(k) * u64::from(PIECE),
         bytes: Bytes::of(vec![in alloc; 0x5a; PIECE as usize]?),
@@ -256,9 +298,9 @@ fn read(k: u32) -> Op {
 }
 
 /// Asks for the first entry of the folder, or for the next.
-fn list(rt: &HostRuntime, k: u32) -> Result<Op> {
+fn list(alloc: Global, k: u32) -> Result<Op, Stop> {
     let initial = k == 0;
-    let path = units(rt, if initial { "\\d\\*" } else { "" })?;
+    let path = units(alloc, if initial { "\\d\\*" } else { "" })?;
     Ok(Op::QueryDir {
         class: BOTH_DIRECTORY,
         initial,
@@ -267,7 +309,7 @@ fn list(rt: &HostRuntime, k: u32) -> Result<Op> {
 }
 
 /// Locks a range, or unlocks the one that was locked before.
-fn lock(alloc: Global, k: u32) -> Result<Op> {
+fn lock(alloc: Global, k: u32) -> Result<Op, Stop> {
     let range = Range {
         offset: u64::from(k / 2) * 16,
         length: 16,

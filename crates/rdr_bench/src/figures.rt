@@ -1,6 +1,7 @@
 //! The figures that are printed.
 
-use std::time::Duration;
+use crate::stop::Stop;
+use std::time::{Duration, Instant};
 
 const MEGABYTE: u64 = 1_000_000;
 
@@ -10,7 +11,7 @@ pub fn rounds(megabytes: u32, bytes: usize) -> u64 {
 }
 
 /// Megabytes a second, where so many bytes were taken so often.
-pub fn speed(bytes: usize, rounds: u64, time: Duration) -> u128 {
+fn speed(bytes: usize, rounds: u64, time: Duration) -> u128 {
     let all = bytes as u128 * u128::from(rounds);
     all / time.as_micros().max(1)
 }
@@ -18,4 +19,19 @@ pub fn speed(bytes: usize, rounds: u64, time: Duration) -> u128 {
 /// Nanoseconds of one of so many.
 pub fn time_of_one(count: u32, time: Duration) -> u128 {
     time.as_nanos() / u128::from(count).max(1)
+}
+
+/// Megabytes a second, where so many bytes were taken so often since a moment.
+pub fn speed_since(
+    rt: &HostRuntime,
+    started: Instant,
+    bytes: usize,
+    rounds: u64,
+) -> Result<u128, Stop> {
+    Ok(speed(bytes, rounds, started.elapsed(rt)?))
+}
+
+/// Nanoseconds of one of so many since a moment.
+pub fn time_since(rt: &HostRuntime, started: Instant, count: u32) -> Result<u128, Stop> {
+    Ok(time_of_one(count, started.elapsed(rt)?))
 }

@@ -1,9 +1,10 @@
 //! How long it takes to lock a range of a file, to test one, to unlock one, and to release a file's locks.
 
-use crate::figures::time_of_one;
-use anyhow::{Result, ensure};
+use crate::figures::time_since;
+use crate::stop::{Stop, ensure};
 use rd_irp::Range;
 use rd_locks::{Locks, MAX_LOCKS};
+use std::io;
 use std::time::Instant;
 
 /// How many locks are unlocked, one by one, before the others are released.
@@ -13,74 +14,122 @@ const UNLOCKS: u32 = 4096;
 const OTHER: u32 = u32::MAX;
 
 /// Takes few locks on one file, and on several.
-pub fn try_once(rt: &HostRuntime) -> Result<()> {
+pub fn try_once(rt: &HostRuntime) -> Result<(), Stop> {
     for files in [1, 16] {
         let mut locks = Locks::new(rt.alloc());
-        lock_all(&mut locks, 64, files)?;
-        test_all(&locks, 64, files)?;
-        unlock_all(&mut locks, 32, files)?;
-        release_all(&mut locks, files);
-        ensure_free(&locks, 64, files)?;
+        try_few(&mut locks, files)?;
         println!(rt; "64 locks, files: {files}")?;
     }
     Ok(())
 }
 
+fn try_few(locks: &mut Locks, files: u32) -> Result<(), Stop> {
+    lock_all(locks, 64, files)?;
+    test_all(locks, 64, files)?;
+    unlock_all(locks, 32, files)?;
+    release_all(locks, files);
+    test_free(locks, 64, files)
+}
+
+/// Nanoseconds of each step.
+#[derive(Clone, Copy)]
+struct Times {
+    lock: u128,
+    test: u128,
+    unlock: u128,
+    release: u128,
+}
+
 /// Prints how long each step takes on average, where all locks are on one file, and where they are on many.
-pub fn measure(rt: &HostRuntime) -> Result<()> {
-    let count = MAX_LOCKS as u32;
+pub fn measure(rt: &HostRuntime) -> Result<(), Stop> {
     for files in [1, 4096] {
         let mut locks = Locks::new(rt.alloc());
-        let started = Instant::now(rt)?;
-        lock_all(&mut locks, count, files)?;
-        let lock = time_of_one(count, started.elapsed(rt)?);
-        let started = Instant::now(rt)?;
-        test_all(&locks, count, files)?;
-        let test = time_of_one(2 * count, started.elapsed(rt)?);
-        let started = Instant::now(rt)?;
-        unlock_all(&mut locks, UNLOCKS, files)?;
-        let unlock = time_of_one(UNLOCKS, started.elapsed(rt)?);
-        let started = Instant::now(rt)?;
-        release_all(&mut locks, files);
-        let release = time_of_one(files, started.elapsed(rt)?);
-        ensure_free(&locks, count, files)?;
-        println!(rt;
-            "{count} locks, files: {files}: lock {lock} ns, test {test} ns, unlock {unlock} ns, release {release} ns"
-        )?;
+        let times = times_of(rt, &mut locks, MAX_LOCKS as u32, files)?;
+        print(rt, MAX_LOCKS as u32, files, times)?;
     }
     Ok(())
 }
 
+fn print(rt: &HostRuntime, count: u32, files: u32, times: Times) -> io::Result<()> {
+    let Times {
+        lock,
+        test,
+        unlock,
+        release,
+    } = times;
+    println!(rt;
+        "{count} locks, files: {files}: lock {lock} ns, test {test} ns, unlock {unlock} ns, release {release} ns"
+    )
+}
+
+fn times_of(rt: &HostRuntime, locks: &mut Locks, count: u32, files: u32) -> Result<Times, Stop> {
+    let lock = lock_time(rt, locks, count, files)?;
+    let test = test_time(rt, locks, count, files)?;
+    let unlock = unlock_time(rt, locks, files)?;
+    let release = release_time(rt, locks, files)?;
+    test_free(locks, count, files)?;
+    Ok(Times {
+        lock,
+        test,
+        unlock,
+        release,
+    })
+}
+
+fn lock_time(rt: &HostRuntime, locks: &mut Locks, count: u32, files: u32) -> Result<u128, Stop> {
+    let started = Instant::now(rt)?;
+    lock_all(locks, count, files)?;
+    time_since(rt, started, count)
+}
+
+fn test_time(rt: &HostRuntime, locks: &Locks, count: u32, files: u32) -> Result<u128, Stop> {
+    let started = Instant::now(rt)?;
+    test_all(locks, count, files)?;
+    time_since(rt, started, count.saturating_mul(2))
+}
+
+fn unlock_time(rt: &HostRuntime, locks: &mut Locks, files: u32) -> Result<u128, Stop> {
+    let started = Instant::now(rt)?;
+    unlock_all(locks, UNLOCKS, files)?;
+    time_since(rt, started, UNLOCKS)
+}
+
+fn release_time(rt: &HostRuntime, locks: &mut Locks, files: u32) -> Result<u128, Stop> {
+    let started = Instant::now(rt)?;
+    release_all(locks, files);
+    time_since(rt, started, files)
+}
+
 /// Takes so many locks, one by one, on files in turn.
-fn lock_all(locks: &mut Locks, count: u32, files: u32) -> Result<()> {
+fn lock_all(locks: &mut Locks, count: u32, files: u32) -> Result<(), Stop> {
     for k in 0..count {
         let file = k % files.max(1);
-        locks.lock(file, file, true, &[range(k)])?;
+        if locks.lock(file, file, true, &[range(k)]).is_err() {
+            return Err(Stop::Wrong("a range can't be locked"));
+        }
     }
     Ok(())
 }
 
 /// Tests each locked range twice: its own file may write it, and another may not read it.
-fn test_all(locks: &Locks, count: u32, files: u32) -> Result<()> {
+fn test_all(locks: &Locks, count: u32, files: u32) -> Result<(), Stop> {
     for k in 0..count {
         let file = k % files.max(1);
-        let kept_out = !locks.may_read(file, OTHER, range(k));
-        ensure!(
-            kept_out && locks.may_write(file, file, range(k)),
-            "lock {k} does not stand"
-        );
+        let stands = locks.may_write(file, file, range(k))
+            && !locks.may_read(file, OTHER, range(k));
+        ensure(stands, "a lock does not stand")?;
     }
     Ok(())
 }
 
 /// Unlocks the first ranges, one by one.
-fn unlock_all(locks: &mut Locks, count: u32, files: u32) -> Result<()> {
+fn unlock_all(locks: &mut Locks, count: u32, files: u32) -> Result<(), Stop> {
     for k in 0..count {
         let file = k % files.max(1);
-        ensure!(
+        ensure(
             locks.unlock(file, file, &[range(k)]).is_ok(),
-            "lock {k} does not stand"
-        );
+            "a lock does not stand",
+        )?;
     }
     Ok(())
 }
@@ -93,12 +142,10 @@ fn release_all(locks: &mut Locks, files: u32) {
 }
 
 /// Tests that no range is locked any more.
-fn ensure_free(locks: &Locks, count: u32, files: u32) -> Result<()> {
+fn test_free(locks: &Locks, count: u32, files: u32) -> Result<(), Stop> {
     for k in 0..count {
-        ensure!(
-            locks.may_write(k % files.max(1), OTHER, range(k)),
-            "lock {k} still stands"
-        );
+        let free = locks.may_write(k % files.max(1), OTHER, range(k));
+        ensure(free, "a lock still stands")?;
     }
     Ok(())
 }

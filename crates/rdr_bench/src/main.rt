@@ -12,16 +12,17 @@ mod figures;
 mod frames;
 mod locks;
 mod script;
+mod stop;
 mod tree;
 mod turn;
 
-use anyhow::{Context, Result};
+use crate::stop::Stop;
 use std::env;
 
 /// How many megabytes go through a subject, where no word says it.
 const MEGABYTES: u32 = 500;
 
-fn main(rt: HostRuntime) -> Result<()> {
+fn main(rt: HostRuntime) -> Result<(), Stop> {
     let mut words = env::args(&rt)?.skip(1);
     let Some(subject) = words.next() else {
         try_all(&rt)?;
@@ -39,7 +40,7 @@ fn main(rt: HostRuntime) -> Result<()> {
 }
 
 /// Prints the figures of a subject, or of frames where only a number is given.
-fn measure(rt: &HostRuntime, subject: &str, megabytes: u32) -> Result<()> {
+fn measure(rt: &HostRuntime, subject: &str, megabytes: u32) -> Result<(), Stop> {
     match subject {
         "decode" => decode::measure(rt, megabytes),
         "contents" => contents::measure(rt, megabytes),
@@ -52,12 +53,15 @@ fn measure(rt: &HostRuntime, subject: &str, megabytes: u32) -> Result<()> {
     }
 }
 
-fn parse_megabytes(word: &str) -> Result<u32> {
-    word.parse::<u32>().context("the number of megabytes")
+fn parse_megabytes(word: &str) -> Result<u32, Stop> {
+    match word.parse::<u32>() {
+        Ok(number) => Ok(number),
+        Err(_) => Err(Stop::Words),
+    }
 }
 
 /// Runs each subject once.
-fn try_all(rt: &HostRuntime) -> Result<()> {
+fn try_all(rt: &HostRuntime) -> Result<(), Stop> {
     frames::try_once(rt)?;
     decode::try_once(rt)?;
     contents::try_once(rt)?;

@@ -1,9 +1,9 @@
 //! How long a call of a turn takes, beside a call of the same object in a `Mutex`, by one thread and by several at once.
 
-ghost use Rattle.std.specs.Prelude.{◌≡◌, ◌+◌, ◌%◌, ◌^◌};
+ghost use Rattle.std.specs.Prelude.{◌≡◌, ◌≤◌, ◌+◌, ◌%◌, ◌^◌};
 
 use crate::figures::time_of_one;
-use anyhow::{Result, anyhow, ensure};
+use crate::stop::{Stop, ensure};
 use rd_turn::{Caller, Object, Turn};
 use std::alloc::Global;
 use std::io::Print;
@@ -34,36 +34,55 @@ impl Object for Counter {
 }
 
 /// Few calls, by one, two and four threads.
-pub fn try_once<T: Print + Threads + Wait + Sync>(rt: &T, alloc: Global) -> Result<()> {
+pub fn try_once<T: Print + Threads + Wait + Sync>(rt: &T, alloc: Global) -> Result<(), Stop> {
     for threads in [1, 2, 4] {
-        let calls = 64;
-        let turn = count_by_turn(rt, alloc, threads, calls)?;
-        let mutex = count_by_mutex(rt, threads, calls);
-        ensure!(
-            turn == mutex && mutex == u64::from(threads * calls),
-            "{turn} calls of the turn, {mutex} of the mutex"
-        );
+        let turn = count_by_turn(rt, alloc, threads, 64)?;
+        let mutex = count_by_mutex(rt, threads, 64);
+        ensure(
+            turn == mutex && mutex == u64::from(threads * 64),
+            "a call was lost",
+        )?;
         println!(rt; "{turn} calls of a turn, threads: {threads}")?;
     }
     Ok(())
 }
 
 /// Prints how long one call takes on average, from the beginning of the threads to the end of the last.
-pub fn measure<T: Clock + Print + Threads + Wait + Sync>(rt: &T, alloc: Global) -> Result<()> {
+pub fn measure<T: Clock + Print + Threads + Wait + Sync>(
+    rt: &T,
+    alloc: Global,
+) -> Result<(), Stop> {
     for threads in [1, 2, 4] {
-        let started = Instant::now(rt)?;
-        let counted = count_by_turn(rt, alloc, threads, CALLS)?;
-        let turn = time_of_one(threads * CALLS, started.elapsed(rt)?);
-        let started = Instant::now(rt)?;
-        let also_counted = count_by_mutex(rt, threads, CALLS);
-        let mutex = time_of_one(threads * CALLS, started.elapsed(rt)?);
-        ensure!(
-            counted == also_counted && counted == u64::from(threads * CALLS),
-            "{counted} calls of the turn, {also_counted} of the mutex"
-        );
+        let turn = turn_time(rt, alloc, threads)?;
+        let mutex = mutex_time(rt, threads)?;
+        let counted = threads * CALLS;
         println!(rt; "{counted} calls, threads: {threads}: turn {turn} ns, mutex {mutex} ns")?;
     }
     Ok(())
+}
+
+fn turn_time<T: Clock + Threads + Wait + Sync>(
+    rt: &T,
+    alloc: Global,
+    threads: u32,
+) -> Result<u128, Stop>
+    requires { threads ≤ 4 }
+{
+    let started = Instant::now(rt)?;
+    let counted = count_by_turn(rt, alloc, threads, CALLS)?;
+    let time = started.elapsed(rt)?;
+    ensure(counted == u64::from(threads * CALLS), "a call was lost")?;
+    Ok(time_of_one(threads * CALLS, time))
+}
+
+fn mutex_time<T: Clock + Threads + Wait + Sync>(rt: &T, threads: u32) -> Result<u128, Stop>
+    requires { threads ≤ 4 }
+{
+    let started = Instant::now(rt)?;
+    let counted = count_by_mutex(rt, threads, CALLS);
+    let time = started.elapsed(rt)?;
+    ensure(counted == u64::from(threads * CALLS), "a call was lost")?;
+    Ok(time_of_one(threads * CALLS, time))
 }
 
 /// Counts by so many threads at once, each with a pass of its own.
@@ -72,9 +91,9 @@ fn count_by_turn<T: Threads + Wait + Sync>(
     alloc: Global,
     threads: u32,
     calls: u32,
-) -> Result<u64> {
+) -> Result<u64, Stop> {
     let Ok((turn, mut pass)) = Turn::new(alloc, Counter { count: 0 }) else {
-        return Err(anyhow!("there was no memory"));
+        return Err(Stop::Memory);
     };
     let start = Barrier::new(threads as usize);
     let a = Caller::new(&turn, turn.split(&mut pass));

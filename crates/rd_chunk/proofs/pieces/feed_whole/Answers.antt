@@ -1,7 +1,7 @@
 use Rattle.std.proofs.Common.{◌≡◌, ◌≤◌, ℕ, ◌+◌, ◌-◌, ◌++◌, ◌∷◌, [], List, take, drop, sym, ◌∙◌, arith, length, None, subst, length-take, length-drop}
 use Rattle.std.proofs.lemmas.Result.{err_from_is_err_and}
-use Rattle.rd_chunk.proofs.TakesLemmas.{for_bad}
-use Rattle.rd_chunk.proofs.HasJoinedLemmas.{joined_on, joined_took, joined_fault, at_piece, all_piece}
+use Rattle.rd_chunk.proofs.TakesLemmas.{for_bad, at_piece}
+use Rattle.rd_chunk.proofs.HasJoinedLemmas.{joined_on, joined_took, joined_fault, all_piece}
 use Rattle.rd_chunk.specs.Standing.{Held, HasJoined, BringsFault}
 use Rattle.rd_chunk.specs.Streams.{IsFaultOf}
 use Rattle.rd_chunk.specs.declared.fault.ChunkBad.{ChunkBad}

@@ -4,14 +4,14 @@ use Rattle.std.proofs.lemmas.List.{take_all}
 use Rattle.std.proofs.lemmas.Result.{err_from_is_err_and}
 use Rattle.rd_chunk.proofs.TakesLemmas.{for_bad}
 use Rattle.rd_chunk.proofs.HasJoinedLemmas.{pieces_on, piece_fault, only_memory, joined_stream, sent_are}
-use Rattle.rd_chunk.specs.Standing.{HasJoined, ForBad}
+use Rattle.rd_chunk.specs.Standing.{HasJoined, ForFeedBad}
 use Rattle.rd_chunk.specs.Streams.{IsStream, IsFaultOf}
 use Rattle.rd_chunk.specs.declared.fault.ChunkBad.{ChunkBad}
 use Rattle.rd_chunk.proofs.pieces.join_pieces.Goals as goal
 use Rattle.rd_chunk.proofs.pieces.join_pieces.Goals.{After-drop-joiner-inside}
 
 -- the returned fault is one of all pieces
-fault_is : (c : After-drop-joiner-inside) → ForBad (IsFaultOf (concat c.args.pieces.now)) c.in_err-feed_whole.field-0.0
+fault_is : (c : After-drop-joiner-inside) → ForFeedBad (IsFaultOf (concat c.args.pieces.now)) c.in_err-feed_whole.field-0.0
 fault_is c =
     for_bad c.in_err-feed_whole.field-0.0
     (λ (bad : ChunkBad). (bytes : List ℕ) → HasJoined c.loop-piece.joiner c.loop-piece.messages.items bytes → IsFaultOf (bytes ++ c.as_slice.result.now) bad)

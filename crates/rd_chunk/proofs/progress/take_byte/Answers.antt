@@ -1,8 +1,9 @@
 use Rattle.std.proofs.Common.{◌≡◌, ◌∷◌, [], arith, length, ap, length-append, sym, ◌∙◌, inl, inr, ◌⊎◌}
 use Rattle.std.proofs.lemmas.Bool.{cases_eq}
 use Rattle.rd_chunk.specs.Kept.{head_of}
-use Rattle.rd_chunk.proofs.TakesLemmas.{byte_in_range, byte_takes, byte_faulty, not_both}
+use Rattle.rd_chunk.proofs.TakesLemmas.{byte_in_range, byte_takes, byte_faulty}
 use Rattle.rd_chunk.proofs.progress.take_byte.Goals as goal
+use Rattle.rd_chunk.proofs.FrameLemmas.{some_is_some}
 
 pub returns-in-None : goal.returns-in-None
 returns-in-None c =
@@ -31,7 +32,7 @@ returns-in-Some c =
       | inl four ↦ inl four
       | inr ne ↦ elim (cases_eq next.result.have 12) [
         | inl twelve ↦ inr twelve
-        | inr other ↦ absurd (not_both c.fault.result c.in-Some.row (c.fault.ensures.other ne other) c.in-Some.is)
+        | inr other ↦ absurd (some_is_some c.fault.result c.in-Some.row c.in-Some.is (c.fault.ensures.other ne other))
       ]
     ] in
     record {

@@ -1,7 +1,7 @@
 use Rattle.std.proofs.Common.{◌≡◌, ◌∙◌, ◌++◌, ◌∷◌, [], List, length, refl, sym, ap, arith, append-nil}
 use Rattle.std.proofs.lemmas.List.{length-append, nil_from_length}
 use Rattle.rd_script.specs.declared.outcome.Outcome.{Outcome}
-use Rattle.rd_cli.specs.Headline.{numbered_from}
+use Rattle.rd_script.specs.Report.{numbered_from}
 use Rattle.rd_cli.proofs.ReportedLemmas.{told_more}
 use Rattle.rd_cli.proofs.both.numbered.Goals as goal
 
@@ -59,7 +59,7 @@ returns c =
     let none : rest.items ≡ [] = nil_from_length rest.items (omega (arith, rest.ok, c.in-None.ensures.steps.0)) in
     let all = told.1 ∙ ap (λ (l : List Outcome). told.0 ++ l) none ∙ append-nil told.0 in
     record {
-      lines = told.3 ∙ ap (numbered_from 1) (sym all);
+      lines = told.3 ∙ ap (numbered_from 1 1) (sym all);
       idle = c.loop-outcome.invariant.idle;
       documents = c.loop-outcome.invariant.documents;
       cache = c.loop-outcome.invariant.cache;

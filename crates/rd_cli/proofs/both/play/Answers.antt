@@ -8,7 +8,7 @@ use Rattle.rd_session.specs.declared.scene.Scene.{Scene}
 use Rattle.rd_session.specs.Asking.{AsksPlayable, CanBeSent, HandleOp}
 use Rattle.rd_session.specs.Early.{EndedEarly}
 use Rattle.rd_session.specs.Opening.{AreMakable}
-use Rattle.rd_session.specs.Recording.{Entry, entry_bytes}
+use Rattle.rd_session.specs.Recording.{Entry, bytes_of_entry}
 use Rattle.rd_session.specs.Session.{IsSession}
 use Rattle.rd_session.proofs.OpeningLemmas.{opening_quiet}
 use Rattle.rd_session.proofs.PlayedLemmas.{playable}
@@ -55,5 +55,5 @@ returns-clause-played g c =
     let asks = rw c.as_slice-lines.ensures at c.in_ok-asks.ensures in
     let device = rw c.as_slice-lines.ensures at c.device_of.ensures in
     let session = subst (λ (l : List HandleOp). (recorded : List Entry) × IsSession c.scene_of.result c.in_ok-drive.drive l c.in-Ok-run_session.session.outcomes.items c.in-Ok-run_session.session.journal.items recorded ×
-    Appends (g.R.Sink.held c.begin_recording.new.recording) (g.R.Sink.held c.run_session.new.wire) (flat_map entry_bytes recorded)) asks c.in-Ok-run_session.ensures.session in
+    Appends (g.R.Sink.held c.begin_recording.new.recording) (g.R.Sink.held c.run_session.new.wire) (flat_map bytes_of_entry recorded)) asks c.in-Ok-run_session.ensures.session in
     script_played c.args.script.now _ _ _ _ c.in-Ok-run_session.session.journal _ _ _ _ scene drive device c.in-Ok.ensures.begun session (c.in-Ok-run_session.ensures.counted ∙ c.in-Ok.ensures.counted) c.in_ok-store.ensures

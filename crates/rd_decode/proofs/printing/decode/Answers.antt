@@ -1,6 +1,6 @@
 use Rattle.std.proofs.Common.{rules, ◌≡◌, ◌+◌, ◌-◌, ℕ, length, take, drop, None, length-append, refl, sym, ap, ◌∙◌, arith}
 use Rattle.std.proofs.lemmas.List.{drop-drop}
-use Rattle.rd_decode.specs.Kept.{open_channel}
+use Rattle.rd_decode.specs.Kept.{kept_channel}
 use Rattle.rd_decode.proofs.MessageLemmas.{slice_from}
 use Rattle.rd_decode.proofs.PrintingLemmas.{begun, ends_after, ends_at_begin, ends_at_limit, ends_err, ends_taking, ends_unread_as, ends_unwritten_as, flushed, goes_on, printing_same, taken_step}
 use Rattle.rd_decode.proofs.printing.decode.Goals as goal
@@ -14,7 +14,7 @@ pub loop-count-init : goal.loop-count-init
 loop-count-init g c =
     let e = c.in_ok-held.ensures in
     let count : length (c.in_ok-held.held).items ≡ c.len-read.result = search rules in
-    let channel : None ≡ open_channel c.new-decoder.result.channel = search rules in
+    let channel : None ≡ kept_channel c.new-decoder.result.channel = search rules in
     let first = begun _ _ _ (c.in_ok-held.held).items e.read e.begins.0 e.begins.1 in
     (printing_same _ _ _ _ _ _ _ _ _ _ _ _ _ _ count (sym c.new-decoder.ensures.at) channel (sym c.new-decoder.ensures.text) refl first, e.begins.0, omega (arith, e.few, count))
 
@@ -23,7 +23,7 @@ pub returns-in-Err : goal.returns-in-Err
 returns-in-Err g c =
     let so_far = c.loop-count.invariant in
     let slice = slice_from c.loop-count.taken c.deref.result.now ∙ ap (drop c.loop-count.taken) c.deref.ensures.value in
-    ends_taking _ _ _ _ _ _ _ _ _ (open_channel c.take_all.new.self.channel) _ _ _ _ _ c.in-Err.no _ so_far.0 so_far.2 slice c.in-Err.ensures c.as_str.ensures.value c.print_before.ensures
+    ends_taking _ _ _ _ _ _ _ _ _ (kept_channel c.take_all.new.self.channel) _ _ _ _ _ c.in-Err.no _ so_far.0 so_far.2 slice c.in-Err.ensures c.as_str.ensures.value c.print_before.ensures
 
 -- src/printing.rt:34:9
 pub returns-in_err-flush_full : goal.returns-in_err-flush_full

@@ -9,9 +9,9 @@ one_more all kept name parts others at so_far cut =
 
 pub loop-rest-init : goal.loop-rest-init
 loop-rest-init c = (
-  length c.args.units.now - length c.without_front-rest.result.now,
-  ap (map (λ (part : Part). part.name)) c.without_front-rest.ensures.parts
-      ∙ ap (λ (kept : List Name). kept ++ map (λ (part : Part). part.name) (rest_parts (length c.args.units.now - length c.without_front-rest.result.now) c.without_front-rest.result.now)) (sym c.new-names.ensures.items),
+  length c.args.units.now - length c.without_first_backslash-rest.result.now,
+  ap (map (λ (part : Part). part.name)) c.without_first_backslash-rest.ensures.parts
+      ∙ ap (λ (kept : List Name). kept ++ map (λ (part : Part). part.name) (rest_parts (length c.args.units.now - length c.without_first_backslash-rest.result.now) c.without_first_backslash-rest.result.now)) (sym c.new-names.ensures.items),
 )
 
 pub loop-rest-preserved : goal.loop-rest-preserved

@@ -1,4 +1,3 @@
-use Rattle.rd_base.proofs.ResultLemmas.{on_ok_of}
 use Rattle.rd_hello.proofs.CapabilityLemmas.{general_spelled}
 use Rattle.rd_hello.proofs.capability.put_general.Goals as goal
 
@@ -6,5 +5,5 @@ pub returns-clause-spelled : goal.returns-clause-spelled
 returns-clause-spelled c =
     let system = c.put_system.ensures.fits in
     let codes = c.put_codes.ensures.fits in
-    on_ok_of c.put_special.result λ _. general_spelled c.args.general.now
+    general_spelled c.args.general.now
     (record { os = system.0; os_version = system.1; minor = system.2; codes = codes.0; codes2 = codes.1; extended = codes.2; extra = codes.3; extra2 = codes.4 }) c.put_special.ensures.fits

@@ -13,7 +13,7 @@ use Rattle.rd_printer.specs.Notice.{add_event, update_event, delete_event, renam
 use Rattle.rd_base.specs.declared.packet.Packet.{Packet}
 use Rattle.rd_base.specs.declared.packet.Packet.TheVariants as packet
 use Rattle.rd_core.specs.Hearing.{IsSoundTo, is_read_in, said}
-use Rattle.rd_host.specs.Core.{asks_at, host_side}
+use Rattle.rd_host.specs.Core.{host_asks_at, host_side}
 use Rattle.rd_host.specs.Worked.{host, ready, short_head}
 use Rattle.rd_host.proofs.laws.hosts_want_memory.Goals as goal
 
@@ -26,7 +26,7 @@ unfolding component_field header header_among count_to counted counted_bytes two
 returns-clause-short_head c = λ step.
     let lack = step.0 in
     let is : packet.IoCompletion ≡ lack.packet = cc lack.named in
-    let at : Some 16 ≡ Some lack.place = subst (λ (p : Packet). asks_at p ≡ Some lack.place) (sym is) lack.asks in
+    let at : Some 16 ≡ Some lack.place = subst (λ (p : Packet). host_asks_at p ≡ Some lack.place) (sym is) lack.asks in
     let same : 16 ≡ lack.place = cc at in
     let before : 16 ≤ 4 = subst (λ (n : ℕ). IsSoundTo host_side n (said host_side (ready.core).shake short_head)) (sym same) lack.none_before in
     absurd (omega (arith, before))

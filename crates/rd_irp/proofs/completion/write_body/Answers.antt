@@ -6,4 +6,4 @@ pub returns-clause-written : goal.returns-clause-written
 returns-clause-written c = search rules
 
 pub returns-clause-spelled : goal.returns-clause-spelled
-returns-clause-spelled c = λ status fits. rw (returns-clause-written c) (body_spelled c.args.kind status c.args.body.now fits c.in_ok-put_body.ensures.in_range)
+returns-clause-spelled c = λ status fits. rw (returns-clause-written c) (body_spelled c.args.kind status c.args.body.now fits c.append_body.ensures.in_range)

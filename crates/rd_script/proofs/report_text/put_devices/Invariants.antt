@@ -1,7 +1,7 @@
 use Rattle.std.proofs.Common.{◌≡◌, ◌++◌}
 use Rattle.std.specs.List.{flat_map}
 use Rattle.std.specs.String.{string_bytes}
-use Rattle.rd_script.specs.Asking.{devices_of}
+use Rattle.rd_script.specs.ReportLines.{devices_of}
 use Rattle.rd_script.specs.Report.{device_lines, listed_line}
 use Rattle.rd_script.proofs.report_text.put_devices.Given as goal
 

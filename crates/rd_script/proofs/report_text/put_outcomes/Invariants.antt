@@ -1,7 +1,7 @@
 use Rattle.std.proofs.Common.{◌≡◌, ◌++◌}
 use Rattle.std.specs.List.{flat_map}
 use Rattle.std.specs.String.{string_bytes}
-use Rattle.rd_script.specs.Asking.{kinds_of}
+use Rattle.rd_script.specs.ReportLines.{kinds_of}
 use Rattle.rd_script.specs.Report.{outcome_line, AreOfLines}
 use Rattle.rd_script.proofs.report_text.put_outcomes.Given as goal
 

@@ -14,7 +14,7 @@ loop-frame-init c = record {
   );
 }
 
--- a mark and a frame behind what was gathered
+-- a mark and a frame after what was gathered
 behind : (opened entries before marked after frame : List ℕ) (sign : ℕ) → before ≡ opened ++ entries → marked ≡ before ++ sign ∷ [] → after ≡ marked ++ frame → after ≡ opened ++ ((entries ++ sign ∷ []) ++ frame)
 behind opened entries before marked after frame sign is marked_is after_is =
     after_is ∙ ap (λ (l : List ℕ). l ++ frame) (marked_is ∙ ap (λ (l : List ℕ). l ++ sign ∷ []) is ∙ append_assoc opened entries (sign ∷ [])) ∙ append_assoc opened (entries ++ sign ∷ []) frame

@@ -2,7 +2,7 @@ use Rattle.std.proofs.Common.{◌≡◌, ◌≤◌, ◌-◌, ◌++◌, drop, tak
 use Rattle.rd_session.specs.Served.{first_lines}
 use Rattle.rd_session.proofs.served.first_lines.Given as goal
 
--- the lines that are left stand behind the bytes that were gone over
+-- the lines that are left stand after the bytes that were gone over
 abbrev pub invariant-loop-left : goal.invariant-loop-left
 invariant-loop-left l = record {
   within : l.end ≤ length l.text;

@@ -3,7 +3,7 @@ use Rattle.rd_session.specs.Channel.{IsIdle, IsReady, ends_of}
 use Rattle.rd_session.proofs.SoFar.{Lines}
 use Rattle.rd_session.proofs.session.run_session.Given as goal
 
--- No fault of the wire was counted so far, both joiners are between two messages, nothing waits, and the session stands behind the lines that ended.
+-- No fault of the wire was counted so far, both joiners are between two messages, nothing waits, and the session stands after the lines that ended.
 abbrev pub invariant-loop-ask : goal.invariant-loop-ask
 invariant-loop-ask g l = record {
   counted : g.R.Sink.faults l.wire ≡ g.R.Sink.faults l.fn.wire;

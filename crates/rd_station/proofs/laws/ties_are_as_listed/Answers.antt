@@ -2,10 +2,9 @@ use Rattle.std.proofs.Common.{refl, ap, inl, inr, List, ◌∷◌, [], arith}
 use Rattle.std.proofs.lemmas.List.Elements.{All-head}
 use Rattle.rd_base.specs.declared.journal.Item.TheVariants.{Cancelled}
 use Rattle.rd_irp.specs.declared.completion.Kind.TheVariants as kind
-use Rattle.rd_drive.specs.Replies.{KeyedReply, replies_by}
+use Rattle.rd_drive.specs.Replies.{IsAnswer, KeyedReply, cancellation, replies_by}
 use Rattle.rd_station.specs.declared.answers.Completion.{Completion}
-use Rattle.rd_station.specs.Station.{cancellation}
-use Rattle.rd_station.specs.Tied.{IsAnswer, IsTied}
+use Rattle.rd_station.specs.Tied.{IsTied}
 use Rattle.rd_station.specs.Worked.{both_ready, counts_settled, counts_step, given_up, key, request_at}
 use Rattle.rd_station.proofs.Members.{Has, all_of, from_contains, to_contains}
 use Rattle.rd_station.proofs.laws.ties_are_as_listed.Goals as goal

@@ -1,8 +1,8 @@
 use Rattle.std.proofs.Common.{◌≡◌, ◌≤◌, All, Some, ◌++◌, ◌∷◌, [], refl, sym, ap, ◌∙◌, subst}
+use Rattle.std.proofs.lemmas.Option.{same_Some}
 use Rattle.rd_turn.specs.History.{Leads, entry, calls_of}
 use Rattle.rd_turn.specs.Seats.{pass_of, Rests}
 use Rattle.rd_turn.proofs.HistoryLemmas.{are_others, calls_of_more, calls_of_none}
-use Rattle.rd_turn.proofs.ChangeLemmas.{some_same}
 use Rattle.rd_turn.proofs.CallLemmas.{one_held, done, has_called, is_passed, leads_on, one_more, known_on}
 use Rattle.rd_turn.proofs.steps.call.Goals as goal
 
@@ -39,7 +39,7 @@ returns g c =
     let made = done g.O.Object.steps v c.draw-ticket.result call reply _ _ _ _ _ _ _ drawn.view comes taken.2 taken.3 given.3 c.in-Some.is c.call-reply.ensures in
     let after = is_passed g.O.Object.steps _ _ _ _ _ _ _ made c.pass_on.ensures.view in
     let seen = ap (λ m. m.0.seen) after ∙ ap (λ l. l ++ entry v.number call reply ∷ []) made.grown in
-    let opened = some_same made.first c.args.table.now.key.value (sym made.opened ∙ c.requires.opening) in
+    let opened = same_Some made.first c.args.table.now.key.value (sym made.opened ∙ c.requires.opening) in
     let leads = subst (λ o. Leads g.O.Object.steps o (made.seen ++ entry v.number call reply ∷ []) c.call-reply.new.self) opened (leads_on g.O.Object.steps _ _ _ _ _ _ made) in
     record {
       rests = subst Rests (sym after) record {

@@ -2,7 +2,7 @@ use Rattle.std.proofs.Common.{◌≡◌, ◌+◌, ◌-◌, ℕ, List, [], ◌++�
 use Rattle.std.proofs.lemmas.List.{append-nil, drop-drop, length-drop}
 use Rattle.std.specs.String.{string_bytes}
 use Rattle.rd_decode.specs.Entries.{entry, next_entry, wrong}
-use Rattle.rd_decode.specs.Kept.{GoesOn, TakesEntry, open_channel}
+use Rattle.rd_decode.specs.Kept.{GoesOn, TakesEntry, kept_channel}
 use Rattle.rd_decode.specs.declared.fault.LineNo.{LineNo}
 use Rattle.rd_decode.proofs.MessageLemmas.{slice_from}
 use Rattle.rd_decode.proofs.GoesOnLemmas.{entry_stays, goes_further, goes_nowhere}
@@ -18,10 +18,10 @@ loop-size-preserved c =
     let so_far = c.loop-size.invariant in
     let rest = drop c.loop-size.taken c.args.bytes.now in
     let slice = take (length c.args.bytes.now - c.loop-size.taken) (drop c.loop-size.taken c.args.bytes.now) in
-    let before = open_channel c.loop-size.self.channel in
-    let taken = subst (λ (o : Option ℕ). TakesEntry (next_entry before slice) before (open_channel c.take_entry.new.channel) (string_bytes c.loop-size.self.text) (string_bytes c.take_entry.new.text) (Ok o)) c.in-Ok-Some.field-0-is c.in-Ok-Some.ensures in
-    let next = subst (λ (xs : List ℕ). next_entry before xs ≡ entry c.in-Ok-Some.size (open_channel c.take_entry.new.channel) taken.0) (slice_from c.loop-size.taken c.args.bytes.now) taken.1 in
-    let own = entry_stays before rest [] c.in-Ok-Some.size (open_channel c.take_entry.new.channel) taken.0 next in
+    let before = kept_channel c.loop-size.self.channel in
+    let taken = subst (λ (o : Option ℕ). TakesEntry (next_entry before slice) before (kept_channel c.take_entry.new.channel) (string_bytes c.loop-size.self.text) (string_bytes c.take_entry.new.text) (Ok o)) c.in-Ok-Some.field-0-is c.in-Ok-Some.ensures in
+    let next = subst (λ (xs : List ℕ). next_entry before xs ≡ entry c.in-Ok-Some.size (kept_channel c.take_entry.new.channel) taken.0) (slice_from c.loop-size.taken c.args.bytes.now) taken.1 in
+    let own = entry_stays before rest [] c.in-Ok-Some.size (kept_channel c.take_entry.new.channel) taken.0 next in
     let len : length rest ≡ length c.args.bytes.now - c.loop-size.taken = length-drop c.loop-size.taken c.args.bytes.now in
     let further = goes_further _ _ _ so_far.0 _ _ rest _ _ taken.0 so_far.3 next in (
       so_far.0 ++ taken.0,
@@ -35,7 +35,7 @@ pub returns-in-Err-Bad : goal.returns-in-Err-Bad
 returns-in-Err-Bad c =
     let so_far = c.loop-size.invariant in
     let rest = take (length c.args.bytes.now - c.loop-size.taken) (drop c.loop-size.taken c.args.bytes.now) in
-    let before = open_channel c.loop-size.self.channel in
-    let faulty = subst (λ (e : LineNo). TakesEntry (next_entry before rest) before (open_channel c.take_entry.new.channel) (string_bytes c.loop-size.self.text) (string_bytes c.take_entry.new.text) (Err e)) c.in-Err-Bad.field-0-is c.in-Err-Bad.ensures in
+    let before = kept_channel c.loop-size.self.channel in
+    let faulty = subst (λ (e : LineNo). TakesEntry (next_entry before rest) before (kept_channel c.take_entry.new.channel) (string_bytes c.loop-size.self.text) (string_bytes c.take_entry.new.text) (Err e)) c.in-Err-Bad.field-0-is c.in-Err-Bad.ensures in
     let next = subst (λ (xs : List ℕ). next_entry before xs ≡ wrong c.in-Err-Bad.fault.offset c.in-Err-Bad.fault.why) (slice_from c.loop-size.taken c.args.bytes.now) faulty.0 in
-    (so_far.0, open_channel c.loop-size.self.channel, drop c.loop-size.taken c.args.bytes.now, _, faulty.1 ∙ so_far.2, so_far.3, next, ap (λ (n : ℕ). c.loop-size.self.at + n) c.from.ensures)
+    (so_far.0, kept_channel c.loop-size.self.channel, drop c.loop-size.taken c.args.bytes.now, _, faulty.1 ∙ so_far.2, so_far.3, next, ap (λ (n : ℕ). c.loop-size.self.at + n) c.from.ensures)

@@ -1,6 +1,6 @@
 use Rattle.std.proofs.Common.{sym, inl}
 use Rattle.rd_drive.specs.Outcome.{refused}
-use Rattle.rd_drive.specs.Statuses.{not_supported}
+use Rattle.rd_base.specs.Statuses.{not_supported}
 use Rattle.rd_drive.specs.Store.{drive_of}
 use Rattle.rd_drive.proofs.HandleLemmas.{on_open, opened_place, unopened}
 use Rattle.rd_drive.proofs.store.Store.control.Goals as goal
@@ -11,7 +11,7 @@ returns-in-Some c =
     let h = c.in-Some.field-0.now in
     let there = sym c.in-Some.ensures in
     let x = opened_place s c.requires.sound c.args.file h there in
-    (c.requires.sound, inl (on_open s c.requires.sound c.whole.ensures c.args.file h there x.0 x.1 (λ handle node. refused (drive_of s) not_supported)))
+    (c.requires.sound, inl (on_open s c.requires.sound c.args.file h there x.0 x.1 (λ handle node. refused (drive_of s) not_supported)))
 
 pub returns-in-None : goal.returns-in-None
 returns-in-None c =

@@ -1,13 +1,13 @@
 use Rattle.std.proofs.Common.{◌≡◌, ◌∙◌, sym, ap, subst, inl, ℕ, List, Option, Some, None, Err}
-use Rattle.rd_dirinfo.specs.Paths.{Names, names_of, path_fault, path_of}
+use Rattle.rd_dirinfo.specs.Paths.{Names, names_of, parsed_path, path_fault}
 use Rattle.rd_drive.specs.Made.{create_at}
 use Rattle.rd_drive.specs.Outcome.{Outcome, given}
-use Rattle.rd_drive.specs.Statuses.{object_name_invalid}
+use Rattle.rd_base.specs.Statuses.{object_name_invalid}
 use Rattle.rd_drive.specs.Store.{drive_of, Serves}
 use Rattle.rd_drive.proofs.CheckLemmas.{check_applies, check_passed, checks_done, given_none, given_some}
 use Rattle.rd_drive.proofs.store.Store.create.Goals as goal
 
-no_path : (units : List ℕ) (at : ℕ) → path_fault units ≡ Some at → path_of units ≡ None
+no_path : (units : List ℕ) (at : ℕ) → path_fault units ≡ Some at → parsed_path units ≡ None
 no_path units at e = ap (λ (o : Option ℕ). elim o as (λ _. Option Names) [ Some at ↦ None | None ↦ Some (names_of units) ]) e
 
 pub returns-then-is_contradictory : goal.returns-then-is_contradictory

@@ -28,7 +28,7 @@ returns-in-Err-Invalid c =
     let h = c.in-Some.handle.now in
     let there : kept_handle s c.args.file ≡ Some h = sym c.in-Some.ensures in
     let folder = subst (λ (o : Option open_file.Handle). IfSome o (λ (x : open_file.Handle). is_folder s.tree x.node.0 ≡ Some true)) there c.requires.folder in
-    (c.requires.sound, inl (anew_invalid s c.requires.sound c.whole.ensures c.args.file h there c.args.class (folder_number s.tree h.node.0 folder) c.requires.class c.args.units.now c.in-Err-Invalid.field-0-0 ((c.in-Err-Invalid.ensures.invalid c.in-Err-Invalid.field-0-0).0 (ap (λ (no : PathNo). Err no) c.in-Err-Invalid.field-0-is))))
+    (c.requires.sound, inl (anew_invalid s c.requires.sound c.args.file h there c.args.class (folder_number s.tree h.node.0 folder) c.requires.class c.args.units.now c.in-Err-Invalid.field-0-0 ((c.in-Err-Invalid.ensures.invalid c.in-Err-Invalid.field-0-0).0 (ap (λ (no : PathNo). Err no) c.in-Err-Invalid.field-0-is))))
 
 pub returns-in-Ok-None : goal.returns-in-Ok-None
 returns-in-Ok-None c =
@@ -39,7 +39,7 @@ returns-in-Ok-None c =
     let good = nowhere (pattern_fault c.args.units.now) (λ at e. absurd (let no = (c.in-Ok.ensures.invalid at).1 e in cc)) in
     let finds = subst (λ (p : List ℕ). Finds (drive_of s) (own_path s.tree h.node.0) p None c.args.class None) c.in-Ok.ensures.pattern (subst (λ (o : Option Listed). Finds (drive_of s) (own_path s.tree h.node.0) c.in-Ok.pattern None c.args.class o) c.in-Ok-None.field-0-is c.in-Ok-None.ensures) in
     let relists = subst (λ (p : List ℕ). Relists s c.args.file h p None c.set_listing.new.self) c.in-Ok.ensures.pattern (c.set_listing.ensures h there) in
-    anew_none s c.requires.sound c.whole.ensures c.args.file h there c.args.class (folder_number s.tree h.node.0 folder) c.requires.class c.set_listing.new.self c.args.units.now good finds relists
+    anew_none s c.requires.sound c.args.file h there c.args.class (folder_number s.tree h.node.0 folder) c.requires.class c.set_listing.new.self c.args.units.now good finds relists
 
 pub returns-in-Ok-Some : goal.returns-in-Ok-Some
 returns-in-Ok-Some c =
@@ -52,4 +52,4 @@ returns-in-Ok-Some c =
     let as_found : c.in-Ok-Some.field-0 ≡ Some found = c.in-Ok-Some.field-0-is in
     let finds = subst (λ (p : List ℕ). Finds (drive_of s) (own_path s.tree h.node.0) p None c.args.class (Some found)) c.in-Ok.ensures.pattern (subst (λ (o : Option Listed). Finds (drive_of s) (own_path s.tree h.node.0) c.in-Ok.pattern None c.args.class o) as_found c.in-Ok-Some.ensures) in
     let relists = subst (λ (p : List ℕ). Relists s c.args.file h p (Some found.name) c.set_listing-in-Ok-Some.new.self) c.in-Ok.ensures.pattern (c.set_listing-in-Ok-Some.ensures h there) in
-    anew_some s c.requires.sound c.whole.ensures c.args.file h there c.args.class (folder_number s.tree h.node.0 folder) c.requires.class c.set_listing-in-Ok-Some.new.self c.args.units.now good found finds relists c.none.result c.none.ensures
+    anew_some s c.requires.sound c.args.file h there c.args.class (folder_number s.tree h.node.0 folder) c.requires.class c.set_listing-in-Ok-Some.new.self c.args.units.now good found finds relists c.none.result c.none.ensures

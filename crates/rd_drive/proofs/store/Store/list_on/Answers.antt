@@ -31,7 +31,7 @@ returns-in-Ok-None c =
     let folder = subst (λ (o : Option open_file.Handle). IfSome o (λ (x : open_file.Handle). is_folder s.tree x.node.0 ≡ Some true)) there c.requires.folder in
     let found = subst (λ (o : Option Listed). Finds (drive_of s) (own_path s.tree h.node.0) h.pattern (option_map (λ other. other.now) c.as_ref.result) c.args.class o) c.in-Ok-None.field-0-is c.in-Ok-None.ensures in
     let finds = subst (λ (l : Option Name). Finds (drive_of s) (own_path s.tree h.node.0) h.pattern l c.args.class None) (copied c.as_ref.result ∙ c.as_ref.ensures.value) found in
-    on_none s c.requires.sound c.whole.ensures c.args.file h there c.args.class (folder_number s.tree h.node.0 folder) c.requires.class finds
+    on_none s c.requires.sound c.args.file h there c.args.class (folder_number s.tree h.node.0 folder) c.requires.class finds
 
 pub returns-in-Ok-Some : goal.returns-in-Ok-Some
 returns-in-Ok-Some c =
@@ -43,4 +43,4 @@ returns-in-Ok-Some c =
     let as_found : c.in-Ok-Some.field-0 ≡ Some found = c.in-Ok-Some.field-0-is in
     let finds_it = subst (λ (o : Option Listed). Finds (drive_of s) (own_path s.tree h.node.0) h.pattern (option_map (λ other. other.now) c.as_ref.result) c.args.class o) as_found c.in-Ok-Some.ensures in
     let finds = subst (λ (l : Option Name). Finds (drive_of s) (own_path s.tree h.node.0) h.pattern l c.args.class (Some found)) (copied c.as_ref.result ∙ c.as_ref.ensures.value) finds_it in
-    on_some s c.requires.sound c.whole.ensures c.args.file h there c.args.class (folder_number s.tree h.node.0 folder) c.requires.class c.set_last.new.self found finds (c.set_last.ensures h there) c.none.result c.none.ensures
+    on_some s c.requires.sound c.args.file h there c.args.class (folder_number s.tree h.node.0 folder) c.requires.class c.set_last.new.self found finds (c.set_last.ensures h there) c.none.result c.none.ensures

@@ -13,7 +13,7 @@ use Rattle.rd_drive.specs.Locking.{lock_ranges}
 use Rattle.rd_irp.specs.declared.op.Range.{Range}
 use Rattle.rd_drive.specs.declared.store.Done.TheVariants.{Replied}
 use Rattle.rd_drive.specs.Outcome.{no_news, succeeded}
-use Rattle.rd_drive.specs.Statuses.{insufficient_resources, lock_not_granted}
+use Rattle.rd_base.specs.Statuses.{insufficient_resources, lock_not_granted}
 use Rattle.rd_drive.specs.Store.{drive_of, lock_of, IsSound, Serves}
 use Rattle.rd_drive.proofs.ServesLemmas.{serves_quiet}
 use Rattle.rd_drive.proofs.ConflictLemmas.{wanted_seen}
@@ -43,7 +43,7 @@ returns-in-Ok c =
     (subst (λ (ls : LockList). AllByRecursion (IsHome s) ls.locks) (sym left) (more_homes s n c.args.file c.args.exclusive c.as_slice-wanted.result.now c.requires.opened s.locks.locks c.requires.sound.locked)) in
     subst (λ (rs : List Range). Serves s new (lock_ranges (drive_of s) c.args.key c.args.file (own_path s.tree n) c.args.exclusive c.args.wait rs) (Ok (Replied Locked c.none.result))) c.as_slice-wanted.ensures
     (serves_quiet s new _ _ _ sound c.none.ensures
-    (lock_granted s c.requires.sound c.whole.ensures n live c.args.key c.args.file c.args.exclusive c.args.wait c.as_slice-wanted.result.now (ap is_some free) few
+    (lock_granted s c.requires.sound n live c.args.key c.args.file c.args.exclusive c.args.wait c.as_slice-wanted.result.now (ap is_some free) few
     ∙ ap (λ (ls : List drive.Lock). succeeded (record (drive_of s) { locks = ls }) Locked no_news)
     (sym (ap (λ (ls : LockList). map lock_of ls.locks) left ∙ map-append lock_of s.locks.locks wanted ∙ ap (λ (ls : List drive.Lock). map lock_of s.locks.locks ++ ls) (wanted_seen n c.args.file c.args.exclusive c.as_slice-wanted.result.now)))))
 
@@ -55,7 +55,7 @@ returns-in-Err-Full c =
     let why = c.in-Err-Full.ensures.full.0 (ap (λ (no : LockNo). Err no) c.in-Err-Full.field-0-is) in
     subst (λ (rs : List Range). Serves s (record s { locks = c.lock.new.self }) (lock_ranges (drive_of s) c.args.key c.args.file (own_path s.tree n) c.args.exclusive c.args.wait rs) (Err insufficient_resources)) c.as_slice-wanted.ensures
     (serves_refused s c.requires.sound c.lock.new.self c.in-Err-Full.ensures.err _ insufficient_resources
-    (lock_full s c.requires.sound c.whole.ensures n live c.args.key c.args.file c.args.exclusive c.args.wait c.as_slice-wanted.result.now (ap is_some why.0) why.1))
+    (lock_full s c.requires.sound n live c.args.key c.args.file c.args.exclusive c.args.wait c.as_slice-wanted.result.now (ap is_some why.0) why.1))
 
 pub returns-then-not-wait : goal.returns-then-not-wait
 returns-then-not-wait c =
@@ -65,5 +65,5 @@ returns-then-not-wait c =
     let e = (c.in-Err-Conflict.ensures.conflict c.in-Err-Conflict.field-0-0).0 (ap (λ (no : LockNo). Err no) c.in-Err-Conflict.field-0-is) in
     subst (λ (rs : List Range). Serves s (record s { locks = c.lock.new.self }) (lock_ranges (drive_of s) c.args.key c.args.file (own_path s.tree n) c.args.exclusive c.args.wait rs) (Err lock_not_granted)) c.as_slice-wanted.ensures
     (serves_refused s c.requires.sound c.lock.new.self c.in-Err-Conflict.ensures.err _ lock_not_granted
-    (lock_denied s c.requires.sound c.whole.ensures n live c.args.key c.args.file c.args.exclusive c.args.wait c.as_slice-wanted.result.now (ap is_some e)
+    (lock_denied s c.requires.sound n live c.args.key c.args.file c.args.exclusive c.args.wait c.as_slice-wanted.result.now (ap is_some e)
     (ap (λ (b : Bool). not b || is_some (conflict [] (held.wanted_locks n c.args.file c.args.exclusive c.as_slice-wanted.result.now))) c.if-not-wait.true)))

@@ -15,12 +15,12 @@ returns-in_default c = (c.requires.sound, inl (unopened c.args.self.now c.args.f
 pub returns-in-Err : goal.returns-in-Err
 returns-in-Err c =
     let s = c.args.self.now in
-    untold s c.requires.sound _ _ c.in-Err.status c.in-Err.ensures.err (file_untold s c.requires.sound c.whole.ensures c.args.file c.in-Some.handle.now (sym c.in-Some.ensures) c.args.class)
+    untold s c.requires.sound _ _ c.in-Err.status c.in-Err.ensures.err (file_untold s c.requires.sound c.args.file c.in-Some.handle.now (sym c.in-Some.ensures) c.args.class)
 
 pub returns-in-Ok-put_file_info : goal.returns-in-Ok-put_file_info
 returns-in-Ok-put_file_info c =
     let s = c.args.self.now in
     let bytes = c.of.ensures ∙ c.in-Ok-put_file_info.ensures.bytes ∙ ap (λ (l : List ℕ). l ++ file_info_bytes c.in-Ok.info) c.requires.room in
     serves_quiet s s _ _ _ c.requires.sound c.none.ensures
-    (file_told s c.requires.sound c.whole.ensures c.args.file c.in-Some.handle.now (sym c.in-Some.ensures) c.args.class c.in-Ok.info c.in-Ok.ensures.ok
+    (file_told s c.requires.sound c.args.file c.in-Some.handle.now (sym c.in-Some.ensures) c.args.class c.in-Ok.info c.in-Ok.ensures.ok
     ∙ ap (λ (l : List ℕ). succeeded (drive_of s) (Buffer l) no_news) (sym bytes))

@@ -35,7 +35,7 @@ returns-in_default-end c =
     let h = c.in-Some.handle.now in
     let there = sym c.in-Some.ensures in
     let x = opened_place s c.requires.sound c.args.file h there in
-    (c.requires.sound, inl (read_folder s c.requires.sound c.whole.ensures c.args.file h there x.0 x.1 c.args.offset c.args.length (no_bytes (bytes_at s.tree h.node.0) c.in_default-end.ensures.end)))
+    (c.requires.sound, inl (read_folder s c.requires.sound c.args.file h there x.0 x.1 c.args.offset c.args.length (no_bytes (bytes_at s.tree h.node.0) c.in_default-end.ensures.end)))
 
 pub returns-then-not-reads : goal.returns-then-not-reads
 returns-then-not-reads c =
@@ -44,7 +44,7 @@ returns-then-not-reads c =
     let there = sym c.in-Some.ensures in
     let x = opened_place s c.requires.sound c.args.file h there in
     let b = some_bytes c.in-Some-end.end (bytes_at s.tree h.node.0) c.in-Some-end.ensures.end in
-    (c.requires.sound, inl (read_denied s c.requires.sound c.whole.ensures c.args.file h there x.0 x.1 c.args.offset c.args.length b.0 b.1 (sym c.if-not-reads.ensures)))
+    (c.requires.sound, inl (read_denied s c.requires.sound c.args.file h there x.0 x.1 c.args.offset c.args.length b.0 b.1 (sym c.if-not-reads.ensures)))
 
 pub returns-then-length-eq0 : goal.returns-then-length-eq0
 returns-then-length-eq0 c =
@@ -54,7 +54,7 @@ returns-then-length-eq0 c =
     let x = opened_place s c.requires.sound c.args.file h there in
     let b = some_bytes c.in-Some-end.end (bytes_at s.tree h.node.0) c.in-Some-end.ensures.end in
     serves_quiet s s _ _ _ c.requires.sound c.none.ensures
-    (read_nothing s c.requires.sound c.whole.ensures c.args.file h there x.0 x.1 c.args.offset c.args.length b.0 b.1 (sym c.reads.ensures ∙ c.if-not-reads.false) (zero_is c.min-length.result (min c.args.length max_read) c.min-length.ensures c.if-length-eq0.true)
+    (read_nothing s c.requires.sound c.args.file h there x.0 x.1 c.args.offset c.args.length b.0 b.1 (sym c.reads.ensures ∙ c.if-not-reads.false) (zero_is c.min-length.result (min c.args.length max_read) c.min-length.ensures c.if-length-eq0.true)
     ∙ ap (λ (l : List ℕ). succeeded (drive_of s) (Buffer l) no_news) (sym (c.of.ensures ∙ c.requires.room)))
 
 pub returns-then-not-may_read : goal.returns-then-not-may_read
@@ -64,7 +64,7 @@ returns-then-not-may_read c =
     let there = sym c.in-Some.ensures in
     let x = opened_place s c.requires.sound c.args.file h there in
     let b = some_bytes c.in-Some-end.end (bytes_at s.tree h.node.0) c.in-Some-end.ensures.end in
-    (c.requires.sound, inl (read_locked s c.requires.sound c.whole.ensures c.args.file h there x.0 x.1 c.args.offset c.args.length b.0 b.1 (sym c.reads.ensures ∙ c.if-not-reads.false) (more_is c.min-length.result (min c.args.length max_read) c.min-length.ensures c.if-length-eq0.false) (ap (λ (l : ℕ). may_read s.locks.locks h.node.0 c.args.file (record { offset = c.args.offset; length = l })) (sym (c.from.ensures ∙ c.min-length.ensures)) ∙ sym c.may_read.ensures ∙ c.if-not-may_read.true)))
+    (c.requires.sound, inl (read_locked s c.requires.sound c.args.file h there x.0 x.1 c.args.offset c.args.length b.0 b.1 (sym c.reads.ensures ∙ c.if-not-reads.false) (more_is c.min-length.result (min c.args.length max_read) c.min-length.ensures c.if-length-eq0.false) (ap (λ (l : ℕ). may_read s.locks.locks h.node.0 c.args.file (record { offset = c.args.offset; length = l })) (sym (c.from.ensures ∙ c.min-length.ensures)) ∙ sym c.may_read.ensures ∙ c.if-not-may_read.true)))
 
 pub returns-then-offset-end : goal.returns-then-offset-end
 returns-then-offset-end c =
@@ -73,7 +73,7 @@ returns-then-offset-end c =
     let there = sym c.in-Some.ensures in
     let x = opened_place s c.requires.sound c.args.file h there in
     let b = some_bytes c.in-Some-end.end (bytes_at s.tree h.node.0) c.in-Some-end.ensures.end in
-    (c.requires.sound, inl (read_past s c.requires.sound c.whole.ensures c.args.file h there x.0 x.1 c.args.offset c.args.length b.0 b.1 (sym c.reads.ensures ∙ c.if-not-reads.false) (more_is c.min-length.result (min c.args.length max_read) c.min-length.ensures c.if-length-eq0.false) (ap (λ (l : ℕ). may_read s.locks.locks h.node.0 c.args.file (record { offset = c.args.offset; length = l })) (sym (c.from.ensures ∙ c.min-length.ensures)) ∙ sym c.may_read.ensures ∙ c.if-not-may_read.false) (past_is (length b.0) c.in-Some-end.end c.args.offset b.2 c.if-offset-end.true)))
+    (c.requires.sound, inl (read_past s c.requires.sound c.args.file h there x.0 x.1 c.args.offset c.args.length b.0 b.1 (sym c.reads.ensures ∙ c.if-not-reads.false) (more_is c.min-length.result (min c.args.length max_read) c.min-length.ensures c.if-length-eq0.false) (ap (λ (l : ℕ). may_read s.locks.locks h.node.0 c.args.file (record { offset = c.args.offset; length = l })) (sym (c.from.ensures ∙ c.min-length.ensures)) ∙ sym c.may_read.ensures ∙ c.if-not-may_read.false) (past_is (length b.0) c.in-Some-end.end c.args.offset b.2 c.if-offset-end.true)))
 
 pub returns-in-Ok : goal.returns-in-Ok
 returns-in-Ok c =
@@ -83,7 +83,7 @@ returns-in-Ok c =
     let x = opened_place s c.requires.sound c.args.file h there in
     let b = some_bytes c.in-Some-end.end (bytes_at s.tree h.node.0) c.in-Some-end.ensures.end in
     serves_quiet s s _ _ _ c.requires.sound c.none-in-Ok.ensures
-    (read_given s c.requires.sound c.whole.ensures c.args.file h there x.0 x.1 c.args.offset c.args.length b.0 b.1 (sym c.reads.ensures ∙ c.if-not-reads.false) (more_is c.min-length.result (min c.args.length max_read) c.min-length.ensures c.if-length-eq0.false) (ap (λ (l : ℕ). may_read s.locks.locks h.node.0 c.args.file (record { offset = c.args.offset; length = l })) (sym (c.from.ensures ∙ c.min-length.ensures)) ∙ sym c.may_read.ensures ∙ c.if-not-may_read.false) (within_is (length b.0) c.in-Some-end.end c.args.offset b.2 c.if-offset-end.false)
+    (read_given s c.requires.sound c.args.file h there x.0 x.1 c.args.offset c.args.length b.0 b.1 (sym c.reads.ensures ∙ c.if-not-reads.false) (more_is c.min-length.result (min c.args.length max_read) c.min-length.ensures c.if-length-eq0.false) (ap (λ (l : ℕ). may_read s.locks.locks h.node.0 c.args.file (record { offset = c.args.offset; length = l })) (sym (c.from.ensures ∙ c.min-length.ensures)) ∙ sym c.may_read.ensures ∙ c.if-not-may_read.false) (within_is (length b.0) c.in-Some-end.end c.args.offset b.2 c.if-offset-end.false)
     ∙ ap (λ (l : List ℕ). succeeded (drive_of s) (Buffer l) no_news) read_is)
   where
     read_is : part (some_bytes c.in-Some-end.end (bytes_at c.args.self.now.tree c.in-Some.handle.now.node.0) c.in-Some-end.ensures.end).0 c.args.offset (min c.args.length max_read) ≡ c.of-in-Ok.result

@@ -13,29 +13,29 @@ pub renamed-requires-clause-live : goal.renamed-requires-clause-live
 renamed-requires-clause-live c =
     let s = c.args.self.now in
     let n = c.args.node.0 in
-    let moves = c.in-Ok-rename.ensures in
+    let moves = c.in-Ok-rename.ensures.renames in
     subst (λ (t : Places). IsLive t n) (sym (ap (λ (x : Store). x.tree) c.forget.ensures.others ∙ moves.1))
-    (replace_lives s c.requires.sound c.whole.ensures c.ordered.ensures c.args.node c.requires.live c.args.path.now c.args.target c.requires.at c.requires.apart c.requires.there c.args.moment c.args.count c.args.replace
-    c.may_replace-replaces.result c.may_replace-replaces.ensures moves.0 c.requires.other c.requires.below c.requires.path (subst IsWhole moves.1 c.whole-in-Ok-rename.ensures))
+    (replace_lives s c.requires.sound c.ordered.ensures c.args.node c.requires.live c.args.path.now c.args.target c.requires.at c.requires.apart c.requires.there c.args.moment c.args.count c.args.replace
+    c.may_replace-replaces.result c.may_replace-replaces.ensures moves.0 c.requires.other c.requires.below c.requires.path (subst IsWhole moves.1 c.in-Ok-rename.ensures.is_whole))
 
 pub renamed-requires-clause-kept : goal.renamed-requires-clause-kept
 renamed-requires-clause-kept c =
     let s = c.args.self.now in
     let n = c.args.node.0 in
-    let moves = c.in-Ok-rename.ensures in
-    replace_kept s c.requires.sound c.whole.ensures c.ordered.ensures c.args.node c.requires.live c.args.path.now c.args.target c.requires.at c.requires.apart c.requires.there c.args.moment c.args.count c.args.replace
-    c.may_replace-replaces.result c.may_replace-replaces.ensures moves.0 c.requires.other c.requires.below c.requires.path (subst IsWhole moves.1 c.whole-in-Ok-rename.ensures)
+    let moves = c.in-Ok-rename.ensures.renames in
+    replace_kept s c.requires.sound c.ordered.ensures c.args.node c.requires.live c.args.path.now c.args.target c.requires.at c.requires.apart c.requires.there c.args.moment c.args.count c.args.replace
+    c.may_replace-replaces.result c.may_replace-replaces.ensures moves.0 c.requires.other c.requires.below c.requires.path (subst IsWhole moves.1 c.in-Ok-rename.ensures.is_whole)
     c.forget.new.self.states c.forget.ensures.states
 
 pub returns-in-Ok-rename : goal.returns-in-Ok-rename
 returns-in-Ok-rename c =
     let s = c.args.self.now in
     let n = c.args.node.0 in
-    let moves = c.in-Ok-rename.ensures in
+    let moves = c.in-Ok-rename.ensures.renames in
     let gone = c.in-Ok.ensures in
     let tree_is = ap (λ (x : Store). x.tree) c.forget.ensures.others ∙ moves.1 in
-    replace_moved s c.requires.sound c.whole.ensures c.ordered.ensures c.args.node c.requires.live c.args.path.now c.args.target c.requires.at c.requires.apart c.requires.there c.args.moment c.args.count c.args.replace
-    c.may_replace-replaces.result c.may_replace-replaces.ensures moves.0 c.requires.other c.requires.below c.requires.path (subst IsWhole moves.1 c.whole-in-Ok-rename.ensures)
+    replace_moved s c.requires.sound c.ordered.ensures c.args.node c.requires.live c.args.path.now c.args.target c.requires.at c.requires.apart c.requires.there c.args.moment c.args.count c.args.replace
+    c.may_replace-replaces.result c.may_replace-replaces.ensures moves.0 c.requires.other c.requires.below c.requires.path (subst IsWhole moves.1 c.in-Ok-rename.ensures.is_whole)
     gone.0 gone.1 c.parent-folder.result (record { path = c.parent-folder.ensures.above; live = c.parent-folder.ensures.live; folds = c.parent-folder.ensures.folder }) c.args.old c.requires.name
     c.forget.new.self.states c.forget.ensures.states c.renamed.new.self
     (c.renamed.ensures.others ∙ (λ i. record (c.forget.ensures.others i) { states = c.renamed.new.self.states }) ∙ (λ i. record s { tree = moves.1 i; states = c.renamed.new.self.states })) c.renamed.ensures.kept c.renamed.result
@@ -44,8 +44,8 @@ returns-in-Ok-rename c =
 pub returns-in-Err : goal.returns-in-Err
 returns-in-Err c =
     let s = c.args.self.now in
-    let stays = c.in-Err.ensures in
+    let stays = c.in-Err.ensures.renames in
     subst (λ (status : Status). Serves s (record s { tree = c.rename.new.self })
-    (comes_over s c.requires.sound c.whole.ensures c.ordered.ensures c.args.node c.requires.live c.args.path.now c.args.target c.requires.at c.requires.apart c.requires.there c.args.moment c.args.count c.args.replace) (Err status)) (sym c.move_status.ensures)
-    (replace_refused s c.requires.sound c.whole.ensures c.ordered.ensures c.args.node c.requires.live c.args.path.now c.args.target c.requires.at c.requires.apart c.requires.there c.args.moment c.args.count c.args.replace
+    (comes_over s c.requires.sound c.ordered.ensures c.args.node c.requires.live c.args.path.now c.args.target c.requires.at c.requires.apart c.requires.there c.args.moment c.args.count c.args.replace) (Err status)) (sym c.move_status.ensures)
+    (replace_refused s c.requires.sound c.ordered.ensures c.args.node c.requires.live c.args.path.now c.args.target c.requires.at c.requires.apart c.requires.there c.args.moment c.args.count c.args.replace
     c.may_replace-replaces.result c.may_replace-replaces.ensures c.in-Err.no stays.0 (record s { tree = c.rename.new.self }) (λ i. record s { tree = stays.1 i }))

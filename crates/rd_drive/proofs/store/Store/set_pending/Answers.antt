@@ -7,8 +7,8 @@ use Rattle.rd_drive.specs.Access.{is_readonly, has_any}
 use Rattle.rd_drive.specs.SetFile.{set_pending}
 use Rattle.rd_drive.specs.Store.{drive_of}
 use Rattle.rd_drive.specs.Kept.{own_node, IsKept}
-use Rattle.rd_drive.proofs.KeptLemmas.{kept_store, serves_kept}
-use Rattle.rd_drive.proofs.SettingLemmas.{mark_readonly, mark_full, mark_cleared, mark_set, mark_made, marked_state, folder_is}
+use Rattle.rd_drive.proofs.KeptLemmas.{kept_store, serves_kept, kept_whole}
+use Rattle.rd_drive.proofs.SettingLemmas.{mark_readonly, mark_full, mark_cleared, mark_set, mark_made, marked_state}
 use Rattle.rd_drive.proofs.store.Store.set_pending.Goals.{then-pending+else-is_readonly+else-folder, else-folder-via-then-folder+else-has_child, else-folder-via-else-folder, else-pending}
 use Rattle.rd_drive.proofs.store.Store.set_pending.Goals as goal
 
@@ -16,7 +16,7 @@ pub returns-then-is_readonly : goal.returns-then-is_readonly
 returns-then-is_readonly c =
     let s = c.args.self.now in
     let n = c.args.node.0 in
-    let folder = folder_is c.end.result (bytes_at s.tree n) c.is_none-folder.result c.end.ensures.end c.is_none-folder.ensures in
+    let folder = c.is_folder-folder.ensures.bytes in
     let is : is_readonly (own_node s n) ≡ true = (λ i. not (sym folder i) && has_any 1 (sym c.state-state.ensures i).attributes) ∙ sym c.is_readonly.ensures ∙ c.if-is_readonly.true in
     (c.requires.sound, inl (ap (λ (b : Bool). set_pending (drive_of s) c.args.count (own_node s n) b) c.if-pending.true ∙ mark_readonly s n c.args.count c.requires.sound.naming is))
 
@@ -24,7 +24,7 @@ pub returns-then-has_child : goal.returns-then-has_child
 returns-then-has_child c =
     let s = c.args.self.now in
     let n = c.args.node.0 in
-    let folder = folder_is c.end.result (bytes_at s.tree n) c.is_none-folder.result c.end.ensures.end c.is_none-folder.ensures in
+    let folder = c.is_folder-folder.ensures.bytes in
     let is : is_readonly (own_node s n) ≡ false = (λ i. not (sym folder i) && has_any 1 (sym c.state-state.ensures i).attributes) ∙ sym c.is_readonly.ensures ∙ c.if-is_readonly.false in (
       c.requires.sound,
       inl (ap (λ (b : Bool). set_pending (drive_of s) c.args.count (own_node s n) b) c.if-pending.true
@@ -36,9 +36,9 @@ returns c =
     let s = c.args.self.now in
     let n = c.args.node.0 in
     let kept = subst (λ (st : NodeState). IsKept s.states c.set_state.new.self.states n (record st { pending = c.args.pending })) c.state-state.ensures c.set_state.ensures.kept in
-    serves_kept s c.whole.ensures n c.requires.live (bytes_at s.tree n) c.set_state.new.self.states (marked_state s n c.args.count c.requires.sound.naming c.args.pending) kept
-    c.requires.sound refl (λ z. absurd (c.requires.other (sym z))) c.set_state.new.self
-    (kept_store s c.whole.ensures n c.requires.live c.set_state.new.self c.set_state.ensures.others)
+    serves_kept s c.requires.sound n c.requires.live (bytes_at s.tree n) c.set_state.new.self.states (marked_state s n c.args.count c.requires.sound.naming c.args.pending) kept
+    (kept_whole s.tree c.requires.sound.whole n c.requires.live) refl (λ z. absurd (c.requires.other (sym z))) c.set_state.new.self
+    (kept_store s c.requires.sound.whole n c.requires.live c.set_state.new.self c.set_state.ensures.others)
     _ (Count c.args.count) _ (ap (λ news. done.Replied (Count c.args.count) news) c.none.ensures)
     comes
   where
@@ -48,7 +48,7 @@ returns c =
         let n = c.args.node.0 in
         elim c.if-pending.branch [
           | then-pending+else-is_readonly+else-folder w ↦
-              let folder = folder_is w.end.result (bytes_at s.tree n) w.is_none-folder.result w.end.ensures.end w.is_none-folder.ensures in
+              let folder = w.is_folder-folder.ensures.bytes in
               let is : is_readonly (own_node s n) ≡ false = (λ i. not (sym folder i) && has_any 1 (sym c.state-state.ensures i).attributes) ∙ sym w.is_readonly.ensures ∙ w.if-is_readonly.false in
               mark_set s n c.args.count c.requires.sound.naming c.args.pending w.if-pending.true is
               (elim w.else-folder.branch [

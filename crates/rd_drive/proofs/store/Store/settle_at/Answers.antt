@@ -9,16 +9,17 @@ use Rattle.rd_drive.specs.declared.news.Change as told
 use Rattle.rd_drive.specs.declared.waiting.Wish.TheVariants as kept_wish
 use Rattle.rd_drive.specs.declared.waiting.Waiting as kept_waiting
 use Rattle.rd_drive.specs.Outcome.{done}
-use Rattle.rd_drive.specs.Settling.{Settles}
-use Rattle.rd_drive.specs.Store.{change_of, changes_of, ranges_of, wish_of}
+use Rattle.rd_drive.specs.Settling.{SettlesAt}
+use Rattle.rd_drive.specs.Store.{change_of, changes_of, wish_of, wish_ranges}
 use Rattle.rd_drive.specs.Telling.{tells}
 use Rattle.rd_drive.specs.Waiting.{closing_reply}
 use Rattle.rd_irp.specs.declared.completion.Body.TheVariants.{Buffer}
 use Rattle.std.specs.Prelude.{find}
+use Rattle.rd_drive.proofs.AnswerLemmas.{found_passes}
 use Rattle.rd_drive.proofs.AllLemmas.{same_item}
 use Rattle.rd_drive.proofs.LockingLemmas.{none_found, opened_live}
 use Rattle.rd_drive.proofs.SettleLemmas.{settles_blocked, settles_closed, settles_granted, settles_told, settles_untold, settles_untried}
-use Rattle.rd_drive.proofs.TellLemmas.{find_passes, told_below}
+use Rattle.rd_drive.proofs.TellLemmas.{told_below}
 use Rattle.rd_drive.proofs.store.Store.settle_at.Goals as goal
 
 pub returns-then-is_closed : goal.returns-then-is_closed
@@ -27,7 +28,7 @@ returns-then-is_closed c =
     let w = c.index-waiting.result.now in
     let same : c.remove-wish.result ≡ w = same_item s.waiting.items c.args.at c.remove-wish.result w c.requires.within c.remove-wish.ensures.value c.index-waiting.ensures in
     settles_closed s c.args.news.now c.args.at c.requires.halfway w c.requires.within c.index-waiting.ensures (sym c.is_closed.ensures ∙ c.if-is_closed.true)
-    c.close_reply-reply.new.locks (c.close_reply-reply.ensures.locks ∙ ap (λ (v : kept_waiting.Waiting). record s.locks { reserved = s.locks.reserved - ranges_of v.wish }) same)
+    c.close_reply-reply.new.locks (c.close_reply-reply.ensures.locks ∙ ap (λ (v : kept_waiting.Waiting). record s.locks { reserved = s.locks.reserved - wish_ranges v.wish }) same)
     c.remove-wish.new.self c.remove-wish.ensures.items c.remove-wish.ensures.capacity
     c.close_reply-reply.result (c.close_reply-reply.ensures.reply ∙ ap (λ (v : kept_waiting.Waiting). closing_reply (wish_of v.wish)) same)
 
@@ -39,7 +40,7 @@ returns-then-not-is_unlocked c =
     let opened = ap (option_map (λ (h : kept.Handle). h.node.0)) (sym c.in-Some.ensures) in
     let wish : w.wish ≡ kept_wish.Ranges c.in-Ranges.exclusive c.in-Ranges.ranges =
     ap (λ (v : kept_waiting.Waiting). v.wish) (same_item s.waiting.items c.args.at w c.index.result.now c.requires.within c.index-waiting.ensures c.index.ensures) ∙ c.in-Ranges.is in
-    settles_untried s c.args.news.now c.args.at c.requires.halfway w c.requires.within c.index-waiting.ensures (sym c.is_closed.ensures ∙ c.if-is_closed.false) c.whole.ensures n (opened_live s c.requires.halfway.sound n w.file opened) opened
+    settles_untried s c.args.news.now c.args.at c.requires.halfway w c.requires.within c.index-waiting.ensures (sym c.is_closed.ensures ∙ c.if-is_closed.false) n (opened_live s c.requires.halfway.sound n w.file opened) opened
     c.in-Ranges.exclusive c.in-Ranges.ranges wish (sym c.is_unlocked.ensures ∙ c.if-not-is_unlocked.true)
 
 pub returns-in-Err : goal.returns-in-Err
@@ -51,8 +52,8 @@ returns-in-Err c =
     let wish : w.wish ≡ kept_wish.Ranges c.in-Ranges.exclusive c.in-Ranges.ranges =
     ap (λ (v : kept_waiting.Waiting). v.wish) (same_item s.waiting.items c.args.at w c.index.result.now c.requires.within c.index-waiting.ensures c.index.ensures) ∙ c.in-Ranges.is in
     let way = ap (λ (rs : List Range). conflict s.locks.locks (held.wanted_locks n w.file c.in-Ranges.exclusive rs)) (sym c.as_slice.ensures) ∙ (c.in-Err.ensures.conflict c.in-Err.field-0).0 refl in
-    subst (λ (locks : LockList). Settles s (record s { locks = locks }) c.args.news.now c.args.at None) (sym c.in-Err.ensures.err)
-    (settles_blocked s c.args.news.now c.args.at c.requires.halfway w c.requires.within c.index-waiting.ensures (sym c.is_closed.ensures ∙ c.if-is_closed.false) c.whole.ensures n (opened_live s c.requires.halfway.sound n w.file opened) opened
+    subst (λ (locks : LockList). SettlesAt s (record s { locks = locks }) c.args.news.now c.args.at None) (sym c.in-Err.ensures.err)
+    (settles_blocked s c.args.news.now c.args.at c.requires.halfway w c.requires.within c.index-waiting.ensures (sym c.is_closed.ensures ∙ c.if-is_closed.false) n (opened_live s c.requires.halfway.sound n w.file opened) opened
     c.in-Ranges.exclusive c.in-Ranges.ranges wish c.in-Err.field-0 way)
 
 pub returns-in-Ok : goal.returns-in-Ok
@@ -65,7 +66,7 @@ returns-in-Ok c =
     ap (λ (v : kept_waiting.Waiting). v.wish) (same_item s.waiting.items c.args.at w c.index.result.now c.requires.within c.index-waiting.ensures c.index.ensures) ∙ c.in-Ranges.is in
     let free : conflict s.locks.locks (held.wanted_locks n w.file c.in-Ranges.exclusive c.as_slice.result.now) ≡ None =
     none_found (conflict s.locks.locks (held.wanted_locks n w.file c.in-Ranges.exclusive c.as_slice.result.now)) (λ lock e. let both = (c.in-Ok.ensures.conflict lock).1 e in absurd (cc)) in
-    settles_granted s c.args.news.now c.args.at c.requires.halfway w c.requires.within c.index-waiting.ensures (sym c.is_closed.ensures ∙ c.if-is_closed.false) c.whole.ensures n (opened_live s c.requires.halfway.sound n w.file opened) opened
+    settles_granted s c.args.news.now c.args.at c.requires.halfway w c.requires.within c.index-waiting.ensures (sym c.is_closed.ensures ∙ c.if-is_closed.false) n (opened_live s c.requires.halfway.sound n w.file opened) opened
     c.in-Ranges.exclusive c.in-Ranges.ranges wish (sym c.is_unlocked.ensures ∙ c.if-not-is_unlocked.false)
     (ap (λ (rs : List Range). conflict s.locks.locks (held.wanted_locks n w.file c.in-Ranges.exclusive rs)) (sym c.as_slice.ensures) ∙ free)
     c.lock_reserved.new.self
@@ -80,7 +81,7 @@ returns-in_default-first_told c =
     let opened = ap (option_map (λ (h : kept.Handle). h.node.0)) (sym c.in-Some.ensures) in
     let wish : w.wish ≡ kept_wish.Change c.in-Change.deep c.in-Change.filter c.in-Change.room =
     ap (λ (v : kept_waiting.Waiting). v.wish) (same_item s.waiting.items c.args.at w c.index.result.now c.requires.within c.index-waiting.ensures c.index.ensures) ∙ c.in-Change.is in
-    settles_untold s c.args.news.now c.args.at c.requires.halfway w c.requires.within c.index-waiting.ensures (sym c.is_closed.ensures ∙ c.if-is_closed.false) c.whole.ensures n (opened_live s c.requires.halfway.sound n w.file opened) opened
+    settles_untold s c.args.news.now c.args.at c.requires.halfway w c.requires.within c.index-waiting.ensures (sym c.is_closed.ensures ∙ c.if-is_closed.false) n (opened_live s c.requires.halfway.sound n w.file opened) opened
     c.in-Change.deep c.in-Change.filter c.in-Change.room wish
     (ap (λ (l : List (Option told.Change)). find (tells s.tree.naming (own_path s.tree n) c.in-Change.deep c.in-Change.filter) (changes_of s.tree l)) (sym c.as_slice-changes.ensures) ∙ sym c.in_default-first_told.ensures.found)
 
@@ -90,7 +91,7 @@ told-bytes-requires-clause-below c =
     let n = c.in-Some.handle.now.node.0 in
     let change = change_of s.tree c.in-Some-first_told.change.now in
     let test = tells s.tree.naming (own_path s.tree n) c.in-Change.deep c.in-Change.filter in
-    told_below s.tree.naming (own_path s.tree n) c.in-Change.deep c.in-Change.filter change (find_passes test (changes_of s.tree c.as_slice-changes.result.now) change (sym c.in-Some-first_told.ensures.found))
+    told_below s.tree.naming (own_path s.tree n) c.in-Change.deep c.in-Change.filter change (found_passes test (changes_of s.tree c.as_slice-changes.result.now) change (sym c.in-Some-first_told.ensures.found))
 
 pub returns-in-Change-wish : goal.returns-in-Change-wish
 returns-in-Change-wish c =
@@ -100,7 +101,7 @@ returns-in-Change-wish c =
     let opened = ap (option_map (λ (h : kept.Handle). h.node.0)) (sym c.in-Some.ensures) in
     let wish : w.wish ≡ kept_wish.Change c.in-Change.deep c.in-Change.filter c.in-Change.room =
     ap (λ (v : kept_waiting.Waiting). v.wish) (same_item s.waiting.items c.args.at w c.index.result.now c.requires.within c.index-waiting.ensures c.index.ensures) ∙ c.in-Change.is in
-    settles_told s c.args.news.now c.args.at c.requires.halfway w c.requires.within c.index-waiting.ensures (sym c.is_closed.ensures ∙ c.if-is_closed.false) c.whole.ensures n (opened_live s c.requires.halfway.sound n w.file opened) opened
+    settles_told s c.args.news.now c.args.at c.requires.halfway w c.requires.within c.index-waiting.ensures (sym c.is_closed.ensures ∙ c.if-is_closed.false) n (opened_live s c.requires.halfway.sound n w.file opened) opened
     c.in-Change.deep c.in-Change.filter c.in-Change.room wish
     (change_of s.tree c.in-Some-first_told.change.now)
     (ap (λ (l : List (Option told.Change)). find (tells s.tree.naming (own_path s.tree n) c.in-Change.deep c.in-Change.filter) (changes_of s.tree l)) (sym c.as_slice-changes.ensures) ∙ sym c.in-Some-first_told.ensures.found)

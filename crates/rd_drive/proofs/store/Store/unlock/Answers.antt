@@ -1,6 +1,6 @@
 use Rattle.rd_tree.specs.Places.{own_path}
 use Rattle.rd_drive.specs.declared.store.Store.{Store}
-use Rattle.rd_drive.specs.Statuses.{range_not_locked}
+use Rattle.rd_base.specs.Statuses.{range_not_locked}
 use Rattle.rd_drive.specs.Store.{IsSound}
 use Rattle.rd_drive.proofs.ServesLemmas.{serves_unlock}
 use Rattle.rd_drive.proofs.ConflictLemmas.{IsHome, unlocked_all}

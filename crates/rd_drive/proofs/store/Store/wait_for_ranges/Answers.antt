@@ -7,7 +7,7 @@ use Rattle.rd_tree.specs.Places.{own_path}
 use Rattle.rd_drive.specs.DriveState as drive
 use Rattle.rd_drive.specs.Locking.{lock_ranges, waits}
 use Rattle.rd_irp.specs.declared.op.Range.{Range}
-use Rattle.rd_drive.specs.Statuses.{insufficient_resources, lock_not_granted}
+use Rattle.rd_base.specs.Statuses.{insufficient_resources, lock_not_granted}
 use Rattle.rd_drive.specs.Store.{drive_of, Serves}
 use Rattle.rd_drive.proofs.LockingLemmas.{alone_is, lock_denied, lock_waits, not_more, opened_live, opened_some, serves_refused, wait_full, wait_refused}
 use Rattle.rd_drive.proofs.ParkLemmas.{serves_parked}
@@ -22,7 +22,7 @@ returns-then-is_some c =
     let alone = alone_is c.new-alone.result c.conflict.result (held.wanted_locks n c.args.file c.args.exclusive c.as_slice-wanted.result.now) c.new-alone.ensures c.conflict.ensures in
     let blocked = subst (λ (rs : List Range). IsSome (conflict s.locks.locks (held.wanted_locks n c.args.file c.args.exclusive rs))) (sym c.as_slice-wanted.ensures) c.requires.blocked in
     subst (λ (rs : List Range). Serves s s (lock_ranges (drive_of s) c.args.key c.args.file (own_path s.tree n) c.args.exclusive true rs) (Err lock_not_granted)) c.as_slice-wanted.ensures
-    (c.requires.sound, inl (lock_denied s c.requires.sound c.whole.ensures n live c.args.key c.args.file c.args.exclusive true c.as_slice-wanted.result.now blocked (ap is_some alone ∙ sym c.is_some.ensures ∙ c.if-is_some.true)))
+    (c.requires.sound, inl (lock_denied s c.requires.sound n live c.args.key c.args.file c.args.exclusive true c.as_slice-wanted.result.now blocked (ap is_some alone ∙ sym c.is_some.ensures ∙ c.if-is_some.true)))
 
 pub returns-then-len-ge-MAX_WAITING : goal.returns-then-len-ge-MAX_WAITING
 returns-then-len-ge-MAX_WAITING c =
@@ -36,9 +36,9 @@ returns-then-len-ge-MAX_WAITING c =
       c.requires.sound,
       inl (elim c.then-len-ge-MAX_WAITING.branch [
         | then-len-ge-MAX_WAITING-via-then-len-ge-MAX_WAITING w ↦
-            wait_refused s c.requires.sound c.whole.ensures n live c.args.key c.args.file c.args.exclusive true c.as_slice-wanted.result.now blocked may (omega arith)
+            wait_refused s c.requires.sound n live c.args.key c.args.file c.args.exclusive true c.as_slice-wanted.result.now blocked may (omega arith)
         | then-len-ge-MAX_WAITING-via-else-len-ge-MAX_WAITING+then-count-gt-MAX_LOCKS w ↦
-            wait_full s c.requires.sound c.whole.ensures n live c.args.key c.args.file c.args.exclusive true c.as_slice-wanted.result.now blocked may (omega arith)
+            wait_full s c.requires.sound n live c.args.key c.args.file c.args.exclusive true c.as_slice-wanted.result.now blocked may (omega arith)
       ]),
     )
 
@@ -57,7 +57,7 @@ returns-in-Ok c =
     serves_parked s _ _ c.requires.sound c.reserve.new.self _ _ refl c.park.ensures (ap (λ (ls : LockList). ls.locks) left) (ap (λ (ls : LockList). ls.reserved) left ∙ ap (λ (rs : List Range). s.locks.reserved + length rs) c.as_slice-wanted.ensures)
     few (opened_some s n c.args.file c.requires.opened) tt s _
     (ap (λ (rs : List Range). lock_ranges (drive_of s) c.args.key c.args.file (own_path s.tree n) c.args.exclusive true rs) (sym c.as_slice-wanted.ensures)
-    ∙ lock_waits s c.requires.sound c.whole.ensures n live c.args.key c.args.file c.args.exclusive true c.as_slice-wanted.result.now blocked may few room
+    ∙ lock_waits s c.requires.sound n live c.args.key c.args.file c.args.exclusive true c.as_slice-wanted.result.now blocked may few room
     ∙ ap (λ (rs : List Range). waits (drive_of s) c.args.key c.args.file (drive.Ranges c.args.exclusive rs)) c.as_slice-wanted.ensures)
 
 pub returns-in-Err-Full : goal.returns-in-Err-Full
@@ -70,4 +70,4 @@ returns-in-Err-Full c =
     let may = ap is_some alone ∙ sym c.is_some.ensures ∙ c.if-is_some.false in
     subst (λ (rs : List Range). Serves s (record s { locks = c.reserve.new.self }) (lock_ranges (drive_of s) c.args.key c.args.file (own_path s.tree n) c.args.exclusive true rs) (Err insufficient_resources)) c.as_slice-wanted.ensures
     (serves_refused s c.requires.sound c.reserve.new.self c.in-Err-Full.ensures.err _ insufficient_resources
-    (wait_full s c.requires.sound c.whole.ensures n live c.args.key c.args.file c.args.exclusive true c.as_slice-wanted.result.now blocked may (c.in-Err-Full.ensures.full.0 (ap (λ (no : LockNo). Err no) c.in-Err-Full.field-0-is))))
+    (wait_full s c.requires.sound n live c.args.key c.args.file c.args.exclusive true c.as_slice-wanted.result.now blocked may (c.in-Err-Full.ensures.full.0 (ap (λ (no : LockNo). Err no) c.in-Err-Full.field-0-is))))

@@ -4,7 +4,7 @@ use Rattle.rd_locks.specs.declared.held.Held.{Held}
 use Rattle.rd_locks.specs.declared.slots.Slot.{Slot}
 use Rattle.rd_locks.specs.Locks.{LockList}
 use Rattle.rd_locks.specs.Slots.{slot_at, standing, Leads, IsSpanned}
-use Rattle.rd_locks.specs.Index.{end_of, IsHome, IsSound}
+use Rattle.rd_locks.specs.Index.{end_of, IsHome, IsSoundIndex}
 use Rattle.rd_locks.proofs.SlotLemmas.{each_push, chained_push, reached_push, leads_at, leaps_new, true_not_false}
 use Rattle.rd_locks.proofs.StandingLemmas.{standing-push}
 use Rattle.rd_locks.proofs.locks.Locks.put.Goals as goal
@@ -19,7 +19,7 @@ invariant_of-self c =
     let taken : standing (old ++ slot ∷ []) ≡ standing old ++ c.args.lock ∷ [] = standing-push old slot refl in
     let leads : Leads old c.args.lock.node (length old) c.end_of-below.result = leads_at old _ _ _ _ _ (was.reached c.args.lock.node) refl (sym c.end_of-below.ensures) in
     let leap = c.leap_over.ensures in
-    subst (λ (slots : List Slot). IsSound slots c.add_end.new.ends c.add_home.new.homes (c.self.inside.count + 1) (c.self.inside.reserved - 1) (vec_capacity c.push_reserved.new.self)) (sym c.push_reserved.ensures.items)
+    subst (λ (slots : List Slot). IsSoundIndex slots c.add_end.new.ends c.add_home.new.homes (c.self.inside.count + 1) (c.self.inside.reserved - 1) (vec_capacity c.push_reserved.new.self)) (sym c.push_reserved.ensures.items)
     (record {
       chained = chained_push old slot was.chained leads (leaps_new old slot leads leap.within
           (subst (λ (s : List Slot). 0 < c.leap_over.result.to → (slot_at s (c.leap_over.result.to - 1)).lock.node ≡ c.args.lock.node) c.as_slice.ensures.value leap.same) leap.own

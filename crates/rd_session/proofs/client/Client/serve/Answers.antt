@@ -11,7 +11,7 @@ use Rattle.rd_session.specs.Channel.{starves}
 use Rattle.rd_session.specs.Session.{key_at}
 use Rattle.rd_session.proofs.client.Client.serve.Goals as goal
 
--- three entries, one behind another
+-- three entries, one after another
 three_added : (a b c d e : List Item) (x y z : Item) → b ≡ a → c ≡ b ++ x ∷ [] → d ≡ c ++ y ∷ [] → e ≡ d ++ z ∷ [] → e ≡ a ++ x ∷ y ∷ z ∷ []
 three_added a b c d e x y z p q r s =
     let two : d ≡ a ++ x ∷ y ∷ [] = r ∙ ap (λ (l : List Item). l ++ y ∷ []) (q ∙ ap (λ (l : List Item). l ++ x ∷ []) p) ∙ append_assoc a (x ∷ []) (y ∷ []) in

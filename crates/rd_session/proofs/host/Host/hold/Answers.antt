@@ -1,7 +1,7 @@
 use Rattle.std.proofs.Common.{ℕ, List, Option, sym, ap, ◌∙◌}
 use Rattle.std.specs.Prelude.{bytes_eq, if◌then◌else◌}
+use Rattle.rd_irp.specs.Fits.{opens}
 use Rattle.rd_session.specs.Channel.{file_under}
-use Rattle.rd_session.specs.Outcomes.{opens}
 use Rattle.rd_session.proofs.HandleLemmas.{held_behind, opened}
 use Rattle.rd_session.proofs.host.Host.hold.Goals as goal
 

@@ -1,4 +1,4 @@
-use Rattle.std.proofs.Common.{◌∙◌, sym, ap, subst, ℕ}
+use Rattle.std.proofs.Common.{◌∙◌, sym, ap, subst}
 use Rattle.rd_dirinfo.specs.Paths.{last_name}
 use Rattle.rd_tree.specs.Places.{Places, IsLive, own_path}
 use Rattle.rd_tree.specs.Nodes.{kind_of}

@@ -1,4 +1,4 @@
-use Rattle.std.proofs.Common.{◌∙◌, ◌<◌, ◌^◌, Some, true, sym, ap, subst, arith, ℕ}
+use Rattle.std.proofs.Common.{◌∙◌, ◌<◌, ◌^◌, sym, ap, subst, arith}
 use Rattle.rd_dirinfo.specs.Paths.{parent}
 use Rattle.rd_tree.specs.Places.{Places, IsLive, is_folder, own_path}
 use Rattle.rd_tree.specs.Nodes.{kind_of}

@@ -5,7 +5,7 @@ use Rattle.rd_tree.specs.Nodes.{link_of}
 use Rattle.rd_tree.specs.Places.{Places, IsLive, has_child, own_path, without}
 use Rattle.rd_tree.proofs.PlaceLemmas.{last_of, live_place}
 use Rattle.rd_tree.proofs.WayLemmas.{way_step}
-use Rattle.rd_tree.proofs.WholeLemmas.{own_seen}
+use Rattle.rd_tree.proofs.WholeLemmas.{own_seen, whole}
 use Rattle.rd_tree.proofs.ParentLemmas.{childless, link_is, has_child_seen, seen_has_child}
 use Rattle.rd_tree.proofs.RemoveLemmas.{sound_taken, removed_seen}
 use Rattle.rd_tree.proofs.tree.Tree.remove.Goals as goal
@@ -36,6 +36,14 @@ invariant_of-self c =
     let live = live_place c.self.inside.naming c.self.inside.nodes n (subst (λ (t : Places). IsLive t n) (sym c.self.view_is) c.requires.live) in
     let l = link_is c.self.inside.naming c.self.inside.nodes c.self.invariant n live c.requires.other in
     sound_taken c.self.inside.naming c.self.inside.nodes c.take_out.new.nodes c.self.invariant n l.0 l.1 l.2 (c.has_child.ensures.none c.if-has_child.false) (c.take_out.ensures.removed l.0 l.1 l.2)
+
+pub returns-clause-is_whole : goal.returns-clause-is_whole
+returns-clause-is_whole c =
+    let n : ℕ = c.args.node.0 in
+    let live = live_place c.self.inside.naming c.self.inside.nodes n (subst (λ (t : Places). IsLive t n) (sym c.self.view_is) c.requires.live) in
+    let l = link_is c.self.inside.naming c.self.inside.nodes c.self.invariant n live c.requires.other in
+    whole c.self.inside.naming c.take_out.new.nodes
+    (sound_taken c.self.inside.naming c.self.inside.nodes c.take_out.new.nodes c.self.invariant n l.0 l.1 l.2 (c.has_child.ensures.none c.if-has_child.false) (c.take_out.ensures.removed l.0 l.1 l.2))
 
 pub returns-clause-removed : goal.returns-clause-removed
 returns-clause-removed c =

@@ -5,8 +5,9 @@ use Rattle.rd_dirinfo.specs.Naming.{Name}
 use Rattle.rd_dirinfo.specs.Paths.{Names, seen_path, is_within_limits}
 use Rattle.rd_tree.specs.declared.refusal.MoveNo.{MoveNo}
 use Rattle.rd_tree.specs.declared.refusal.MoveNo.TheVariants as move
-use Rattle.rd_tree.specs.Places.{Places, IsLive, move_refusal, moved, Renames}
-use Rattle.rd_tree.specs.Walk.{down, Fits, IsDeep}
+use Rattle.std.specs.Result.{OnOk}
+use Rattle.rd_tree.specs.Places.{Places, IsLive, move_refusal, moved, IsWhole, Renames}
+use Rattle.rd_tree.specs.Walk.{down, FitsWithin, IsDeep}
 use Rattle.rd_tree.specs.Nodes.{child_of, places_of}
 use Rattle.rd_tree.proofs.NameLemmas.{path_limits}
 use Rattle.rd_tree.proofs.PlaceLemmas.{live_place, located_folder}
@@ -14,12 +15,13 @@ use Rattle.rd_tree.proofs.ParentLemmas.{link_is}
 use Rattle.rd_tree.proofs.AddLemmas.{same_seen, sound_seen}
 use Rattle.rd_tree.proofs.RefuseLemmas.{added_within, why_own, why_inside, why_lost, why_deep, why_last}
 use Rattle.rd_tree.proofs.MoveLemmas.{own_found, sound_retitled, retitled_seen}
-use Rattle.rd_tree.proofs.ShiftLemmas.{elsewhere, not_itself, not_parent, sound_shifted, shifted_seen}
+use Rattle.rd_tree.proofs.ShiftLemmas.{shifted}
+use Rattle.rd_tree.proofs.WholeLemmas.{whole}
 use Rattle.rd_tree.proofs.tree.Tree.rename.Goals.{in-Ok, in-Err, in-Ok-shift, in-Err-shift}
 use Rattle.rd_tree.proofs.tree.Tree.rename.Goals as goal
 
-pub returns-in_default : goal.returns-in_default
-returns-in_default c =
+pub returns-in_default-clause-renames : goal.returns-in_default-clause-renames
+returns-in_default-clause-renames c =
     let naming = c.self.inside.naming in
     let nodes = c.self.inside.nodes in
     let s = c.self.invariant in
@@ -57,8 +59,8 @@ invariant_of-self c =
       | in-Err w ↦ sound_seen naming nodes c.retitle.new.nodes s w.in-Err.ensures.refused
     ]
 
-pub returns-then-eq : goal.returns-then-eq
-returns-then-eq c =
+pub returns-then-eq-clause-renames : goal.returns-then-eq-clause-renames
+returns-then-eq-clause-renames c =
     let naming = c.self.inside.naming in
     let nodes = c.self.inside.nodes in
     let s = c.self.invariant in
@@ -80,8 +82,23 @@ returns-then-eq c =
       )
     ]
 
-pub returns-then-leads_through : goal.returns-then-leads_through
-returns-then-leads_through c =
+pub returns-then-eq-clause-is_whole : goal.returns-then-eq-clause-is_whole
+returns-then-eq-clause-is_whole c =
+    let naming = c.self.inside.naming in
+    let nodes = c.self.inside.nodes in
+    let s = c.self.invariant in
+    let m : ℕ = c.args.node.0 in
+    let names : Names = c.names-names.result.now in
+    let target : c.find-target.result ≡ Some m = grind (arith, common_steps) in
+    let is = sym c.find-target.ensures ∙ target in
+    elim c.match-retitle.branch [
+      | in-Ok w ↦ subst (λ r. OnOk r (IsWhole (places_of naming c.retitle.new.nodes))) (sym w.result-is)
+          (whole naming c.retitle.new.nodes (sound_retitled naming nodes c.retitle.new.nodes s m names c.in-Some.folder c.in-Some.name.now c.in-Some.ensures.located is w.in-Ok.ensures.retitled))
+      | in-Err w ↦ subst (λ r. OnOk r (IsWhole (places_of naming c.retitle.new.nodes))) (sym w.result-is) tt
+    ]
+
+pub returns-then-leads_through-clause-renames : goal.returns-then-leads_through-clause-renames
+returns-then-leads_through-clause-renames c =
     let naming = c.self.inside.naming in
     let nodes = c.self.inside.nodes in
     let s = c.self.invariant in
@@ -94,8 +111,8 @@ returns-then-leads_through c =
     let table : move_refusal (places_of naming nodes) m names c.args.replace ≡ move_refusal c.args.self.now m c.args.to.now c.args.replace = λ i. move_refusal (c.self.view_is i) m (c.names-names.ensures.names i) c.args.replace in
     (sym (ap (λ (o : Option MoveNo). unwrap_or o move.Memory) (sym table ∙ why)), refl)
 
-pub returns-in_default-locate : goal.returns-in_default-locate
-returns-in_default-locate c =
+pub returns-in_default-locate-clause-renames : goal.returns-in_default-locate-clause-renames
+returns-in_default-locate-clause-renames c =
     let naming = c.self.inside.naming in
     let nodes = c.self.inside.nodes in
     let s = c.self.invariant in
@@ -115,8 +132,8 @@ units_left-requires c =
     let within : is_within_limits c.names-names.result.now ≡ true = path_limits c.names-names.result.now c.args.to.now c.names-names.ensures.names c.names-names.ensures.within in
     (added_within c.names-names.result.now within).1
 
-pub returns-then-not-fits : goal.returns-then-not-fits
-returns-then-not-fits c =
+pub returns-then-not-fits-clause-renames : goal.returns-then-not-fits-clause-renames
+returns-then-not-fits-clause-renames c =
     let naming = c.self.inside.naming in
     let nodes = c.self.inside.nodes in
     let s = c.self.invariant in
@@ -134,8 +151,8 @@ returns-then-not-fits c =
     let table : move_refusal (places_of naming nodes) m names c.args.replace ≡ move_refusal c.args.self.now m c.args.to.now c.args.replace = λ i. move_refusal (c.self.view_is i) m (c.names-names.ensures.names i) c.args.replace in
     (sym (ap (λ (o : Option MoveNo). unwrap_or o move.Memory) (sym table ∙ why)), refl)
 
-pub returns-then-is_taken : goal.returns-then-is_taken
-returns-then-is_taken c =
+pub returns-then-is_taken-clause-renames : goal.returns-then-is_taken-clause-renames
+returns-then-is_taken-clause-renames c =
     let naming = c.self.inside.naming in
     let nodes = c.self.inside.nodes in
     let s = c.self.invariant in
@@ -148,7 +165,7 @@ returns-then-is_taken c =
     let past = c.if-leads_through.ensures.past refl in
     let loc = c.in-Some-locate.ensures.located in
     let folder = located_folder naming nodes s names c.in-Some-locate.folder c.in-Some-locate.name.now loc in
-    let fits = subst (λ (u : ℕ). Fits (child_of nodes) m (64 - length names) u) c.units_left.ensures (c.if-not-fits.ensures.fits refl) in
+    let fits = subst (λ (u : ℕ). FitsWithin (child_of nodes) m (64 - length names) u) c.units_left.ensures (c.if-not-fits.ensures.fits refl) in
     let within : is_within_limits names ≡ true = path_limits names c.args.to.now c.names-names.ensures.names c.names-names.ensures.within in
     let why = why_last naming nodes s m live names c.args.replace other past folder some true c.find-target.result c.find-target.ensures within fits (sym c.is_taken.ensures ∙ c.if-is_taken.true) in
     let table : move_refusal (places_of naming nodes) m names c.args.replace ≡ move_refusal c.args.self.now m c.args.to.now c.args.replace = λ i. move_refusal (c.self.view_is i) m (c.names-names.ensures.names i) c.args.replace in
@@ -180,23 +197,20 @@ invariant_of-self-2 c =
     let past = c.if-leads_through.ensures.past refl in
     let loc = c.in-Some-locate.ensures.located in
     let folder = located_folder naming nodes s names c.in-Some-locate.folder c.in-Some-locate.name.now loc in
-    let fits = subst (λ (u : ℕ). Fits (child_of nodes) m (64 - length names) u) c.units_left.ensures (c.if-not-fits.ensures.fits refl) in
+    let fits = subst (λ (u : ℕ). FitsWithin (child_of nodes) m (64 - length names) u) c.units_left.ensures (c.if-not-fits.ensures.fits refl) in
     let within : is_within_limits names ≡ true = path_limits names c.args.to.now c.names-names.ensures.names c.names-names.ensures.within in
     let limits = added_within names within in
     let b : ℕ = c.in-Some-locate.folder in
     let y : Name = c.in-Some-locate.name.now in
     let free = sym c.is_taken.ensures ∙ c.if-is_taken.false in
     let target : Option ℕ = c.find-target.result in
-    let e = elsewhere naming nodes s m link.0 link.1 live link.2 names b y loc target c.find-target.ensures other past limits.0 fits c.args.replace free in
-    let f = not_itself naming nodes s m link.0 link.1 live link.2 names b y loc target c.find-target.ensures other past limits.0 fits c.args.replace free in
-    let g = not_parent naming nodes s m link.0 link.1 live link.2 names b y loc target c.find-target.ensures other past limits.0 fits c.args.replace free in
     elim c.match-shift.branch [
-      | in-Ok-shift w ↦ sound_shifted naming nodes s m link.0 link.1 live link.2 names b y loc target c.find-target.ensures other past limits.0 fits c.args.replace free c.shift.new.nodes (w.in-Ok-shift.ensures.shifted link.0 link.1 link.2 e f g)
+      | in-Ok-shift w ↦ (shifted naming nodes s m link.0 link.1 live link.2 names b y loc target c.find-target.ensures other past limits.0 fits c.args.replace free c.shift.new.nodes (w.in-Ok-shift.ensures.shifted link.0 link.1 link.2)).0
       | in-Err-shift w ↦ sound_seen naming nodes c.shift.new.nodes s w.in-Err-shift.ensures.refused
     ]
 
-pub returns : goal.returns
-returns c =
+pub returns-clause-renames : goal.returns-clause-renames
+returns-clause-renames c =
     let naming = c.self.inside.naming in
     let nodes = c.self.inside.nodes in
     let s = c.self.invariant in
@@ -210,7 +224,7 @@ returns c =
     let past = c.if-leads_through.ensures.past refl in
     let loc = c.in-Some-locate.ensures.located in
     let folder = located_folder naming nodes s names c.in-Some-locate.folder c.in-Some-locate.name.now loc in
-    let fits = subst (λ (u : ℕ). Fits (child_of nodes) m (64 - length names) u) c.units_left.ensures (c.if-not-fits.ensures.fits refl) in
+    let fits = subst (λ (u : ℕ). FitsWithin (child_of nodes) m (64 - length names) u) c.units_left.ensures (c.if-not-fits.ensures.fits refl) in
     let within : is_within_limits names ≡ true = path_limits names c.args.to.now c.names-names.ensures.names c.names-names.ensures.within in
     let why = why_last naming nodes s m live names c.args.replace other past folder some false c.find-target.result c.find-target.ensures within fits (sym c.is_taken.ensures ∙ c.if-is_taken.false) in
     let table : move_refusal (places_of naming nodes) m names c.args.replace ≡ move_refusal c.args.self.now m c.args.to.now c.args.replace = λ i. move_refusal (c.self.view_is i) m (c.names-names.ensures.names i) c.args.replace in
@@ -219,16 +233,41 @@ returns c =
     let y : Name = c.in-Some-locate.name.now in
     let free = sym c.is_taken.ensures ∙ c.if-is_taken.false in
     let target : Option ℕ = c.find-target.result in
-    let e = elsewhere naming nodes s m link.0 link.1 live link.2 names b y loc target c.find-target.ensures other past limits.0 fits c.args.replace free in
-    let f = not_itself naming nodes s m link.0 link.1 live link.2 names b y loc target c.find-target.ensures other past limits.0 fits c.args.replace free in
-    let g = not_parent naming nodes s m link.0 link.1 live link.2 names b y loc target c.find-target.ensures other past limits.0 fits c.args.replace free in
     elim c.match-shift.branch [
       | in-Ok-shift w ↦ subst (λ r. Renames c.args.self.now (places_of naming c.shift.new.nodes) m c.args.to.now c.args.replace r) (sym w.result-is) (
         sym table ∙ why,
-        shifted_seen naming nodes s m link.0 link.1 live link.2 names b y loc target c.find-target.ensures other past limits.0 fits c.args.replace free c.shift.new.nodes (w.in-Ok-shift.ensures.shifted link.0 link.1 link.2 e f g) ∙ (λ i. moved (c.self.view_is i) m (c.names-names.ensures.names i)),
+        (shifted naming nodes s m link.0 link.1 live link.2 names b y loc target c.find-target.ensures other past limits.0 fits c.args.replace free c.shift.new.nodes (w.in-Ok-shift.ensures.shifted link.0 link.1 link.2)).1 ∙ (λ i. moved (c.self.view_is i) m (c.names-names.ensures.names i)),
       )
       | in-Err-shift w ↦ subst (λ r. Renames c.args.self.now (places_of naming c.shift.new.nodes) m c.args.to.now c.args.replace r) (sym w.result-is) (
         sym (ap (λ (o : Option MoveNo). unwrap_or o move.Memory) (sym table ∙ why)),
         same_seen naming nodes c.shift.new.nodes w.in-Err-shift.ensures.refused ∙ c.self.view_is,
       )
+    ]
+
+pub returns-clause-is_whole : goal.returns-clause-is_whole
+returns-clause-is_whole c =
+    let naming = c.self.inside.naming in
+    let nodes = c.self.inside.nodes in
+    let s = c.self.invariant in
+    let m : ℕ = c.args.node.0 in
+    let names : Names = c.names-names.result.now in
+    let live = live_place naming nodes m (subst (λ (t : Places). IsLive t m) (sym c.self.view_is) c.requires.live) in
+    let link = link_is naming nodes s m live c.requires.other in
+    let some : 0 < length names = subst (λ (p : Names). 0 < length p) (sym c.names-names.ensures.names) c.requires.target in
+    let none : c.find-target.result ≡ Some m → ⊥ = λ e. grind (arith, common_steps) in
+    let other = λ (e : down (child_of nodes) 0 (seen_path naming names) ≡ Some m). none (c.find-target.ensures ∙ e) in
+    let past = c.if-leads_through.ensures.past refl in
+    let loc = c.in-Some-locate.ensures.located in
+    let folder = located_folder naming nodes s names c.in-Some-locate.folder c.in-Some-locate.name.now loc in
+    let fits = subst (λ (u : ℕ). FitsWithin (child_of nodes) m (64 - length names) u) c.units_left.ensures (c.if-not-fits.ensures.fits refl) in
+    let within : is_within_limits names ≡ true = path_limits names c.args.to.now c.names-names.ensures.names c.names-names.ensures.within in
+    let limits = added_within names within in
+    let b : ℕ = c.in-Some-locate.folder in
+    let y : Name = c.in-Some-locate.name.now in
+    let free = sym c.is_taken.ensures ∙ c.if-is_taken.false in
+    let target : Option ℕ = c.find-target.result in
+    elim c.match-shift.branch [
+      | in-Ok-shift w ↦ subst (λ r. OnOk r (IsWhole (places_of naming c.shift.new.nodes))) (sym w.result-is)
+          (whole naming c.shift.new.nodes (shifted naming nodes s m link.0 link.1 live link.2 names b y loc target c.find-target.ensures other past limits.0 fits c.args.replace free c.shift.new.nodes (w.in-Ok-shift.ensures.shifted link.0 link.1 link.2)).0)
+      | in-Err-shift w ↦ subst (λ r. OnOk r (IsWhole (places_of naming c.shift.new.nodes))) (sym w.result-is) tt
     ]

@@ -1,8 +1,8 @@
 use Rattle.std.proofs.Common.{sym, ap, ◌∙◌, subst, Some}
+use Rattle.std.proofs.lemmas.Option.{same_Some}
 use mathlib.Core.Option.{some-injective}
 use Rattle.rd_turn.specs.History.{Leads}
 use Rattle.rd_turn.specs.Pass.{HasAllCalls, IsNumbered}
-use Rattle.rd_turn.proofs.ChangeLemmas.{some_same}
 use Rattle.rd_turn.proofs.CloseLemmas.{closes, closes_all, closes_known}
 use Rattle.rd_turn.proofs.turn.Turn.close.Goals as goal
 
@@ -23,7 +23,7 @@ returns-clause-leads g c =
     let opening = ap (λ p. p.opening) c.self.view_is in
     subst (λ o. Leads g.O.Object.steps o c.args.pass.seen c.in-Some.object) opening
     (subst (λ l. Leads g.O.Object.steps c.self.inside.table.shared.key.value l c.in-Some.object) (ap (λ t. t.seen) same)
-    (subst (λ o. Leads g.O.Object.steps c.self.inside.table.shared.key.value c.into_seat.result.me.0.seen o) (some_same _ _ (sym is ∙ c.in-Some.is)) home.2))
+    (subst (λ o. Leads g.O.Object.steps c.self.inside.table.shared.key.value c.into_seat.result.me.0.seen o) (same_Some _ _ (sym is ∙ c.in-Some.is)) home.2))
 
 pub returns-clause-all : goal.returns-clause-all
 returns-clause-all g c =

@@ -1,8 +1,0 @@
-use Rattle.std.proofs.Common.{◌≡◌, ◌++◌, drop}
-use Rattle.std.specs.List.{flat_map}
-use Rattle.rd_script.specs.Asking.{device_in, devices_of}
-use Rattle.rd_script.proofs.asking.devices_of.Given as goal
-
--- the devices so far, and those of the lines that are left
-abbrev pub invariant-loop-line : goal.invariant-loop-line
-invariant-loop-line l = l.devices.items ++ flat_map device_in (drop l.line-index l.lines) ≡ devices_of l.lines
