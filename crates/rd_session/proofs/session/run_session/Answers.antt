@@ -78,6 +78,10 @@ returns-in_err-write_piece-clause-early g c =
     let lines = lines_more _ _ _ _ _ _ _ _ _ _ _ _ _ _ _ _ c.loop-ask.invariant.lines steps.0 steps.1 c.in_ok-push.ensures.items c.in_ok-serve.ensures.ended in
     on_err_of c.from_residual-in_err-write_piece.result _ (λ known can. ended_early _ _ _ _ _ _ _ _ _ _ _ known c.requires lines c.in_err-write_piece.ensures.prefix can)
 
+pub returns-in_err-write_all-clause-counted : goal.returns-in_err-write_all-clause-counted
+returns-in_err-write_all-clause-counted g c =
+    counts_wire c.from_residual-in_err-write_all.result _ _ c.from_residual-in_err-write_all.ensures.1 (c.in_err-write_all.ensures.counted ∙ ap one_more c.loop-ask.invariant.counted)
+
 pub returns-in_err-write_all-clause-early : goal.returns-in_err-write_all-clause-early
 returns-in_err-write_all-clause-early g c =
     on_err_of c.from_residual-in_err-write_all.result _
