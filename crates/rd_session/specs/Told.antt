@@ -1,5 +1,5 @@
 -- What a client tells on a channel, by the journal of its device.
-use Rattle.std.specs.Prelude.{◌≡◌, ℕ, ◌<◌, ◌≤◌, ◌^◌, ◌⊎◌, ◌==◌, ◌&&◌, if◌then◌else◌, Bool, List, ◌++◌, length, take, drop, filter, count_by, Option, Some, None, slice_get, Contains, bytes_eq}
+use Rattle.std.specs.Prelude.{◌≡◌, ℕ, ◌<◌, ◌≤◌, ◌^◌, ◌==◌, ◌&&◌, if◌then◌else◌, Bool, List, ◌++◌, length, take, drop, filter, count_by, Option, Some, None, slice_get, Contains, bytes_eq}
 use Rattle.std.specs.List.{AllZip, filter_map}
 use Rattle.std.specs.Int.{w32, to_le_bytes}
 use Rattle.rd_base.specs.declared.journal.Key.{Key}
@@ -12,7 +12,7 @@ use Rattle.rd_irp.specs.Completion.{SpellsHead, SpellsBody}
 use Rattle.rd_base.specs.declared.packet.Packet.TheVariants.{IoRequest, IoCompletion}
 use Rattle.rd_base.specs.Header.{header_bytes}
 use Rattle.rd_irp.specs.Written.{completion_bytes}
-use Rattle.rd_drive.specs.Replies.{IsAnswer, cancellation}
+use Rattle.rd_drive.specs.Replies.{IsAnswer}
 use Rattle.rd_session.specs.Recording.{Passed, is_host, is_client}
 
 -- the message is the completion of this request with this reply: the request's device, completion id and kind

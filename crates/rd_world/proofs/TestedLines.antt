@@ -107,7 +107,7 @@ module _ (channels devices applications : List ℕ) where
         one _ e = refl
 
   pub rest_within : (x : Deed) (before : List Deed) → are_within (x ∷ before) ≡ true → are_within before ≡ true
-  rest_within x before e = (and_parts _ _ {a = is_within channels devices applications x} e).1
+  rest_within x before e = (and_parts (is_within channels devices applications x) _ e).1
 
   pub none_by : (deeds : List Deed) → are_within deeds ≡ true → (a : ℕ) → among a applications ≡ false → list_any (is_submission_of a) deeds ≡ false
   none_by [] within a isnt = refl
