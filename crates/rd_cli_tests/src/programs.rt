@@ -16,6 +16,11 @@ const LONG_REPORT: &[u8] =
 /// What is recorded of a script without requests.
 const EMPTY: &[u8] = b"RDRREC01\x02";
 
+/// The calls that fail: none.
+fn never(alloc: Global) -> Calls {
+    Calls::of(Vec::new(alloc))
+}
+
 /// Runs the program over an input, with its recording in a file. The output is any sink.
 fn ended<K: Sink>(
     rt: &HostRuntime,
@@ -24,13 +29,13 @@ fn ended<K: Sink>(
     input: &[u8],
     output: &mut K,
 ) -> Result<ExitCode, AllocError> {
-    let never = Calls::of(Vec::new(rt.alloc()));
-    let words = vec![in rt.alloc(); String::from_str(rt.alloc(), word)?]?;
-    let mut input = MemSource::new(Bytes::of(input.to_vec(rt.alloc())?), never.copy()?);
+    let alloc = rt.alloc();
+    let words = vec![in alloc; String::from_str(alloc, word)?]?;
+    let mut input = MemSource::new(Bytes::of(input.to_vec(alloc)?), never(alloc));
     let mut recording = FileSink::new(rt, path);
-    let mut notes = MemSink::new(rt.alloc(), never);
+    let mut notes = MemSink::new(alloc, never(alloc));
     Ok(program(
-        rt.alloc(),
+        alloc,
         Ok(words),
         &mut input,
         output,
@@ -46,7 +51,7 @@ fn printed(
     word: &str,
     input: &[u8],
 ) -> Result<(ExitCode, MemSink), AllocError> {
-    let mut output = MemSink::new(rt.alloc(), Calls::of(Vec::new(rt.alloc())));
+    let mut output = MemSink::new(rt.alloc(), never(rt.alloc()));
     let code = ended(rt, path, word, input, &mut output)?;
     Ok((code, output))
 }
@@ -118,16 +123,14 @@ fn ends_with_3_on_a_full_disk(rt: HostRuntime) -> Result<(), Fail> {
 
 /// Want of memory for the words.
 #[test]
-fn ends_with_6_without_memory_for_its_words(rt: HostRuntime) -> Result<(), Fail> {
-    let never = Calls::of(Vec::new(rt.alloc()));
-    let mut input = MemSource::new(Bytes::of(Vec::new(rt.alloc())), never.copy()?);
-    let [mut output, mut recording] = [never.copy()?, never.copy()?].map(|never| MemSink::new(
-        rt.alloc(),
-        never,
-    ));
-    let mut notes = MemSink::new(rt.alloc(), never);
+fn ends_with_6_without_memory_for_its_words(rt: HostRuntime) {
+    let alloc = rt.alloc();
+    let mut input = MemSource::new(Bytes::of(Vec::new(alloc)), never(alloc));
+    let mut output = MemSink::new(alloc, never(alloc));
+    let mut recording = MemSink::new(alloc, never(alloc));
+    let mut notes = MemSink::new(alloc, never(alloc));
     let code = program(
-        rt.alloc(),
+        alloc,
         Err(AllocError),
         &mut input,
         &mut output,
@@ -136,7 +139,6 @@ fn ends_with_6_without_memory_for_its_words(rt: HostRuntime) -> Result<(), Fail>
     );
     assert!(rt; code == ExitCode::from(6));
     assert_eq!(rt; notes.bytes(), b"rdr: out of memory\n".as_slice());
-    Ok(())
 }
 
 /// A system with these words after the program's name.
