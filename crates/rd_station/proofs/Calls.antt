@@ -19,7 +19,8 @@ use Rattle.rd_station.specs.declared.answers.Completion.{Completion}
 use Rattle.rd_station.specs.declared.refusals.AnnounceNo.TheVariants as refused
 use Rattle.rd_station.specs.declared.refusals.PutWhy.{PutWhy}
 use Rattle.rd_station.specs.declared.refusals.PutWhy.TheVariants as why
-use Rattle.rd_station.specs.Station.{CameOf, cancelled_in_hand, DidRun, InHand, MayPut, PutRefused, StationCall, StationState, StationStep, StationSteps, announces, applies, apply_from, collects, drop_channel, drops, ends, held, is_key, new_station, put_refusal, put_unless, puts, puts_unfit, ran, remove, removes, takes}
+use Rattle.rd_station.specs.declared.held.InHand.{InHand}
+use Rattle.rd_station.specs.Station.{CameOf, cancelled_in_hand, DidRun, MayPut, PutRefused, StationCall, StationState, StationStep, StationSteps, announces, applies, apply_from, collects, drop_channel, drops, ends, held, is_key, new_station, put_refusal, put_unless, puts, puts_unfit, ran, remove, removes, takes}
 use Rattle.rd_station.specs.Tied.{IsKept, IsReached}
 use Rattle.rd_station.proofs.Members.{Has, all_of, find_has, key_self, same_key}
 use Rattle.rd_station.proofs.Counts.{cnt, cnt_all, cnt_cons, cnt_is, cnt_nil, cnt_some}
@@ -65,7 +66,7 @@ was_removed false x y e = absurd (cc)
 
 module _ {S : Type 0} (Runs : S → Planned → ℕ → Step → List End → S → Type 0) (parked_in : S → List Parked) (Cuts : S → S → Type 0) where
   -- on some channel
-  abbrev IsGood : StationState S → Type 0
+  abbrev pub IsGood : StationState S → Type 0
   IsGood s = (c : ℕ) × Keeps parked_in c s
 
   module _ (c : ℕ) (old new : StationState S) (keeps : Keeps parked_in c old) where
@@ -165,6 +166,10 @@ module _ {S : Type 0} (Runs : S → Planned → ℕ → Step → List End → S 
   -- a new station
   begins : (device : S) → parked_in device ≡ [] → Keeps parked_in 0 (new_station device)
   begins device nothing = keeps_none parked_in 0 (new_station device) refl none_lawful (All-nil (λ entry. IfSome (named_key entry) (λ key. key.channel ≤ 0))) (cnt_nil (is_unsent [] 0)) (sym nothing) (omega arith)
+
+  -- what always holds of a station that is reached
+  pub reached_keeps : (s : StationState S) → IsReached Runs parked_in Cuts s → IsGood s
+  reached_keeps s is = steps_keep is.calls (new_station is.device) s (0, begins is.device is.nothing) is.steps
 
   -- a station after calls is kept
   pub all_kept : (device : S) (calls : List StationCall) (s : StationState S) → parked_in device ≡ [] → StationSteps Runs parked_in Cuts (new_station device) calls s → IsKept parked_in s

@@ -8,7 +8,8 @@ use Rattle.rd_base.specs.declared.journal.Key.{Key}
 use Rattle.rd_drive.specs.declared.step.End.{End}
 use Rattle.rd_drive.specs.Device.{AreEnded, CompletesKind, IsEndOf, Parked}
 use Rattle.rd_station.specs.declared.answers.Completion.{Completion}
-use Rattle.rd_station.specs.Station.{ParkedJob, completion_of, ended_completion, is_ended, is_key}
+use Rattle.rd_station.specs.declared.held.ParkedJob.{ParkedJob}
+use Rattle.rd_station.specs.Station.{completion_of, ended_completion, is_ended, is_key}
 use Rattle.rd_station.specs.Tied.{as_parked}
 use Rattle.rd_station.proofs.Members.{AreApart, Has, apart_key, find_has, has_append, has_map, key_self, map_has, same_key}
 use Rattle.rd_station.proofs.Counts.{cnt, cnt_append, cnt_nil, cnt_one, fewer, filter_same, filter_twice, has_filter, one_gone}
@@ -33,7 +34,7 @@ end_of (w ∷ ws) ends left (inl one) e has = elim (subst (Has e) one.2 has) [
 ]
 end_of (w ∷ ws) ends left (inr on) e has = let found = end_of ws ends on.0 on.2 e has in (found.0, inr found.1, found.2)
 
-end_among : (ws : List Parked) (ends : List End) (left : List Parked) → AreEnded ws ends left → (k : Key) → Has k (map end_key ends) → Has k (map request_key ws)
+pub end_among : (ws : List Parked) (ends : List End) (left : List Parked) → AreEnded ws ends left → (k : Key) → Has k (map end_key ends) → Has k (map request_key ws)
 end_among ws ends left are k has =
     let found = map_has end_key k ends has in
     let w = end_of ws ends left are found.0 found.1 in

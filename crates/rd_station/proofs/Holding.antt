@@ -4,7 +4,9 @@ use Rattle.std.proofs.lemmas.List.{length-append, length-map}
 use Rattle.rd_base.specs.declared.journal.Key.{Key}
 use Rattle.rd_drive.specs.declared.plan.Job.{Job}
 use Rattle.rd_station.specs.declared.answers.Completion.{Completion}
-use Rattle.rd_station.specs.Station.{InHand, without_taken, ParkedJob, StationState, held, is_key}
+use Rattle.rd_station.specs.declared.held.InHand.{InHand}
+use Rattle.rd_station.specs.declared.held.ParkedJob.{ParkedJob}
+use Rattle.rd_station.specs.Station.{without_taken, StationState, held, is_key}
 use Rattle.rd_station.proofs.Members.{AreApart, Has, filter_has, has_append, key_self, map_has, other_key}
 use Rattle.rd_station.proofs.Cancelling.{job_key}
 use Rattle.rd_station.proofs.Counts.{cnt, cnt_append, cnt_cons, cnt_map, cnt_others, cnt_some, cnt_zero}

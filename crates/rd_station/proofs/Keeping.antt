@@ -25,7 +25,9 @@ use Rattle.rd_station.specs.declared.answers.Given.TheVariants as given
 use Rattle.rd_station.specs.declared.refusals.AnnounceNo.{AnnounceNo}
 use Rattle.rd_station.specs.declared.refusals.AnnounceNo.TheVariants as refused
 use Rattle.rd_station.specs.declared.refusals.PutWhy.TheVariants as why
-use Rattle.rd_station.specs.Station.{InHand, IsKnown, MayPut, announce, collect, take, without_taken, ParkedJob, StationState, cancelled_in_hand, cancelled_parked, cancelled_waiting, collect_first, completion_of, drop_channel, emptied, ended_completion, entry_count, held, is_ended, marked_removed, max_entries, own_completion, put_refusal, ran, remove, take_first, is_key}
+use Rattle.rd_station.specs.declared.held.InHand.{InHand}
+use Rattle.rd_station.specs.declared.held.ParkedJob.{ParkedJob}
+use Rattle.rd_station.specs.Station.{IsKnown, MayPut, announce, collect, take, without_taken, StationState, cancelled_in_hand, cancelled_parked, cancelled_waiting, collect_first, completion_of, drop_channel, emptied, ended_completion, entry_count, held, is_ended, marked_removed, max_entries, own_completion, put_refusal, ran, remove, take_first, is_key}
 use Rattle.rd_station.specs.Tied.{as_parked}
 use Rattle.rd_station.proofs.Members.{AreApart, Has, apart_key, filter_has, has_append, key_self, map_has, same_key}
 use Rattle.rd_station.proofs.Cancelling.{AreCancelled, AreOvertaken, cancellations, cancels_each, cancels_leave, job_key}
@@ -82,7 +84,7 @@ module _ {S : Type 0} (parked_in : S → List Parked) where
   low_at c s keeps key on = subst (λ (d : ℕ). NoneAboveChannel d s.journal) (sym on) keeps.low
 
   -- what is held came, on the channel
-  held_at : (c : ℕ) (s : StationState S) → Keeps c s → (x : Key × ℕ) → Has x (held s) → ((x.0).channel ≡ c) × Contains s.journal (Came x.0)
+  pub held_at : (c : ℕ) (s : StationState S) → Keeps c s → (x : Key × ℕ) → Has x (held s) → ((x.0).channel ≡ c) × Contains s.journal (Came x.0)
   held_at c s keeps = in_held (λ (x : Key × ℕ). ((x.0).channel ≡ c) × Contains s.journal (Came x.0)) s
       (λ job has. let (on, is) = keeps.waiting job has in (on, is.unrun.came))
       (λ t has. let (on, is) = keeps.taken t has in (on, held_came t.removed t.key s.journal is))
@@ -133,7 +135,7 @@ module _ {S : Type 0} (parked_in : S → List Parked) where
   -- ---- a job comes
 
   -- where nothing speaks against a job, what that means
-  free : (s : StationState S) (job : Job) → put_refusal s job ≡ None
+  pub free : (s : StationState S) (job : Job) → put_refusal s job ≡ None
       → (s.live ≡ true) × (find (λ (other : Key × ℕ). other.1 == job.completion) (held s) ≡ None) × (length (held s) < 128) × (entry_count s ≤ max_entries - 3)
   free s job e = go s.live refl (find (λ (other : Key × ℕ). other.1 == job.completion) (held s)) refl (nat_le 128 (length (held s))) refl (nat_lt (max_entries - 3) (entry_count s)) refl e
     where
@@ -147,7 +149,7 @@ module _ {S : Type 0} (parked_in : S → List Parked) where
       go true l None f false m false n e = (l, f, leb-false 128 (length (held s)) m, ltb-false (max_entries - 3) (entry_count s) n)
 
   -- where none is found, none passes
-  none_found : {A : Type 0} (p : A → Bool) (xs : List A) → find p xs ≡ None → (x : A) → Has x xs → p x ≡ false
+  pub none_found : {A : Type 0} (p : A → Bool) (xs : List A) → find p xs ≡ None → (x : A) → Has x xs → p x ≡ false
   none_found p [] e x has = absurd has
   none_found {A} p (y ∷ xs) e x has = go (p y) refl e has (λ f h. none_found p xs f x h)
     where
@@ -195,7 +197,7 @@ module _ {S : Type 0} (parked_in : S → List Parked) where
         ]
 
   -- a station that holds nothing may go on to a later channel
-  moved : (c : ℕ) (s : StationState S) → Keeps c s → (key : Key) → MayPut s key → Keeps key.channel s
+  pub moved : (c : ℕ) (s : StationState S) → Keeps c s → (key : Key) → MayPut s key → Keeps key.channel s
   moved c s keeps key may = by (held s) refl
     where
       by : (hs : List (Key × ℕ)) → held s ≡ hs → Keeps key.channel s
@@ -212,7 +214,7 @@ module _ {S : Type 0} (parked_in : S → List Parked) where
 
   -- a job comes on the channel
   module _ (s : StationState S) (job : Job) (keeps : Keeps job.key.channel s) (may : MayPut s job.key) (e : put_refusal s job ≡ None) where
-    abbrev with_job : StationState S
+    abbrev pub with_job : StationState S
     with_job = record s { waiting = s.waiting ++ job ∷ []; journal = s.journal ++ Came job.key ∷ [] }
 
     -- what came has another key
@@ -238,7 +240,7 @@ module _ {S : Type 0} (parked_in : S → List Parked) where
     few_yet less c on = subst (λ (d : ℕ). unsent_on d s.journal + 1 ≤ 128) (eqb-true job.key.channel c on) (omega (arith, keeps.unsent, size_held s, less))
 
     -- one more of each kind that the job is of
-    one_more : (p : Key × ℕ → Bool) → tally p with_job ≡ tally p s + cond (p (job.key, job.completion)) 1 0
+    pub one_more : (p : Key × ℕ → Bool) → tally p with_job ≡ tally p s + cond (p (job.key, job.completion)) 1 0
     one_more p = omega (arith, cnt_append (of_job p) s.waiting (job ∷ []), cnt_one (of_job p) job)
 
     -- at most one of a kind is held, where at most one was and none was of the job's
@@ -372,7 +374,7 @@ module _ {S : Type 0} (parked_in : S → List Parked) where
     once = hand_once s keeps.few t has
 
     -- it is in a hand once, so one is left the fewer
-    one_less : length (without_taken t.key s.taken) + 1 ≡ length s.taken
+    pub one_less : length (without_taken t.key s.taken) + 1 ≡ length s.taken
     one_less = without_one s keeps.few t has
 
     -- it came on the channel
@@ -469,16 +471,16 @@ module _ {S : Type 0} (parked_in : S → List Parked) where
     abbrev entry : Item
     entry = Ran t.key moment (is_starved came.answer) (is_parked came.answer)
 
-    abbrev own : List Completion
+    abbrev pub own : List Completion
     own = own_completion t (kind_of job.op) came.answer
 
-    abbrev own_parked : List ParkedJob
+    abbrev pub own_parked : List ParkedJob
     own_parked = cond (is_parked came.answer) (record { key = t.key; completion = t.completion; kind = kind_of job.op } ∷ []) []
 
-    abbrev by_ends : List Completion
+    abbrev pub by_ends : List Completion
     by_ends = flat_map (ended_completion s.parked) came.ends
 
-    abbrev left_parked : List ParkedJob
+    abbrev pub left_parked : List ParkedJob
     left_parked = filter (λ p. not (is_ended came.ends p)) s.parked
 
     -- it was fresh, and on the channel
@@ -535,11 +537,11 @@ module _ {S : Type 0} (parked_in : S → List Parked) where
     ready_sizes p = omega (arith, cnt_append (of_ready p) (s.ready ++ own) by_ends, cnt_append (of_ready p) s.ready own)
 
     -- which are no more than before
-    less : (p : Key × ℕ → Bool) → cnt (of_parked p) (left_parked ++ own_parked) + cnt (of_ready p) (s.ready ++ own ++ by_ends) ≤ cnt (of_parked p) s.parked + cnt (of_ready p) s.ready + cond (p (t.key, t.completion)) 1 0
+    pub less : (p : Key × ℕ → Bool) → cnt (of_parked p) (left_parked ++ own_parked) + cnt (of_ready p) (s.ready ++ own ++ by_ends) ≤ cnt (of_parked p) s.parked + cnt (of_ready p) s.ready + cond (p (t.key, t.completion)) 1 0
     less p = omega (arith, sizes p, ready_sizes p, own_tally p t (kind_of job.op) came.answer, no_more p s.parked came.ends ends_apart)
 
     -- as many are held as before
-    as_many : length (left_parked ++ own_parked) + length (s.ready ++ own ++ by_ends) ≡ length s.parked + length s.ready + 1
+    pub as_many : length (left_parked ++ own_parked) + length (s.ready ++ own ++ by_ends) ≡ length s.parked + length s.ready + 1
     as_many = omega (
       arith,
       less every,

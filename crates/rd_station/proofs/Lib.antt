@@ -8,3 +8,8 @@ pub mod Holding
 pub mod Keeping
 pub mod Calls
 pub mod Tying
+pub mod Rising
+pub mod Settling
+pub mod Keys
+pub mod Soundness
+pub mod Parts

@@ -32,7 +32,9 @@ use Rattle.rd_station.specs.declared.refusals.AnnounceNo.{AnnounceNo}
 use Rattle.rd_station.specs.declared.refusals.AnnounceNo.TheVariants as refused
 use Rattle.rd_station.specs.declared.refusals.PutWhy.{PutWhy}
 use Rattle.rd_station.specs.declared.refusals.PutWhy.TheVariants as why
-use Rattle.rd_station.specs.Station.{CameOf, DidRun, InHand, ParkedJob, PutRefused, StationCall, StationState, StationStep, StationSteps, announce, announces, applies, apply_from, cancelled_in_hand, cancelled_parked, cancelled_waiting, collect, collect_first, collects, completion_of, drop_channel, drops, emptied, ended_completion, ends, entry_count, is_key, marked_removed, max_entries, new_station, own_completion, put_refusal, put_unless, puts, puts_unfit, ran, remove, removes, take, take_first, takes}
+use Rattle.rd_station.specs.declared.held.InHand.{InHand}
+use Rattle.rd_station.specs.declared.held.ParkedJob.{ParkedJob}
+use Rattle.rd_station.specs.Station.{CameOf, DidRun, PutRefused, StationCall, StationState, StationStep, StationSteps, announce, announces, applies, apply_from, cancelled_in_hand, cancelled_parked, cancelled_waiting, collect, collect_first, collects, completion_of, drop_channel, drops, emptied, ended_completion, ends, entry_count, is_key, marked_removed, max_entries, new_station, own_completion, put_refusal, put_unless, puts, puts_unfit, ran, remove, removes, take, take_first, takes}
 use Rattle.rd_station.specs.Tied.{IsReached, IsRunBy, IsTied, RunsOwn, as_parked}
 use Rattle.rd_station.proofs.Members.{Has, all_of, find_has, from_contains, has_append, has_left, has_map, has_right, map_has, same_key, to_contains}
 use Rattle.rd_station.proofs.Cancelling.{cancellations}

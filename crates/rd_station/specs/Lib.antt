@@ -1,3 +1,5 @@
 pub mod Station
+pub mod Queues
 pub mod Tied
+pub mod Sound
 pub mod Worked

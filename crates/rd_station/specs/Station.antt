@@ -31,6 +31,8 @@ use Rattle.rd_station.specs.declared.answers.Given.TheVariants as given
 use Rattle.rd_station.specs.declared.answers.Applied.{Applied}
 use Rattle.rd_station.specs.declared.answers.Applied.TheVariants as applied
 use Rattle.rd_station.specs.declared.answers.Completion.{Completion}
+use Rattle.rd_station.specs.declared.held.InHand.{InHand}
+use Rattle.rd_station.specs.declared.held.ParkedJob.{ParkedJob}
 
 -- the most jobs that a station holds
 abbrev pub max_held : ℕ
@@ -39,18 +41,6 @@ max_held = 128
 -- the most entries of a journal, reserved places among them
 abbrev pub max_entries : ℕ
 max_entries = 16777216
-
--- a job in a hand, and whether the device was removed since it came
-pub record InHand : Type 0 where
-  pub key : Key
-  pub completion : ℕ
-  pub removed : Bool
-
--- a job whose request waits inside the device
-pub record ParkedJob : Type 0 where
-  pub key : Key
-  pub completion : ℕ
-  pub kind : Kind
 
 -- A station over a device with states of the type S.
 pub record StationState (S : Type 0) : Type 0 where

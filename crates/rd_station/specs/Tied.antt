@@ -1,5 +1,5 @@
 -- What ties a station to its journal, in every state.
-use Rattle.std.specs.Prelude.{◌≡◌, ◌≢◌, ◌⊎◌, ◌≤◌, ℕ, List, [], All, AllPairs, length, map}
+use Rattle.std.specs.Prelude.{◌≡◌, ◌≢◌, ◌≤◌, ℕ, List, [], All, AllPairs, length, map}
 use Rattle.rd_base.specs.declared.journal.Key.{Key}
 use Rattle.rd_base.specs.Lawful.{IsLawful}
 use Rattle.rd_irp.specs.declared.op.Op.{Op}
@@ -12,7 +12,8 @@ use Rattle.rd_drive.specs.Promise.{Cancels}
 use Rattle.rd_drive.specs.Replies.{AreToldBy, IsAnswer, last_state_by, replies_by}
 use Rattle.rd_drive.specs.Stepped.{Settled, Stepped, ran_step}
 use Rattle.rd_station.specs.declared.answers.Completion.{Completion}
-use Rattle.rd_station.specs.Station.{DidRun, ParkedJob, StationCall, StationState, applies, entry_count, held, max_entries, max_held, new_station, StationSteps}
+use Rattle.rd_station.specs.declared.held.ParkedJob.{ParkedJob}
+use Rattle.rd_station.specs.Station.{DidRun, StationCall, StationState, applies, entry_count, held, max_entries, max_held, new_station, StationSteps}
 
 -- a parked job, as the device tells it
 abbrev pub as_parked : ParkedJob → Parked

@@ -1,15 +1,13 @@
 //! The requests of one device, from the moment when they come until their completions are handed out, and the device's journal.
 //!
-//! It stands on `rd_drive`, `rd_irp` and `rd_base`. It is definitions with laws of them, and no code yet: the layer above uses
-//! `stations_are_kept` (after any calls the journal is lawful, and what is held is bounded) and `stations_stay_tied` (the device and what is
-//! ready are as the journal tells).
-//!
-//! Cost: nothing of it runs.
+//! It stands on `rd_drive`, `rd_irp` and `rd_base`.
 #![tactic(auto)]
 
 mod answers;
+mod held;
 mod laws;
 mod refusals;
+mod station;
 
 pub use answers::{Applied, Completion, Given};
 pub use laws::{
@@ -17,3 +15,4 @@ pub use laws::{
     stations_are_as_listed, stations_are_kept, stations_stay_tied, ties_are_as_listed,
 };
 pub use refusals::{AnnounceNo, PutNo, PutWhy, StationNo};
+pub use station::{MAX_ENTRIES, Station};
