@@ -1,2 +1,5 @@
 pub mod NoticeLemmas
 pub mod PrinterLemmas
+pub mod StepLemmas
+pub mod EntryLemmas
+pub mod CacheLemmas

@@ -1,5 +1,5 @@
 -- What a client keeps for printers, by what it is told of them (MS-RDPEPC 2.2.2.3 to 2.2.2.6).
-use Rattle.std.specs.Prelude.{◌≡◌, ℕ, List, Option, Result, Ok, Err, fold}
+use Rattle.std.specs.Prelude.{◌≡◌, ℕ, List, Option, Result, Ok, Err, fold, map, Vec}
 use Rattle.std.specs.Option.{option_map_or}
 use Rattle.std.specs.Map.{lookup, remove_entry}
 use Rattle.std.specs.Ordering.{nat_cmp}
@@ -42,3 +42,11 @@ HearsNotice old notice (Err no_memory) new = new ≡ old
 -- what is kept after notices, in order
 abbrev pub heard_all : CacheState → List Notice → CacheState
 heard_all cache notices = fold heard cache notices
+
+-- the order of names that are kept
+abbrev pub printer_name_cmp : {A : Type 0} → Vec ℕ A → Vec ℕ A → Ordering
+printer_name_cmp x y = bytes_cmp x.items y.items
+
+-- what is kept by names, by the bytes of the names
+abbrev pub by_bytes : {A : Type 0} → List (Vec ℕ A × List ℕ) → CacheState
+by_bytes entries = map (λ e. (e.0.items, e.1)) entries

@@ -2,4 +2,8 @@
 #![tactic(auto)]
 
 #[cfg(test)]
-mod tests;
+mod cache;
+#[cfg(test)]
+mod notices;
+#[cfg(test)]
+mod printer;

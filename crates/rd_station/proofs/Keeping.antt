@@ -51,7 +51,7 @@ held_on true j x k names key apart is = request.overtaken_on j x k names key apa
 held_on false j x k names key apart is = request.fresh_on j x k names key apart is
 
 -- either way it came
-held_came : (removed : Bool) (key : Key) (j : List Item) → IsHeld removed key j → Contains j (Came key)
+pub held_came : (removed : Bool) (key : Key) (j : List Item) → IsHeld removed key j → Contains j (Came key)
 held_came true key j is = is.unrun.came
 held_came false key j is = is.unrun.came
 

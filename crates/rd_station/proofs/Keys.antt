@@ -100,6 +100,23 @@ module _ {S : Type 0} where
       both [] = omega (arith, cnt_nil p, cnt_nil (λ (x : Key × ℕ). not (p x)))
       both (x ∷ xs) = omega (arith, both xs, cnt_cons p x xs, cnt_cons (λ y. not (p y)) x xs, one (p x))
 
+  -- where as many of each kind are held, the same are
+  pub has_same : (s new : StationState S) → ((p : Key × ℕ → Bool) → tally p new ≡ tally p s) → (x : Key × ℕ) → Has x (held s) → Has x (held new)
+  has_same s new same x has = tally_has new x (omega (arith, same (is_job x), has_tally s x has))
+
+  -- where one more is held, it and the same are
+  pub has_more : (s new : StationState S) (job : Key × ℕ) → ((p : Key × ℕ → Bool) → tally p new ≡ tally p s + cond (p job) 1 0)
+      → ((x : Key × ℕ) → Has x (held new) → (x ≡ job) ⊎ Has x (held s)) × ((x : Key × ℕ) → Has x (held s) → Has x (held new)) × Has job (held new)
+  has_more s new job more = (
+    (λ x has. by x has (is_job x job) refl),
+    (λ x has. tally_has new x (omega (arith, more (is_job x), has_tally s x has))),
+    (let own : cond {A = ℕ} (is_job job job) 1 0 ≡ 1 = ap (λ b. cond {A = ℕ} b 1 0) (job_self job) in tally_has new job (omega (arith, more (is_job job), own))),
+  )
+    where
+      by : (x : Key × ℕ) → Has x (held new) → (b : Bool) → is_job x job ≡ b → (x ≡ job) ⊎ Has x (held s)
+      by x has true e = inl (sym (same_job x job e))
+      by x has false e = let zero : cond {A = ℕ} (is_job x job) 1 0 ≡ 0 = ap (λ b. cond {A = ℕ} b 1 0) e in inr (tally_has s x (omega (arith, more (is_job x), zero, has_tally new x has)))
+
   -- ---- the keys
 
   -- the same jobs are held

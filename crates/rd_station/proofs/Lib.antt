@@ -12,4 +12,5 @@ pub mod Rising
 pub mod Settling
 pub mod Keys
 pub mod Soundness
+pub mod Remembering
 pub mod Parts

@@ -13,6 +13,8 @@ use Rattle.rd_drive.specs.Promise.{Applies}
 use Rattle.rd_station.specs.declared.answers.Applied.{Applied}
 use Rattle.rd_station.specs.declared.answers.Applied.TheVariants as answered
 use Rattle.rd_station.specs.declared.held.InHand.{InHand}
+use Rattle.rd_station.specs.declared.memory.Memory.{Memory}
+use Rattle.rd_station.specs.Memory.{Remembers}
 use Rattle.rd_station.specs.Queues.{AreKeys, AreRising, Queues, settled}
 use Rattle.rd_station.specs.Station.{StationState, held, own_completion, reserved}
 use Rattle.rd_station.specs.Tied.{IsReached}
@@ -21,14 +23,15 @@ use Rattle.rd_station.specs.Tied.{IsReached}
 abbrev pub unrun_keys : {S : Type 0} → StationState S → List Key
 unrun_keys s = map (λ (t : InHand). t.key) s.taken ++ map (λ (job : Job). job.key) s.waiting
 
--- A station with the keys that its code finds by completion id, and with so many reserved places of its journal.
-pub record IsSound {S : Type 0} (Runs : S → Planned → ℕ → Step → List End → S → Type 0) (parked_in : S → List Parked) (Cuts : S → S → Type 0) (s : StationState S) (keys : List (ℕ × Key)) (spare : ℕ) : Type 0 where
+-- A station with the keys that its code finds by completion id, with so many reserved places of its journal, and with what it remembers of that.
+pub record IsSound {S : Type 0} (Runs : S → Planned → ℕ → Step → List End → S → Type 0) (parked_in : S → List Parked) (Cuts : S → S → Type 0) (s : StationState S) (keys : List (ℕ × Key)) (spare : ℕ) (memory : Memory) : Type 0 where
   -- it came to be by calls
   pub reached : IsReached Runs parked_in Cuts s
   pub keys_found : AreKeys keys (held s)
   pub rising : AreRising (unrun_keys s)
   -- each entry that a place is spoken for has one
   pub room : reserved s ≤ spare
+  pub remembers : Remembers s memory
 
 -- a station by its parts
 abbrev pub station_of : {S : Type 0} → S → Bool → Bool → Queues → List Item → StationState S

@@ -86,9 +86,11 @@ pub fn calls_reach_stations<D: Device>()
 {}
 
 /// Whatever calls a station over a device that a step and a cut compute is given, it stays tied to its journal, where each job that is run is that of
-/// its key's request.
+/// its key's request; so does each that is reached, by the calls that led to it.
 pub fn stations_stay_tied<D: Device>()
-    ensures { (step : D → Key → ℕ → Op → ℕ → Stepped D) (cut : D → Settled D) (requests : Key → Request) (device : D) (calls : List StationCall) (s : StationState D)
+    ensures reached { (step : D → Key → ℕ → Op → ℕ → Stepped D) (cut : D → Settled D) (requests : Key → Request) (s : StationState D) (is : IsReached D.runs D.parked D.cuts s)
+        → IsRunBy step cut D.runs D.parked D.cuts → AllByRecursion (RunsOwn requests) is.calls → IsTied step cut requests is.device s }
+    ensures calls { (step : D → Key → ℕ → Op → ℕ → Stepped D) (cut : D → Settled D) (requests : Key → Request) (device : D) (calls : List StationCall) (s : StationState D)
         → IsRunBy step cut D.runs D.parked D.cuts → D.parked device ≡ [] → AllByRecursion (RunsOwn requests) calls → StationSteps D.runs D.parked D.cuts (new_station device) calls s
         → IsTied step cut requests device s }
 {}

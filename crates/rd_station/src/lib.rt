@@ -6,6 +6,7 @@
 mod answers;
 mod held;
 mod laws;
+mod memory;
 mod refusals;
 mod station;
 

@@ -1,16 +1,18 @@
 //! The station of one device.
 
-ghost use Rattle.std.specs.Prelude.{◌≡◌, ◌≢◌, ◌<◌, ◌≤◌, ◌+◌, ◌-◌, ◌↔◌, Bool, true, [], ◌∷◌, ◌++◌, IsTrue, IfOk, IfErr, OnOk, Some, None, if◌then◌else◌};
+ghost use Rattle.std.specs.Prelude.{◌≡◌, ◌≢◌, ◌<◌, ◌≤◌, ◌+◌, ◌-◌, ◌↔◌, Bool, true, [], ◌∷◌, ◌++◌, IsTrue, IfOk, IfErr, OnOk, map, Some, None, if◌then◌else◌};
 ghost use Rattle.rd_base.specs.declared.journal.Item.TheVariants as Item;
 ghost use Rattle.rd_drive.specs.Promise.{CutsOff};
+ghost use Rattle.rd_station.specs.Memory.{after_drop};
 ghost use Rattle.rd_station.specs.Queues.{job_count};
 ghost use Rattle.rd_station.specs.Sound.{RunsJob, SettlesAll, station_of};
 ghost use Rattle.rd_station.specs.Station.{drop_channel};
 
 use crate::answers::{Applied, Completion, Given};
 use crate::held::{Held, InHand, MAX_HELD, ParkedJob, cancelled};
+use crate::memory::Memory;
 use crate::refusals::{AnnounceNo, PutNo, PutWhy, StationNo};
-use rd_base::{Cause, Item, Journal, Status};
+use rd_base::{Cause, Item, Journal, Key, Status};
 use rd_drive::{Device, Ends, Job, Plan, Step};
 use rd_irp::kind_of;
 use std::alloc::Global;
@@ -30,6 +32,7 @@ pub struct Station<D: Device> {
     ended: bool,
     held: Held,
     journal: Journal,
+    memory: Memory,
     /// Where the device puts the ends of a run. It is empty between calls.
     ends: Ends,
 }
@@ -43,13 +46,14 @@ impl<D: Device> Model for Station<D> {
 
     ghost view = { λ s. station_of s.device s.live s.ended s.held s.journal.items };
 
-    ghost invariant = { λ s. IsSound D.runs D.parked D.cuts (station_of s.device s.live s.ended s.held s.journal.items) s.held.keys s.journal.spare × (s.ends ≡ []) };
+    ghost invariant = { λ s. IsSound D.runs D.parked D.cuts (station_of s.device s.live s.ended s.held s.journal.items) s.held.keys s.journal.spare s.memory × (s.ends ≡ []) };
 }
 
 impl<D: Device> Station<D> {
     ghost use Rattle.rd_station.specs.Station as Call;
     ghost use Rattle.rd_station.specs.Station.{MayPut, StationMade, StationStep, entry_count, put_refusal, reserved};
-    ghost use Rattle.rd_station.specs.Tied.{IsReached};
+    ghost use Rattle.rd_base.specs.Lawful.{IsLawful};
+    ghost use Rattle.rd_station.specs.Tied.{IsReached, as_parked};
 
     /// A station before its first channel, over a device in which no request waits. Where no memory is found the device comes back.
     pub fn new(alloc: Global, device: D) -> Result<Station<D>, StationNo<D>>
@@ -69,6 +73,10 @@ impl<D: Device> Station<D> {
             ended: false,
             held,
             journal: Journal::new(alloc),
+            memory: Memory {
+                last: None,
+                forgotten: None,
+            },
             ends,
         })
     }
@@ -93,6 +101,14 @@ impl<D: Device> Station<D> {
         Ok(())
     }
 
+    /// Whether a job with this key may come (`put`): it is above every key that came, on the channel of what is held, and on a later one than
+    /// what was forgotten.
+    pub fn may_put(&self, key: Key) -> bool
+        ensures { IsTrue result ↔ MayPut self.now key }
+    {
+        self.memory.may_come(self.held.len(), key)
+    }
+
     /// A job comes. Every place that it will need is found here, and where none is it comes back, as it does for each other cause.
     pub fn put(&mut self, job: Job) -> Result<(), PutNo>
         requires { MayPut self.old job.key }
@@ -112,6 +128,7 @@ impl<D: Device> Station<D> {
         match self.held.put(job) {
             Ok(()) => {
                 self.journal.add(Item::Came(key));
+                self.memory.come(key);
                 Ok(())
             }
             Err(job) => {
@@ -200,6 +217,7 @@ impl<D: Device> Station<D> {
             &mut self.live,
             &mut self.held,
             &mut self.journal,
+            &mut self.memory,
         );
     }
 
@@ -213,19 +231,23 @@ impl<D: Device> Station<D> {
             &mut self.live,
             &mut self.held,
             &mut self.journal,
+            &mut self.memory,
         );
         self.ended = true;
     }
 
     /// The journal, entry by entry.
     pub fn journal(&self) -> &Journal
-        ensures { result.now.items ≡ self.now.journal }
+        ensures entries { result.now.items ≡ self.now.journal }
+        ensures lawful { IsLawful self.now.journal }
     {
         &self.journal
     }
 
+    /// The device. What waits inside it is what the station has parked there.
     pub fn device(&self) -> &D
-        ensures { result.now ≡ self.now.device }
+        ensures device { result.now ≡ self.now.device }
+        ensures parked { map as_parked self.now.parked ≡ D.parked result.now }
     {
         &self.device
     }
@@ -248,6 +270,7 @@ impl<D: Device> Station<D> {
     pub fn finish(self) -> (D, Journal)
         ensures device { result.0 ≡ self.device }
         ensures journal { result.1.items ≡ self.journal }
+        ensures lawful { IsLawful self.journal }
     {
         let Station {
             device,
@@ -352,12 +375,20 @@ fn run<D: Device>(
 }
 
 /// The channel of a device ended: nothing is held any more, and a live device is cut off.
-fn cut_off<D: Device>(device: &mut D, live: &mut bool, held: &mut Held, journal: &mut Journal)
+fn cut_off<D: Device>(
+    device: &mut D,
+    live: &mut bool,
+    held: &mut Held,
+    journal: &mut Journal,
+    memory: &mut Memory,
+)
     requires { live.old ≡ true → 0 < journal.old.spare }
     ensures dropped { (ended : Bool) → drop_channel (station_of device.old live.old ended held.old journal.old.items) device.new ≡ station_of device.new live.new ended held.new journal.new.items }
     ensures cut { live.old ≡ true → CutsOff D.cuts D.parked device.old device.new }
     ensures keys { held.new.keys ≡ [] }
+    ensures memory { memory.new ≡ after_drop memory.old (job_count held.old) }
 {
+    memory.forget(held.len());
     held.clear();
     if *live {
         journal.add(Item::Cut(Cause::Dropped));

@@ -13,7 +13,7 @@ const RENAME: &[u8] = b"RPCP\x04\0\0\0\x02\0\0\0\x02\0\0\0cdgh";
 
 const USING_XPS: &[u8] = b"RPCU\x02\0\0\0\x01\0\0\0";
 
-fn bytes(rt: &(impl Abort + AllocGlobal), of: &[u8]) -> Bytes {
+pub fn bytes(rt: &(impl Abort + AllocGlobal), of: &[u8]) -> Bytes {
     Bytes::of(of.to_vec(rt.alloc()).expect(rt, "memory for bytes"))
 }
 
