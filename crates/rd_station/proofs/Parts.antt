@@ -27,9 +27,9 @@ use Rattle.rd_station.specs.declared.refusals.PutWhy.{PutWhy}
 use Rattle.rd_station.specs.declared.refusals.PutWhy.TheVariants as why
 use Rattle.rd_station.specs.declared.memory.Memory.{Memory}
 use Rattle.rd_station.specs.Memory.{after_come, after_drop, may_come}
-use Rattle.rd_station.specs.Queues.{AreKeys, Queues, in_hand, job_count, settled}
+use Rattle.rd_station.specs.Queues.{AreKeys, Queues, in_hand, job_count, settled_jobs}
 use Rattle.rd_station.specs.Station.{MayPut, StationState, StationStep, applies, cancelled_parked, cancelled_waiting, completion_of, drop_channel, ended_completion, entry_count, held, is_key, marked_removed, max_entries, max_held, own_completion, parked_after, put_refusal, ran as ran_of, remove, removes, reserved, without_taken}
-use Rattle.rd_station.specs.Sound.{IsSound, RunsJob, SettlesAll, station_of}
+use Rattle.rd_station.specs.Sound.{IsSound, RunsJob, SettlesAll, station_with}
 use Rattle.rd_station.specs.Tied.{IsKept}
 use Rattle.rd_station.proofs.Calls.{reached_kept}
 use Rattle.rd_station.proofs.Holding.{size_held}
@@ -53,53 +53,53 @@ le-ltb : {m n : ℕ} → n ≤ m → nat_lt m n ≡ false
 le-ltb less = grind (arith, less)
 
 module _ {S : Type 0} (Runs : S → Planned → ℕ → Step → List End → S → Type 0) (parked_in : S → List Parked) (Cuts : S → S → Type 0)
-    (device : S) (live ended : Bool) (q : Queues) (journal : List Item) (spare : ℕ) (memory : Memory) (sound : IsSound Runs parked_in Cuts (station_of device live ended q journal) q.keys spare memory) where
+    (device : S) (live ended : Bool) (q : Queues) (journal : List Item) (spare : ℕ) (memory : Memory) (sound : IsSound Runs parked_in Cuts (station_with device live ended q journal) q.keys spare memory) where
   -- what always holds of it
-  pub kept_parts : IsKept parked_in (station_of device live ended q journal)
-  kept_parts = reached_kept Runs parked_in Cuts (station_of device live ended q journal) sound.reached
+  pub kept_parts : IsKept parked_in (station_with device live ended q journal)
+  kept_parts = reached_kept Runs parked_in Cuts (station_with device live ended q journal) sound.reached
 
   -- it is announced
-  pub announced_parts : (journal_then : List Item) (spare_then : ℕ) → live ≡ false → (n : ℕ) → n ≡ entry_count (station_of device live ended q journal) → n < 16777216 → journal_then ≡ journal
-      → spare_then ≡ max spare (reserved (station_of device live ended q journal) + 1) → IsSound Runs parked_in Cuts (station_of device true ended q journal_then) q.keys spare_then memory
+  pub announced_parts : (journal_then : List Item) (spare_then : ℕ) → live ≡ false → (n : ℕ) → n ≡ entry_count (station_with device live ended q journal) → n < 16777216 → journal_then ≡ journal
+      → spare_then ≡ max spare (reserved (station_with device live ended q journal) + 1) → IsSound Runs parked_in Cuts (station_with device true ended q journal_then) q.keys spare_then memory
   announced_parts journal_then spare_then dead n counted low same room =
-      let less : nat_le max_entries (entry_count (station_of device live ended q journal)) ≡ false = lt-leb (subst (λ (m : ℕ). m < 16777216) counted low) in
-      subst (λ (j : List Item). IsSound Runs parked_in Cuts (station_of device true ended q j) q.keys spare_then memory) (sym same)
-      (sound_announce Runs parked_in Cuts (station_of device live ended q journal) q.keys spare memory sound spare_then dead less (omega (arith, room)))
+      let less : nat_le max_entries (entry_count (station_with device live ended q journal)) ≡ false = lt-leb (subst (λ (m : ℕ). m < 16777216) counted low) in
+      subst (λ (j : List Item). IsSound Runs parked_in Cuts (station_with device true ended q j) q.keys spare_then memory) (sym same)
+      (sound_announce Runs parked_in Cuts (station_with device live ended q journal) q.keys spare memory sound spare_then dead less (omega (arith, room)))
 
   -- a job comes
-  pub put_parts : (job : Job) (q_then : Queues) (journal_then : List Item) (spare_between spare_then : ℕ) → MayPut (station_of device live ended q journal) job.key → put_refusal (station_of device live ended q journal) job ≡ None
+  pub put_parts : (job : Job) (q_then : Queues) (journal_then : List Item) (spare_between spare_then : ℕ) → MayPut (station_with device live ended q journal) job.key → put_refusal (station_with device live ended q journal) job ≡ None
       → q_then ≡ record q { waiting = q.waiting ++ job ∷ []; keys = q_then.keys }
       → ((id : ℕ) → lookup (is_at (nat_cmp id)) q_then.keys ≡ cond (is_at (nat_cmp job.completion) id) (Some job.key) (lookup (is_at (nat_cmp id)) q.keys))
-      → journal_then ≡ journal ++ Came job.key ∷ [] → spare_between ≡ max spare (reserved (station_of device live ended q journal) + 3) → spare_then ≡ spare_between - 1
-      → (memory_then : Memory) → memory_then ≡ after_come memory job.key → IsSound Runs parked_in Cuts (station_of device live ended q_then journal_then) q_then.keys spare_then memory_then
+      → journal_then ≡ journal ++ Came job.key ∷ [] → spare_between ≡ max spare (reserved (station_with device live ended q journal) + 3) → spare_then ≡ spare_between - 1
+      → (memory_then : Memory) → memory_then ≡ after_come memory job.key → IsSound Runs parked_in Cuts (station_with device live ended q_then journal_then) q_then.keys spare_then memory_then
   put_parts job q_then journal_then spare_between spare_then may free same goes came room one memory_then comes =
-      subst (λ (m : Memory). IsSound Runs parked_in Cuts (station_of device live ended q_then journal_then) q_then.keys spare_then m) (sym comes) (
-      subst (λ (j : List Item). IsSound Runs parked_in Cuts (station_of device live ended q_then j) q_then.keys spare_then (after_come memory job.key)) (sym came)
-      (subst (λ (x : Queues). IsSound Runs parked_in Cuts (station_of device live ended x (journal ++ Came job.key ∷ [])) q_then.keys spare_then (after_come memory job.key)) (sym same)
-      (sound_put Runs parked_in Cuts (station_of device live ended q journal) q.keys spare memory sound job q_then.keys spare_then may free goes (omega (arith, room, one)))))
+      subst (λ (m : Memory). IsSound Runs parked_in Cuts (station_with device live ended q_then journal_then) q_then.keys spare_then m) (sym comes) (
+      subst (λ (j : List Item). IsSound Runs parked_in Cuts (station_with device live ended q_then j) q_then.keys spare_then (after_come memory job.key)) (sym came)
+      (subst (λ (x : Queues). IsSound Runs parked_in Cuts (station_with device live ended x (journal ++ Came job.key ∷ [])) q_then.keys spare_then (after_come memory job.key)) (sym same)
+      (sound_put Runs parked_in Cuts (station_with device live ended q journal) q.keys spare memory sound job q_then.keys spare_then may free goes (omega (arith, room, one)))))
 
   -- a job is taken
   pub take_parts : (job : Job) (q_then : Queues) → ended ≡ false → q.waiting ≡ job ∷ q_then.waiting → q_then ≡ record q { waiting = q_then.waiting; taken = q.taken ++ in_hand job ∷ [] }
-      → IsSound Runs parked_in Cuts (station_of device live ended q_then journal) q_then.keys spare memory
+      → IsSound Runs parked_in Cuts (station_with device live ended q_then journal) q_then.keys spare memory
   take_parts job q_then going first same =
       let keys = ap (λ (x : Queues). x.keys) same in
-      subst (λ (ks : List (ℕ × Key)). IsSound Runs parked_in Cuts (station_of device live ended q_then journal) ks spare memory) (sym keys)
-      (subst (λ (x : Queues). IsSound Runs parked_in Cuts (station_of device live ended x journal) q.keys spare memory) (sym same)
-      (sound_take Runs parked_in Cuts (station_of device live ended q journal) q.keys spare memory sound job q_then.waiting going first))
+      subst (λ (ks : List (ℕ × Key)). IsSound Runs parked_in Cuts (station_with device live ended q_then journal) ks spare memory) (sym keys)
+      (subst (λ (x : Queues). IsSound Runs parked_in Cuts (station_with device live ended x journal) q.keys spare memory) (sym same)
+      (sound_take Runs parked_in Cuts (station_with device live ended q journal) q.keys spare memory sound job q_then.waiting going first))
 
   -- a completion is collected
   pub collect_parts : (x : Completion) (q_then : Queues) (journal_then : List Item) (spare_then : ℕ) → q.ready ≡ x ∷ q_then.ready → q_then ≡ record q { ready = q_then.ready; keys = q_then.keys }
       → ((id : ℕ) → lookup (is_at (nat_cmp id)) q_then.keys ≡ cond (is_at (nat_cmp x.completion) id) None (lookup (is_at (nat_cmp id)) q.keys))
-      → journal_then ≡ journal ++ Sent x.key ∷ [] → spare_then ≡ spare - 1 → IsSound Runs parked_in Cuts (station_of device live ended q_then journal_then) q_then.keys spare_then memory
+      → journal_then ≡ journal ++ Sent x.key ∷ [] → spare_then ≡ spare - 1 → IsSound Runs parked_in Cuts (station_with device live ended q_then journal_then) q_then.keys spare_then memory
   collect_parts x q_then journal_then spare_then first same goes sent one =
-      subst (λ (j : List Item). IsSound Runs parked_in Cuts (station_of device live ended q_then j) q_then.keys spare_then memory) (sym sent)
-      (subst (λ (y : Queues). IsSound Runs parked_in Cuts (station_of device live ended y (journal ++ Sent x.key ∷ [])) q_then.keys spare_then memory) (sym same)
-      (sound_collect Runs parked_in Cuts (station_of device live ended q journal) q.keys spare memory sound x q_then.ready q_then.keys spare_then first goes (omega (arith, one))))
+      subst (λ (j : List Item). IsSound Runs parked_in Cuts (station_with device live ended q_then j) q_then.keys spare_then memory) (sym sent)
+      (subst (λ (y : Queues). IsSound Runs parked_in Cuts (station_with device live ended y (journal ++ Sent x.key ∷ [])) q_then.keys spare_then memory) (sym same)
+      (sound_collect Runs parked_in Cuts (station_with device live ended q journal) q.keys spare memory sound x q_then.ready q_then.keys spare_then first goes (omega (arith, one))))
 
   -- ---- a job comes back
 
   abbrev before : StationState S
-  before = station_of device live ended q journal
+  before = station_with device live ended q journal
 
   -- the other jobs
   module _ (planned : Planned) (moment : ℕ) (t : InHand) (found : find (λ (u : InHand). is_key u.key planned.job.key) q.taken ≡ Some t) (between : Queues) (back : between ≡ record q { taken = without_taken t.key q.taken }) where
@@ -110,16 +110,16 @@ module _ {S : Type 0} (Runs : S → Planned → ℕ → Step → List End → S 
 
     -- each request that ends by its run waits
     pub back_settles : SettlesAll Runs parked_in device between planned moment
-    back_settles answer ended new promise = subst (λ (x : Queues). (settled x.parked ended).2 ≡ []) (sym back) (settles Runs parked_in Cuts before q.keys spare memory sound planned moment answer ended new promise).all
+    back_settles answer ended new promise = subst (λ (x : Queues). (settled_jobs x.parked ended).2 ≡ []) (sym back) (settles Runs parked_in Cuts before q.keys spare memory sound planned moment answer ended new promise).all
 
     pub cancel_parts : (q_then : Queues) (journal_then : List Item) (spare_then : ℕ) → t.removed ≡ true
         → q_then ≡ record between { ready = between.ready ++ completion_of t.key t.completion (kind_of planned.job.op) cancellation ∷ [] } → journal_then ≡ journal ++ Cancelled t.key ∷ [] → spare_then ≡ spare - 1
-        → IsSound Runs parked_in Cuts (station_of device live ended q_then journal_then) q_then.keys spare_then memory
+        → IsSound Runs parked_in Cuts (station_with device live ended q_then journal_then) q_then.keys spare_then memory
     cancel_parts q_then journal_then spare_then over ready entry one =
         let all = ready ∙ ap (λ (x : Queues). record x { ready = x.ready ++ completion_of t.key t.completion (kind_of planned.job.op) cancellation ∷ [] }) back in
-        subst (λ (ks : List (ℕ × Key)). IsSound Runs parked_in Cuts (station_of device live ended q_then journal_then) ks spare_then memory) (sym (ap (λ (x : Queues). x.keys) all))
-        (subst (λ (j : List Item). IsSound Runs parked_in Cuts (station_of device live ended q_then j) q.keys spare_then memory) (sym entry)
-        (subst (λ (x : Queues). IsSound Runs parked_in Cuts (station_of device live ended x (journal ++ Cancelled t.key ∷ [])) q.keys spare_then memory) (sym all)
+        subst (λ (ks : List (ℕ × Key)). IsSound Runs parked_in Cuts (station_with device live ended q_then journal_then) ks spare_then memory) (sym (ap (λ (x : Queues). x.keys) all))
+        (subst (λ (j : List Item). IsSound Runs parked_in Cuts (station_with device live ended q_then j) q.keys spare_then memory) (sym entry)
+        (subst (λ (x : Queues). IsSound Runs parked_in Cuts (station_with device live ended x (journal ++ Cancelled t.key ∷ [])) q.keys spare_then memory) (sym all)
         (sound_cancel Runs parked_in Cuts before q.keys spare memory sound planned moment t found spare_then over (omega (arith, one)))))
 
     module _ (fresh : t.removed ≡ false) (answer : Applied) (device_then : S) (q_then : Queues) (journal_then : List Item) (ran : RunsJob Runs parked_in device between journal t planned moment answer device_then q_then journal_then) where
@@ -134,8 +134,8 @@ module _ {S : Type 0} (Runs : S → Planned → ℕ → Step → List End → S 
       }
       ran_queues = ran.held
           ∙ ap (λ (x : Queues). record x {
-            parked = (settled x.parked ran.ends).1 ++ waits;
-            ready = x.ready ++ own_completion t (kind_of planned.job.op) ran.answer ++ (settled x.parked ran.ends).0;
+            parked = (settled_jobs x.parked ran.ends).1 ++ waits;
+            ready = x.ready ++ own_completion t (kind_of planned.job.op) ran.answer ++ (settled_jobs x.parked ran.ends).0;
           }) back
           ∙ ap₂ (λ (ps : List ParkedJob) (cs : List Completion). record q {
             taken = without_taken t.key q.taken;
@@ -149,17 +149,17 @@ module _ {S : Type 0} (Runs : S → Planned → ℕ → Step → List End → S 
           ends_are : AreSettled q.parked ran.ends
           ends_are = settles Runs parked_in Cuts before q.keys spare memory sound planned moment ran.answer ran.ends device_then ran.promise
 
-      ran_state : ran_of before t (kind_of planned.job.op) moment came ≡ station_of device_then live ended q_then journal_then
-      ran_state = sym (ap₂ (λ (x : Queues) (j : List Item). station_of device_then live ended x j) ran_queues ran.entry)
+      ran_state : ran_of before t (kind_of planned.job.op) moment came ≡ station_with device_then live ended q_then journal_then
+      ran_state = sym (ap₂ (λ (x : Queues) (j : List Item). station_with device_then live ended x j) ran_queues ran.entry)
 
-      pub run_parts : (spare_then : ℕ) → spare_then ≡ spare - 1 → IsSound Runs parked_in Cuts (station_of device_then live ended q_then journal_then) q_then.keys spare_then memory
+      pub run_parts : (spare_then : ℕ) → spare_then ≡ spare - 1 → IsSound Runs parked_in Cuts (station_with device_then live ended q_then journal_then) q_then.keys spare_then memory
       run_parts spare_then one =
-          subst (λ (ks : List (ℕ × Key)). IsSound Runs parked_in Cuts (station_of device_then live ended q_then journal_then) ks spare_then memory) (sym (ap (λ (x : Queues). x.keys) ran_queues))
+          subst (λ (ks : List (ℕ × Key)). IsSound Runs parked_in Cuts (station_with device_then live ended q_then journal_then) ks spare_then memory) (sym (ap (λ (x : Queues). x.keys) ran_queues))
           (subst (λ (s : StationState S). IsSound Runs parked_in Cuts s q.keys spare_then memory) ran_state
           (sound_run Runs parked_in Cuts before q.keys spare memory sound planned moment t found fresh came ran.promise spare_then (omega (arith, one))))
 
-      pub run_step : (old : StationState S) → before ≡ old → StationStep Runs parked_in Cuts old (applies planned moment answer) (station_of device_then live ended q_then journal_then)
-      run_step old same = subst (λ (s : StationState S). StationStep Runs parked_in Cuts s (applies planned moment answer) (station_of device_then live ended q_then journal_then)) same (
+      pub run_step : (old : StationState S) → before ≡ old → StationStep Runs parked_in Cuts old (applies planned moment answer) (station_with device_then live ended q_then journal_then)
+      run_step old same = subst (λ (s : StationState S). StationStep Runs parked_in Cuts s (applies planned moment answer) (station_with device_then live ended q_then journal_then)) same (
         came,
         ran_then Runs parked_in Cuts before q.keys spare memory sound planned moment t found fresh came ran.promise ∙ ap₂ (λ (s : StationState S) (a : Applied). (s, a)) ran_state (sym ran.is),
         λ did. ran.promise,
@@ -182,38 +182,38 @@ module _ {S : Type 0} (Runs : S → Planned → ℕ → Step → List End → S 
         ∙ ap₂ (λ (j : List Item) (x : Queues). j ++ map (λ (job : Job). Cancelled job.key) x.waiting) cut removed_second
         ∙ append_assoc journal (Cut Removed ∷ []) (map (λ (job : Job). Cancelled job.key) q.waiting)
 
-    removed_state : (remove before device_then).0 ≡ station_of device_then false ended third journal_then
+    removed_state : (remove before device_then).0 ≡ station_with device_then false ended third journal_then
     removed_state = ap (λ (r : StationState S × Bool). r.0) (removed_then Runs parked_in Cuts before q.keys spare memory sound device_then is_live)
-        ∙ sym (ap₂ (λ (x : Queues) (j : List Item). station_of device_then false ended x j) removed_third removed_journal)
+        ∙ sym (ap₂ (λ (x : Queues) (j : List Item). station_with device_then false ended x j) removed_third removed_journal)
 
-    pub remove_step : (old : StationState S) → before ≡ old → StationStep Runs parked_in Cuts old (removes true) (station_of device_then false ended third journal_then)
-    remove_step old same = subst (λ (s : StationState S). StationStep Runs parked_in Cuts s (removes true) (station_of device_then false ended third journal_then)) same (
+    pub remove_step : (old : StationState S) → before ≡ old → StationStep Runs parked_in Cuts old (removes true) (station_with device_then false ended third journal_then)
+    remove_step old same = subst (λ (s : StationState S). StationStep Runs parked_in Cuts s (removes true) (station_with device_then false ended third journal_then)) same (
       device_then,
       removed_then Runs parked_in Cuts before q.keys spare memory sound device_then is_live
-          ∙ ap (λ (s : StationState S). (s, true)) (sym (ap₂ (λ (x : Queues) (j : List Item). station_of device_then false ended x j) removed_third removed_journal)),
+          ∙ ap (λ (s : StationState S). (s, true)) (sym (ap₂ (λ (x : Queues) (j : List Item). station_with device_then false ended x j) removed_third removed_journal)),
       λ e. off,
     )
 
-    pub remove_parts : (spare_between spare_then : ℕ) → spare_between ≡ spare - 1 → spare_then + length second.waiting ≡ spare_between → IsSound Runs parked_in Cuts (station_of device_then false ended third journal_then) third.keys spare_then memory
+    pub remove_parts : (spare_between spare_then : ℕ) → spare_between ≡ spare - 1 → spare_then + length second.waiting ≡ spare_between → IsSound Runs parked_in Cuts (station_with device_then false ended third journal_then) third.keys spare_then memory
     remove_parts spare_between spare_then one others =
         let waited = ap (λ (x : Queues). length x.waiting) removed_second in
-        subst (λ (ks : List (ℕ × Key)). IsSound Runs parked_in Cuts (station_of device_then false ended third journal_then) ks spare_then memory) (sym (ap (λ (x : Queues). x.keys) removed_third))
+        subst (λ (ks : List (ℕ × Key)). IsSound Runs parked_in Cuts (station_with device_then false ended third journal_then) ks spare_then memory) (sym (ap (λ (x : Queues). x.keys) removed_third))
         (subst (λ (s : StationState S). IsSound Runs parked_in Cuts s q.keys spare_then memory)
-        (sym (ap₂ (λ (x : Queues) (j : List Item). station_of device_then false ended x j) removed_third removed_journal))
+        (sym (ap₂ (λ (x : Queues) (j : List Item). station_with device_then false ended x j) removed_third removed_journal))
         (sound_remove Runs parked_in Cuts before q.keys spare memory sound device_then spare_then is_live off (omega (arith, one, others, waited))))
 
   module _ (device_then : S) (live_then : Bool) (q_then : Queues) (journal_then : List Item) (cut : live ≡ true → CutsOff Cuts parked_in device device_then) (keys : q_then.keys ≡ [])
-      (dropped : drop_channel (station_of device live ended q journal) device_then ≡ station_of device_then live_then ended q_then journal_then) where
-    pub drop_parts : (spare_then count : ℕ) (memory_then : Memory) → count ≡ job_count q → memory_then ≡ after_drop memory count → IsSound Runs parked_in Cuts (station_of device_then live_then ended q_then journal_then) q_then.keys spare_then memory_then
-    drop_parts spare_then count memory_then counted forgets = subst (λ (m : Memory). IsSound Runs parked_in Cuts (station_of device_then live_then ended q_then journal_then) q_then.keys spare_then m) (sym forgets) (subst (λ (ks : List (ℕ × Key)). IsSound Runs parked_in Cuts (station_of device_then live_then ended q_then journal_then) ks spare_then (after_drop memory count)) (sym keys)
-        (sound_drop Runs parked_in Cuts before q.keys spare memory sound device_then cut (station_of device_then live_then ended q_then journal_then) spare_then count (counted ∙ sym (size_held before)) dropped))
+      (dropped : drop_channel (station_with device live ended q journal) device_then ≡ station_with device_then live_then ended q_then journal_then) where
+    pub drop_parts : (spare_then count : ℕ) (memory_then : Memory) → count ≡ job_count q → memory_then ≡ after_drop memory count → IsSound Runs parked_in Cuts (station_with device_then live_then ended q_then journal_then) q_then.keys spare_then memory_then
+    drop_parts spare_then count memory_then counted forgets = subst (λ (m : Memory). IsSound Runs parked_in Cuts (station_with device_then live_then ended q_then journal_then) q_then.keys spare_then m) (sym forgets) (subst (λ (ks : List (ℕ × Key)). IsSound Runs parked_in Cuts (station_with device_then live_then ended q_then journal_then) ks spare_then (after_drop memory count)) (sym keys)
+        (sound_drop Runs parked_in Cuts before q.keys spare memory sound device_then cut (station_with device_then live_then ended q_then journal_then) spare_then count (counted ∙ sym (size_held before)) dropped))
 
-    pub end_parts : (spare_then count : ℕ) (memory_then : Memory) → count ≡ job_count q → memory_then ≡ after_drop memory count → IsSound Runs parked_in Cuts (station_of device_then live_then true q_then journal_then) q_then.keys spare_then memory_then
-    end_parts spare_then count memory_then counted forgets = subst (λ (m : Memory). IsSound Runs parked_in Cuts (station_of device_then live_then true q_then journal_then) q_then.keys spare_then m) (sym forgets) (subst (λ (ks : List (ℕ × Key)). IsSound Runs parked_in Cuts (station_of device_then live_then true q_then journal_then) ks spare_then (after_drop memory count)) (sym keys)
-        (sound_end Runs parked_in Cuts before q.keys spare memory sound device_then cut (station_of device_then live_then true q_then journal_then) spare_then count (counted ∙ sym (size_held before)) (ap (λ (s : StationState S). record s { ended = true }) dropped)))
+    pub end_parts : (spare_then count : ℕ) (memory_then : Memory) → count ≡ job_count q → memory_then ≡ after_drop memory count → IsSound Runs parked_in Cuts (station_with device_then live_then true q_then journal_then) q_then.keys spare_then memory_then
+    end_parts spare_then count memory_then counted forgets = subst (λ (m : Memory). IsSound Runs parked_in Cuts (station_with device_then live_then true q_then journal_then) q_then.keys spare_then m) (sym forgets) (subst (λ (ks : List (ℕ × Key)). IsSound Runs parked_in Cuts (station_with device_then live_then true q_then journal_then) ks spare_then (after_drop memory count)) (sym keys)
+        (sound_end Runs parked_in Cuts before q.keys spare memory sound device_then cut (station_with device_then live_then true q_then journal_then) spare_then count (counted ∙ sym (size_held before)) (ap (λ (s : StationState S). record s { ended = true }) dropped)))
 
   -- whether a job may come
-  pub may_parts : (held_now : ℕ) (key : Key) (answer : Bool) → held_now ≡ job_count q → answer ≡ may_come memory held_now key → (old : StationState S) → station_of device live ended q journal ≡ old → IsTrue answer ↔ MayPut old key
+  pub may_parts : (held_now : ℕ) (key : Key) (answer : Bool) → held_now ≡ job_count q → answer ≡ may_come memory held_now key → (old : StationState S) → station_with device live ended q journal ≡ old → IsTrue answer ↔ MayPut old key
   may_parts held_now key answer counted is old same = subst (λ (s : StationState S). IsTrue answer ↔ MayPut s key) same (
     (λ t. may_then before memory sound.remembers key held_now (counted ∙ sym (size_held before)) (sym is ∙ t)),
     (λ may. is ∙ then_may before memory sound.remembers key held_now (counted ∙ sym (size_held before)) may),

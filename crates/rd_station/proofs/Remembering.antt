@@ -9,7 +9,7 @@ use Rattle.rd_base.specs.declared.journal.Item.TheVariants.{Came, Sent}
 use Rattle.rd_base.specs.declared.journal.Key.{Key}
 use Rattle.rd_base.specs.Lawful.{IsBelow, named_key}
 use Rattle.rd_station.specs.declared.memory.Memory.{Memory}
-use Rattle.rd_station.specs.Memory.{Names, Remembers, after_come, after_drop, is_below, may_come}
+use Rattle.rd_station.specs.Memory.{Names, Remembers, after_come, after_drop, is_key_below, may_come}
 use Rattle.rd_station.specs.Station.{IsKnown, MayPut, StationState, held}
 use Rattle.rd_station.proofs.Members.{Has, all_of, from_contains, has_append, has_left, has_right, to_contains}
 
@@ -200,7 +200,7 @@ module _ {S : Type 0} where
 
 -- ---- which may come
 
-below_true : (a b : Key) → is_below a b ≡ true → IsBelow a b
+below_true : (a b : Key) → is_key_below a b ≡ true → IsBelow a b
 below_true a b e = by (nat_lt a.channel b.channel) refl (a.channel == b.channel) refl (nat_lt a.index b.index) refl e
   where
     by : (p : Bool) → nat_lt a.channel b.channel ≡ p → (q : Bool) → (a.channel == b.channel) ≡ q → (r : Bool) → nat_lt a.index b.index ≡ r → (p || (q && r)) ≡ true → IsBelow a b
@@ -212,7 +212,7 @@ below_true a b e = by (nat_lt a.channel b.channel) refl (a.channel == b.channel)
 less-ltb : (n k : ℕ) → n < k → nat_lt n k ≡ true
 less-ltb n k less = grind (arith, less)
 
-true_below : (a b : Key) → IsBelow a b → is_below a b ≡ true
+true_below : (a b : Key) → IsBelow a b → is_key_below a b ≡ true
 true_below a b (inl less) = ap (λ p. p || (a.channel == b.channel && nat_lt a.index b.index)) (less-ltb a.channel b.channel less)
 true_below a b (inr less) = by (nat_lt a.channel b.channel)
   where
@@ -244,14 +244,14 @@ module _ {S : Type 0} (s : StationState S) (m : Memory) (is : Remembers s m) (ke
   pub may_then : (count : ℕ) → count ≡ length (held s) → may_come m count key ≡ true → MayPut s key
   may_then count counted e = by m.last refl e
     where
-      by : (o : Option Key) → m.last ≡ o → option_map_or (λ (last : Key). is_below last key && (count == 0 || last.channel == key.channel) && option_map_or (λ c. nat_lt c key.channel) m.forgotten true) o true ≡ true → MayPut s key
+      by : (o : Option Key) → m.last ≡ o → option_map_or (λ (last : Key). is_key_below last key && (count == 0 || last.channel == key.channel) && option_map_or (λ c. nat_lt c key.channel) m.forgotten true) o true ≡ true → MayPut s key
       by None none e = record {
         above = each_entry (λ l. IsBelow l key) s.journal (λ l names. absurd (is.none none l names));
         same_channel = all_of (λ (other : Key × ℕ). (other.0).channel ≡ key.channel) (held s) (λ x has. let found = is.channel x (to_contains (held s) x has) in absurd (cc (none, found.1)));
         forgotten = each_entry (λ l. IsKnown s l ⊎ (l.channel < key.channel)) s.journal (λ l names. absurd (is.none none l names));
       }
       by (Some last) last_is e =
-          let p = parts (is_below last key) (count == 0 || last.channel == key.channel) (option_map_or (λ c. nat_lt c key.channel) m.forgotten true) e in
+          let p = parts (is_key_below last key) (count == 0 || last.channel == key.channel) (option_map_or (λ c. nat_lt c key.channel) m.forgotten true) e in
           let above = below_true last key p.0 in
           record {
             above = each_entry (λ l. IsBelow l key) s.journal (λ l names. elim (is.greatest last l last_is names) [
@@ -307,7 +307,7 @@ module _ {S : Type 0} (s : StationState S) (m : Memory) (is : Remembers s m) (ke
           or_true true e = refl
           or_true false e = e
 
-      by : (o : Option Key) → m.last ≡ o → option_map_or (λ (last : Key). is_below last key && (count == 0 || last.channel == key.channel) && option_map_or (λ c. nat_lt c key.channel) m.forgotten true) o true ≡ true
+      by : (o : Option Key) → m.last ≡ o → option_map_or (λ (last : Key). is_key_below last key && (count == 0 || last.channel == key.channel) && option_map_or (λ c. nat_lt c key.channel) m.forgotten true) o true ≡ true
       by None none = refl
       by (Some last) last_is =
           let a = true_below last key (at (λ l. IsBelow l key) may.above last (is.named last last_is)) in

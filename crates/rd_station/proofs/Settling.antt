@@ -8,7 +8,7 @@ use Rattle.rd_drive.specs.declared.step.End.{End}
 use Rattle.rd_drive.specs.Device.{AreEnded, Parked}
 use Rattle.rd_station.specs.declared.answers.Completion.{Completion}
 use Rattle.rd_station.specs.declared.held.ParkedJob.{ParkedJob}
-use Rattle.rd_station.specs.Queues.{by_first, settled}
+use Rattle.rd_station.specs.Queues.{by_first, settled_jobs}
 use Rattle.rd_station.specs.Station.{completion_of, ended_completion, is_ended, is_key}
 use Rattle.rd_station.specs.Tied.{as_parked}
 use Rattle.rd_station.proofs.Members.{AreApart, Has, apart_key, has_map, key_self}
@@ -17,9 +17,9 @@ use Rattle.rd_station.proofs.Ending.{end_among, end_key, parked_key, same_keys, 
 
 -- What ends make of jobs, as the station has it, and of which none is left over.
 pub record AreSettled (ps : List ParkedJob) (ends : List End) : Type 0 where
-  pub ready : (settled ps ends).0 ≡ flat_map (ended_completion ps) ends
-  pub left : (settled ps ends).1 ≡ filter (λ p. not (is_ended ends p)) ps
-  pub all : (settled ps ends).2 ≡ []
+  pub ready : (settled_jobs ps ends).0 ≡ flat_map (ended_completion ps) ends
+  pub left : (settled_jobs ps ends).1 ≡ filter (λ p. not (is_ended ends p)) ps
+  pub all : (settled_jobs ps ends).2 ≡ []
 
 -- the completions of jobs among which one that has another key than every end stands first
 others_complete : (p : ParkedJob) (ps : List ParkedJob) (ends : List End) → ¬ (Has p.key (map end_key ends)) → flat_map (ended_completion (p ∷ ps)) ends ≡ flat_map (ended_completion ps) ends
@@ -29,12 +29,12 @@ others_complete p ps (e ∷ ends) none = λ i.
     ++ others_complete p ps ends (λ has. none (inr has)) i
 
 -- a job that no end is of stays first among those that wait on
-stays_first : (p : ParkedJob) (ps : List ParkedJob) (ends : List End) → ¬ (Has p.key (map end_key ends)) → settled (p ∷ ps) ends ≡ ((settled ps ends).0, p ∷ (settled ps ends).1, (settled ps ends).2)
+stays_first : (p : ParkedJob) (ps : List ParkedJob) (ends : List End) → ¬ (Has p.key (map end_key ends)) → settled_jobs (p ∷ ps) ends ≡ ((settled_jobs ps ends).0, p ∷ (settled_jobs ps ends).1, (settled_jobs ps ends).2)
 stays_first p [] [] none = refl
 stays_first p (q ∷ ps) [] none = refl
 stays_first p ps (e ∷ ends) none = ap (λ b. cond {A = List Completion × List ParkedJob × List End} b
-    (completion_of p.key p.completion p.kind e.reply ∷ (settled ps ends).0, (settled ps ends).1, (settled ps ends).2)
-    ((settled ps (e ∷ ends)).0, p ∷ (settled ps (e ∷ ends)).1, (settled ps (e ∷ ends)).2)) (apart_key p.key e.key (λ same. none (inl same)))
+    (completion_of p.key p.completion p.kind e.reply ∷ (settled_jobs ps ends).0, (settled_jobs ps ends).1, (settled_jobs ps ends).2)
+    ((settled_jobs ps (e ∷ ends)).0, p ∷ (settled_jobs ps (e ∷ ends)).1, (settled_jobs ps (e ∷ ends)).2)) (apart_key p.key e.key (λ same. none (inl same)))
 
 pub are_settled : (ps : List ParkedJob) (ends : List End) (left : List Parked) → AreEnded (map as_parked ps) ends left → AreApart (map parked_key ps) → AreSettled ps ends
 are_settled [] ends left are apart = subst (AreSettled []) (sym are.0) (record { ready = refl; left = refl; all = refl })
@@ -52,10 +52,10 @@ are_settled (p ∷ ps) ends left (inl one) apart = subst (AreSettled (p ∷ ps))
     others : ¬ (Has p.key (map end_key es))
     others has = apart.0 (subst (Has p.key) (same_keys ps) (end_among (map as_parked ps) es left one.4 p.key has))
 
-    first : settled (p ∷ ps) (e ∷ es) ≡ (completion_of p.key p.completion p.kind e.reply ∷ (settled ps es).0, (settled ps es).1, (settled ps es).2)
+    first : settled_jobs (p ∷ ps) (e ∷ es) ≡ (completion_of p.key p.completion p.kind e.reply ∷ (settled_jobs ps es).0, (settled_jobs ps es).1, (settled_jobs ps es).2)
     first = ap (λ b. cond {A = List Completion × List ParkedJob × List End} b
-        (completion_of p.key p.completion p.kind e.reply ∷ (settled ps es).0, (settled ps es).1, (settled ps es).2)
-        ((settled ps (e ∷ es)).0, p ∷ (settled ps (e ∷ es)).1, (settled ps (e ∷ es)).2)) own
+        (completion_of p.key p.completion p.kind e.reply ∷ (settled_jobs ps es).0, (settled_jobs ps es).1, (settled_jobs ps es).2)
+        ((settled_jobs ps (e ∷ es)).0, p ∷ (settled_jobs ps (e ∷ es)).1, (settled_jobs ps (e ∷ es)).2)) own
 
     completes : ended_completion (p ∷ ps) e ≡ completion_of p.key p.completion p.kind e.reply ∷ []
     completes = ap (λ b. option_map_or (λ (q : ParkedJob). completion_of q.key q.completion q.kind e.reply ∷ []) (cond b (Some p) (find (λ (q : ParkedJob). is_key q.key e.key) ps)) []) own
@@ -95,9 +95,9 @@ pub record Settling (ps : List ParkedJob) (ready : List Completion) (ends : List
   pub kept : List ParkedJob
   pub count_is : length rest ≡ count
   pub waits : waiting ≡ rest ++ kept
-  pub ready_is : ready ++ (settled ps ends).0 ≡ ready_now ++ (settled rest ends_now).0
-  pub left_is : (settled ps ends).1 ≡ kept ++ (settled rest ends_now).1
-  pub ends_is : (settled ps ends).2 ≡ (settled rest ends_now).2
+  pub ready_is : ready ++ (settled_jobs ps ends).0 ≡ ready_now ++ (settled_jobs rest ends_now).0
+  pub left_is : (settled_jobs ps ends).1 ≡ kept ++ (settled_jobs rest ends_now).1
+  pub ends_is : (settled_jobs ps ends).2 ≡ (settled_jobs rest ends_now).2
 
 append_nil : {A : Type 0} (xs : List A) → xs ++ [] ≡ xs
 append_nil [] = refl
@@ -108,7 +108,7 @@ pub settling_first : (ps : List ParkedJob) (ready : List Completion) (ends : Lis
 settling_first ps ready ends = record { rest = ps; kept = []; count_is = refl; waits = sym (append_nil ps); ready_is = refl; left_is = refl; ends_is = refl }
 
 -- without ends all wait on
-settled_nil : (ps : List ParkedJob) → settled ps [] ≡ ([], ps, [])
+settled_nil : (ps : List ParkedJob) → settled_jobs ps [] ≡ ([], ps, [])
 settled_nil [] = refl
 settled_nil (p ∷ ps) = refl
 
@@ -122,8 +122,8 @@ settling_next ps ready ends waiting ready_now ends_now n is job jobs e waiting_t
     Goal : List ParkedJob → List Completion → List End → Type 0
     Goal w r es = Settling ps ready ends w r es n
 
-    by : (rest : List ParkedJob) → length rest ≡ suc n → waiting ≡ rest ++ is.kept → ready ++ (settled ps ends).0 ≡ ready_now ++ (settled rest ends_now).0
-        → (settled ps ends).1 ≡ is.kept ++ (settled rest ends_now).1 → (settled ps ends).2 ≡ (settled rest ends_now).2 → Goal waiting_then ready_then ends_then
+    by : (rest : List ParkedJob) → length rest ≡ suc n → waiting ≡ rest ++ is.kept → ready ++ (settled_jobs ps ends).0 ≡ ready_now ++ (settled_jobs rest ends_now).0
+        → (settled_jobs ps ends).1 ≡ is.kept ++ (settled_jobs rest ends_now).1 → (settled_jobs ps ends).2 ≡ (settled_jobs rest ends_now).2 → Goal waiting_then ready_then ends_then
     by [] count waits ready_is left_is ends_is = absurd (omega (arith, count))
     by (q ∷ qs) count waits ready_is left_is ends_is =
         subst (λ (t : List ParkedJob × List Completion × List End). Goal t.0 t.1 t.2) (same ∙ goes) (looked ends_now ready_is left_is ends_is)
@@ -137,7 +137,7 @@ settling_next ps ready ends waiting ready_now ends_now n is job jobs e waiting_t
         less : length qs ≡ n
         less = omega (arith, count)
 
-        looked : (es : List End) → ready ++ (settled ps ends).0 ≡ ready_now ++ (settled (q ∷ qs) es).0 → (settled ps ends).1 ≡ is.kept ++ (settled (q ∷ qs) es).1 → (settled ps ends).2 ≡ (settled (q ∷ qs) es).2
+        looked : (es : List End) → ready ++ (settled_jobs ps ends).0 ≡ ready_now ++ (settled_jobs (q ∷ qs) es).0 → (settled_jobs ps ends).1 ≡ is.kept ++ (settled_jobs (q ∷ qs) es).1 → (settled_jobs ps ends).2 ≡ (settled_jobs (q ∷ qs) es).2
             → let t = by_first q (qs ++ is.kept) ready_now es in Goal t.0 t.1 t.2
         looked [] r l s = record {
           rest = qs;
@@ -152,27 +152,27 @@ settling_next ps ready ends waiting ready_now ends_now n is job jobs e waiting_t
           where
             own : (b : Bool)
                 → let c = completion_of q.key q.completion q.kind x.reply in
-                let then = cond {A = List Completion × List ParkedJob × List End} b (c ∷ (settled qs es).0, (settled qs es).1, (settled qs es).2) ((settled qs (x ∷ es)).0, q ∷ (settled qs (x ∷ es)).1, (settled qs (x ∷ es)).2) in
-                ready ++ (settled ps ends).0 ≡ ready_now ++ then.0 → (settled ps ends).1 ≡ is.kept ++ then.1 → (settled ps ends).2 ≡ then.2
+                let then = cond {A = List Completion × List ParkedJob × List End} b (c ∷ (settled_jobs qs es).0, (settled_jobs qs es).1, (settled_jobs qs es).2) ((settled_jobs qs (x ∷ es)).0, q ∷ (settled_jobs qs (x ∷ es)).1, (settled_jobs qs (x ∷ es)).2) in
+                ready ++ (settled_jobs ps ends).0 ≡ ready_now ++ then.0 → (settled_jobs ps ends).1 ≡ is.kept ++ then.1 → (settled_jobs ps ends).2 ≡ then.2
                 → let t = cond {A = List ParkedJob × List Completion × List End} b (qs ++ is.kept, ready_now ++ c ∷ [], es) ((qs ++ is.kept) ++ q ∷ [], ready_now, x ∷ es) in Goal t.0 t.1 t.2
-            own true r l s = record { rest = qs; kept = is.kept; count_is = less; waits = refl; ready_is = r ∙ sym (append_assoc ready_now (completion_of q.key q.completion q.kind x.reply ∷ []) (settled qs es).0); left_is = l; ends_is = s }
+            own true r l s = record { rest = qs; kept = is.kept; count_is = less; waits = refl; ready_is = r ∙ sym (append_assoc ready_now (completion_of q.key q.completion q.kind x.reply ∷ []) (settled_jobs qs es).0); left_is = l; ends_is = s }
             own false r l s = record {
               rest = qs;
               kept = is.kept ++ q ∷ [];
               count_is = less;
               waits = append_assoc qs is.kept (q ∷ []);
               ready_is = r;
-              left_is = l ∙ sym (append_assoc is.kept (q ∷ []) (settled qs (x ∷ es)).1);
+              left_is = l ∙ sym (append_assoc is.kept (q ∷ []) (settled_jobs qs (x ∷ es)).1);
               ends_is = s;
             }
 
 -- in the end all were
 pub settling_last : (ps : List ParkedJob) (ready : List Completion) (ends : List End) (waiting : List ParkedJob) (ready_now : List Completion) (ends_now : List End)
-    → Settling ps ready ends waiting ready_now ends_now 0 → (waiting ≡ (settled ps ends).1) × (ready_now ≡ ready ++ (settled ps ends).0) × (ends_now ≡ (settled ps ends).2)
+    → Settling ps ready ends waiting ready_now ends_now 0 → (waiting ≡ (settled_jobs ps ends).1) × (ready_now ≡ ready ++ (settled_jobs ps ends).0) × (ends_now ≡ (settled_jobs ps ends).2)
 settling_last ps ready ends waiting ready_now ends_now is = by is.rest is.count_is is.waits is.ready_is is.left_is is.ends_is
   where
-    by : (rest : List ParkedJob) → length rest ≡ 0 → waiting ≡ rest ++ is.kept → ready ++ (settled ps ends).0 ≡ ready_now ++ (settled rest ends_now).0
-        → (settled ps ends).1 ≡ is.kept ++ (settled rest ends_now).1 → (settled ps ends).2 ≡ (settled rest ends_now).2
-        → (waiting ≡ (settled ps ends).1) × (ready_now ≡ ready ++ (settled ps ends).0) × (ends_now ≡ (settled ps ends).2)
+    by : (rest : List ParkedJob) → length rest ≡ 0 → waiting ≡ rest ++ is.kept → ready ++ (settled_jobs ps ends).0 ≡ ready_now ++ (settled_jobs rest ends_now).0
+        → (settled_jobs ps ends).1 ≡ is.kept ++ (settled_jobs rest ends_now).1 → (settled_jobs ps ends).2 ≡ (settled_jobs rest ends_now).2
+        → (waiting ≡ (settled_jobs ps ends).1) × (ready_now ≡ ready ++ (settled_jobs ps ends).0) × (ends_now ≡ (settled_jobs ps ends).2)
     by [] count waits r l s = (waits ∙ sym (append_nil is.kept) ∙ sym l, sym (append_nil ready_now) ∙ sym r, sym s)
     by (q ∷ qs) count waits r l s = absurd (omega (arith, count))

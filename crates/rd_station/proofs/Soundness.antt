@@ -31,7 +31,7 @@ use Rattle.rd_station.specs.declared.held.ParkedJob.{ParkedJob}
 use Rattle.rd_station.specs.declared.refusals.AnnounceNo.TheVariants as no
 use Rattle.rd_station.specs.declared.refusals.PutWhy.{PutWhy}
 use Rattle.rd_station.specs.declared.memory.Memory.{Memory}
-use Rattle.rd_station.specs.Memory.{Names, Remembers, after_come, after_drop, no_memory}
+use Rattle.rd_station.specs.Memory.{Names, Remembers, after_come, after_drop, nothing_remembered}
 use Rattle.rd_station.specs.Queues.{AreKeys, AreRising, in_hand}
 use Rattle.rd_station.specs.Station.{CameOf, IsKnown, MayPut, StationCall, StationState, StationStep, announce, announces, applies, apply, apply_from, cancelled_in_hand, collect_first, cancelled_parked, cancelled_waiting, collect, collects, completion_of, drop_channel, drops, emptied, end, ends, entry_count, held, is_key, marked_removed, max_entries, new_station, put, put_refusal, put_unless, puts, ran, remove, removes, reserved, take, take_first, takes, without_taken}
 use Rattle.rd_station.specs.Sound.{IsSound, unrun_keys}
@@ -63,7 +63,7 @@ module _ {S : Type 0} (Runs : S → Planned → ℕ → Step → List End → S 
 
   -- ---- a station is made, and announced
 
-  pub sound_new : (device : S) → parked_in device ≡ [] → IsSound Runs parked_in Cuts (new_station device) [] 0 no_memory
+  pub sound_new : (device : S) → parked_in device ≡ [] → IsSound Runs parked_in Cuts (new_station device) [] 0 nothing_remembered
   sound_new device nothing = record {
     reached = reached_new Runs parked_in Cuts device nothing;
     keys_found = record { of_held = λ job has. absurd (from_contains [] job has); held = λ id key e. absurd (cc) };

@@ -8,16 +8,16 @@ use Rattle.rd_station.specs.declared.memory.Memory.{Memory}
 use Rattle.rd_station.specs.Station.{IsKnown, StationState, held}
 
 -- before any request came
-abbrev pub no_memory : Memory
-no_memory = record { last = None; forgotten = None }
+abbrev pub nothing_remembered : Memory
+nothing_remembered = record { last = None; forgotten = None }
 
-abbrev pub is_below : Key → Key → Bool
-is_below a b = nat_lt a.channel b.channel || (a.channel == b.channel && nat_lt a.index b.index)
+abbrev pub is_key_below : Key → Key → Bool
+is_key_below a b = nat_lt a.channel b.channel || (a.channel == b.channel && nat_lt a.index b.index)
 
 -- A key may come that is above the last, of its channel where requests are held, and of a later channel than what was forgotten.
 abbrev pub may_come : Memory → ℕ → Key → Bool
 may_come m count key =
-    option_map_or (λ (last : Key). is_below last key && (count == 0 || last.channel == key.channel) && option_map_or (λ c. nat_lt c key.channel) m.forgotten true) m.last true
+    option_map_or (λ (last : Key). is_key_below last key && (count == 0 || last.channel == key.channel) && option_map_or (λ c. nat_lt c key.channel) m.forgotten true) m.last true
 
 abbrev pub after_come : Memory → Key → Memory
 after_come m key = record m { last = Some key }

@@ -38,12 +38,12 @@ in_hand job = record { key = job.key; completion = job.completion; removed = fal
 
 -- What ends make of the jobs that wait inside a device, both in the order in which they began to wait: what becomes ready, what waits on, and the ends
 -- that are of none of them.
-abbrev pub settled : List ParkedJob → List End → List Completion × List ParkedJob × List End
-settled [] ends = ([], [], ends)
-settled (p ∷ parked) [] = ([], p ∷ parked, [])
-settled (p ∷ parked) (end ∷ ends) =
-    if is_key p.key end.key then (let later = settled parked ends in (completion_of p.key p.completion p.kind end.reply ∷ later.0, later.1, later.2))
-    else (let later = settled parked (end ∷ ends) in (later.0, p ∷ later.1, later.2))
+abbrev pub settled_jobs : List ParkedJob → List End → List Completion × List ParkedJob × List End
+settled_jobs [] ends = ([], [], ends)
+settled_jobs (p ∷ parked) [] = ([], p ∷ parked, [])
+settled_jobs (p ∷ parked) (end ∷ ends) =
+    if is_key p.key end.key then (let later = settled_jobs parked ends in (completion_of p.key p.completion p.kind end.reply ∷ later.0, later.1, later.2))
+    else (let later = settled_jobs parked (end ∷ ends) in (later.0, p ∷ later.1, later.2))
 
 -- keys whose indices rise
 abbrev pub AreRising : List Key → Type 0

@@ -15,7 +15,7 @@ use Rattle.rd_station.specs.declared.answers.Applied.TheVariants as answered
 use Rattle.rd_station.specs.declared.held.InHand.{InHand}
 use Rattle.rd_station.specs.declared.memory.Memory.{Memory}
 use Rattle.rd_station.specs.Memory.{Remembers}
-use Rattle.rd_station.specs.Queues.{AreKeys, AreRising, Queues, settled}
+use Rattle.rd_station.specs.Queues.{AreKeys, AreRising, Queues, settled_jobs}
 use Rattle.rd_station.specs.Station.{StationState, held, own_completion, reserved}
 use Rattle.rd_station.specs.Tied.{IsReached}
 
@@ -34,14 +34,14 @@ pub record IsSound {S : Type 0} (Runs : S → Planned → ℕ → Step → List 
   pub remembers : Remembers s memory
 
 -- a station by its parts
-abbrev pub station_of : {S : Type 0} → S → Bool → Bool → Queues → List Item → StationState S
-station_of device live ended q journal =
+abbrev pub station_with : {S : Type 0} → S → Bool → Bool → Queues → List Item → StationState S
+station_with device live ended q journal =
     record { device = device; live = live; ended = ended; waiting = q.waiting; taken = q.taken; parked = q.parked; ready = q.ready; journal = journal }
 
 -- Whatever comes of the job, each request that ends by that is one of those that wait.
 abbrev pub SettlesAll : {S : Type 0} → (S → Planned → ℕ → Step → List End → S → Type 0) → (S → List Parked) → S → Queues → Planned → ℕ → Type 0
 SettlesAll {S} Runs parked_in device q planned moment =
-    (answer : Step) (ends : List End) (new : S) → Applies Runs parked_in device planned moment answer ends new → (settled q.parked ends).2 ≡ []
+    (answer : Step) (ends : List End) (new : S) → Applies Runs parked_in device planned moment answer ends new → (settled_jobs q.parked ends).2 ≡ []
 
 -- The device ran the job of a hand, and this came of it: the job's own completion is ready first, then those of the requests that it ended; else it
 -- waits inside the device after the others.
@@ -50,8 +50,8 @@ pub record RunsJob {S : Type 0} (Runs : S → Planned → ℕ → Step → List 
   pub ends : List End
   pub promise : Applies Runs parked_in old planned moment answer ends new
   pub held : q_then ≡ record q {
-    parked = (settled q.parked ends).1 ++ (if is_parked answer then record { key = t.key; completion = t.completion; kind = kind_of planned.job.op } ∷ [] else []);
-    ready = q.ready ++ own_completion t (kind_of planned.job.op) answer ++ (settled q.parked ends).0;
+    parked = (settled_jobs q.parked ends).1 ++ (if is_parked answer then record { key = t.key; completion = t.completion; kind = kind_of planned.job.op } ∷ [] else []);
+    ready = q.ready ++ own_completion t (kind_of planned.job.op) answer ++ (settled_jobs q.parked ends).0;
   }
   pub entry : journal_then ≡ journal ++ Ran t.key moment (is_starved answer) (is_parked answer) ∷ []
   pub is : applied ≡ (if is_parked answer then answered.Parked else answered.Ran)

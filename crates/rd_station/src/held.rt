@@ -7,7 +7,7 @@ ghost use Rattle.std.specs.Option.{option_to_list};
 ghost use Rattle.std.specs.VecDeque.{deque_capacity, deque_len};
 ghost use Rattle.std.specs.BTreeMap.{is_at};
 ghost use Rattle.rd_base.specs.declared.journal.Item.TheVariants as Item;
-ghost use Rattle.rd_station.specs.Queues.{AreRising, by_first, in_hand, job_count, no_jobs, owed_count, settled};
+ghost use Rattle.rd_station.specs.Queues.{AreRising, by_first, in_hand, job_count, no_jobs, owed_count, settled_jobs};
 ghost use Rattle.rd_drive.specs.Replies.{cancellation};
 ghost use Rattle.rd_station.specs.Station.{completion_of, cancelled_parked, cancelled_waiting, is_key, marked_removed, without_taken};
 
@@ -181,8 +181,8 @@ impl Held {
 
     /// Those that ended become ready, in the order in which they began to wait, and the others wait on.
     pub fn settle(&mut self, ends: &mut Ends)
-        requires { (settled self.old.parked ends.old).2 ≡ [] }
-        ensures held { self.new ≡ record self.old { parked = (settled self.old.parked ends.old).1; ready = self.old.ready ++ (settled self.old.parked ends.old).0 } }
+        requires { (settled_jobs self.old.parked ends.old).2 ≡ [] }
+        ensures held { self.new ≡ record self.old { parked = (settled_jobs self.old.parked ends.old).1; ready = self.old.ready ++ (settled_jobs self.old.parked ends.old).0 } }
         ensures ends { ends.new ≡ [] }
         ensures count { job_count self.new ≡ job_count self.old }
     {
@@ -296,11 +296,11 @@ fn cancel_unrun(
 
 /// What ends make of the jobs that wait inside the device.
 fn settle_all(parked: &mut VecDeque<ParkedJob>, ready: &mut VecDeque<Completion>, ends: &mut Ends)
-    requires all { (settled parked.old.items ends.old).2 ≡ [] }
+    requires all { (settled_jobs parked.old.items ends.old).2 ≡ [] }
     requires parked_room { deque_len parked.old ≤ deque_capacity parked.old }
     requires ready_room { deque_len ready.old + deque_len parked.old ≤ deque_capacity ready.old }
-    ensures parked { parked.new.items ≡ (settled parked.old.items ends.old).1 }
-    ensures ready { ready.new.items ≡ ready.old.items ++ (settled parked.old.items ends.old).0 }
+    ensures parked { parked.new.items ≡ (settled_jobs parked.old.items ends.old).1 }
+    ensures ready { ready.new.items ≡ ready.old.items ++ (settled_jobs parked.old.items ends.old).0 }
     ensures ends { ends.new ≡ [] }
     ensures capacity { (deque_capacity parked.new ≡ deque_capacity parked.old) × (deque_capacity ready.new ≡ deque_capacity ready.old) }
     ensures count { deque_len parked.new + deque_len ready.new ≡ deque_len parked.old + deque_len ready.old }

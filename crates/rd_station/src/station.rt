@@ -5,7 +5,7 @@ ghost use Rattle.rd_base.specs.declared.journal.Item.TheVariants as Item;
 ghost use Rattle.rd_drive.specs.Promise.{CutsOff};
 ghost use Rattle.rd_station.specs.Memory.{after_drop};
 ghost use Rattle.rd_station.specs.Queues.{job_count};
-ghost use Rattle.rd_station.specs.Sound.{RunsJob, SettlesAll, station_of};
+ghost use Rattle.rd_station.specs.Sound.{RunsJob, SettlesAll, station_with};
 ghost use Rattle.rd_station.specs.Station.{drop_channel};
 
 use crate::answers::{Applied, Completion, Given};
@@ -40,13 +40,13 @@ pub struct Station<D: Device> {
 impl<D: Device> Model for Station<D> {
     ghost use Rattle.std.specs.Prelude.{◌≡◌, []};
     ghost use Rattle.rd_station.specs.Station.{StationState};
-    ghost use Rattle.rd_station.specs.Sound.{IsSound, station_of};
+    ghost use Rattle.rd_station.specs.Sound.{IsSound, station_with};
 
     ghost Value = { StationState D };
 
-    ghost view = { λ s. station_of s.device s.live s.ended s.held s.journal.items };
+    ghost view = { λ s. station_with s.device s.live s.ended s.held s.journal.items };
 
-    ghost invariant = { λ s. IsSound D.runs D.parked D.cuts (station_of s.device s.live s.ended s.held s.journal.items) s.held.keys s.journal.spare s.memory × (s.ends ≡ []) };
+    ghost invariant = { λ s. IsSound D.runs D.parked D.cuts (station_with s.device s.live s.ended s.held s.journal.items) s.held.keys s.journal.spare s.memory × (s.ends ≡ []) };
 }
 
 impl<D: Device> Station<D> {
@@ -383,7 +383,7 @@ fn cut_off<D: Device>(
     memory: &mut Memory,
 )
     requires { live.old ≡ true → 0 < journal.old.spare }
-    ensures dropped { (ended : Bool) → drop_channel (station_of device.old live.old ended held.old journal.old.items) device.new ≡ station_of device.new live.new ended held.new journal.new.items }
+    ensures dropped { (ended : Bool) → drop_channel (station_with device.old live.old ended held.old journal.old.items) device.new ≡ station_with device.new live.new ended held.new journal.new.items }
     ensures cut { live.old ≡ true → CutsOff D.cuts D.parked device.old device.new }
     ensures keys { held.new.keys ≡ [] }
     ensures memory { memory.new ≡ after_drop memory.old (job_count held.old) }
