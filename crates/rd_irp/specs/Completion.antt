@@ -1,6 +1,8 @@
 -- Which bytes spell a completion: its head and its body (MS-RDPEFS 2.2.1.5).
-use Rattle.std.specs.Prelude.{ℕ, List, ◌==◌}
+use Rattle.std.specs.Prelude.{◌≡◌, ℕ, List, ◌==◌}
 use Rattle.rd_base.specs.declared.bad.Bad.{Bad}
+use Rattle.rd_base.specs.declared.bad.ReadNo.{ReadNo}
+use Rattle.rd_base.specs.declared.bad.ReadNo.TheVariants as no
 use Rattle.rd_base.specs.declared.status.Status.{Status}
 use Rattle.rd_base.specs.declared.packet.Packet.TheVariants.{IoCompletion}
 use Rattle.rd_base.specs.Layout.{Layout, done, any_bytes, ◌>>=◌, ◌>>◌, choose, Spells, FirstFault}
@@ -61,3 +63,12 @@ SpellsHead head tail bytes = Spells completion_head head tail bytes
 -- what goes wrong first in bytes that are no such head
 abbrev pub FirstFaultOfHead : List ℕ → Bad → Type 0
 FirstFaultOfHead bytes bad = FirstFault completion_head bytes bad
+
+-- Of a completion of this kind and status bytes are kept: those of a buffer, where it is a success.
+abbrev pub KeepsBytes : Kind → Status → Type 0
+KeepsBytes k status = (k ≡ kind.Buffer) × (status.0 ≡ 0)
+
+-- it holds where memory ran out
+abbrev pub OnMemory : Type 0 → ReadNo → Type 0
+OnMemory P no.Memory = P
+OnMemory P (no.Bad bad) = Unit {0}

@@ -1,9 +1,11 @@
 //! Completions (MS-RDPEFS 2.2.1.5).
 
-ghost use Rattle.std.specs.Prelude.{◌≡◌, ◌+◌, ◌-◌, ◌^◌, ◌<◌, ◌≤◌, ◌↔◌, [], ◌++◌, IsTrue, drop, length, replicate, IfOk, IfErr, OnErr, OnOk, vec_capacity, vec_len};
+ghost use Rattle.std.specs.Prelude.{◌≡◌, ◌+◌, ◌-◌, ◌^◌, ◌<◌, ◌≤◌, ◌↔◌, [], ◌++◌, IsTrue, drop, length, replicate, IfOk, IfErr, IsOk, OnErr, OnOk, vec_capacity, vec_len};
 ghost use Rattle.rd_base.specs.Fields.{missing_pad};
+ghost use Rattle.rd_base.specs.Layout.{met};
+ghost use Rattle.rd_base.specs.Position.{at_start};
 ghost use Rattle.rd_base.specs.Reading.{Reads, ReadsInto, WithTail, ForBad};
-ghost use Rattle.rd_irp.specs.Completion.{completion_head, success_body, completion_body, SpellsHead, FirstFaultOfHead, SpellsBody, FirstFaultOfBody};
+ghost use Rattle.rd_irp.specs.Completion.{completion_head, success_body, completion_body, SpellsHead, FirstFaultOfHead, SpellsBody, FirstFaultOfBody, KeepsBytes, OnMemory};
 ghost use Rattle.rd_irp.specs.Written.{completion_bytes, head_bytes, body_bytes, body_tail, IsBodyInRange};
 ghost use Rattle.rd_base.specs.declared.status.Status.{Status};
 ghost use Rattle.rd_irp.specs.Fits.{BodyFits, IsCountableBody, IsOfKind, body_length, completion_head_len, fault_length, kind_of, kind_of_major};
@@ -11,7 +13,7 @@ ghost use Rattle.rd_irp.specs.Fits.{BodyFits, IsCountableBody, IsOfKind, body_le
 use crate::op::{CLOSE, CREATE, LOCK, Op, SET_FILE, SET_VOLUME, WRITE};
 use rd_base::{
     Bad, Bytes, Cursor, Packet, ReadNo, Status, put_bytes, put_counted_bytes, put_header, put_u8,
-    put_u32, read_counted_bytes, read_header, tail_len,
+    put_u32, read_header, tail_len,
 };
 use std::alloc::{AllocError, Global};
 
@@ -130,6 +132,7 @@ pub fn read_body(
     ensures spelled { IfOk result (λ read.
         WithTail read.1 (λ tail. SpellsBody kind status read.0 tail bytes.now)) }
     ensures refused { IfErr result (ForBad (FirstFaultOfBody kind status bytes.now)) }
+    ensures starved { IfErr result (OnMemory (IsOk (met (completion_body kind status) (at_start bytes.now)) × KeepsBytes kind status)) }
 {
     let mut cursor = Cursor::new(bytes);
     let body = body_of(alloc, kind, status, &mut cursor)?;
@@ -146,6 +149,7 @@ fn body_of(
 ) -> Result<Body, ReadNo>
     ensures read { ReadsInto (λ body. body) (completion_body kind status) cursor.old cursor.new result }
     ensures fits { IfOk result (λ body. BodyFits kind status body) }
+    ensures starved { IfErr result (OnMemory (IsOk (met (completion_body kind status) cursor.old) × KeepsBytes kind status)) }
 {
     if status.0 != 0 {
         return Ok(Body::Fault);
@@ -157,6 +161,7 @@ fn body_of(
 fn success_of(alloc: Global, kind: Kind, cursor: &mut Cursor<'_>) -> Result<Body, ReadNo>
     ensures read { ReadsInto (λ body. body) (success_body kind) cursor.old cursor.new result }
     ensures fits { IfOk result (λ body. IsOfKind kind body × IsCountableBody body) }
+    ensures starved { IfErr result (OnMemory (IsOk (met (success_body kind) cursor.old) × (kind ≡ Kind.Buffer))) }
 {
     match kind {
         Kind::Create => {
@@ -174,8 +179,9 @@ fn success_of(alloc: Global, kind: Kind, cursor: &mut Cursor<'_>) -> Result<Body
             Ok(Body::Count(count))
         }
         Kind::Buffer => {
-            let bytes = read_counted_bytes(alloc, cursor)?;
-            Ok(Body::Buffer(bytes))
+            let count = cursor.u32()?;
+            let bytes = cursor.take(count)?;
+            Ok(Body::Buffer(Bytes::of(Vec::from_slice(alloc, bytes)?)))
         }
         Kind::Lock => {
             skip_pad(cursor, 5)?;

@@ -1,4 +1,7 @@
 pub mod MapLemmas
+pub mod PlaceLemmas
+pub mod MarkLemmas
+pub mod SubmitLemmas
 pub mod AcceptedLemmas
 pub mod CountLemmas
 pub mod CourseLemmas
@@ -17,3 +20,5 @@ pub mod Tame
 pub mod Indices
 pub mod Handed
 pub mod StepSlots
+pub mod Reaching
+pub mod ReplyLemmas

@@ -1,5 +1,5 @@
 -- A map with numbers as keys, looked up after an insertion, a removal, and a change of its values.
-use Rattle.std.proofs.Common.{◌≡◌, ◌≢◌, ◌⊎◌, ◌∙◌, refl, sym, ap, ℕ, ◌+◌, ◌<◌, ◌≤◌, ◌==◌, Bool, true, false, cond, List, [], ◌∷◌, length, suc, Some, None, Option, arith, eq-eqb, eqb-true}
+use Rattle.std.proofs.Common.{◌≡◌, ◌≢◌, ◌∙◌, refl, sym, ap, ℕ, ◌+◌, ◌<◌, ◌≤◌, ◌==◌, Bool, true, false, cond, List, [], ◌∷◌, length, suc, Some, None, Option, arith, eq-eqb, eqb-true}
 use Rattle.std.specs.List.{AllByRecursion}
 use Rattle.std.specs.List.Sorted.{IsStrictlySortedBy}
 use Rattle.std.specs.Ordering.{nat_cmp, is_eq, match_ordering}
@@ -63,7 +63,7 @@ module _ {X : Type 0} (k : ℕ) (x : X) where
 -- ---- one fewer
 
 -- a key that has a value isn't below the others
-above_first : {X : Type 0} (m j : ℕ) (x : X) (es : List (ℕ × X)) → AllByRecursion (λ (y : ℕ). nat_cmp m y ≡ Less) (keys_of es) → lookup (is_at (nat_cmp j)) es ≡ Some x → m < j
+pub above_first : {X : Type 0} (m j : ℕ) (x : X) (es : List (ℕ × X)) → AllByRecursion (λ (y : ℕ). nat_cmp m y ≡ Less) (keys_of es) → lookup (is_at (nat_cmp j)) es ≡ Some x → m < j
 above_first m j x [] low e = absurd (cc)
 above_first {X} m j x (d ∷ es) low e = by (above_first m j x es low.1) (is_at (nat_cmp j) d.0) refl e
   where

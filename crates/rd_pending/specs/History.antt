@@ -1,5 +1,5 @@
 -- A table's history: the calls that did something, the newest first. No clause on a call speaks of it; it is what outcomes are told by.
-use Rattle.std.specs.Prelude.{◌≡◌, ℕ, suc, ◌==◌, ◌||◌, if◌then◌else◌, Bool, false, List, [], ◌∷◌, ◌++◌, length, Option, Some, None, IsOk, Ok}
+use Rattle.std.specs.Prelude.{◌≡◌, ℕ, suc, ◌==◌, ◌||◌, if◌then◌else◌, Bool, true, false, List, [], ◌∷◌, ◌++◌, length, Option, Some, None, is_some, IsOk, Ok}
 use Rattle.std.specs.Option.{option_map_or, unwrap_or}
 use Rattle.rd_irp.specs.declared.completion.Head.{Head}
 use Rattle.rd_irp.specs.declared.op.Op.{Op}
@@ -8,7 +8,8 @@ use Rattle.rd_pending.specs.declared.calls.Taken.{Taken}
 use Rattle.rd_pending.specs.declared.calls.Target.{Target}
 use Rattle.rd_pending.specs.Outcomes as tidings
 use Rattle.rd_pending.specs.Outcomes.{Accepted, Agrees, Tidings, accepted_outcome}
-use Rattle.rd_pending.specs.Table.{MayBegin, MaySubmit, TableState, begin, complete, device_in, drop_channel, fate_at, file_in, life_of, live, live_refusal, new_table, next_id, remove, send, submit, submit_refusal, take}
+use Rattle.rd_pending.specs.Table as table
+use Rattle.rd_pending.specs.Table.{MayBegin, MaySubmit, TableCall, TableState, begin, complete, device_in, drop_channel, fate_at, file_in, life_of, live, live_refusal, new_table, next_id, remove, send, submit, submit_refusal, take}
 
 pub data Call : Type 0 where
   begins lives removes takes : ℕ → Call
@@ -58,6 +59,30 @@ accepted_of t application named o = record {
   id = next_id t;
   op = o;
 }
+
+-- The call that a step is, where it does something.
+abbrev pub done_by : TableState → TableCall → List Call
+done_by t (table.begins channel true) = begins channel ∷ []
+done_by t (table.lives device (Ok life)) = lives device ∷ []
+done_by t (table.submits application named o (Ok number)) = submits application named o ∷ []
+done_by t (table.sends (Some message)) = sends ∷ []
+done_by t (table.completes head bytes (Ok completed)) = completes head bytes ∷ []
+done_by t (table.removes device true) = removes device ∷ []
+done_by t (table.takes number (Ok taken)) = takes number ∷ []
+done_by t table.drops = if is_some t.channel then drops ∷ [] else []
+done_by t (table.drops_sent true) = if is_some t.channel then drops ∷ [] else []
+done_by t call = []
+
+-- With what a step did a history goes on to the table after it.
+pub record ContinuesTo (h : List Call) (call : TableCall) (new : TableState) : Type 0 where
+  pub holds : Holds (done_by (after h) call ++ h)
+  pub is : after (done_by (after h) call ++ h) ≡ new
+
+-- A table that came to be by calls: it is a new one after a history.
+pub record IsReachedTable (t : TableState) : Type 0 where
+  pub history : List Call
+  pub holds : Holds history
+  pub is : after history ≡ t
 
 -- the requests that were accepted, in order: the first has the number 1
 abbrev pub accepted_in : List Call → List Accepted

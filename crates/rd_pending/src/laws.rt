@@ -1,6 +1,6 @@
 //! The definitions at work, as contracts of functions that do nothing: the checker computes each case.
 
-ghost use Rattle.std.specs.Prelude.{◌≡◌, ◌∷◌, ◌++◌, [], false, true, length, List, None, Some, Ok, Err};
+ghost use Rattle.std.specs.Prelude.{◌≡◌, ◌∷◌, ◌++◌, [], suc, false, true, length, List, None, Some, Ok, Err};
 ghost use Rattle.rd_base.specs.declared.journal.Cause.TheVariants as Cause;
 ghost use Rattle.rd_base.specs.declared.bad.Why.TheVariants as Why;
 ghost use Rattle.rd_irp.specs.declared.op.Op.TheVariants as Op;
@@ -12,8 +12,11 @@ ghost use Rattle.rd_pending.specs.declared.calls.SubmitNo.TheVariants as SubmitN
 ghost use Rattle.rd_pending.specs.declared.calls.TakeNo.TheVariants as TakeNo;
 ghost use Rattle.rd_pending.specs.declared.calls.Target.TheVariants as Target;
 ghost use Rattle.rd_pending.specs.History as Call;
-ghost use Rattle.rd_pending.specs.History.{AreOutcomes, Call, HandsOut, Holds, accepted_in, after, outcome_in};
-ghost use Rattle.rd_pending.specs.Outcomes.{accepted_outcome};
+ghost use Rattle.rd_pending.specs.History.{AreOutcomes, Call, ContinuesTo, HandsOut, Holds, IsReachedTable, accepted_in, after, done_by, outcome_in};
+ghost use Rattle.rd_irp.specs.declared.completion.Reply.{Reply};
+ghost use Rattle.rd_irp.specs.Fits.{kind_of};
+ghost use Rattle.rd_pending.specs.Known.{IsReplyOf};
+ghost use Rattle.rd_pending.specs.Outcomes.{Accepted, Agrees, accepted_outcome};
 ghost use Rattle.rd_pending.specs.Table as Table;
 ghost use Rattle.rd_pending.specs.Table.{AreSlots, TableCall, TableState, TableStep, begin, complete, drop_channel, drop_sent, fate_at, live, new_table, next_id, remove, stage, submit, take, untaken_at};
 ghost use Rattle.rd_pending.specs.Worked.{asked_of, asked_once, first, full_table, handle_of, hears_begin, hears_refusal, hears_removal, open_table, opening, refusal_of, refused, success_of};
@@ -57,6 +60,10 @@ pub fn steps_are_as_listed()
     ensures unfit { TableStep open_table (Table.begins_unfit 1) open_table }
     ensures refused { TableStep open_table (Table.begins 2 false) open_table }
     ensures staged { TableStep open_table (Table.stages (record { channel = true; lives = 2 })) open_table }
+    // What a history has of a step.
+    ensures ended { done_by open_table Table.drops ≡ Call.drops ∷ [] }
+    ensures ended_before { done_by new_table Table.drops ≡ [] }
+    ensures starved { done_by open_table (Table.lives 3 (Err LiveNo.Memory)) ≡ [] }
 {}
 
 /// No further completion id than 1,024.
@@ -104,4 +111,24 @@ pub fn histories_tell_outcomes()
 /// What is handed out for a number is what came of its request, with its device and life, and stays so whatever is called later.
 pub fn outcomes_are_handed_out()
     ensures handed { (later before : List Call) (call : Call) → Holds (later ++ call ∷ before) → HandsOut (later ++ call ∷ before) before call }
+{}
+
+/// A new table is reached, and a history goes on with each step: so where a table is reached each step reaches another.
+pub fn steps_reach_tables()
+    ensures new { IsReachedTable new_table }
+    ensures goes { (h : List Call) (call : TableCall) (new : TableState) → Holds h → TableStep (after h) call new → ContinuesTo h call new }
+    ensures step { (old new : TableState) (call : TableCall) → IsReachedTable old → TableStep old call new → IsReachedTable new }
+{}
+
+/// Of a table that is reached what always holds of a table does, and it has the outcome of each request that what was heard in its one history gives it.
+pub fn reached_tables_tell_outcomes()
+    ensures slots { (t : TableState) → IsReachedTable t → AreSlots t }
+    ensures outcomes { (t : TableState) (reached : IsReachedTable t) (earlier : List Accepted) (a : Accepted) (later : List Accepted) → accepted_in reached.history ≡ earlier ++ a ∷ later
+        → Agrees (fate_at t (suc (length earlier))) (outcome_in reached.history earlier a) }
+    ensures count { (t : TableState) (reached : IsReachedTable t) → t.count ≡ length (accepted_in reached.history) }
+{}
+
+/// A reply that came of a request has the layout of its operation's completion.
+pub fn replies_are_of_their_requests()
+    ensures { (h : List Call) (earlier : List Accepted) (a : Accepted) (reply : Reply) → outcome_in h earlier a ≡ Some (Outcome.Done reply) → IsReplyOf (kind_of a.op) reply }
 {}

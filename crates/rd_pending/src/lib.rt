@@ -1,19 +1,30 @@
-//! A host's table: what it asked of devices, and what came of each request.
+//! A host's table (`Pending`): what it asked of devices, and what came of each request.
 //!
-//! It stands on `rd_irp`, `rd_chunk` and `rd_base`. It is definitions with laws of them, and no code yet: the layer above uses
-//! `histories_tell_outcomes` (after any calls each request has the outcome that what was heard gives it) and `outcomes_are_handed_out`.
+//! It stands on `rd_irp`, `rd_chunk` and `rd_base`. The layers above use one contract of it: each call of a `Pending` is its step of the
+//! definitions (`TableStep`), and the table came to be by calls (`IsReachedTable`). Of such a table `reached_tables_tell_outcomes` says that each
+//! request has the outcome that what was heard gives it.
 //!
-//! Cost: nothing of it runs.
+//! Cost: a request is put into a slot that is found by a bit in 16 words, and into an ordered map by its number; its completion finds the slot by
+//! its place and the number in the map. Messages and outcomes are moved. Nothing grows with the requests that passed.
 #![tactic(auto)]
 
 mod calls;
+mod kept;
 mod laws;
+mod losing;
+mod pending;
+mod replies;
+mod slots;
+mod table;
+mod target;
 
 pub use calls::{
     CompleteNo, Completed, Handle, LiveNo, Outcome, Stage, SubmitNo, TakeNo, Taken, Target,
 };
 pub use laws::{
     histories_are_as_listed, histories_tell_outcomes, outcomes_are_as_listed,
-    outcomes_are_handed_out, slots_are_few, steps_are_as_listed, steps_keep_slots,
-    tables_are_as_listed,
+    outcomes_are_handed_out, reached_tables_tell_outcomes, replies_are_of_their_requests,
+    slots_are_few, steps_are_as_listed, steps_keep_slots, steps_reach_tables, tables_are_as_listed,
 };
+pub use pending::Pending;
+pub use target::may_submit;
