@@ -9,7 +9,7 @@ use Rattle.rd_base.specs.declared.journal.Item.TheVariants.{Came, Sent}
 use Rattle.rd_base.specs.declared.journal.Key.{Key}
 use Rattle.rd_base.specs.Lawful.{IsBelow, named_key}
 use Rattle.rd_station.specs.declared.memory.Memory.{Memory}
-use Rattle.rd_station.specs.Memory.{Names, Remembers, after_come, after_drop, is_key_below, may_come}
+use Rattle.rd_station.specs.Memory.{NamesKey, Remembers, after_come, after_drop, is_key_below, may_come}
 use Rattle.rd_station.specs.Station.{IsKnown, MayPut, StationState, held}
 use Rattle.rd_station.proofs.Members.{Has, all_of, from_contains, has_append, has_left, has_right, to_contains}
 
@@ -30,16 +30,16 @@ any_split P xs ys any =
     elim (has_append x xs ys has) [ inl h ↦ inl (has_any P xs x h holds) | inr h ↦ inr (has_any P ys x h holds) ]
 
 -- entries of which each names a key that was named, if any, name no other
-pub names_none_new : (j more : List Item) → ((x : Item) → Has x more → (key : Key) → named_key x ≡ Some key → Names j key) → (key : Key) → Names (j ++ more) key → Names j key
+pub names_none_new : (j more : List Item) → ((x : Item) → Has x more → (key : Key) → named_key x ≡ Some key → NamesKey j key) → (key : Key) → NamesKey (j ++ more) key → NamesKey j key
 names_none_new j more each key names = elim (any_split (λ entry. named_key entry ≡ Some key) j more names) [
   | inl before ↦ before
   | inr new ↦ let (x, has, is) = any_has (λ entry. named_key entry ≡ Some key) more new in each x has key is
 ]
 
-pub names_left : (j more : List Item) (key : Key) → Names j key → Names (j ++ more) key
+pub names_left : (j more : List Item) (key : Key) → NamesKey j key → NamesKey (j ++ more) key
 names_left j more key names = any_left (λ entry. named_key entry ≡ Some key) j more names
 
-pub came_named : (j : List Item) (key : Key) → Contains j (Came key) → Names j key
+pub came_named : (j : List Item) (key : Key) → Contains j (Came key) → NamesKey j key
 came_named j key came = has_any (λ entry. named_key entry ≡ Some key) j (Came key) (from_contains j (Came key) came) refl
 
 above_none : (n : ℕ) → nat_lt 0 (suc n) ≡ true
@@ -52,7 +52,7 @@ module _ {S : Type 0} where
 
   -- ---- calls that name nothing new and forget nothing
 
-  pub still : (s new : StationState S) (m : Memory) → Remembers s m → ((key : Key) → Names new.journal key → Names s.journal key) → ((key : Key) → Names s.journal key → Names new.journal key)
+  pub still : (s new : StationState S) (m : Memory) → Remembers s m → ((key : Key) → NamesKey new.journal key → NamesKey s.journal key) → ((key : Key) → NamesKey s.journal key → NamesKey new.journal key)
       → ((key : Key) → IsKnown s key → IsKnown new key) → ((key : Key) → IsKnown new key → IsKnown s key) → ((x : Key × ℕ) → Has x (held new) → Has x (held s)) → Remembers new m
   still s new m is none_new none_lost known_on known_before fewer = record {
     none = λ e key names. is.none e key (none_new key names);
@@ -74,7 +74,7 @@ module _ {S : Type 0} where
       → ((x : Key × ℕ) → Has x (held new) → (x ≡ (key, id)) ⊎ Has x (held s)) → ((x : Key × ℕ) → Has x (held s) → Has x (held new)) → Has (key, id) (held new) → Remembers new (after_come m key)
   remembers_come s new m key id is may e came more own = record {
     none = λ none. absurd (cc (none));
-    named = λ last last_is. let same : key ≡ last = cc in subst (Names new.journal) same named_here;
+    named = λ last last_is. let same : key ≡ last = cc in subst (NamesKey new.journal) same named_here;
     greatest = λ last l last_is names. let same : key ≡ last = cc in subst (λ (k : Key). (l ≡ k) ⊎ IsBelow l k) same (elim (split l names) [ inl before ↦ inr (below l before) | inr here ↦ inl here ]);
     channel = λ job has. (
       key,
@@ -88,21 +88,21 @@ module _ {S : Type 0} where
       | inl before ↦ elim (is.known l before) [ inl k ↦ inl (known_more s new more sent_on l k) | inr f ↦ inr f ]
       | inr here ↦ inl (inl (has_any (λ (other : Key × ℕ). other.0 ≡ l) (held new) (key, id) own (sym here)))
     ];
-    forgot = λ c forgotten. let (l, names, on, unknown) = is.forgot c forgotten in (l, subst (λ (j : List Item). Names j l) (sym e) (any_left (λ entry. named_key entry ≡ Some l) s.journal (Came key ∷ []) names), on, λ k. unknown (known_then l names k));
+    forgot = λ c forgotten. let (l, names, on, unknown) = is.forgot c forgotten in (l, subst (λ (j : List Item). NamesKey j l) (sym e) (any_left (λ entry. named_key entry ≡ Some l) s.journal (Came key ∷ []) names), on, λ k. unknown (known_then l names k));
   }
     where
-      named_here : Names new.journal key
-      named_here = subst (λ (j : List Item). Names j key) (sym e) (has_any (λ entry. named_key entry ≡ Some key) (s.journal ++ Came key ∷ []) (Came key) (has_right (Came key) s.journal (Came key ∷ []) (inl refl)) refl)
+      named_here : NamesKey new.journal key
+      named_here = subst (λ (j : List Item). NamesKey j key) (sym e) (has_any (λ entry. named_key entry ≡ Some key) (s.journal ++ Came key ∷ []) (Came key) (has_right (Came key) s.journal (Came key ∷ []) (inl refl)) refl)
 
-      split : (l : Key) → Names new.journal l → Names s.journal l ⊎ (l ≡ key)
-      split l names = elim (any_split (λ entry. named_key entry ≡ Some l) s.journal (Came key ∷ []) (subst (λ (j : List Item). Names j l) e names)) [
+      split : (l : Key) → NamesKey new.journal l → NamesKey s.journal l ⊎ (l ≡ key)
+      split l names = elim (any_split (λ entry. named_key entry ≡ Some l) s.journal (Came key ∷ []) (subst (λ (j : List Item). NamesKey j l) e names)) [
         | inl before ↦ inl before
         | inr last ↦
             let (x, has, is_named) = any_has (λ entry. named_key entry ≡ Some l) (Came key ∷ []) last in
             elim has [ inl same ↦ inr (let named : Some key ≡ Some l = ap named_key (sym same) ∙ is_named in cc) | inr nowhere ↦ absurd nowhere ]
       ]
 
-      below : (l : Key) → Names s.journal l → IsBelow l key
+      below : (l : Key) → NamesKey s.journal l → IsBelow l key
       below l names =
           let (x, has, is_named) = any_has (λ entry. named_key entry ≡ Some l) s.journal names in
           subst (λ (o : Option Key). IfSome o (λ k. IsBelow k key)) is_named (All-contains (λ entry. IfSome (named_key entry) (λ k. IsBelow k key)) s.journal x may.above (to_contains s.journal x has))
@@ -114,7 +114,7 @@ module _ {S : Type 0} where
       not_itself k (inl less) = omega (arith, less)
       not_itself k (inr less) = omega (arith, less.1)
 
-      known_then : (l : Key) → Names s.journal l → IsKnown new l → IsKnown s l
+      known_then : (l : Key) → NamesKey s.journal l → IsKnown new l → IsKnown s l
       known_then l names (inl any) =
           let (x, has, same) = held_any new l any in
           elim (came x has) [
@@ -128,9 +128,9 @@ module _ {S : Type 0} where
 
   -- ---- all that is held is forgotten
 
-  pub remembers_drop : (s new : StationState S) (m : Memory) (count : ℕ) → Remembers s m → count ≡ length (held s) → held new ≡ [] → ((key : Key) → Names new.journal key → Names s.journal key) → ((key : Key) → Names s.journal key → Names new.journal key)
+  pub remembers_drop : (s new : StationState S) (m : Memory) (count : ℕ) → Remembers s m → count ≡ length (held s) → held new ≡ [] → ((key : Key) → NamesKey new.journal key → NamesKey s.journal key) → ((key : Key) → NamesKey s.journal key → NamesKey new.journal key)
       → ((key : Key) → Has (Sent key) s.journal → Has (Sent key) new.journal) → ((key : Key) → Has (Sent key) new.journal → Has (Sent key) s.journal)
-      → ((x : Key × ℕ) → Has x (held s) → Names s.journal x.0 × (¬ (Has (Sent x.0) s.journal))) → Remembers new (after_drop m count)
+      → ((x : Key × ℕ) → Has x (held s) → NamesKey s.journal x.0 × (¬ (Has (Sent x.0) s.journal))) → Remembers new (after_drop m count)
   remembers_drop s new m count is counted none none_new none_lost sent_on sent_before unsent = by (held s) refl
     where
       nowhere : (x : Key × ℕ) → Has x (held new) → ⊥
@@ -179,19 +179,19 @@ module _ {S : Type 0} where
           many : (n : ℕ) → cond (nat_lt 0 (suc n)) (record m { forgotten = option_map (λ (k : Key). k.channel) m.last }) m ≡ record m { forgotten = option_map (λ (k : Key). k.channel) m.last }
           many n = ap (λ b. cond b (record m { forgotten = option_map (λ (k : Key). k.channel) m.last }) m) (above_none n)
 
-          no_later : (key : Key) → Names s.journal key → key.channel ≤ last.channel
+          no_later : (key : Key) → NamesKey s.journal key → key.channel ≤ last.channel
           no_later key names = elim (is.greatest last key last_is names) [
             | inl same ↦ omega (arith, ap (λ (k : Key). k.channel) same)
             | inr below ↦ elim below [ inl less ↦ omega (arith, less) | inr less ↦ omega (arith, less.0) ]
           ]
 
-          known_then : (key : Key) → Names s.journal key → IsKnown s key ⊎ ((c : ℕ) × (m.forgotten ≡ Some c) × (key.channel ≤ c))
+          known_then : (key : Key) → NamesKey s.journal key → IsKnown s key ⊎ ((c : ℕ) × (m.forgotten ≡ Some c) × (key.channel ≤ c))
               → IsKnown new key ⊎ ((c : ℕ) × (option_map (λ (k : Key). k.channel) m.last ≡ Some c) × (key.channel ≤ c))
           known_then key names (inl (inr sent)) = inl (known_sent key (from_contains s.journal (Sent key) sent))
           known_then key names (inl (inl any)) = inr (last.channel, forgotten_is, no_later key names)
           known_then key names (inr f) = inr (last.channel, forgotten_is, no_later key names)
 
-          forgot_then : (c : ℕ) → option_map (λ (k : Key). k.channel) m.last ≡ Some c → (key : Key) × Names new.journal key × (key.channel ≡ c) × (¬ (IsKnown new key))
+          forgot_then : (c : ℕ) → option_map (λ (k : Key). k.channel) m.last ≡ Some c → (key : Key) × NamesKey new.journal key × (key.channel ≡ c) × (¬ (IsKnown new key))
           forgot_then c forgotten =
               let same : Some last.channel ≡ Some c = sym forgotten_is ∙ forgotten in
               let equal : last.channel ≡ c = cc in
@@ -227,7 +227,7 @@ below_trans a b c (inr x) (inl y) = inl (omega (arith, x.0, y))
 below_trans a b c (inr x) (inr y) = inr (x.0 ∙ y.0, omega (arith, x.1, y.1))
 
 -- of each entry that names a key
-each_entry : (P : Key → Type 0) (j : List Item) → ((key : Key) → Names j key → P key) → All (λ entry. IfSome (named_key entry) P) j
+each_entry : (P : Key → Type 0) (j : List Item) → ((key : Key) → NamesKey j key → P key) → All (λ entry. IfSome (named_key entry) P) j
 each_entry P j each = all_of (λ entry. IfSome (named_key entry) P) j (λ x has. by x has (named_key x) refl)
   where
     by : (x : Item) → Has x j → (o : Option Key) → named_key x ≡ o → IfSome o P
@@ -282,7 +282,7 @@ module _ {S : Type 0} (s : StationState S) (m : Memory) (is : Remembers s m) (ke
   pub then_may : (count : ℕ) → count ≡ length (held s) → MayPut s key → may_come m count key ≡ true
   then_may count counted may = by m.last refl
     where
-      at : (P : Key → Type 0) → All (λ entry. IfSome (named_key entry) P) s.journal → (l : Key) → Names s.journal l → P l
+      at : (P : Key → Type 0) → All (λ entry. IfSome (named_key entry) P) s.journal → (l : Key) → NamesKey s.journal l → P l
       at P all l names =
           let (x, has, is_named) = any_has (λ entry. named_key entry ≡ Some l) s.journal names in
           subst (λ (o : Option Key). IfSome o P) is_named (All-contains (λ entry. IfSome (named_key entry) P) s.journal x all (to_contains s.journal x has))

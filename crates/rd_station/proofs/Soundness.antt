@@ -31,7 +31,7 @@ use Rattle.rd_station.specs.declared.held.ParkedJob.{ParkedJob}
 use Rattle.rd_station.specs.declared.refusals.AnnounceNo.TheVariants as no
 use Rattle.rd_station.specs.declared.refusals.PutWhy.{PutWhy}
 use Rattle.rd_station.specs.declared.memory.Memory.{Memory}
-use Rattle.rd_station.specs.Memory.{Names, Remembers, after_come, after_drop, nothing_remembered}
+use Rattle.rd_station.specs.Memory.{NamesKey, Remembers, after_come, after_drop, nothing_remembered}
 use Rattle.rd_station.specs.Queues.{AreKeys, AreRising, in_hand}
 use Rattle.rd_station.specs.Station.{CameOf, IsKnown, MayPut, StationCall, StationState, StationStep, announce, announces, applies, apply, apply_from, cancelled_in_hand, collect_first, cancelled_parked, cancelled_waiting, collect, collects, completion_of, drop_channel, drops, emptied, end, ends, entry_count, held, is_key, marked_removed, max_entries, new_station, put, put_refusal, put_unless, puts, ran, remove, removes, reserved, take, take_first, takes, without_taken}
 use Rattle.rd_station.specs.Sound.{IsSound, unrun_keys}
@@ -95,7 +95,7 @@ module _ {S : Type 0} (Runs : S → Planned → ℕ → Step → List End → S 
     few = omega (arith, keeps.few.few, in_one every s, cnt_all (held s))
 
     -- what is held came, so the journal names it, and it wasn't sent
-    held_named : (x : Key × ℕ) → Has x (held s) → Names s.journal x.0
+    held_named : (x : Key × ℕ) → Has x (held s) → NamesKey s.journal x.0
     held_named x has = came_named s.journal x.0 (keeping.held_at parked_in channel s keeps x has).1
 
     held_unsent : (x : Key × ℕ) → Has x (held s) → ¬ (Has (Sent x.0) s.journal)
@@ -113,12 +113,12 @@ module _ {S : Type 0} (Runs : S → Planned → ℕ → Step → List End → S 
         by_hand false key is sent = not_sent key is.unrun.unsent sent
 
     -- Memory stays where entries that name what is held, or nothing, come to the journal, and send nothing; and where the same jobs are held.
-    remembers_more : (new : StationState S) (more : List Item) → new.journal ≡ s.journal ++ more → ((x : Item) → Has x more → (key : Key) → named_key x ≡ Some key → Names s.journal key) → ((key : Key) → ¬ (Has (Sent key) more))
+    remembers_more : (new : StationState S) (more : List Item) → new.journal ≡ s.journal ++ more → ((x : Item) → Has x more → (key : Key) → named_key x ≡ Some key → NamesKey s.journal key) → ((key : Key) → ¬ (Has (Sent key) more))
         → ((p : Key × ℕ → Bool) → tally p new ≡ tally p s) → Remembers new memory
     remembers_more new more e each none same =
         still s new memory sound.remembers
-        (λ key names. names_none_new s.journal more each key (subst (λ (j : List Item). Names j key) e names))
-        (λ key names. subst (λ (j : List Item). Names j key) (sym e) (names_left s.journal more key names))
+        (λ key names. names_none_new s.journal more each key (subst (λ (j : List Item). NamesKey j key) e names))
+        (λ key names. subst (λ (j : List Item). NamesKey j key) (sym e) (names_left s.journal more key names))
         (known_more s new (has_same s new same) (λ key has. subst (Has (Sent key)) (sym e) (has_left (Sent key) s.journal more has)))
         (known_more new s (has_same new s (λ p. sym (same p))) (λ key has. elim (has_append (Sent key) s.journal more (subst (Has (Sent key)) e has)) [ inl before ↦ before | inr new_one ↦ absurd (none key new_one) ]))
         (has_same new s (λ p. sym (same p)))
@@ -227,7 +227,7 @@ module _ {S : Type 0} (Runs : S → Planned → ℕ → Step → List End → S 
         sound.rising
         (omega (arith, sound.room, room, ap (length {A = Completion}) e))
         (still s new memory sound.remembers
-        (names_none_new s.journal (Sent x.key ∷ []) (λ y has key is. elim has [ inl same ↦ subst (Names s.journal) (let named : Some x.key ≡ Some key = ap named_key (sym same) ∙ is in cc) own_named | inr none ↦ absurd none ]))
+        (names_none_new s.journal (Sent x.key ∷ []) (λ y has key is. elim has [ inl same ↦ subst (NamesKey s.journal) (let named : Some x.key ≡ Some key = ap named_key (sym same) ∙ is in cc) own_named | inr none ↦ absurd none ]))
         (names_left s.journal (Sent x.key ∷ []))
         known_on
         known_before
@@ -242,7 +242,7 @@ module _ {S : Type 0} (Runs : S → Planned → ℕ → Step → List End → S 
         before : ((y : Key × ℕ) → Has y (held s) → (y ≡ (x.key, x.completion)) ⊎ Has y (held new)) × ((y : Key × ℕ) → Has y (held new) → Has y (held s)) × Has (x.key, x.completion) (held s)
         before = has_more new s (x.key, x.completion) one_less
 
-        own_named : Names s.journal x.key
+        own_named : NamesKey s.journal x.key
         own_named = held_named (x.key, x.completion) before.2
 
         known_on : (key : Key) → IsKnown s key → IsKnown new key
@@ -287,7 +287,7 @@ module _ {S : Type 0} (Runs : S → Planned → ℕ → Step → List End → S 
       gone_of : (p : Key × ℕ → Bool) → cnt (of_hand p) (without_taken t.key s.taken) + cond (p (t.key, t.completion)) 1 0 ≤ cnt (of_hand p) s.taken
       gone_of p = one_gone (of_hand p) (λ (u : InHand). not (is_key u.key t.key)) t (ap not (key_self t.key)) s.taken here
 
-      hand_named : Names s.journal t.key
+      hand_named : NamesKey s.journal t.key
       hand_named = came_named s.journal t.key (keeping.held_came t.removed t.key s.journal (keeps.taken t here).1)
 
       pub cancelled_then : (came : Stepped S) → t.removed ≡ true → apply s planned.job moment came ≡ (cancelled_in_hand s t (kind_of planned.job.op), applied.Cancelled)
@@ -300,7 +300,7 @@ module _ {S : Type 0} (Runs : S → Planned → ℕ → Step → List End → S 
           (keys_same s new keys same sound.keys_found)
           (rising_others t.key s.waiting refl)
           (omega (arith, sound.room, room, gone, length-append s.ready (given_up ∷ [])))
-          (remembers_more new (Cancelled t.key ∷ []) refl (λ x has key is. elim has [ inl alike ↦ subst (Names s.journal) (let named : Some t.key ≡ Some key = ap named_key (sym alike) ∙ is in cc) hand_named | inr none ↦ absurd none ])
+          (remembers_more new (Cancelled t.key ∷ []) refl (λ x has key is. elim has [ inl alike ↦ subst (NamesKey s.journal) (let named : Some t.key ≡ Some key = ap named_key (sym alike) ∙ is in cc) hand_named | inr none ↦ absurd none ])
           (λ key has. elim has [ inl alike ↦ absurd (cc (alike)) | inr none ↦ absurd none ]) same)
         where
           new : StationState S
@@ -330,7 +330,7 @@ module _ {S : Type 0} (Runs : S → Planned → ℕ → Step → List End → S 
             (rising_others t.key s.waiting refl)
             (omega (arith, sound.room, room, gone, many))
             (remembers_more new (Ran t.key moment (is_starved came.answer) (is_parked came.answer) ∷ []) refl
-            (λ x has key is. elim has [ inl alike ↦ subst (Names s.journal) (let named : Some t.key ≡ Some key = ap named_key (sym alike) ∙ is in cc) hand_named | inr none ↦ absurd none ])
+            (λ x has key is. elim has [ inl alike ↦ subst (NamesKey s.journal) (let named : Some t.key ≡ Some key = ap named_key (sym alike) ∙ is in cc) hand_named | inr none ↦ absurd none ])
             (λ key has. elim has [ inl alike ↦ absurd (cc (alike)) | inr none ↦ absurd none ]) same)
           where
             new : StationState S
@@ -401,11 +401,11 @@ module _ {S : Type 0} (Runs : S → Planned → ℕ → Step → List End → S 
           cnt_map (of_ready p) cancelled_waiting s.waiting,
         )
 
-        each_named : (x : Item) → Has x (Cut Removed ∷ map (λ (job : Job). Cancelled job.key) s.waiting) → (key : Key) → named_key x ≡ Some key → Names s.journal key
+        each_named : (x : Item) → Has x (Cut Removed ∷ map (λ (job : Job). Cancelled job.key) s.waiting) → (key : Key) → named_key x ≡ Some key → NamesKey s.journal key
         each_named x (inl alike) key is = absurd (cc (alike, is))
         each_named x (inr later) key is =
             let (job, has, alike) = map_has (λ (j : Job). Cancelled j.key) x s.waiting later in
-            subst (Names s.journal) (let named : Some job.key ≡ Some key = ap named_key (sym alike) ∙ is in cc) (came_named s.journal job.key (keeps.waiting job has).1.unrun.came)
+            subst (NamesKey s.journal) (let named : Some job.key ≡ Some key = ap named_key (sym alike) ∙ is in cc) (came_named s.journal job.key (keeps.waiting job has).1.unrun.came)
 
         none_sent : (key : Key) → ¬ (Has (Sent key) (Cut Removed ∷ map (λ (job : Job). Cancelled job.key) s.waiting))
         none_sent key (inl alike) = absurd (cc (alike))

@@ -26,14 +26,14 @@ abbrev pub after_drop : Memory → ℕ → Memory
 after_drop m count = if nat_lt 0 count then record m { forgotten = option_map (λ (last : Key). last.channel) m.last } else m
 
 -- an entry of the journal names the key
-abbrev pub Names : List Item → Key → Type 0
-Names journal key = Any (λ entry. named_key entry ≡ Some key) journal
+abbrev pub NamesKey : List Item → Key → Type 0
+NamesKey journal key = Any (λ entry. named_key entry ≡ Some key) journal
 
 -- A station's memory is of its journal: the greatest key that this names, and the last channel of which it names one that isn't known any more.
 pub record Remembers {S : Type 0} (s : StationState S) (m : Memory) : Type 0 where
-  pub none : m.last ≡ None → (key : Key) → ¬ (Names s.journal key)
-  pub named : (last : Key) → m.last ≡ Some last → Names s.journal last
-  pub greatest : (last key : Key) → m.last ≡ Some last → Names s.journal key → (key ≡ last) ⊎ IsBelow key last
+  pub none : m.last ≡ None → (key : Key) → ¬ (NamesKey s.journal key)
+  pub named : (last : Key) → m.last ≡ Some last → NamesKey s.journal last
+  pub greatest : (last key : Key) → m.last ≡ Some last → NamesKey s.journal key → (key ≡ last) ⊎ IsBelow key last
   pub channel : (job : Key × ℕ) → Contains (held s) job → (last : Key) × (m.last ≡ Some last) × ((job.0).channel ≡ last.channel)
-  pub known : (key : Key) → Names s.journal key → IsKnown s key ⊎ ((c : ℕ) × (m.forgotten ≡ Some c) × (key.channel ≤ c))
-  pub forgot : (c : ℕ) → m.forgotten ≡ Some c → (key : Key) × Names s.journal key × (key.channel ≡ c) × (¬ (IsKnown s key))
+  pub known : (key : Key) → NamesKey s.journal key → IsKnown s key ⊎ ((c : ℕ) × (m.forgotten ≡ Some c) × (key.channel ≤ c))
+  pub forgot : (c : ℕ) → m.forgotten ≡ Some c → (key : Key) × NamesKey s.journal key × (key.channel ≡ c) × (¬ (IsKnown s key))
