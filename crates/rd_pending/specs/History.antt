@@ -1,4 +1,4 @@
--- A table's history: the calls that did something, the newest first. No clause on a call speaks of it; it is what outcomes are told by.
+-- A table's history: the calls that did something, the newest first. Outcomes are told by it; of a `Pending` there is one in proofs alone.
 use Rattle.std.specs.Prelude.{◌≡◌, ℕ, suc, ◌==◌, ◌||◌, if◌then◌else◌, Bool, true, false, List, [], ◌∷◌, ◌++◌, length, Option, Some, None, is_some, IsOk, Ok}
 use Rattle.std.specs.Option.{option_map_or, unwrap_or}
 use Rattle.rd_irp.specs.declared.completion.Head.{Head}

@@ -99,6 +99,6 @@ pub enum TakeNo {
 pub struct Stage {
     /// Whether one is open.
     pub channel: bool,
-    /// How many devices began a life since it began.
+    /// How many lives of devices began since the last one began.
     pub lives: u64,
 }

@@ -120,7 +120,8 @@ pub fn steps_reach_tables()
     ensures step { (old new : TableState) (call : TableCall) → IsReachedTable old → TableStep old call new → IsReachedTable new }
 {}
 
-/// Of a table that is reached what always holds of a table does, and it has the outcome of each request that what was heard in its one history gives it.
+/// Of a table that is reached what always holds of a table does, and it has the outcome of each request that what was heard gives it, in any
+/// history that led to it.
 pub fn reached_tables_tell_outcomes()
     ensures slots { (t : TableState) → IsReachedTable t → AreSlots t }
     ensures outcomes { (t : TableState) (reached : IsReachedTable t) (earlier : List Accepted) (a : Accepted) (later : List Accepted) → accepted_in reached.history ≡ earlier ++ a ∷ later

@@ -5,7 +5,8 @@
 //! request has the outcome that what was heard gives it.
 //!
 //! Cost: a request is put into a slot that is found by a bit in 16 words, and into an ordered map by its number; its completion finds the slot by
-//! its place and the number in the map. Messages and outcomes are moved. Nothing grows with the requests that passed.
+//! its place and the number in the map. Messages and outcomes are moved. Nothing grows with the requests whose outcomes were taken; the end of
+//! a device or of a channel goes over the outcomes that weren't.
 #![tactic(auto)]
 
 mod calls;

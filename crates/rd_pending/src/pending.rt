@@ -132,9 +132,10 @@ impl Pending {
         self.table.take(number)
     }
 
-    /// How far the channel got. It takes no memory.
-    pub fn stage(&self) -> Stage
-        ensures { TableStep self.now (stages result) self.now }
+    /// How far the channel got; nothing changes. It takes no memory.
+    pub fn stage(&mut self) -> Stage
+        ensures step { TableStep self.old (stages result) self.new }
+        ensures reached { IsReachedTable self.new }
     {
         self.table.stage()
     }

@@ -1,6 +1,6 @@
 -- What a client keeps for printers, by what it is told of them (MS-RDPEPC 2.2.2.3 to 2.2.2.6).
-use Rattle.std.specs.Prelude.{◌≡◌, ℕ, List, Option, Result, Ok, Err, fold, map, Vec}
-use Rattle.std.specs.Option.{option_map_or}
+use Rattle.std.specs.Prelude.{◌≡◌, ◌≢◌, ℕ, List, Option, Result, Ok, Err, fold, map, Vec}
+use Rattle.std.specs.Option.{IsSome, option_map_or}
 use Rattle.std.specs.Map.{lookup, remove_entry}
 use Rattle.std.specs.Ordering.{nat_cmp}
 use Rattle.std.specs.Cmp.Lexicographic.{slice_cmp}
@@ -34,10 +34,18 @@ heard cache (Delete name) = forgetting cache name
 heard cache (Rename old new) = option_map_or (λ (bytes : List ℕ). keeping (forgetting cache old) new bytes) (kept_for cache old) cache
 heard cache (UsingXps printer flags) = cache
 
--- A notice is heard, or nothing changes: where no memory was found for it.
+-- A notice takes memory: for a configuration that it sets, or for another name of one.
+abbrev pub TakesMemory : CacheState → Notice → Type 0
+TakesMemory cache (Add port pnp driver name config) = Unit {0}
+TakesMemory cache (Update name config) = IsSome (kept_for cache name)
+TakesMemory cache (Delete name) = ⊥
+TakesMemory cache (Rename old new) = (old ≢ new) × IsSome (kept_for cache old)
+TakesMemory cache (UsingXps printer flags) = ⊥
+
+-- A notice is heard; or nothing changes, where no memory was found for one that takes some.
 abbrev pub HearsNotice : {E : Type 0} → CacheState → Notice → Result (Unit {0}) E → CacheState → Type 0
 HearsNotice old notice (Ok done) new = new ≡ heard old notice
-HearsNotice old notice (Err no_memory) new = new ≡ old
+HearsNotice old notice (Err no_memory) new = TakesMemory old notice × (new ≡ old)
 
 -- what is kept after notices, in order
 abbrev pub heard_all : CacheState → List Notice → CacheState

@@ -47,7 +47,7 @@ impl Cache {
         self.kept.get(name.as_slice())
     }
 
-    /// Does what a notice tells. Where there is no memory for it, nothing changes.
+    /// Does what a notice tells. Where there is no memory for what it sets, or for another name of it, nothing changes.
     pub fn hear(&mut self, notice: &Notice) -> Result<(), AllocError>
         ensures { HearsNotice self.old notice.now result self.new }
     {
@@ -76,7 +76,7 @@ impl Cache {
     /// Keeps a configuration for a name that has one.
     fn update(&mut self, name: &[u8], config: &Bytes) -> Result<(), AllocError>
         ensures ok { OnOk result (self.new ≡ heard self.old (Notice.Update name.now config.now)) }
-        ensures err { OnErr result (self.new ≡ self.old) }
+        ensures err { OnErr result (IsSome (kept_for self.old name.now) × (self.new ≡ self.old)) }
     {
         if let Some(kept) = self.kept.get_mut(name) {
             *kept = config.copy()?;
@@ -87,7 +87,7 @@ impl Cache {
     /// Moves the configuration of a name to another one.
     fn rename(&mut self, old: &[u8], new: &[u8]) -> Result<(), AllocError>
         ensures ok { OnOk result (self.new ≡ heard self.old (Notice.Rename old.now new.now)) }
-        ensures err { OnErr result (self.new ≡ self.old) }
+        ensures err { OnErr result (((old.now ≢ new.now) × IsSome (kept_for self.old old.now)) × (self.new ≡ self.old)) }
     {
         if old == new || !self.kept.contains_key(old) {
             return Ok(());

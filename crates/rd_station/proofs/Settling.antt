@@ -112,6 +112,12 @@ settled_nil : (ps : List ParkedJob) → settled_jobs ps [] ≡ ([], ps, [])
 settled_nil [] = refl
 settled_nil (p ∷ ps) = refl
 
+-- without ends nothing becomes ready
+pub settled_none : (ready : List Completion) (ps : List ParkedJob) (ends : List End) → ends ≡ [] → (ps ≡ (settled_jobs ps ends).1) × (ready ≡ ready ++ (settled_jobs ps ends).0)
+settled_none ready ps ends none =
+    let is : settled_jobs ps ends ≡ ([], ps, []) = ap (settled_jobs ps) none ∙ settled_nil ps in
+    (λ i. (sym is i).1, sym (ap (λ (r : List Completion × List ParkedJob × List End). ready ++ r.0) is ∙ append_nil ready))
+
 -- the first of the rest is looked at
 pub settling_next : (ps : List ParkedJob) (ready : List Completion) (ends : List End) (waiting : List ParkedJob) (ready_now : List Completion) (ends_now : List End) (n : ℕ)
     → Settling ps ready ends waiting ready_now ends_now (suc n) → (job : ParkedJob) (jobs : List ParkedJob) → waiting ≡ job ∷ jobs

@@ -305,6 +305,9 @@ fn settle_all(parked: &mut VecDeque<ParkedJob>, ready: &mut VecDeque<Completion>
     ensures capacity { (deque_capacity parked.new ≡ deque_capacity parked.old) × (deque_capacity ready.new ≡ deque_capacity ready.old) }
     ensures count { deque_len parked.new + deque_len ready.new ≡ deque_len parked.old + deque_len ready.old }
 {
+    if ends.is_empty() {
+        return;
+    }
     let mut next = ends.pop();
     'jobs: for _ in 0..parked.len() {
         next = settle_first(parked, ready, next, ends);

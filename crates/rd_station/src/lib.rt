@@ -5,10 +5,10 @@
 //! the journal is lawful and what is held is bounded (`stations_are_kept`), the device and what is ready are as the journal tells
 //! (`stations_stay_tied`).
 //!
-//! Cost: `put`, `take`, `apply` and `collect` look up one completion id, or one key among those in hands, by comparisons that grow with the
-//! logarithm of what is held, at most 128 (a job that leaves a hand moves those behind it up); a run that ends requests that waited goes once through those that wait, at most 64. `remove` and
-//! `drop_channel` go through what is held. Nothing depends on what has passed. A job, a reply and a completion are moved and never copied.
-//! `new` and `put` find all memory; the journal grows by at least a half of itself.
+//! Cost: `put`, `apply` and `collect` look up one completion id, or one key among those in hands, by comparisons that grow with the logarithm
+//! of what is held, at most 128 (a job that leaves a hand moves those behind it up); a run that ends requests that waited goes once through
+//! those that wait, at most 64. `remove` and `drop_channel` go through what is held. Nothing depends on what has passed. A job, a reply and a
+//! completion are moved and never copied. `new`, `announce` and `put` find all memory; the journal grows by at least a half of itself.
 #![tactic(auto)]
 
 mod answers;

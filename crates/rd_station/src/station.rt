@@ -189,8 +189,8 @@ impl<D: Device> Station<D> {
         Some(completion)
     }
 
-    /// The host is told that the device is gone: it is cut off, and what is held is cancelled, but for what is in hands, which is cancelled as it
-    /// comes back. False where it was gone already.
+    /// The host is told that the device is gone: it is cut off, and what waits is cancelled; what is in hands is cancelled as it comes back, and
+    /// what is ready stays so. False where it was gone already.
     pub fn remove(&mut self) -> bool
         ensures step { StationStep D.runs D.parked D.cuts self.old (Call.removes result) self.new }
         ensures reached { IsReached D.runs D.parked D.cuts self.new }

@@ -1,6 +1,6 @@
-use Rattle.std.proofs.Common.{◌≡◌, ◌∙◌, subst, ℕ, suc, ◌-◌, ◌+◌, ◌++◌, arith}
+use Rattle.std.proofs.Common.{rules, ◌≡◌, ◌∙◌, subst, ℕ, suc, ◌-◌, ◌+◌, ◌++◌, arith}
 use Rattle.std.specs.Option.{option_to_list}
-use Rattle.rd_station.proofs.Settling.{Settling, settling_next}
+use Rattle.rd_station.proofs.Settling.{Settling, settled_none, settling_next}
 use Rattle.rd_station.proofs.held.settle_all.Goals as goal
 
 pub jobs-preserved : goal.jobs-preserved
@@ -14,3 +14,9 @@ jobs-preserved c =
       last = c.settle_first-next.ensures.last;
       count = c.settle_first-next.ensures.count ∙ c.jobs.invariant.count;
     }
+
+pub returns-then-is_empty-clause-parked : goal.returns-then-is_empty-clause-parked
+returns-then-is_empty-clause-parked c = (settled_none c.args.ready.now.items c.args.parked.now.items c.args.ends.now (search rules)).0
+
+pub returns-then-is_empty-clause-ready : goal.returns-then-is_empty-clause-ready
+returns-then-is_empty-clause-ready c = (settled_none c.args.ready.now.items c.args.parked.now.items c.args.ends.now (search rules)).1

@@ -1,4 +1,5 @@
 use Rattle.std.proofs.Common.{◌≡◌, ◌∙◌, refl, ap, sym, Some, None}
+use Rattle.std.specs.Option.{is_some}
 use Rattle.std.proofs.lemmas.Map.Steps.{set_value_same}
 use Rattle.rd_base.proofs.ResultLemmas.{on_err_of}
 use Rattle.rd_printer.specs.Cache.{by_bytes, keeping, kept_for}
@@ -8,8 +9,11 @@ use Rattle.rd_printer.proofs.cache.Cache.update.Goals.{in-Some+in_ok-kept, in_de
 
 pub returns-in_err-kept-clause-err : goal.returns-in_err-kept-clause-err
 returns-in_err-kept-clause-err c =
+    let entries = c.self.inside.kept.entries in
+    let found : kept_for c.args.self.now c.args.name.now ≡ Some c.in-Some.kept.now =
+    sym (ap (λ cache. kept_for cache c.args.name.now) c.self.view_is) ∙ sym (seen_lookup c.args.name.now entries) ∙ sym c.in-Some.ensures.value in
     on_err_of c.from_residual.result _
-    (ap by_bytes ((c.get_mut.follows.holds c.in-Some.kept.now).0 ∙ set_value_same _ c.self.inside.kept.entries c.in-Some.kept.now (sym c.in-Some.ensures.value)) ∙ c.self.view_is)
+    (ap is_some found, ap by_bytes ((c.get_mut.follows.holds c.in-Some.kept.now).0 ∙ set_value_same _ entries c.in-Some.kept.now (sym c.in-Some.ensures.value)) ∙ c.self.view_is)
 
 pub returns-clause-ok : goal.returns-clause-ok
 returns-clause-ok c =
