@@ -5,7 +5,7 @@ use Rattle.std.specs.List.{flat_map}
 use Rattle.std.proofs.lemmas.List.Elements.{All-cons, All-nil}
 use Rattle.std.proofs.lemmas.Bool.{cases_Bool}
 use Rattle.rd_chunk.specs.Carrier.{IsMessage}
-use Rattle.rd_core.specs.Core.{CoreState, Did}
+use Rattle.rd_core.specs.Core.{CoreState, Did, IsCoreKept, new_core, send}
 use Rattle.rd_core.specs.Hearing as hearing
 use Rattle.rd_core.specs.Hearing.{messages_of}
 use Rattle.rd_core.proofs.KeptLemmas.{AreShort, kept_hear, kept_message, kept_new, kept_send}
@@ -90,14 +90,14 @@ some_fit p c are =
     let all : length (list_bytes (announces c)) ≡ 8 + length (flat_map announce_bytes (announces c)) = list_length (announces c) in
     (omega (arith, some), omega (arith, some, all, fewer_bytes p c.devices, are.fit.1))
 
-fault_short : (k : Kind) (head : Head) → IsMessage (completion_bytes k head Fault)
+pub fault_short : (k : Kind) (head : Head) → IsMessage (completion_bytes k head Fault)
 fault_short kind.Create head = is_message 21 (completion_bytes kind.Create head Fault) refl (omega arith) (omega arith)
 fault_short kind.Close head = is_message 20 (completion_bytes kind.Close head Fault) refl (omega arith) (omega arith)
 fault_short kind.Count head = is_message 21 (completion_bytes kind.Count head Fault) refl (omega arith) (omega arith)
 fault_short kind.Buffer head = is_message 20 (completion_bytes kind.Buffer head Fault) refl (omega arith) (omega arith)
 fault_short kind.Lock head = is_message 21 (completion_bytes kind.Lock head Fault) refl (omega arith) (omega arith)
 
-removal_short : (device : ℕ) → IsMessage (removal_bytes (device ∷ []))
+pub removal_short : (device : ℕ) → IsMessage (removal_bytes (device ∷ []))
 removal_short device = is_message 12 (removal_bytes (device ∷ [])) refl (omega arith) (omega arith)
 
 -- ---- the calls
@@ -113,10 +113,10 @@ same_announces : (device : ℕ) (removed : Bool) (ds : List ClientDevice) → ma
 same_announces device removed [] = refl
 same_announces device removed (d ∷ ds) = cc (marked_same device removed d, same_announces device removed ds)
 
-kept_written : (c : ClientCoreState) (o : Outgoing) → IsClientKept c → IsMessage o.message → IsClientKept (with_outgoing c o)
+pub kept_written : (c : ClientCoreState) (o : Outgoing) → IsClientKept c → IsMessage o.message → IsClientKept (with_outgoing c o)
 kept_written c o kept fits = record { core = kept_message (λ (x : Outgoing). x.message) c.core o kept.core fits; devices = kept.devices }
 
-kept_marked : (c : ClientCoreState) (device : ℕ) (removed : Bool) → IsClientKept c → IsClientKept (with_mark c device removed)
+pub kept_marked : (c : ClientCoreState) (device : ℕ) (removed : Bool) → IsClientKept c → IsClientKept (with_mark c device removed)
 kept_marked c device removed kept = record { core = kept.core; devices = subst AreDevices (sym (same_announces device removed c.devices)) kept.devices }
 
 kept_opened : (c : ClientCoreState) (after : CoreState ClientState Outgoing) → IsClientKept (record c { core = after }) → IsClientKept (client_opened c after)
@@ -136,7 +136,7 @@ kept_made c (after, Err fault) kept = kept
 kept_made c (after, Ok None) kept = kept_opened c after kept
 kept_made c (after, Ok (Some says)) kept = kept_says (record c { core = after }) says kept
 
-kept_heard : (c : ClientCoreState) (bytes : List ℕ) → IsClientKept c → IsClientKept (client_hear c bytes).0
+pub kept_heard : (c : ClientCoreState) (bytes : List ℕ) → IsClientKept c → IsClientKept (client_hear c bytes).0
 kept_heard c bytes kept = kept_made c (hearing.hear client_side c.core bytes) (record {
   core = kept_hear client_side (λ (o : Outgoing). o.message) rows_short c.core bytes kept.core;
   devices = kept.devices;
@@ -164,3 +164,18 @@ client_kept old new (tells_added device answer) kept step =
     kept_did (tell_added old device) old new answer kept (kept_written (with_mark old device false) _ (kept_marked old device false kept) (some_fit (is_device device) old kept.devices)) step.1
 client_kept old new (sends answer) kept step =
     subst IsClientKept (ap (λ (x : ClientCoreState × Option Outgoing). x.0) step) (record { core = kept_send (λ (o : Outgoing). o.message) old.core kept.core; devices = kept.devices })
+
+-- ---- by the parts of a client
+
+-- what always holds doesn't hang on the channel
+pub kept_elsewhere : (c : ClientCoreState) (channel asked : ℕ) → IsClientKept c → IsClientKept (record c { channel = channel; asked = asked })
+kept_elsewhere c channel asked kept = record { core = kept.core; devices = kept.devices }
+
+pub kept_sent : (c : ClientCoreState) (new : CoreState ClientState Outgoing) (sent : Option Outgoing) → IsClientKept c → send c.core ≡ (new, sent) → IsClientKept (record c { core = new })
+kept_sent c new sent kept step = record {
+  core = subst (λ (e : CoreState ClientState Outgoing). IsCoreKept (λ (o : Outgoing). o.message) e) (ap (λ (x : CoreState ClientState Outgoing × Option Outgoing). x.0) step) (kept_send (λ (o : Outgoing). o.message) c.core kept.core);
+  devices = kept.devices;
+}
+
+pub some_list_fits : (p : ClientDevice → Bool) (devices : List ClientDevice) → AreDevices (map announce_in devices) → IsMessage (list_bytes (map announce_in (filter p devices)))
+some_list_fits p devices are = some_fit p (record { core = new_core Start; channel = 0; asked = 0; devices = devices }) are

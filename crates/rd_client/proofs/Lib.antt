@@ -1,2 +1,6 @@
 pub mod OrderLemmas
 pub mod KeptLemmas
+pub mod ListingLemmas
+pub mod HearLemmas
+pub mod NoticeLemmas
+pub mod MarkLemmas

@@ -1,3 +1,4 @@
 pub mod Core
+pub mod Heard
 pub mod Order
 pub mod Worked

@@ -1,17 +1,24 @@
 //! A client's end of a channel: what it makes of the host's messages, and what it writes beside the completions of its devices
 //! (MS-RDPEFS 3.2.5).
 //!
-//! It stands on `rd_core` for what both ends do alike, and on the packets' crates. It is definitions with laws of them, and no code yet: the
-//! layer above uses `clients_keep` (what always holds) and `clients_read_in_order` (what is heard without a fault is in order).
+//! It stands on `rd_core` for what both ends do alike, and on the packets' crates. The layer above uses one contract: each call of
+//! `ClientCore` is its step of the definitions (`ClientStep`), and `IsClientKept` holds before and after it.
 //!
-//! Cost: nothing of it runs.
+//! Cost: a request's head is read once, and its bytes are copied once, from the message into the job; nothing is looked up. The list of devices
+//! is written into one buffer of its exact size, in two passes over at most 256 devices; a removed device is found in an ordered set.
 #![tactic(auto)]
 
+mod client_core;
 mod heard;
+mod hearing;
 mod laws;
+mod listing;
+mod outgoing;
 
+pub use client_core::ClientCore;
 pub use heard::Heard;
 pub use laws::{
     clients_answer_by_key, clients_hear_as_listed, clients_keep, clients_open_as_listed,
     clients_read_in_order, clients_want_memory, clients_write_in_order,
 };
+pub use outgoing::Outgoing;

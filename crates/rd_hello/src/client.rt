@@ -85,7 +85,7 @@ impl ClientShake {
             (client_number self.old) (packet_id (packet_of_hello hello.now))) }
         ensures same { OnErr result (self.new ≡ self.old) }
     {
-        let (first, second, next) = row(alloc, self.state, hello)?;
+        let (first, second, next) = client_row(alloc, self.state, hello)?;
         self.state = next;
         let ready = next == ClientState::Ready;
         Ok(Replies {
@@ -96,8 +96,8 @@ impl ClientShake {
     }
 }
 
-/// The row of the table for this message in this state: what is written, and the next state.
-fn row(
+/// The row of the client's table for this message in this state: what it writes, in order, and its next state.
+pub fn client_row(
     alloc: Global,
     state: ClientState,
     hello: &Hello,

@@ -92,7 +92,7 @@ impl HostShake {
             (host_number self.old.state) (packet_id (packet_of_hello hello.now))) }
         ensures same { OnErr result (self.new ≡ self.old) }
     {
-        let (first, second, next) = row(alloc, self.state, hello)?;
+        let (first, second, next) = host_row(alloc, self.state, hello)?;
         self.state = next;
         let ready = next == HostState::Ready;
         Ok(Replies {
@@ -103,8 +103,8 @@ impl HostShake {
     }
 }
 
-/// The row of the table for this message in this state: what is written, and the next state.
-fn row(
+/// The row of the host's table for this message in this state: what it writes, in order, and its next state.
+pub fn host_row(
     alloc: Global,
     state: HostState,
     hello: &Hello,

@@ -20,12 +20,12 @@ mod own;
 mod replies;
 
 pub use capability::{Cap, Caps, General, MAX_SETS};
-pub use client::{ClientShake, ClientState};
+pub use client::{ClientShake, ClientState, client_row};
 pub use end_fault::EndFault;
 pub use hello::{
     Hello, MAX_NAME_BYTES, Version, can_write_hello, put_hello, read_hello, write_hello,
 };
-pub use host::{HostShake, HostState};
+pub use host::{HostShake, HostState, host_row};
 pub use laws::{
     confirm_comes_first, hello_is_decided, sides_open, worked_faults, worked_messages, worked_sets,
 };

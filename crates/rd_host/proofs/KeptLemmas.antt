@@ -1,11 +1,11 @@
 -- What always holds of a host is kept by each of its calls.
-use Rattle.std.proofs.Common.{◌≡◌, refl, sym, ap, subst, ℕ, ◌≤◌, List, [], ◌∷◌, Some, None, Option, arith, inl, inr}
+use Rattle.std.proofs.Common.{◌≡◌, refl, sym, ap, subst, ℕ, List, [], ◌∷◌, Some, None, Option, arith, inl, inr}
 use Rattle.std.specs.Prelude.{All, Result, Ok, Err}
 use Rattle.std.proofs.lemmas.List.Elements.{All-cons, All-nil}
 use Rattle.std.proofs.lemmas.Bool.{cases_Bool}
 use Rattle.rd_base.specs.declared.status.Status.{Status}
 use Rattle.rd_chunk.specs.Carrier.{IsMessage}
-use Rattle.rd_core.specs.Core.{CoreState, Did}
+use Rattle.rd_core.specs.Core.{CoreState, Did, IsCoreKept, send}
 use Rattle.rd_core.specs.Hearing as hearing
 use Rattle.rd_core.specs.Hearing.{messages_of}
 use Rattle.rd_core.proofs.KeptLemmas.{AreShort, kept_hear, kept_message, kept_new, kept_send}
@@ -24,6 +24,7 @@ use Rattle.rd_hello.specs.Own.{host_announce, host_sets, tell_log_on}
 use Rattle.rd_hello.specs.Rows.{OrderRow}
 use Rattle.rd_host.specs.declared.act.Act.{Act}
 use Rattle.rd_host.specs.Core.{HostCall, HostCoreState, HostStep, IsHostKept, as_it_is, begins, hears, host_begin, host_hear, host_hear_made, host_side, replies, reply, sends, tell, tells}
+use Rattle.rd_host.specs.Heard.{EndHears}
 use Rattle.rd_chunk.proofs.CarrierLemmas.{is_message}
 
 -- ---- what the host writes is short
@@ -97,3 +98,11 @@ host_kept old new (replies device code answer) kept step =
 host_kept old new (tells n answer) kept step = kept_did (tell old n) old new answer kept (kept_message as_it_is old.core _ kept step.0.fit) step.1
 host_kept old new (sends answer) kept step =
     subst IsHostKept (ap (λ (x : HostCoreState × Option (List ℕ)). x.0) step) (kept_send as_it_is old.core kept)
+
+-- ---- the end alone
+
+pub end_heard_kept : (old new : CoreState HostState (List ℕ)) (message : List ℕ) (answer : Result Act EndFault) → IsCoreKept as_it_is old → EndHears old message answer new → IsCoreKept as_it_is new
+end_heard_kept old new message answer kept step = host_kept (record { client = 0; core = old }) (record { client = 0; core = new }) (hears message answer) kept (step 0)
+
+pub end_sent_kept : (old new : CoreState HostState (List ℕ)) (sent : Option (List ℕ)) → IsCoreKept as_it_is old → send old ≡ (new, sent) → IsCoreKept as_it_is new
+end_sent_kept old new sent kept step = subst (IsCoreKept as_it_is) (ap (λ (x : CoreState HostState (List ℕ) × Option (List ℕ)). x.0) step) (kept_send as_it_is old kept)

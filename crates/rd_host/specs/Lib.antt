@@ -1,4 +1,5 @@
 pub mod Core
+pub mod Heard
 pub mod Served
 pub mod Order
 pub mod Worked

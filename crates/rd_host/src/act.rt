@@ -15,3 +15,15 @@ pub enum Act {
     /// Devices that are gone.
     Removed(Removal),
 }
+
+/// The same, where the bytes after a completion's head are still in the message.
+#[derive(Debug, Drop)]
+pub enum LentAct<'m> {
+    Nothing,
+    /// A completion, and the bytes after its head.
+    Complete { head: Head, body: &'m [u8] },
+    /// Devices that are there from now on.
+    Announced(DeviceList),
+    /// Devices that are gone.
+    Removed(Removal),
+}

@@ -1,8 +1,9 @@
-//! How fast frames, recordings, the contents of files, locks, trees, drives, scripts and turns are, beside a plain copy or a plain split
-//! where there is one.
+//! How fast frames, recordings, the contents of files, locks, trees, drives, stations, tables, scripts and turns are, beside a plain copy
+//! or a plain split where there is one.
 //!
 //! Without words each subject runs once, in little, and says so. `frames`, `decode` and `contents`, with a number of megabytes, `locks`,
-//! `tree`, `drive`, `script` and `turn` measure one subject each and print its figures; a number alone measures frames.
+//! `tree`, `drive`, `station`, `table`, `script` and `turn` measure one subject each and print its figures; a number alone measures frames.
+//! With a number of requests, `table` has so many go through few slots.
 #![tactic(auto)]
 
 mod contents;
@@ -12,7 +13,9 @@ mod figures;
 mod frames;
 mod locks;
 mod script;
+mod station;
 mod stop;
+mod table;
 mod tree;
 mod turn;
 
@@ -29,31 +32,40 @@ fn main(rt: HostRuntime) -> Result<(), Stop> {
         // The handle to wait is here alone.
         return turn::try_once(&rt, rt.alloc());
     };
-    let megabytes = match words.next() {
-        Some(word) => parse_megabytes(word.as_str())?,
-        None => MEGABYTES,
+    let number = match words.next() {
+        Some(word) => Some(parse_number(word.as_str())?),
+        None => None,
     };
     if subject.as_str() == "turn" {
         return turn::measure(&rt, rt.alloc());
     }
-    measure(&rt, subject.as_str(), megabytes)
+    measure(&rt, subject.as_str(), number)
 }
 
 /// Prints the figures of a subject, or of frames where only a number is given.
-fn measure(rt: &HostRuntime, subject: &str, megabytes: u32) -> Result<(), Stop> {
+fn measure(rt: &HostRuntime, subject: &str, number: Option<u32>) -> Result<(), Stop> {
     match subject {
-        "decode" => decode::measure(rt, megabytes),
-        "contents" => contents::measure(rt, megabytes),
         "drive" => drive::measure(rt),
         "locks" => locks::measure(rt),
         "script" => script::measure(rt),
+        "station" => station::measure(rt),
+        "table" => table::measure(rt, number),
         "tree" => tree::measure(rt),
-        "frames" => frames::measure(rt, megabytes),
-        number => frames::measure(rt, parse_megabytes(number)?),
+        _ => measure_bytes(rt, subject, number.unwrap_or(MEGABYTES)),
     }
 }
 
-fn parse_megabytes(word: &str) -> Result<u32, Stop> {
+/// The same of a subject through which so many megabytes go.
+fn measure_bytes(rt: &HostRuntime, subject: &str, megabytes: u32) -> Result<(), Stop> {
+    match subject {
+        "decode" => decode::measure(rt, megabytes),
+        "contents" => contents::measure(rt, megabytes),
+        "frames" => frames::measure(rt, megabytes),
+        number => frames::measure(rt, parse_number(number)?),
+    }
+}
+
+fn parse_number(word: &str) -> Result<u32, Stop> {
     match word.parse::<u32>() {
         Ok(number) => Ok(number),
         Err(_) => Err(Stop::Words),
@@ -68,5 +80,7 @@ fn try_all(rt: &HostRuntime) -> Result<(), Stop> {
     locks::try_once(rt)?;
     tree::try_once(rt)?;
     drive::try_once(rt)?;
+    station::try_once(rt)?;
+    table::try_once(rt)?;
     script::try_once(rt)
 }
