@@ -47,7 +47,7 @@ use Rattle.rd_client.specs.declared.heard.Came.TheVariants as came
 use Rattle.rd_client.specs.Core.{ClientCoreState, ClientDevice, HostSays, IsClientKept, Outgoing, announce_in, becomes_ready, client_asks_at, client_hear, client_hear_made, client_opened, client_side, from_head, host_says, is_present, notices, op_read, plain, replies, request_with_head, requests, with_outgoing}
 use Rattle.rd_client.specs.declared.heard.Heard.{Heard}
 use Rattle.rd_client.specs.declared.heard.Heard.TheVariants as heard
-use Rattle.rd_client.specs.Heard.{EndHears, GoesOn, IsNotice, first_list}
+use Rattle.rd_client.specs.Heard.{ClientEndHears, EndGoesOn, IsNotice, first_list}
 use Rattle.rd_client.proofs.KeptLemmas.{kept_elsewhere, kept_heard, kept_written}
 
 abbrev End : Type 0
@@ -59,16 +59,16 @@ with_end devices channel asked end = record { core = end; channel = channel; ask
 
 -- ---- the answer
 
-lacked : (devices : List ClientDevice) (old : End) (message : List ℕ) → MayLack client_side old message → EndHears devices old message (Err Memory) old
+lacked : (devices : List ClientDevice) (old : End) (message : List ℕ) → MayLack client_side old message → ClientEndHears devices old message (Err Memory) old
 lacked devices old message lack = (lack, refl)
 
-request_heard : (old : End) (message : List ℕ) (r : Request) → hear client_side old message ≡ (old, Ok (Some (requests r))) → (devices : List ClientDevice) → EndHears devices old message (Ok (came.Ask r)) old
+request_heard : (old : End) (message : List ℕ) (r : Request) → hear client_side old message ≡ (old, Ok (Some (requests r))) → (devices : List ClientDevice) → ClientEndHears devices old message (Ok (came.Ask r)) old
 request_heard old message r e devices = λ channel asked. ap (λ x. client_hear_made (with_end devices channel asked old) x) e
 
-reply_heard : (old : End) (message : List ℕ) (r : DeviceReply) → hear client_side old message ≡ (old, Ok (Some (replies r))) → (devices : List ClientDevice) → EndHears devices old message (Ok came.Nothing) old
+reply_heard : (old : End) (message : List ℕ) (r : DeviceReply) → hear client_side old message ≡ (old, Ok (Some (replies r))) → (devices : List ClientDevice) → ClientEndHears devices old message (Ok came.Nothing) old
 reply_heard old message r e devices = λ channel asked. ap (λ x. client_hear_made (with_end devices channel asked old) x) e
 
-notice_heard : (old : End) (message : List ℕ) (n : Notice) → hear client_side old message ≡ (old, Ok (Some (notices n))) → (devices : List ClientDevice) → EndHears devices old message (Ok (came.Print n)) old
+notice_heard : (old : End) (message : List ℕ) (n : Notice) → hear client_side old message ≡ (old, Ok (Some (notices n))) → (devices : List ClientDevice) → ClientEndHears devices old message (Ok (came.Print n)) old
 notice_heard old message n e devices = λ channel asked. ap (λ x. client_hear_made (with_end devices channel asked old) x) e
 
 -- what is read has the fault of its layout
@@ -103,19 +103,19 @@ request_says message r tail s = go r.op refl s
     go _ is s = let m = meets whole_request 0 message r tail s in whole_says message r m.0 m.1
 
 pub asked : (old : End) (message : List ℕ) (r : Request) (count : ℕ) → IsComing client_side old message packet.IoRequest → WithTail count (λ tail. SpellsRequest r tail message)
-    → (devices : List ClientDevice) → EndHears devices old message (Ok (came.Ask r)) old
+    → (devices : List ClientDevice) → ClientEndHears devices old message (Ok (came.Ask r)) old
 asked old message r count coming (tail, is, s) =
     request_heard old message r (own_heard client_side old message packet.IoRequest (Ok (requests r)) coming refl (request_says message r tail s))
 
 pub request_lacks : (old : End) (message : List ℕ) → IsComing client_side old message packet.IoRequest → ((bad : Bad) → met request_head (at_start message) ≡ Err bad → 24 ≤ bad.at)
-    → (devices : List ClientDevice) → EndHears devices old message (Err Memory) old
+    → (devices : List ClientDevice) → ClientEndHears devices old message (Err Memory) old
 request_lacks old message coming none devices =
     lacked devices old message (own_lacks client_side old message packet.IoRequest 24 coming refl refl (λ bad e. none bad (read_fault _ (met request_head (at_start message)) bad e)))
 
 -- ---- replies to devices
 
 pub replied : (old : End) (message : List ℕ) (r : DeviceReply) (count : ℕ) → IsComing client_side old message packet.DeviceReply → WithTail count (λ tail. SpellsReply r tail message)
-    → (devices : List ClientDevice) → EndHears devices old message (Ok came.Nothing) old
+    → (devices : List ClientDevice) → ClientEndHears devices old message (Ok came.Nothing) old
 replied old message r count coming (tail, is, s) =
     let m = meets device_reply 0 message r tail s in
     let e = m.1 in
@@ -129,22 +129,22 @@ notice_of packet.PrinterUsingXps message is = (refl, refl)
 notice_of _ message is = absurd is
 
 notice_says : (old : End) (message : List ℕ) (p : Packet) (n : Notice) (rest : Position) → IsComing client_side old message p → IsNotice p → met notice (at_start message) ≡ Ok (n, rest)
-    → (devices : List ClientDevice) → EndHears devices old message (Ok (came.Print n)) old
+    → (devices : List ClientDevice) → ClientEndHears devices old message (Ok (came.Print n)) old
 notice_says old message p n rest coming is e =
     let own = notice_of p message is in
     notice_heard old message n (own_heard client_side old message p (Ok (notices n)) coming own.1 (own.0 ∙ ap (λ r. read_as (λ (read : Notice × Position). notices read.0) r) e))
 
 pub noticed : (old : End) (message : List ℕ) (n : Notice) (count : ℕ) → (coming : (p : Packet) × IsComing client_side old message p × IsNotice p) → WithTail count (λ tail. SpellsNotice n tail message)
-    → (devices : List ClientDevice) → EndHears devices old message (Ok (came.Print n)) old
+    → (devices : List ClientDevice) → ClientEndHears devices old message (Ok (came.Print n)) old
 noticed old message n count (p, coming, notice_is) (tail, is, s) = let m = meets notice 0 message n tail s in notice_says old message p n m.0 coming notice_is m.1
 
 pub noticed_whole : (old : End) (message : List ℕ) (n : Notice) → (coming : (p : Packet) × IsComing client_side old message p × IsNotice p)
-    → (found : (rest : Position) × (met notice (at_start message) ≡ Ok (n, rest))) → (devices : List ClientDevice) → EndHears devices old message (Ok (came.Print n)) old
+    → (found : (rest : Position) × (met notice (at_start message) ≡ Ok (n, rest))) → (devices : List ClientDevice) → ClientEndHears devices old message (Ok (came.Print n)) old
 noticed_whole old message n (p, coming, notice_is) (rest, e) = notice_says old message p n rest coming notice_is e
 
 pub notice_lacks : (old : End) (message : List ℕ) → (coming : (p : Packet) × IsComing client_side old message p × IsNotice p)
     → ((p : Packet) → packet_in message ≡ Some p → (p ≡ packet.PrinterCacheData) × ((bad : Bad) → FirstFaultOfNotice message bad → 8 ≤ bad.at))
-    → (devices : List ClientDevice) → EndHears devices old message (Err Memory) old
+    → (devices : List ClientDevice) → ClientEndHears devices old message (Err Memory) old
 notice_lacks old message (p, coming, notice_is) before devices =
     let found = before p coming.named in
     let own = notice_of p message notice_is in
@@ -172,19 +172,19 @@ asks_opening Ready packet.ClientCapability read is = absurd cc
 asks_opening Ready _ read is = absurd cc
 
 pub opening_lacked : (devices : List ClientDevice) (old : End) (message : List ℕ) → (coming : (p : Packet) × IsComing client_side old message p × IsTrue (is_hello p))
-    → ((p : Packet) → packet_in message ≡ Some p → (bad : Bad) → FirstFaultOfHello message bad → opening_asks_at p ≤ bad.at) → EndHears devices old message (Err Memory) old
+    → ((p : Packet) → packet_in message ≡ Some p → (bad : Bad) → FirstFaultOfHello message bad → opening_asks_at p ≤ bad.at) → ClientEndHears devices old message (Err Memory) old
 opening_lacked devices old message (p, coming, is) none =
     lacked devices old message (opening_lacks client_side old message p coming is (asks_opening old.shake p coming.read is) (none p coming.named))
 
 -- a message of the opening that could not be answered
 pub opening_failed : (devices : List ClientDevice) (old new : End) (message : List ℕ) (h : Hello) (fault : EndFault) → (coming : (p : Packet) × IsComing client_side old message p × IsTrue (is_hello p))
-    → (found : (rest : Position) × (met hello (at_start message) ≡ Ok (h, rest))) → (fault ≡ Memory) × (new ≡ old) → EndHears devices old message (Err fault) new
+    → (found : (rest : Position) × (met hello (at_start message) ≡ Ok (h, rest))) → (fault ≡ Memory) × (new ≡ old) → ClientEndHears devices old message (Err fault) new
 opening_failed devices old new message h fault (p, coming, hello_is) (rest, e) (is, stays) =
     rw (is, stays) (lacked devices old message (opening_lacks_after client_side old message p h rest coming hello_is (asks_opening old.shake p coming.read hello_is) e))
 
 -- and one that was
 pub opening_went : (devices : List ClientDevice) (old new : End) (message : List ℕ) (h : Hello) → (coming : (p : Packet) × IsComing client_side old message p × IsTrue (is_hello p))
-    → (found : (rest : Position) × (met hello (at_start message) ≡ Ok (h, rest))) → GoesOn devices old (by_row client_side (client_step old.shake h)) new → EndHears devices old message (Ok came.Nothing) new
+    → (found : (rest : Position) × (met hello (at_start message) ≡ Ok (h, rest))) → EndGoesOn devices old (by_row client_side (client_step old.shake h)) new → ClientEndHears devices old message (Ok came.Nothing) new
 opening_went devices old new message h (p, coming, is) (rest, e) goes =
     λ channel asked. ap (λ x. client_hear_made (with_end devices channel asked old) x) (opening_heard client_side old message p h rest coming is e) ∙ goes channel asked
 
@@ -197,7 +197,7 @@ never_again (Offered tells) = refl
 never_again Waiting = refl
 never_again Ready = refl
 
-pub went_nowhere : (devices : List ClientDevice) (old : End) (h : Hello) → client_step old.shake h ≡ None → GoesOn devices old (by_row client_side (client_step old.shake h)) old
+pub went_nowhere : (devices : List ClientDevice) (old : End) (h : Hello) → client_step old.shake h ≡ None → EndGoesOn devices old (by_row client_side (client_step old.shake h)) old
 went_nowhere devices old h none =
     let never = never_again old.shake in
     λ channel asked. ap (λ row. client_hear_made (with_end devices channel asked old) (hear_said client_side old (by_row client_side row))) none ∙ rw never refl
@@ -213,7 +213,7 @@ pub went_on : (devices : List ClientDevice) (old new : End) (h : Hello) (first s
     → client_step old.shake h ≡ Some (record { first = first; second = second; next = next }) → f ≡ option_map plain (option_map hello_bytes first) → s ≡ option_map plain (option_map hello_bytes second)
     → list ≡ first_list devices (becomes_ready old.shake next)
     → new ≡ record old { shake = next; outbox = old.outbox ++ option_to_list f ++ option_to_list s ++ option_to_list list }
-    → GoesOn devices old (by_row client_side (client_step old.shake h)) new
+    → EndGoesOn devices old (by_row client_side (client_step old.shake h)) new
 went_on devices old new h first second next f s list row f_is s_is list_is new_is channel count =
     ap (λ row. client_hear_made (with_end devices channel count old) (hear_said client_side old (by_row client_side row))) row
     ∙ go (becomes_ready old.shake next) refl list_is
@@ -272,7 +272,7 @@ rows_writable state next h first second is = subst IsWritableRow is (row_writabl
 
 -- what always holds is kept by what is heard
 pub heard_kept : (devices : List ClientDevice) (channel count : ℕ) (old new : End) (message : List ℕ) (answer : Result Came EndFault) → IsClientKept (with_end devices channel count old)
-    → EndHears devices old message answer new → IsClientKept (with_end devices channel count new)
+    → ClientEndHears devices old message answer new → IsClientKept (with_end devices channel count new)
 heard_kept devices channel count old new message (Err Memory) kept step = let stays = step.1 in rw stays kept
 heard_kept devices channel count old new message (Err (Order state id)) kept step = subst (λ (x : ClientCoreState × Result Heard EndFault). IsClientKept x.0) (step channel count) (kept_heard (with_end devices channel count old) message kept)
 heard_kept devices channel count old new message (Err (Grammar bad)) kept step = subst (λ (x : ClientCoreState × Result Heard EndFault). IsClientKept x.0) (step channel count) (kept_heard (with_end devices channel count old) message kept)
@@ -286,21 +286,21 @@ heard_kept devices channel count old new message (Ok (came.Ask r)) kept step =
 held_made : (devices : List ClientDevice) (old : End) (message : List ℕ) (held : EndFault) → old.fault ≡ Some held → client_hear (with_end devices 0 0 old) message ≡ (with_end devices 0 0 old, Err held)
 held_made devices old message held e = ap (λ x. client_hear_made (with_end devices 0 0 old) x) (held_heard client_side old message held e)
 
-pub end_held : (devices : List ClientDevice) (old new : End) (message : List ℕ) (fault : EndFault) → EndHears devices old message (Err fault) new
+pub end_held : (devices : List ClientDevice) (old new : End) (message : List ℕ) (fault : EndFault) → ClientEndHears devices old message (Err fault) new
     → IfSome old.fault (λ held. ◌≡◌ {A = Result Heard EndFault} (Err fault) (Err held))
 end_held devices old new message fault step = go old.fault refl fault step
   where
-    go : (o : Option EndFault) → old.fault ≡ o → (fault : EndFault) → EndHears devices old message (Err fault) new → IfSome o (λ held. ◌≡◌ {A = Result Heard EndFault} (Err fault) (Err held))
+    go : (o : Option EndFault) → old.fault ≡ o → (fault : EndFault) → ClientEndHears devices old message (Err fault) new → IfSome o (λ held. ◌≡◌ {A = Result Heard EndFault} (Err fault) (Err held))
     go None e fault step = tt
     go (Some held) e Memory step = let sound = step.0.sound in absurd cc
     go (Some held) e (Order state id) step = ap (λ (x : ClientCoreState × Result Heard EndFault). x.1) (sym (step 0 0) ∙ held_made devices old message held e)
     go (Some held) e (Grammar bad) step = ap (λ (x : ClientCoreState × Result Heard EndFault). x.1) (sym (step 0 0) ∙ held_made devices old message held e)
 
 -- where a message is heard none is held
-answer_in : (devices : List ClientDevice) (old new : End) (message : List ℕ) (c : Came) → EndHears devices old message (Ok c) new → (h : Heard) × ((client_hear (with_end devices 0 0 old) message).1 ≡ Ok h)
+answer_in : (devices : List ClientDevice) (old new : End) (message : List ℕ) (c : Came) → ClientEndHears devices old message (Ok c) new → (h : Heard) × ((client_hear (with_end devices 0 0 old) message).1 ≡ Ok h)
 answer_in devices old new message c step = (_, ap (λ (x : ClientCoreState × Result Heard EndFault). x.1) (step 0 0))
 
-pub end_sound : (devices : List ClientDevice) (old new : End) (message : List ℕ) (c : Came) → EndHears devices old message (Ok c) new → old.fault ≡ None
+pub end_sound : (devices : List ClientDevice) (old new : End) (message : List ℕ) (c : Came) → ClientEndHears devices old message (Ok c) new → old.fault ≡ None
 end_sound devices old new message c step = go old.fault refl (answer_in devices old new message c step)
   where
     go : (o : Option EndFault) → old.fault ≡ o → (h : Heard) × ((client_hear (with_end devices 0 0 old) message).1 ≡ Ok h) → o ≡ None

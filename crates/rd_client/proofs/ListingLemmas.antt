@@ -14,7 +14,7 @@ use Rattle.rd_chunk.specs.Sizes.{max_message}
 use Rattle.rd_devices.specs.declared.list.Announce.{Announce}
 use Rattle.rd_devices.specs.DeviceList.{HasCountableBody, announce_bytes, list_bytes}
 use Rattle.rd_client.specs.Core.{ClientDevice, announce_in, is_device, is_present}
-use Rattle.rd_client.specs.Heard.{device_of, devices_of, is_told}
+use Rattle.rd_client.specs.Heard.{client_device, client_devices, is_in_list}
 
 -- with the next device, where it is told of
 pub more_told : {X Y : Type 0} (f : X → List Y) (p : X → Bool) (xs : List X) (i : ℕ) (d : X) → i < length xs → p (get_or xs i d) ≡ true
@@ -62,22 +62,22 @@ bodies_countable (a ∷ devices) short =
     All-cons HasCountableBody a devices (omega (arith, short, own, body, counted)) (bodies_countable devices (omega (arith, short, own)))
 
 -- the devices with a mark are those that are told of
-told_is : (gone : BTreeSet ℕ) (p : Announce → Bool) (q : ClientDevice → Bool) → ((a : Announce) → q (device_of gone a) ≡ p a) → (devices : List Announce)
-    → map announce_in (filter q (devices_of devices gone)) ≡ filter p devices
+told_is : (gone : BTreeSet ℕ) (p : Announce → Bool) (q : ClientDevice → Bool) → ((a : Announce) → q (client_device gone a) ≡ p a) → (devices : List Announce)
+    → map announce_in (filter q (client_devices devices gone)) ≡ filter p devices
 told_is gone p q same [] = refl
 told_is gone p q same (a ∷ devices) = go (p a) refl (told_is gone p q same devices)
   where
-    go : (b : Bool) → p a ≡ b → map announce_in (filter q (devices_of devices gone)) ≡ filter p devices → map announce_in (filter q (devices_of (a ∷ devices) gone)) ≡ filter p (a ∷ devices)
-    go true e later = let is : q (device_of gone a) ≡ true = same a ∙ e in rw (e, is) (ap (λ xs. a ∷ xs) later)
-    go false e later = let is : q (device_of gone a) ≡ false = same a ∙ e in rw (e, is) later
+    go : (b : Bool) → p a ≡ b → map announce_in (filter q (client_devices devices gone)) ≡ filter p devices → map announce_in (filter q (client_devices (a ∷ devices) gone)) ≡ filter p (a ∷ devices)
+    go true e later = let is : q (client_device gone a) ≡ true = same a ∙ e in rw (e, is) (ap (λ xs. a ∷ xs) later)
+    go false e later = let is : q (client_device gone a) ≡ false = same a ∙ e in rw (e, is) later
 
-pub listed_are : (gone : BTreeSet ℕ) (devices : List Announce) → map announce_in (filter is_present (devices_of devices gone)) ≡ filter (is_told gone None) devices
-listed_are gone devices = told_is gone (is_told gone None) is_present (λ a. refl) devices
+pub listed_are : (gone : BTreeSet ℕ) (devices : List Announce) → map announce_in (filter is_present (client_devices devices gone)) ≡ filter (is_in_list gone None) devices
+listed_are gone devices = told_is gone (is_in_list gone None) is_present (λ a. refl) devices
 
-pub announced_are : (gone : BTreeSet ℕ) (device : ℕ) (devices : List Announce) → map announce_in (filter (is_device device) (devices_of devices gone)) ≡ filter (is_told gone (Some device)) devices
-announced_are gone device devices = told_is gone (is_told gone (Some device)) (is_device device) (λ a. refl) devices
+pub announced_are : (gone : BTreeSet ℕ) (device : ℕ) (devices : List Announce) → map announce_in (filter (is_device device) (client_devices devices gone)) ≡ filter (is_in_list gone (Some device)) devices
+announced_are gone device devices = told_is gone (is_in_list gone (Some device)) (is_device device) (λ a. refl) devices
 
-pub announces_are : (gone : BTreeSet ℕ) (devices : List Announce) → map announce_in (devices_of devices gone) ≡ devices
+pub announces_are : (gone : BTreeSet ℕ) (devices : List Announce) → map announce_in (client_devices devices gone) ≡ devices
 announces_are gone [] = refl
 announces_are gone (a ∷ devices) = ap (λ xs. a ∷ xs) (announces_are gone devices)
 

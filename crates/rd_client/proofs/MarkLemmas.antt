@@ -14,7 +14,7 @@ use Rattle.rd_core.specs.Core.{CoreState, with_message}
 use Rattle.rd_hello.specs.declared.client.ClientState.{ClientState}
 use Rattle.rd_client.specs.Core.{AreDevices, ClientCoreState, ClientDevice, IsClientKept, Outgoing, announce_in, device_marked, is_device, refreshed, with_mark, with_outgoing}
 use Rattle.rd_client.proofs.KeptLemmas.{kept_marked, kept_written}
-use Rattle.rd_client.specs.Heard.{device_of, devices_of}
+use Rattle.rd_client.specs.Heard.{client_device, client_devices}
 
 both_false : (a b : Bool) → (a || b) ≡ false → (a ≡ false) × (b ≡ false)
 both_false false b e = (refl, e)
@@ -25,11 +25,11 @@ same_key device q = grind (arith, nat_tests)
 
 -- a device is removed, or is there again
 pub marked_are : (gone new : BTreeSet ℕ) (device : ℕ) (b : Bool) → ((q : ℕ) → contains nat_cmp new q ≡ cond (is_at (nat_cmp device) q) b (contains nat_cmp gone q)) → (devices : List Announce)
-    → devices_of devices new ≡ map (device_marked device b) (devices_of devices gone)
+    → client_devices devices new ≡ map (device_marked device b) (client_devices devices gone)
 marked_are gone new device b updates [] = refl
 marked_are gone new device b updates (a ∷ devices) = cc (one (a.id == device) refl, marked_are gone new device b updates devices)
   where
-    one : (here : Bool) → (a.id == device) ≡ here → device_of new a ≡ device_marked device b (device_of gone a)
+    one : (here : Bool) → (a.id == device) ≡ here → client_device new a ≡ device_marked device b (client_device gone a)
     one true e =
         let is : contains nat_cmp new a.id ≡ b = updates a.id ∙ rw (same_key device a.id, e) refl in
         rw (e, is) refl
@@ -40,13 +40,13 @@ marked_are gone new device b updates (a ∷ devices) = cc (one (a.id == device) 
 -- the removal of a device that was there is taken back
 pub unmarked_are : (gone mid new : BTreeSet ℕ) (device : ℕ) → ((q : ℕ) → contains nat_cmp mid q ≡ cond (is_at (nat_cmp device) q) true (contains nat_cmp gone q))
     → ((q : ℕ) → contains nat_cmp new q ≡ cond (is_at (nat_cmp device) q) false (contains nat_cmp mid q)) → (devices : List Announce)
-    → list_any (λ d. is_device device d && d.removed) (devices_of devices gone) ≡ false → devices_of devices new ≡ devices_of devices gone
+    → list_any (λ d. is_device device d && d.removed) (client_devices devices gone) ≡ false → client_devices devices new ≡ client_devices devices gone
 unmarked_are gone mid new device inserts removes [] none = refl
 unmarked_are gone mid new device inserts removes (a ∷ devices) none =
     let parts = both_false _ _ none in
     cc (one (a.id == device) refl parts.0, unmarked_are gone mid new device inserts removes devices parts.1)
   where
-    one : (here : Bool) → (a.id == device) ≡ here → ((a.id == device) && contains nat_cmp gone a.id) ≡ false → device_of new a ≡ device_of gone a
+    one : (here : Bool) → (a.id == device) ≡ here → ((a.id == device) && contains nat_cmp gone a.id) ≡ false → client_device new a ≡ client_device gone a
     one true e there =
         let is : contains nat_cmp new a.id ≡ false = removes a.id ∙ rw (same_key device a.id, e) refl in
         let was : contains nat_cmp gone a.id ≡ false = rw e at there in
@@ -61,7 +61,7 @@ unmarked_are gone mid new device inserts removes (a ∷ devices) none =
 not_equal : (device q : ℕ) → nat_eq device q ≡ false → (q == device) ≡ false
 not_equal device q e = grind (arith, nat_tests)
 
-pub any_same : (gone : BTreeSet ℕ) (device : ℕ) (devices : List Announce) → list_any (is_device device) (devices_of devices gone) ≡ list_any (λ (a : Announce). a.id == device) devices
+pub any_same : (gone : BTreeSet ℕ) (device : ℕ) (devices : List Announce) → list_any (is_device device) (client_devices devices gone) ≡ list_any (λ (a : Announce). a.id == device) devices
 any_same gone device [] = refl
 any_same gone device (a ∷ devices) = ap (λ b. (a.id == device) || b) (any_same gone device devices)
 
@@ -69,11 +69,11 @@ any_same gone device (a ∷ devices) = ap (λ b. (a.id == device) || b) (any_sam
 abbrev with_data : ℕ → List ℕ → Announce → Announce
 with_data device body a = cond (a.id == device) (record a { body = body }) a
 
-refreshed_all : (gone : BTreeSet ℕ) (device : ℕ) (body : List ℕ) (devices : List Announce) → devices_of (map (with_data device body) devices) gone ≡ map (refreshed device body) (devices_of devices gone)
+refreshed_all : (gone : BTreeSet ℕ) (device : ℕ) (body : List ℕ) (devices : List Announce) → client_devices (map (with_data device body) devices) gone ≡ map (refreshed device body) (client_devices devices gone)
 refreshed_all gone device body [] = refl
 refreshed_all gone device body (a ∷ devices) = cc (one (a.id == device) refl, refreshed_all gone device body devices)
   where
-    one : (here : Bool) → (a.id == device) ≡ here → device_of gone (with_data device body a) ≡ refreshed device body (device_of gone a)
+    one : (here : Bool) → (a.id == device) ≡ here → client_device gone (with_data device body a) ≡ refreshed device body (client_device gone a)
     one true e = rw e refl
     one false e = rw e refl
 
@@ -108,10 +108,10 @@ changed_at device body (a ∷ devices) (suc i) x within here apart =
 -- the data of the device with an id is replaced at its place
 pub refreshed_at : (gone : BTreeSet ℕ) (device : ℕ) (body : List ℕ) (devices : List Announce) (i : ℕ) (x : Announce) → position (λ (a : Announce). a.id == device) devices ≡ Some i
     → IsDistinct nat_eq (map (λ (a : Announce). a.id) devices)
-    → devices_of (set devices i (record (get_or devices i x) { body = body })) gone ≡ map (refreshed device body) (devices_of devices gone)
+    → client_devices (set devices i (record (get_or devices i x) { body = body })) gone ≡ map (refreshed device body) (client_devices devices gone)
 refreshed_at gone device body devices i x found apart =
     let at = position-Some (λ (a : Announce). a.id == device) devices i x found in
-    ap (λ ds. devices_of ds gone) (changed_at device body devices i x at.0 at.1 apart) ∙ refreshed_all gone device body devices
+    ap (λ ds. client_devices ds gone) (changed_at device body devices i x at.0 at.1 apart) ∙ refreshed_all gone device body devices
 
 -- a device that is there has a place
 any_found : (p : Announce → Bool) (devices : List Announce) → list_any p devices ≡ true → position_or_len p devices < length devices
@@ -122,7 +122,7 @@ any_found p (a ∷ devices) any = go (p a) refl any (any_found p devices)
     go true e any later = rw e (omega arith)
     go false e any later = let rest : list_any p devices ≡ true = rw e at any in rw e (omega (arith, later rest))
 
-pub has_place : (gone : BTreeSet ℕ) (device : ℕ) (devices : List Announce) → list_any (is_device device) (devices_of devices gone) ≡ true → position (λ (a : Announce). a.id == device) devices ≡ None → ⊥
+pub has_place : (gone : BTreeSet ℕ) (device : ℕ) (devices : List Announce) → list_any (is_device device) (client_devices devices gone) ≡ true → position (λ (a : Announce). a.id == device) devices ≡ None → ⊥
 has_place gone device devices has none =
     let there : position_or_len (λ (a : Announce). a.id == device) devices < length devices = any_found (λ (a : Announce). a.id == device) devices (sym (any_same gone device devices) ∙ has) in
     let found : ltb (position_or_len (λ (a : Announce). a.id == device) devices) (length devices) ≡ true = lt-ltb _ _ there in
@@ -152,7 +152,7 @@ kept_as_before c new devices kept same marks = subst IsClientKept (sym (as_befor
 
 -- a device is gone that is there and removed
 pub gone_is : (gone : BTreeSet ℕ) (device : ℕ) (devices : List Announce)
-    → list_any (λ d. is_device device d && d.removed) (devices_of devices gone) ≡ (contains nat_cmp gone device && list_any (λ (a : Announce). a.id == device) devices)
+    → list_any (λ d. is_device device d && d.removed) (client_devices devices gone) ≡ (contains nat_cmp gone device && list_any (λ (a : Announce). a.id == device) devices)
 gone_is gone device [] = elim (contains nat_cmp gone device) as (λ b. false ≡ (b && false)) [ true ↦ refl | false ↦ refl ]
 gone_is gone device (a ∷ devices) = ap (λ b. ((a.id == device) && contains nat_cmp gone a.id) || b) (gone_is gone device devices) ∙ one (a.id == device) refl
   where

@@ -19,16 +19,16 @@ use Rattle.rd_client.specs.declared.heard.Heard.TheVariants as heard
 use Rattle.rd_client.specs.Core.{ClientCoreState, ClientDevice, HostSays, Outgoing, announce_in, client_hear, client_hear_made, client_side, hear_says, is_present, plain, requests}
 
 -- the devices, where those with these ids are removed
-abbrev pub device_of : BTreeSet ℕ → Announce → ClientDevice
-device_of gone a = record { announce = a; removed = contains nat_cmp gone a.id }
+abbrev pub client_device : BTreeSet ℕ → Announce → ClientDevice
+client_device gone a = record { announce = a; removed = contains nat_cmp gone a.id }
 
-abbrev pub devices_of : List Announce → BTreeSet ℕ → List ClientDevice
-devices_of devices gone = map (device_of gone) devices
+abbrev pub client_devices : List Announce → BTreeSet ℕ → List ClientDevice
+client_devices devices gone = map (client_device gone) devices
 
 -- whether a device is told of: the one with this id, or where none is named each that isn't removed
-abbrev pub is_told : BTreeSet ℕ → Option ℕ → Announce → Bool
-is_told gone (Some device) a = a.id == device
-is_told gone None a = not (contains nat_cmp gone a.id)
+abbrev pub is_in_list : BTreeSet ℕ → Option ℕ → Announce → Bool
+is_in_list gone (Some device) a = a.id == device
+is_in_list gone None a = not (contains nat_cmp gone a.id)
 
 -- a request with its place on a channel
 abbrev pub ask_of : Request → (channel index : ℕ) → Heard
@@ -40,20 +40,20 @@ made_of c came.Nothing = (c, heard.Nothing)
 made_of c (came.Ask r) = hear_says c (requests r)
 made_of c (came.Print n) = (c, heard.Print n)
 
-abbrev pub answered : ClientCoreState → Result Came EndFault → ClientCoreState × Result Heard EndFault
-answered c (Ok heard) = let made = made_of c heard in (made.0, Ok made.1)
-answered c (Err fault) = (c, Err fault)
+abbrev pub answered_heard : ClientCoreState → Result Came EndFault → ClientCoreState × Result Heard EndFault
+answered_heard c (Ok heard) = let made = made_of c heard in (made.0, Ok made.1)
+answered_heard c (Err fault) = (c, Err fault)
 
 -- The end of a client with these devices heard a message, whatever its channel and however many requests it heard there: before it, the answer, and after it.
-abbrev pub EndHears : List ClientDevice → CoreState ClientState Outgoing → List ℕ → Result Came EndFault → CoreState ClientState Outgoing → Type 0
-EndHears devices old message (Err Memory) new = MayLack client_side old message × (new ≡ old)
-EndHears devices old message answer new =
+abbrev pub ClientEndHears : List ClientDevice → CoreState ClientState Outgoing → List ℕ → Result Came EndFault → CoreState ClientState Outgoing → Type 0
+ClientEndHears devices old message (Err Memory) new = MayLack client_side old message × (new ≡ old)
+ClientEndHears devices old message answer new =
     (channel asked : ℕ) → client_hear (record { core = old; channel = channel; asked = asked; devices = devices }) message
-    ≡ answered (record { core = new; channel = channel; asked = asked; devices = devices }) answer
+    ≡ answered_heard (record { core = new; channel = channel; asked = asked; devices = devices }) answer
 
 -- where a message of the opening says this, the end of a client with these devices goes on to another
-abbrev pub GoesOn : List ClientDevice → CoreState ClientState Outgoing → Meaning ClientState HostSays → CoreState ClientState Outgoing → Type 0
-GoesOn devices old said new =
+abbrev pub EndGoesOn : List ClientDevice → CoreState ClientState Outgoing → Meaning ClientState HostSays → CoreState ClientState Outgoing → Type 0
+EndGoesOn devices old said new =
     (channel asked : ℕ) → client_hear_made (record { core = old; channel = channel; asked = asked; devices = devices }) (hear_said client_side old said)
     ≡ (record { core = new; channel = channel; asked = asked; devices = devices }, Ok heard.Nothing)
 

@@ -35,13 +35,13 @@ pub struct ClientCore {
 
 impl Model for ClientCore {
     ghost use Rattle.rd_client.specs.Core.{ClientCoreState, IsClientKept};
-    ghost use Rattle.rd_client.specs.Heard.{devices_of};
+    ghost use Rattle.rd_client.specs.Heard.{client_devices};
 
     ghost Value = { ClientCoreState };
 
-    ghost view = { λ c. record { core = c.end; channel = c.channel; asked = c.asked; devices = devices_of c.devices.items c.gone } };
+    ghost view = { λ c. record { core = c.end; channel = c.channel; asked = c.asked; devices = client_devices c.devices.items c.gone } };
 
-    ghost invariant = { λ c. IsClientKept (record { core = c.end; channel = c.channel; asked = c.asked; devices = devices_of c.devices.items c.gone }) };
+    ghost invariant = { λ c. IsClientKept (record { core = c.end; channel = c.channel; asked = c.asked; devices = client_devices c.devices.items c.gone }) };
 }
 
 impl ClientCore {

@@ -15,7 +15,7 @@ ghost use Rattle.rd_hello.specs.Moves.{packet_in};
 ghost use Rattle.rd_irp.specs.Request.{request_head};
 ghost use Rattle.rd_printer.specs.Notice.{FirstFaultOfNotice, cache_data, notice, using_xps};
 ghost use Rattle.rd_client.specs.Core.{AreDevices, ClientDevice, becomes_ready, client_reads_in, client_side};
-ghost use Rattle.rd_client.specs.Heard.{EndHears, GoesOn, IsNotice, devices_of, first_list};
+ghost use Rattle.rd_client.specs.Heard.{ClientEndHears, EndGoesOn, IsNotice, client_devices, first_list};
 
 use crate::heard::Came;
 use crate::listing::write_told;
@@ -44,7 +44,7 @@ pub fn listen(
     message: &[u8],
 ) -> Result<Came, EndFault>
     requires { AreDevices devices.now }
-    ensures { EndHears (devices_of devices.now gone.now) end.old message.now result end.new }
+    ensures { ClientEndHears (client_devices devices.now gone.now) end.old message.now result end.new }
 {
     let state = end.state();
     let packet = match end.expect(state.number(), reads_in(state), message) {
@@ -88,7 +88,7 @@ fn hear_opening(
 ) -> Result<Came, EndFault>
     requires coming { (p : Packet) × IsComing client_side end.old message.now p × IsTrue (is_hello p) }
     requires devices { AreDevices devices.now }
-    ensures { EndHears (devices_of devices.now gone.now) end.old message.now result end.new }
+    ensures { ClientEndHears (client_devices devices.now gone.now) end.old message.now result end.new }
 {
     let hello = match read_opening(alloc, message) {
         Ok(hello) => hello,
@@ -110,7 +110,7 @@ fn go_on(
     hello: &Hello,
 ) -> Result<(), EndFault>
     requires { AreDevices devices.now }
-    ensures ok { OnOk result (GoesOn (devices_of devices.now gone.now) end.old (by_row client_side (client_step end.old.shake hello.now)) end.new) }
+    ensures ok { OnOk result (EndGoesOn (client_devices devices.now gone.now) end.old (by_row client_side (client_step end.old.shake hello.now)) end.new) }
     ensures err { IfErr result (λ wrong. (wrong ≡ fault.Memory) × (end.new ≡ end.old)) }
 {
     let state = end.state();
@@ -134,7 +134,7 @@ fn first_list(
     ready: bool,
 ) -> Result<Option<Outgoing>, AllocError>
     requires { AreDevices devices.now }
-    ensures { IfOk result (λ list. list ≡ first_list (devices_of devices.now gone.now) ready) }
+    ensures { IfOk result (λ list. list ≡ first_list (client_devices devices.now gone.now) ready) }
 {
     if !ready {
         return Ok(None);
@@ -157,7 +157,7 @@ fn becomes_ready(state: ClientState, next: ClientState) -> bool
 /// Hears a request.
 fn hear_request(end: &mut ClientEnd, alloc: Global, message: &[u8]) -> Result<Came, EndFault>
     requires { IsComing client_side end.old message.now packet.IoRequest }
-    ensures { (devices : List ClientDevice) → EndHears devices end.old message.now result end.new }
+    ensures { (devices : List ClientDevice) → ClientEndHears devices end.old message.now result end.new }
 {
     match read_request(alloc, message) {
         Ok((request, _tail)) => Ok(Came::Ask(request)),
@@ -187,7 +187,7 @@ fn before_body(message: &[u8]) -> Result<(), Bad>
 /// Hears the host's reply to a device, which asks nothing.
 fn hear_reply(end: &mut ClientEnd, message: &[u8]) -> Result<Came, EndFault>
     requires { IsComing client_side end.old message.now packet.DeviceReply }
-    ensures { (devices : List ClientDevice) → EndHears devices end.old message.now result end.new }
+    ensures { (devices : List ClientDevice) → ClientEndHears devices end.old message.now result end.new }
 {
     match read_reply(message) {
         Ok(_) => Ok(Came::Nothing),
@@ -198,7 +198,7 @@ fn hear_reply(end: &mut ClientEnd, message: &[u8]) -> Result<Came, EndFault>
 /// Hears what the host tells of a printer.
 fn hear_notice(end: &mut ClientEnd, alloc: Global, message: &[u8]) -> Result<Came, EndFault>
     requires { (p : Packet) × IsComing client_side end.old message.now p × IsNotice p }
-    ensures { (devices : List ClientDevice) → EndHears devices end.old message.now result end.new }
+    ensures { (devices : List ClientDevice) → ClientEndHears devices end.old message.now result end.new }
 {
     match read_notice(alloc, message) {
         Ok((notice, _tail)) => Ok(Came::Print(notice)),

@@ -3,7 +3,7 @@
 ghost use Rattle.std.specs.Prelude.{◌≡◌, ◌+◌, ◌-◌, ◌^◌, ◌≤◌, ◌<◌, ◌++◌, [], All, IfOk, filter, length, min, vec_capacity, vec_len};
 ghost use Rattle.std.specs.List.{flat_map};
 ghost use Rattle.rd_devices.specs.DeviceList.{HasCountableBody, announce_bytes, list_bytes};
-ghost use Rattle.rd_client.specs.Heard.{is_told};
+ghost use Rattle.rd_client.specs.Heard.{is_in_list};
 
 use rd_base::{Bytes, Format, HEADER_LEN, Packet, put_header, put_u32};
 use rd_devices::Announce;
@@ -19,8 +19,8 @@ pub fn write_told(
 ) -> Result<Bytes, AllocError>
     requires countable { All HasCountableBody devices.now }
     requires few { length devices.now < 2 ^ 32 }
-    requires short { length (flat_map announce_bytes (filter (is_told gone.now only) devices.now)) < 2 ^ 32 }
-    ensures { IfOk result (λ message. message ≡ list_bytes (filter (is_told gone.now only) devices.now)) }
+    requires short { length (flat_map announce_bytes (filter (is_in_list gone.now only) devices.now)) < 2 ^ 32 }
+    ensures { IfOk result (λ message. message ≡ list_bytes (filter (is_in_list gone.now only) devices.now)) }
 {
     let size = HEADER_LEN + 4 + size_of_told(devices, gone, only);
     let room = Vec::with_capacity(alloc, size)?;
@@ -33,8 +33,8 @@ fn told_in(room: Vec<u8>, devices: &[Announce], gone: &BTreeSet<u32>, only: Opti
     requires countable { All HasCountableBody devices.now }
     requires few { length devices.now < 2 ^ 32 }
     requires empty { room.items ≡ [] }
-    requires exact { vec_capacity room ≡ 8 + length (flat_map announce_bytes (filter (is_told gone.now only) devices.now)) }
-    ensures { result ≡ list_bytes (filter (is_told gone.now only) devices.now) }
+    requires exact { vec_capacity room ≡ 8 + length (flat_map announce_bytes (filter (is_in_list gone.now only) devices.now)) }
+    ensures { result ≡ list_bytes (filter (is_in_list gone.now only) devices.now) }
 {
     let mut out = room;
     put_header(&mut out, Packet::DeviceListAnnounce);
@@ -46,11 +46,11 @@ fn told_in(room: Vec<u8>, devices: &[Announce], gone: &BTreeSet<u32>, only: Opti
 /// Appends the devices that are told of to bytes that have room for them.
 fn put_told(out: &mut Vec<u8>, devices: &[Announce], gone: &BTreeSet<u32>, only: Option<u32>)
     requires countable { All HasCountableBody devices.now }
-    requires room { vec_len out.old + length (flat_map announce_bytes (filter (is_told gone.now only) devices.now)) ≤ vec_capacity out.old }
-    ensures { out.new.items ≡ out.old.items ++ flat_map announce_bytes (filter (is_told gone.now only) devices.now) }
+    requires room { vec_len out.old + length (flat_map announce_bytes (filter (is_in_list gone.now only) devices.now)) ≤ vec_capacity out.old }
+    ensures { out.new.items ≡ out.old.items ++ flat_map announce_bytes (filter (is_in_list gone.now only) devices.now) }
 {
     for announce in devices {
-        if is_told(gone, only, announce) {
+        if is_in_list(gone, only, announce) {
             announce.put(out);
         }
     }
@@ -59,12 +59,12 @@ fn put_told(out: &mut Vec<u8>, devices: &[Announce], gone: &BTreeSet<u32>, only:
 /// How many bytes the devices that are told of are written in.
 fn size_of_told(devices: &[Announce], gone: &BTreeSet<u32>, only: Option<u32>) -> usize
     requires countable { All HasCountableBody devices.now }
-    requires short { length (flat_map announce_bytes (filter (is_told gone.now only) devices.now)) < 2 ^ 32 }
-    ensures { result ≡ length (flat_map announce_bytes (filter (is_told gone.now only) devices.now)) }
+    requires short { length (flat_map announce_bytes (filter (is_in_list gone.now only) devices.now)) < 2 ^ 32 }
+    ensures { result ≡ length (flat_map announce_bytes (filter (is_in_list gone.now only) devices.now)) }
 {
     let mut size = 0usize;
     for announce in devices {
-        if is_told(gone, only, announce) {
+        if is_in_list(gone, only, announce) {
             size += announce.size();
         }
     }
@@ -74,11 +74,11 @@ fn size_of_told(devices: &[Announce], gone: &BTreeSet<u32>, only: Option<u32>) -
 /// How many devices are told of.
 fn count_of_told(devices: &[Announce], gone: &BTreeSet<u32>, only: Option<u32>) -> u32
     requires { length devices.now < 2 ^ 32 }
-    ensures { result ≡ length (filter (is_told gone.now only) devices.now) }
+    ensures { result ≡ length (filter (is_in_list gone.now only) devices.now) }
 {
     let mut count = 0u32;
     for announce in devices {
-        if is_told(gone, only, announce) {
+        if is_in_list(gone, only, announce) {
             count += 1;
         }
     }
@@ -86,8 +86,8 @@ fn count_of_told(devices: &[Announce], gone: &BTreeSet<u32>, only: Option<u32>) 
 }
 
 /// Whether a device is told of.
-fn is_told(gone: &BTreeSet<u32>, only: Option<u32>, announce: &Announce) -> bool
-    ensures { result ≡ is_told gone.now only announce.now }
+fn is_in_list(gone: &BTreeSet<u32>, only: Option<u32>, announce: &Announce) -> bool
+    ensures { result ≡ is_in_list gone.now only announce.now }
 {
     match only {
         Some(device) => announce.id == device,

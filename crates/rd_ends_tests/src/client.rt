@@ -132,13 +132,18 @@ fn answers_a_cut_request(rt: HostRuntime) {
     let Heard::Ask { device, job } = &heard else {
         panic!(rt; "no request");
     };
-    assert_eq!(rt; (*device, job.key.channel, job.key.index, client.asked()), (1, 1, 0, 1));
+    assert_eq!(rt;
+        (*device, job.key.channel, job.key.index, client.asked()),
+        (1, 1, 0, 1)
+    );
     let Op::Malformed { major, bad, .. } = &job.op else {
         panic!(rt; "a whole request");
     };
     assert_eq!(rt; (*major, bad.at), (3, 36));
     assert!(rt; client.may_be_asked());
-    client.direct(job, *device, Status::INVALID_PARAMETER).expect(&rt, "memory for a completion");
+    client
+        .direct(job, *device, Status::INVALID_PARAMETER)
+        .expect(&rt, "memory for a completion");
     sends(&rt, &mut client, CUT_READ_FAULT);
     let short = EndFault::Grammar(Bad {
         at: 20,

@@ -92,13 +92,17 @@ fn serves_a_device(rt: HostRuntime) {
     let listed = host.hear(LIST).expect(&rt, "a list");
     assert!(rt; matches!(&listed, Act::Announced(devices) if devices.as_slice().len() == 1));
     assert!(rt; host.ready());
-    host.reply(1, Status::SUCCESS).expect(&rt, "memory for a reply");
+    host.reply(1, Status::SUCCESS)
+        .expect(&rt, "memory for a reply");
     sends(&rt, &mut host, REPLY);
     let completed = host.hear(CUT_READ_FAULT).expect(&rt, "a completion");
     let Act::Complete { head, body } = &completed else {
         panic!(rt; "no completion");
     };
-    assert_eq!(rt; (head.device, head.completion, head.status), (1, 0, Status::INVALID_PARAMETER));
+    assert_eq!(rt;
+        (head.device, head.completion, head.status),
+        (1, 0, Status::INVALID_PARAMETER)
+    );
     assert_eq!(rt; body.as_slice(), [0; 4].as_slice());
     let removed = host.hear(REMOVAL).expect(&rt, "a removal");
     assert!(rt; matches!(&removed, Act::Removed(ids) if ids.as_slice() == [1].as_slice()));

@@ -42,25 +42,25 @@ use Rattle.rd_host.specs.declared.act.Act.{Act}
 use Rattle.rd_host.specs.declared.act.Act.TheVariants as act
 use Rattle.rd_host.specs.declared.act.LentAct.{LentAct}
 use Rattle.rd_host.specs.Core.{HostCoreState, HostStep, client_says, hears, host_asks_at, host_hear, host_hear_made, host_reads_in, host_side}
-use Rattle.rd_host.specs.Heard.{EndHears, HasBody, act_of, answer_of}
+use Rattle.rd_host.specs.Heard.{HostEndHears, HasBody, act_of, answer_of}
 
 abbrev End : Type 0
 End = CoreState HostState (List ℕ)
 
 -- ---- the answer
 
-nothing_heard : (old new : End) (message : List ℕ) → hear host_side old message ≡ (new, Ok None) → EndHears old message (Ok act.Nothing) new
+nothing_heard : (old new : End) (message : List ℕ) → hear host_side old message ≡ (new, Ok None) → HostEndHears old message (Ok act.Nothing) new
 nothing_heard old new message e = λ client. ap (λ came. host_hear_made (record { client = client; core = old }) came) e
 
-says_heard : (old new : End) (message : List ℕ) (a : Act) → hear host_side old message ≡ (new, Ok (Some a)) → EndHears old message (Ok a) new
+says_heard : (old new : End) (message : List ℕ) (a : Act) → hear host_side old message ≡ (new, Ok (Some a)) → HostEndHears old message (Ok a) new
 says_heard old new message a e = λ client. ap (λ came. host_hear_made (record { client = client; core = old }) came) e
 
-fault_heard : (old new : End) (message : List ℕ) (fault : EndFault) → fault ≢ Memory → hear host_side old message ≡ (new, Err fault) → EndHears old message (Err fault) new
+fault_heard : (old new : End) (message : List ℕ) (fault : EndFault) → fault ≢ Memory → hear host_side old message ≡ (new, Err fault) → HostEndHears old message (Err fault) new
 fault_heard old new message (Order state id) other e = λ client. ap (λ came. host_hear_made (record { client = client; core = old }) came) e
 fault_heard old new message (Grammar bad) other e = λ client. ap (λ came. host_hear_made (record { client = client; core = old }) came) e
 fault_heard old new message Memory other e = absurd (other refl)
 
-lacked : (old : End) (message : List ℕ) → MayLack host_side old message → EndHears old message (Err Memory) old
+lacked : (old : End) (message : List ℕ) → MayLack host_side old message → HostEndHears old message (Err Memory) old
 lacked old message lack = λ client. (lack, refl)
 
 -- ---- which packets come
@@ -115,26 +115,26 @@ read_fault f (Ok read) bad e = absurd cc
 read_fault f (Err other) bad e = let same : other ≡ bad = cc in ap (λ (d : Bad). Err d) same
 
 pub list_heard : (old : End) (message : List ℕ) (devices : List Announce) (count : ℕ) → IsComing host_side old message packet.DeviceListAnnounce
-    → WithTail count (λ tail. SpellsList devices tail message) → EndHears old message (Ok (act.Announced devices)) old
+    → WithTail count (λ tail. SpellsList devices tail message) → HostEndHears old message (Ok (act.Announced devices)) old
 list_heard old message devices count coming (tail, is, s) =
     let m = meets device_list 0 message devices tail s in
     let e = m.1 in
     says_heard old old message (act.Announced devices) (own_heard host_side old message packet.DeviceListAnnounce (Ok (act.Announced devices)) coming refl (rw e refl))
 
 pub list_lacks : (old : End) (message : List ℕ) → IsComing host_side old message packet.DeviceListAnnounce
-    → ((bad : Bad) → met device_list (at_start message) ≡ Err bad → 8 ≤ bad.at) → EndHears old message (Err Memory) old
+    → ((bad : Bad) → met device_list (at_start message) ≡ Err bad → 8 ≤ bad.at) → HostEndHears old message (Err Memory) old
 list_lacks old message coming none =
     lacked old message (own_lacks host_side old message packet.DeviceListAnnounce 8 coming refl refl (λ bad e. none bad (read_fault _ (met device_list (at_start message)) bad e)))
 
 pub removal_heard : (old : End) (message ids : List ℕ) (count : ℕ) → IsComing host_side old message packet.DeviceListRemove
-    → WithTail count (λ tail. SpellsRemoval ids tail message) → EndHears old message (Ok (act.Removed ids)) old
+    → WithTail count (λ tail. SpellsRemoval ids tail message) → HostEndHears old message (Ok (act.Removed ids)) old
 removal_heard old message ids count coming (tail, is, s) =
     let m = meets removal 0 message ids tail s in
     let e = m.1 in
     says_heard old old message (act.Removed ids) (own_heard host_side old message packet.DeviceListRemove (Ok (act.Removed ids)) coming refl (rw e refl))
 
 pub removal_lacks : (old : End) (message : List ℕ) → IsComing host_side old message packet.DeviceListRemove
-    → ((bad : Bad) → met removal (at_start message) ≡ Err bad → 8 ≤ bad.at) → EndHears old message (Err Memory) old
+    → ((bad : Bad) → met removal (at_start message) ≡ Err bad → 8 ≤ bad.at) → HostEndHears old message (Err Memory) old
 removal_lacks old message coming none =
     lacked old message (own_lacks host_side old message packet.DeviceListRemove 8 coming refl refl (λ bad e. none bad (read_fault _ (met removal (at_start message)) bad e)))
 
@@ -148,7 +148,7 @@ completion_says message head enough (field, after, parts, len, s) =
     rw (left, parts, there) refl
 
 pub completion_heard : (old : End) (message body : List ℕ) (head : Head) → IsComing host_side old message packet.IoCompletion → 16 ≤ length message
-    → SpellsHead head (length message - 16) message → body ≡ drop 16 message → EndHears old message (Ok (act.Complete head body)) old
+    → SpellsHead head (length message - 16) message → body ≡ drop 16 message → HostEndHears old message (Ok (act.Complete head body)) old
 completion_heard old message body head coming enough s is =
     rw is (says_heard old old message (act.Complete head (drop 16 message))
     (own_heard host_side old message packet.IoCompletion (Ok (act.Complete head (drop 16 message))) coming refl (completion_says message head enough s)))
@@ -163,12 +163,12 @@ completion_lacks old message head coming enough s =
 -- ---- the opening
 
 pub opening_lacked : (old : End) (message : List ℕ) → (came : (p : Packet) × IsComing host_side old message p × IsTrue (is_hello p))
-    → ((p : Packet) → packet_in message ≡ Some p → (bad : Bad) → FirstFaultOfHello message bad → opening_asks_at p ≤ bad.at) → EndHears old message (Err Memory) old
+    → ((p : Packet) → packet_in message ≡ Some p → (bad : Bad) → FirstFaultOfHello message bad → opening_asks_at p ≤ bad.at) → HostEndHears old message (Err Memory) old
 opening_lacked old message (p, coming, is) none =
     lacked old message (opening_lacks host_side old message p coming is (asks_opening old.shake p coming.read is) (none p coming.named))
 
 opening_lacked_after : (old : End) (message : List ℕ) (h : Hello) → (came : (p : Packet) × IsComing host_side old message p × IsTrue (is_hello p))
-    → (found : (rest : Position) × (met hello (at_start message) ≡ Ok (h, rest))) → EndHears old message (Err Memory) old
+    → (found : (rest : Position) × (met hello (at_start message) ≡ Ok (h, rest))) → HostEndHears old message (Err Memory) old
 opening_lacked_after old message h (p, coming, is) (rest, e) =
     lacked old message (opening_lacks_after host_side old message p h rest coming is (asks_opening old.shake p coming.read is) e)
 
@@ -201,10 +201,10 @@ rows_writable state next h first second is = subst IsWritableRow is (row_writabl
 -- ---- what is wrong with the header
 
 pub wrong_header : (old new : End) (message : List ℕ) (fault : EndFault) → fault ≢ Memory → IfSome old.fault (λ held. ◌≡◌ {A = Result Packet EndFault} (Err fault) (Err held))
-    → (old.fault ≡ None → IsExpected (host_number old.shake) (host_reads_in old.shake) message (Err fault)) → new ≡ record old { fault = Some fault } → EndHears old message (Err fault) new
+    → (old.fault ≡ None → IsExpected (host_number old.shake) (host_reads_in old.shake) message (Err fault)) → new ≡ record old { fault = Some fault } → HostEndHears old message (Err fault) new
 wrong_header old new message fault other held fresh is = go old.fault refl held
   where
-    go : (o : Option EndFault) → old.fault ≡ o → IfSome o (λ h. ◌≡◌ {A = Result Packet EndFault} (Err fault) (Err h)) → EndHears old message (Err fault) new
+    go : (o : Option EndFault) → old.fault ≡ o → IfSome o (λ h. ◌≡◌ {A = Result Packet EndFault} (Err fault) (Err h)) → HostEndHears old message (Err fault) new
     go None e h = fault_heard old new message fault other (wrong_heard host_side old message fault e (fresh e) ∙ ap (λ (end : End). (end, Err fault)) (sym is))
     go (Some h) e again =
         let same : fault ≡ h = cc in
@@ -229,11 +229,11 @@ host_held old new message answer step = go (old.core).fault refl answer step
     go (Some held) e (Ok a) step = ap (λ (x : HostCoreState × Result Act EndFault). x.1) (sym step ∙ made held e)
 
 -- the same of its end
-pub end_held : (old new : End) (message : List ℕ) (answer : Result Act EndFault) → EndHears old message answer new → IfSome old.fault (λ held. answer ≡ Err held)
+pub end_held : (old new : End) (message : List ℕ) (answer : Result Act EndFault) → HostEndHears old message answer new → IfSome old.fault (λ held. answer ≡ Err held)
 end_held old new message answer step = host_held (record { client = 0; core = old }) (record { client = 0; core = new }) message answer (step 0)
 
 -- and where the bytes after a completion's head are lent
-pub lent_held : (old new : End) (message : List ℕ) (r : Result LentAct EndFault) → EndHears old message (answer_of r) new → IfSome old.fault (λ held. r ≡ Err held)
+pub lent_held : (old new : End) (message : List ℕ) (r : Result LentAct EndFault) → HostEndHears old message (answer_of r) new → IfSome old.fault (λ held. r ≡ Err held)
 lent_held old new message r step = go old.fault r (end_held old new message (answer_of r) step)
   where
     go : (o : Option EndFault) (r : Result LentAct EndFault) → IfSome o (λ held. answer_of r ≡ Err held) → IfSome o (λ held. r ≡ Err held)
@@ -243,7 +243,7 @@ lent_held old new message r step = go old.fault r (end_held old new message (ans
 
 -- a message of the opening that could not be answered
 pub opening_failed : (old new : End) (message : List ℕ) (h : Hello) (fault : EndFault) → (came : (p : Packet) × IsComing host_side old message p × IsTrue (is_hello p))
-    → (found : (rest : Position) × (met hello (at_start message) ≡ Ok (h, rest))) → (fault ≡ Memory) × (new ≡ old) → EndHears old message (Err fault) new
+    → (found : (rest : Position) × (met hello (at_start message) ≡ Ok (h, rest))) → (fault ≡ Memory) × (new ≡ old) → HostEndHears old message (Err fault) new
 opening_failed old new message h fault came found (is, stays) = rw (is, stays) (opening_lacked_after old message h came found)
 
 -- a slice from a place on
@@ -251,8 +251,8 @@ pub slice_from : (n : ℕ) (xs : List ℕ) → take (length xs - n) (drop n xs) 
 slice_from n xs = let len : length (drop n xs) ≡ length xs - n = length-drop n xs in take_all (length xs - n) (drop n xs) (omega (arith, len))
 
 -- where the bytes after a completion's head are copied, the same was heard; where there is no memory for them, nothing changed
-pub copied_heard : (old new : End) (message : List ℕ) (heard : LentAct) (r : Result Act EndFault) → EndHears old message (Ok (act_of heard)) new
-    → (HasBody heard → MayLack host_side old message × (new ≡ old)) → IfOk r (λ a. a ≡ act_of heard) → IfErr r (λ wrong. (wrong ≡ Memory) × HasBody heard) → EndHears old message r new
+pub copied_heard : (old new : End) (message : List ℕ) (heard : LentAct) (r : Result Act EndFault) → HostEndHears old message (Ok (act_of heard)) new
+    → (HasBody heard → MayLack host_side old message × (new ≡ old)) → IfOk r (λ a. a ≡ act_of heard) → IfErr r (λ wrong. (wrong ≡ Memory) × HasBody heard) → HostEndHears old message r new
 copied_heard old new message heard (Ok a) step lacking same wanting = rw same step
 copied_heard old new message heard (Err wrong) step lacking same (is, body) =
     let both = lacking body in

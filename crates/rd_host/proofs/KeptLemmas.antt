@@ -24,7 +24,7 @@ use Rattle.rd_hello.specs.Own.{host_announce, host_sets, tell_log_on}
 use Rattle.rd_hello.specs.Rows.{OrderRow}
 use Rattle.rd_host.specs.declared.act.Act.{Act}
 use Rattle.rd_host.specs.Core.{HostCall, HostCoreState, HostStep, IsHostKept, as_it_is, begins, hears, host_begin, host_hear, host_hear_made, host_side, replies, reply, sends, tell, tells}
-use Rattle.rd_host.specs.Heard.{EndHears}
+use Rattle.rd_host.specs.Heard.{HostEndHears}
 use Rattle.rd_chunk.proofs.CarrierLemmas.{is_message}
 
 -- ---- what the host writes is short
@@ -101,7 +101,7 @@ host_kept old new (sends answer) kept step =
 
 -- ---- the end alone
 
-pub end_heard_kept : (old new : CoreState HostState (List ℕ)) (message : List ℕ) (answer : Result Act EndFault) → IsCoreKept as_it_is old → EndHears old message answer new → IsCoreKept as_it_is new
+pub end_heard_kept : (old new : CoreState HostState (List ℕ)) (message : List ℕ) (answer : Result Act EndFault) → IsCoreKept as_it_is old → HostEndHears old message answer new → IsCoreKept as_it_is new
 end_heard_kept old new message answer kept step = host_kept (record { client = 0; core = old }) (record { client = 0; core = new }) (hears message answer) kept (step 0)
 
 pub end_sent_kept : (old new : CoreState HostState (List ℕ)) (sent : Option (List ℕ)) → IsCoreKept as_it_is old → send old ≡ (new, sent) → IsCoreKept as_it_is new

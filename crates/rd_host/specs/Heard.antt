@@ -21,8 +21,8 @@ answer_of (Ok heard) = Ok (act_of heard)
 answer_of (Err fault) = Err fault
 
 -- The end of a host, whichever ClientId that announces, heard a message: before it, the answer, and after it.
-abbrev pub EndHears : CoreState HostState (List ℕ) → List ℕ → Result Act EndFault → CoreState HostState (List ℕ) → Type 0
-EndHears old message answer new =
+abbrev pub HostEndHears : CoreState HostState (List ℕ) → List ℕ → Result Act EndFault → CoreState HostState (List ℕ) → Type 0
+HostEndHears old message answer new =
     (client : ℕ) → HostStep (record { client = client; core = old }) (hears message answer) (record { client = client; core = new })
 
 -- a completion

@@ -11,7 +11,7 @@ ghost use Rattle.rd_base.specs.Position.{at_start};
 ghost use Rattle.rd_devices.specs.DeviceList.{device_list};
 ghost use Rattle.rd_devices.specs.Removal.{removal};
 ghost use Rattle.rd_host.specs.Core.{host_reads_in, host_side};
-ghost use Rattle.rd_host.specs.Heard.{EndHears, HasBody, answer_of};
+ghost use Rattle.rd_host.specs.Heard.{HostEndHears, HasBody, answer_of};
 
 use crate::act::LentAct;
 use rd_base::{Bad, Bytes, Cursor, Packet, ReadNo, read_count32, read_header};
@@ -30,7 +30,7 @@ pub fn listen<'m>(
     alloc: Global,
     message: &'m [u8],
 ) -> Result<LentAct<'m>, EndFault>
-    ensures step { EndHears end.old message.now (answer_of result) end.new }
+    ensures step { HostEndHears end.old message.now (answer_of result) end.new }
     ensures lacking { IfOk result (λ heard. HasBody heard → MayLack host_side end.old message.now × (end.new ≡ end.old)) }
 {
     let state = end.state();
@@ -69,7 +69,7 @@ fn hear_opening<'m>(
     message: &'m [u8],
 ) -> Result<LentAct<'m>, EndFault>
     requires { (p : Packet) × IsComing host_side end.old message.now p × IsTrue (is_hello p) }
-    ensures step { EndHears end.old message.now (answer_of result) end.new }
+    ensures step { HostEndHears end.old message.now (answer_of result) end.new }
     ensures lacking { IfOk result (λ heard. HasBody heard → MayLack host_side end.old message.now × (end.new ≡ end.old)) }
 {
     let hello = match read_opening(alloc, message) {
@@ -106,7 +106,7 @@ fn hear_list<'m>(
     message: &'m [u8],
 ) -> Result<LentAct<'m>, EndFault>
     requires { IsComing host_side end.old message.now packet.DeviceListAnnounce }
-    ensures step { EndHears end.old message.now (answer_of result) end.new }
+    ensures step { HostEndHears end.old message.now (answer_of result) end.new }
     ensures lacking { IfOk result (λ heard. HasBody heard → MayLack host_side end.old message.now × (end.new ≡ end.old)) }
 {
     match read_list(alloc, message) {
@@ -137,7 +137,7 @@ fn hear_removal<'m>(
     message: &'m [u8],
 ) -> Result<LentAct<'m>, EndFault>
     requires { IsComing host_side end.old message.now packet.DeviceListRemove }
-    ensures step { EndHears end.old message.now (answer_of result) end.new }
+    ensures step { HostEndHears end.old message.now (answer_of result) end.new }
     ensures lacking { IfOk result (λ heard. HasBody heard → MayLack host_side end.old message.now × (end.new ≡ end.old)) }
 {
     match read_removal(alloc, message) {
@@ -164,7 +164,7 @@ fn before_ids(message: &[u8]) -> Result<(), Bad>
 /// Hears a completion, whose bytes after the head are lent.
 fn hear_completion<'m>(end: &mut HostEnd, message: &'m [u8]) -> Result<LentAct<'m>, EndFault>
     requires { IsComing host_side end.old message.now packet.IoCompletion }
-    ensures step { EndHears end.old message.now (answer_of result) end.new }
+    ensures step { HostEndHears end.old message.now (answer_of result) end.new }
     ensures lacking { IfOk result (λ heard. HasBody heard → MayLack host_side end.old message.now × (end.new ≡ end.old)) }
 {
     match read_head(message) {

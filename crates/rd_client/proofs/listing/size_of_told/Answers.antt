@@ -1,11 +1,11 @@
 use Rattle.std.proofs.Common.{◌∙◌, arith, sym}
 use Rattle.rd_devices.specs.DeviceList.{announce_bytes}
-use Rattle.rd_client.specs.Heard.{is_told}
+use Rattle.rd_client.specs.Heard.{is_in_list}
 use Rattle.rd_client.proofs.ListingLemmas.{next_fits}
 use Rattle.rd_client.proofs.listing.size_of_told.Goals as goal
 
 pub overflow_add-size : goal.overflow_add-size
 overflow_add-size c =
-    let next = next_fits announce_bytes (is_told c.args.gone.now c.args.only) c.args.devices.now c.loop-announce.announce-index c.announce-item.result c.loop-announce-test.true c.announce-item.is
-    (sym c.is_told.ensures ∙ c.if-is_told.true) in
+    let next = next_fits announce_bytes (is_in_list c.args.gone.now c.args.only) c.args.devices.now c.loop-announce.announce-index c.announce-item.result c.loop-announce-test.true c.announce-item.is
+    (sym c.is_in_list.ensures ∙ c.if-is_in_list.true) in
     omega (arith, next)

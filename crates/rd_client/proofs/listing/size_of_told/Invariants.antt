@@ -2,8 +2,8 @@ use Rattle.std.proofs.Common.{◌≡◌, length, take}
 use Rattle.std.specs.Prelude.{filter}
 use Rattle.std.specs.List.{flat_map}
 use Rattle.rd_devices.specs.DeviceList.{announce_bytes}
-use Rattle.rd_client.specs.Heard.{is_told}
+use Rattle.rd_client.specs.Heard.{is_in_list}
 use Rattle.rd_client.proofs.listing.size_of_told.Given as goal
 
 abbrev pub invariant-loop-announce : goal.invariant-loop-announce
-invariant-loop-announce l = l.size ≡ length (flat_map announce_bytes (filter (is_told l.gone l.only) (take l.announce-index l.devices)))
+invariant-loop-announce l = l.size ≡ length (flat_map announce_bytes (filter (is_in_list l.gone l.only) (take l.announce-index l.devices)))

@@ -1,5 +1,5 @@
 -- The one drive can be announced.
-use Rattle.std.proofs.Common.{[], ◌∷◌, lit≤, refl}
+use Rattle.std.proofs.Common.{[], ◌∷◌, lit≤}
 use Rattle.std.specs.List.{IsDistinct}
 use Rattle.rd_client.specs.Core.{AreDevices}
 use Rattle.rd_ends_tests.proofs.client.devices.Goals as goal

@@ -1,6 +1,6 @@
 use Rattle.std.proofs.Common.{subst}
 use Rattle.rd_client.specs.Core.{AreDevices}
-use Rattle.rd_client.specs.Heard.{devices_of}
+use Rattle.rd_client.specs.Heard.{client_devices}
 use Rattle.rd_client.proofs.HearLemmas.{end_held, end_sound, heard_kept, sound_answer}
 use Rattle.rd_client.proofs.KeptLemmas.{kept_elsewhere}
 use Rattle.rd_client.proofs.ListingLemmas.{announces_are}
@@ -16,7 +16,7 @@ pub returns-in-Err-clause-kept : goal.returns-in-Err-clause-kept
 returns-in-Err-clause-kept c = heard_kept _ _ _ _ _ _ _ c.self.invariant (rw c.as_slice-devices.ensures.value at c.listen.ensures)
 
 pub returns-in-Err-clause-held : goal.returns-in-Err-clause-held
-returns-in-Err-clause-held c = rw (← c.self.view_is) (end_held (devices_of c.as_slice-devices.result.now c.self.inside.gone) _ c.listen.new.end _ c.in-Err.fault (rw c.in-Err.is at c.listen.ensures))
+returns-in-Err-clause-held c = rw (← c.self.view_is) (end_held (client_devices c.as_slice-devices.result.now c.self.inside.gone) _ c.listen.new.end _ c.in-Err.fault (rw c.in-Err.is at c.listen.ensures))
 
 pub invariant_of-self-in-Nothing : goal.invariant_of-self-in-Nothing
 invariant_of-self-in-Nothing c = heard_kept _ _ _ _ _ _ _ c.self.invariant (rw c.as_slice-devices.ensures.value at c.listen.ensures)

@@ -2,7 +2,7 @@ use Rattle.std.proofs.Common.{◌≡◌, ◌∙◌, Some, ap, false, sym}
 use Rattle.std.specs.Prelude.{filter, map}
 use Rattle.rd_devices.specs.DeviceList.{list_bytes}
 use Rattle.rd_client.specs.Core.{announce_in, is_device, plain}
-use Rattle.rd_client.specs.Heard.{devices_of, is_told}
+use Rattle.rd_client.specs.Heard.{client_devices, is_in_list}
 use Rattle.rd_client.proofs.KeptLemmas.{some_list_fits}
 use Rattle.rd_client.proofs.ListingLemmas.{announced_are, announces_are, list_countable, list_short}
 use Rattle.rd_client.proofs.MarkLemmas.{marked_are, told, told_kept}
@@ -18,27 +18,27 @@ write_told-requires-clause-short c =
 
 pub invariant_of-self-2 : goal.invariant_of-self-2
 invariant_of-self-2 c =
-    let same : c.plain.result ≡ plain (list_bytes (map announce_in (filter (is_device c.args.device) (devices_of c.self.inside.devices.items c.self.inside.gone)))) =
+    let same : c.plain.result ≡ plain (list_bytes (map announce_in (filter (is_device c.args.device) (client_devices c.self.inside.devices.items c.self.inside.gone)))) =
     c.plain.ensures ∙ ap (λ m. plain m)
-    (c.in_ok-message.ensures ∙ ap (λ ds. list_bytes (filter (is_told c.self.inside.gone (Some c.args.device)) ds)) c.as_slice.ensures.value
+    (c.in_ok-message.ensures ∙ ap (λ ds. list_bytes (filter (is_in_list c.self.inside.gone (Some c.args.device)) ds)) c.as_slice.ensures.value
     ∙ ap (λ ds. list_bytes ds) (sym (announced_are c.self.inside.gone c.args.device c.self.inside.devices.items))) in
     let marks = marked_are c.self.inside.gone c.remove.new.self c.args.device false c.remove.ensures.updates.0 c.self.inside.devices.items in
-    told_kept _ c.args.device false _ _ _ _ c.self.invariant (some_list_fits (is_device c.args.device) (devices_of c.self.inside.devices.items c.self.inside.gone) c.self.invariant.devices) c.in_ok-put.ensures.ok same marks
+    told_kept _ c.args.device false _ _ _ _ c.self.invariant (some_list_fits (is_device c.args.device) (client_devices c.self.inside.devices.items c.self.inside.gone) c.self.invariant.devices) c.in_ok-put.ensures.ok same marks
 
 pub returns-clause-step : goal.returns-clause-step
 returns-clause-step c =
-    let same : c.plain.result ≡ plain (list_bytes (map announce_in (filter (is_device c.args.device) (devices_of c.self.inside.devices.items c.self.inside.gone)))) =
+    let same : c.plain.result ≡ plain (list_bytes (map announce_in (filter (is_device c.args.device) (client_devices c.self.inside.devices.items c.self.inside.gone)))) =
     c.plain.ensures ∙ ap (λ m. plain m)
-    (c.in_ok-message.ensures ∙ ap (λ ds. list_bytes (filter (is_told c.self.inside.gone (Some c.args.device)) ds)) c.as_slice.ensures.value
+    (c.in_ok-message.ensures ∙ ap (λ ds. list_bytes (filter (is_in_list c.self.inside.gone (Some c.args.device)) ds)) c.as_slice.ensures.value
     ∙ ap (λ ds. list_bytes ds) (sym (announced_are c.self.inside.gone c.args.device c.self.inside.devices.items))) in
     let marks = marked_are c.self.inside.gone c.remove.new.self c.args.device false c.remove.ensures.updates.0 c.self.inside.devices.items in
     (c.requires, rw (← c.self.view_is) (told _ c.args.device false _ _ _ _ c.in_ok-put.ensures.ok same marks))
 
 pub returns-clause-kept : goal.returns-clause-kept
 returns-clause-kept c =
-    let same : c.plain.result ≡ plain (list_bytes (map announce_in (filter (is_device c.args.device) (devices_of c.self.inside.devices.items c.self.inside.gone)))) =
+    let same : c.plain.result ≡ plain (list_bytes (map announce_in (filter (is_device c.args.device) (client_devices c.self.inside.devices.items c.self.inside.gone)))) =
     c.plain.ensures ∙ ap (λ m. plain m)
-    (c.in_ok-message.ensures ∙ ap (λ ds. list_bytes (filter (is_told c.self.inside.gone (Some c.args.device)) ds)) c.as_slice.ensures.value
+    (c.in_ok-message.ensures ∙ ap (λ ds. list_bytes (filter (is_in_list c.self.inside.gone (Some c.args.device)) ds)) c.as_slice.ensures.value
     ∙ ap (λ ds. list_bytes ds) (sym (announced_are c.self.inside.gone c.args.device c.self.inside.devices.items))) in
     let marks = marked_are c.self.inside.gone c.remove.new.self c.args.device false c.remove.ensures.updates.0 c.self.inside.devices.items in
-    told_kept _ c.args.device false _ _ _ _ c.self.invariant (some_list_fits (is_device c.args.device) (devices_of c.self.inside.devices.items c.self.inside.gone) c.self.invariant.devices) c.in_ok-put.ensures.ok same marks
+    told_kept _ c.args.device false _ _ _ _ c.self.invariant (some_list_fits (is_device c.args.device) (client_devices c.self.inside.devices.items c.self.inside.gone) c.self.invariant.devices) c.in_ok-put.ensures.ok same marks
