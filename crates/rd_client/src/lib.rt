@@ -4,8 +4,9 @@
 //! It stands on `rd_core` for what both ends do alike, and on the packets' crates. The layer above uses one contract: each call of
 //! `ClientCore` is its step of the definitions (`ClientStep`), and `IsClientKept` holds before and after it.
 //!
-//! Cost: a request's head is read once, and its bytes are copied once, from the message into the job; nothing is looked up. The list of devices
-//! is written into one buffer of its exact size, in two passes over at most 256 devices; a removed device is found in an ordered set.
+//! Cost: of a request its packet is told by four bytes, then it is read once, and its bytes are copied once, from the message into the job; nothing
+//! is looked up. A list is written into one buffer of its exact size, in three passes over at most 256 devices; a removed device is found in an
+//! ordered set.
 #![tactic(auto)]
 
 mod client_core;

@@ -96,6 +96,7 @@ impl<S: Copy, M: Drop> EndCore<S, M> {
 
     /// The message is none of its packet: this is its first fault.
     pub fn fail(&mut self, bad: Bad) -> EndFault
+        requires { self.old.fault ≡ None }
         ensures fault { result ≡ fault.Grammar bad }
         ensures kept { self.new ≡ record self.old { fault = Some (fault.Grammar bad) } }
     {

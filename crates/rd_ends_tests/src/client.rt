@@ -4,13 +4,14 @@ ghost use Rattle.rd_client.specs.Core.{AreDevices};
 
 use crate::messages::{
     ANNOUNCE, CLIENT_SETS, CONFIRM, CUT_READ, CUT_READ_FAULT, HOST_SETS, LIST, LOGGED_ON, NAME,
-    REMOVAL, REPLY,
+    REMOVAL, REPLY, XPS,
 };
 use rd_base::{Bad, Bytes, Items, Status, Why};
 use rd_client::{ClientCore, Heard};
 use rd_devices::{Announce, DeviceList};
 use rd_hello::EndFault;
 use rd_irp::Op;
+use rd_printer::Notice;
 use std::process::Abort;
 
 /// The most requests of a channel.
@@ -158,6 +159,22 @@ fn ignores_replies(rt: HostRuntime) {
     let mut client = ready(&rt);
     goes(&rt, &mut client, REPLY);
     assert!(rt; !client.has_message());
+}
+
+/// What the host tells of a printer is handed on.
+#[test]
+fn hears_of_a_printer(rt: HostRuntime) {
+    let mut client = ready(&rt);
+    let heard = hear(&rt, &mut client, XPS).expect(&rt, "a notice");
+    assert!(rt;
+        matches!(
+            &heard,
+            Heard::Print(Notice::UsingXps {
+                printer: 1,
+                flags: 0
+            })
+        )
+    );
 }
 
 /// A device that was removed isn't announced on the next channel, and one that was added is.

@@ -2,11 +2,12 @@
 
 use crate::messages::{
     ANNOUNCE, CLIENT_SETS, CONFIRM, CUT_READ_FAULT, HOST_SETS, LIST, LOGGED_ON, NAME, REMOVAL,
-    REPLY,
+    REPLY, XPS,
 };
 use rd_base::{Bad, Status, Why};
 use rd_hello::EndFault;
-use rd_host::{Act, HostCore};
+use rd_host::{Act, HostCore, LentAct};
+use rd_printer::Notice;
 use std::process::Abort;
 
 /// A host on a channel.
@@ -106,4 +107,30 @@ fn serves_a_device(rt: HostRuntime) {
     assert_eq!(rt; body.as_slice(), [0; 4].as_slice());
     let removed = host.hear(REMOVAL).expect(&rt, "a removal");
     assert!(rt; matches!(&removed, Act::Removed(ids) if ids.as_slice() == [1].as_slice()));
+}
+
+#[test]
+fn lends_a_body(rt: HostRuntime) {
+    let mut host = ready(&rt);
+    let lent = host.hear_lent(CUT_READ_FAULT).expect(&rt, "a completion");
+    let LentAct::Complete { head, body } = &lent else {
+        panic!(rt; "no completion");
+    };
+    assert_eq!(rt;
+        (head.device, head.completion, head.status),
+        (1, 0, Status::INVALID_PARAMETER)
+    );
+    assert_eq!(rt; *body, [0; 4].as_slice());
+}
+
+#[test]
+fn tells_of_a_printer(rt: HostRuntime) {
+    let mut host = ready(&rt);
+    assert!(rt; host.ready());
+    let notice = Notice::UsingXps {
+        printer: 1,
+        flags: 0,
+    };
+    host.notice(&notice).expect(&rt, "memory for a notice");
+    sends(&rt, &mut host, XPS);
 }

@@ -23,6 +23,9 @@ pub const REMOVAL: &[u8] = b"rDMD\x01\0\0\0\x01\0\0\0";
 /// The reply to device 1, which is taken.
 pub const REPLY: &[u8] = b"rDrd\x01\0\0\0\0\0\0\0";
 
+/// Printer 1 takes XPS.
+pub const XPS: &[u8] = b"RPCU\x01\0\0\0\0\0\0\0";
+
 /// A Read of device 1 whose body is cut short, and the completion that says so.
 pub const CUT_READ: &[u8] =
     b"rDRI\x01\0\0\0\x01\0\0\0\0\0\0\0\x03\0\0\0\0\0\0\0\x01\0\0\0\0\0\0\0\0\0\0\0\0\0\0\0\0\0\0\0\0\0\0\0\0\0\0\0\0\0\0";

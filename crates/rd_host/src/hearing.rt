@@ -1,10 +1,11 @@
 //! How the end of a host hears a message (MS-RDPEFS 3.3.5).
 
-ghost use Rattle.std.specs.Prelude.{◌≡◌, IsTrue, IfErr, IfOk, OnOk, Ok, None};
+ghost use Rattle.std.specs.Prelude.{◌≡◌, ◌≢◌, IsTrue, IfErr, IfOk, OnOk, Some, None, Ok, Err};
 ghost use Rattle.rd_base.specs.declared.packet.Packet.{Packet};
 ghost use Rattle.rd_base.specs.declared.packet.Packet.TheVariants as packet;
 ghost use Rattle.rd_hello.specs.declared.end_fault.EndFault.TheVariants as fault;
 ghost use Rattle.rd_hello.specs.HostTable.{host_step};
+ghost use Rattle.rd_hello.specs.Moves.{packet_in};
 ghost use Rattle.rd_core.specs.Hearing.{MayLack, by_row, hear_said, is_hello};
 ghost use Rattle.rd_core.specs.Expected.{IsComing, ReadsBefore};
 ghost use Rattle.rd_base.specs.Position.{at_start};
@@ -32,6 +33,7 @@ pub fn listen<'m>(
 ) -> Result<LentAct<'m>, EndFault>
     ensures step { HostEndHears end.old message.now (answer_of result) end.new }
     ensures lacking { IfOk result (λ heard. HasBody heard → MayLack host_side end.old message.now × (end.new ≡ end.old)) }
+    ensures lent { packet_in message.now ≡ Some packet.IoCompletion → result ≢ Err fault.Memory }
 {
     let state = end.state();
     let packet = match end.expect(state.number(), reads_in(state), message) {
@@ -166,6 +168,7 @@ fn hear_completion<'m>(end: &mut HostEnd, message: &'m [u8]) -> Result<LentAct<'
     requires { IsComing host_side end.old message.now packet.IoCompletion }
     ensures step { HostEndHears end.old message.now (answer_of result) end.new }
     ensures lacking { IfOk result (λ heard. HasBody heard → MayLack host_side end.old message.now × (end.new ≡ end.old)) }
+    ensures lent { result ≢ Err fault.Memory }
 {
     match read_head(message) {
         Ok(head) => Ok(LentAct::Complete {

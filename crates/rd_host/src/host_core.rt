@@ -1,6 +1,8 @@
 //! A host's end of a channel (MS-RDPEFS 3.3.5).
 
-ghost use Rattle.std.specs.Prelude.{◌≡◌, ◌≢◌, ◌↔◌, [], IsTrue, IfErr, IfOk, IfSome, Err};
+ghost use Rattle.std.specs.Prelude.{◌≡◌, ◌≢◌, ◌↔◌, [], IsTrue, IfErr, IfOk, IfSome, Some, Err};
+ghost use Rattle.rd_base.specs.declared.packet.Packet.TheVariants as packet;
+ghost use Rattle.rd_hello.specs.Moves.{packet_in};
 ghost use Rattle.rd_host.specs.Core.{HostStep, IsHostKept, IsHostReady, MayTell, begins, hears, new_host, replies, sends, tells};
 ghost use Rattle.rd_host.specs.Heard.{HasBody, act_of, answer_of};
 ghost use Rattle.rd_hello.specs.declared.end_fault.EndFault.TheVariants as fault;
@@ -72,11 +74,12 @@ impl HostCore {
         copied(self.alloc, heard)
     }
 
-    /// The same; the bytes after a completion's head stay in the message.
+    /// The same; the bytes after a completion's head stay in the message, so it takes no memory for a completion.
     pub fn hear_lent<'m>(&mut self, message: &'m [u8]) -> Result<LentAct<'m>, EndFault>
         ensures step { HostStep self.old (hears message.now (answer_of result)) self.new }
         ensures kept { IsHostKept self.new }
         ensures held { IfSome self.old.core.fault (λ held. result ≡ Err held) }
+        ensures lent { packet_in message.now ≡ Some packet.IoCompletion → result ≢ Err fault.Memory }
     {
         listen(&mut self.end, self.alloc, message)
     }

@@ -3,8 +3,8 @@
 //! It stands on `rd_core` for what both ends do alike, on `rd_pending` and on the packets' crates. The layer above uses one contract: each
 //! call of `HostCore` is its step of the definitions (`HostStep`), and `IsHostKept` holds before and after it.
 //!
-//! Cost: a completion's head is read in place. `hear_lent` lends the bytes after it out of the message and allocates nothing; `hear` copies
-//! them once.
+//! Cost: a completion's head is read in place. `hear_lent` lends the bytes after it out of the message and takes no memory for them; `hear`
+//! copies them once.
 #![tactic(auto)]
 
 mod act;
