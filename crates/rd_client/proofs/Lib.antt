@@ -4,3 +4,4 @@ pub mod ListingLemmas
 pub mod HearLemmas
 pub mod NoticeLemmas
 pub mod MarkLemmas
+pub mod WrongLemmas

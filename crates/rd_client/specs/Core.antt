@@ -283,6 +283,11 @@ pub data ClientCall : Type 0 where
   tells_removed tells_added : ℕ → Result (Unit {0}) AllocError → ClientCall
   sends : Option Outgoing → ClientCall
 
+-- a call that begins no channel
+abbrev pub KeepsClientChannel : ClientCall → Type 0
+KeepsClientChannel (begins channel) = ⊥
+KeepsClientChannel _ = Unit {0}
+
 -- The client before a call, and after it. Where memory runs out nothing changes.
 abbrev pub ClientStep : ClientCoreState → ClientCall → ClientCoreState → Type 0
 ClientStep old (begins channel) new = new ≡ client_begin old channel

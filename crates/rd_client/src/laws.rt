@@ -1,19 +1,21 @@
 //! The definitions at work, as contracts of functions that do nothing: the checker computes each case; and what holds of every client.
 
-ghost use Rattle.std.specs.Prelude.{◌≡◌, ◌++◌, ◌∷◌, ℕ, List, [], Bool, true, None, Some, IsOk, IsSome, Err, Ok, take};
+ghost use Rattle.std.specs.Prelude.{◌≡◌, ◌++◌, ◌∷◌, ℕ, List, [], Bool, true, None, Some, IsOk, IsSome, Result, Err, Ok, take};
 ghost use Rattle.rd_base.specs.declared.bad.Why.TheVariants as Why;
 ghost use Rattle.rd_base.specs.Statuses.{no_such_device};
 ghost use Rattle.rd_devices.specs.declared.list.Announce.{Announce};
 ghost use Rattle.rd_devices.specs.DeviceList.{list_bytes};
 ghost use Rattle.rd_devices.specs.Removal.{removal_bytes};
 ghost use Rattle.rd_hello.specs.declared.client.ClientState.TheVariants as ClientState;
+ghost use Rattle.rd_hello.specs.declared.end_fault.EndFault.{EndFault};
 ghost use Rattle.rd_hello.specs.declared.end_fault.EndFault.TheVariants as EndFault;
 ghost use Rattle.rd_hello.specs.Hello.{hello_bytes};
 ghost use Rattle.rd_hello.specs.Moves.{reads, writes};
 ghost use Rattle.rd_hello.specs.Own.{client_confirm, client_name, client_sets};
 ghost use Rattle.rd_irp.specs.declared.op.Op.TheVariants as Op;
+ghost use Rattle.rd_client.specs.declared.heard.Heard.{Heard};
 ghost use Rattle.rd_client.specs.declared.heard.Heard.TheVariants as Heard;
-ghost use Rattle.rd_client.specs.Core.{ClientCall, ClientCoreState, ClientStep, IsClientKept, announces, client_begin, client_hear, client_send, direct, direct_bytes, hears, is_gone, plain, refresh, tell_added, tell_removed};
+ghost use Rattle.rd_client.specs.Core.{KeepsClientChannel, ClientCall, ClientCoreState, ClientStep, IsClientKept, announces, client_begin, client_hear, client_send, direct, direct_bytes, hears, is_gone, plain, refresh, tell_added, tell_removed};
 ghost use Rattle.rd_client.specs.Order.{ClientStanding, after_read};
 ghost use Rattle.rd_client.specs.Worked.{after, announced, client, close_bytes, close_job, confirmed, device_replied, drive, emptied, listed_stand, logged_on, offered, opened_moves, opening, own_confirm, own_list, own_name, ready, second_list, stand_of, stand_without, written};
 
@@ -86,6 +88,13 @@ pub fn clients_read_in_order()
 /// Each call keeps what always holds of a client: its devices, and that what it has to send fits a message.
 pub fn clients_keep()
     ensures { (old new : ClientCoreState) (call : ClientCall) → IsClientKept old → ClientStep old call new → IsClientKept new }
+{}
+
+/// What was wrong with a message stays the answer until a channel begins, whatever else is called.
+pub fn clients_stay_wrong()
+    ensures stays { (old new : ClientCoreState) (call : ClientCall) (fault : EndFault) → ClientStep old call new → KeepsClientChannel call → (old.core).fault ≡ Some fault → (new.core).fault ≡ Some fault }
+    ensures answers { (old new : ClientCoreState) (message : List ℕ) (answer : Result Heard EndFault) (fault : EndFault) →
+        ClientStep old (hears message answer) new → (old.core).fault ≡ Some fault → answer ≡ Err fault }
 {}
 
 /// Where memory may be wanting while a message is heard.

@@ -35,6 +35,11 @@ module _ {S M : Type 0} (bytes_of : M → List ℕ) where
   pub kept_send : (e : CoreState S M) → IsCoreKept bytes_of e → IsCoreKept bytes_of (send e).0
   kept_send e kept = kept_send_from e kept e.outbox kept.fit
 
+-- sending leaves what was wrong
+pub sent_fault : {S M : Type 0} (e : CoreState S M) (outbox : List M) → (send_from e outbox).0.fault ≡ e.fault
+sent_fault e [] = refl
+sent_fault e (m ∷ ms) = refl
+
 -- the messages of every row of the side's table fit
 abbrev pub AreShort : {S M A : Type 0} → (M → List ℕ) → Side S M A → Type 0
 AreShort {S = S} {M = M} bytes_of side = (state : S) (h : Hello) (row : OrderRow S) → side.row state h ≡ Some row → All (λ (m : List ℕ). IsMessage (bytes_of (side.outgoing m))) (messages_of row)

@@ -1,3 +1,4 @@
 pub mod OrderLemmas
 pub mod KeptLemmas
 pub mod HearLemmas
+pub mod WrongLemmas

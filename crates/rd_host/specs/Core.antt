@@ -130,6 +130,11 @@ pub data HostCall : Type 0 where
   tells : Notice → Result (Unit {0}) AllocError → HostCall
   sends : Option (List ℕ) → HostCall
 
+-- a call that begins no channel
+abbrev pub KeepsHostChannel : HostCall → Type 0
+KeepsHostChannel (begins answer) = ⊥
+KeepsHostChannel _ = Unit {0}
+
 -- The host before a call, and after it. Where memory runs out nothing changes.
 abbrev pub HostStep : HostCoreState → HostCall → HostCoreState → Type 0
 HostStep old (begins answer) new = Did answer (host_begin old) old new

@@ -1,19 +1,21 @@
 //! The definitions at work, as contracts of functions that do nothing: the checker computes each case; and what holds of every host.
 
-ghost use Rattle.std.specs.Prelude.{◌≡◌, ◌++◌, ◌∷◌, ℕ, List, [], replicate, None, Some, IsOk, IsSome, Err, Ok};
+ghost use Rattle.std.specs.Prelude.{◌≡◌, ◌++◌, ◌∷◌, ℕ, List, [], replicate, None, Some, IsOk, IsSome, Result, Err, Ok};
 ghost use Rattle.rd_devices.specs.Removal.{removal_bytes};
 ghost use Rattle.rd_devices.specs.DeviceReply.{reply_bytes};
 ghost use Rattle.rd_base.specs.Statuses.{insufficient_resources, not_supported, object_name_collision, success};
 ghost use Rattle.rd_base.specs.Limits.{max_devices};
 ghost use Rattle.rd_hello.specs.declared.hello.Hello.TheVariants as Hello;
 ghost use Rattle.rd_hello.specs.declared.host.HostState.TheVariants as HostState;
+ghost use Rattle.rd_hello.specs.declared.end_fault.EndFault.{EndFault};
 ghost use Rattle.rd_hello.specs.declared.end_fault.EndFault.TheVariants as EndFault;
 ghost use Rattle.rd_hello.specs.Hello.{hello_bytes};
 ghost use Rattle.rd_hello.specs.Moves.{reads, writes};
 ghost use Rattle.rd_hello.specs.Own.{host_announce, host_sets};
 ghost use Rattle.rd_pending.specs.Table.{max_lives};
+ghost use Rattle.rd_host.specs.declared.act.Act.{Act};
 ghost use Rattle.rd_host.specs.declared.act.Act.TheVariants as Act;
-ghost use Rattle.rd_host.specs.Core.{HostCall, HostCoreState, HostStep, IsHostKept, hears, host_hear, reply};
+ghost use Rattle.rd_host.specs.Core.{KeepsHostChannel, HostCall, HostCoreState, HostStep, IsHostKept, hears, host_hear, reply};
 ghost use Rattle.rd_host.specs.Order.{HostStanding, after_read, host_at_first, stand_after};
 ghost use Rattle.rd_host.specs.Served.{code_for};
 ghost use Rattle.rd_host.specs.Worked.{after, again, closed, closed_head, confirmed, drive, host, listed, many, named, offered, opening_moves, own_reply, ready, removed, replied_stand, short_head, stand_of, unsupported};
@@ -71,6 +73,13 @@ pub fn hosts_read_in_order()
 /// Each call keeps what always holds of a host: what it has to send fits a message.
 pub fn hosts_keep()
     ensures { (old new : HostCoreState) (call : HostCall) → IsHostKept old → HostStep old call new → IsHostKept new }
+{}
+
+/// What was wrong with a message stays the answer until a channel begins, whatever else is called.
+pub fn hosts_stay_wrong()
+    ensures stays { (old new : HostCoreState) (call : HostCall) (fault : EndFault) → HostStep old call new → KeepsHostChannel call → (old.core).fault ≡ Some fault → (new.core).fault ≡ Some fault }
+    ensures answers { (old new : HostCoreState) (message : List ℕ) (answer : Result Act EndFault) (fault : EndFault) →
+        HostStep old (hears message answer) new → (old.core).fault ≡ Some fault → answer ≡ Err fault }
 {}
 
 /// Where memory may be wanting while a message is heard.

@@ -16,5 +16,5 @@ pub use act::{Act, LentAct};
 pub use host_core::HostCore;
 pub use laws::{
     hosts_hear_as_listed, hosts_keep, hosts_open_as_listed, hosts_read_in_order,
-    hosts_reply_by_lives, hosts_want_memory, hosts_write_in_order,
+    hosts_reply_by_lives, hosts_stay_wrong, hosts_want_memory, hosts_write_in_order,
 };
