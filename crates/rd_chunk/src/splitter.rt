@@ -16,12 +16,29 @@ pub fn split(alloc: Global, message: &[u8]) -> Result<Bytes, AllocError>
     ensures stream { IfOk result (λ stream. stream ≡ carrier_of message.now) }
     ensures one { IfOk result (λ stream. One message.now stream) }
 {
-    let frames = message.len().div_ceil(CHUNK_LEN);
-    let mut stream = Vec::with_capacity(alloc, message.len() + frames * HEAD_LEN)?;
-    for k in 0..frames {
-        push_frame(&mut stream, message, k)?;
-    }
+    let mut stream = Vec::with_capacity(alloc, carrier_len(message.len()))?;
+    put_frames(&mut stream, message)?;
     Ok(Items::of(stream))
+}
+
+/// Appends the same frames to what a stream holds.
+pub fn put_frames(stream: &mut Vec<u8>, message: &[u8]) -> Result<(), AllocError>
+    requires some { 1 ≤ length message.now }
+    requires most { length message.now ≤ max_message }
+    ensures { OnOk result (stream.new.items ≡ stream.old.items ++ carrier_of message.now) }
+{
+    stream.try_reserve(carrier_len(message.len()))?;
+    for k in 0..message.len().div_ceil(CHUNK_LEN) {
+        push_frame(stream, message, k)?;
+    }
+    Ok(())
+}
+
+/// How many bytes carry a message of so many.
+fn carrier_len(bytes: usize) -> usize
+    requires { bytes ≤ max_message }
+{
+    bytes + bytes.div_ceil(CHUNK_LEN) * HEAD_LEN
 }
 
 /// Appends frame `k`, counted from 0.
