@@ -32,4 +32,4 @@ pub use laws::{
     worked_streams,
 };
 pub use pieces::join_pieces;
-pub use splitter::{put_frames, split};
+pub use splitter::{put_frame, put_frames, split};

@@ -29,7 +29,7 @@ pub fn put_frames(stream: &mut Vec<u8>, message: &[u8]) -> Result<(), AllocError
 {
     stream.try_reserve(carrier_len(message.len()))?;
     for k in 0..message.len().div_ceil(CHUNK_LEN) {
-        push_frame(stream, message, k)?;
+        put_frame(stream, message, k)?;
     }
     Ok(())
 }
@@ -41,9 +41,9 @@ fn carrier_len(bytes: usize) -> usize
     bytes + bytes.div_ceil(CHUNK_LEN) * HEAD_LEN
 }
 
-/// Appends frame `k`, counted from 0.
+/// Appends frame `k` of a message, counted from 0.
 #[tactic(auto, unfolding(crate::specs::Carrier::carrier_frame))]
-fn push_frame(stream: &mut Vec<u8>, message: &[u8], k: usize) -> Result<(), AllocError>
+pub fn put_frame(stream: &mut Vec<u8>, message: &[u8], k: usize) -> Result<(), AllocError>
     requires place { chunk_len * k < length message.now }
     requires most { length message.now ≤ max_message }
     ensures { OnOk result (stream.new.items ≡ stream.old.items ++ carrier_frame message.now k) }

@@ -9,4 +9,4 @@ loop-k-preserved c =
     let before = c.args.stream.now.items in
     let frames = carrier_frames c.args.message.now c.loop-k.k in
     let frame = carrier_frame c.args.message.now c.loop-k.k in
-    rw add-one (c.in_ok-push_frame.ensures ∙ ap (λ (r : List ℕ). r ++ frame) c.loop-k.invariant ∙ append_assoc before (concat frames) frame ∙ ap (λ (r : List ℕ). before ++ r) (sym (concat-push frames frame)))
+    rw add-one (c.in_ok-put_frame.ensures ∙ ap (λ (r : List ℕ). r ++ frame) c.loop-k.invariant ∙ append_assoc before (concat frames) frame ∙ ap (λ (r : List ℕ). before ++ r) (sym (concat-push frames frame)))

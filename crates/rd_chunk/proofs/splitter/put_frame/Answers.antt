@@ -4,7 +4,7 @@ use Rattle.std.specs.Int.{w32, to_le_bytes}
 use Rattle.rd_chunk.specs.Carrier.{carrier_frame, carrier_data, carrier_flags}
 use Rattle.rd_base.proofs.ResultLemmas.{on_ok_of}
 use Rattle.rd_chunk.proofs.CarrierLemmas.{four_pushed}
-use Rattle.rd_chunk.proofs.splitter.push_frame.Goals as goal
+use Rattle.rd_chunk.proofs.splitter.put_frame.Goals as goal
 
 pub returns : goal.returns
 unfolding carrier_frame
