@@ -109,7 +109,7 @@ marked_same device removed d = elim (cases_Bool (is_device device d)) [
   | inr e ↦ rw e refl
 ]
 
-same_announces : (device : ℕ) (removed : Bool) (ds : List ClientDevice) → map announce_in (map (device_marked device removed) ds) ≡ map announce_in ds
+pub same_announces : (device : ℕ) (removed : Bool) (ds : List ClientDevice) → map announce_in (map (device_marked device removed) ds) ≡ map announce_in ds
 same_announces device removed [] = refl
 same_announces device removed (d ∷ ds) = cc (marked_same device removed d, same_announces device removed ds)
 

@@ -5,3 +5,5 @@ pub mod HearLemmas
 pub mod NoticeLemmas
 pub mod MarkLemmas
 pub mod WrongLemmas
+pub mod TellingLemmas
+pub mod OwnLemmas

@@ -74,8 +74,8 @@ told_is gone p q same (a ∷ devices) = go (p a) refl (told_is gone p q same dev
 pub listed_are : (gone : BTreeSet ℕ) (devices : List Announce) → map announce_in (filter is_present (client_devices devices gone)) ≡ filter (is_in_list gone None) devices
 listed_are gone devices = told_is gone (is_in_list gone None) is_present (λ a. refl) devices
 
-pub announced_are : (gone : BTreeSet ℕ) (device : ℕ) (devices : List Announce) → map announce_in (filter (is_device device) (client_devices devices gone)) ≡ filter (is_in_list gone (Some device)) devices
-announced_are gone device devices = told_is gone (is_in_list gone (Some device)) (is_device device) (λ a. refl) devices
+pub listed_one_is : (gone : BTreeSet ℕ) (device : ℕ) (devices : List Announce) → map announce_in (filter (is_device device) (client_devices devices gone)) ≡ filter (is_in_list gone (Some device)) devices
+listed_one_is gone device devices = told_is gone (is_in_list gone (Some device)) (is_device device) (λ a. refl) devices
 
 pub announces_are : (gone : BTreeSet ℕ) (devices : List Announce) → map announce_in (client_devices devices gone) ≡ devices
 announces_are gone [] = refl

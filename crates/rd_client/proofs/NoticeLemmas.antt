@@ -47,12 +47,12 @@ notice_is bytes q rest e =
     let same : ◌≡◌ {A = Option Packet × Position} (packet_among notices c.0.0 i.0.0, t.0.1) (Some q, rest) = ok_one _ _ _ refl t.2 in
     one_of_two c.0.0 i.0.0 q (ap (λ (x : Option Packet × Position). x.0) same)
 
--- nothing is wrong with any other before its event
-pub event_before : (bytes : List ℕ) (start rest : Position) (q : Packet) → start ≡ at_start bytes → met (header_among notices) start ≡ Ok (Some q, rest) → (q ≡ packet.PrinterUsingXps → ⊥)
+-- nothing is wrong with any other before its data
+pub data_before : (bytes : List ℕ) (start rest : Position) (q : Packet) → start ≡ at_start bytes → met (header_among notices) start ≡ Ok (Some q, rest) → (q ≡ packet.PrinterUsingXps → ⊥)
     → ((bad : Bad) → met cache_data rest ≡ Err bad → 8 ≤ bad.at)
     → (p : Packet) → packet_in bytes ≡ Some p → (p ≡ packet.PrinterCacheData) × ((bad : Bad) → FirstFaultOfNotice bytes bad → 8 ≤ bad.at)
 unfolding notice
-event_before bytes start rest q begun head other none p named = go (notice_is bytes q rest there)
+data_before bytes start rest q begun head other none p named = go (notice_is bytes q rest there)
   where
     there : met (header_among notices) (at_start bytes) ≡ Ok (Some q, rest)
     there = rw begun at head

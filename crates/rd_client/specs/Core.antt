@@ -88,9 +88,9 @@ announces c = map announce_in c.devices
 abbrev pub listed : ClientCoreState → List Announce
 listed c = map announce_in (filter is_present c.devices)
 
--- a device of the list, as it is announced
-abbrev pub announced : ClientCoreState → ℕ → List Announce
-announced c device = map announce_in (filter (is_device device) c.devices)
+-- the device with this id, as the list of it alone announces it
+abbrev pub listed_one : ClientCoreState → ℕ → List Announce
+listed_one c device = map announce_in (filter (is_device device) c.devices)
 
 -- whether the client has a device, and whether it was removed and not added since
 abbrev pub has_device : ClientCoreState → ℕ → Bool
@@ -141,7 +141,7 @@ tell_removed c device = with_outgoing (with_mark c device true) (plain (removal_
 
 -- the host is told that a device is there again
 abbrev pub tell_added : ClientCoreState → ℕ → ClientCoreState
-tell_added c device = with_outgoing (with_mark c device false) (plain (list_bytes (announced c device)))
+tell_added c device = with_outgoing (with_mark c device false) (plain (list_bytes (listed_one c device)))
 
 -- ---- what is heard
 
@@ -208,13 +208,13 @@ client_opened c after =
     let next = record c { core = after } in
     if becomes_ready (c.core).shake after.shake then with_outgoing next (plain (list_bytes (listed c))) else next
 
--- a request was heard: its key is that of the channel and of its place there
-abbrev pub job_of : ClientCoreState → Request → Job
-job_of c r = record { key = record { channel = c.channel; index = c.asked }; file = r.file; completion = r.completion; op = r.op }
+-- the job of a request: its key is that of the channel and of its place there
+abbrev pub job_of : Request → (channel index : ℕ) → Job
+job_of r channel index = record { key = record { channel = channel; index = index }; file = r.file; completion = r.completion; op = r.op }
 
 -- what comes of what was heard
 abbrev pub hear_says : ClientCoreState → HostSays → ClientCoreState × Heard
-hear_says c (requests r) = (record c { asked = c.asked + 1 }, heard.Ask r.device (job_of c r))
+hear_says c (requests r) = (record c { asked = c.asked + 1 }, heard.Ask r.device (job_of r c.channel c.asked))
 hear_says c (replies r) = (c, heard.Nothing)
 hear_says c (notices n) = (c, heard.Print n)
 

@@ -16,7 +16,7 @@ use Rattle.rd_client.specs.declared.heard.Came.{Came}
 use Rattle.rd_client.specs.declared.heard.Came.TheVariants as came
 use Rattle.rd_client.specs.declared.heard.Heard.{Heard}
 use Rattle.rd_client.specs.declared.heard.Heard.TheVariants as heard
-use Rattle.rd_client.specs.Core.{ClientCoreState, ClientDevice, HostSays, Outgoing, announce_in, client_hear, client_hear_made, client_side, hear_says, is_present, plain, requests}
+use Rattle.rd_client.specs.Core.{ClientCoreState, ClientDevice, HostSays, Outgoing, announce_in, client_hear, client_hear_made, client_side, hear_says, is_present, job_of, plain, requests}
 
 -- the devices, where those with these ids are removed
 abbrev pub client_device : BTreeSet ℕ → Announce → ClientDevice
@@ -32,7 +32,7 @@ is_in_list gone None a = not (contains nat_cmp gone a.id)
 
 -- a request with its place on a channel
 abbrev pub ask_of : Request → (channel index : ℕ) → Heard
-ask_of r channel index = heard.Ask r.device (record { key = record { channel = channel; index = index }; file = r.file; completion = r.completion; op = r.op })
+ask_of r channel index = heard.Ask r.device (job_of r channel index)
 
 -- what comes of a message, for a client that has heard it
 abbrev pub made_of : ClientCoreState → Came → ClientCoreState × Heard

@@ -1,4 +1,5 @@
 pub mod Core
 pub mod Heard
 pub mod Order
+pub mod Events
 pub mod Worked

@@ -42,8 +42,8 @@ are_all (own ∷ devices) (a ∷ announced) = is_same own a && are_all devices a
 are_all _ _ = false
 
 -- the devices that the first list has: those that aren't gone
-abbrev pub first_list : List Announce → (ℕ → Bool) → List Announce
-first_list devices gone = filter (λ (a : Announce). not (gone a.id)) devices
+abbrev pub first_listed : List Announce → (ℕ → Bool) → List Announce
+first_listed devices gone = filter (λ (a : Announce). not (gone a.id)) devices
 
 -- after an announcement of devices, each of which is the client's and isn't announced already
 abbrev pub with_all : List Announce → List ℕ → List Announce → Option (List ℕ)
@@ -82,7 +82,7 @@ module _ (devices : List Announce) (gone : ℕ → Bool) where
   -- A list is written: the first, which has all that aren't gone, or a further one.
   abbrev pub after_list : ClientTelling → List Announce → Option ClientTelling
   after_list t announced =
-      if t.lists then (if are_all (first_list devices gone) announced then Some (telling (map (λ (a : Announce). a.id) announced)) else None)
+      if t.lists then (if are_all (first_listed devices gone) announced then Some (telling (map (λ (a : Announce). a.id) announced)) else None)
       else option_map telling (with_all devices t.told announced)
 
   -- A removal is written, after the first list.

@@ -1,5 +1,6 @@
 -- A client on a channel, for worked cases.
 use Rattle.std.specs.Prelude.{ℕ, ◌==◌, Bool, false, List, [], ◌∷◌, ◌++◌, codes, map, replicate, fold, Option}
+use Rattle.rd_base.specs.Statuses.{no_such_device}
 use Rattle.rd_devices.specs.declared.list.Announce.{Announce}
 use Rattle.rd_devices.specs.DeviceList.{list_bytes}
 use Rattle.rd_devices.specs.DeviceReply.{reply_bytes}
@@ -12,7 +13,7 @@ use Rattle.rd_hello.specs.Own.{client_confirm, client_name, client_sets, host_an
 use Rattle.rd_irp.specs.declared.op.Op.TheVariants as op
 use Rattle.rd_irp.specs.declared.request.Request.{Request}
 use Rattle.rd_irp.specs.Written.{request_bytes}
-use Rattle.rd_client.specs.Core.{ClientCoreState, Outgoing, client_begin, client_hear, new_client}
+use Rattle.rd_client.specs.Core.{ClientCoreState, Outgoing, client_begin, client_hear, direct_bytes, new_client}
 use Rattle.rd_client.specs.Order.{ClientStanding, client_at_first, stand_after, telling}
 
 -- a drive as it is announced
@@ -80,6 +81,10 @@ own_name = hello_bytes client_name
 
 abbrev pub own_sets : List ℕ
 own_sets = hello_bytes client_sets
+
+-- the completion of that job where no device runs it
+abbrev pub own_completion : List ℕ
+own_completion = direct_bytes close_job 1 no_such_device
 
 -- the list of both drives, and that of the second alone
 abbrev pub own_list : List ℕ

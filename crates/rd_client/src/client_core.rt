@@ -3,6 +3,7 @@
 ghost use Rattle.std.specs.Prelude.{◌≡◌, ◌≢◌, ◌==◌, ◌↔◌, [], position, IsTrue, IfSome, Option, Err};
 ghost use Rattle.std.specs.List.{list_any};
 ghost use Rattle.std.specs.Option.{option_map};
+ghost use Rattle.rd_chunk.specs.Carrier.{IsMessage};
 ghost use Rattle.rd_client.specs.Core.{AreDevices, ClientStep, IsClientKept, IsClientReady, MayAnswer, MayHear, MayRefresh, MayTellAdded, MayTellRemoved, Outgoing, begins, directs, has_device, hears, is_gone, may_be_asked, new_client, refreshes, sends, tells_added, tells_removed};
 ghost use Rattle.rd_client.specs.Heard.{ask_of};
 
@@ -103,7 +104,7 @@ impl ClientCore {
             Came::Ask(request) => {
                 let index = self.asked;
                 self.asked += 1;
-                Ok(job_of(request, self.channel, index))
+                Ok(ask_of(request, self.channel, index))
             }
         }
     }
@@ -199,6 +200,7 @@ impl ClientCore {
     /// The message that is to be sent first, if one waits. It takes no memory.
     pub fn outbox(&mut self) -> Option<Bytes>
         ensures step { (sent : Option Outgoing) × ClientStep self.old (sends sent) self.new × (result ≡ option_map (λ o. o.message) sent) }
+        ensures message { IfSome result IsMessage }
         ensures kept { IsClientKept self.new }
     {
         match self.end.send() {
@@ -230,7 +232,7 @@ fn is_among(devices: &[Announce], device: u32) -> bool
 }
 
 /// A request with its place on the channel.
-fn job_of(request: Request, channel: u32, index: u64) -> Heard
+fn ask_of(request: Request, channel: u32, index: u64) -> Heard
     ensures { result ≡ ask_of request channel index }
 {
     let Request {

@@ -203,7 +203,7 @@ fn hear_notice(end: &mut ClientEnd, alloc: Global, message: &[u8]) -> Result<Cam
     match read_notice(alloc, message) {
         Ok((notice, _tail)) => Ok(Came::Print(notice)),
         Err(ReadNo::Bad(bad)) => Err(end.fail(bad)),
-        Err(ReadNo::Memory) => match before_event(message) {
+        Err(ReadNo::Memory) => match without_memory(message) {
             Ok(Some(notice)) => Ok(Came::Print(notice)),
             Ok(None) => Err(EndFault::Memory),
             Err(bad) => Err(end.fail(bad)),
@@ -211,9 +211,9 @@ fn hear_notice(end: &mut ClientEnd, alloc: Global, message: &[u8]) -> Result<Cam
     }
 }
 
-/// Reads of a notice what takes no memory: a whole notice of XPS, and of any other what stands before its event.
+/// Reads of a notice what takes no memory: a whole notice of XPS, and of any other what stands before its data.
 #[tactic(auto, unfolding(rd_printer::specs::Notice::notice))]
-fn before_event(message: &[u8]) -> Result<Option<Notice>, Bad>
+fn without_memory(message: &[u8]) -> Result<Option<Notice>, Bad>
     ensures refused { IfErr result (FirstFaultOfNotice message.now) }
     ensures whole { IfOk result (λ found. IfSome found (λ n. (rest : Position) × (met notice (at_start message.now) ≡ Ok (n, rest)))) }
     ensures before { IfOk result (λ found. IfNone found ((p : Packet) → packet_in message.now ≡ Some p →

@@ -1,6 +1,7 @@
 //! The definitions at work, as contracts of functions that do nothing: the checker computes each case; and what holds of every client.
 
-ghost use Rattle.std.specs.Prelude.{◌≡◌, ◌++◌, ◌∷◌, ℕ, List, [], Bool, true, None, Some, IsOk, IsSome, Result, Err, Ok, take};
+ghost use Rattle.std.specs.Prelude.{◌≡◌, ◌++◌, ◌∷◌, ℕ, List, [], Bool, true, None, Some, Result, Err, Ok, take};
+ghost use Rattle.std.specs.List.{flat_map};
 ghost use Rattle.rd_base.specs.declared.bad.Why.TheVariants as Why;
 ghost use Rattle.rd_base.specs.Statuses.{no_such_device};
 ghost use Rattle.rd_devices.specs.declared.list.Announce.{Announce};
@@ -15,9 +16,10 @@ ghost use Rattle.rd_hello.specs.Own.{client_confirm, client_name, client_sets};
 ghost use Rattle.rd_irp.specs.declared.op.Op.TheVariants as Op;
 ghost use Rattle.rd_client.specs.declared.heard.Heard.{Heard};
 ghost use Rattle.rd_client.specs.declared.heard.Heard.TheVariants as Heard;
-ghost use Rattle.rd_client.specs.Core.{KeepsClientChannel, ClientCall, ClientCoreState, ClientStep, IsClientKept, announces, client_begin, client_hear, client_send, direct, direct_bytes, hears, is_gone, plain, refresh, tell_added, tell_removed};
-ghost use Rattle.rd_client.specs.Order.{ClientStanding, after_read};
-ghost use Rattle.rd_client.specs.Worked.{after, announced, client, close_bytes, close_job, confirmed, device_replied, drive, emptied, listed_stand, logged_on, offered, opened_moves, opening, own_confirm, own_list, own_name, ready, second_list, stand_of, stand_without, written};
+ghost use Rattle.rd_client.specs.Core.{AreDevices, KeepsClientChannel, ClientCall, ClientCoreState, ClientStep, IsClientKept, announces, client_begin, client_hear, client_send, direct, direct_bytes, hears, is_gone, plain, refresh, tell_added, tell_removed};
+ghost use Rattle.rd_client.specs.Order.{ClientOrder, ClientStanding, client_at_first, stand_after};
+ghost use Rattle.rd_client.specs.Events.{AreWritable, ClientEvent, ClientEvents, ClientStandsAt, ClientEventStep, client_event_moves, client_waiting_moves};
+ghost use Rattle.rd_client.specs.Worked.{after, announced, client, close_bytes, close_job, confirmed, device_replied, drive, emptied, listed_stand, logged_on, offered, opened_moves, opening, own_completion, own_confirm, own_list, own_name, ready, second_list, stand_of, stand_without, written};
 
 /// How a client becomes ready, and what it announces then.
 pub fn clients_open_as_listed()
@@ -69,6 +71,9 @@ pub fn clients_write_in_order()
     ensures too_short { stand_of (opened_moves ++ writes second_list ∷ []) ≡ None }
     ensures without { stand_without (opened_moves ++ writes second_list ∷ []) ≡ Some (listed_stand (2 ∷ [])) }
     ensures too_long { stand_without (opened_moves ++ writes own_list ∷ []) ≡ None }
+    // A completion may be written as soon as a request may come, before the list too.
+    ensures completes { stand_of (take 6 opened_moves ++ writes own_completion ∷ []) ≡ stand_of (take 6 opened_moves) }
+    ensures completes_before { stand_of (take 5 opened_moves ++ writes own_completion ∷ []) ≡ None }
     // A message that a client ignores is read in order.
     ensures ignores { stand_of (opened_moves ++ writes own_list ∷ reads device_replied ∷ []) ≡ Some (listed_stand (1 ∷ 2 ∷ [])) }
     // A device is removed that is announced, and announced where it isn't.
@@ -79,10 +84,17 @@ pub fn clients_write_in_order()
     ensures foreign { stand_of (opened_moves ++ writes own_list ∷ writes (list_bytes (drive 3 ∷ [])) ∷ []) ≡ None }
 {}
 
-/// A message that a client hears without a fault is read in order.
-pub fn clients_read_in_order()
-    ensures { (devices : List Announce) (gone : ℕ → Bool) (c : ClientCoreState) (s : ClientStanding) (bytes : List ℕ) →
-        s.shake ≡ (c.core).shake → IsOk (client_hear c bytes).1 → IsSome (after_read devices gone s bytes) }
+/// What a client reads and writes on a channel is in order, whatever is called there, and so it is with all that waits to be sent.
+pub fn clients_keep_order()
+    ensures ordered { (old new : ClientCoreState) (channel : ℕ) (events : List ClientEvent) → AreDevices (announces old) → AreWritable (announces old) →
+        ClientEvents (client_begin old channel) events new → ClientOrder (announces old) (is_gone old) (flat_map client_event_moves events) }
+    ensures waits { (old new : ClientCoreState) (channel : ℕ) (events : List ClientEvent) → AreDevices (announces old) → AreWritable (announces old) →
+        ClientEvents (client_begin old channel) events new → ClientOrder (announces old) (is_gone old) (flat_map client_event_moves events ++ client_waiting_moves new) }
+    // Event by event: where a client stands at first, and where after an event.
+    ensures first { (old : ClientCoreState) (channel : ℕ) → AreDevices (announces old) → AreWritable (announces old) →
+        ClientStandsAt (announces old) (is_gone old) client_at_first (client_begin old channel) }
+    ensures event { (devices : List Announce) (gone : ℕ → Bool) (s : ClientStanding) (old new : ClientCoreState) (event : ClientEvent) →
+        ClientStandsAt devices gone s old → ClientEventStep old event new → (t : ClientStanding) × (stand_after devices gone s (client_event_moves event) ≡ Some t) × ClientStandsAt devices gone t new }
 {}
 
 /// Each call keeps what always holds of a client: its devices, and that what it has to send fits a message.

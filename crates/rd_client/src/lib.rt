@@ -19,7 +19,7 @@ mod outgoing;
 pub use client_core::ClientCore;
 pub use heard::Heard;
 pub use laws::{
-    clients_answer_by_key, clients_hear_as_listed, clients_keep, clients_open_as_listed,
-    clients_read_in_order, clients_stay_wrong, clients_want_memory, clients_write_in_order,
+    clients_answer_by_key, clients_hear_as_listed, clients_keep, clients_keep_order,
+    clients_open_as_listed, clients_stay_wrong, clients_want_memory, clients_write_in_order,
 };
 pub use outgoing::Outgoing;

@@ -81,7 +81,7 @@ module _ {S M A : Type 0} (side : Side S M A) where
   header_tabled state bytes (Ok (None, rest)) = tt
   header_tabled state bytes (Ok (Some p, rest)) = known_tabled state bytes p
 
-  said_tabled : (state : S) (bytes : List ℕ) → IsTabled side state (said side state bytes)
+  pub said_tabled : (state : S) (bytes : List ℕ) → IsTabled side state (said side state bytes)
   said_tabled state bytes = header_tabled state bytes (met any_header (at_start bytes))
 
   module _ (bytes_of : M → List ℕ) (short : AreShort bytes_of side) where

@@ -1,6 +1,5 @@
 -- What the header of a message says to an end: of which packet it is, and whether that packet is read in the end's state.
-use Rattle.std.specs.Prelude.{◌≡◌, ◌≤◌, ◌==◌, Bool, ℕ, List, Some, None, IsTrue, IsFalse, Result, Ok, Err}
-use Rattle.std.specs.List.{list_any}
+use Rattle.std.specs.Prelude.{◌≡◌, ◌≤◌, ℕ, List, Some, None, IsTrue, IsFalse, Result, Ok, Err}
 use Rattle.rd_base.specs.declared.bad.Bad.{Bad}
 use Rattle.rd_base.specs.declared.packet.Packet.{Packet}
 use Rattle.rd_base.specs.declared.packet.Packet.TheVariants as packet
@@ -11,11 +10,7 @@ use Rattle.rd_hello.specs.declared.end_fault.EndFault.{EndFault}
 use Rattle.rd_hello.specs.declared.end_fault.EndFault.TheVariants.{Order, Grammar, Memory}
 use Rattle.rd_hello.specs.Moves.{packet_in}
 use Rattle.rd_core.specs.Core.{CoreState}
-use Rattle.rd_core.specs.Hearing.{Side, is_read_in}
-
--- whether a packet is one of these
-abbrev pub is_one_of : List Packet → Packet → Bool
-is_one_of wanted p = list_any (λ q. packet_id q == packet_id p) wanted
+use Rattle.rd_core.specs.Hearing.{Side, is_one_of, is_read_in}
 
 -- What comes of the header of a message in the state with this number, in which these packets are read: its packet, or what is wrong.
 abbrev pub IsExpected : ℕ → List Packet → List ℕ → Result Packet EndFault → Type 0

@@ -41,9 +41,13 @@ abbrev pub read_as : {X A : Type 0} → (X × Position → A) → Result (X × P
 read_as f (Ok read) = Ok (f read)
 read_as f (Err bad) = Err bad
 
--- whether a packet is one of those that open a channel
+-- whether a packet is one of these
+abbrev pub is_one_of : List Packet → Packet → Bool
+is_one_of wanted p = list_any (λ q. packet_id q == packet_id p) wanted
+
+-- whether it is one of those that open a channel
 abbrev pub is_hello : Packet → Bool
-is_hello p = list_any (λ q. packet_id q == packet_id p) hellos
+is_hello p = is_one_of hellos p
 
 -- the messages that a row writes
 abbrev pub messages_of : {S : Type 0} → OrderRow S → List (List ℕ)
@@ -51,7 +55,7 @@ messages_of row = map hello_bytes (option_to_list row.first ++ option_to_list ro
 
 module _ {S M A : Type 0} (side : Side S M A) where
   abbrev pub is_read_in : S → Packet → Bool
-  is_read_in state p = list_any (λ q. packet_id q == packet_id p) (side.reads_in state)
+  is_read_in state p = is_one_of (side.reads_in state) p
 
   -- ---- what a message says
 

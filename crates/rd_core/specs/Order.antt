@@ -1,5 +1,5 @@
 -- The order of the messages of an end on a channel (MS-RDPEFS 3.2.5, 3.3.5), said of what it reads and what it writes, as both sides have it.
-use Rattle.std.specs.Prelude.{ℕ, if◌then◌else◌, List, [], ◌∷◌, ◌++◌, Option, Some, None, bytes_eq}
+use Rattle.std.specs.Prelude.{◌≡◌, ℕ, if◌then◌else◌, List, [], ◌∷◌, ◌++◌, Option, Some, None, bytes_eq}
 use Rattle.std.specs.Option.{option_and_then, option_map}
 use Rattle.rd_hello.specs.Moves.{Move, reads, writes}
 use Rattle.rd_hello.specs.Rows.{OrderRow}
@@ -17,6 +17,19 @@ pub record OrderPart (S A P : Type 0) : Type 0 where
   pub opened : S → S → P → P
   pub read : A → P → P
   pub written : S → List ℕ → P → Option P
+
+-- what a side's part comes to by messages of its own that are written one after another in a state, if they may be
+abbrev pub written_after : {S A P : Type 0} → OrderPart S A P → S → List (List ℕ) → P → Option P
+written_after part state [] p = Some p
+written_after part state (message ∷ messages) p = option_and_then (λ q. written_after part state messages q) (part.written state message p)
+
+-- An end in this state, with these messages to send, stands here: they are those of the opening that are owed and then some of the side's own, and when they are
+-- written its part is this one.
+pub record IsStand {S A P : Type 0} (part : OrderPart S A P) (s : Stand S P) (state : S) (waiting : List (List ℕ)) (last : P) : Type 0 where
+  pub shake : s.shake ≡ state
+  pub own : List (List ℕ)
+  pub waits : waiting ≡ s.owed ++ own
+  pub written : written_after part state own s.own ≡ Some last
 
 module _ {S M A P : Type 0} (side : Side S M A) (part : OrderPart S A P) where
   abbrev pub after_opened : Stand S P → OrderRow S → Stand S P

@@ -5,7 +5,8 @@ ghost use Rattle.std.specs.Option.{option_to_list};
 ghost use Rattle.std.specs.VecDeque.{deque_capacity, deque_len};
 ghost use Rattle.rd_hello.specs.declared.end_fault.EndFault.TheVariants as fault;
 ghost use Rattle.rd_core.specs.Core.{new_core, send, with_message};
-ghost use Rattle.rd_core.specs.Expected.{IsExpected, is_one_of};
+ghost use Rattle.rd_core.specs.Expected.{IsExpected};
+ghost use Rattle.rd_core.specs.Hearing.{is_one_of};
 
 use rd_base::{Bad, Packet, packet_of};
 use rd_hello::EndFault;
@@ -166,7 +167,7 @@ fn expected(number: u8, wanted: &[Packet], message: &[u8]) -> Result<Packet, End
         Ok(packet) => packet,
         Err(bad) => return Err(EndFault::Grammar(bad)),
     };
-    if !is_among(wanted, packet) {
+    if !is_one_of(wanted, packet) {
         return Err(EndFault::Order {
             state: number,
             packet: packet.id(),
@@ -176,7 +177,7 @@ fn expected(number: u8, wanted: &[Packet], message: &[u8]) -> Result<Packet, End
 }
 
 /// Whether a packet is one of these.
-fn is_among(wanted: &[Packet], packet: Packet) -> bool
+fn is_one_of(wanted: &[Packet], packet: Packet) -> bool
     ensures { result ≡ is_one_of wanted.now packet }
 {
     wanted.iter().any(|other| other.id() == packet.id())

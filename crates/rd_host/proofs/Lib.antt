@@ -1,4 +1,5 @@
 pub mod OrderLemmas
+pub mod OwnLemmas
 pub mod KeptLemmas
 pub mod HearLemmas
 pub mod WrongLemmas

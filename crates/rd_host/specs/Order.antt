@@ -31,9 +31,13 @@ pub record Replying : Type 0 where
 abbrev pub HostStanding : Type 0
 HostStanding = order.Stand HostState Replying
 
+-- no reply is due, no device has a life, and so many lives were given
+abbrev pub none_due : ℕ → Replying
+none_due given = record { due = []; alive = []; given = given }
+
 -- a host that announces this ClientId, and gave so many lives before the channel
 abbrev pub host_at_first : ℕ → ℕ → HostStanding
-host_at_first client given = record { shake = Start; owed = hello_bytes (host_announce client) ∷ []; own = record { due = []; alive = []; given = given } }
+host_at_first client given = record { shake = Start; owed = hello_bytes (host_announce client) ∷ []; own = none_due given }
 
 -- a device is replied to with this code: it has a life from now on where that says success
 abbrev pub with_reply : Replying → ℕ → Status → Replying

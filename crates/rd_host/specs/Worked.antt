@@ -1,7 +1,8 @@
 -- A host on a channel, for worked cases.
-use Rattle.std.specs.Prelude.{ℕ, List, [], ◌∷◌, ◌++◌, codes, replicate, fold, Option}
+use Rattle.std.specs.Prelude.{ℕ, List, [], ◌∷◌, ◌++◌, codes, replicate, fold, Option, Some, Ok}
 use Rattle.std.specs.List.{range_with_len}
 use Rattle.rd_base.specs.declared.packet.Packet.TheVariants as packet
+use Rattle.rd_base.specs.declared.status.Status.{Status}
 use Rattle.rd_base.specs.Header.{header_bytes}
 use Rattle.rd_devices.specs.declared.list.Announce.{Announce}
 use Rattle.rd_devices.specs.DeviceList.{list_bytes}
@@ -16,9 +17,13 @@ use Rattle.rd_hello.specs.Own.{client_name, client_sets, host_announce, host_set
 use Rattle.rd_irp.specs.declared.completion.Body.TheVariants as body
 use Rattle.rd_irp.specs.declared.completion.Head.{Head}
 use Rattle.rd_irp.specs.declared.completion.Kind.TheVariants as kind
-use Rattle.rd_irp.specs.Written.{completion_bytes}
-use Rattle.rd_host.specs.Core.{HostCoreState, host_begin, host_hear, new_host}
-use Rattle.rd_host.specs.Order.{HostStanding, host_at_first, stand_after}
+use Rattle.rd_irp.specs.declared.op.Op.TheVariants as op
+use Rattle.rd_irp.specs.Written.{completion_bytes, request_bytes}
+use Rattle.rd_core.specs.Core.{new_core}
+use Rattle.rd_host.specs.declared.act.Act.TheVariants as act
+use Rattle.rd_host.specs.Core.{HostCoreState, hears, host_begin, host_hear, new_host, replies, sends}
+use Rattle.rd_host.specs.Order.{HostStanding, Replying, host_at_first, none_due, stand_after}
+use Rattle.rd_host.specs.Events.{HostEvent, asks, calls, due_after_all}
 
 -- a host whose channel began
 abbrev pub host : HostCoreState
@@ -86,6 +91,38 @@ again = reply_bytes (record { id = 1; code = status.object_name_collision })
 
 abbrev pub unsupported : List ℕ
 unsupported = reply_bytes (record { id = 1; code = status.not_supported })
+
+-- device 1 is announced, and it is replied to with this code
+abbrev pub announced_event : HostEvent
+announced_event = calls (hears listed (Ok (act.Announced (drive ∷ []))))
+
+abbrev pub replied_event : Status → HostEvent
+replied_event code = calls (replies 1 code (Ok tt))
+
+-- a message that says nothing more is heard, and a message is sent
+abbrev pub heard_event : List ℕ → HostEvent
+heard_event message = calls (hears message (Ok act.Nothing))
+
+abbrev pub sent_event : List ℕ → HostEvent
+sent_event message = calls (sends (Some message))
+
+-- the request to close a file of device 1
+abbrev pub closing : List ℕ
+closing = request_bytes (record { device = 1; file = 1; completion = 5; op = op.Close })
+
+-- the events of a host from its begin until it asks device 1, and what it is then
+abbrev pub served_events : List HostEvent
+served_events =
+    sent_event (hello_bytes (host_announce 1)) ∷ heard_event confirmed ∷ heard_event named ∷ sent_event (hello_bytes host_sets)
+    ∷ sent_event (hello_bytes (Confirm (record { minor = 12; client = 1 }))) ∷ heard_event offered ∷ sent_event (hello_bytes LoggedOn)
+    ∷ announced_event ∷ replied_event status.success ∷ sent_event own_reply ∷ asks closing ∷ []
+
+abbrev pub served : HostCoreState
+served = record { client = 1; core = new_core Ready }
+
+-- what is due after events, where nothing was before, if each reply was due
+abbrev pub due_of : List HostEvent → Option Replying
+due_of events = due_after_all (none_due 0) events
 
 -- so many ids
 abbrev pub many : ℕ → List ℕ

@@ -2,6 +2,7 @@
 
 ghost use Rattle.std.specs.Prelude.{◌≡◌, ◌≢◌, ◌↔◌, [], IsTrue, IfErr, IfOk, IfSome, Some, Err};
 ghost use Rattle.rd_base.specs.declared.packet.Packet.TheVariants as packet;
+ghost use Rattle.rd_chunk.specs.Carrier.{IsMessage};
 ghost use Rattle.rd_hello.specs.Moves.{packet_in};
 ghost use Rattle.rd_host.specs.Core.{HostStep, IsHostKept, IsHostReady, MayTell, begins, hears, new_host, replies, sends, tells};
 ghost use Rattle.rd_host.specs.Heard.{HasBody, act_of, answer_of};
@@ -39,7 +40,8 @@ impl Model for HostCore {
 impl HostCore {
     /// A host on no channel, which announces this ClientId. It takes no memory; what it allocates later comes from `alloc`.
     pub fn new(alloc: Global, client: u32) -> HostCore
-        ensures { result ≡ new_host client }
+        ensures step { result ≡ new_host client }
+        ensures kept { IsHostKept result }
     {
         HostCore {
             alloc,
@@ -114,6 +116,7 @@ impl HostCore {
     /// The message that is to be sent first, if one waits. It takes no memory.
     pub fn outbox(&mut self) -> Option<Bytes>
         ensures step { HostStep self.old (sends result) self.new }
+        ensures message { IfSome result IsMessage }
         ensures kept { IsHostKept self.new }
     {
         self.end.send()

@@ -1,6 +1,7 @@
 //! The definitions at work, as contracts of functions that do nothing: the checker computes each case; and what holds of every host.
 
-ghost use Rattle.std.specs.Prelude.{◌≡◌, ◌++◌, ◌∷◌, ℕ, List, [], replicate, None, Some, IsOk, IsSome, Result, Err, Ok};
+ghost use Rattle.std.specs.Prelude.{◌≡◌, ◌++◌, ◌∷◌, ℕ, List, [], replicate, None, Some, Result, Err, Ok};
+ghost use Rattle.std.specs.List.{flat_map};
 ghost use Rattle.rd_devices.specs.Removal.{removal_bytes};
 ghost use Rattle.rd_devices.specs.DeviceReply.{reply_bytes};
 ghost use Rattle.rd_base.specs.Statuses.{insufficient_resources, not_supported, object_name_collision, success};
@@ -15,10 +16,11 @@ ghost use Rattle.rd_hello.specs.Own.{host_announce, host_sets};
 ghost use Rattle.rd_pending.specs.Table.{max_lives};
 ghost use Rattle.rd_host.specs.declared.act.Act.{Act};
 ghost use Rattle.rd_host.specs.declared.act.Act.TheVariants as Act;
-ghost use Rattle.rd_host.specs.Core.{KeepsHostChannel, HostCall, HostCoreState, HostStep, IsHostKept, hears, host_hear, reply};
-ghost use Rattle.rd_host.specs.Order.{HostStanding, after_read, host_at_first, stand_after};
+ghost use Rattle.rd_host.specs.Core.{KeepsHostChannel, HostCall, HostCoreState, HostStep, IsHostKept, hears, host_begin, host_hear, reply};
+ghost use Rattle.rd_host.specs.Order.{HostOrder, HostStanding, Replying, host_at_first, none_due, stand_after};
+ghost use Rattle.rd_host.specs.Events.{AreDue, HostStandsAt, HostEvent, HostEventStep, HostEvents, due_after, host_event_moves, host_waiting_moves};
 ghost use Rattle.rd_host.specs.Served.{code_for};
-ghost use Rattle.rd_host.specs.Worked.{after, again, closed, closed_head, confirmed, drive, host, listed, many, named, offered, opening_moves, own_reply, ready, removed, replied_stand, short_head, stand_of, unsupported};
+ghost use Rattle.rd_host.specs.Worked.{after, again, announced_event, closed, closed_head, closing, confirmed, drive, due_of, host, listed, many, named, offered, opening_moves, own_reply, ready, removed, replied_stand, replied_event, served, served_events, short_head, stand_of, unsupported};
 
 /// How a host becomes ready.
 pub fn hosts_open_as_listed()
@@ -64,10 +66,37 @@ pub fn hosts_reply_by_lives()
     ensures worn { code_for [] max_lives 8 1 ≡ insufficient_resources }
 {}
 
-/// A message that a host hears without a fault is read in order.
-pub fn hosts_read_in_order()
-    ensures { (h : HostCoreState) (s : HostStanding) (bytes : List ℕ) →
-        s.shake ≡ (h.core).shake → IsOk (host_hear h bytes).1 → IsSome (after_read s bytes) }
+/// Which replies are due to devices, by the events of a host alone.
+pub fn hosts_reply_as_due()
+    ensures begins { due_of (announced_event ∷ replied_event success ∷ []) ≡ Some (record { due = []; alive = 1 ∷ []; given = 1 }) }
+    ensures collides { due_of (announced_event ∷ announced_event ∷ replied_event success ∷ replied_event object_name_collision ∷ []) ≡ Some (record { due = []; alive = 1 ∷ []; given = 1 }) }
+    ensures unannounced { due_of (replied_event success ∷ []) ≡ None }
+    ensures twice { due_of (announced_event ∷ replied_event success ∷ replied_event success ∷ []) ≡ None }
+    ensures code { due_of (announced_event ∷ replied_event not_supported ∷ []) ≡ None }
+{}
+
+/// A host's events from the begin of a channel until it asks a device, with what it reads and writes then.
+pub fn hosts_go_as_listed()
+    ensures events { HostEvents host served_events served }
+    ensures due { AreDue (none_due 0) served_events }
+    ensures moves { flat_map host_event_moves served_events ≡ opening_moves ++ reads listed ∷ writes own_reply ∷ writes closing ∷ [] }
+{}
+
+/// All that a host reads and writes from the begin of a channel on is in order, where each reply that it is given is the next one that is due.
+pub fn hosts_keep_order()
+    ensures ordered { (old new : HostCoreState) (events : List HostEvent) (given : ℕ) → HostEvents (host_begin old) events new → AreDue (none_due given) events →
+        HostOrder old.client given (flat_map host_event_moves events) }
+    // So is what it still has to send.
+    ensures waits { (old new : HostCoreState) (events : List HostEvent) (given : ℕ) → HostEvents (host_begin old) events new → AreDue (none_due given) events →
+        HostOrder old.client given (flat_map host_event_moves events ++ host_waiting_moves new) }
+{}
+
+/// Where a host stands on a channel: it stands somewhere at the begin, and each event's moves lead from where it stands to where it stands then.
+pub fn hosts_stand()
+    ensures begins { (old : HostCoreState) (given : ℕ) → HostStandsAt (host_at_first old.client given) (none_due given) (host_begin old) }
+    ensures step { (s : HostStanding) (r q : Replying) (old new : HostCoreState) (event : HostEvent) →
+        HostStandsAt s r old → HostEventStep old event new → due_after r event ≡ Some q →
+        (t : HostStanding) × (stand_after s (host_event_moves event) ≡ Some t) × HostStandsAt t q new }
 {}
 
 /// Each call keeps what always holds of a host: what it has to send fits a message.

@@ -15,6 +15,7 @@ mod laws;
 pub use act::{Act, LentAct};
 pub use host_core::HostCore;
 pub use laws::{
-    hosts_hear_as_listed, hosts_keep, hosts_open_as_listed, hosts_read_in_order,
-    hosts_reply_by_lives, hosts_stay_wrong, hosts_want_memory, hosts_write_in_order,
+    hosts_go_as_listed, hosts_hear_as_listed, hosts_keep, hosts_keep_order, hosts_open_as_listed,
+    hosts_reply_as_due, hosts_reply_by_lives, hosts_stand, hosts_stay_wrong, hosts_want_memory,
+    hosts_write_in_order,
 };

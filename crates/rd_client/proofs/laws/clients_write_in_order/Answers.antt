@@ -63,3 +63,11 @@ returns-clause-announced_before c = refl
 pub returns-clause-foreign : goal.returns-clause-foreign
 unfolding component_field header header_among count_to counted counted_bytes two_fields four_fields version name hello special general other body_of capability sets announce device_list device_reply removal completion_head request_head close_body op_body add_event update_event delete_event rename_event event_body cache_data using_xps notice
 returns-clause-foreign c = refl
+
+pub returns-clause-completes : goal.returns-clause-completes
+unfolding component_field header header_among count_to counted counted_bytes two_fields four_fields version name hello special general other body_of capability sets announce device_list device_reply removal completion_head request_head close_body op_body add_event update_event delete_event rename_event event_body cache_data using_xps notice
+returns-clause-completes c = refl
+
+pub returns-clause-completes_before : goal.returns-clause-completes_before
+unfolding component_field header header_among count_to counted counted_bytes two_fields four_fields version name hello special general other body_of capability sets announce device_list device_reply removal completion_head request_head close_body op_body add_event update_event delete_event rename_event event_body cache_data using_xps notice
+returns-clause-completes_before c = refl

@@ -1,5 +1,5 @@
-use Rattle.rd_client.proofs.NoticeLemmas.{event_before, notice_header, xps_met}
-use Rattle.rd_client.proofs.hearing.before_event.Goals as goal
+use Rattle.rd_client.proofs.NoticeLemmas.{data_before, notice_header, xps_met}
+use Rattle.rd_client.proofs.hearing.without_memory.Goals as goal
 
 pub before_data-requires : goal.before_data-requires
 before_data-requires c = notice_header _ _ _ _ c.new-cursor.ensures c.in_ok-read_header_among.ensures
@@ -13,5 +13,5 @@ pub returns-in_ok-before_data-in_default : goal.returns-in_ok-before_data-in_def
 returns-in_ok-before_data-in_default c = record {
   refused = tt;
   whole = tt;
-  before = event_before _ _ _ c.in_ok-read_header_among.field-0 c.new-cursor.ensures c.in_ok-read_header_among.ensures c.in_default.not-PrinterUsingXps c.in_ok-before_data-in_default.ensures;
+  before = data_before _ _ _ c.in_ok-read_header_among.field-0 c.new-cursor.ensures c.in_ok-read_header_among.ensures c.in_default.not-PrinterUsingXps c.in_ok-before_data-in_default.ensures;
 }
