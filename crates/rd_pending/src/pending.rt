@@ -1,6 +1,6 @@
 //! A host's table: what it asked of devices, and what came of each request.
 
-ghost use Rattle.std.specs.Prelude.{◌≡◌, ◌↔◌, [], IsTrue, IfOk, IfSome};
+ghost use Rattle.std.specs.Prelude.{◌≡◌, ◌↔◌, [], IsTrue, IfOk, IfSome, is_some};
 ghost use Rattle.rd_chunk.specs.Carrier.{IsMessage};
 ghost use Rattle.rd_pending.specs.History.{IsReachedTable};
 ghost use Rattle.rd_pending.specs.Known.{IsKnown};
@@ -39,6 +39,13 @@ impl Pending {
         Ok(Pending {
             table: Table::new(alloc)?,
         })
+    }
+
+    /// Whether a channel is open. It takes no memory.
+    pub fn is_open(&self) -> bool
+        ensures { result ≡ is_some self.now.channel }
+    {
+        self.table.is_open()
     }
 
     /// Whether a channel may begin: it is above every channel that began. It takes no memory.

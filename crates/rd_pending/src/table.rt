@@ -1,6 +1,6 @@
 //! The table itself: each call of it is its step. The type above it (`Pending`) says what holds of every table that came to be by calls.
 
-ghost use Rattle.std.specs.Prelude.{◌≡◌, ◌↔◌, ◌++◌, ◌∷◌, [], Some, IsTrue, IfErr, IfOk, OnErr, OnOk};
+ghost use Rattle.std.specs.Prelude.{is_some, ◌≡◌, ◌↔◌, ◌++◌, ◌∷◌, [], Some, IsTrue, IfErr, IfOk, OnErr, OnOk};
 ghost use Rattle.std.specs.BTreeMap.{insert_entry};
 ghost use Rattle.std.specs.Option.{option_map};
 ghost use Rattle.std.specs.Ordering.{nat_cmp};
@@ -125,6 +125,13 @@ impl Table {
         self.asked = 0;
         self.begun = 0;
         true
+    }
+
+    /// Whether a channel is open.
+    pub fn is_open(&self) -> bool
+        ensures { result ≡ is_some self.now.channel }
+    {
+        self.channel.is_some()
     }
 
     /// Begins a device's next life.
