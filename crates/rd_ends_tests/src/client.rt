@@ -1,14 +1,16 @@
 //! A client's end, message by message.
 
+ghost use Rattle.std.specs.Prelude.{◌≡◌, ◌∷◌, []};
 ghost use Rattle.rd_client.specs.Core.{AreDevices};
 
 use crate::messages::{
-    ANNOUNCE, CLIENT_SETS, CONFIRM, CUT_READ, CUT_READ_FAULT, HOST_SETS, LIST, LOGGED_ON, NAME,
-    REMOVAL, REPLY, XPS,
+    ANNOUNCE, CLIENT_SETS, CONFIRM, CREATE, CUT_READ, CUT_READ_FAULT, HOST_SETS, LIST, LOGGED_ON,
+    NAME, REMOVAL, REPLY, UNKNOWN, UNKNOWN_FAULT, XPS,
 };
 use rd_base::{Bad, Bytes, Items, Status, Why};
 use rd_client::{ClientCore, Heard};
 use rd_devices::{Announce, DeviceList};
+use rd_drive::Job;
 use rd_hello::EndFault;
 use rd_irp::Op;
 use rd_printer::Notice;
@@ -19,7 +21,8 @@ const MAX_ASKED: u64 = 1 << 40;
 
 /// The list of the drive DATA with id 1.
 fn devices(rt: &(impl Abort + AllocGlobal)) -> DeviceList
-    ensures { AreDevices result }
+    ensures drive { result ≡ record { kind = 8; id = 1; dos = 68 ∷ 65 ∷ 84 ∷ 65 ∷ 0 ∷ 0 ∷ 0 ∷ 0 ∷ []; body = [] } ∷ [] }
+    ensures devices { AreDevices result }
 {
     let drive = Announce {
         kind: 8,
@@ -57,16 +60,45 @@ fn sends(rt: &impl Abort, client: &mut ClientCore, message: &[u8]) {
     assert_eq!(rt; sent.as_slice(), message);
 }
 
-/// A client that is ready, and has nothing to send.
-fn ready(rt: &(impl Abort + AllocGlobal)) -> ClientCore {
+/// A client that heard these messages, which ask nothing.
+fn heard(rt: &(impl Abort + AllocGlobal), messages: &[&[u8]]) -> ClientCore {
     let mut client = begun(rt);
-    for message in [ANNOUNCE, HOST_SETS, CONFIRM, LOGGED_ON] {
+    for message in messages {
         goes(rt, &mut client, message);
     }
+    client
+}
+
+/// A client that is ready, and has nothing to send.
+fn ready(rt: &(impl Abort + AllocGlobal)) -> ClientCore {
+    let mut client = heard(rt, &[ANNOUNCE, HOST_SETS, CONFIRM, LOGGED_ON]);
     for message in [CONFIRM, NAME, CLIENT_SETS, LIST] {
         sends(rt, &mut client, message);
     }
     client
+}
+
+/// The client hears a request, for this device.
+fn asks(rt: &impl Abort, client: &mut ClientCore, message: &[u8]) -> (u32, Job) {
+    match hear(rt, client, message).expect(rt, "a request") {
+        Heard::Ask { device, job } => (device, job),
+        _ => panic!(rt; "no request"),
+    }
+}
+
+/// The client answers a request itself, and sends this completion next.
+fn answers(
+    rt: &impl Abort,
+    client: &mut ClientCore,
+    (device, job): (u32, Job),
+    status: Status,
+    message: &[u8],
+) {
+    assert!(rt; client.may_be_asked() && status != Status::SUCCESS);
+    client
+        .direct(&job, device, status)
+        .expect(rt, "memory for a completion");
+    sends(rt, client, message);
 }
 
 #[test]
@@ -76,16 +108,19 @@ fn opens(rt: HostRuntime) {
     assert!(rt; !client.has_message());
 }
 
-/// The confirm may come first. The client waits for the log-on that the host's sets tell of.
+/// The confirm may come first or last. The client waits for the log-on that the host's sets tell of, and may be asked before.
 #[test]
 fn waits(rt: HostRuntime) {
-    let mut client = begun(&rt);
-    for message in [ANNOUNCE, CONFIRM, HOST_SETS] {
-        goes(&rt, &mut client, message);
+    for messages in [
+        [ANNOUNCE, CONFIRM, HOST_SETS],
+        [ANNOUNCE, HOST_SETS, CONFIRM],
+    ] {
+        let mut client = heard(&rt, &messages);
+        assert!(rt; client.may_be_asked() && !client.ready());
+        asks(&rt, &mut client, CREATE);
+        goes(&rt, &mut client, LOGGED_ON);
+        assert!(rt; client.ready());
     }
-    assert!(rt; !client.ready());
-    goes(&rt, &mut client, LOGGED_ON);
-    assert!(rt; client.ready());
 }
 
 /// A message that a client refuses at the start, and why. The answer stays until a channel begins.
@@ -98,7 +133,7 @@ fn refuses(rt: HostRuntime) {
         (b"rD\0\0\x01\0\x0c\0\x01\0\0\0", wrong(2, Why::Packet)),
         (b"rDnI\x02\0\x0c\0\x01\0\0\0", wrong(4, Why::Value)),
         (
-            CUT_READ,
+            CREATE,
             EndFault::Order {
                 state: 0,
                 packet: 0x4952,
@@ -114,43 +149,93 @@ fn refuses(rt: HostRuntime) {
     }
 }
 
-#[test]
-fn refuses_a_second_announce(rt: HostRuntime) {
-    let mut client = begun(&rt);
-    goes(&rt, &mut client, ANNOUNCE);
-    let order = EndFault::Order {
-        state: 1,
-        packet: 0x496e,
-    };
-    assert_eq!(rt; hear(&rt, &mut client, ANNOUNCE).err(), Some(order));
+/// A message that comes too early or too late, after these, in the state with this number.
+struct OutOfOrder {
+    before: &'static [&'static [u8]],
+    message: &'static [u8],
+    state: u8,
+    packet: u16,
 }
 
-/// A request whose head is cut short is wrong; one whose body is can be completed.
+const OUT_OF_ORDER: [OutOfOrder; 4] = [
+    OutOfOrder {
+        before: &[ANNOUNCE],
+        message: ANNOUNCE,
+        state: 1,
+        packet: 0x496e,
+    },
+    OutOfOrder {
+        before: &[ANNOUNCE],
+        message: CREATE,
+        state: 1,
+        packet: 0x4952,
+    },
+    OutOfOrder {
+        before: &[ANNOUNCE, CONFIRM],
+        message: CREATE,
+        state: 2,
+        packet: 0x4952,
+    },
+    OutOfOrder {
+        before: &[ANNOUNCE, HOST_SETS],
+        message: CREATE,
+        state: 3,
+        packet: 0x4952,
+    },
+];
+
+#[test]
+fn refuses_out_of_order(rt: HostRuntime) {
+    for row in &OUT_OF_ORDER {
+        let mut client = heard(&rt, row.before);
+        let order = EndFault::Order {
+            state: row.state,
+            packet: row.packet,
+        };
+        assert_eq!(rt; hear(&rt, &mut client, row.message).err(), Some(order));
+    }
+}
+
+/// A request whose body is cut short can be completed.
 #[test]
 fn answers_a_cut_request(rt: HostRuntime) {
     let mut client = ready(&rt);
-    let heard = hear(&rt, &mut client, CUT_READ).expect(&rt, "a request");
-    let Heard::Ask { device, job } = &heard else {
-        panic!(rt; "no request");
-    };
+    let (device, job) = asks(&rt, &mut client, CUT_READ);
     assert_eq!(rt;
-        (*device, job.key.channel, job.key.index, client.asked()),
+        (device, job.key.channel, job.key.index, client.asked()),
         (1, 1, 0, 1)
     );
     let Op::Malformed { major, bad, .. } = &job.op else {
         panic!(rt; "a whole request");
     };
     assert_eq!(rt; (*major, bad.at), (3, 36));
-    assert!(rt; client.may_be_asked());
-    client
-        .direct(job, *device, Status::INVALID_PARAMETER)
-        .expect(&rt, "memory for a completion");
-    sends(&rt, &mut client, CUT_READ_FAULT);
+    let status = Status::INVALID_PARAMETER;
+    answers(&rt, &mut client, (device, job), status, CUT_READ_FAULT);
+}
+
+/// One whose head is cut short can't.
+#[test]
+fn refuses_a_cut_head(rt: HostRuntime) {
+    let mut client = ready(&rt);
+    let head = b"rDRI\x01\0\0\0\0\0\0\0\0\0\0\0\0\0\0\0\0\0\0";
     let short = EndFault::Grammar(Bad {
         at: 20,
         why: Why::Short,
     });
-    assert_eq!(rt; hear(&rt, &mut client, &CUT_READ[..23]).err(), Some(short));
+    assert_eq!(rt; hear(&rt, &mut client, head).err(), Some(short));
+}
+
+/// A request with a function that no operation has is handed on as it came.
+#[test]
+fn hears_of_an_unknown_function(rt: HostRuntime) {
+    let mut client = ready(&rt);
+    let (device, job) = asks(&rt, &mut client, UNKNOWN);
+    let Op::Unknown { major, minor } = &job.op else {
+        panic!(rt; "a known function");
+    };
+    assert_eq!(rt; (device, *major, *minor), (1, 0x12, 9));
+    let status = Status::NOT_SUPPORTED;
+    answers(&rt, &mut client, (device, job), status, UNKNOWN_FAULT);
 }
 
 /// A reply to a device is ignored.
@@ -194,4 +279,26 @@ fn announces_what_is_there(rt: HostRuntime) {
     assert!(rt; client.ready() && client.is_gone(1));
     client.tell_added(1).expect(&rt, "memory for a list");
     sends(&rt, &mut client, LIST);
+}
+
+/// A client on channel 1 whose drive has other data now.
+fn refreshed(rt: &(impl Abort + AllocGlobal)) -> ClientCore {
+    let mut client = ClientCore::new(rt.alloc(), devices(rt));
+    let data = Vec::from_array(rt.alloc(), [1, 2]).expect(rt, "memory for data");
+    client.refresh(1, Bytes::of(data));
+    client.begin(1);
+    client
+}
+
+/// A device whose data was replaced is announced with the new data.
+#[test]
+fn announces_new_data(rt: HostRuntime) {
+    let mut client = refreshed(&rt);
+    for message in [ANNOUNCE, HOST_SETS, CONFIRM, LOGGED_ON] {
+        goes(&rt, &mut client, message);
+    }
+    let list = b"rDAD\x01\0\0\0\x08\0\0\0\x01\0\0\0DATA\0\0\0\0\x02\0\0\0\x01\x02";
+    for message in [CONFIRM, NAME, CLIENT_SETS, list] {
+        sends(&rt, &mut client, message);
+    }
 }

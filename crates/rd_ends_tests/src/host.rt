@@ -109,6 +109,20 @@ fn serves_a_device(rt: HostRuntime) {
     assert!(rt; matches!(&removed, Act::Removed(ids) if ids.as_slice() == [1].as_slice()));
 }
 
+/// A list may come again, and so may the removal of a device that isn't there: both are handed on.
+#[test]
+fn hands_on_what_comes_again(rt: HostRuntime) {
+    let mut host = ready(&rt);
+    for _ in 0..2 {
+        let listed = host.hear(LIST).expect(&rt, "a list");
+        assert!(rt; matches!(&listed, Act::Announced(devices) if devices.as_slice().len() == 1));
+    }
+    let removed = host
+        .hear(b"rDMD\x01\0\0\0\x09\0\0\0")
+        .expect(&rt, "a removal");
+    assert!(rt; matches!(&removed, Act::Removed(ids) if ids.as_slice() == [9].as_slice()));
+}
+
 #[test]
 fn lends_a_body(rt: HostRuntime) {
     let mut host = ready(&rt);

@@ -31,3 +31,12 @@ pub const CUT_READ: &[u8] =
     b"rDRI\x01\0\0\0\x01\0\0\0\0\0\0\0\x03\0\0\0\0\0\0\0\x01\0\0\0\0\0\0\0\0\0\0\0\0\0\0\0\0\0\0\0\0\0\0\0\0\0\0\0\0\0\0";
 
 pub const CUT_READ_FAULT: &[u8] = b"rDCI\x01\0\0\0\0\0\0\0\x0d\0\0\xc0\0\0\0\0";
+
+/// A Create for `\a.txt` on device 1, for reading and shared by all.
+pub const CREATE: &[u8] =
+    b"rDRI\x01\0\0\0\0\0\0\0\0\0\0\0\0\0\0\0\0\0\0\0\0\0\0\x80\0\0\0\0\0\0\0\0\0\0\0\0\x07\0\0\0\x01\0\0\0\0\0\0\0\x0e\0\0\0\\\0a\0.\0t\0x\0t\0\0\0";
+
+/// A request to device 1 with a function that no operation has, and the completion that says so.
+pub const UNKNOWN: &[u8] = b"rDRI\x01\0\0\0\x01\0\0\0\x02\0\0\0\x12\0\0\0\x09\0\0\0";
+
+pub const UNKNOWN_FAULT: &[u8] = b"rDCI\x01\0\0\0\x02\0\0\0\xbb\0\0\xc0\0\0\0\0";

@@ -35,3 +35,25 @@ pub fn speed_since(
 pub fn time_since(rt: &HostRuntime, started: Instant, count: u32) -> Result<u128, Stop> {
     Ok(time_of_one(count, started.elapsed(rt)?))
 }
+
+/// What is asked by calls that are timed.
+pub trait Timed {
+    type Call: Copy;
+
+    fn run(&mut self, call: Self::Call) -> Result<(), Stop>;
+}
+
+/// Adds how long one call of each of these takes, between two looks at the clock.
+pub fn add_time<B: Timed>(
+    rt: &HostRuntime,
+    time: &mut Duration,
+    benches: &mut [B],
+    call: B::Call,
+) -> Result<(), Stop> {
+    let started = Instant::now(rt)?;
+    for bench in benches.iter_mut() {
+        bench.run(call)?;
+    }
+    *time = time.saturating_add(started.elapsed(rt)?);
+    Ok(())
+}

@@ -3,15 +3,20 @@
 //!
 //! Without words each subject runs once, in little, and says so. `frames`, `decode` and `contents`, with a number of megabytes, `locks`,
 //! `tree`, `drive`, `station`, `table`, `script` and `turn` measure one subject each and print its figures; a number alone measures frames.
-//! With a number of requests, `table` has so many go through few slots.
+//! With a number of requests, `table` has so many go through few slots. `hear`, with a seed, measures nothing: both ends of a channel hear
+//! changed messages, and the program fails where one answers otherwise than it should.
 #![tactic(auto)]
 
+mod changes;
 mod contents;
 mod decode;
 mod drive;
+mod ends;
 mod figures;
 mod frames;
+mod hear;
 mod locks;
+mod messages;
 mod script;
 mod station;
 mod stop;
@@ -46,6 +51,7 @@ fn main(rt: HostRuntime) -> Result<(), Stop> {
 fn measure(rt: &HostRuntime, subject: &str, number: Option<u32>) -> Result<(), Stop> {
     match subject {
         "drive" => drive::measure(rt),
+        "hear" => hear::measure(rt, number),
         "locks" => locks::measure(rt),
         "script" => script::measure(rt),
         "station" => station::measure(rt),
@@ -82,5 +88,6 @@ fn try_all(rt: &HostRuntime) -> Result<(), Stop> {
     drive::try_once(rt)?;
     station::try_once(rt)?;
     table::try_once(rt)?;
+    hear::try_once(rt)?;
     script::try_once(rt)
 }

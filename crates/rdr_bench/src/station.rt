@@ -2,7 +2,7 @@
 
 ghost use Rattle.std.specs.Prelude.{◌≡◌};
 
-use crate::figures::time_of_one;
+use crate::figures::{Timed, add_time, time_of_one};
 use crate::stop::{Stop, ensure};
 use rd_base::Key;
 use rd_drive::{Job, Plan, prepare};
@@ -12,7 +12,7 @@ use rd_station::{Applied, Given, Station};
 use std::alloc::Global;
 use std::collections::VecDeque;
 use std::io;
-use std::time::{Duration, Instant};
+use std::time::Duration;
 
 /// How many stations are asked between two looks at the clock.
 const STATIONS: u32 = 16;
@@ -119,25 +119,11 @@ fn times_of(rt: &HostRuntime, others: Others, rounds: u32) -> Result<Times, Stop
 
 /// Adds what one round took.
 fn time_round(rt: &HostRuntime, benches: &mut [Bench], times: &mut Times) -> Result<(), Stop> {
-    times.put = times.put.saturating_add(time_of(rt, benches, Call::Put)?);
-    times.take = times.take.saturating_add(time_of(rt, benches, Call::Take)?);
+    add_time(rt, &mut times.put, benches, Call::Put)?;
+    add_time(rt, &mut times.take, benches, Call::Take)?;
     plan_all(benches)?;
-    times.apply = times
-        .apply
-        .saturating_add(time_of(rt, benches, Call::Apply)?);
-    times.collect = times
-        .collect
-        .saturating_add(time_of(rt, benches, Call::Collect)?);
-    Ok(())
-}
-
-/// How long one call of each station takes.
-fn time_of(rt: &HostRuntime, benches: &mut [Bench], call: Call) -> Result<Duration, Stop> {
-    let started = Instant::now(rt)?;
-    for bench in benches.iter_mut() {
-        bench.run(call)?;
-    }
-    Ok(started.elapsed(rt)?)
+    add_time(rt, &mut times.apply, benches, Call::Apply)?;
+    add_time(rt, &mut times.collect, benches, Call::Collect)
 }
 
 fn plan_all(benches: &mut [Bench]) -> Result<(), Stop> {
@@ -168,6 +154,19 @@ struct Bench {
     plan: Option<Plan>,
 }
 
+impl Timed for Bench {
+    type Call = Call;
+
+    fn run(&mut self, call: Call) -> Result<(), Stop> {
+        match call {
+            Call::Put => self.put(),
+            Call::Take => self.take(),
+            Call::Apply => self.apply(),
+            Call::Collect => self.collect(),
+        }
+    }
+}
+
 impl Bench {
     /// A station that holds others.
     fn new(alloc: Global, others: Others) -> Result<Self, Stop> {
@@ -191,15 +190,6 @@ impl Bench {
             }
         }
         Ok(())
-    }
-
-    fn run(&mut self, call: Call) -> Result<(), Stop> {
-        match call {
-            Call::Put => self.put(),
-            Call::Take => self.take(),
-            Call::Apply => self.apply(),
-            Call::Collect => self.collect(),
-        }
     }
 
     /// The next job comes.

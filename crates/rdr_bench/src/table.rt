@@ -1,7 +1,7 @@
 //! How long each of the calls of a host's table takes that a request goes through, with one slot held and with all of them; and how long
 //! many requests take that go through few slots.
 
-use crate::figures::{time_of_one, time_since};
+use crate::figures::{Timed, add_time, time_of_one, time_since};
 use crate::stop::{Stop, ensure};
 use rd_base::Status;
 use rd_irp::{Head, Op};
@@ -112,26 +112,10 @@ fn times_of(rt: &HostRuntime, slots: u32, rounds: u32) -> Result<Times, Stop> {
 
 /// Adds what one round took.
 fn time_round(rt: &HostRuntime, benches: &mut [Bench], times: &mut Times) -> Result<(), Stop> {
-    times.submit = times
-        .submit
-        .saturating_add(time_of(rt, benches, Call::Submit)?);
-    times.outbox = times
-        .outbox
-        .saturating_add(time_of(rt, benches, Call::Outbox)?);
-    times.complete = times
-        .complete
-        .saturating_add(time_of(rt, benches, Call::Complete)?);
-    times.take = times.take.saturating_add(time_of(rt, benches, Call::Take)?);
-    Ok(())
-}
-
-/// How long one call of each table takes.
-fn time_of(rt: &HostRuntime, benches: &mut [Bench], call: Call) -> Result<Duration, Stop> {
-    let started = Instant::now(rt)?;
-    for bench in benches.iter_mut() {
-        bench.run(call)?;
-    }
-    Ok(started.elapsed(rt)?)
+    add_time(rt, &mut times.submit, benches, Call::Submit)?;
+    add_time(rt, &mut times.outbox, benches, Call::Outbox)?;
+    add_time(rt, &mut times.complete, benches, Call::Complete)?;
+    add_time(rt, &mut times.take, benches, Call::Take)
 }
 
 fn benches(alloc: Global, slots: u32) -> Result<Vec<Bench>, Stop> {
@@ -162,6 +146,19 @@ struct Bench {
     /// How many requests were completed, and how many outcomes were handed out.
     completed: u64,
     taken: u64,
+}
+
+impl Timed for Bench {
+    type Call = Call;
+
+    fn run(&mut self, call: Call) -> Result<(), Stop> {
+        match call {
+            Call::Submit => self.submit(),
+            Call::Outbox => self.send(),
+            Call::Complete => self.complete(),
+            Call::Take => self.take(),
+        }
+    }
 }
 
 impl Bench {
@@ -195,15 +192,6 @@ impl Bench {
         self.send()?;
         self.complete()?;
         self.take()
-    }
-
-    fn run(&mut self, call: Call) -> Result<(), Stop> {
-        match call {
-            Call::Submit => self.submit(),
-            Call::Outbox => self.send(),
-            Call::Complete => self.complete(),
-            Call::Take => self.take(),
-        }
     }
 
     /// Submits a read.
