@@ -7,7 +7,8 @@ use Rattle.rd_base.specs.declared.journal.Item.TheVariants.{Came, Cancelled, Cut
 use Rattle.rd_base.specs.declared.journal.Key.{Key}
 use Rattle.rd_drive.specs.Replies.{KeyedReply, replies_at, replies_by, state_after}
 use Rattle.rd_irp.specs.declared.request.Request.{Request}
-use Rattle.rd_world.specs.Devices.{DeviceState, device_cut, device_step}
+use Rattle.rd_world.specs.Devices.{device_cut, device_step}
+use Rattle.rd_world.specs.declared.device.SessionDevice.{SessionDevice}
 use Rattle.rd_world.specs.Joining.{IsCarried}
 use Rattle.rd_world.specs.Recording.{no_request, request_of}
 use Rattle.rd_world.specs.Session.{RanRead, request_read}
@@ -23,23 +24,23 @@ agree deeds carried key r found =
 read_one : (deeds : List Deed) → IsCarried deeds → (key : Key) (r : Request) → request_at (client_read key.channel deeds) key.index ≡ Some r → request_of deeds key ≡ request_read deeds key
 read_one deeds carried key r found = agree deeds carried key r found ∙ sym (ap (λ o. unwrap_or o no_request) found)
 
-pub same_replies : (deeds : List Deed) → IsCarried deeds → (s : DeviceState) (items : List Item) → AllByRecursion (RanRead deeds) items
+pub same_replies : (deeds : List Deed) → IsCarried deeds → (s : SessionDevice) (items : List Item) → AllByRecursion (RanRead deeds) items
     → replies_by device_step device_cut (request_of deeds) s items ≡ replies_by device_step device_cut (request_read deeds) s items
 same_replies deeds carried s [] all = refl
 same_replies deeds carried s (Ran key moment starved parked ∷ items) all =
-    same_run (read_one deeds carried key all.0.0 all.0.1) (λ (next : DeviceState). same_replies deeds carried next items all.1)
+    same_run (read_one deeds carried key all.0.0 all.0.1) (λ (next : SessionDevice). same_replies deeds carried next items all.1)
   where
     -- what a run gives and what is left of it go by the request alone
     given : Request → List KeyedReply
     given r = replies_at device_step device_cut (λ k. r) s (Ran key moment starved parked)
 
-    left : Request → DeviceState
+    left : Request → SessionDevice
     left r = state_after device_step device_cut (λ k. r) s (Ran key moment starved parked)
 
     gives : Request → List KeyedReply
     gives r = given r ++ replies_by device_step device_cut (request_of deeds) (left r) items
 
-    same_run : {r q : Request} → r ≡ q → ((next : DeviceState) → replies_by device_step device_cut (request_of deeds) next items ≡ replies_by device_step device_cut (request_read deeds) next items)
+    same_run : {r q : Request} → r ≡ q → ((next : SessionDevice) → replies_by device_step device_cut (request_of deeds) next items ≡ replies_by device_step device_cut (request_read deeds) next items)
         → gives r ≡ given q ++ replies_by device_step device_cut (request_read deeds) (left q) items
     same_run {q = q} e later = ap gives e ∙ ap (λ (xs : List KeyedReply). given q ++ xs) (later (left q))
 same_replies deeds carried s (Cut cause ∷ items) all =

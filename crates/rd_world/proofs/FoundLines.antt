@@ -42,12 +42,12 @@ use Rattle.rd_world.specs.Found.{AreFound, handle_target, found_deeds, found_dev
 use Rattle.rd_world.specs.Hearing.{holding_after}
 use Rattle.rd_world.specs.Lines.{HaveOutcomes, LinesEnd, Waits, outcome_at, submitted, waits_of}
 use Rattle.rd_world.specs.Recording.{host_stand}
-use Rattle.rd_world.specs.Report.{ordered}
+use Rattle.rd_world.specs.Report.{outcomes_of}
 use Rattle.rd_world.specs.Run.{asked_by, controls, notice_of, on_device, asked_on_handle, open_op, setting, WorldRun, run_of}
 use Rattle.rd_world.specs.Session.{IsReported, IsRun, IsStill, WasStill, at_settles, printed_in}
 use Rattle.rd_world.specs.Talk.{Deed, EndsWith, Has, answered, asked, open_channel, client_wrote, has_ended, host_read, host_wrote, is_request, on, AtEachPoint, EachAfter, journal, notice_in}
 use Rattle.rd_world.specs.Worked.{ran}
-use Rattle.rd_world.specs.World.{Application, new_application, WorldState, journals_in, starved_in}
+use Rattle.rd_world.specs.World.{ApplicationState, new_application, WorldState, journals_in, starved_in}
 use Rattle.rd_world.proofs.TestedActs.{cut_by_test, none_said, none_told_on, told_in_time_by_test}
 use Rattle.rd_world.proofs.TestedLines.{are_within, is_line_within, none_client_wrote, none_host_read, none_host_wrote, none_submitted, given_along, line_accepted, none_by, none_under, none_waits, of_each, opens_by, outcome_along, quiet_by, none_stored}
 use Rattle.rd_world.proofs.TestedTelling.{among}
@@ -97,10 +97,10 @@ unfolding asked_by notice_of controlled
 waits = refl
 
 -- what the application's handles hold after its first line, and after its third
-abbrev with_h : Application
+abbrev with_h : ApplicationState
 with_h = record new_application { handles = (codes "h", record { device = 1; life = 1; file = 1 }) ∷ [] }
 
-abbrev with_k : Application
+abbrev with_k : ApplicationState
 with_k = record new_application { handles = (codes "h", record { device = 1; life = 1; file = 1 }) ∷ (codes "k", record { device = 1; life = 2; file = 2 }) ∷ [] }
 
 -- the outcome of a request is known at a point
@@ -150,14 +150,14 @@ line_1 = line_accepted found_devices found_deeds 1 new_application with_h open_h
 abbrev under : List (ℕ × Outcome)
 under = map (λ (e : (ℕ × ℕ) × Outcome). (e.0.0, e.1)) found_outcomes
 
-abbrev outcomes_of : ℕ → List Outcome
-outcomes_of a = filter_map (λ t. on a t.0 t.1) under
+abbrev came_to : ℕ → List Outcome
+came_to a = filter_map (λ t. on a t.0 t.1) under
 
 abbrev HasEnded : ℕ → Type 0
-HasEnded a = LinesEnd found_devices found_deeds a new_application (waits_of found_devices a found_lines) (outcomes_of a) (λ later. Unit {0}) []
+HasEnded a = LinesEnd found_devices found_deeds a new_application (waits_of found_devices a found_lines) (came_to a) (λ later. Unit {0}) []
 
 of_the_application : HasEnded 1
-of_the_application = subst (λ (xs : List Waits). LinesEnd found_devices found_deeds 1 new_application xs (outcomes_of 1) (λ later. Unit {0}) []) (sym waits) line_1
+of_the_application = subst (λ (xs : List Waits). LinesEnd found_devices found_deeds 1 new_application xs (came_to 1) (λ later. Unit {0}) []) (sym waits) line_1
 
 lines_within : list_all (is_line_within applications) found_lines ≡ true
 unfolding asked_by
@@ -167,7 +167,7 @@ of_no_other : (a : ℕ) → among a applications ≡ false → HasEnded a
 of_no_other a isnt =
     let no_waits = none_waits applications found_lines lines_within a isnt (first_control_of found_devices) in
     let no_outcomes = none_under applications under refl a isnt in
-    subst (λ (xs : List Waits). LinesEnd found_devices found_deeds a new_application xs (outcomes_of a) (λ later. Unit {0}) []) (sym no_waits)
+    subst (λ (xs : List Waits). LinesEnd found_devices found_deeds a new_application xs (came_to a) (λ later. Unit {0}) []) (sym no_waits)
     (subst (λ (os : List Outcome). LinesEnd found_devices found_deeds a new_application [] os (λ later. Unit {0}) []) (sym no_outcomes)
     (found_deeds, sym (append-nil found_deeds), none_by channels devices applications found_deeds within a isnt))
 
@@ -353,7 +353,7 @@ abbrev Summary : Type 0
 Summary = List Deed × List (ℕ × List Item) × List ((ℕ × ℕ) × Outcome) × List ℕ × List (ℕ × List (List ℕ)) × CacheState
 
 abbrev told_by : WorldState → Summary
-told_by w = (w.deeds, journals_in w, ordered w.outcomes, w.idle, flat_map printed_in w.stations, w.cache)
+told_by w = (w.deeds, journals_in w, outcomes_of w, w.idle, flat_map printed_in w.stations, w.cache)
 
 abbrev found_told : Summary
 found_told = (found_deeds, (1, found_journal) ∷ [], found_outcomes, [], [], [])
@@ -380,7 +380,7 @@ ran_so w is stored = (
 module _ (told : Outcomes) (found : AreFound told) where
   pub outcomes : HaveOutcomes found_devices found_lines told.lines.entries found_deeds
   outcomes = record {
-    outcomes = outcomes_of;
+    outcomes = came_to;
     each = found.lines ∙ refl;
     lines_end = of_each HasEnded applications (of_the_application, tt) of_no_other;
     requests = requests;

@@ -1,3 +1,5 @@
+pub mod ApplicationLemmas
+pub mod NamesLemmas
 pub mod Lists
 pub mod Calls
 pub mod Messages
@@ -31,3 +33,5 @@ pub mod OwnAnswers
 pub mod Unheard
 pub mod Agreeing
 pub mod Refused
+pub mod WayStreamLemmas
+pub mod WayLemmas

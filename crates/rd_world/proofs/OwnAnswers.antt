@@ -37,7 +37,9 @@ use Rattle.rd_irp.specs.declared.op.Op.{Op}
 use Rattle.rd_irp.specs.declared.op.Op.TheVariants as op
 use Rattle.rd_irp.specs.declared.op.Range.{Range}
 use Rattle.rd_printer.specs.Printer.{PrinterState, finish, on_document, open_document, print, printer_step}
-use Rattle.rd_world.specs.Devices.{DeviceState, as_drive, as_printer, device_step}
+use Rattle.rd_world.specs.Devices.{device_step}
+use Rattle.rd_world.specs.declared.device.SessionDevice.{SessionDevice}
+use Rattle.rd_world.specs.declared.device.SessionDevice.TheVariants as session
 
 -- whether a status is neither of these two
 abbrev pub is_own : Status → Bool
@@ -244,7 +246,7 @@ printer_own s key file o moment = by o
     by (op.Control output code bytes) = (refl, tt)
     by (op.Lock operation wait ranges) = (refl, tt)
 
-pub run_own : (s : DeviceState) (key : Key) (file : ℕ) (o : Op) (moment : ℕ) (starved : Bool) → let x = ran_step device_step s key file o moment starved in IsOwnAnswer x.answer × AreOwnEnds x.ends
+pub run_own : (s : SessionDevice) (key : Key) (file : ℕ) (o : Op) (moment : ℕ) (starved : Bool) → let x = ran_step device_step s key file o moment starved in IsOwnAnswer x.answer × AreOwnEnds x.ends
 run_own s key file o moment true = (refl, tt)
-run_own (as_drive s) key file o moment false = drive_own s key file o moment
-run_own (as_printer s) key file o moment false = printer_own s key file o moment
+run_own (session.Drive s) key file o moment false = drive_own s key file o moment
+run_own (session.Printer s) key file o moment false = printer_own s key file o moment

@@ -23,7 +23,7 @@ use Rattle.rd_world.specs.Lines.{AskedEnds, IsAccepted, IsDue, LineEnds, LinesEn
 use Rattle.rd_world.specs.Recording.{client_id}
 use Rattle.rd_world.specs.Run.{asked_by}
 use Rattle.rd_world.specs.Talk.{Deed, client_wrote, completes, client_writes, host_begins, host_ends, host_read, host_reads, host_writes, host_wrote, is_open_at, journal, on, read_by_host, stored_by, stores, submits, written_by_client, written_by_host}
-use Rattle.rd_world.specs.World.{Application, Asked}
+use Rattle.rd_world.specs.World.{ApplicationState, Asked}
 use Rattle.rd_world.proofs.TestedDeeds.{along, along_is}
 use Rattle.rd_world.proofs.TestedTelling.{among, strange}
 
@@ -175,16 +175,16 @@ given_along deeds count o = ap (λ (made : HostSide × List Call). given_of_call
 -- ---- a line whose request is accepted
 
 module _ (devices : List (ℕ × Declared)) (deeds : List Deed) (a : ℕ) where
-  pub line_accepted : (holds next : Application) (x : Waits) (xs : List Waits) (o : Outcome) (os : List Outcome) (known : List Deed → Type 0) (from before after : List Deed) (named : Target) (count : ℕ) (came : table_outcome.Outcome)
+  pub line_accepted : (holds next : ApplicationState) (x : Waits) (xs : List Waits) (o : Outcome) (os : List Outcome) (known : List Deed → Type 0) (from before after : List Deed) (named : Target) (count : ℕ) (came : table_outcome.Outcome)
       → SubmitsNothing a before from → known before → IsDue devices x.acts before → target_of holds x.asked ≡ Some named → submit_refusal (side_of client_id before).table named ≡ None
       → ((side_of client_id before).table).count ≡ count → deeds ≡ after ++ submits a named (x.asked).op ∷ before → outcome_at deeds count ≡ Some came → o ≡ reported_outcome came
       → holding_after holds x.asked (given_at deeds count came) ≡ next
       → LinesEnd devices deeds a next xs os (λ later. outcome_at later count ≡ Some came) (submits a named (x.asked).op ∷ before)
       → LinesEnd devices deeds a holds (x ∷ xs) (o ∷ os) known from
   line_accepted holds next x xs o os known from before after named count came quiet is_known due targets unrefused counts parts comes is holds_next on =
-      let goes : Application → (List Deed → Type 0) → List Deed → Type 0 = λ holding known after. LinesEnd devices deeds a holding xs os known after in
+      let goes : ApplicationState → (List Deed → Type 0) → List Deed → Type 0 = λ holding known after. LinesEnd devices deeds a holding xs os known after in
       let accepted : IsAccepted devices deeds a holds x.asked o goes before named count =
-      (after, parts, came, comes, is, subst (λ (h : Application). LinesEnd devices deeds a h xs os (λ later. outcome_at later count ≡ Some came) (submits a named (x.asked).op ∷ before)) (sym holds_next) on) in
+      (after, parts, came, comes, is, subst (λ (h : ApplicationState). LinesEnd devices deeds a h xs os (λ later. outcome_at later count ≡ Some came) (submits a named (x.asked).op ∷ before)) (sym holds_next) on) in
       let counted = subst (IsAccepted devices deeds a holds x.asked o goes before named) (sym counts) accepted in
       let asked = subst (AskedEnds devices deeds a holds x.asked o goes before named) (sym unrefused) counted in
       (before, quiet, is_known, due, subst (LineEnds devices deeds a holds x.asked o goes before) (sym targets) asked)

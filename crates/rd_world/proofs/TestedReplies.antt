@@ -16,7 +16,8 @@ use Rattle.rd_drive.specs.declared.step.End.{End}
 use Rattle.rd_drive.specs.Replies.{KeyedReply, end_reply, last_state_by, replies_at, replies_by, state_after}
 use Rattle.rd_irp.specs.declared.completion.Reply.{Reply}
 use Rattle.rd_irp.specs.declared.request.Request.{Request}
-use Rattle.rd_world.specs.Devices.{Declared, DeviceState, device_cut, device_step}
+use Rattle.rd_world.specs.Devices.{Declared, device_cut, device_step}
+use Rattle.rd_world.specs.declared.device.SessionDevice.{SessionDevice}
 use Rattle.rd_world.specs.Recording.{request_of}
 use Rattle.rd_world.specs.Session.{replies_in}
 use Rattle.rd_world.specs.Talk.{Deed, journal}
@@ -26,7 +27,7 @@ use Rattle.rd_world.proofs.TestedJournals.{is_sent}
 
 -- ---- what stands before
 
-replies_grow : (requests : Key → Request) (s : DeviceState) (xs ys : List Item)
+replies_grow : (requests : Key → Request) (s : SessionDevice) (xs ys : List Item)
     → replies_by device_step device_cut requests s (xs ++ ys) ≡ replies_by device_step device_cut requests s xs ++ replies_by device_step device_cut requests (last_state_by device_step device_cut requests s xs) ys
 replies_grow requests s [] ys = refl
 replies_grow requests s (x ∷ xs) ys =
@@ -63,12 +64,12 @@ abbrev ends_none : List End → Bool
 ends_none [] = true
 ends_none (e ∷ es) = false
 
-abbrev is_quiet : DeviceState → Item → Bool
+abbrev is_quiet : SessionDevice → Item → Bool
 is_quiet s (Cut cause) = ends_none (device_cut s).ends
 is_quiet s _ = true
 
 -- no cut of a journal that begins in a state gives a reply
-abbrev pub quiet_cuts : (Key → Request) → DeviceState → List Item → Bool
+abbrev pub quiet_cuts : (Key → Request) → SessionDevice → List Item → Bool
 quiet_cuts requests s [] = true
 quiet_cuts requests s (x ∷ items) = is_quiet s x && quiet_cuts requests (state_after device_step device_cut requests s x) items
 
@@ -76,7 +77,7 @@ no_ends : (es : List End) → ends_none es ≡ true → map end_reply es ≡ []
 no_ends [] e = refl
 no_ends (x ∷ xs) e = absurd (cc)
 
-cut_gives_none : (requests : Key → Request) (s : DeviceState) (first last : List Item) (cause : Cause) → quiet_cuts requests s (first ++ Cut cause ∷ last) ≡ true
+cut_gives_none : (requests : Key → Request) (s : SessionDevice) (first last : List Item) (cause : Cause) → quiet_cuts requests s (first ++ Cut cause ∷ last) ≡ true
     → replies_by device_step device_cut requests s (first ++ Cut cause ∷ []) ≡ replies_by device_step device_cut requests s first
 cut_gives_none requests s [] last cause e = append-nil (map end_reply (device_cut s).ends) ∙ no_ends (device_cut s).ends (and_parts _ _ e).0
 cut_gives_none requests s (x ∷ first) last cause e =

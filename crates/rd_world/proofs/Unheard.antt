@@ -18,7 +18,8 @@ use Rattle.rd_irp.specs.declared.completion.Reply.{Reply}
 use Rattle.rd_irp.specs.declared.request.Request.{Request}
 use Rattle.rd_pending.specs.declared.calls.Outcome.TheVariants.{Done}
 use Rattle.rd_pending.specs.Outcomes.{Accepted}
-use Rattle.rd_world.specs.Devices.{Declared, DeviceState, device_cut, device_step}
+use Rattle.rd_world.specs.Devices.{Declared, device_cut, device_step}
+use Rattle.rd_world.specs.declared.device.SessionDevice.{SessionDevice}
 use Rattle.rd_world.specs.Joining.{AreJoined, ClientCameTo, key_of}
 use Rattle.rd_world.specs.Recording.{request_of}
 use Rattle.rd_world.specs.Session.{replies_in}
@@ -40,18 +41,18 @@ ends_own : (ends : List End) → AreOwnEnds ends → AllByRecursion IsOwnPair (m
 ends_own [] all = tt
 ends_own (e ∷ ends) all = (all.0, ends_own ends all.1)
 
-module _ (requests : Key → Request) (opening : DeviceState) where
+module _ (requests : Key → Request) (opening : SessionDevice) where
   abbrev Gives : List Item → List KeyedReply
   Gives items = replies_by device_step device_cut requests opening items
 
-  one_more : (s : DeviceState) (before : List Item) (entry : Item)
+  one_more : (s : SessionDevice) (before : List Item) (entry : Item)
       → replies_by device_step device_cut requests s (before ++ entry ∷ []) ≡ replies_by device_step device_cut requests s before ++ replies_at device_step device_cut requests (last_state_by device_step device_cut requests s before) entry
   one_more s [] entry = append-nil (replies_at device_step device_cut requests s entry)
   one_more s (x ∷ before) entry =
       ap (λ (xs : List KeyedReply). replies_at device_step device_cut requests s x ++ xs) (one_more (state_after device_step device_cut requests s x) before entry)
       ∙ sym (append_assoc (replies_at device_step device_cut requests s x) _ _)
 
-  run_owns : (s : DeviceState) (key : Key) (moment : ℕ) (starved parked : Bool) → AllByRecursion IsOwnPair (replies_at device_step device_cut requests s (Ran key moment starved parked))
+  run_owns : (s : SessionDevice) (key : Key) (moment : ℕ) (starved parked : Bool) → AllByRecursion IsOwnPair (replies_at device_step device_cut requests s (Ran key moment starved parked))
   run_owns s key moment starved parked =
       let own = run_own s key (requests key).file (requests key).op moment starved in
       all_more IsOwnPair _ _ (answer_owns key _ own.0) (ends_own _ own.1)

@@ -27,7 +27,8 @@ use Rattle.rd_script.specs.declared.outcome.Outcome.{Outcome}
 use Rattle.rd_script.specs.declared.outcome.Outcome.TheVariants as outcome
 use Rattle.rd_script.specs.declared.outcome.Outcomes.{Outcomes}
 use Rattle.rd_script.specs.declared.script.Script.{Script}
-use Rattle.rd_world.specs.Devices.{Declared, announce_of, as_drive}
+use Rattle.rd_world.specs.Devices.{Declared, announce_of}
+use Rattle.rd_world.specs.declared.device.SessionDevice.TheVariants as session
 use Rattle.rd_world.specs.Example.{Submission, arrives, comes, from_client, from_host, is_completed, is_handed_out, runs, submission, welcome}
 use Rattle.rd_world.specs.Recording.{recording_of_deeds}
 use Rattle.rd_world.specs.Run.{open_op}
@@ -62,7 +63,7 @@ found_script = record { mode = Both; lines = found_lines }
 abbrev pub found_drive : Declared
 found_drive = record {
   id = 1;
-  state = as_drive (holding (empty_drive naming.Exact (codes "ONE")) ((codes "a") ∷ [], Some (97 ∷ [])));
+  state = session.Drive (holding (empty_drive naming.Exact (codes "ONE")) ((codes "a") ∷ [], Some (97 ∷ [])));
   kind = file_system;
   name = codes "ONE";
   printer = None;

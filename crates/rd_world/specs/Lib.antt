@@ -1,10 +1,13 @@
 pub mod Devices
 pub mod Host
 pub mod Talk
+pub mod Names
 pub mod World
+pub mod Ways
 pub mod Hearing
 pub mod Events
 pub mod Run
+pub mod Applications
 pub mod Report
 pub mod Told
 pub mod HostDeeds

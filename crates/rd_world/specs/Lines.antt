@@ -27,7 +27,7 @@ use Rattle.rd_world.specs.Joining.{accepted}
 use Rattle.rd_world.specs.Recording.{client_id}
 use Rattle.rd_world.specs.Run.{asked_by}
 use Rattle.rd_world.specs.Talk.{Deed, EndsWith, client_wrote, has_ended, host_begins, host_read, host_wrote, is_open_at, is_request, on, submits}
-use Rattle.rd_world.specs.World.{Application, Asked, new_application}
+use Rattle.rd_world.specs.World.{ApplicationState, Asked, new_application}
 
 -- ---- requests
 
@@ -71,32 +71,32 @@ pub record IsDue (devices : List (ℕ × Declared)) (acts : ℕ) (before : List 
 
 -- how what comes after goes on: with what the application's handles hold, and from which points on its next line may be issued
 abbrev GoesOn : Type 1
-GoesOn = Application → (List Deed → Type 0) → List Deed → Type 0
+GoesOn = ApplicationState → (List Deed → Type 0) → List Deed → Type 0
 
 module _ (devices : List (ℕ × Declared)) (deeds : List Deed) (a : ℕ) where
   -- A line is refused.
-  abbrev pub IsRefused : Application → Asked → Outcome → GoesOn → List Deed → Outcome → Type 0
+  abbrev pub IsRefused : ApplicationState → Asked → Outcome → GoesOn → List Deed → Outcome → Type 0
   IsRefused holds x o goes_on before why = (o ≡ why) × goes_on (holding_after holds x None) (λ later. Unit {0}) before
 
   -- A line's request is accepted next, before which so many were accepted, and its outcome is what came of that.
-  abbrev pub IsAccepted : Application → Asked → Outcome → GoesOn → List Deed → Target → ℕ → Type 0
+  abbrev pub IsAccepted : ApplicationState → Asked → Outcome → GoesOn → List Deed → Target → ℕ → Type 0
   IsAccepted holds x o goes_on before named count =
       (after : List Deed) × (deeds ≡ after ++ submits a named x.op ∷ before) × (came : table_outcome.Outcome) × (outcome_at deeds count ≡ Some came)
       × (o ≡ reported_outcome came) × goes_on (holding_after holds x (given_at deeds count came)) (λ later. outcome_at later count ≡ Some came) (submits a named x.op ∷ before)
 
   -- what a line asks for of what it names, which the host's table refuses or not
-  abbrev pub AskedEnds : Application → Asked → Outcome → GoesOn → List Deed → Target → Option SubmitNo → Type 0
+  abbrev pub AskedEnds : ApplicationState → Asked → Outcome → GoesOn → List Deed → Target → Option SubmitNo → Type 0
   AskedEnds holds x o goes_on before named (Some cause) = IsRefused holds x o goes_on before (outcome.Refused (refusal_of cause))
   AskedEnds holds x o goes_on before named None = IsAccepted holds x o goes_on before named ((side_of client_id before).table).count
 
   -- A line that is issued at a point ends so: it is refused where its handle's name holds no handle, or where the host's table refuses it then.
-  abbrev pub LineEnds : Application → Asked → Outcome → GoesOn → List Deed → Option Target → Type 0
+  abbrev pub LineEnds : ApplicationState → Asked → Outcome → GoesOn → List Deed → Option Target → Type 0
   LineEnds holds x o goes_on before None = IsRefused holds x o goes_on before (outcome.Refused refusal.NoHandle)
   LineEnds holds x o goes_on before (Some named) = AskedEnds holds x o goes_on before named (submit_refusal (side_of client_id before).table named)
 
   -- The lines of an application end so, one after the other, from a point on. A line is issued where it is due, and the outcome of the one before is
   -- known.
-  abbrev pub LinesEnd : Application → List Waits → List Outcome → (List Deed → Type 0) → List Deed → Type 0
+  abbrev pub LinesEnd : ApplicationState → List Waits → List Outcome → (List Deed → Type 0) → List Deed → Type 0
   LinesEnd holds [] [] IsKnown from = SubmitsNothing a deeds from
   LinesEnd holds [] (o ∷ os) IsKnown from = ⊥
   LinesEnd holds (x ∷ xs) [] IsKnown from = ⊥

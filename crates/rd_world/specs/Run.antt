@@ -1,7 +1,10 @@
 -- The session of a script: its lines one after the other, and draws among what can happen.
-use Rattle.std.specs.Prelude.{◌≡◌, ℕ, zero, suc, ◌+◌, ◌*◌, ◌^◌, ◌/◌, ◌%◌, ◌==◌, ◌&&◌, Bool, false, not, max, if◌then◌else◌, List, [], ◌∷◌, ◌++◌, length, map, fold, replicate, Option, Some, None, slice_get, min}
+use Rattle.std.specs.Prelude.{◌≡◌, ℕ, zero, suc, ◌+◌, ◌*◌, ◌^◌, ◌/◌, ◌%◌, ◌==◌, ◌&&◌, Bool, false, not, max, if◌then◌else◌, List, [], ◌∷◌, ◌++◌, length, map, filter_map, fold, replicate, Option, Some, None, slice_get, min}
 use Rattle.std.specs.List.{flat_map, list_any, range_with_len}
-use Rattle.std.specs.Option.{option_and_then, option_map_or, unwrap_or}
+use Rattle.std.specs.Option.{option_and_then, option_map, option_map_or, unwrap_or}
+use Rattle.std.specs.Map.{lookup}
+use Rattle.std.specs.Ordering.{nat_cmp}
+use Rattle.std.specs.BTreeMap.{insert_entry, is_at}
 use Rattle.rd_base.specs.declared.journal.Key.{Key}
 use Rattle.rd_base.specs.declared.journal.Item.{Item}
 use Rattle.rd_base.specs.declared.journal.Item.TheVariants.{Ran}
@@ -17,9 +20,10 @@ use Rattle.rd_script.specs.declared.line.Line.{Line}
 use Rattle.rd_script.specs.declared.line.Line.TheVariants as line
 use Rattle.rd_script.specs.declared.line.NumberedLine.{NumberedLine}
 use Rattle.rd_station.specs.Station.{StationState, new_station}
-use Rattle.rd_world.specs.Devices.{Declared, DeviceState, announce_of, declaring, dos_name, furnishing, zero_text}
+use Rattle.rd_world.specs.Devices.{Declared, PrinterNames, announce_of, declaring, dos_name, furnishing, zero_text}
+use Rattle.rd_world.specs.declared.device.SessionDevice.{SessionDevice}
 use Rattle.rd_world.specs.Host.{new_side}
-use Rattle.rd_world.specs.World.{Application, Asked, WorldState, application_at, marks_of, new_joined, with_application}
+use Rattle.rd_world.specs.World.{ApplicationState, Asked, WorldState, application_at, marks_of, ending, new_application, new_way, with_application}
 use Rattle.rd_world.specs.Events.{Event, act, add, apply_job, client_has_message, client_read, client_send, collect, connect, drop_channel, host_has_message, host_read, host_send, is_channel_open, is_empty, is_enabled, issue, remove, take_job, tell}
 
 -- ---- the draws
@@ -41,10 +45,10 @@ where_true b c = if b then c ∷ [] else []
 
 -- the applications, the devices and the hands by their numbers
 abbrev pub application_ids : WorldState → List ℕ
-application_ids w = map (λ (e : ℕ × Application). e.0) w.applications
+application_ids w = map (λ (e : ℕ × ApplicationState). e.0) w.applications
 
 abbrev pub device_ids : WorldState → List ℕ
-device_ids w = map (λ (e : ℕ × StationState DeviceState). e.0) w.stations
+device_ids w = map (λ (e : ℕ × StationState SessionDevice). e.0) w.stations
 
 abbrev pub hand_numbers : WorldState → List ℕ
 hand_numbers w = map suc (range_with_len 0 (length w.hands))
@@ -57,10 +61,10 @@ abbrev pub choices : WorldState → List NextStep
 choices w =
     flat_map (λ a. where_true (is_enabled w (issue a)) (event (issue a))) (application_ids w)
     ++ where_true (host_has_message w) (event host_send)
-    ++ where_true (is_enabled w (client_read (length w.to_client))) reads_client
+    ++ where_true (is_enabled w (client_read (length (w.to_client).pipe))) reads_client
     ++ where_true (client_has_message w) (event client_send)
     ++ flat_map (λ device. where_true (is_enabled w (collect device)) (event (collect device))) (device_ids w)
-    ++ where_true (is_enabled w (host_read (length w.to_host))) reads_host
+    ++ where_true (is_enabled w (host_read (length (w.to_host).pipe))) reads_host
     ++ flat_map (takes_of w) (device_ids w)
     ++ flat_map (λ hand. where_true (is_enabled w (apply_job hand)) (event (apply_job hand))) (hand_numbers w)
 
@@ -71,20 +75,20 @@ drawn_count w pipe = 1 + picked w.draws (min (max 1 w.piece) (length pipe))
 abbrev pub drawing : WorldState → WorldState
 drawing w = record w { draws = next_draw w.draws }
 
--- how many messages each end has to send
+-- how many messages the host has to send
 abbrev pub host_count : WorldState → ℕ
 host_count w = length (((w.side).core).core).outbox + length ((w.side).table).outbox
 
 abbrev pub is_quiet : WorldState → Bool
-is_quiet w = not (host_has_message w) && not (client_has_message w) && is_empty w.to_client && is_empty w.to_host
+is_quiet w = not (host_has_message w) && not (client_has_message w) && is_empty (w.to_client).pipe && is_empty (w.to_host).pipe
 
 -- the runs that find no memory
 module _ (starves : Key → Bool) where
   -- what comes of a choice
   abbrev pub chosen : WorldState → NextStep → WorldState
   chosen w (event e) = act starves w e
-  chosen w reads_client = let x = drawing w in act starves x (client_read (drawn_count x x.to_client))
-  chosen w reads_host = let x = drawing w in act starves x (host_read (drawn_count x x.to_host))
+  chosen w reads_client = let x = drawing w in act starves x (client_read (drawn_count x (x.to_client).pipe))
+  chosen w reads_host = let x = drawing w in act starves x (host_read (drawn_count x (x.to_host).pipe))
 
   -- a draw among choices, and on; where there is none the world is settled
   abbrev pub settles_by : WorldState → List NextStep → (WorldState → Option WorldState) → Option WorldState
@@ -111,15 +115,15 @@ module _ (starves : Key → Bool) where
   abbrev pub all_client_sends : WorldState → WorldState
   all_client_sends w = while_enabled (length ((w.client).core).outbox) client_send w
 
-  -- all bytes that a pipe holds are read at once, where there are some
+  -- an event, where it can happen
   abbrev pub when_enabled : Event → WorldState → WorldState
   when_enabled e w = if is_enabled w e then act starves w e else w
 
   abbrev pub client_reads_all : WorldState → WorldState
-  client_reads_all w = when_enabled (client_read (length w.to_client)) w
+  client_reads_all w = when_enabled (client_read (length (w.to_client).pipe)) w
 
   abbrev pub host_reads_all : WorldState → WorldState
-  host_reads_all w = when_enabled (host_read (length w.to_host)) w
+  host_reads_all w = when_enabled (host_read (length (w.to_host).pipe)) w
 
   -- rounds of both ends, until nothing is to be sent or read; at most so many
   abbrev pub rounds : ℕ → WorldState → Option WorldState
@@ -156,11 +160,21 @@ asked_by (line.Control a handle code output bytes) = Some (a, asked_on_handle ha
 asked_by (line.Notify a handle tree filters) = Some (a, asked_on_handle handle (op.Notify tree filters))
 asked_by _ = None
 
--- a line of an application waits after the others of that one
-abbrev pub queueing : WorldState → ℕ × Asked → WorldState
-queueing w asked =
-    let application = application_at w asked.0 in
-    with_application w asked.0 (record application { queue = application.queue ++ asked.1 ∷ [] })
+-- one line more of an application, by its number
+abbrev pub asking : List (ℕ × ApplicationState) → ℕ × Asked → List (ℕ × ApplicationState)
+asking applications asked =
+    let application = unwrap_or (lookup (is_at (nat_cmp asked.0)) applications) new_application in
+    insert_entry nat_cmp applications asked.0 (record application { asks = application.asks ++ asked.1 ∷ [] })
+
+-- what the lines of each application ask for
+abbrev pub applications_of : List Line → List (ℕ × ApplicationState)
+applications_of lines = fold asking [] (filter_map asked_by lines)
+
+-- a line of an application may be issued after the others of that one
+abbrev pub queueing : WorldState → ℕ → WorldState
+queueing w a =
+    let application = application_at w a in
+    with_application w a (record application { queued = application.queued + 1 })
 
 -- the notice of a `cache` line: names with a zero unit, no PnP name
 unfoldable pub notice_of : Line → Option Notice
@@ -174,12 +188,12 @@ notice_of _ = None
 abbrev pub event_of : WorldState → Errand → Event
 event_of w (errand.Issue a) = issue a
 event_of w errand.Send = host_send
-event_of w errand.Read = client_read (length w.to_client)
+event_of w errand.Read = client_read (length (w.to_client).pipe)
 event_of w (errand.Take device hand) = take_job device hand
 event_of w (errand.Apply hand) = apply_job hand
 event_of w (errand.Collect device) = collect device
 event_of w errand.Answer = client_send
-event_of w errand.Back = host_read (length w.to_host)
+event_of w errand.Back = host_read (length (w.to_host).pipe)
 
 -- a line that did nothing
 abbrev pub idles : WorldState → ℕ → WorldState
@@ -217,7 +231,7 @@ module _ (starves : Key → Bool) (most : Most) where
 
   -- a line: an application's is queued, and any other does what it says
   abbrev pub plays_line : WorldState → NumberedLine → Option WorldState
-  plays_line w l = option_map_or (λ asked. Some (queueing w asked)) (asked_by l.line) (controls w l.number l.line)
+  plays_line w l = option_map_or (λ (asked : ℕ × Asked). Some (queueing w asked.0)) (asked_by l.line) (controls w l.number l.line)
 
   abbrev pub plays : List NumberedLine → WorldState → Option WorldState
   plays [] w = Some w
@@ -233,40 +247,41 @@ setting w (line.Piece most) = record w { piece = most }
 setting w (line.Workers count) = record w { hands = replicate count None }
 setting w _ = w
 
-abbrev pub station_of : ℕ × Declared → ℕ × StationState DeviceState
+abbrev pub station_of : ℕ × Declared → ℕ × StationState SessionDevice
 station_of e = (e.0, new_station (e.1).state)
 
 -- the devices that lines declare, with what is on them, by their ids
 abbrev pub declared_devices : List Line → List (ℕ × Declared)
 declared_devices lines = fold furnishing (fold declaring [] lines) lines
 
+-- the printers among devices, with their names
+abbrev pub printers_of : List (ℕ × Declared) → List (ℕ × PrinterNames)
+printers_of devices = filter_map (λ (e : ℕ × Declared). option_map (λ names. (e.0, names)) (e.1).printer) devices
+
 -- a session before its first channel
-abbrev pub new_world : List (ℕ × Declared) → WorldState
-new_world devices = record {
+abbrev pub new_world : List (ℕ × Declared) → List (ℕ × ApplicationState) → WorldState
+new_world devices applications = record {
   moment = 0;
   piece = 4096;
   draws = 0;
   client = client.new_client (map (λ (e : ℕ × Declared). announce_of [] e.1) devices);
   side = new_side 1;
   stations = map station_of devices;
-  devices = devices;
+  printers = printers_of devices;
   cache = [];
-  applications = [];
+  applications = applications;
   hands = replicate 1 None;
-  to_client = [];
-  to_host = [];
-  client_joined = new_joined;
-  host_joined = new_joined;
+  to_client = ending new_way;
+  to_host = ending new_way;
   kept = None;
   channels = 0;
-  outcomes = [];
   idle = [];
   deeds = [];
 }
 
 -- the session that lines begin
 abbrev pub world_of : List NumberedLine → WorldState
-world_of lines = let ls = map (λ (l : NumberedLine). l.line) lines in fold setting (new_world (declared_devices ls)) ls
+world_of lines = let ls = map (λ (l : NumberedLine). l.line) lines in fold setting (new_world (declared_devices ls) (applications_of ls)) ls
 
 -- whether an entry says that a request on a channel was left waiting, whose completion wasn't handed out
 abbrev pub is_left_parked : List Item → ℕ → Item → Bool
@@ -276,7 +291,7 @@ is_left_parked journal channel _ = false
 -- whether some device has such a request of the last channel
 abbrev pub some_left : WorldState → Bool
 some_left w =
-    list_any (λ (e : ℕ × StationState DeviceState). let s = e.1 in list_any (is_left_parked s.journal w.channels) s.journal) w.stations
+    list_any (λ (e : ℕ × StationState SessionDevice). let s = e.1 in list_any (is_left_parked s.journal w.channels) s.journal) w.stations
 
 -- after the last settling a channel on which a request waits is dropped, and what is queued then is issued
 abbrev pub ends_session : (Key → Bool) → Most → WorldState → Option WorldState

@@ -23,11 +23,13 @@ use Rattle.rd_script.specs.Report.{report_of}
 use Rattle.rd_station.specs.Station.{StationState}
 use Rattle.rd_world.specs.Acts.{AreActed, AreSaid, Tells, act_by, cache_after, control_by, first_control_of, is_settle, is_settled_host, left_open, notices_on, of_channel, tellings_on, waiting_keys}
 use Rattle.rd_world.specs.Control.{Control, Telling, controlled}
-use Rattle.rd_world.specs.Devices.{Declared, DeviceState, as_drive, as_printer, device_cut, device_step}
+use Rattle.rd_world.specs.Devices.{Declared, device_cut, device_step}
+use Rattle.rd_world.specs.declared.device.SessionDevice.{SessionDevice}
+use Rattle.rd_world.specs.declared.device.SessionDevice.TheVariants as session
 use Rattle.rd_world.specs.Joining.{AreJoined, Joins}
 use Rattle.rd_world.specs.Lines.{HaveOutcomes, submitted}
 use Rattle.rd_world.specs.Recording.{IsRecorded, client_id, host_stand, no_request, recording_of_deeds, request_of}
-use Rattle.rd_world.specs.Report.{ordered}
+use Rattle.rd_world.specs.Report.{outcomes_of}
 use Rattle.rd_world.specs.Run.{WorldRun, declared_devices, world_of}
 use Rattle.rd_world.specs.Talk.{Deed, EachAfter, Has, answered, asked, client_read, client_wrote, completes, has_ended, host_read, host_wrote, is_request, journal, open_channel, request_at, stores}
 use Rattle.rd_world.specs.Told.{CompletesWith, IsHeeded, Replies}
@@ -121,9 +123,9 @@ WasStill devices deeds control =
 -- ---- the report
 
 -- the finished documents of a device, under its id, where it is a printer
-abbrev pub by_device : ℕ → DeviceState → List (ℕ × List (List ℕ))
-by_device device (as_drive s) = []
-by_device device (as_printer s) = (device, s.finished) ∷ []
+abbrev pub by_device : ℕ → SessionDevice → List (ℕ × List (List ℕ))
+by_device device (session.Drive s) = []
+by_device device (session.Printer s) = (device, s.finished) ∷ []
 
 -- the finished documents of a printer, as its journal leaves it
 abbrev pub documents_of : List Deed → ℕ × Declared → List (ℕ × List (List ℕ))
@@ -138,7 +140,7 @@ pub record IsReported (devices : List (ℕ × Declared)) (script : Script) (told
 -- ---- the run
 
 -- the finished documents of the printers of a world
-abbrev pub printed_in : ℕ × StationState DeviceState → List (ℕ × List (List ℕ))
+abbrev pub printed_in : ℕ × StationState SessionDevice → List (ℕ × List (List ℕ))
 printed_in e = let s = e.1 in by_device e.0 s.device
 
 -- This is what the script's session comes to: a world that has these journals, in which the runs that the journals mark so found no memory, and in which
@@ -148,7 +150,7 @@ pub record IsRun (script : Script) (books : List (ℕ × History)) (told : Outco
   pub run : WorldRun script.lines world
   pub did : world.deeds ≡ deeds
   pub stored : map {B = ℕ × List Item} (λ (b : ℕ × History). (b.0, (b.1).items)) books ≡ journals_in world
-  pub lines : told.lines.entries ≡ ordered world.outcomes
+  pub lines : told.lines.entries ≡ outcomes_of world
   pub idle : told.idle.items ≡ world.idle
   pub documents : told.documents.entries ≡ flat_map printed_in world.stations
   pub cache : map (λ e. ((e.0).items, e.1)) told.cache.entries ≡ world.cache
@@ -187,4 +189,4 @@ pub record IsCutOff (lines : List NumberedLine) (written : List ℕ) (books : Li
   pub run : WorldRun lines world
   pub rest : List ℕ
   pub recorded : recording_of_deeds world.deeds ≡ written ++ rest
-  pub stored : All (λ (b : ℕ × List Item). (s : StationState DeviceState) × (later : List Item) × (station_at world b.0 ≡ Some s) × (s.journal ≡ b.1 ++ later)) books
+  pub stored : All (λ (b : ℕ × List Item). (s : StationState SessionDevice) × (later : List Item) × (station_at world b.0 ≡ Some s) × (s.journal ≡ b.1 ++ later)) books

@@ -9,11 +9,12 @@ use Rattle.rd_script.specs.declared.line.Line.TheVariants as line
 use Rattle.rd_script.specs.declared.line.NumberedLine.{NumberedLine}
 use Rattle.rd_station.specs.Station.{StationState}
 use Rattle.rd_world.specs.Control.{Act, Control}
-use Rattle.rd_world.specs.Devices.{Declared, DeviceState}
+use Rattle.rd_world.specs.Devices.{Declared}
+use Rattle.rd_world.specs.declared.device.SessionDevice.{SessionDevice}
 use Rattle.rd_world.specs.Host.{HostSide}
 use Rattle.rd_world.specs.HostDeeds.{side_of}
 use Rattle.rd_world.specs.Report.{report_text}
-use Rattle.rd_world.specs.Run.{run_of}
+use Rattle.rd_world.specs.Run.{declared_devices, run_of}
 use Rattle.rd_world.specs.Acts.{act_by, cause_in, control_at_end, control_by, first_control_of, is_errand_at, is_settled_host, left_open, notices_on, of_channel, tellings_on, waiting_keys}
 use Rattle.rd_world.specs.Recording.{client_id, host_stand}
 use Rattle.rd_world.specs.Lines.{submitted}
@@ -50,7 +51,7 @@ as_it_stands w = record {
 abbrev pub by_deeds : WorldState → Account
 by_deeds w = record {
   side = side_of client_id w.deeds;
-  journals = map (λ (e : ℕ × StationState DeviceState). (e.0, reverse (journal e.0 w.deeds))) w.stations;
+  journals = map (λ (e : ℕ × StationState SessionDevice). (e.0, reverse (journal e.0 w.deeds))) w.stations;
 }
 
 abbrev pub standing : List NumberedLine → Option Account
@@ -68,27 +69,30 @@ pub record Done : Type 0 where
   pub talk : List (List (List ℕ))
   pub told : List ℕ
 
-abbrev pub ids_of : WorldState → List ℕ
-ids_of w = map (λ (d : ℕ × Declared). d.0) w.devices
+abbrev pub devices_in : List NumberedLine → List (ℕ × Declared)
+devices_in lines = declared_devices (map (λ (l : NumberedLine). l.line) lines)
+
+abbrev pub ids_in : List NumberedLine → List ℕ
+ids_in lines = map (λ (d : ℕ × Declared). d.0) (devices_in lines)
 
 abbrev pub acts_done : List NumberedLine → WorldState → Done
 acts_done lines w = record {
   acts = filter_map act_by (reverse w.deeds);
-  cuts = map (λ device. filter_map cause_in (reverse (journal device w.deeds))) (ids_of w);
+  cuts = map (λ device. filter_map cause_in (reverse (journal device w.deeds))) (ids_in lines);
   idle = filter (λ number. not (is_errand_at lines number)) w.idle;
-  talk = option_map_or (λ c. filter is_request (host_wrote c w.deeds) ∷ client_read c w.deeds ∷ host_read c w.deeds ∷ []) (left_open w.devices w.deeds (control_by w.devices lines)) [];
-  told = option_map_or (λ c. length (tellings_on c w.deeds) ∷ length (notices_on c w.deeds) ∷ []) (left_open w.devices w.deeds (control_by w.devices lines)) [];
+  talk = option_map_or (λ c. filter is_request (host_wrote c w.deeds) ∷ client_read c w.deeds ∷ host_read c w.deeds ∷ []) (left_open (devices_in lines) w.deeds (control_by (devices_in lines) lines)) [];
+  told = option_map_or (λ c. length (tellings_on c w.deeds) ∷ length (notices_on c w.deeds) ∷ []) (left_open (devices_in lines) w.deeds (control_by (devices_in lines) lines)) [];
 }
 
 abbrev pub acts_said : List NumberedLine → WorldState → Done
 acts_said lines w =
-    let control = control_at_end w.devices w.deeds (control_by w.devices lines) in
+    let control = control_at_end (devices_in lines) w.deeds (control_by (devices_in lines) lines) in
     record {
       acts = control.acts;
-      cuts = map (λ device. of_channel device control.cuts) (ids_of w);
+      cuts = map (λ device. of_channel device control.cuts) (ids_in lines);
       idle = control.idle;
-      talk = option_map_or (λ c. submitted c w.deeds ∷ host_wrote c w.deeds ∷ client_wrote c w.deeds ∷ []) (left_open w.devices w.deeds (control_by w.devices lines)) [];
-      told = option_map_or (λ c. length (of_channel c control.told) ∷ length (of_channel c control.notices) ∷ []) (left_open w.devices w.deeds (control_by w.devices lines)) [];
+      talk = option_map_or (λ c. submitted c w.deeds ∷ host_wrote c w.deeds ∷ client_wrote c w.deeds ∷ []) (left_open (devices_in lines) w.deeds (control_by (devices_in lines) lines)) [];
+      told = option_map_or (λ c. length (of_channel c control.told) ∷ length (of_channel c control.notices) ∷ []) (left_open (devices_in lines) w.deeds (control_by (devices_in lines) lines)) [];
     }
 
 abbrev pub done_in : List NumberedLine → Option Done
@@ -120,7 +124,7 @@ was_still devices deeds control =
 
 -- whether the channel that was open was still at a point for each `settle` line
 abbrev pub settles_in : List NumberedLine → Option Bool
-settles_in lines = option_map (λ (w : WorldState). list_all (was_still w.devices w.deeds) (at_settles (first_control_of w.devices) lines)) (ran lines)
+settles_in lines = option_map (λ (w : WorldState). list_all (was_still (devices_in lines) w.deeds) (at_settles (first_control_of (devices_in lines)) lines)) (ran lines)
 
 -- ---- idle_control_lines
 abbrev pub idle_control_lines : List NumberedLine

@@ -1,0 +1,13 @@
+use Rattle.std.proofs.Common.{◌≡◌, ℕ, length}
+use Rattle.std.specs.Prelude.{[]}
+use Rattle.rd_world.proofs.host.Host.end.Given as goal
+
+-- what there is to send is handed out, and nothing else changes
+abbrev pub invariant-loop : goal.invariant-loop
+invariant-loop l = record {
+  core : record l.self-inside.core { core = record l.self-inside.core.core { outbox = [] } } ≡ record l.fn.self.core { core = record l.fn.self.core.core { outbox = [] } };
+  table : l.self-inside.table ≡ l.fn.self.table;
+}
+
+abbrev pub decreases-loop : goal.decreases-loop
+decreases-loop l = length l.self-inside.core.core.outbox
