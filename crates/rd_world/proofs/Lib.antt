@@ -1,3 +1,5 @@
+pub mod BitsLemmas
+pub mod StationsLemmas
 pub mod ApplicationLemmas
 pub mod NamesLemmas
 pub mod Lists

@@ -1,8 +1,10 @@
+pub mod Bits
 pub mod Devices
 pub mod Host
 pub mod Talk
 pub mod Names
 pub mod World
+pub mod Stations
 pub mod Ways
 pub mod Hearing
 pub mod Events
