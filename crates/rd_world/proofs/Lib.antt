@@ -1,4 +1,6 @@
+pub mod RecorderLemmas
 pub mod BitsLemmas
+pub mod ChoicesLemmas
 pub mod StationsLemmas
 pub mod ApplicationLemmas
 pub mod NamesLemmas

@@ -1,4 +1,5 @@
 pub mod Bits
+pub mod Choices
 pub mod Devices
 pub mod Host
 pub mod Talk

@@ -25,10 +25,14 @@ pub data RecordingEntry : Type 0 where
   begins ends : RecordingEntry
   from_host from_client : List ℕ → RecordingEntry
 
+-- a frame after the mark of the side that sent it
+abbrev pub mark_before : ℕ → List ℕ → List ℕ
+mark_before mark frame = mark ∷ frame
+
 -- the bytes of an entry
 abbrev pub recording_entry_bytes : RecordingEntry → List ℕ
-recording_entry_bytes (from_host frame) = 0 ∷ frame
-recording_entry_bytes (from_client frame) = 1 ∷ frame
+recording_entry_bytes (from_host frame) = mark_before 0 frame
+recording_entry_bytes (from_client frame) = mark_before 1 frame
 recording_entry_bytes begins = 2 ∷ []
 recording_entry_bytes ends = 3 ∷ []
 
