@@ -1,6 +1,6 @@
 -- A line of an application that stands at a place of its script asks for what contracts see there.
 use Rattle.std.proofs.Common.{◌≡◌, ◌∙◌, refl, ap, ℕ, ◌<◌, List, Option, Some, None, length, slice_get, get_or}
-use Rattle.std.specs.Prelude.{IsSome, map}
+use Rattle.std.specs.Prelude.{IsSome}
 use Rattle.std.specs.Option.{option_and_then, option_map, unwrap_or}
 use Rattle.std.proofs.lemmas.Option.{get_or_from_slice_get, slice_get-get_or, slice_get-map, slice_get_within}
 use Rattle.rd_script.specs.declared.line.NumberedLine.{NumberedLine}

@@ -64,29 +64,29 @@ nest a b c d e f g h = simp append_assoc refl
 -- the list as its first part and what follows it, and so on
 abbrev pub in_turn : Choices → List Choice
 in_turn c =
-    map choice.Issue (places (c.issues).now)
+    map choice.Issue (places c.issues)
     ++ (choice_where c.host_sends choice.HostSend
     ++ (choice_where c.client_reads choice.ClientRead
     ++ (choice_where c.client_sends choice.ClientSend
-    ++ (map choice.Collect (places (c.collects).now)
+    ++ (map choice.Collect (places c.collects)
     ++ (choice_where c.host_reads choice.HostRead
     ++ (takes_in c
-    ++ map choice.Apply (places (c.full).now)))))))
+    ++ map choice.Apply (places c.full)))))))
 
 pub listed_in_turn : (c : Choices) → choices_in c ≡ in_turn c
 listed_in_turn c =
-    nest (map choice.Issue (places (c.issues).now)) (choice_where c.host_sends choice.HostSend) (choice_where c.client_reads choice.ClientRead)
-    (choice_where c.client_sends choice.ClientSend) (map choice.Collect (places (c.collects).now)) (choice_where c.host_reads choice.HostRead) (takes_in c) (map choice.Apply (places (c.full).now))
+    nest (map choice.Issue (places c.issues)) (choice_where c.host_sends choice.HostSend) (choice_where c.client_reads choice.ClientRead)
+    (choice_where c.client_sends choice.ClientSend) (map choice.Collect (places c.collects)) (choice_where c.host_reads choice.HostRead) (takes_in c) (map choice.Apply (places c.full))
 
 -- the choices after those of an application and of messages
 abbrev after_messages : Choices → List Choice
 after_messages c =
-    map choice.Collect (places (c.collects).now)
+    map choice.Collect (places c.collects)
     ++ (choice_where c.host_reads choice.HostRead
     ++ (takes_in c
-    ++ map choice.Apply (places (c.full).now)))
+    ++ map choice.Apply (places c.full)))
 
-pub past_messages : (c : Choices) (i issues sends reads client_sends : ℕ) → issues ≡ length (places (c.issues).now) → issues ≤ i
+pub past_messages : (c : Choices) (i issues sends reads client_sends : ℕ) → issues ≡ length (places c.issues) → issues ≤ i
     → sends ≡ bool_byte c.host_sends → sends ≤ i - issues
     → reads ≡ bool_byte c.client_reads → reads ≤ i - issues - sends → client_sends ≡ bool_byte c.client_sends → client_sends ≤ i - issues - sends - reads
     → slice_get (in_turn c) i ≡ slice_get (after_messages c) (i - issues - sends - reads - client_sends)
@@ -115,27 +115,27 @@ pair_at f (a ∷ xs) ys (suc q) r x y at_x at_y =
     past_map (f a) ys (pairs f xs ys) (suc q * length ys + r) (length ys) refl (omega arith) ∙ ap (slice_get (pairs f xs ys)) e ∙ pair_at f xs ys q r x y at_x at_y
 
 -- how many takes there are
-pub length_takes : (c : Choices) → length (takes_in c) ≡ length (places (c.waiting).now) * length (places (c.free).now)
-length_takes c = length_pairs choice.Take (places (c.waiting).now) (places (c.free).now)
+pub length_takes : (c : Choices) → length (takes_in c) ≡ length (places c.waiting) * length (places c.free)
+length_takes c = length_pairs choice.Take (places c.waiting) (places c.free)
 
 some_hand : (i w n : ℕ) → i < w * n → 0 < n
 some_hand i w zero h = absurd (omega (arith, h))
 some_hand i w (suc n) h = omega arith
 
 -- a take's index has the device's place as its quotient, and the hand's as its remainder
-pub take_within : (c : Choices) (i n : ℕ) → n ≡ length (places (c.free).now) → i < length (takes_in c)
-    → (0 < n) × (i / n < length (places (c.waiting).now)) × (i % n < length (places (c.free).now))
+pub take_within : (c : Choices) (i n : ℕ) → n ≡ length (places c.free) → i < length (takes_in c)
+    → (0 < n) × (i / n < length (places c.waiting)) × (i % n < length (places c.free))
 take_within c i n e h =
-    let w : ℕ = length (places (c.waiting).now) in
+    let w : ℕ = length (places c.waiting) in
     let below : i < w * n = subst (λ (k : ℕ). i < k) (length_takes c ∙ ap (λ (m : ℕ). w * m) (sym e)) h in
     let some : 0 < n = some_hand i w n below in
     (some, (div-lt_iff_lt-mul some).1 below, subst (λ (k : ℕ). i % n < k) e (mod-lt i some))
 
-pub take_at : (c : Choices) (i n device hand : ℕ) → n ≡ length (places (c.free).now)
-    → slice_get (places (c.waiting).now) (i / n) ≡ Some device → slice_get (places (c.free).now) (i % n) ≡ Some hand → slice_get (takes_in c) i ≡ Some (choice.Take device hand)
+pub take_at : (c : Choices) (i n device hand : ℕ) → n ≡ length (places c.free)
+    → slice_get (places c.waiting) (i / n) ≡ Some device → slice_get (places c.free) (i % n) ≡ Some hand → slice_get (takes_in c) i ≡ Some (choice.Take device hand)
 take_at c i n device hand e at_device at_hand =
     subst (λ (k : ℕ). slice_get (takes_in c) k ≡ Some (choice.Take device hand)) (ap (λ (m : ℕ). i / n * m + i % n) (sym e) ∙ div-add-mod' i n)
-    (pair_at choice.Take (places (c.waiting).now) (places (c.free).now) (i / n) (i % n) device hand at_device at_hand)
+    (pair_at choice.Take (places c.waiting) (places c.free) (i / n) (i % n) device hand at_device at_hand)
 
 -- ---- the count
 
@@ -152,7 +152,7 @@ few_times a b h k = grind arith
 
 pub takes_few : (c : Choices) → length (takes_in c) ≤ 4096
 takes_few c =
-    subst (λ (k : ℕ). k ≤ 4096) (sym (length_takes c)) (few_times (length (places (c.waiting).now)) (length (places (c.free).now)) (places_few (c.waiting).now) (places_few (c.free).now))
+    subst (λ (k : ℕ). k ≤ 4096) (sym (length_takes c)) (few_times (length (places c.waiting)) (length (places c.free)) (places_few c.waiting) (places_few c.free))
 
 where_few : (b : Bool) → bool_byte b ≤ 1
 where_few true = omega arith
@@ -166,28 +166,28 @@ length_where true c = refl
 length_where false c = refl
 
 pub length_listed : (c : Choices) → length (choices_in c)
-    ≡ length (places (c.issues).now) + (bool_byte c.host_sends + (bool_byte c.client_reads + (bool_byte c.client_sends
-    + (length (places (c.collects).now) + (bool_byte c.host_reads + (length (takes_in c) + length (places (c.full).now)))))))
+    ≡ length (places c.issues) + (bool_byte c.host_sends + (bool_byte c.client_reads + (bool_byte c.client_sends
+    + (length (places c.collects) + (bool_byte c.host_reads + (length (takes_in c) + length (places c.full)))))))
 length_listed c =
-    ap length (listed_in_turn c) ∙ longer _ _ _ _ (length-map (places (c.issues).now) choice.Issue)
+    ap length (listed_in_turn c) ∙ longer _ _ _ _ (length-map (places c.issues) choice.Issue)
     (longer _ _ _ _ (length_where c.host_sends choice.HostSend)
     (longer _ _ _ _ (length_where c.client_reads choice.ClientRead)
     (longer _ _ _ _ (length_where c.client_sends choice.ClientSend)
-    (longer _ _ _ _ (length-map (places (c.collects).now) choice.Collect)
+    (longer _ _ _ _ (length-map (places c.collects) choice.Collect)
     (longer _ _ _ _ (length_where c.host_reads choice.HostRead)
-    (longer (takes_in c) _ _ _ refl (length-map (places (c.full).now) choice.Apply)))))))
+    (longer (takes_in c) _ _ _ refl (length-map (places c.full) choice.Apply)))))))
 
 pub listed_few : (c : Choices) → length (choices_in c) ≤ 4292
 listed_few c =
     omega (
       arith,
       length_listed c,
-      places_few (c.issues).now,
+      places_few c.issues,
       where_few c.host_sends,
       where_few c.client_reads,
       where_few c.client_sends,
-      places_few (c.collects).now,
+      places_few c.collects,
       where_few c.host_reads,
       takes_few c,
-      places_few (c.full).now,
+      places_few c.full,
     )

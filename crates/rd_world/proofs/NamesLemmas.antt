@@ -1,5 +1,5 @@
 -- What a map does that keeps its entries by names in memory, as contracts see it: by the bytes of the names.
-use Rattle.std.proofs.Common.{◌≡◌, refl, ap, ℕ, Bool, true, false, cond, List, [], ◌∷◌, Option, Some, None}
+use Rattle.std.proofs.Common.{◌≡◌, refl, ap, ℕ, Bool, true, false, cond, List, [], ◌∷◌, Some}
 use Rattle.std.specs.Prelude.{Vec}
 use Rattle.std.specs.Ordering.{match_ordering}
 use Rattle.std.specs.declared.cmp.Ordering.{Ordering}

@@ -1,6 +1,6 @@
 -- Stations and their ids side by side: one is put back at its place, and the words of bits that tell which of them have something to do.
 use Rattle.std.proofs.Common.{◌≡◌, ◌≢◌, ◌∙◌, refl, sym, ap, subst, ℕ, zero, suc, ◌+◌, ◌<◌, ◌≤◌, inl, inr, Bool, true, false, not, ◌==◌, List, [], ◌∷◌, ◌++◌, length, length-append, get_or, set, slice_get, take, drop, Some, None, Option, arith}
-use Rattle.std.specs.Prelude.{◌↔◌, map, if◌then◌else◌, IsTrue, All, IfErr, IfSome, OnOk, Result, Ok, Err}
+use Rattle.std.specs.Prelude.{◌↔◌, map, if◌then◌else◌, IsTrue, All, IfErr, IfSome, OnErr, OnOk, Result, Ok, Err}
 use Rattle.std.specs.List.{AllByRecursion, AllZip, zip}
 use Rattle.std.specs.List.Sorted.{IsNonDecreasingBy, IsPartitionPoint, IsStrictlySortedBy}
 use Rattle.std.specs.Map.{keys_of, lookup}
@@ -10,29 +10,36 @@ use Rattle.std.specs.BTreeMap.{insert_entry, is_at}
 use Rattle.std.proofs.Math.Seq.{take-append_seam, take-length}
 use Rattle.std.proofs.lemmas.Bool.{cases_Bool, cases_lt, cases_order, false≢true}
 use Rattle.std.proofs.lemmas.Bool.Decides.{nat_tests}
-use Rattle.std.proofs.lemmas.List.{length-set, take_more_set}
+use Rattle.std.proofs.lemmas.List.{length-set, set-get_or, take_more_set}
 use Rattle.std.proofs.lemmas.List.Elements.{All-append, All-set, all_zip_more}
 use Rattle.std.proofs.lemmas.Map.Made.{keys_of-zip}
 use Rattle.std.proofs.lemmas.Nat.Bits.{bit_at-zero}
-use Rattle.rd_station.specs.Station.{StationCall, StationState, StationStep, drop_channel}
+use Rattle.rd_base.specs.declared.journal.Key.{Key}
+use Rattle.rd_drive.specs.declared.plan.Job.{Job}
+use Rattle.rd_station.specs.Station.{PutRefused, StationCall, StationState, StationStep, drop_channel, put, put_refusal, put_unless, puts}
+use Rattle.rd_station.specs.declared.refusals.PutNo.{PutNo}
+use Rattle.rd_station.specs.declared.refusals.PutWhy.{PutWhy}
+use Rattle.rd_station.specs.declared.refusals.PutWhy.TheVariants as why
 use Rattle.rd_world.specs.Bits.{IsMarked, Marks, has}
 use Rattle.rd_world.specs.Devices.{device_cut, device_cuts, device_parked, device_runs}
 use Rattle.rd_world.specs.Events.{is_empty}
+use Rattle.rd_world.specs.Keys.{AreBelow, AreUpTo, KeysApart, NamesAt, last_after}
 use Rattle.rd_world.specs.Stations.{DropsEach, DropsOne, IsPlaceOf, IsReachedBy, KeepsStations, StepsAt, dropped_station, has_ready, has_waiting, holds_at, max_session_devices}
 use Rattle.rd_world.specs.declared.device.SessionDevice.{SessionDevice}
+use Rattle.rd_world.proofs.KeysLemmas.{Comes, apart_come, apart_still, named_added, named_dropped, up_to_job, up_to_still}
 
 -- ---- numbers in order
 
-equal_cmp : (k l : ℕ) → k ≡ l → nat_cmp k l ≡ Equal
+pub equal_cmp : (k l : ℕ) → k ≡ l → nat_cmp k l ≡ Equal
 equal_cmp k l e = grind (arith, nat_tests)
 
-turned_cmp : (k l : ℕ) → nat_cmp k l ≡ Less → nat_cmp l k ≡ Greater
+pub turned_cmp : (k l : ℕ) → nat_cmp k l ≡ Less → nat_cmp l k ≡ Greater
 turned_cmp k l e = grind (arith, nat_tests)
 
-is_same : (k : ℕ) → is_at (nat_cmp k) k ≡ true
+pub is_same : (k : ℕ) → is_at (nat_cmp k) k ≡ true
 is_same k = grind (arith, nat_tests)
 
-is_other : (k l : ℕ) → nat_cmp l k ≡ Less → is_at (nat_cmp k) l ≡ false
+pub is_other : (k l : ℕ) → nat_cmp l k ≡ Less → is_at (nat_cmp k) l ≡ false
 is_other k l e = grind (arith, nat_tests)
 
 -- the key at a place after the first is above the first
@@ -198,35 +205,61 @@ of_seen {X} P ks vs i v seen same u here is holds =
 
 -- ---- what a program keeps of stations
 
-pub within : (ids : List ℕ) (list : List (StationState SessionDevice)) (waiting ready place : ℕ) (seen : List (ℕ × StationState SessionDevice)) → KeepsStations ids list waiting ready
+pub within : (ids : List ℕ) (list : List (StationState SessionDevice)) (waiting ready : ℕ) (last : Option Key) (place : ℕ) (seen : List (ℕ × StationState SessionDevice)) → KeepsStations ids list waiting ready last
     → zip ids list ≡ seen → place < length seen → place < length list
-within ids list waiting ready place seen keeps is u =
+within ids list waiting ready last place seen keeps is u =
     let long : length (zip ids list) ≡ length ids = length_zip ids list keeps.same in
     let e : length (zip ids list) ≡ length seen = ap (λ (l : List (ℕ × StationState SessionDevice)). length l) is in
     let same : length list ≡ length ids = keeps.same in
     omega arith
 
 -- a station that came to be by its calls is put back at its place, and both its bits are marked
-pub keeps_put : (ids : List ℕ) (list : List (StationState SessionDevice)) (waiting ready place : ℕ) (after : StationState SessionDevice) (waiting' ready' : ℕ) → KeepsStations ids list waiting ready
-    → place < length list → IsReachedBy after → IsMarked waiting waiting' place (has_waiting after) → IsMarked ready ready' place (has_ready after)
-    → KeepsStations ids (set list place after) waiting' ready'
-keeps_put ids list waiting ready place after waiting' ready' keeps u reached marked_waiting marked_ready =
-    let same : length (set list place after) ≡ length ids = length-set list place after ∙ keeps.same in record {
+keeps_put : (ids : List ℕ) (list : List (StationState SessionDevice)) (waiting ready : ℕ) (last last' : Option Key) (place : ℕ) (after : StationState SessionDevice) (waiting' ready' : ℕ) → KeepsStations ids list waiting ready last
+    → place < length list → IsReachedBy after → KeysApart (set (zip ids list) place (get_or ids place 0, after)) → AreUpTo (set (zip ids list) place (get_or ids place 0, after)) last'
+    → IsMarked waiting waiting' place (has_waiting after) → IsMarked ready ready' place (has_ready after) → KeepsStations ids (set list place after) waiting' ready' last'
+keeps_put ids list waiting ready last last' place after waiting' ready' keeps u reached apart up_to marked_waiting marked_ready =
+    let same : length (set list place after) ≡ length ids = length-set list place after ∙ keeps.same in
+    let beside = set_beside ids list place after in record {
       same = same;
       are = record {
         rise = subst (λ (ks : List ℕ). IsStrictlySortedBy nat_cmp ks) (keys_of-zip ids list (keeps.same) ∙ sym (keys_of-zip ids (set list place after) same)) keeps.are.rise;
         few = rw (length_zip ids (set list place after) same) (rw (length_zip ids list keeps.same) at keeps.are.few);
         reached = all_put IsReachedBy ids list place after keeps.same u reached keeps.are.reached;
+        apart = subst KeysApart (sym beside) apart;
       };
       waiting_marks = marks_put has_waiting ids list place after waiting waiting' keeps.same u keeps.waiting_marks marked_waiting;
       ready_marks = marks_put has_ready ids list place after ready ready' keeps.same u keeps.ready_marks marked_ready;
+      up_to = subst (λ (es : List (ℕ × StationState SessionDevice)). AreUpTo es last') (sym beside) up_to;
     }
 
+-- so it is after a call by which no key comes
+pub keeps_call : (ids : List ℕ) (list : List (StationState SessionDevice)) (waiting ready : ℕ) (last : Option Key) (place : ℕ) (call : StationCall) (before after : StationState SessionDevice) (waiting' ready' : ℕ)
+    → KeepsStations ids list waiting ready last → place < length list → before ≡ get_or list place before → ((key : Key) → ¬ (Comes call key)) → StationStep device_runs device_parked device_cuts before call after → IsReachedBy after
+    → IsMarked waiting waiting' place (has_waiting after) → IsMarked ready ready' place (has_ready after) → KeepsStations ids (set list place after) waiting' ready' last
+keeps_call ids list waiting ready last place call before after waiting' ready' keeps u here none step reached marked_waiting marked_ready =
+    let there = stands_at ids list place before keeps.same u here in
+    keeps_put ids list waiting ready last last place after waiting' ready' keeps u reached
+    (apart_still (zip ids list) place (get_or ids place 0) (get_or ids place 0) before after there call none step reached keeps.are.apart)
+    (up_to_still (zip ids list) place (get_or ids place 0) (get_or ids place 0) before after there call none step reached last keeps.up_to) marked_waiting marked_ready
+
+-- and after a job with a key above all was put, whatever came of it
+pub keeps_come : (ids : List ℕ) (list : List (StationState SessionDevice)) (waiting ready : ℕ) (last : Option Key) (place : ℕ) (job : Job) (answer : Result (Unit {0}) PutNo) (before after : StationState SessionDevice) (waiting' ready' : ℕ)
+    → KeepsStations ids list waiting ready last → place < length list → before ≡ get_or list place before → AreBelow (zip ids list) job.key
+    → OnOk answer (StationStep device_runs device_parked device_cuts before (puts job None) after) → IfErr answer (λ no. StationStep device_runs device_parked device_cuts before (puts job (Some no)) after) → IsReachedBy after
+    → IsMarked waiting waiting' place (has_waiting after) → IsMarked ready ready' place (has_ready after) → KeepsStations ids (set list place after) waiting' ready' (last_after last job.key answer)
+keeps_come ids list waiting ready last place job (Ok done) before after waiting' ready' keeps u here below came refused reached marked_waiting marked_ready =
+    let there = stands_at ids list place before keeps.same u here in
+    keeps_put ids list waiting ready last (Some job.key) place after waiting' ready' keeps u reached
+    (apart_come (zip ids list) place (get_or ids place 0) (get_or ids place 0) before after there job below came reached keeps.are.apart)
+    (up_to_job (zip ids list) place (get_or ids place 0) (get_or ids place 0) before after there job below came reached) marked_waiting marked_ready
+keeps_come ids list waiting ready last place job (Err cause) before after waiting' ready' keeps u here below came refused reached marked_waiting marked_ready =
+    keeps_call ids list waiting ready last place (puts job (Some cause)) before after waiting' ready' keeps u here (λ key none. none) refused reached marked_waiting marked_ready
+
 -- and so it is that station's step
-pub steps_at : (ids : List ℕ) (list : List (StationState SessionDevice)) (waiting ready place : ℕ) (call : StationCall) (before after : StationState SessionDevice) → KeepsStations ids list waiting ready
+pub steps_at : (ids : List ℕ) (list : List (StationState SessionDevice)) (waiting ready : ℕ) (last : Option Key) (place : ℕ) (call : StationCall) (before after : StationState SessionDevice) → KeepsStations ids list waiting ready last
     → place < length list → before ≡ get_or list place before → StationStep device_runs device_parked device_cuts before call after
     → StepsAt (zip ids list) place call (zip ids (set list place after))
-steps_at ids list waiting ready place call before after keeps u here step =
+steps_at ids list waiting ready last place call before after keeps u here step =
     let rise : IsStrictlySortedBy nat_cmp ids = subst (λ (ks : List ℕ). IsStrictlySortedBy nat_cmp ks) (keys_of-zip ids list keeps.same) keeps.are.rise in record {
       id = get_or ids place 0;
       before = before;
@@ -242,6 +275,10 @@ pub on_ok : {E : Type 0} (P Q : Type 0) (r : Result (Unit {0}) E) → (P → Q) 
 on_ok P Q (Ok x) f h = f h
 on_ok P Q (Err e) f h = tt
 
+pub on_err : {E : Type 0} (P : E → Type 0) (Q : Type 0) (r : Result (Unit {0}) E) → ((e : E) → P e → Q) → IfErr r P → OnErr r Q
+on_err P Q (Ok x) f h = tt
+on_err P Q (Err e) f h = f e h
+
 pub if_err : {E : Type 0} (P Q : E → Type 0) (r : Result (Unit {0}) E) → ((e : E) → P e → Q e) → IfErr r P → IfErr r Q
 if_err P Q (Ok x) f h = tt
 if_err P Q (Err e) f h = f e h
@@ -255,13 +292,17 @@ all_first P x xs p all (suc k) d u = all k d (omega arith)
 unset : (i : ℕ) → has 0 i ≡ false
 unset i = ap (λ (x : ℕ). x == 1) (bit_at-zero i)
 
-pub keeps_none : KeepsStations [] [] 0 0
+nothing_named : (key : Key) (place : ℕ) → ¬ (NamesAt [] place key)
+nothing_named key place (e, at, names) = absurd (cc)
+
+pub keeps_none : KeepsStations [] [] 0 0 None
 unfolding IsStrictlySortedBy
 keeps_none = record {
   same = refl;
-  are = record { rise = tt; few = omega arith; reached = λ k d u. absurd (omega arith) };
+  are = record { rise = tt; few = omega arith; reached = λ k d u. absurd (omega arith); apart = λ key i j names other. absurd (nothing_named key i names) };
   waiting_marks = λ i u. unset i;
   ready_marks = λ i u. unset i;
+  up_to = λ key place names. nothing_named key place names;
 }
 
 -- ---- a station more
@@ -269,10 +310,10 @@ keeps_none = record {
 nothing_waits : {X : Type 0} (xs : List X) → xs ≡ [] → not (is_empty xs) ≡ false
 nothing_waits xs e = ap (λ l. not (is_empty l)) e
 
-pub keeps_add : (ids : List ℕ) (list : List (StationState SessionDevice)) (waiting ready id : ℕ) (s : StationState SessionDevice) (seen : List (ℕ × StationState SessionDevice)) → KeepsStations ids list waiting ready
-    → zip ids list ≡ seen → All (λ (e : ℕ × StationState SessionDevice). e.0 < id) seen → length seen < max_session_devices → s.waiting ≡ [] → s.ready ≡ [] → IsReachedBy s
-    → KeepsStations (ids ++ id ∷ []) (list ++ s ∷ []) waiting ready
-keeps_add ids list waiting ready id s seen keeps is above few none_waits none_ready reached =
+pub keeps_add : (ids : List ℕ) (list : List (StationState SessionDevice)) (waiting ready : ℕ) (last : Option Key) (id : ℕ) (s : StationState SessionDevice) (seen : List (ℕ × StationState SessionDevice))
+    → KeepsStations ids list waiting ready last → zip ids list ≡ seen → All (λ (e : ℕ × StationState SessionDevice). e.0 < id) seen → length seen < max_session_devices → s.waiting ≡ [] → s.ready ≡ [] → s.journal ≡ []
+    → IsReachedBy s → KeepsStations (ids ++ id ∷ []) (list ++ s ∷ []) waiting ready last
+keeps_add ids list waiting ready last id s seen keeps is above few none_waits none_ready unused reached =
     let both : zip (ids ++ id ∷ []) (list ++ s ∷ []) ≡ zip ids list ++ (id, s) ∷ [] = zip_add ids list id s keeps.same in
     let under : All (λ (e : ℕ × StationState SessionDevice). e.0 < id) (zip ids list) = subst (λ (es : List (ℕ × StationState SessionDevice)). All (λ (e : ℕ × StationState SessionDevice). e.0 < id) es) (sym is) above in
     let short : length (zip ids list) < max_session_devices = subst (λ (es : List (ℕ × StationState SessionDevice)). length es < max_session_devices) (sym is) few in
@@ -283,9 +324,11 @@ keeps_add ids list waiting ready id s seen keeps is above few none_waits none_re
         few = omega (arith, length-append (zip ids list) ((id, s) ∷ []));
         reached = All-append (λ (e : ℕ × StationState SessionDevice). IsReachedBy e.1) (zip ids list) ((id, s) ∷ []) keeps.are.reached
             (all_first (λ (e : ℕ × StationState SessionDevice). IsReachedBy e.1) (id, s) [] reached (λ k d u. absurd (omega arith)));
+        apart = λ key i j names other. keeps.are.apart key i j (named_added (zip ids list) id s unused i key names) (named_added (zip ids list) id s unused j key other);
       });
       waiting_marks = λ i u. keeps.waiting_marks i u ∙ sym (ap (λ (es : List (ℕ × StationState SessionDevice)). holds_at has_waiting es i) both ∙ holds_add has_waiting (zip ids list) id s i (nothing_waits s.waiting none_waits));
       ready_marks = λ i u. keeps.ready_marks i u ∙ sym (ap (λ (es : List (ℕ × StationState SessionDevice)). holds_at has_ready es i) both ∙ holds_add has_ready (zip ids list) id s i (nothing_waits s.ready none_ready));
+      up_to = λ key place names. keeps.up_to key place (named_added (zip ids list) id s unused place key (subst (λ (es : List (ℕ × StationState SessionDevice)). NamesAt es place key) both names));
     }
 
 pub seen_add : (ids : List ℕ) (list : List (StationState SessionDevice)) (id : ℕ) (s : StationState SessionDevice) (seen : List (ℕ × StationState SessionDevice)) → length list ≡ length ids → zip ids list ≡ seen
@@ -294,26 +337,26 @@ seen_add ids list id s seen same is = zip_add ids list id s same ∙ ap (λ (es 
 
 -- ---- where a device's station stands
 
-rise_of : (ids : List ℕ) (list : List (StationState SessionDevice)) (waiting ready : ℕ) → KeepsStations ids list waiting ready → IsStrictlySortedBy nat_cmp ids
-rise_of ids list waiting ready keeps = subst (λ (ks : List ℕ). IsStrictlySortedBy nat_cmp ks) (keys_of-zip ids list keeps.same) keeps.are.rise
+rise_of : (ids : List ℕ) (list : List (StationState SessionDevice)) (waiting ready : ℕ) (last : Option Key) → KeepsStations ids list waiting ready last → IsStrictlySortedBy nat_cmp ids
+rise_of ids list waiting ready last keeps = subst (λ (ks : List ℕ). IsStrictlySortedBy nat_cmp ks) (keys_of-zip ids list keeps.same) keeps.are.rise
 
-pub place_found : (ids : List ℕ) (list : List (StationState SessionDevice)) (waiting ready device place : ℕ) → KeepsStations ids list waiting ready → place < length ids
+pub place_found : (ids : List ℕ) (list : List (StationState SessionDevice)) (waiting ready : ℕ) (last : Option Key) (device place : ℕ) → KeepsStations ids list waiting ready last → place < length ids
     → nat_cmp (get_or ids place 0) device ≡ Equal → IsPlaceOf (zip ids list) device (Some place)
-place_found ids list waiting ready device place keeps u equal =
+place_found ids list waiting ready last device place keeps u equal =
     let same : length list ≡ length ids = keeps.same in
     let inside : place < length list = omega arith in
     let at = some_at list place inside in
     let id : get_or ids place 0 ≡ device = cmp_equal (get_or ids place 0) device equal in (
       at.0,
       stands_at ids list place at.0 same inside at.1 ∙ ap (λ (k : ℕ). Some (k, at.0)) id,
-      subst (λ (k : ℕ). lookup (is_at (nat_cmp k)) (zip ids list) ≡ Some at.0) id (found_at ids list place at.0 same inside (rise_of ids list waiting ready keeps) at.1),
+      subst (λ (k : ℕ). lookup (is_at (nat_cmp k)) (zip ids list) ≡ Some at.0) id (found_at ids list place at.0 same inside (rise_of ids list waiting ready last keeps) at.1),
     )
 
-pub place_missing : (ids : List ℕ) (list : List (StationState SessionDevice)) (waiting ready device i : ℕ) → KeepsStations ids list waiting ready
+pub place_missing : (ids : List ℕ) (list : List (StationState SessionDevice)) (waiting ready : ℕ) (last : Option Key) (device i : ℕ) → KeepsStations ids list waiting ready last
     → (IsNonDecreasingBy (λ (k : ℕ). ordering_index (nat_cmp k device)) ids → IsPartitionPoint (λ (k : ℕ). nat_cmp k device ≡ Less) (λ (k : ℕ). nat_cmp k device ≡ Greater) ids i)
     → IsPlaceOf (zip ids list) device None
-place_missing ids list waiting ready device i keeps parts =
-    let rise = rise_of ids list waiting ready keeps in
+place_missing ids list waiting ready last device i keeps parts =
+    let rise = rise_of ids list waiting ready last keeps in
     let part = parts (λ j k d le u. index_rises (get_or ids j d) (get_or ids k d) device (ordered ids j k d rise le u)) in
     absent ids list device (λ j u. elim (cases_lt j i) [
       | inl below ↦ cmp_less (get_or ids j 0) device (part.0 j 0 (omega arith) below)
@@ -321,16 +364,16 @@ place_missing ids list waiting ready device i keeps parts =
     ])
 
 -- what stands at a place, as it is seen
-pub seen_at : (ids : List ℕ) (list : List (StationState SessionDevice)) (waiting ready place : ℕ) (s : StationState SessionDevice) (seen : List (ℕ × StationState SessionDevice)) → KeepsStations ids list waiting ready
+pub seen_at : (ids : List ℕ) (list : List (StationState SessionDevice)) (waiting ready : ℕ) (last : Option Key) (place : ℕ) (s : StationState SessionDevice) (seen : List (ℕ × StationState SessionDevice)) → KeepsStations ids list waiting ready last
     → zip ids list ≡ seen → place < length seen → s ≡ get_or list place s → slice_get seen place ≡ Some (get_or ids place 0, s)
-seen_at ids list waiting ready place s seen keeps is u here =
-    ap (λ (es : List (ℕ × StationState SessionDevice)). slice_get es place) (sym is) ∙ stands_at ids list place s keeps.same (within ids list waiting ready place seen keeps is u) here
+seen_at ids list waiting ready last place s seen keeps is u here =
+    ap (λ (es : List (ℕ × StationState SessionDevice)). slice_get es place) (sym is) ∙ stands_at ids list place s keeps.same (within ids list waiting ready last place seen keeps is u) here
 
-pub id_seen : (ids : List ℕ) (list : List (StationState SessionDevice)) (waiting ready place id : ℕ) (seen : List (ℕ × StationState SessionDevice)) → KeepsStations ids list waiting ready
+pub id_seen : (ids : List ℕ) (list : List (StationState SessionDevice)) (waiting ready : ℕ) (last : Option Key) (place id : ℕ) (seen : List (ℕ × StationState SessionDevice)) → KeepsStations ids list waiting ready last
     → zip ids list ≡ seen → place < length seen → get_or ids place 0 ≡ id → IfSome (slice_get seen place) (λ (e : ℕ × StationState SessionDevice). e.0 ≡ id)
-id_seen ids list waiting ready place id seen keeps is u same =
-    let at = some_at list place (within ids list waiting ready place seen keeps is u) in
-    subst (λ (o : Option (ℕ × StationState SessionDevice)). IfSome o (λ (e : ℕ × StationState SessionDevice). e.0 ≡ id)) (sym (seen_at ids list waiting ready place at.0 seen keeps is u at.1)) same
+id_seen ids list waiting ready last place id seen keeps is u same =
+    let at = some_at list place (within ids list waiting ready last place seen keeps is u) in
+    subst (λ (o : Option (ℕ × StationState SessionDevice)). IfSome o (λ (e : ℕ × StationState SessionDevice). e.0 ≡ id)) (sym (seen_at ids list waiting ready last place at.0 seen keeps is u at.1)) same
 
 -- ---- the channel ends
 
@@ -377,8 +420,9 @@ dropped_length (s ∷ old) (t ∷ new) all = let e : length old ≡ length new =
 pub written_over : (old new : List (StationState SessionDevice)) (n : ℕ) → n ≡ length old → AllZip DropsOne old new → take n (new ++ drop (length new) old) ≡ new
 written_over old new n long all = ap (λ (m : ℕ). take m (new ++ drop (length new) old)) (long ∙ dropped_length old new all) ∙ take-append_seam new (drop (length new) old)
 
-pub keeps_dropped : (ids : List ℕ) (list new : List (StationState SessionDevice)) (waiting ready : ℕ) → KeepsStations ids list waiting ready → AllZip DropsOne list new → KeepsStations ids new 0 0
-keeps_dropped ids list new waiting ready keeps all =
+pub keeps_dropped : (ids : List ℕ) (list new : List (StationState SessionDevice)) (waiting ready : ℕ) (last : Option Key) → KeepsStations ids list waiting ready last → AllZip DropsOne list new
+    → KeepsStations ids new 0 0 last
+keeps_dropped ids list new waiting ready last keeps all =
     let long : length list ≡ length new = dropped_length list new all in
     let same : length new ≡ length ids = sym long ∙ keeps.same in record {
       same = same;
@@ -386,9 +430,11 @@ keeps_dropped ids list new waiting ready keeps all =
         rise = subst (λ (ks : List ℕ). IsStrictlySortedBy nat_cmp ks) (keys_of-zip ids list keeps.same ∙ sym (keys_of-zip ids new same)) keeps.are.rise;
         few = rw (length_zip ids new same) (rw (length_zip ids list keeps.same) at keeps.are.few);
         reached = reached_each ids list new all;
+        apart = λ key i j names other. keeps.are.apart key i j (named_dropped ids list new all i key names) (named_dropped ids list new all j key other);
       };
       waiting_marks = λ i u. unset i ∙ sym (holds_none has_waiting idle_waits ids list new i all);
       ready_marks = λ i u. unset i ∙ sym (holds_none has_ready idle_ready ids list new i all);
+      up_to = λ key place names. keeps.up_to key place (named_dropped ids list new all place key names);
     }
 
 dropped_is : (before after : StationState SessionDevice) → DropsOne before after → after ≡ drop_channel before (device_cut before.device).state
@@ -427,3 +473,27 @@ pub stands_where : {X : Type 0} (test : X → Bool) (es : List (ℕ × X)) (plac
 stands_where test [] place holds = absurd (false≢true holds)
 stands_where test (e ∷ es) zero holds = (e, refl, holds)
 stands_where test (e ∷ es) (suc place) holds = stands_where test es place holds
+
+-- ---- a job that isn't put leaves its station as it is
+
+unput : (s after : StationState SessionDevice) (job : Job) (cause : PutWhy) → put s job ≡ (after, Some cause) → after ≡ s
+unput s after job cause e = go (put_refusal s job) e
+  where
+    go : (o : Option PutWhy) → put_unless s job o ≡ (after, Some cause) → after ≡ s
+    go None t =
+        let no : None ≡ Some cause = ap (λ (x : StationState SessionDevice × Option PutWhy). x.1) t in
+        absurd (cc no)
+    go (Some other) t = sym (ap (λ (x : StationState SessionDevice × Option PutWhy). x.0) t)
+
+unput_by : (s after : StationState SessionDevice) (job : Job) (cause : PutWhy) → PutRefused s job cause after → after ≡ s
+unput_by s after job why.Memory r = r.1
+unput_by s after job why.Gone r = unput s after job why.Gone r
+unput_by s after job (why.Full held) r = unput s after job (why.Full held) r
+unput_by s after job (why.Worn count) r = unput s after job (why.Worn count) r
+unput_by s after job (why.Duplicate key) r = unput s after job (why.Duplicate key) r
+
+pub put_unchanged : (ids : List ℕ) (list : List (StationState SessionDevice)) (place : ℕ) (s after : StationState SessionDevice) (seen : List (ℕ × StationState SessionDevice)) (job : Job) (refusal : PutNo)
+    → s ≡ get_or list place s → zip ids list ≡ seen → StationStep device_runs device_parked device_cuts s (puts job (Some refusal)) after → zip ids (set list place after) ≡ seen
+put_unchanged ids list place s after seen job refusal here is step =
+    ap (λ (x : StationState SessionDevice). zip ids (set list place x)) (unput_by s after job refusal.why step.1)
+    ∙ ap (λ (x : StationState SessionDevice). zip ids (set list place x)) here ∙ ap (zip ids) (set-get_or list place s) ∙ is

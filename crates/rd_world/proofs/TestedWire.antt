@@ -1,5 +1,5 @@
 -- Deeds on few channels that pass tests are in order on the wire.
-use Rattle.std.proofs.Common.{◌≡◌, refl, ap, ℕ, ◌==◌, ◌&&◌, Bool, true, false, List, [], ◌∷◌, length, leb, leb-true, eqb-true, Option, Some, None, ◌||◌}
+use Rattle.std.proofs.Common.{◌≡◌, refl, ap, ℕ, ◌==◌, ◌&&◌, Bool, true, false, List, [], ◌∷◌, length, leb, leb-true, eqb-true, Option, Some, None}
 use Rattle.std.specs.Prelude.{All, IfSome}
 use Rattle.std.specs.List.{list_all}
 use Rattle.std.specs.Option.{option_map_or}

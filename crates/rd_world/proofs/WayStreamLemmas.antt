@@ -1,9 +1,9 @@
 -- The first message of a stream (`first_message`): frames that carry a message give it, whatever comes after; and what is found in a part of carried messages is their first.
-use Rattle.std.proofs.Common.{◌≡◌, ◌≤◌, ◌<◌, ◌⊎◌, inl, inr, ℕ, zero, suc, ◌+◌, arith, sym, ◌∙◌, ap, subst, refl, cond, length, ◌++◌, ◌∷◌, [], List, take, drop, true, false, Bool, Some, None, Option, length-append, length-drop, append_assoc, append-nil}
+use Rattle.std.proofs.Common.{◌≡◌, ◌≤◌, ◌<◌, inl, inr, ℕ, zero, suc, ◌+◌, arith, sym, ◌∙◌, ap, subst, refl, length, ◌++◌, ◌∷◌, [], List, take, drop, true, false, Bool, Some, None, Option, length-append, length-drop, append_assoc, append-nil}
 use Rattle.std.specs.Prelude.{nat_lt}
 use Rattle.std.specs.List.{concat, flat_map, AllByRecursion}
 use Rattle.std.proofs.lemmas.List.{take_at, drop_at, take-append-le, drop-append-le, append_cancel_right}
-use Rattle.std.proofs.lemmas.Bool.{cases_lt, cases_Bool}
+use Rattle.std.proofs.lemmas.Bool.{cases_Bool}
 use Rattle.std.proofs.lemmas.Bool.Decides.{nat_tests}
 use Rattle.rd_chunk.specs.Carrier.{IsMessage, carrier_of, carrier_stream}
 use Rattle.rd_chunk.specs.Frames.{AreFrames, IsFrame, One, data_of, is_last, size_of}
@@ -151,3 +151,30 @@ found_is_one (m ∷ ms) bytes later message rest fit carried e =
       append_cancel_right (carrier_of message ++ rest) bytes later
           (append_assoc (carrier_of message) rest later ∙ ap (λ (x : List ℕ). carrier_of message ++ x) (sym left) ∙ ap (λ (x : List ℕ). carrier_of x ++ carrier_stream ms) (sym is) ∙ sym carried),
     )
+
+-- ---- what is handled gets shorter
+
+frame_shorter : (bytes frame rest : List ℕ) → first_frame bytes ≡ Some (frame, rest) → length rest < length bytes
+frame_shorter bytes frame rest e =
+    let f = found bytes frame rest e in
+    omega (arith, f.long, f.whole, ap length f.rest_is, length-drop (size_of bytes + 4) bytes)
+
+pub message_shorter : (most : ℕ) (joined bytes message rest : List ℕ) → message_in most joined bytes ≡ Some (message, rest) → length rest < length bytes
+message_shorter zero joined bytes message rest e = absurd (cc)
+message_shorter (suc most) joined bytes message rest e = go (first_frame bytes) refl (λ j b. message_shorter most j b message rest)
+  where
+    last : (frame after : List ℕ) → first_frame bytes ≡ Some (frame, after) → (b : Bool) → is_last frame ≡ b
+        → ((j b : List ℕ) → message_in most j b ≡ Some (message, rest) → length rest < length b) → length rest < length bytes
+    last frame after f true l again =
+        let same : Some (joined ++ data_of frame, after) ≡ Some (message, rest) = rw (f, l) at e in
+        let both : (joined ++ data_of frame, after) ≡ (message, rest) = cc in
+        let left : after ≡ rest = ap (λ (x : List ℕ × List ℕ). x.1) both in
+        omega (arith, frame_shorter bytes frame after f, ap length left)
+    last frame after f false l again =
+        let on : message_in most (joined ++ data_of frame) after ≡ Some (message, rest) = rw (f, l) at e in
+        omega (arith, frame_shorter bytes frame after f, again (joined ++ data_of frame) after on)
+
+    go : (o : Option (List ℕ × List ℕ)) → first_frame bytes ≡ o
+        → ((j b : List ℕ) → message_in most j b ≡ Some (message, rest) → length rest < length b) → length rest < length bytes
+    go None f again = absurd (cc (rw f at e))
+    go (Some (frame, after)) f again = last frame after f (is_last frame) refl again

@@ -148,9 +148,12 @@ issues w a = issues_next w a (next_asked (application_at w a))
 abbrev pub host_sends_next : WorldState → WorldState
 host_sends_next w = option_map_or (host_sends (record w { side = side_sends w.side })) (next_message w.side) w
 
--- what the client does with a message of its own: it completes a request, or writes it
+-- what the client does with a message of its own, on a channel: it completes a request, or writes it
+abbrev pub deed_on : ℕ → Outgoing → Deed
+deed_on channel o = option_map_or (λ key. completes key o.message) o.answers (client_writes channel o.message)
+
 abbrev pub own_deed : WorldState → Outgoing → Deed
-own_deed w o = option_map_or (λ key. completes key o.message) o.answers (client_writes w.channels o.message)
+own_deed w o = deed_on w.channels o
 
 abbrev pub client_sends_first : WorldState → ClientCoreState × Option Outgoing → WorldState
 client_sends_first w (c, None) = w
@@ -206,11 +209,15 @@ module _ (starves : Key → Bool) where
   abbrev pub applies_job : WorldState → ℕ → WorldState
   applies_job w hand = applies_held w hand (option_and_then (λ held. held) (hand_at w hand))
 
--- The client tells that a device is gone, which is cut off at its station. A job of it that was kept back is tried again.
-abbrev pub removes_device : WorldState → ℕ → WorldState
-removes_device w device =
+-- The client tells that a device is gone, which is cut off at its station.
+abbrev pub removing : WorldState → ℕ → WorldState
+removing w device =
     let told = with_deed (with_client w (client.tell_removed w.client device)) (removes device) in
-    tries_kept (option_map_or (λ (s : StationState SessionDevice). with_station told device (station.remove s (device_cut s.device).state).0) (station_at told device) told) device
+    option_map_or (λ (s : StationState SessionDevice). with_station told device (station.remove s (device_cut s.device).state).0) (station_at told device) told
+
+-- A job of it that was kept back is tried again.
+abbrev pub removes_device : WorldState → ℕ → WorldState
+removes_device w device = tries_kept (removing w device) device
 
 -- the data of a printer's announcement is that of what is kept for it now
 abbrev pub refreshing : WorldState → ℕ → WorldState
@@ -226,18 +233,21 @@ abbrev pub dropping : WorldState → ℕ → WorldState
 dropping w device =
     option_map_or (λ (s : StationState SessionDevice). with_station w device (station.drop_channel s (device_cut s.device).state)) (station_at w device) w
 
--- The channel ends: nothing is under way or to be sent or handled any more, no job is kept back, and each device that is there is cut off; the applications
--- take what came of their requests.
-abbrev pub drops : WorldState → WorldState
-drops w =
+-- The channel ends: nothing is under way or to be sent or handled any more, no job is kept back, and each device that is there is cut off.
+abbrev pub cutting : WorldState → WorldState
+cutting w =
     let cut = fold dropping w (map (λ (e : ℕ × StationState SessionDevice). e.0) w.stations) in
-    all_take (record (with_deed cut (host_ends cut.channels)) {
+    record (with_deed cut (host_ends cut.channels)) {
       side = ends_channel cut.side;
       client = record cut.client { core = record (cut.client).core { outbox = [] } };
       to_client = ending cut.to_client;
       to_host = ending cut.to_host;
       kept = None;
-    })
+    }
+
+-- The applications take what came of their requests then.
+abbrev pub drops : WorldState → WorldState
+drops w = all_take (cutting w)
 
 -- a channel begins
 abbrev pub connects : WorldState → WorldState
@@ -251,6 +261,10 @@ connects w =
       to_client = new_way;
       to_host = new_way;
     }
+
+-- the host tells the client of a printer
+abbrev pub telling_of : WorldState → Notice → WorldState
+telling_of w n = with_deed (record w { side = tells_of w.side n }) (tells n)
 
 -- what comes of an event that can happen, where these runs find no memory
 abbrev pub act : (Key → Bool) → WorldState → Event → WorldState
@@ -266,7 +280,7 @@ act starves w (remove device) = removes_device w device
 act starves w (add device) = adds_device w device
 act starves w drop_channel = drops w
 act starves w connect = connects w
-act starves w (tell n) = with_deed (record w { side = tells_of w.side n }) (tells n)
+act starves w (tell n) = telling_of w n
 
 -- One step of a session: an event that can happen, and what comes of it. The journals tell which run found no memory.
 abbrev pub WorldStep : WorldState → Event → WorldState → Type 0

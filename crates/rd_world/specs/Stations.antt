@@ -6,11 +6,13 @@ use Rattle.std.specs.Map.{keys_of, lookup}
 use Rattle.std.specs.Option.{option_map_or}
 use Rattle.std.specs.Ordering.{nat_cmp}
 use Rattle.std.specs.BTreeMap.{insert_entry, is_at}
+use Rattle.rd_base.specs.declared.journal.Key.{Key}
 use Rattle.rd_station.specs.Station.{StationCall, StationState, StationStep, drop_channel, drops}
 use Rattle.rd_station.specs.Tied.{IsReached}
 use Rattle.rd_world.specs.Bits.{Marks}
 use Rattle.rd_world.specs.Devices.{device_cut, device_cuts, device_parked, device_runs}
 use Rattle.rd_world.specs.Events.{is_empty}
+use Rattle.rd_world.specs.Keys.{AreUpTo, KeysApart}
 use Rattle.rd_world.specs.declared.device.SessionDevice.{SessionDevice}
 
 -- the most devices of a session
@@ -21,11 +23,12 @@ max_session_devices = 32
 abbrev pub IsReachedBy : StationState SessionDevice → Type 0
 IsReachedBy s = IsReached device_runs device_parked device_cuts s
 
--- The ids rise, there are few stations, and each came to be by its calls.
+-- The ids rise, there are few stations, each came to be by its calls, and no key is named at two of them.
 pub record AreStations (stations : List (ℕ × StationState SessionDevice)) : Type 0 where
   pub rise : IsStrictlySortedBy nat_cmp (keys_of stations)
   pub few : length stations ≤ max_session_devices
   pub reached : All (λ (e : ℕ × StationState SessionDevice). IsReachedBy e.1) stations
+  pub apart : KeysApart stations
 
 -- ---- which stations have something to do
 
@@ -41,12 +44,13 @@ has_ready s = not (is_empty s.ready)
 abbrev pub holds_at : {X : Type 0} → (X → Bool) → List (ℕ × X) → ℕ → Bool
 holds_at {X} test stations place = option_map_or (λ (e : ℕ × X). test e.1) (slice_get stations place) false
 
--- What a program keeps of stations: the ids and the stations side by side, and which of them have something to do, in words of bits.
-pub record KeepsStations (ids : List ℕ) (list : List (StationState SessionDevice)) (waiting ready : ℕ) : Type 0 where
+-- What a program keeps of stations: the ids and the stations side by side, which of them have something to do, in words of bits, and the key that came last.
+pub record KeepsStations (ids : List ℕ) (list : List (StationState SessionDevice)) (waiting ready : ℕ) (last : Option Key) : Type 0 where
   pub same : length list ≡ length ids
   pub are : AreStations (zip ids list)
   pub waiting_marks : Marks waiting (holds_at has_waiting (zip ids list)) 64
   pub ready_marks : Marks ready (holds_at has_ready (zip ids list)) 64
+  pub up_to : AreUpTo (zip ids list) last
 
 -- ---- what calls do
 

@@ -1,6 +1,6 @@
 //! An application of a session.
 
-ghost use Rattle.std.specs.Prelude.{◌≡◌, ◌<◌, ◌≤◌, ◌+◌, length, OnOk, Some};
+ghost use Rattle.std.specs.Prelude.{◌≡◌, ◌<◌, ◌≤◌, ◌+◌, length, IfSome, OnOk, Some};
 ghost use Rattle.std.specs.Option.{option_map_or};
 ghost use Rattle.rd_script.specs.Script.{max_lines};
 ghost use Rattle.rd_world.specs.Applications.{AreAsking, AsksFor, asked_lines};
@@ -31,7 +31,7 @@ pub struct Application<'s> {
 }
 
 impl<'s> Model for Application<'s> {
-    ghost use Rattle.std.specs.Prelude.{◌≤◌, vec_len};
+    ghost use Rattle.std.specs.Prelude.{◌<◌, ◌≤◌, vec_len, IfSome};
     ghost use Rattle.rd_script.specs.Script.{max_lines};
     ghost use Rattle.rd_world.specs.Applications.{AreAsking, asked_lines};
     ghost use Rattle.rd_world.specs.World.{ApplicationState};
@@ -40,7 +40,8 @@ impl<'s> Model for Application<'s> {
 
     ghost view = { λ a. record { asks = asked_lines a.lines.now a.places.items; queued = a.queued; awaits = a.awaits; handles = a.handles; outcomes = a.outcomes.items } };
 
-    ghost invariant = { λ a. (a.queued ≤ vec_len a.places) × (vec_len a.places ≤ max_lines) × AreAsking a.lines.now a.places.items };
+    ghost invariant = { λ a. (a.queued ≤ vec_len a.places) × (vec_len a.places ≤ max_lines) × AreAsking a.lines.now a.places.items
+        × (vec_len a.outcomes ≤ a.queued) × IfSome a.awaits (λ n. vec_len a.outcomes < a.queued) };
 }
 
 impl<'s> Application<'s> {
@@ -98,13 +99,15 @@ impl<'s> Application<'s> {
 
     /// The number of the request whose outcome it awaits.
     pub fn awaits(&self) -> Option<u64>
-        ensures { result ≡ self.now.awaits }
+        ensures number { result ≡ self.now.awaits }
+        ensures queued { IfSome result (λ n. length self.now.outcomes < self.now.queued) }
     {
         self.awaits
     }
 
     /// It awaits the outcome of this number.
     pub fn await_outcome(&mut self, number: u64)
+        requires { length self.old.outcomes < self.old.queued }
         ensures { self.new ≡ record self.old { awaits = Some number } }
     {
         self.awaits = Some(number);
@@ -124,5 +127,13 @@ impl<'s> Application<'s> {
         self.awaits = None;
         self.outcomes.push(outcome)?;
         Ok(())
+    }
+
+    /// The outcomes of the lines that have one, in order.
+    pub fn finish(self) -> Vec<Outcome>
+        ensures { result.items ≡ self.entry.outcomes }
+    {
+        let Application { outcomes, .. } = self;
+        outcomes
     }
 }

@@ -27,6 +27,13 @@ impl Bits {
         Bits { word: 0 }
     }
 
+    /// The same places.
+    pub fn copy(&self) -> Self
+        ensures { result ≡ self.now }
+    {
+        Bits { word: self.word }
+    }
+
     /// Whether a place is in it.
     pub fn has(&self, place: u32) -> bool
         requires { place < 64 }

@@ -9,10 +9,10 @@ ghost use Rattle.rd_world.specs.declared.choices.Choices.{Choices};
 use crate::bits::Bits;
 
 /// What can happen by itself. A word has each device at the place of its station, and each application and each hand at its number less one.
-#[derive(Clone, Copy)]
-pub struct Choices<'a> {
+#[derive(Drop)]
+pub struct Choices {
     /// The applications that may issue what they ask for.
-    pub issues: &'a Bits,
+    pub issues: Bits,
     /// The host has a message to send.
     pub host_sends: bool,
     /// The client has bytes to read.
@@ -20,15 +20,15 @@ pub struct Choices<'a> {
     /// The client has a message to send.
     pub client_sends: bool,
     /// The devices with a completion that the client may collect.
-    pub collects: &'a Bits,
+    pub collects: Bits,
     /// The host has bytes to read.
     pub host_reads: bool,
     /// The devices where a job waits for a hand.
-    pub waiting: &'a Bits,
+    pub waiting: Bits,
     /// The hands without a job.
-    pub free: &'a Bits,
+    pub free: Bits,
     /// The hands with a job.
-    pub full: &'a Bits,
+    pub full: Bits,
 }
 
 /// One of the things that can happen by itself, by places.
@@ -44,7 +44,7 @@ pub enum Choice {
     Apply(u32),
 }
 
-impl<'a> Choices<'a> {
+impl Choices {
     /// How many things can happen by themselves.
     pub fn count(&self) -> u32
         ensures { result ≡ length (choices_in self.now) }

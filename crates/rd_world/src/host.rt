@@ -66,6 +66,13 @@ impl Host {
         self.core.ready()
     }
 
+    /// Whether a channel may begin (`begin`): it is above every channel that began.
+    pub fn may_begin(&self, channel: u32) -> bool
+        ensures { IsTrue result ↔ MayBegin self.now.table channel }
+    {
+        self.table.may_begin(channel)
+    }
+
     /// A channel begins, where none is open.
     pub fn begin(&mut self, channel: u32) -> Result<(), AllocError>
         requires { MayBegin self.old.table channel }

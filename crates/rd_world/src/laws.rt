@@ -1,6 +1,6 @@
 //! The definitions at work, as contracts of functions that do nothing: the checker computes each case; and what holds of joined sides.
 
-ghost use Rattle.std.specs.Prelude.{◌≡◌, ◌≢◌, ◌++◌, ◌∷◌, ℕ, List, [], Some, codes, filter_map, map, true};
+ghost use Rattle.std.specs.Prelude.{◌≡◌, ◌≢◌, ◌++◌, ◌∷◌, ℕ, Bool, List, [], Some, codes, filter_map, map, true};
 ghost use Rattle.rd_base.specs.declared.journal.Cause.TheVariants.{Dropped, Removed};
 ghost use Rattle.rd_base.specs.Statuses.{cancelled, no_such_device};
 ghost use Rattle.rd_base.specs.declared.journal.Item.{Item};
@@ -8,6 +8,9 @@ ghost use Rattle.rd_base.specs.declared.journal.Key.{Key};
 ghost use Rattle.rd_irp.specs.declared.completion.Reply.{Reply};
 ghost use Rattle.rd_irp.specs.declared.request.Request.{Request};
 ghost use Rattle.std.specs.List.{AllByRecursion};
+ghost use Rattle.std.specs.List.Sorted.{IsStrictlySortedBy};
+ghost use Rattle.std.specs.Map.{keys_of};
+ghost use Rattle.std.specs.Ordering.{nat_cmp};
 ghost use Rattle.rd_pending.specs.declared.calls.Outcome.TheVariants.{Done, Lost};
 ghost use Rattle.rd_pending.specs.Outcomes.{Accepted};
 ghost use Rattle.rd_base.specs.declared.journal.Item.TheVariants.{Came, Cut};
@@ -16,14 +19,18 @@ ghost use Rattle.rd_devices.specs.Removal.{removal_bytes};
 ghost use Rattle.rd_world.specs.Acts.{IsCutThere, IsToldInTime};
 ghost use Rattle.rd_world.specs.Devices.{Declared, announce_of};
 ghost use Rattle.rd_script.specs.declared.outcome.Outcomes.{Outcomes};
+ghost use Rattle.rd_world.specs.Events.{Event, act, is_enabled};
 ghost use Rattle.rd_world.specs.Found.{AreFound, found_books, found_devices, found_drive, found_output, found_recording, found_script};
+ghost use Rattle.rd_world.specs.Keys.{AreLonger};
 ghost use Rattle.rd_world.specs.Lines.{IsDue};
 ghost use Rattle.rd_world.specs.Example.{close_reply, example_deeds, example_outcomes, example_replies, left_waiting, read_reply, watch, watch_reply};
 ghost use Rattle.rd_world.specs.Joining.{AreJoined, ClientCameTo, IsCarried, Joins};
-ghost use Rattle.rd_world.specs.Recording.{request_of};
+ghost use Rattle.rd_world.specs.Recording.{recording_of_deeds, request_of};
 ghost use Rattle.rd_world.specs.Session.{IsStoredOpen, IsWholeSession, RanRead, replies_in, replies_read};
+ghost use Rattle.rd_world.specs.Step.{recorded_by};
 ghost use Rattle.rd_world.specs.Talk.{Deed, client_read, client_writes, host_begins, host_ends, journal, removes, request_at, stores};
 ghost use Rattle.rd_world.specs.Told.{Replies};
+ghost use Rattle.rd_world.specs.World.{WorldState, journals_in};
 ghost use Rattle.rd_world.specs.Worked.{cached_bytes_announced, device_removed_and_added, drop_and_reconnect, idle_control_lines, notification_never_ended, notification_of_new_file, printer_cache_renamed, removal_before_sent_request, removal_under_work, removed_device_not_announced_again, sharing_violation, waiting_lock, done_in, reported, said_in, scripts, settles_in, standing, told_by_deeds};
 
 /// What sessions come to.
@@ -78,6 +85,17 @@ pub fn losses_are_no_replies()
 pub fn requests_agree()
     ensures named { (deeds : List Deed) → IsCarried deeds → (key : Key) (r : Request) → request_at (client_read key.channel deeds) key.index ≡ Some r → request_of deeds key ≡ r }
     ensures replies { (devices : List (ℕ × Declared)) (deeds : List Deed) → IsCarried deeds → (device : ℕ) (items : List Item) → AllByRecursion (RanRead deeds) items → replies_in devices deeds device items ≡ replies_read devices deeds device items }
+{}
+
+/// The recording grows by what each event adds to it, whichever runs find no memory.
+pub fn events_are_recorded()
+    ensures { (starves : Key → Bool) (w : WorldState) (e : Event) → is_enabled w e ≡ true → recording_of_deeds (act starves w e).deeds ≡ recording_of_deeds w.deeds ++ recorded_by w e }
+{}
+
+/// Whatever happens, and whichever runs find no memory: journals only become longer, and devices keep their ids.
+pub fn journals_grow()
+    ensures longer { (starves : Key → Bool) (w : WorldState) (e : Event) → IsStrictlySortedBy nat_cmp (keys_of w.stations) → AreLonger (journals_in w) (journals_in (act starves w e)) }
+    ensures ids { (starves : Key → Bool) (w : WorldState) (e : Event) → IsStrictlySortedBy nat_cmp (keys_of w.stations) → keys_of (act starves w e).stations ≡ keys_of w.stations }
 {}
 
 /// What that law takes is met by a session with two devices and two channels, a request that waits, a removal under work, and a drop.

@@ -1,40 +1,64 @@
 //! A whole session: both sides in one state, what was done in it, and what joins its sides.
 //!
 //! It stands on both ends, the table, the stations, the devices and the scripts. The definitions come first: `joined_sides_agree` is the joining
-//! law, `a_session_is_there` a session that meets every clause of one. Of the code that is to play a session its parts are here: a `Host` with
-//! its table, a `Way` of a channel, an `Application` with the lines of a script, a `SessionDevice`, the `Stations`, the
-//! `Choices` of a draw and a `Recorder`; nothing plays a session by them yet.
+//! law, `a_session_is_there` a session that meets every clause of one. `World` is both sides in one state, made of what a script declares: `World::step` is
+//! one step of it, and the contract that the layer above uses; `World::settle` draws among what can happen by itself. It is put together from a `Host` with its
+//! table, a `Client`, the `Way`s of a channel, the `Applications` with the lines of a script, the `Stations`, the `Hands` and a `Recorder`.
 //!
-//! Cost: a byte of a message is copied once onto a `Way`, and once off it. What a `Way` has handled is cut off where it is half of what it holds
-//! and 64 KiB or more. An application keeps four bytes a line of its own.
+//! Cost: a byte of a message is copied once onto a `Way`, once into the recording, and once off the way. What a `Way` has handled is cut off where it is half of
+//! what it holds and 64 KiB or more. A draw counts the set bits of five words. An application keeps four bytes a line of its own.
 #![tactic(auto)]
 
+mod acting;
 mod application;
+mod applications;
 mod asking;
+mod beginning;
 mod bits;
 mod choices;
+mod client;
 mod device;
+mod done;
+mod event;
 mod found;
 mod handles;
+mod hands;
+mod hearing;
 mod host;
+mod kept_job;
 mod laws;
+mod noting;
+mod opening;
+mod printers;
 mod recorder;
+mod rounds;
+mod running;
 mod stations;
+mod stepping;
 mod way;
+mod world;
 
 pub use application::Application;
+pub use applications::Applications;
 pub use asking::{application_of, handle_of, op_of, opened_device};
 pub use bits::Bits;
 pub use choices::{Choice, Choices, choices_stand_in_order};
+pub use client::Client;
 pub use device::SessionDevice;
+pub use event::{Event, StepNo};
 pub use found::found_told;
 pub use handles::Handles;
+pub use hands::{Hands, MAX_HANDS};
 pub use host::Host;
 pub use laws::{
     a_session_is_joined, a_session_is_there, control_lines_act, deeds_tell_sessions,
-    joined_sides_agree, losses_are_no_replies, requests_agree, sessions_run_as_listed,
-    sessions_settle, wrong_turns_are_refused,
+    events_are_recorded, joined_sides_agree, journals_grow, losses_are_no_replies, requests_agree,
+    sessions_run_as_listed, sessions_settle, wrong_turns_are_refused,
 };
+pub use noting::notice_of;
+pub use opening::{Opening, Settings, open_devices, settings_of};
+pub use printers::{PrinterNames, Printers};
 pub use recorder::Recorder;
 pub use stations::Stations;
 pub use way::Way;
+pub use world::World;

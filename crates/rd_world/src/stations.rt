@@ -2,16 +2,19 @@
 //!
 //! Cost: a station is found by halves among 32, and by place at once; after each call two bits are marked. `add`, `announce` and `put` alone take memory.
 
-ghost use Rattle.std.specs.Prelude.{◌≡◌, ◌<◌, ◌↔◌, ◌∷◌, ◌++◌, [], length, map, slice_get, All, IfErr, IfSome, IsTrue, None, OnErr, OnOk, Some};
+ghost use Rattle.std.specs.Prelude.{◌≡◌, ◌<◌, ◌↔◌, ◌∷◌, ◌++◌, [], length, map, slice_get, true, All, IfErr, IfSome, IsTrue, None, OnErr, OnOk, Some};
 ghost use Rattle.std.specs.List.{AllZip, zip};
+ghost use Rattle.std.specs.Option.{option_map_or};
 ghost use Rattle.rd_station.specs.Station as Call;
 ghost use Rattle.rd_station.specs.Station.{MayPut};
 ghost use Rattle.rd_world.specs.Bits.{IsMarked, Marks, has, where_holds};
+ghost use Rattle.rd_station.specs.Memory.{is_key_below};
+ghost use Rattle.rd_world.specs.Keys.{AreBelow, last_after};
 ghost use Rattle.rd_world.specs.Stations.{AreStations, DropsEach, DropsOne, IsPlaceOf, IsReachedBy, StepsAt, dropped_station, has_ready, has_waiting, holds_at, max_session_devices};
 
 use crate::bits::Bits;
 use crate::device::SessionDevice;
-use rd_base::Key;
+use rd_base::{Item, Key};
 use rd_drive::{Job, Plan};
 use rd_station::{AnnounceNo, Applied, Completion, Given, PutNo, Station};
 use std::alloc::{AllocError, Global};
@@ -26,6 +29,8 @@ pub struct Stations {
     waiting: Bits,
     /// The places of the stations where a completion can be collected.
     ready: Bits,
+    /// The key of the job that came last to any of them.
+    last: Option<Key>,
 }
 
 impl Model for Stations {
@@ -39,7 +44,7 @@ impl Model for Stations {
 
     ghost view = { λ s. zip s.ids.items s.list.items };
 
-    ghost invariant = { λ s. KeepsStations s.ids.items s.list.items s.waiting s.ready };
+    ghost invariant = { λ s. KeepsStations s.ids.items s.list.items s.waiting s.ready s.last };
 }
 
 impl Stations {
@@ -52,6 +57,7 @@ impl Stations {
             list: Vec::new(alloc),
             waiting: Bits::new(),
             ready: Bits::new(),
+            last: None,
         }
     }
 
@@ -60,6 +66,7 @@ impl Stations {
         requires above { All (λ e. e.0 < id) self.old }
         requires few { length self.old < max_session_devices }
         requires idle { (station.waiting ≡ []) × (station.ready ≡ []) }
+        requires unused { station.journal ≡ [] }
         requires reached { IsReachedBy station }
         ensures added { OnOk result (self.new ≡ self.old ++ (id, station) ∷ []) }
         ensures unchanged { OnErr result (self.new ≡ self.old) }
@@ -82,7 +89,9 @@ impl Stations {
 
     /// Where the station of a device stands, if it has one.
     pub fn place_of(&self, device: u32) -> Option<usize>
-        ensures { IsPlaceOf self.now device result }
+        ensures within { IfSome result (λ place. place < length self.now) }
+        ensures kept { AreStations self.now }
+        ensures place { IsPlaceOf self.now device result }
     {
         match self.ids.binary_search(&device) {
             Ok(place) => Some(place),
@@ -102,6 +111,7 @@ impl Stations {
     pub fn waiting(&self) -> &Bits
         ensures places { where_holds (has result.now) 64 ≡ where_holds (holds_at has_waiting self.now) 64 }
         ensures marks { Marks result.now (holds_at has_waiting self.now) 64 }
+        ensures kept { AreStations self.now }
     {
         &self.waiting
     }
@@ -114,13 +124,15 @@ impl Stations {
         &self.ready
     }
 
-    /// Whether a job with this key may come to the station at a place (`put`).
+    /// Whether a job with this key may come to the station at a place (`put`): that station may get it, and to none came this key or one above it.
     pub fn may_put(&self, place: usize, key: Key) -> bool
         requires { place < length self.now }
-        ensures { IsTrue result ↔ IfSome (slice_get self.now place) (λ e. MayPut e.1 key) }
+        ensures { IsTrue result → IfSome (slice_get self.now place) (λ e. MayPut e.1 key) × AreBelow self.now key }
     {
         let station = &self.list[place];
-        station.may_put(key)
+        let above = is_above(self.last, key);
+        let may = station.may_put(key);
+        above && may
     }
 
     /// Jobs of the device at a place may come from now on, since the host is told of it.
@@ -139,13 +151,17 @@ impl Stations {
     pub fn put(&mut self, place: usize, job: Job) -> Result<(), PutNo>
         requires there { place < length self.old }
         requires may { IfSome (slice_get self.old place) (λ e. MayPut e.1 job.key) }
+        requires below { AreBelow self.old job.key }
         ensures came { OnOk result (StepsAt self.old place (Call.puts job None) self.new) }
         ensures refused { IfErr result (λ no. StepsAt self.old place (Call.puts job (Some no)) self.new) }
+        ensures unchanged { OnErr result (self.new ≡ self.old) }
         ensures kept { AreStations self.new }
     {
+        let key = job.key;
         let station = &mut self.list[place];
         let answer = station.put(job);
         mark(&mut self.waiting, &mut self.ready, place, station);
+        self.last = last_of(self.last, key, &answer);
         answer
     }
 
@@ -208,6 +224,15 @@ impl Stations {
         self.ready = Bits::new();
     }
 
+    /// The journal of the device at a place.
+    pub fn journal_at(&self, place: usize) -> &[Item]
+        requires { place < length self.now }
+        ensures { IfSome (slice_get self.now place) (λ e. e.1.journal ≡ result.now) }
+    {
+        let station = &self.list[place];
+        station.journal().items()
+    }
+
     /// The ids, and in the same order the stations, as they are.
     pub fn finish(self) -> (Vec<u32>, Vec<Station<SessionDevice>>)
         ensures stations { zip result.0.items result.1.items ≡ self }
@@ -226,6 +251,29 @@ fn mark(waiting: &mut Bits, ready: &mut Bits, place: usize, station: &Station<Se
 {
     waiting.mark(place as u32, station.waits());
     ready.mark(place as u32, station.has_ready());
+}
+
+/// Whether a key is above the one that came last, if any did.
+fn is_above(last: Option<Key>, key: Key) -> bool
+    ensures { result ≡ option_map_or (λ earlier. is_key_below earlier key) last true }
+{
+    match last {
+        Some(earlier) => {
+            earlier.channel < key.channel
+                || (earlier.channel == key.channel && earlier.index < key.index)
+        }
+        None => true,
+    }
+}
+
+/// The key that came last, by what came of putting a job with this one.
+fn last_of(last: Option<Key>, key: Key, answer: &Result<(), PutNo>) -> Option<Key>
+    ensures { result ≡ last_after last key answer.now }
+{
+    match answer {
+        Ok(()) => Some(key),
+        Err(_) => last,
+    }
 }
 
 /// The channel of each station ended.

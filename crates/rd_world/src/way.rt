@@ -65,6 +65,13 @@ impl Way {
         self.bytes.len() - self.read
     }
 
+    /// Whether the channel ended.
+    pub fn has_ended(&self) -> bool
+        ensures { result ≡ self.now.ended }
+    {
+        self.ended
+    }
+
     /// Puts the frames of a message on the way. Where there is no memory for them the channel ends.
     pub fn carry(&mut self, message: &[u8]) -> Result<(), AllocError>
         requires fits { IsMessage message.now }
@@ -132,6 +139,12 @@ impl Way {
     fn cut_handled(&mut self)
         ensures { self.new ≡ self.old }
     {
+        if self.front == self.bytes.len() {
+            self.bytes.clear();
+            self.front = 0;
+            self.read = 0;
+            return;
+        }
         if self.front < MOST_HANDLED || self.front < self.bytes.len() / 2 {
             return;
         }

@@ -24,7 +24,7 @@ returns-then-index-collects c =
     rw (listed_in_turn c.args.self.now)
     (past_messages c.args.self.now _ _ _ _ _ c.count-issues.ensures c.if-index-issues.false c.from-host_sends.ensures c.if-index-host_sends.false
     c.from-client_reads.ensures c.if-index-client_reads.false c.from-client_sends.ensures c.if-index-client_sends.false
-    ∙ here_map choice.Collect (places (c.args.self.now.collects).now) _ _ _ c.pick-then-index-collects.ensures)
+    ∙ here_map choice.Collect (places (c.args.self.now.collects)) _ _ _ c.pick-then-index-collects.ensures)
 
 pub returns-then-index-host_reads : goal.returns-then-index-host_reads
 returns-then-index-host_reads c =
@@ -66,4 +66,4 @@ returns c =
     ∙ past_map _ _ _ _ _ c.count-collects.ensures c.if-index-collects.false
     ∙ past_where _ _ _ _ _ c.from-host_reads.ensures c.if-index-host_reads.false
     ∙ past_takes c.args.self.now _ _ _ c.takes-takes.ensures c.if-index-takes.false
-    ∙ at_map choice.Apply (places (c.args.self.now.full).now) _ _ c.pick-2.ensures)
+    ∙ at_map choice.Apply (places (c.args.self.now.full)) _ _ c.pick-2.ensures)

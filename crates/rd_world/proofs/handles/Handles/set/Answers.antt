@@ -1,4 +1,4 @@
-use Rattle.std.proofs.Common.{◌≡◌, ◌∙◌, ap, sym, List, ℕ, Option, Some, None}
+use Rattle.std.proofs.Common.{◌∙◌, ap, sym, List, ℕ, Option}
 use Rattle.std.specs.Map.{remove_entry}
 use Rattle.std.specs.BTreeMap.{insert_entry, is_at}
 use Rattle.rd_pending.specs.declared.calls.Handle.{Handle}

@@ -1,5 +1,5 @@
-use Rattle.std.proofs.Common.{◌≡◌, ◌∙◌, ap, sym, fold, Bool}
-use Rattle.std.proofs.Math.ListN.{take, get_or}
+use Rattle.std.proofs.Common.{◌≡◌, ◌∙◌, ap, sym, Bool}
+use Rattle.std.proofs.Math.ListN.{get_or}
 use Rattle.std.proofs.lemmas.List.Sums.{fold_more}
 use Rattle.rd_pending.specs.Table.{TableState}
 use Rattle.rd_world.specs.Host.{HostSide, forgets}

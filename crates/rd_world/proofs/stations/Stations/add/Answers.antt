@@ -8,7 +8,7 @@ pub invariant_of-self-2 : goal.invariant_of-self-2
 invariant_of-self-2 c =
     let ids = c.push_reserved.ensures.items ∙ ap (λ (l : List ℕ). l ++ c.args.id ∷ []) c.reserve.ensures.items in
     let list = c.push_reserved-2.ensures.items ∙ ap (λ (l : List (StationState SessionDevice)). l ++ c.args.station ∷ []) c.reserve-2.ensures.items in
-    rw (ids, list) (keeps_add _ _ _ _ _ _ _ c.self.invariant c.self.view_is c.requires.above c.requires.few c.requires.idle.0 c.requires.idle.1 c.requires.reached)
+    rw (ids, list) (keeps_add _ _ _ _ _ _ _ _ c.self.invariant c.self.view_is c.requires.above c.requires.few c.requires.idle.0 c.requires.idle.1 c.requires.unused c.requires.reached)
 
 pub returns-clause-added : goal.returns-clause-added
 returns-clause-added c =

@@ -1,15 +1,16 @@
 use Rattle.std.proofs.Common.{arith}
-use Rattle.rd_world.proofs.StationsLemmas.{keeps_put, steps_at, within}
+use Rattle.rd_station.specs.Station.{applies}
+use Rattle.rd_world.proofs.StationsLemmas.{keeps_call, steps_at, within}
 use Rattle.rd_world.proofs.stations.Stations.apply.Goals as goal
 
 pub index_mut-station-requires : goal.index_mut-station-requires
-index_mut-station-requires c = omega (arith, within _ _ _ _ _ _ c.self.invariant c.self.view_is c.requires, c.self.inside.list.ok.0)
+index_mut-station-requires c = omega (arith, within _ _ _ _ _ _ _ c.self.invariant c.self.view_is c.requires, c.self.inside.list.ok.0)
 
 pub invariant_of-self : goal.invariant_of-self
-invariant_of-self c = keeps_put _ _ _ _ _ _ _ _ c.self.invariant (within _ _ _ _ _ _ c.self.invariant c.self.view_is c.requires) c.apply-answer.ensures.reached c.mark.ensures.waiting c.mark.ensures.ready
+invariant_of-self c = keeps_call _ _ _ _ _ _ (applies c.args.plan c.args.moment c.apply-answer.result) _ _ _ _ c.self.invariant (within _ _ _ _ _ _ _ c.self.invariant c.self.view_is c.requires) c.index_mut-station.ensures.value (λ key none. none) c.apply-answer.ensures.step c.apply-answer.ensures.reached c.mark.ensures.waiting c.mark.ensures.ready
 
 pub returns-clause-step : goal.returns-clause-step
-returns-clause-step c = rw (← c.self.view_is) (steps_at _ _ _ _ _ _ _ _ c.self.invariant (within _ _ _ _ _ _ c.self.invariant c.self.view_is c.requires) c.index_mut-station.ensures.value c.apply-answer.ensures.step)
+returns-clause-step c = rw (← c.self.view_is) (steps_at _ _ _ _ _ _ _ _ _ c.self.invariant (within _ _ _ _ _ _ _ c.self.invariant c.self.view_is c.requires) c.index_mut-station.ensures.value c.apply-answer.ensures.step)
 
 pub returns-clause-kept : goal.returns-clause-kept
 returns-clause-kept c = (invariant_of-self c).are

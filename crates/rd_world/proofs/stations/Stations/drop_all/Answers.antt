@@ -10,7 +10,7 @@ pub invariant_of-self : goal.invariant_of-self
 invariant_of-self c =
     let all = subst (λ (l : List (StationState SessionDevice)). AllZip DropsOne l c.drop_each.new.list) c.as_mut_slice.ensures.value c.drop_each.ensures in
     rw (written_over c.self.inside.list.items c.drop_each.new.list c.self.inside.list.len c.self.inside.list.ok.0 all, c.new-self-inside.ensures, c.new-self-inside-2.ensures)
-    (keeps_dropped _ _ _ _ _ c.self.invariant all)
+    (keeps_dropped _ _ _ _ _ _ c.self.invariant all)
 
 pub returns-clause-step : goal.returns-clause-step
 returns-clause-step c =

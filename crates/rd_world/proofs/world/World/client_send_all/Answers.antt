@@ -1,0 +1,24 @@
+use Rattle.std.proofs.Common.{rules, ◌≡◌, true, sym, ap, ◌∙◌}
+use Rattle.rd_world.specs.Events as event
+use Rattle.rd_world.specs.Events.{client_has_message, client_sends_next}
+use Rattle.rd_world.specs.Run.{all_client_sends}
+use Rattle.rd_world.specs.World.{WorldState}
+use Rattle.rd_world.proofs.RoundsLemmas.{client_sends_more, client_sent, event_stays}
+use Rattle.rd_world.proofs.world.World.client_send_all.Goals as goal
+
+pub sending-preserved : goal.sending-preserved
+sending-preserved c =
+    let w : WorldState = c.sending.self in
+    let some : client_has_message w ≡ true = search rules in
+    let sent : c.client_send.new.self ≡ client_sends_next w = search rules in
+    record {
+      reached = λ starves.
+          c.sending.invariant.reached starves ∙ client_sends_more starves w some ∙ ap (all_client_sends starves) (sym sent);
+      recorded = λ written before.
+          event_stays (λ key. true) w c.client_send.new.self event.client_send c.sending.recorder c.client_send.new.recorder sent (search rules) written
+          (c.sending.invariant.recorded written before);
+    }
+
+pub returns-clause-sent : goal.returns-clause-sent
+returns-clause-sent c = λ starves.
+    sym (c.sending.invariant.reached starves ∙ client_sent starves c.sending.self (search rules))
