@@ -68,3 +68,6 @@ pub mod RefreshLemmas
 pub mod ListedLemmas
 pub mod OutcomesLemmas
 pub mod RoundsLemmas
+pub mod FuelLemmas
+pub mod LeftLemmas
+pub mod PlayingLemmas

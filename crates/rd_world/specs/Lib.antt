@@ -1,3 +1,4 @@
+pub mod Left
 pub mod Bits
 pub mod Choices
 pub mod Client

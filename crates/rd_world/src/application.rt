@@ -1,6 +1,6 @@
 //! An application of a session.
 
-ghost use Rattle.std.specs.Prelude.{◌≡◌, ◌<◌, ◌≤◌, ◌+◌, length, IfSome, OnOk, Some};
+ghost use Rattle.std.specs.Prelude.{◌≡◌, ◌<◌, ◌≤◌, ◌+◌, length, IfSome, IsTrue, OnOk, Some};
 ghost use Rattle.std.specs.Option.{option_map_or};
 ghost use Rattle.rd_script.specs.Script.{max_lines};
 ghost use Rattle.rd_world.specs.Applications.{AreAsking, AsksFor, asked_lines};
@@ -66,6 +66,13 @@ impl<'s> Application<'s> {
         ensures { result ≡ may_issue self.now }
     {
         self.outcomes.len() < self.queued as usize && self.awaits.is_none()
+    }
+
+    /// Whether the script may come to one line more of it.
+    pub fn may_queue(&self) -> bool
+        ensures { IsTrue result → self.now.queued < length self.now.asks }
+    {
+        (self.queued as usize) < self.places.len()
     }
 
     /// The script comes to one line more of it.

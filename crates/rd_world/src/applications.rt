@@ -92,6 +92,17 @@ impl<'s> Applications<'s> {
         }
     }
 
+    /// Whether there is one with this number and the script may come to one line more of it.
+    pub fn may_queue(&self, number: u32) -> bool
+        ensures there { IsTrue result → IsThere self.now number }
+        ensures more { IsTrue result → (application_in self.now number).queued < length (application_in self.now number).asks }
+    {
+        match self.by_number.get(&number) {
+            Some(application) => application.may_queue(),
+            None => false,
+        }
+    }
+
     /// The script comes to one line more of an application.
     pub fn queue(&mut self, number: u32)
         requires there { IsThere self.old number }

@@ -1,9 +1,8 @@
 //! A whole session: both sides in one state, what was done in it, and what joins its sides.
 //!
 //! It stands on both ends, the table, the stations, the devices and the scripts. The definitions come first: `joined_sides_agree` is the joining
-//! law, `a_session_is_there` a session that meets every clause of one. `World` is both sides in one state, made of what a script declares: `World::step` is
-//! one step of it, and the contract that the layer above uses; `World::settle` draws among what can happen by itself. It is put together from a `Host` with its
-//! table, a `Client`, the `Way`s of a channel, the `Applications` with the lines of a script, the `Stations`, the `Hands` and a `Recorder`.
+//! law, `a_session_is_there` a session that meets every clause of one. `World` is both sides in one state, made of what a script declares: `World::run` plays
+//! the script's lines, and its contract is what the layer above uses; `World::step` is one step of it. It is put together from a `Host` with its table, a `Client`, the `Way`s of a channel, the `Applications` with the lines of a script, the `Stations`, the `Hands` and a `Recorder`.
 //!
 //! Cost: a byte of a message is copied once onto a `Way`, once into the recording, and once off the way. What a `Way` has handled is cut off where it is half of
 //! what it holds and 64 KiB or more. A draw counts the set bits of five words. An application keeps four bytes a line of its own.
@@ -29,6 +28,7 @@ mod kept_job;
 mod laws;
 mod noting;
 mod opening;
+mod playing;
 mod printers;
 mod recorder;
 mod rounds;

@@ -1,0 +1,17 @@
+use Rattle.std.proofs.Common.{sym, ◌∙◌}
+use Rattle.std.proofs.lemmas.Result.{on_ok_weaker}
+use Rattle.rd_script.specs.declared.line.Errand.TheVariants as errands
+use Rattle.rd_world.proofs.PlayingLemmas.{did, did_nothing}
+use Rattle.rd_world.proofs.world.World.answer.Goals as goal
+
+pub returns-then-enabled : goal.returns-then-enabled
+returns-then-enabled c =
+    on_ok_weaker c.client_send_all.result
+    (λ done starves most. did starves most c.args.self.now c.client_send_all.new.self c.args.number errands.Answer (sym c.enabled.ensures ∙ c.if-enabled.true) (done starves))
+    c.client_send_all.ensures.sent
+
+pub returns-else-enabled : goal.returns-else-enabled
+returns-else-enabled c =
+    on_ok_weaker c.idles.result
+    (λ done starves most. did_nothing starves most c.args.self.now c.idles.new.self c.args.number errands.Answer (sym c.enabled.ensures ∙ c.if-enabled.false) done)
+    c.idles.ensures

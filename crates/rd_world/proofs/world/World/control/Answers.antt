@@ -1,0 +1,40 @@
+use Rattle.std.proofs.lemmas.Result.{on_ok_weaker}
+use Rattle.rd_base.proofs.ResultLemmas.{of_on_ok}
+use Rattle.rd_world.proofs.PlayingLemmas.{adds_line, drops_line, errand_line, removes_line, settles_line, told_line}
+use Rattle.rd_world.proofs.world.World.control.Goals as goal
+
+pub returns-in-Settle : goal.returns-in-Settle
+returns-in-Settle g c =
+    on_ok_weaker c.settle.result
+    (λ settles. settles_line c.args.self.now c.settle.new.self c.args.line.now.number c.args.line.now.line c.in-Settle.is settles) c.settle.ensures.settled
+
+pub returns-in-Remove : goal.returns-in-Remove
+returns-in-Remove g c =
+    on_ok_weaker c.or_memory.result
+    (λ ok. removes_line c.args.self.now c.by_event.new.self c.args.line.now.number c.args.line.now.line c.in-Remove.device c.in-Remove.is (of_on_ok c.by_event.result ok c.by_event.ensures))
+    c.or_memory.ensures
+
+pub returns-in-Add : goal.returns-in-Add
+returns-in-Add g c =
+    on_ok_weaker c.or_memory-in-Add.result
+    (λ ok. adds_line c.args.self.now c.by_event-in-Add.new.self c.args.line.now.number c.args.line.now.line c.in-Add.device c.in-Add.is (of_on_ok c.by_event-in-Add.result ok c.by_event-in-Add.ensures))
+    c.or_memory-in-Add.ensures
+
+pub returns-in-Drop : goal.returns-in-Drop
+returns-in-Drop g c =
+    on_ok_weaker c.or_memory-in-Drop.result
+    (λ ok. drops_line c.args.self.now c.by_event-in-Drop.new.self c.args.line.now.number c.args.line.now.line c.in-Drop.is (of_on_ok c.by_event-in-Drop.result ok c.by_event-in-Drop.ensures))
+    c.or_memory-in-Drop.ensures
+
+pub returns-in-Do : goal.returns-in-Do
+returns-in-Do g c =
+    on_ok_weaker c.or_memory-in-Do.result
+    (λ ok. errand_line c.args.self.now c.errand.new.self c.args.line.now.number c.args.line.now.line c.in-Do.errand c.in-Do.is (of_on_ok c.errand.result ok c.errand.ensures))
+    c.or_memory-in-Do.ensures
+
+pub returns-in_default : goal.returns-in_default
+returns-in_default g c =
+    on_ok_weaker c.or_memory-in_default.result
+    (λ ok. told_line c.args.self.now c.notice.new.self c.args.line.now.number c.args.line.now.line c.in_default.not-Settle c.in_default.not-Remove c.in_default.not-Add
+    c.in_default.not-Drop c.in_default.not-Connect c.in_default.not-Do (of_on_ok c.notice.result ok c.notice.ensures))
+    c.or_memory-in_default.ensures

@@ -1,0 +1,11 @@
+use Rattle.std.proofs.Common.{take}
+use Rattle.rd_world.specs.Stations.{AreStations}
+use Rattle.rd_world.proofs.PlayingLemmas.{PlaysTo}
+use Rattle.rd_world.proofs.world.World.play.Given as goal
+
+-- the lines so far are played
+abbrev pub invariant-loop-line : goal.invariant-loop-line
+invariant-loop-line g l = record {
+  played : PlaysTo (take l.line-index l.lines) l.initial.self l.self;
+  stand : AreStations l.self.stations;
+}
