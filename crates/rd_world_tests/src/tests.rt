@@ -1,9 +1,7 @@
-//! That calls find memory when there is ample, that messages come off a channel one at a time, and that a session opens its channel.
+//! That calls find memory when there is ample, and that messages come off a channel one at a time.
 ghost use Rattle.std.specs.Prelude.{◌≡◌, false};
 
-use rd_base::{Calls, MemSink};
-use rd_script::{Mode, read_script};
-use rd_world::{Event, Host, Recorder, Way, World, found_told};
+use rd_world::{Host, Way, found_told};
 use std::alloc::AllocError;
 
 #[test]
@@ -66,35 +64,5 @@ fn a_host_opens_and_ends_a_channel(rt: HostRuntime) {
     assert_eq!(&rt;
         (sent, host.is_open(), host.has_message()),
         ((true, false, true), false, false)
-    );
-}
-
-/// What a recording begins with, and the host's announce in a frame.
-const ANNOUNCED: &[u8] = b"RDRREC01\x02\0\x14\0\0\0\x0c\0\0\0\x03\0\0\0rDnI\x01\0\x0c\0\x01\0\0\0";
-
-#[test]
-#[tactic(auto, using(rd_world::proofs::DeclaredLemmas::scripts_are_declared, rd_world::proofs::NumberedLemmas::scripts_are_numbered))]
-fn a_session_opens_a_channel(rt: HostRuntime) {
-    let script = read_script(rt.alloc(), Mode::Both, b"drive 1 DATA\n").expect(&rt, "a script");
-    let lines = script.lines.as_slice();
-    let mut world = World::new(rt.alloc(), lines).expect(&rt, "memory for a session");
-    let mut recorder = Recorder::new(rt.alloc()).expect(&rt, "memory for a recording");
-    let mut wire = MemSink::new(rt.alloc(), Calls::of(Vec::new(rt.alloc())));
-    let early = world.enabled(&Event::HostSend);
-    world
-        .step(Event::Connect, &mut recorder)
-        .expect(&rt, "a channel begins");
-    world
-        .settle(&mut recorder, &mut wire)
-        .expect(&rt, "both ends open the channel");
-    recorder
-        .write_all(&mut wire)
-        .expect(&rt, "the recording is written");
-    let late = world.enabled(&Event::ClientSend);
-    let dropped = world.enabled(&Event::Drop);
-    let recorded = wire.bytes().starts_with(ANNOUNCED);
-    assert_eq!(&rt;
-        (early, late, dropped, recorded),
-        (false, false, true, true)
     );
 }
