@@ -100,7 +100,7 @@ submitted t new x named o number is = go (submit_refusal t named) refl
     go None e = refl
     go (Some why) e = let failed : (submit t x named o).1 ≡ Err why = rw e refl in absurd (let ok = answered (submit t x named o) new (Ok number) is in cc)
 
-not_submitted : (t new : TableState) (x : ℕ) (named : Target) (o : Op) (cause : SubmitNo) → submit t x named o ≡ (new, Err cause) → new ≡ t
+pub not_submitted : (t new : TableState) (x : ℕ) (named : Target) (o : Op) (cause : SubmitNo) → submit t x named o ≡ (new, Err cause) → new ≡ t
 not_submitted t new x named o cause is = go (submit_refusal t named) refl
   where
     go : (r : Option SubmitNo) → submit_refusal t named ≡ r → new ≡ t

@@ -2,7 +2,7 @@
 
 ghost use Rattle.std.specs.Prelude.{◌≡◌, ◌≢◌, [], IsSome, OnErr, OnOk};
 ghost use Rattle.std.specs.Option.{option_copied};
-ghost use Rattle.rd_printer.specs.Cache.{forgetting, heard, kept_for, keeping, HearsNotice};
+ghost use Rattle.rd_printer.specs.Cache.{by_bytes, forgetting, heard, kept_for, keeping, HearsNotice};
 ghost use Rattle.rd_printer.specs.declared.notice.Notice.TheVariants as Notice;
 
 use crate::notice::Notice;
@@ -61,6 +61,14 @@ impl Cache {
             Notice::Rename { old, new } => self.rename(old.as_slice(), new.as_slice()),
             Notice::UsingXps { .. } => Ok(()),
         }
+    }
+
+    /// What is kept, by name.
+    pub fn finish(self) -> BTreeMap<Vec<u8>, Bytes>
+        ensures { by_bytes result.entries ≡ self.entry }
+    {
+        let Cache { kept, .. } = self;
+        kept
     }
 
     /// Keeps a configuration for a name.

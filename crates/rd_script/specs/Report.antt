@@ -1,6 +1,6 @@
 -- The text of a report.
-use Rattle.std.specs.Prelude.{ℕ, ◌+◌, ◌-◌, ◌==◌, Bool, true, false, if◌then◌else◌, List, [], ◌∷◌, ◌++◌, All, codes, decimal, count_by, Vec, Option, Some, None, IsSome, slice_get}
-use Rattle.std.specs.List.{flat_map, list_any}
+use Rattle.std.specs.Prelude.{ℕ, ◌+◌, ◌-◌, ◌==◌, Bool, true, false, if◌then◌else◌, List, [], ◌∷◌, ◌++◌, codes, decimal, count_by, Vec, Option, Some, None, slice_get}
+use Rattle.std.specs.List.{AllByRecursion, flat_map, list_any}
 use Rattle.std.specs.Option.{unwrap_or}
 use Rattle.std.specs.Int.{w32, to_be_bytes}
 use Rattle.hex.specs.Hex.{encode_lower}
@@ -9,10 +9,10 @@ use Rattle.rd_base.specs.declared.journal.Cause.TheVariants as cause
 use Rattle.rd_base.specs.declared.journal.Item.{Item}
 use Rattle.rd_base.specs.declared.journal.Item.TheVariants as entry
 use Rattle.rd_base.specs.declared.status.Status.{Status}
-use Rattle.rd_base.specs.History.{History, journal_of}
+use Rattle.rd_base.specs.History.{History}
 use Rattle.rd_irp.specs.declared.completion.Kind.{Kind}
 use Rattle.rd_irp.specs.declared.completion.Kind.TheVariants as kind
-use Rattle.rd_irp.specs.Fits.{BodyFits}
+use Rattle.rd_irp.specs.Fits.{IsCountableBody}
 use Rattle.rd_irp.specs.Written.{body_bytes}
 use Rattle.rd_script.specs.declared.line.NumberedLine.{NumberedLine}
 use Rattle.rd_script.specs.declared.outcome.Outcome.{Outcome}
@@ -116,18 +116,12 @@ report_of script outcomes books =
 
 -- ---- what a report can be made of
 
--- a done reply has the body of its line's completion and status
-abbrev pub IsOfLine : Option Kind → Outcome → Type 0
-IsOfLine None o = ⊥
-IsOfLine (Some k) (outcome.Done reply) = BodyFits k reply.status reply.body
-IsOfLine (Some k) (outcome.Lost why) = Unit {0}
-IsOfLine (Some k) (outcome.Refused why) = Unit {0}
+-- the buffer of a done reply is short enough for its length
+abbrev pub IsCountable : Outcome → Type 0
+IsCountable (outcome.Done reply) = IsCountableBody reply.body
+IsCountable (outcome.Lost why) = Unit {0}
+IsCountable (outcome.Refused why) = Unit {0}
 
--- each outcome is of an application's line
-abbrev pub AreOfLines : List NumberedLine → List ((ℕ × ℕ) × Outcome) → Type 0
-AreOfLines lines [] = Unit {0}
-AreOfLines lines (e ∷ es) = IsOfLine (kind_of_line lines e.0) e.1 × AreOfLines lines es
-
--- each device of a script has a journal
-abbrev pub HasJournals : List NumberedLine → List (ℕ × History) → Type 0
-HasJournals lines books = All (λ device. IsSome (journal_of books device)) (devices_of lines)
+-- each outcome's is
+abbrev pub AreCountable : List ((ℕ × ℕ) × Outcome) → Type 0
+AreCountable entries = AllByRecursion (λ (e : (ℕ × ℕ) × Outcome). IsCountable e.1) entries

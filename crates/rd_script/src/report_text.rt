@@ -10,7 +10,7 @@ ghost use Rattle.hex.specs.Hex.{encode_lower};
 ghost use Rattle.rd_irp.specs.Fits.{IsCountableBody};
 ghost use Rattle.rd_irp.specs.Written.{body_bytes};
 ghost use Rattle.rd_script.specs.ReportLines.{kinds_of};
-ghost use Rattle.rd_script.specs.Report.{cached_line, cause_word, device_lines, document_lines, documents_from, hex_text, idle_line, is_run, listed_line, outcome_line, outcome_text, refusal_word, report_of, status_digits, AreOfLines, HasJournals, IsOfLine};
+ghost use Rattle.rd_script.specs.Report.{cached_line, cause_word, device_lines, document_lines, documents_from, hex_text, idle_line, is_run, listed_line, outcome_line, outcome_text, refusal_word, report_of, status_digits, AreCountable, IsCountable};
 
 use crate::line::NumberedLine;
 use crate::outcome::{Outcome, Outcomes, Refusal};
@@ -107,7 +107,7 @@ fn put_outcome(
     kind: Kind,
     outcome: &Outcome,
 ) -> Result<(), AllocError>
-    requires { IsOfLine (Some kind) outcome.now }
+    requires { IsCountable outcome.now }
     ensures { OnOk result (string_bytes text.new ≡ string_bytes text.old ++ outcome_text kind outcome.now) }
 {
     match outcome {
@@ -156,7 +156,7 @@ fn put_line(
     kind: Kind,
     outcome: &Outcome,
 ) -> Result<(), AllocError>
-    requires { IsOfLine (Some kind) outcome.now }
+    requires { IsCountable outcome.now }
     ensures { OnOk result (string_bytes text.new ≡ string_bytes text.old
         ++ (decimal id.0 ++ codes "." ++ decimal id.1 ++ outcome_text kind outcome.now ++ codes "\n")) }
 {
@@ -172,7 +172,7 @@ fn put_outcomes(
     lines: &[NumberedLine],
     outcomes: &BTreeMap<(u32, u32), Outcome>,
 ) -> Result<(), AllocError>
-    requires { AreOfLines lines.now outcomes.now.entries }
+    requires { AreCountable outcomes.now.entries }
     ensures { OnOk result (string_bytes text.new ≡ string_bytes text.old ++ flat_map (outcome_line lines.now) outcomes.now.entries) }
 {
     let mut application = 0u32;
@@ -296,8 +296,7 @@ pub fn report(
     outcomes: &Outcomes,
     books: &Books,
 ) -> Result<Bytes, AllocError>
-    requires lines { AreOfLines script.now.lines outcomes.now.lines.entries }
-    requires journals { HasJournals script.now.lines books.now }
+    requires { AreCountable outcomes.now.lines.entries }
     ensures { IfOk result (λ text. text ≡ report_of script.now outcomes.now books.now) }
 {
     let lines = script.lines.as_slice();

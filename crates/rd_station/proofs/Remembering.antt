@@ -200,7 +200,7 @@ module _ {S : Type 0} where
 
 -- ---- which may come
 
-below_true : (a b : Key) → is_key_below a b ≡ true → IsBelow a b
+pub below_true : (a b : Key) → is_key_below a b ≡ true → IsBelow a b
 below_true a b e = by (nat_lt a.channel b.channel) refl (a.channel == b.channel) refl (nat_lt a.index b.index) refl e
   where
     by : (p : Bool) → nat_lt a.channel b.channel ≡ p → (q : Bool) → (a.channel == b.channel) ≡ q → (r : Bool) → nat_lt a.index b.index ≡ r → (p || (q && r)) ≡ true → IsBelow a b
@@ -220,7 +220,7 @@ true_below a b (inr less) = by (nat_lt a.channel b.channel)
     by true = refl
     by false = ap (λ q. q && nat_lt a.index b.index) (eq-eqb a.channel b.channel less.0) ∙ less-ltb a.index b.index less.1
 
-below_trans : (a b c : Key) → IsBelow a b → IsBelow b c → IsBelow a c
+pub below_trans : (a b c : Key) → IsBelow a b → IsBelow b c → IsBelow a c
 below_trans a b c (inl x) (inl y) = inl (omega (arith, x, y))
 below_trans a b c (inl x) (inr y) = inl (omega (arith, x, y.0))
 below_trans a b c (inr x) (inl y) = inl (omega (arith, x.0, y))

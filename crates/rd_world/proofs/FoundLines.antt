@@ -29,6 +29,7 @@ use Rattle.rd_pending.specs.declared.calls.Outcome.TheVariants as came
 use Rattle.rd_pending.specs.declared.calls.Target.TheVariants as target
 use Rattle.rd_printer.specs.Cache.{CacheState}
 use Rattle.rd_printer.specs.Notice.{add_event, update_event, delete_event, rename_event, event_body, cache_data, using_xps, notice, notice_bytes}
+use Rattle.rd_printer.specs.Cache.{by_bytes}
 use Rattle.rd_script.specs.ReportLines.{declared_by}
 use Rattle.rd_script.specs.Report.{report_of}
 use Rattle.rd_script.specs.declared.outcome.Outcome.{Outcome}
@@ -397,7 +398,7 @@ module _ (told : Outcomes) (found : AreFound told) where
   report = record {
     output = sym reported;
     documents = found.documents ∙ refl;
-    cache = ap (map (λ e. ((e.0).items, e.1))) found.cache ∙ refl;
+    cache = ap by_bytes found.cache ∙ refl;
   }
 
   pub control_lines : AreActed found_devices found_lines told.idle.items found_deeds
@@ -431,8 +432,10 @@ module _ (told : Outcomes) (found : AreFound told) where
         run = ran_so world.0 world.1 (ap (λ (t : Summary). t.1) tells);
         did = ap (λ (t : Summary). t.0) tells;
         stored = sym (ap (λ (t : Summary). t.1) tells);
-        lines = found.lines ∙ sym (ap (λ (t : Summary). t.2) tells);
-        idle = found.idle ∙ sym (ap (λ (t : Summary). t.3) tells);
-        documents = found.documents ∙ sym (ap (λ (t : Summary). t.4) tells);
-        cache = ap (map (λ e. ((e.0).items, e.1))) found.cache ∙ sym (ap (λ (t : Summary). t.5) tells);
+        tells = record {
+          lines = found.lines ∙ sym (ap (λ (t : Summary). t.2) tells);
+          idle = found.idle ∙ sym (ap (λ (t : Summary). t.3) tells);
+          documents = found.documents ∙ sym (ap (λ (t : Summary). t.4) tells);
+          cache = ap by_bytes found.cache ∙ sym (ap (λ (t : Summary). t.5) tells);
+        };
       }

@@ -42,8 +42,9 @@ use Rattle.rd_station.specs.declared.refusals.PutWhy.{PutWhy}
 use Rattle.rd_station.specs.declared.refusals.PutWhy.TheVariants as why
 use Rattle.rd_station.proofs.Calls.{did_run, reached_kept}
 use Rattle.rd_station.proofs.Members.{find_has, from_contains, has_append, has_right, key_self, same_key, to_contains}
-use Rattle.rd_station.proofs.Remembering.{came_named}
+use Rattle.rd_station.proofs.Remembering.{below_trans, below_true, came_named}
 use Rattle.rd_station.proofs.Requests.{all_less}
+use Rattle.rd_world.proofs.GrowingLemmas.{longer_self}
 use Rattle.rd_world.specs.Devices.{device_cuts, device_parked, device_runs, device_step}
 use Rattle.rd_world.specs.Events.{is_close}
 use Rattle.rd_world.specs.Keys.{MarksAgree, AgreesAt, AreBelow, AreLonger, AreUpTo, KeysApart, NamesAt, station_journals}
@@ -218,21 +219,6 @@ step_names call old new step reached key names =
 
 -- ---- keys in order
 
-below_true : (a b : Key) → is_key_below a b ≡ true → IsBelow a b
-below_true a b e = by (nat_lt a.channel b.channel) refl (a.channel == b.channel) refl (nat_lt a.index b.index) refl e
-  where
-    by : (p : Bool) → nat_lt a.channel b.channel ≡ p → (q : Bool) → (a.channel == b.channel) ≡ q → (r : Bool) → nat_lt a.index b.index ≡ r → (p || (q && r)) ≡ true → IsBelow a b
-    by true p q qe r re e = inl (ltb-true a.channel b.channel p)
-    by false p true qe true re e = inr (eqb-true a.channel b.channel qe, ltb-true a.index b.index re)
-    by false p true qe false re e = absurd (cc)
-    by false p false qe r re e = absurd (cc)
-
-below_trans : (a b c : Key) → IsBelow a b → IsBelow b c → IsBelow a c
-below_trans a b c (inl x) (inl y) = inl (omega (arith, x, y))
-below_trans a b c (inl x) (inr y) = inl (omega (arith, x, y.0))
-below_trans a b c (inr x) (inl y) = inl (omega (arith, x.0, y))
-below_trans a b c (inr x) (inr y) = inr (x.0 ∙ y.0, omega (arith, x.1, y.1))
-
 not_below : (a : Key) → ¬ (IsBelow a a)
 not_below a (inl less) = omega (arith, less)
 not_below a (inr less) = omega (arith, less.1)
@@ -353,10 +339,6 @@ none_above id low (e ∷ es) less above = rw (apart id low e.0 less above.0) (no
     apart : (i l k : ℕ) → nat_cmp i l ≡ Less → nat_cmp l k ≡ Less → is_at (nat_cmp i) k ≡ false
     apart i l k less above = grind (arith, nat_tests)
 
-longer_self : (es : List (ℕ × StationState SessionDevice)) → AreLonger (station_journals es) (station_journals es)
-longer_self [] = tt
-longer_self (e ∷ es) = ((refl, ([], sym (append-nil (e.1).journal))), longer_self es)
-
 longer_put : (es : List (ℕ × StationState SessionDevice)) (id : ℕ) (before after : StationState SessionDevice) (more : List Item) → after.journal ≡ before.journal ++ more → IsStrictlySortedBy nat_cmp (keys_of es)
     → lookup (is_at (nat_cmp id)) es ≡ Some before → AreLonger (station_journals es) (station_journals (insert_entry nat_cmp es id after))
 unfolding IsStrictlySortedBy
@@ -367,7 +349,7 @@ longer_put (e ∷ es) id before after more longer rise found = by (nat_cmp id e.
         → (lookup (is_at (nat_cmp id)) es ≡ Some before → AreLonger (station_journals es) (station_journals (insert_entry nat_cmp es id after)))
         → AreLonger (station_journals (e ∷ es)) (station_journals (match_ordering o ((id, after) ∷ e ∷ es) ((e.0, after) ∷ es) (e ∷ insert_entry nat_cmp es id after)))
     by Less is found later = let none = none_above id e.0 es is rise.0 in absurd (cc)
-    by Equal is found later = let same : e.1 ≡ before = cc in ((refl, (more, longer ∙ ap (λ (s : StationState SessionDevice). s.journal ++ more) (sym same))), longer_self es)
+    by Equal is found later = let same : e.1 ≡ before = cc in ((refl, (more, longer ∙ ap (λ (s : StationState SessionDevice). s.journal ++ more) (sym same))), longer_self (station_journals es))
     by Greater is found later = ((refl, ([], sym (append-nil (e.1).journal))), later found)
 
 -- A call of a station only makes its journal longer, and leaves the others.

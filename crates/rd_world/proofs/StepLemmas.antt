@@ -308,18 +308,6 @@ applied_nowhere w device hand job none held starves =
 
 -- ---- a request is refused
 
-pub refused_table : (t new : TableState) (x : ℕ) (named : Target) (o : Op) (cause : SubmitNo) → table.submit t x named o ≡ (new, Err cause) → new ≡ t
-refused_table t new x named o cause is = go (table.submit_refusal t named) refl
-  where
-    go : (r : Option SubmitNo) → table.submit_refusal t named ≡ r → new ≡ t
-    go None e =
-        let ok : (table.submit t x named o).1 ≡ Ok (suc t.count) = rw e refl in
-        let failed : (table.submit t x named o).1 ≡ Err cause = ap (λ (y : TableState × Result ℕ SubmitNo). y.1) is in
-        absurd (cc (ok, failed))
-    go (Some why) e =
-        let same : (table.submit t x named o).0 ≡ t = rw e refl in
-        sym (ap (λ (y : TableState × Result ℕ SubmitNo). y.0) is) ∙ same
-
 -- the same, where the parts of what is left are told apart
 pub applied_to : (w x : WorldState) (device place hand : ℕ) (job : Job) (before : List Item) (planned : Planned) (answer : Applied) (new : List (ℕ × StationState SessionDevice)) (hands : List (Option (ℕ × Job)))
     (deeds : List Deed) → w ≡ x → IsPlaceOf w.stations device (Some place) → StepsAt w.stations place (applies planned w.moment answer) new → planned.job ≡ job

@@ -32,3 +32,4 @@ pub mod Opening
 pub mod Noting
 pub mod Step
 pub mod Drawn
+pub mod Wire

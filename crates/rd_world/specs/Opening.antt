@@ -13,6 +13,7 @@ use Rattle.rd_script.specs.declared.line.Line.TheVariants as line
 use Rattle.rd_script.specs.declared.line.NumberedLine.{NumberedLine}
 use Rattle.rd_station.specs.Station.{StationState}
 use Rattle.rd_world.specs.Devices.{Declared, PrinterNames, announce_of, device_parked}
+use Rattle.rd_world.specs.Hands.{max_hands}
 use Rattle.rd_world.specs.Printers.{AreShortNames, max_printer_data, max_printer_units}
 use Rattle.rd_world.specs.Run.{declared_devices, printers_of, station_of}
 use Rattle.rd_world.specs.Stations.{max_session_devices}
@@ -25,12 +26,9 @@ use Rattle.rd_world.specs.declared.opening.Settings.{Settings}
 abbrev pub max_device_name : ℕ
 max_device_name = 7
 
--- the most bytes that a read takes at once, and the most hands
+-- the most bytes that a read takes at once
 abbrev pub max_piece : ℕ
 max_piece = 65536
-
-abbrev pub max_hands : ℕ
-max_hands = 16
 
 -- What a line says of settings and devices is within the limits of a script.
 unfoldable pub IsDeclarable : Line → Type 0

@@ -16,6 +16,7 @@ use Rattle.rd_irp.specs.declared.completion.Reply.{Reply}
 use Rattle.rd_irp.specs.declared.request.Request.{Request}
 use Rattle.rd_irp.specs.Fits.{kind_of}
 use Rattle.rd_irp.specs.Written.{completion_bytes}
+use Rattle.rd_printer.specs.Cache.{by_bytes}
 use Rattle.rd_script.specs.declared.line.NumberedLine.{NumberedLine}
 use Rattle.rd_script.specs.declared.outcome.Outcomes.{Outcomes}
 use Rattle.rd_script.specs.declared.script.Script.{Script}
@@ -135,7 +136,7 @@ documents_of deeds d = by_device d.0 (last_state_by device_step device_cut (requ
 pub record IsReported (devices : List (ℕ × Declared)) (script : Script) (told : Outcomes) (books : List (ℕ × History)) (text : List ℕ) (deeds : List Deed) : Type 0 where
   pub output : text ≡ report_of script told books
   pub documents : told.documents.entries ≡ flat_map (documents_of deeds) devices
-  pub cache : map (λ e. ((e.0).items, e.1)) told.cache.entries ≡ cache_after deeds
+  pub cache : by_bytes told.cache.entries ≡ cache_after deeds
 
 -- ---- the run
 
@@ -143,17 +144,25 @@ pub record IsReported (devices : List (ℕ × Declared)) (script : Script) (told
 abbrev pub printed_in : ℕ × StationState SessionDevice → List (ℕ × List (List ℕ))
 printed_in e = let s = e.1 in by_device e.0 s.device
 
+-- What a report tells of a world: the outcomes of its lines and those that did nothing, the finished documents, and what is kept for printers.
+pub record TellsWorld (world : WorldState) (told : Outcomes) : Type 0 where
+  pub lines : told.lines.entries ≡ outcomes_of world
+  pub idle : told.idle.items ≡ world.idle
+  pub documents : told.documents.entries ≡ flat_map printed_in world.stations
+  pub cache : by_bytes told.cache.entries ≡ world.cache
+
+-- the journals in books
+abbrev pub journals_of : List (ℕ × History) → List (ℕ × List Item)
+journals_of books = map {B = ℕ × List Item} (λ (b : ℕ × History). (b.0, (b.1).items)) books
+
 -- This is what the script's session comes to: a world that has these journals, in which the runs that the journals mark so found no memory, and in which
--- both sides did this; with these outcomes and idle lines, these documents, and this cache.
+-- both sides did this; and this is told of it.
 pub record IsRun (script : Script) (books : List (ℕ × History)) (told : Outcomes) (deeds : List Deed) : Type 0 where
   pub world : WorldState
   pub run : WorldRun script.lines world
   pub did : world.deeds ≡ deeds
-  pub stored : map {B = ℕ × List Item} (λ (b : ℕ × History). (b.0, (b.1).items)) books ≡ journals_in world
-  pub lines : told.lines.entries ≡ outcomes_of world
-  pub idle : told.idle.items ≡ world.idle
-  pub documents : told.documents.entries ≡ flat_map printed_in world.stations
-  pub cache : map (λ e. ((e.0).items, e.1)) told.cache.entries ≡ world.cache
+  pub stored : journals_of books ≡ journals_in world
+  pub tells : TellsWorld world told
 
 -- ---- the whole
 

@@ -33,7 +33,7 @@ use std::alloc::AllocError;
 
 impl<'s> World<'s> {
     /// An application issues its next line.
-    #[tactic(auto, using(crate::proofs::StepLemmas::refused_table))]
+    #[tactic(auto, using(rd_pending::proofs::Reaching::not_submitted))]
     pub(crate) fn issue(&mut self, a: u32) -> Result<(), AllocError>
         requires there { IsSome (lookup (is_at (nat_cmp a)) self.old.applications) }
         requires may { may_issue (application_in self.old.applications a) ≡ true }

@@ -19,6 +19,7 @@ mod client;
 mod device;
 mod done;
 mod event;
+mod finishing;
 mod found;
 mod handles;
 mod hands;

@@ -191,7 +191,10 @@ impl<'s> World<'s> {
         wire: &mut R,
     ) -> Result<(), StepNo>
         requires { IsNotable line.now.line }
-        ensures { OnOk result ((most : Most) × ((starves : Key → Bool) → MarksAgree starves (journals_in self.new) → controls starves most self.old line.now.number line.now.line ≡ Some self.new)) }
+        ensures controlled { OnOk result ((most : Most) × ((starves : Key → Bool) → MarksAgree starves (journals_in self.new) → controls starves most self.old line.now.number line.now.line ≡ Some self.new)) }
+        ensures counted { CountsWire result (R.faults wire.old) (R.faults wire.new) }
+        ensures recorded { OnOk result (Records (R.held wire.old) (R.held wire.new) self.old recorder.old self.new recorder.new) }
+        ensures cut { OnWire result (IsCut (R.held wire.old) (R.held wire.new) self.old recorder.old (λ starves most. controls starves most self.old line.now.number line.now.line) self.new) }
     {
         let number = line.number;
         match &line.line {
@@ -228,7 +231,10 @@ impl<'s> World<'s> {
         wire: &mut R,
     ) -> Result<(), StepNo>
         requires { IsNotable line.now.line }
-        ensures { OnOk result ((most : Most) × ((starves : Key → Bool) → MarksAgree starves (journals_in self.new) → plays_line starves most self.old line.now ≡ Some self.new)) }
+        ensures played { OnOk result ((most : Most) × ((starves : Key → Bool) → MarksAgree starves (journals_in self.new) → plays_line starves most self.old line.now ≡ Some self.new)) }
+        ensures counted { CountsWire result (R.faults wire.old) (R.faults wire.new) }
+        ensures recorded { OnOk result (Records (R.held wire.old) (R.held wire.new) self.old recorder.old self.new recorder.new) }
+        ensures cut { OnWire result (IsCut (R.held wire.old) (R.held wire.new) self.old recorder.old (λ starves most. plays_line starves most self.old line.now) self.new) }
     {
         match application_of(&line.line) {
             Some(a) => self.queue(a),
@@ -255,6 +261,9 @@ impl<'s> World<'s> {
         requires { AreNotable lines.now }
         ensures played { OnOk result ((most : Most) × ((starves : Key → Bool) → MarksAgree starves (journals_in self.new) → plays starves most lines.now self.old ≡ Some self.new)) }
         ensures kept { OnOk result (AreStations self.new.stations) }
+        ensures counted { CountsWire result (R.faults wire.old) (R.faults wire.new) }
+        ensures recorded { OnOk result (Records (R.held wire.old) (R.held wire.new) self.old recorder.old self.new recorder.new) }
+        ensures cut { OnWire result (IsCut (R.held wire.old) (R.held wire.new) self.old recorder.old (λ starves most. plays starves most lines.now self.old) self.new) }
     {
         self.stand();
         for line in lines {
@@ -270,6 +279,9 @@ impl<'s> World<'s> {
     /// After the last settling a channel on which a request waits is dropped, and what is queued then is issued.
     fn end<R: Sink>(&mut self, recorder: &mut Recorder, wire: &mut R) -> Result<(), StepNo>
         ensures ended { OnOk result ((most : Most) × ((starves : Key → Bool) → MarksAgree starves (journals_in self.new) → ends_session starves most self.old ≡ Some self.new)) }
+        ensures counted { CountsWire result (R.faults wire.old) (R.faults wire.new) }
+        ensures recorded { OnOk result (Records (R.held wire.old) (R.held wire.new) self.old recorder.old self.new recorder.new) }
+        ensures cut { OnWire result (IsCut (R.held wire.old) (R.held wire.new) self.old recorder.old (λ starves most. ends_session starves most self.old) self.new) }
     {
         match self.is_left_waiting() {
             Ok(true) => {
@@ -292,7 +304,11 @@ impl<'s> World<'s> {
     ) -> Result<(), StepNo>
         requires begun { self.old ≡ world_of lines.now }
         requires notable { AreNotable lines.now }
-        ensures { OnOk result (WorldRun lines.now self.new) }
+        requires empty { recorder.old ≡ codes "RDRREC01" }
+        ensures ran { OnOk result (WorldRun lines.now self.new) }
+        ensures recorded { OnOk result (Appends (R.held wire.old) (R.held wire.new) (recording_of_deeds self.new.deeds)) }
+        ensures cut { OnWire result (IsCutRun (R.held wire.old) (R.held wire.new) lines.now self.new) }
+        ensures counted { CountsWire result (R.faults wire.old) (R.faults wire.new) }
     {
         if self.begin(recorder).is_err() {
             return Err(StepNo::Memory);

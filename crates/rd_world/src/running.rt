@@ -131,6 +131,9 @@ impl<'s> World<'s> {
     /// Draws until nothing can happen by itself. What is recorded goes to the wire in pieces.
     pub fn settle<R: Sink>(&mut self, recorder: &mut Recorder, wire: &mut R) -> Result<(), StepNo>
         ensures settled { OnOk result ((most : ℕ) × ((starves : Key → Bool) → MarksAgree starves (journals_in self.new) → settled starves most self.old ≡ Some self.new)) }
+        ensures counted { CountsWire result (R.faults wire.old) (R.faults wire.new) }
+        ensures recorded { OnOk result (Records (R.held wire.old) (R.held wire.new) self.old recorder.old self.new recorder.new) }
+        ensures cut { OnWire result (IsCut (R.held wire.old) (R.held wire.new) self.old recorder.old (λ starves most. settled starves most.draws self.old) self.new) }
     {
         'settling: for _ in 0..u64::MAX {
             let choices = self.choices();
