@@ -12,7 +12,7 @@ use Rattle.rd_world.specs.Keys.{MarksAgree}
 use Rattle.rd_world.specs.Run.{Most, NextStep, all_client_sends, all_host_sends, asked_by, choices, chosen, client_reads_all, connects_on, controls, drawing, ends_session, host_reads_all, idles, is_quiet, picked, plays, plays_line, queueing, rounds, settled, settles_by, some_left}
 use Rattle.rd_world.specs.Stations.{AreStations}
 use Rattle.rd_world.specs.World.{Asked, WorldState, journals_in}
-use Rattle.rd_world.proofs.GrowingLemmas.{Grows, GrowsTo, grown_to}
+use Rattle.rd_world.proofs.GoingLemmas.{GoesTo, gone_to, goes_longer}
 use Rattle.rd_world.proofs.KeysLemmas.{agrees_before}
 
 -- no more than these draws and rounds
@@ -119,13 +119,13 @@ ComesTo f x = (most : Most) × ((starves : Key → Bool) → MarksAgree starves 
 
 -- by way of a world whose ids rise
 pub comes_then : (f : (Key → Bool) → Most → Option WorldState) (g : (Key → Bool) → Most → WorldState → Option WorldState) (w x : WorldState) → Steady f
-    → Steady (λ starves most. g starves most w) → ((starves : Key → Bool) (most : Most) → GrowsTo w (g starves most w)) → AreStations w.stations
+    → Steady (λ starves most. g starves most w) → ((starves : Key → Bool) (most : Most) → GoesTo w (g starves most w)) → AreStations w.stations
     → ComesTo f w → ComesTo (λ starves most. g starves most w) x → ComesTo (λ starves most. option_and_then (g starves most) (f starves most)) x
-comes_then f g w x first second grows stand (m, before) (n, after) = (
+comes_then f g w x first second goes stand (m, before) (n, after) = (
   both m n,
   λ starves agrees.
       let then_is : g starves n w ≡ Some x = after starves agrees in
-      let longer = (grown_to w (g starves n w) x (grows starves n) then_is).longer stand.rise in
+      let longer = goes_longer w x (gone_to w (g starves n w) x (goes starves n) then_is) stand.rise in
       let first_is : f starves m ≡ Some w = before starves (agrees_before starves (journals_in w) (journals_in x) longer agrees) in
       ap (option_and_then (g starves (both m n))) (first starves m (both m n) (first_within m n) w first_is)
       ∙ second starves n (both m n) (second_within m n) x then_is,

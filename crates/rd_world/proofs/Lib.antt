@@ -63,6 +63,7 @@ pub mod SentLemmas
 pub mod RecordedLemmas
 pub mod SettlingLemmas
 pub mod GrowingLemmas
+pub mod GoingLemmas
 pub mod FoldLemmas
 pub mod RefreshLemmas
 pub mod ListedLemmas
@@ -71,3 +72,4 @@ pub mod RoundsLemmas
 pub mod FuelLemmas
 pub mod LeftLemmas
 pub mod PlayingLemmas
+pub mod WireLemmas

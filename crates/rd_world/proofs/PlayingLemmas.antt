@@ -17,7 +17,7 @@ use Rattle.rd_world.specs.Run as run
 use Rattle.rd_world.specs.Stations.{AreStations}
 use Rattle.rd_world.specs.World.{Asked, WorldState, journals_in, marks_of}
 use Rattle.rd_world.proofs.FuelLemmas.{ComesTo, Steady, comes_then, connects_on_more, ends_session_more, kept_then, plays_line_more, plays_more, plays_one_more, settled_more}
-use Rattle.rd_world.proofs.GrowingLemmas.{ends_session_grows, plays_grows, plays_line_grows, settled_grows}
+use Rattle.rd_world.proofs.GoingLemmas.{ends_session_goes, plays_goes, plays_line_goes, settled_goes}
 use Rattle.rd_world.proofs.KeysLemmas.{marks_agree}
 
 -- ---- a line
@@ -178,17 +178,20 @@ plays_next ls l w x y before stand after =
     let goes_on : ComesTo (λ starves most. option_and_then (λ z. plays_line starves most z l) (plays starves most ls w)) y =
     comes_then (λ starves most. plays starves most ls w) (λ starves most z. plays_line starves most z l) x y
     (λ starves most more within. plays_more starves most more within ls w) (λ starves most more within. plays_line_more starves most more within x l)
-    (λ starves most. plays_line_grows starves most x l) stand before after in
+    (λ starves most. plays_line_goes starves most x l) stand before after in
     (goes_on.0, λ starves agrees. plays_one_more starves goes_on.0 ls l w ∙ goes_on.1 starves agrees)
+
+-- the lines as far as a place, and the one there
+pub longer_line : (lines : List NumberedLine) (i : ℕ) (l : NumberedLine) → i < length lines → l ≡ get_or lines i l → take (i + 1) lines ≡ take i lines ++ l ∷ []
+longer_line lines i l within at =
+    let next : i + 1 ≡ suc i = omega arith in
+    ap (λ (n : ℕ). take n lines) next ∙ take-suc lines i l within ∙ ap (λ (k : NumberedLine). take i lines ++ k ∷ []) (sym at)
 
 -- the line at a place, after those before it
 pub plays_one : (lines : List NumberedLine) (i : ℕ) (l : NumberedLine) (w x y : WorldState) → i < length lines → l ≡ get_or lines i l
     → PlaysTo (take i lines) w x → AreStations x.stations → ComesTo (λ starves most. plays_line starves most x l) y → PlaysTo (take (i + 1) lines) w y
 plays_one lines i l w x y within at before stand after =
-    let next : i + 1 ≡ suc i = omega arith in
-    let longer : take (i + 1) lines ≡ take i lines ++ l ∷ [] =
-    ap (λ (n : ℕ). take n lines) next ∙ take-suc lines i l within ∙ ap (λ (k : NumberedLine). take i lines ++ k ∷ []) (sym at) in
-    subst (λ (ls : List NumberedLine). PlaysTo ls w y) (sym longer) (plays_next (take i lines) l w x y before stand after)
+    subst (λ (ls : List NumberedLine). PlaysTo ls w y) (sym (longer_line lines i l within at)) (plays_next (take i lines) l w x y before stand after)
 
 take_whole : (lines : List NumberedLine) (i : ℕ) → length lines ≤ i → take i lines ≡ lines
 take_whole [] zero long = refl
@@ -250,35 +253,86 @@ ended_still w left =
 
 -- ---- a session
 
-pub ran : (lines : List NumberedLine) (begun played still x : WorldState) → ComesTo (λ starves most. connects_on starves most (world_of lines)) begun
-    → AreStations begun.stations → PlaysTo lines begun played → AreStations played.stations → ComesTo (λ starves most. settled starves most.draws played) still
-    → AreStations still.stations → ComesTo (λ starves most. ends_session starves most still) x → AreStations x.stations → WorldRun lines x
-ran lines begun played still x connected stand_begun plays_to stand_played settled_to stand_still ended stand =
-    let begins : (Key → Bool) → Most → Option WorldState = λ starves most. connects_on starves most (world_of lines) in
-    let first : ComesTo (λ starves most. option_and_then (plays starves most lines) (begins starves most)) played =
-    comes_then begins (λ starves most. plays starves most lines) begun played
-    (λ starves most more within. connects_on_more starves most more within (world_of lines)) (λ starves most more within. plays_more starves most more within lines begun)
-    (λ starves most. plays_grows starves most lines begun) stand_begun connected plays_to in
-    let steady_first : Steady (λ starves most. option_and_then (plays starves most lines) (begins starves most)) =
-    λ starves most more within. kept_then (plays starves most lines) (plays starves more lines) (begins starves most) (begins starves more)
-    (connects_on_more starves most more within (world_of lines)) (plays_more starves most more within lines) in
-    let second : ComesTo (λ starves most. option_and_then (settled starves most.draws) (option_and_then (plays starves most lines) (begins starves most))) still =
-    comes_then (λ starves most. option_and_then (plays starves most lines) (begins starves most)) (λ starves most. settled starves most.draws) played still
-    steady_first (λ starves most more within. settled_more starves most.draws more.draws within.draws played)
-    (λ starves most. settled_grows starves most.draws played) stand_played first settled_to in
-    let steady_second : Steady (λ starves most. option_and_then (settled starves most.draws) (option_and_then (plays starves most lines) (begins starves most))) =
-    λ starves most more within. kept_then (settled starves most.draws) (settled starves more.draws) (option_and_then (plays starves most lines) (begins starves most))
-    (option_and_then (plays starves more lines) (begins starves more)) (steady_first starves most more within) (settled_more starves most.draws more.draws within.draws) in
-    let third : ComesTo (λ starves most. option_and_then (ends_session starves most) (option_and_then (settled starves most.draws) (option_and_then (plays starves most lines) (begins starves most)))) x =
-    comes_then (λ starves most. option_and_then (settled starves most.draws) (option_and_then (plays starves most lines) (begins starves most))) (λ starves most. ends_session starves most) still x
-    steady_second (λ starves most more within. ends_session_more starves most more within still)
-    (λ starves most. ends_session_grows starves most still) stand_still second ended in
-    (third.0, third.1 (marks_of x) (marks_agree x.stations stand))
+-- what so many steps come to
+abbrev pub Running : Type 0
+Running = (Key → Bool) → Most → Option WorldState
 
-pub ran_from : (lines : List NumberedLine) (w begun played still x : WorldState) → w ≡ world_of lines
-    → ((most : Most) × ((starves : Key → Bool) → connects_on starves most w ≡ Some begun)) → AreStations begun.stations → PlaysTo lines begun played
-    → AreStations played.stations → ((most : ℕ) × ((starves : Key → Bool) → MarksAgree starves (journals_in still) → settled starves most played ≡ Some still))
-    → AreStations still.stations → ComesTo (λ starves most. ends_session starves most still) x → AreStations x.stations → WorldRun lines x
-ran_from lines w begun played still x first (most, connected) stand_begun plays_to stand_played (draws, settles) stand_still ended stand =
-    ran lines begun played still x (most, λ starves agrees. ap (connects_on starves most) (sym first) ∙ connected starves) stand_begun plays_to stand_played
-    (record { draws = draws; rounds = 0 }, settles) stand_still ended stand
+module _ (lines : List NumberedLine) where
+  -- a channel begins, then the lines are played, then the session settles, and ends
+  abbrev pub begins_from : Running
+  begins_from starves most = connects_on starves most (world_of lines)
+
+  abbrev pub played_from : Running
+  played_from starves most = option_and_then (plays starves most lines) (begins_from starves most)
+
+  abbrev pub still_from : Running
+  still_from starves most = option_and_then (settled starves most.draws) (played_from starves most)
+
+  abbrev pub run_from : Running
+  run_from starves most = option_and_then (ends_session starves most) (still_from starves most)
+
+  pub steady_begins : Steady begins_from
+  steady_begins starves most more within = connects_on_more starves most more within (world_of lines)
+
+  pub steady_played : Steady played_from
+  steady_played starves most more within =
+      kept_then (plays starves most lines) (plays starves more lines) (begins_from starves most) (begins_from starves more)
+      (steady_begins starves most more within) (plays_more starves most more within lines)
+
+  pub steady_still : Steady still_from
+  steady_still starves most more within =
+      kept_then (settled starves most.draws) (settled starves more.draws) (played_from starves most) (played_from starves more)
+      (steady_played starves most more within) (settled_more starves most.draws more.draws within.draws)
+
+  pub steady_run : Steady run_from
+  steady_run starves most more within =
+      kept_then (ends_session starves most) (ends_session starves more) (still_from starves most) (still_from starves more)
+      (steady_still starves most more within) (ends_session_more starves most more within)
+
+  pub comes_played : (begun played : WorldState) → ComesTo begins_from begun → AreStations begun.stations → PlaysTo lines begun played → ComesTo played_from played
+  comes_played begun played connected stand plays_to =
+      comes_then begins_from (λ starves most. plays starves most lines) begun played steady_begins
+      (λ starves most more within. plays_more starves most more within lines begun) (λ starves most. plays_goes starves most lines begun) stand connected plays_to
+
+  pub comes_still : (played still : WorldState) → ComesTo played_from played → AreStations played.stations
+      → ComesTo (λ starves most. settled starves most.draws played) still → ComesTo still_from still
+  comes_still played still before stand settled_to =
+      comes_then played_from (λ starves most. settled starves most.draws) played still steady_played
+      (λ starves most more within. settled_more starves most.draws more.draws within.draws played) (λ starves most. settled_goes starves most.draws played)
+      stand before settled_to
+
+  pub comes_run : (still x : WorldState) → ComesTo still_from still → AreStations still.stations → ComesTo (λ starves most. ends_session starves most still) x
+      → ComesTo run_from x
+  comes_run still x before stand ended =
+      comes_then still_from (λ starves most. ends_session starves most) still x steady_still
+      (λ starves most more within. ends_session_more starves most more within still) (λ starves most. ends_session_goes starves most still) stand before ended
+
+  pub ran : (x : WorldState) → ComesTo run_from x → AreStations x.stations → WorldRun lines x
+  ran x (most, comes) stand = (most, comes (marks_of x) (marks_agree x.stations stand))
+
+-- a session that begins with what its lines declare
+pub begun_from : (lines : List NumberedLine) (w begun : WorldState) → w ≡ world_of lines
+    → ((most : Most) × ((starves : Key → Bool) → connects_on starves most w ≡ Some begun)) → ComesTo (begins_from lines) begun
+begun_from lines w begun first (most, connected) = (most, λ starves agrees. ap (connects_on starves most) (sym first) ∙ connected starves)
+
+-- a settling by its draws alone
+pub settles_to : (w x : WorldState) → ((most : ℕ) × ((starves : Key → Bool) → MarksAgree starves (journals_in x) → settled starves most w ≡ Some x))
+    → ComesTo (λ starves most. settled starves most.draws w) x
+settles_to w x (draws, settles) = (record { draws = draws; rounds = 0 }, settles)
+
+-- nothing was done when a session begins
+setting_deeds : (w : WorldState) (l : Line) → (setting w l).deeds ≡ w.deeds
+unfolding setting
+setting_deeds w (line.Seed number) = refl
+setting_deeds w (line.Clock moment) = refl
+setting_deeds w (line.Piece most) = refl
+setting_deeds w (line.Workers count) = refl
+setting_deeds w l = refl
+
+settings_deeds : (ls : List Line) (w : WorldState) → (fold setting w ls).deeds ≡ w.deeds
+settings_deeds [] w = refl
+settings_deeds (l ∷ ls) w = settings_deeds ls (setting w l) ∙ setting_deeds w l
+
+pub nothing_done : (lines : List NumberedLine) → (world_of lines).deeds ≡ []
+nothing_done lines =
+    let ls : List Line = map (λ (l : NumberedLine). l.line) lines in settings_deeds ls (new_world (declared_devices ls) (applications_of ls))

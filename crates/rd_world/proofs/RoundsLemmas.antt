@@ -17,6 +17,7 @@ use Rattle.rd_world.specs.Hearing.{client_handles_all, host_handles_all}
 use Rattle.rd_world.specs.Recording.{recording_of_deeds}
 use Rattle.rd_world.specs.Run.{all_client_sends, all_host_sends, client_reads_all, host_count, host_reads_all, is_quiet, rounds, while_enabled}
 use Rattle.rd_world.specs.Step.{recorded_by}
+use Rattle.rd_world.specs.Wire.{StaysRecorded}
 use Rattle.rd_world.specs.World.{WorldState, having_read}
 use Rattle.rd_world.proofs.RecordedLemmas.{event_recorded}
 
@@ -68,10 +69,6 @@ pub client_sent : (starves : Key → Bool) (w : WorldState) → client_has_messa
 client_sent starves w none = no_more starves (client_count w) event.client_send w none
 
 -- ---- the recording
-
--- What a recorder holds stands in the recording after what was written before, from one world and recorder to another.
-abbrev pub StaysRecorded : WorldState → List ℕ → WorldState → List ℕ → Type 0
-StaysRecorded w old x new = (written : List ℕ) → written ++ old ≡ recording_of_deeds w.deeds → written ++ new ≡ recording_of_deeds x.deeds
 
 pub event_stays : (starves : Key → Bool) (w x : WorldState) (e : Event) (old new : List ℕ) → x ≡ act starves w e → new ≡ old ++ recorded_by w e
     → StaysRecorded w old x new

@@ -13,7 +13,7 @@ use Rattle.rd_world.specs.Drawn.{HasPlaces, can_happen, next_step_of}
 use Rattle.rd_world.specs.Keys.{MarksAgree, AreLonger}
 use Rattle.rd_world.specs.Stations.{AreStations}
 use Rattle.rd_world.proofs.DrawnLemmas.{all_got, drawn_can_happen, picked_step}
-use Rattle.rd_world.proofs.GrowingLemmas.{chosen_grows}
+use Rattle.rd_world.proofs.GoingLemmas.{chosen_goes, goes_longer}
 use Rattle.rd_world.proofs.KeysLemmas.{agrees_before}
 use Rattle.rd_world.specs.Events.{Event, add, apply_job, client_read, client_send, collect, connect, drop_channel, host_read, host_send, issue, is_enabled, remove, take_job, tell}
 use Rattle.rd_world.specs.Run.{NextStep, choices, chosen, device_ids, drawing, event, picked, reads_client, reads_host, settled, settles_by}
@@ -88,7 +88,7 @@ one_draw_at start w y c i n x k reached drawn are count place got came marked = 
   λ most starves agrees.
       let s : NextStep = next_step_of (device_ids w) x in
       let longer : AreLonger (journals_in w) (journals_in y) =
-      subst (λ (v : WorldState). AreLonger (journals_in w) (journals_in v)) (sym marked) ((chosen_grows (marks_of y) (drawing w) s).longer are.rise) in
+      subst (λ (v : WorldState). AreLonger (journals_in w) (journals_in v)) (sym marked) (goes_longer (drawing w) (chosen (marks_of y) (drawing w) s) (chosen_goes (marks_of y) (drawing w) s) are.rise) in
       let before : MarksAgree starves (journals_in w) = agrees_before starves (journals_in w) (journals_in y) longer agrees in
       ap (λ (m : ℕ). settled starves m start) (omega arith) ∙ reached (suc most) starves before
       ∙ settled_step starves w y s i n most (counted w c n drawn count) place (picked_step w c i x drawn got) (came starves agrees),
@@ -114,3 +114,29 @@ drawn_can w v c i x drawn draw got =
 pub drawn_placed : (w v : WorldState) (c : Choices) (i : ℕ) (x : Choice) → AllByRecursion (HasPlaces (length w.stations)) (choices_in c) → v ≡ drawing w → slice_get (choices_in c) i ≡ Some x
     → HasPlaces (length v.stations) x
 drawn_placed w v c i x placed draw got = subst (λ (u : WorldState). HasPlaces (length u.stations) x) (sym draw) (all_got (HasPlaces (length w.stations)) (choices_in c) i x placed got)
+
+-- a draw only makes journals longer
+pub drawn_longer : (w v y : WorldState) (s : NextStep) → v ≡ drawing w → y ≡ chosen (marks_of y) v s → AreStations w.stations → AreLonger (journals_in w) (journals_in y)
+drawn_longer w v y s draw marked are =
+    subst (λ (u : WorldState). AreLonger (journals_in w) (journals_in u)) (sym marked)
+    (subst (λ (u : WorldState). AreLonger (journals_in w) (journals_in (chosen (marks_of y) u s))) (sym draw)
+    (goes_longer (drawing w) (chosen (marks_of y) (drawing w) s) (chosen_goes (marks_of y) (drawing w) s) are.rise))
+
+-- ---- what is recorded
+
+next_recorded : (starves : Key → Bool) (w : WorldState) (s : NextStep) → recording_of_deeds (chosen starves w s).deeds ≡ recording_of_deeds w.deeds ++ recorded_next w s
+next_recorded starves w (event e) = event_recorded starves w e
+next_recorded starves w reads_client =
+    let x : WorldState = drawing w in client_read_quiet x (drawn_count x (x.to_client).pipe) ∙ sym (append-nil (recording_of_deeds w.deeds))
+next_recorded starves w reads_host =
+    let x : WorldState = drawing w in host_read_quiet x (drawn_count x (x.to_host).pipe) ∙ sym (append-nil (recording_of_deeds w.deeds))
+
+pub draw_stays : (starves : Key → Bool) (w v y : WorldState) (s : NextStep) (old new : List ℕ) → v ≡ drawing w → y ≡ chosen starves v s → new ≡ old ++ recorded_next v s
+    → StaysRecorded w old y new
+draw_stays starves w v y s old new draw came added written before =
+    let recorded : WorldState → List ℕ = λ (u : WorldState). recording_of_deeds u.deeds in
+    ap (λ (bytes : List ℕ). written ++ bytes) added
+    ∙ sym (append_assoc written old (recorded_next v s))
+    ∙ ap (λ (bytes : List ℕ). bytes ++ recorded_next v s) (before ∙ sym (ap recorded draw))
+    ∙ sym (next_recorded starves v s)
+    ∙ sym (ap recorded came)

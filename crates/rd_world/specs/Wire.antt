@@ -23,6 +23,10 @@ abbrev pub OnWire : {T : Type 0} → Result T StepNo → Type 0 → Type 0
 OnWire (Err no.Wire) P = P
 OnWire r P = Unit {0}
 
+-- What a recorder holds stands in the recording after what was written before, from one world and recorder to another.
+abbrev pub StaysRecorded : WorldState → List ℕ → WorldState → List ℕ → Type 0
+StaysRecorded w old x new = (written : List ℕ) → written ++ old ≡ recording_of_deeds w.deeds → written ++ new ≡ recording_of_deeds x.deeds
+
 -- A session went on from one world to another. A recorder held some bytes of its recording; now the sink holds some of what came, and the recorder the rest.
 pub record Records (start held : Option (List ℕ)) (w : WorldState) (old : List ℕ) (x : WorldState) (new : List ℕ) : Type 0 where
   pub written : List ℕ
@@ -37,11 +41,15 @@ GoesOn w x = (more : List ℕ) × (recording_of_deeds x.deeds ≡ recording_of_d
 abbrev pub IsPassed : ((Key → Bool) → Most → Option WorldState) → WorldState → Type 0
 IsPassed f x = (starves : Key → Bool) (most : Most) (w : WorldState) → MarksAgree starves (journals_in x) → f starves most ≡ Some w → GoesOn x w
 
--- A write failed in the midst of this, when it had come to this world: a prefix of what was recorded by then was written.
-pub record IsCut (start held : Option (List ℕ)) (w : WorldState) (old : List ℕ) (f : (Key → Bool) → Most → Option WorldState) (x : WorldState) : Type 0 where
+-- A write failed when a session had come from one world to another: a prefix of what was recorded by then was written.
+pub record Breaks (start held : Option (List ℕ)) (w : WorldState) (old : List ℕ) (x : WorldState) : Type 0 where
   pub recorded : List ℕ
   pub prefix : AppendsPrefix start held recorded
-  pub follows : (before : List ℕ) → before ++ old ≡ recording_of_deeds w.deeds → before ++ recorded ≡ recording_of_deeds x.deeds
+  pub stays : StaysRecorded w old x recorded
+
+-- A write failed in the midst of this, when it had come to this world.
+pub record IsCut (start held : Option (List ℕ)) (w : WorldState) (old : List ℕ) (f : (Key → Bool) → Most → Option WorldState) (x : WorldState) : Type 0 where
+  pub breaks : Breaks start held w old x
   pub longer : AreLonger (journals_in w) (journals_in x)
   pub passed : IsPassed f x
 

@@ -1,9 +1,10 @@
 //! The session of a script: what its lines do, and how it ends.
 
-ghost use Rattle.std.specs.Prelude.{◌≡◌, ◌&&◌, ℕ, Bool, length, not, true, IfOk, IsOk, OnOk, Some};
+ghost use Rattle.std.specs.Prelude.{◌≡◌, ◌&&◌, ℕ, Bool, codes, length, not, true, IfErr, IfOk, IsOk, OnOk, Some};
 ghost use Rattle.std.specs.List.{list_any};
 ghost use Rattle.std.specs.Option.{option_map_or};
 ghost use Rattle.std.specs.BTreeSet.{contains};
+ghost use Rattle.std.specs.Io.KnownBytes.{Appends};
 ghost use Rattle.std.specs.Ordering.{nat_cmp};
 ghost use Rattle.rd_base.specs.declared.journal.Key.{Key};
 ghost use Rattle.rd_script.specs.declared.line.Errand.TheVariants as errands;
@@ -12,9 +13,12 @@ ghost use Rattle.rd_world.specs.Events.{client_read, connect, host_read, is_chan
 ghost use Rattle.rd_world.specs.Keys.{MarksAgree};
 ghost use Rattle.rd_world.specs.Left.{is_parked_in, is_sent_in, parked_index, sent_index};
 ghost use Rattle.rd_world.specs.Noting.{AreNotable, IsNotable};
+ghost use Rattle.rd_world.specs.declared.event.StepNo.TheVariants as no;
+ghost use Rattle.rd_world.specs.Recording.{recording_of_deeds};
 ghost use Rattle.rd_world.specs.Run.{Most, WorldRun, by_event, connects_on, controls, ends_session, idles, is_left_parked, notice_of, plays, plays_line, queueing, some_left, world_of};
 ghost use Rattle.rd_world.specs.Stations.{AreStations};
 ghost use Rattle.rd_world.specs.Step.{MayHappen, event_in};
+ghost use Rattle.rd_world.specs.Wire.{CountsWire, IsCut, IsCutRun, OnWire, Records, StaysRecorded};
 ghost use Rattle.rd_world.specs.World.{journals_in};
 
 use crate::asking::application_of;
@@ -49,7 +53,8 @@ impl<'s> World<'s> {
         recorder: &mut Recorder,
     ) -> Result<(), AllocError>
         requires { MayHappen self.old event }
-        ensures { OnOk result ((starves : Key → Bool) (most : Most) → MarksAgree starves (journals_in self.new) → self.new ≡ by_event starves most self.old number (event_in event)) }
+        ensures came { OnOk result ((starves : Key → Bool) (most : Most) → MarksAgree starves (journals_in self.new) → self.new ≡ by_event starves most self.old number (event_in event)) }
+        ensures recorded { OnOk result (StaysRecorded self.old recorder.old self.new recorder.new) }
     {
         if self.enabled(&event) {
             self.act(event, recorder)
@@ -60,7 +65,8 @@ impl<'s> World<'s> {
 
     /// What a `send` asks for.
     fn send(&mut self, number: u32, recorder: &mut Recorder) -> Result<(), AllocError>
-        ensures { OnOk result ((starves : Key → Bool) (most : Most) → controls starves most self.old number (lines.Do errands.Send) ≡ Some self.new) }
+        ensures done { OnOk result ((starves : Key → Bool) (most : Most) → controls starves most self.old number (lines.Do errands.Send) ≡ Some self.new) }
+        ensures recorded { OnOk result (StaysRecorded self.old recorder.old self.new recorder.new) }
     {
         if self.enabled(&Event::HostSend) {
             self.host_send_all(recorder)
@@ -71,7 +77,8 @@ impl<'s> World<'s> {
 
     /// What an `answer` asks for.
     fn answer(&mut self, number: u32, recorder: &mut Recorder) -> Result<(), AllocError>
-        ensures { OnOk result ((starves : Key → Bool) (most : Most) → controls starves most self.old number (lines.Do errands.Answer) ≡ Some self.new) }
+        ensures done { OnOk result ((starves : Key → Bool) (most : Most) → controls starves most self.old number (lines.Do errands.Answer) ≡ Some self.new) }
+        ensures recorded { OnOk result (StaysRecorded self.old recorder.old self.new recorder.new) }
     {
         if self.enabled(&Event::ClientSend) {
             self.client_send_all(recorder)
@@ -98,7 +105,8 @@ impl<'s> World<'s> {
 
     /// What a `read` asks for.
     fn read(&mut self, number: u32) -> Result<(), AllocError>
-        ensures { OnOk result ((starves : Key → Bool) (most : Most) → controls starves most self.old number (lines.Do errands.Read) ≡ Some self.new) }
+        ensures done { OnOk result ((starves : Key → Bool) (most : Most) → controls starves most self.old number (lines.Do errands.Read) ≡ Some self.new) }
+        ensures recorded { OnOk result (recording_of_deeds self.new.deeds ≡ recording_of_deeds self.old.deeds) }
     {
         if self.client_may_read() {
             self.client_read_all()
@@ -109,7 +117,8 @@ impl<'s> World<'s> {
 
     /// What a `back` asks for.
     fn read_back(&mut self, number: u32) -> Result<(), AllocError>
-        ensures { OnOk result ((starves : Key → Bool) (most : Most) → controls starves most self.old number (lines.Do errands.Back) ≡ Some self.new) }
+        ensures done { OnOk result ((starves : Key → Bool) (most : Most) → controls starves most self.old number (lines.Do errands.Back) ≡ Some self.new) }
+        ensures recorded { OnOk result (recording_of_deeds self.new.deeds ≡ recording_of_deeds self.old.deeds) }
     {
         if self.host_may_read() {
             self.host_read_all()
@@ -126,7 +135,8 @@ impl<'s> World<'s> {
         errand: Errand,
         recorder: &mut Recorder,
     ) -> Result<(), AllocError>
-        ensures { OnOk result ((starves : Key → Bool) (most : Most) → MarksAgree starves (journals_in self.new) → controls starves most self.old number (lines.Do errand) ≡ Some self.new) }
+        ensures done { OnOk result ((starves : Key → Bool) (most : Most) → MarksAgree starves (journals_in self.new) → controls starves most self.old number (lines.Do errand) ≡ Some self.new) }
+        ensures recorded { OnOk result (StaysRecorded self.old recorder.old self.new recorder.new) }
     {
         match errand {
             Errand::Issue { application } => self.by_event(
@@ -151,7 +161,8 @@ impl<'s> World<'s> {
     /// A channel begins, and both ends send and read until nothing is to be sent or read. Want of memory where too many channels began.
     fn begin(&mut self, recorder: &mut Recorder) -> Result<(), AllocError>
         requires { is_enabled self.old connect ≡ true }
-        ensures { OnOk result ((most : Most) × ((starves : Key → Bool) → connects_on starves most self.old ≡ Some self.new)) }
+        ensures begun { OnOk result ((most : Most) × ((starves : Key → Bool) → connects_on starves most self.old ≡ Some self.new)) }
+        ensures recorded { OnOk result (StaysRecorded self.old recorder.old self.new recorder.new) }
     {
         if self.channels >= MANY_CHANNELS {
             return Err(AllocError);
@@ -162,7 +173,8 @@ impl<'s> World<'s> {
     /// A channel begins, unless one is open.
     #[tactic(auto, unfolding(crate::specs::Run::controls))]
     fn reconnect(&mut self, number: u32, recorder: &mut Recorder) -> Result<(), AllocError>
-        ensures { OnOk result ((most : Most) × ((starves : Key → Bool) → controls starves most self.old number lines.Connect ≡ Some self.new)) }
+        ensures done { OnOk result ((most : Most) × ((starves : Key → Bool) → controls starves most self.old number lines.Connect ≡ Some self.new)) }
+        ensures recorded { OnOk result (StaysRecorded self.old recorder.old self.new recorder.new) }
     {
         if self.enabled(&Event::Connect) {
             self.begin(recorder)
@@ -174,7 +186,8 @@ impl<'s> World<'s> {
     /// What a line tells of a printer, if it tells anything.
     fn notice(&mut self, line: &NumberedLine, recorder: &mut Recorder) -> Result<(), AllocError>
         requires { IsNotable line.now.line }
-        ensures { OnOk result ((starves : Key → Bool) (most : Most) → MarksAgree starves (journals_in self.new) → self.new ≡ option_map_or (λ n. by_event starves most self.old line.now.number (tell n)) (notice_of line.now.line) self.old) }
+        ensures told { OnOk result ((starves : Key → Bool) (most : Most) → MarksAgree starves (journals_in self.new) → self.new ≡ option_map_or (λ n. by_event starves most self.old line.now.number (tell n)) (notice_of line.now.line) self.old) }
+        ensures recorded { OnOk result (StaysRecorded self.old recorder.old self.new recorder.new) }
     {
         match notice_of(self.alloc, &line.line)? {
             Some(notice) => self.by_event(line.number, Event::Notice(notice), recorder),
@@ -214,7 +227,8 @@ impl<'s> World<'s> {
 
     /// A line of an application may be issued after the others of that one.
     fn queue(&mut self, a: u32) -> Result<(), StepNo>
-        ensures { OnOk result (self.new ≡ queueing self.old a) }
+        ensures queued { OnOk result (self.new ≡ queueing self.old a) }
+        ensures wanting { IfErr result (λ cause. cause ≡ no.Memory) }
     {
         if !self.applications.may_queue(a) {
             return Err(StepNo::Memory);
@@ -283,6 +297,7 @@ impl<'s> World<'s> {
         ensures recorded { OnOk result (Records (R.held wire.old) (R.held wire.new) self.old recorder.old self.new recorder.new) }
         ensures cut { OnWire result (IsCut (R.held wire.old) (R.held wire.new) self.old recorder.old (λ starves most. ends_session starves most self.old) self.new) }
     {
+        self.stand();
         match self.is_left_waiting() {
             Ok(true) => {
                 if self.drop_channel(recorder).is_err() {
@@ -343,7 +358,8 @@ impl<'s> World<'s> {
 
 /// Want of memory ends a session.
 fn or_memory(came: Result<(), AllocError>) -> Result<(), StepNo>
-    ensures { OnOk result (IsOk came) }
+    ensures came { OnOk result (IsOk came) }
+    ensures wanting { IfErr result (λ cause. cause ≡ no.Memory) }
 {
     match came {
         Ok(()) => Ok(()),

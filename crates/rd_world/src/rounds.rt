@@ -1,9 +1,10 @@
 //! All events of one kind at once, and the rounds with which a channel begins.
 
-ghost use Rattle.std.specs.Prelude.{◌≡◌, ◌++◌, ◌<◌, ◌^◌, ℕ, Bool, true, List, OnOk, Some};
+ghost use Rattle.std.specs.Prelude.{◌≡◌, ◌<◌, ◌^◌, ℕ, Bool, true, OnOk, Some};
 ghost use Rattle.rd_base.specs.declared.journal.Key.{Key};
 ghost use Rattle.rd_world.specs.Events.{act, connect, is_enabled};
 ghost use Rattle.rd_world.specs.Recording.{recording_of_deeds};
+ghost use Rattle.rd_world.specs.Wire.{StaysRecorded};
 ghost use Rattle.rd_world.specs.Run.{all_client_sends, all_host_sends, client_reads_all, host_reads_all, is_quiet, rounds};
 
 use crate::recorder::Recorder;
@@ -14,7 +15,7 @@ impl<'s> World<'s> {
     /// The host sends every message that it has.
     pub(crate) fn host_send_all(&mut self, recorder: &mut Recorder) -> Result<(), AllocError>
         ensures sent { OnOk result ((starves : Key → Bool) → self.new ≡ all_host_sends starves self.old) }
-        ensures recorded { OnOk result ((written : List ℕ) → written ++ recorder.old ≡ recording_of_deeds self.old.deeds → written ++ recorder.new ≡ recording_of_deeds self.new.deeds) }
+        ensures recorded { OnOk result (StaysRecorded self.old recorder.old self.new recorder.new) }
     {
         'sending: while self.side.has_message() {
             self.host_send(recorder)?;
@@ -25,7 +26,7 @@ impl<'s> World<'s> {
     /// The client sends every message of its own.
     pub(crate) fn client_send_all(&mut self, recorder: &mut Recorder) -> Result<(), AllocError>
         ensures sent { OnOk result ((starves : Key → Bool) → self.new ≡ all_client_sends starves self.old) }
-        ensures recorded { OnOk result ((written : List ℕ) → written ++ recorder.old ≡ recording_of_deeds self.old.deeds → written ++ recorder.new ≡ recording_of_deeds self.new.deeds) }
+        ensures recorded { OnOk result (StaysRecorded self.old recorder.old self.new recorder.new) }
     {
         'sending: while self.client.has_message() {
             self.client_send(recorder)?;
@@ -74,7 +75,7 @@ impl<'s> World<'s> {
         requires closed { is_enabled self.old connect ≡ true }
         requires few { self.old.channels < 2 ^ 31 }
         ensures connected { OnOk result ((most : ℕ) × ((starves : Key → Bool) → rounds starves most (act starves self.old connect) ≡ Some self.new)) }
-        ensures recorded { OnOk result ((written : List ℕ) → written ++ recorder.old ≡ recording_of_deeds self.old.deeds → written ++ recorder.new ≡ recording_of_deeds self.new.deeds) }
+        ensures recorded { OnOk result (StaysRecorded self.old recorder.old self.new recorder.new) }
     {
         self.connect(recorder)?;
         'rounds: for _ in 0..u64::MAX {

@@ -12,6 +12,7 @@ ghost use Rattle.rd_world.specs.Keys.{MarksAgree};
 ghost use Rattle.rd_world.specs.Run.{choices, chosen, device_ids, drawing, drawn_count, picked, settled};
 ghost use Rattle.rd_world.specs.Stations.{AreStations};
 ghost use Rattle.rd_world.specs.Step.{recorded_next};
+ghost use Rattle.rd_world.specs.Wire.{CountsWire, IsCut, OnWire, Records};
 ghost use Rattle.rd_world.specs.World.{having_read, journals_in, marks_of};
 
 use crate::bits::Bits;

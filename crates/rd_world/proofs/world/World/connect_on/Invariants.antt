@@ -2,7 +2,7 @@ use Rattle.std.proofs.Common.{◌≡◌, ◌+◌, ℕ, Bool}
 use Rattle.rd_base.specs.declared.journal.Key.{Key}
 use Rattle.rd_world.specs.Events.{connects}
 use Rattle.rd_world.specs.Run.{rounds}
-use Rattle.rd_world.proofs.RoundsLemmas.{StaysRecorded}
+use Rattle.rd_world.specs.Wire.{StaysRecorded}
 use Rattle.rd_world.proofs.world.World.connect_on.Given as goal
 
 -- So many rounds lead from the begin to here: the rounds from here are those from there.
