@@ -65,7 +65,7 @@ impl Cache {
 
     /// What is kept, by name.
     pub fn finish(self) -> BTreeMap<Vec<u8>, Bytes>
-        ensures { by_bytes result.entries ≡ self.entry }
+        ensures { by_bytes result.entries ≡ self }
     {
         let Cache { kept, .. } = self;
         kept
