@@ -71,3 +71,4 @@ pub mod RoundsLemmas
 pub mod FuelLemmas
 pub mod LeftLemmas
 pub mod PlayingLemmas
+pub mod FinishingLemmas
