@@ -206,9 +206,11 @@ impl<'s> World<'s> {
     pub(crate) fn all_take(&mut self) -> Result<(), AllocError>
         ensures { OnOk result (self.new ≡ all_take self.old) }
     {
-        let awaiting = self.applications.awaiting().copy();
-        for index in 0..awaiting.count() {
-            self.take_outcome(awaiting.pick(index) + 1)?;
+        let mut awaiting = self.applications.awaiting().copy();
+        for _taken in 0..awaiting.count() {
+            let place = awaiting.pick(0);
+            awaiting.mark(place, false);
+            self.take_outcome(place + 1)?;
         }
         Ok(())
     }
