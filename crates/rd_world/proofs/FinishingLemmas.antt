@@ -1,5 +1,5 @@
 -- What a session tells at its end: outcomes, journals and documents, each of which comes after all others.
-use Rattle.std.proofs.Common.{◌≡◌, ◌∙◌, refl, sym, ap, subst, ℕ, ◌+◌, ◌<◌, ◌≤◌, ◌≢◌, List, [], ◌∷◌, ◌++◌, append-nil, append_assoc, drop, get_or, length, length-append, map, Option, None, arith}
+use Rattle.std.proofs.Common.{◌≡◌, ◌∙◌, refl, sym, ap, subst, ℕ, ◌+◌, ◌<◌, ◌≤◌, ◌≢◌, List, [], ◌∷◌, ◌++◌, append-nil, append_assoc, drop, get_or, length, length-append, map, None, arith}
 use Rattle.std.specs.Prelude.{zip}
 use Rattle.std.specs.List.{AllByRecursion, flat_map, range_with_len}
 use Rattle.std.specs.List.Sorted.{IsStrictlySortedBy}
@@ -159,9 +159,6 @@ told_of_all all rest told (done, are, is) none =
 abbrev Stored : Type 0
 Stored = ℕ × StationState SessionDevice
 
-abbrev the_none : List Stored
-the_none = []
-
 abbrev journal_under : Stored → ℕ × List Item
 journal_under e = let s = e.1 in (e.0, s.journal)
 
@@ -184,14 +181,14 @@ stored_none all ids rest books documents is same empty none = record {
   told = none;
 }
 
-zip_none : (ids : List ℕ) → zip ids [] ≡ the_none
-zip_none [] = refl
-zip_none (id ∷ ids) = refl
+zip_none : (ids : List ℕ) (rest : List (StationState SessionDevice)) → rest ≡ [] → zip ids rest ≡ []
+zip_none [] rest none = refl
+zip_none (id ∷ ids) rest none = ap (λ (l : List (StationState SessionDevice)). zip (id ∷ ids) l) none
 
 pub stored_all : (all : List (ℕ × StationState SessionDevice)) (ids : List ℕ) (place : ℕ) (rest : List (StationState SessionDevice)) (books : List (ℕ × History)) (documents : List (ℕ × List (List ℕ)))
     → AreStored all ids place rest books documents → rest ≡ [] → (documents ≡ flat_map printed_in all) × (journals_of books ≡ map journal_under all)
 stored_all all ids place rest books documents s none =
-    let whole : all ≡ s.done = s.are ∙ ap (λ (l : List (StationState SessionDevice)). s.done ++ zip (drop place ids) l) none ∙ ap (λ (l : List Stored). s.done ++ l) (zip_none (drop place ids)) ∙ append-nil s.done in
+    let whole : all ≡ s.done = s.are ∙ ap (λ (l : List Stored). s.done ++ l) (zip_none (drop place ids) rest none) ∙ append-nil s.done in
     (s.told ∙ ap (flat_map printed_in) (sym whole), s.stored ∙ ap (map journal_under) (sym whole))
 
 journals_below : (k : ℕ) (done : List Stored) → AllByRecursion (λ (e : Stored). e.0 < k) done → AllByRecursion (λ (j : ℕ × List Item). j.0 < k) (map journal_under done)
@@ -214,46 +211,46 @@ documents_below k (e ∷ done) below =
 
 -- The next station of some.
 module _ (all : List (ℕ × StationState SessionDevice)) (ids : List ℕ) (place id d : ℕ) (rest behind : List (StationState SessionDevice)) (s : StationState SessionDevice) (books : List (ℕ × History))
-  (documents : List (ℕ × List (List ℕ))) (are : AreStored all ids place rest books documents) (next : rest ≡ s ∷ behind)
+    (documents : List (ℕ × List (List ℕ))) (are : AreStored all ids place rest books documents) (next : rest ≡ s ∷ behind)
   where
-  -- it has an id
-  pub next_within : place < length ids
-  next_within = let more : length rest ≡ length (s ∷ behind) = ap length next in omega (arith, are.count, more)
+    -- it has an id
+    pub next_within : place < length ids
+    next_within = let more : length rest ≡ length (s ∷ behind) = ap length next in omega (arith, are.count, more)
 
-  module _ (rise : IsStrictlySortedBy nat_cmp (keys_of all)) (at : id ≡ get_or ids place d) where
-    left_are : zip (drop place ids) rest ≡ (id, s) ∷ zip (drop (place + 1) ids) behind
-    left_are =
-        ap (λ (l : List (StationState SessionDevice)). zip (drop place ids) l) next ∙ ap (λ (l : List ℕ). zip l (s ∷ behind)) (drop_more ids place d next_within)
-        ∙ ap (λ (i : ℕ). (i, s) ∷ zip (drop (place + 1) ids) behind) (sym at)
+    module _ (rise : IsStrictlySortedBy nat_cmp (keys_of all)) (at : id ≡ get_or ids place d) where
+      left_are : zip (drop place ids) rest ≡ (id, s) ∷ zip (drop (place + 1) ids) behind
+      left_are =
+          ap (λ (l : List (StationState SessionDevice)). zip (drop place ids) l) next ∙ ap (λ (l : List ℕ). zip l (s ∷ behind)) (drop_more ids place d next_within)
+          ∙ ap (λ (i : ℕ). (i, s) ∷ zip (drop (place + 1) ids) behind) (sym at)
 
-    all_are : all ≡ are.done ++ (id, s) ∷ zip (drop (place + 1) ids) behind
-    all_are = are.are ∙ ap (λ (l : List Stored). are.done ++ l) left_are
+      all_are : all ≡ are.done ++ (id, s) ∷ zip (drop (place + 1) ids) behind
+      all_are = are.are ∙ ap (λ (l : List Stored). are.done ++ l) left_are
 
-    done_below : AllByRecursion (λ (e : Stored). e.0 < id) are.done
-    done_below = before_below are.done id s (zip (drop (place + 1) ids) behind) (subst (λ (l : List Stored). IsStrictlySortedBy nat_cmp (keys_of l)) all_are rise)
+      done_below : AllByRecursion (λ (e : Stored). e.0 < id) are.done
+      done_below = before_below are.done id s (zip (drop (place + 1) ids) behind) (subst (λ (l : List Stored). IsStrictlySortedBy nat_cmp (keys_of l)) all_are rise)
 
-    stored_below : AllByRecursion (λ (b : ℕ × History). b.0 < id) books
-    stored_below = books_below id books (subst (AllByRecursion (λ (j : ℕ × List Item). j.0 < id)) (sym are.stored) (journals_below id are.done done_below))
+      stored_below : AllByRecursion (λ (b : ℕ × History). b.0 < id) books
+      stored_below = books_below id books (subst (AllByRecursion (λ (j : ℕ × List Item). j.0 < id)) (sym are.stored) (journals_below id are.done done_below))
 
-    -- its device has no journal in the books
-    pub next_is_new : lookup (is_at (nat_cmp id)) books ≡ None
-    next_is_new = none_after books id stored_below
+      -- its device has no journal in the books
+      pub next_is_new : lookup (is_at (nat_cmp id)) books ≡ None
+      next_is_new = none_after books id stored_below
 
-    -- the documents told are of devices before its own
-    pub next_after : AllByRecursion (λ (e : ℕ × List (List ℕ)). e.0 < id) documents
-    next_after = subst (AllByRecursion (λ (e : ℕ × List (List ℕ)). e.0 < id)) (sym are.told) (documents_below id are.done done_below)
+      -- the documents told are of devices before its own
+      pub next_after : AllByRecursion (λ (e : ℕ × List (List ℕ)). e.0 < id) documents
+      next_after = subst (AllByRecursion (λ (e : ℕ × List (List ℕ)). e.0 < id)) (sym are.told) (documents_below id are.done done_below)
 
-    -- its journal is put in, and its documents are told
-    pub stored_more : (stored : List (ℕ × History)) (told : List (ℕ × List (List ℕ))) (journal : History) → stored ≡ insert_entry nat_cmp books id journal → journal.items ≡ s.journal
-        → told ≡ documents ++ by_device id s.device → AreStored all ids (place + 1) behind stored told
-    stored_more stored told journal put same added = record {
-      done = are.done ++ (id, s) ∷ [];
-      are = all_are ∙ sym (append_assoc are.done ((id, s) ∷ []) (zip (drop (place + 1) ids) behind));
-      count = let more : length rest ≡ length (s ∷ behind) = ap length next in omega (arith, are.count, more);
-      stored = ap journals_of (put ∙ put_after books id journal stored_below) ∙ map-append (λ (b : ℕ × History). (b.0, (b.1).items)) books ((id, journal) ∷ [])
-          ∙ ap (λ (l : List (ℕ × List Item)). l ++ (id, journal.items) ∷ []) are.stored ∙ ap (λ (l : List Item). map journal_under are.done ++ (id, l) ∷ []) same
-          ∙ sym (map-append journal_under are.done ((id, s) ∷ []));
-      told = added ∙ ap (λ (l : List (ℕ × List (List ℕ))). l ++ by_device id s.device) are.told
-          ∙ ap (λ (l : List (ℕ × List (List ℕ))). flat_map printed_in are.done ++ l) (sym (append-nil (by_device id s.device)) ∙ sym (flat_map-cons printed_in (id, s) []))
-          ∙ sym (flat_map-append printed_in are.done ((id, s) ∷ []));
-    }
+      -- its journal is put in, and its documents are told
+      pub stored_more : (stored : List (ℕ × History)) (told : List (ℕ × List (List ℕ))) (journal : History) → stored ≡ insert_entry nat_cmp books id journal → journal.items ≡ s.journal
+          → told ≡ documents ++ by_device id s.device → AreStored all ids (place + 1) behind stored told
+      stored_more stored told journal put same added = record {
+        done = are.done ++ (id, s) ∷ [];
+        are = all_are ∙ sym (append_assoc are.done ((id, s) ∷ []) (zip (drop (place + 1) ids) behind));
+        count = let more : length rest ≡ length (s ∷ behind) = ap length next in omega (arith, are.count, more);
+        stored = ap journals_of (put ∙ put_after books id journal stored_below) ∙ map-append (λ (b : ℕ × History). (b.0, (b.1).items)) books ((id, journal) ∷ [])
+            ∙ ap (λ (l : List (ℕ × List Item)). l ++ (id, journal.items) ∷ []) are.stored ∙ ap (λ (l : List Item). map journal_under are.done ++ (id, l) ∷ []) same
+            ∙ sym (map-append journal_under are.done ((id, s) ∷ []));
+        told = added ∙ ap (λ (l : List (ℕ × List (List ℕ))). l ++ by_device id s.device) are.told
+            ∙ ap (λ (l : List (ℕ × List (List ℕ))). flat_map printed_in are.done ++ l) (sym (append-nil (by_device id s.device)) ∙ sym (flat_map-cons printed_in (id, s) []))
+            ∙ sym (flat_map-append printed_in are.done ((id, s) ∷ []));
+      }

@@ -1,4 +1,6 @@
 //! What comes of a session at its end.
+//!
+//! Cost: outcomes and journals are moved, and the finished documents of printers are copied once; each is put into a map at its end.
 
 ghost use Rattle.std.specs.Prelude.{◌≡◌, ◌<◌, ◌≤◌, ◌++◌, ℕ, List, [], length, map, IfOk, OnOk};
 ghost use Rattle.std.specs.List.{AllByRecursion, flat_map};

@@ -1,4 +1,4 @@
-use Rattle.std.proofs.Common.{◌∙◌, ◌++◌, ap, ℕ, List}
+use Rattle.std.proofs.Common.{◌∙◌, ◌++◌, ap}
 use Rattle.rd_world.specs.declared.device.SessionDevice.{SessionDevice}
 use Rattle.rd_world.specs.Session.{by_device}
 use Rattle.rd_world.proofs.FinishingLemmas.{next_after, next_is_new, stored_more}

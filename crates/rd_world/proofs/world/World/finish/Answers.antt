@@ -1,5 +1,5 @@
 use Rattle.std.proofs.Common.{◌∙◌, ap}
-use Rattle.rd_world.specs.World.{WorldState, journals_in}
+use Rattle.rd_world.specs.World.{journals_in}
 use Rattle.rd_world.proofs.world.World.finish.Goals as goal
 
 pub returns-clause-stored : goal.returns-clause-stored
