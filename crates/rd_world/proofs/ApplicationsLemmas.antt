@@ -22,19 +22,19 @@ use Rattle.rd_world.specs.World.{ApplicationState, Asked, new_application}
 less_is : (k l : ℕ) → k < l → nat_cmp k l ≡ Less
 less_is k l u = grind (arith, nat_tests)
 
-equal_is : (k l : ℕ) → k ≡ l → nat_cmp k l ≡ Equal
+pub equal_is : (k l : ℕ) → k ≡ l → nat_cmp k l ≡ Equal
 equal_is k l e = grind (arith, nat_tests)
 
-greater_is : (k l : ℕ) → l < k → nat_cmp k l ≡ Greater
+pub greater_is : (k l : ℕ) → l < k → nat_cmp k l ≡ Greater
 greater_is k l u = grind (arith, nat_tests)
 
 same_at : (k l : ℕ) → k ≡ l → is_at (nat_cmp k) l ≡ true
 same_at k l e = grind (arith, nat_tests)
 
-apart_at : (k l : ℕ) → k ≢ l → is_at (nat_cmp k) l ≡ false
+pub apart_at : (k l : ℕ) → k ≢ l → is_at (nat_cmp k) l ≡ false
 apart_at k l apart = grind (arith, nat_tests)
 
-below_of : (k l : ℕ) → nat_cmp k l ≡ Less → k < l
+pub below_of : (k l : ℕ) → nat_cmp k l ≡ Less → k < l
 below_of k l e = grind (arith, nat_tests)
 
 -- ---- one is put back under its number

@@ -12,10 +12,12 @@ use Rattle.std.proofs.lemmas.List.FromFn.{get_or-map-range_with_len, length-map-
 use Rattle.std.proofs.lemmas.List.Sums.{length-filter}
 use Rattle.std.proofs.lemmas.Nat.Bits.{bit_at-lt, same_from_bits_below, bit_at-trailing_zeros, bit_at_clear_same, bit_at_clear_other}
 use Rattle.std.proofs.lemmas.Option.{slice_get-get_or}
+use Rattle.std.proofs.lemmas.Bool.{cases_Bool}
 use Rattle.std.proofs.lemmas.Bool.Decides.{nat_tests}
 use Rattle.std.proofs.lemmas.List.{length-drop}
 use mir.Syntax.{w64}
-use Rattle.rd_world.specs.Bits.{has, where_holds, Marks}
+use Rattle.rd_world.specs.Bits.{has, where_holds, IsMarked, Marks}
+use Rattle.rd_world.proofs.FoldLemmas.{drop_there}
 
 -- tests that agree below n keep the same places
 agree : (p q : ℕ → Bool) (a n : ℕ) → ((j : ℕ) → a ≤ j → j < a + n → p j ≡ q j) → filter p (range_with_len a n) ≡ filter q (range_with_len a n)
@@ -119,3 +121,27 @@ picked_from test a (suc n) i place is = elim (picked_first test (test a) a (filt
 pub picked : (test : ℕ → Bool) (n i place : ℕ) → slice_get (where_holds test n) i ≡ Some place → (place < n) × (test place ≡ true)
 unfolding where_holds
 picked test n i place is = (omega (arith, (picked_from test 0 n i place is).0), (picked_from test 0 n i place is).1)
+
+cleared_first : (p q : ℕ → Bool) (t a n : ℕ) (rest : List ℕ) → filter p (range_with_len a n) ≡ t ∷ rest → q t ≡ false → ((j : ℕ) → (j ≡ t → ⊥) → j < a + n → q j ≡ p j) → filter q (range_with_len a n) ≡ rest
+cleared_first p q t a zero rest is fails same = absurd (cc)
+cleared_first p q t a (suc n) rest is fails same = elim (cases_Bool (p a)) [
+  | inl on ↦
+      let here : a ≡ t = cc in
+      let off : q a ≡ false = ap q here ∙ fails in
+      let others : filter q (range_with_len (a + 1) n) ≡ filter p (range_with_len (a + 1) n) = agree q p (a + 1) n (λ j l u. same j (λ (d : j ≡ t). omega arith) (omega arith)) in
+      cc
+  | inr off ↦
+      let later : filter p (range_with_len (a + 1) n) ≡ t ∷ rest = cc in
+      let there : p t ≡ true = (picked_from p (a + 1) n 0 t (ap (λ (l : List ℕ). slice_get l 0) later)).1 in
+      let none : q a ≡ false = same a (λ (d : a ≡ t). let on : p a ≡ true = ap p d ∙ there in cc) (omega arith) ∙ off in
+      let others : filter q (range_with_len (a + 1) n) ≡ rest = cleared_first p q t (a + 1) n rest later fails (λ j d u. same j d (omega arith)) in
+      cc
+]
+
+-- A word whose lowest place is taken out has the others.
+pub first_out : (old new place : ℕ) → slice_get (where_holds (has old) 64) 0 ≡ Some place → IsMarked old new place false → where_holds (has old) 64 ≡ place ∷ where_holds (has new) 64
+unfolding where_holds
+first_out old new place first marked =
+    let places : List ℕ = filter (has old) (range_with_len 0 64) in
+    let cut : places ≡ place ∷ drop 1 places = drop_there places 0 place first in
+    cut ∙ ap (λ (l : List ℕ). place ∷ l) (sym (cleared_first (has old) (has new) place 0 64 (drop 1 places) cut marked.same (λ j d u. marked.others j (omega arith) d)))

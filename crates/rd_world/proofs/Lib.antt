@@ -73,3 +73,4 @@ pub mod FuelLemmas
 pub mod LeftLemmas
 pub mod PlayingLemmas
 pub mod WireLemmas
+pub mod FinishingLemmas

@@ -1,5 +1,5 @@
 -- The applications take what came of their requests: those alone that await something.
-use Rattle.std.proofs.Common.{◌≡◌, ◌≢◌, ◌∙◌, refl, sym, ap, subst, ℕ, zero, suc, ◌+◌, ◌<◌, ◌≤◌, inl, inr, Bool, false, List, [], ◌∷◌, drop, Some, None, Option, Result, Ok, Err, arith}
+use Rattle.std.proofs.Common.{◌≡◌, ◌≢◌, ◌∙◌, refl, sym, ap, subst, ℕ, zero, suc, ◌+◌, ◌<◌, ◌≤◌, inl, inr, Bool, false, List, [], ◌∷◌, Some, None, Option, Result, Ok, Err, arith}
 use Rattle.std.specs.Prelude.{fold, is_some}
 use Rattle.std.specs.List.{AllByRecursion, filter, range_with_len}
 use Rattle.std.specs.List.Sorted.{IsStrictlySortedBy}
@@ -143,7 +143,7 @@ all_places n w is are =
 
 -- Where a word's places are those that await, going through them from the first does what all are to do.
 pub places_first : (w : WorldState) (es : List (ℕ × ApplicationState)) (word copied : ℕ) → es ≡ w.applications → copied ≡ word
-    → where_holds (has word) 64 ≡ where_holds (awaits_at es) 64 → AreApplications es → fold takes_at w (drop 0 (where_holds (has copied) 64)) ≡ all_take w
+    → where_holds (has word) 64 ≡ where_holds (awaits_at es) 64 → AreApplications es → fold takes_at w (where_holds (has copied) 64) ≡ all_take w
 places_first w es word copied is copy places are =
     ap (λ (k : ℕ). fold takes_at w (where_holds (has k) 64)) copy ∙ ap (λ (l : List ℕ). fold takes_at w l) places
     ∙ ap (λ (l : List (ℕ × ApplicationState)). fold takes_at w (where_holds (awaits_at l) 64)) is ∙ all_places 64 w refl (subst AreApplications is are)

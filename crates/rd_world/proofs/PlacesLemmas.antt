@@ -195,7 +195,8 @@ module _ {A : Type 0} where
 -- ---- the applications that they make
 
 module _ {X : Type 0} where
-  key_between : (P : ℕ → Type 0) (es : List (ℕ × X)) (k : ℕ) (v : X) (rest : List (ℕ × X)) → AllByRecursion P (keys_of (es ++ (k, v) ∷ rest)) → P k
+  -- what holds of all keys holds of one among them
+  pub key_between : (P : ℕ → Type 0) (es : List (ℕ × X)) (k : ℕ) (v : X) (rest : List (ℕ × X)) → AllByRecursion P (keys_of (es ++ (k, v) ∷ rest)) → P k
   key_between P [] k v rest all = all.0
   key_between P (e ∷ es) k v rest all = key_between P es k v rest all.1
 

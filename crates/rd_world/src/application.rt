@@ -1,7 +1,9 @@
 //! An application of a session.
 
 ghost use Rattle.std.specs.Prelude.{◌≡◌, ◌<◌, ◌≤◌, ◌+◌, length, IfSome, IsTrue, OnOk, Some};
+ghost use Rattle.std.specs.List.{AllByRecursion};
 ghost use Rattle.std.specs.Option.{option_map_or};
+ghost use Rattle.rd_script.specs.Report.{IsCountable};
 ghost use Rattle.rd_script.specs.Script.{max_lines};
 ghost use Rattle.rd_world.specs.Applications.{AreAsking, AsksFor, asked_lines};
 ghost use Rattle.rd_world.specs.Events.{may_issue, target_of};
@@ -32,6 +34,8 @@ pub struct Application<'s> {
 
 impl<'s> Model for Application<'s> {
     ghost use Rattle.std.specs.Prelude.{◌<◌, ◌≤◌, vec_len, IfSome};
+    ghost use Rattle.std.specs.List.{AllByRecursion};
+    ghost use Rattle.rd_script.specs.Report.{IsCountable};
     ghost use Rattle.rd_script.specs.Script.{max_lines};
     ghost use Rattle.rd_world.specs.Applications.{AreAsking, asked_lines};
     ghost use Rattle.rd_world.specs.World.{ApplicationState};
@@ -41,7 +45,8 @@ impl<'s> Model for Application<'s> {
     ghost view = { λ a. record { asks = asked_lines a.lines.now a.places.items; queued = a.queued; awaits = a.awaits; handles = a.handles; outcomes = a.outcomes.items } };
 
     ghost invariant = { λ a. (a.queued ≤ vec_len a.places) × (vec_len a.places ≤ max_lines) × AreAsking a.lines.now a.places.items
-        × (vec_len a.outcomes ≤ a.queued) × IfSome a.awaits (λ n. vec_len a.outcomes < a.queued) };
+        × (vec_len a.outcomes ≤ a.queued) × IfSome a.awaits (λ n. vec_len a.outcomes < a.queued)
+        × AllByRecursion IsCountable a.outcomes.items };
 }
 
 impl<'s> Application<'s> {
@@ -121,8 +126,10 @@ impl<'s> Application<'s> {
     }
 
     /// Its next line has this outcome, and where it opens a file its handle holds what was given.
+    #[tactic(auto, using(rd_drive::proofs::AllLemmas::all_append))]
     pub fn end_line(&mut self, outcome: Outcome, given: Option<Handle>) -> Result<(), AllocError>
-        requires { length self.old.outcomes < self.old.queued }
+        requires more { length self.old.outcomes < self.old.queued }
+        requires countable { IsCountable outcome }
         ensures { OnOk result (self.new ≡ option_map_or (λ asked. with_outcome self.old outcome given asked) (next_asked self.old) self.old) }
     {
         let line = self.next();
@@ -138,7 +145,9 @@ impl<'s> Application<'s> {
 
     /// The outcomes of the lines that have one, in order.
     pub fn finish(self) -> Vec<Outcome>
-        ensures { result.items ≡ self.entry.outcomes }
+        ensures outcomes { result.items ≡ self.entry.outcomes }
+        ensures few { length result.items ≤ max_lines }
+        ensures countable { AllByRecursion IsCountable result.items }
     {
         let Application { outcomes, .. } = self;
         outcomes

@@ -3,6 +3,8 @@
 ghost use Rattle.std.specs.Prelude.{◌≡◌, ◌≢◌, fold, false, OnOk};
 ghost use Rattle.rd_client.specs.Core.{listed};
 ghost use Rattle.rd_devices.specs.declared.list.Announce.{Announce};
+ghost use Rattle.rd_pending.specs.Known.{IsKnown};
+ghost use Rattle.rd_script.specs.Report.{IsCountable};
 ghost use Rattle.rd_world.specs.Hearing.{all_take, announcing, answers_directly, client_handles_all, client_hears, given_handle, host_handles, host_handles_all, host_hears, is_device_told, putting, reported_outcome, takes_outcome, tries_kept};
 ghost use Rattle.rd_world.specs.World.{most_messages};
 
@@ -204,9 +206,11 @@ impl<'s> World<'s> {
     pub(crate) fn all_take(&mut self) -> Result<(), AllocError>
         ensures { OnOk result (self.new ≡ all_take self.old) }
     {
-        let awaiting = self.applications.awaiting().copy();
-        for index in 0..awaiting.count() {
-            self.take_outcome(awaiting.pick(index) + 1)?;
+        let mut awaiting = self.applications.awaiting().copy();
+        for _taken in 0..awaiting.count() {
+            let place = awaiting.pick(0);
+            awaiting.mark(place, false);
+            self.take_outcome(place + 1)?;
         }
         Ok(())
     }
@@ -247,7 +251,9 @@ fn given_handle(taken: &Taken) -> Option<Handle>
 
 /// The outcome of a request, as that of its line.
 fn reported_outcome(taken: Taken) -> Outcome
-    ensures { result ≡ reported_outcome taken.outcome }
+    requires { IsKnown taken.outcome }
+    ensures outcome { result ≡ reported_outcome taken.outcome }
+    ensures countable { IsCountable result }
 {
     match taken.outcome {
         rd_pending::Outcome::Done(reply) => Outcome::Done(reply),

@@ -3,6 +3,7 @@
 ghost use Rattle.std.specs.Prelude.{◌≡◌, ◌≢◌, ◌↔◌, fold, IsTrue, IfErr, IfOk, IfSome, OnOk, Err, is_some};
 ghost use Rattle.rd_chunk.specs.Carrier.{IsMessage};
 ghost use Rattle.rd_host.specs.Core.{IsHostReady, MayTell};
+ghost use Rattle.rd_pending.specs.Known.{IsKnown};
 ghost use Rattle.rd_pending.specs.Table.{MayBegin, MaySubmit, TableStep, complete, submits, takes};
 ghost use Rattle.rd_pending.specs.declared.calls.LiveNo.TheVariants as no;
 ghost use Rattle.rd_world.specs.Host.{admits, begins_on, ends_channel, forgets, hears, live_code, new_side, next_message, side_sends, tells_of};
@@ -130,6 +131,7 @@ impl Host {
     /// The outcome of a number is handed out, once.
     pub fn take(&mut self, number: u64) -> Result<Taken, TakeNo>
         ensures step { TableStep self.old.table (takes number result) self.new.table }
+        ensures known { IfOk result (λ taken. IsKnown taken.outcome) }
         ensures core { self.new.core ≡ self.old.core }
     {
         self.table.take(number)

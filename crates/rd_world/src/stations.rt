@@ -237,6 +237,7 @@ impl Stations {
     pub fn finish(self) -> (Vec<u32>, Vec<Station<SessionDevice>>)
         ensures stations { zip result.0.items result.1.items ≡ self }
         ensures same { length result.1.items ≡ length result.0.items }
+        ensures kept { AreStations self }
     {
         let Stations { ids, list, .. } = self;
         (ids, list)
