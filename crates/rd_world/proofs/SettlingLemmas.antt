@@ -1,22 +1,28 @@
 -- Draws of a settling, one after the other.
-use Rattle.std.proofs.Common.{◌≡◌, ℕ, zero, suc, ◌+◌, List, [], ◌∷◌, length, map, slice_get, Bool, true, false, Option, Some, refl, sym, ap, ◌∙◌, subst, arith}
+use Rattle.std.proofs.Common.{◌≡◌, ℕ, zero, suc, ◌+◌, List, [], ◌∷◌, ◌++◌, append-nil, append_assoc, length, map, slice_get, Bool, true, false, Option, Some, refl, sym, ap, ◌∙◌, subst, arith}
 use Rattle.std.specs.Option.{unwrap_or}
 use Rattle.rd_base.specs.declared.journal.Key.{Key}
 use Rattle.std.specs.List.{AllByRecursion}
-use Rattle.std.specs.Prelude.{OnOk, Result, Ok, Err, is_err}
+use Rattle.std.specs.Prelude.{OnErr, OnOk, Result, Ok, Err, is_err}
 use Rattle.std.proofs.lemmas.List.{length-map}
 use Rattle.std.proofs.lemmas.Bool.{false≢true}
+use Rattle.rd_base.specs.Faults.{CountsFault}
 use Rattle.rd_world.specs.Choices.{choices_in}
 use Rattle.rd_world.specs.declared.choices.Choices.{Choices}
 use Rattle.rd_world.specs.declared.choices.Choice.{Choice}
 use Rattle.rd_world.specs.Drawn.{HasPlaces, can_happen, next_step_of}
 use Rattle.rd_world.specs.Keys.{MarksAgree, AreLonger}
+use Rattle.rd_world.specs.Recording.{recording_of_deeds}
 use Rattle.rd_world.specs.Stations.{AreStations}
+use Rattle.rd_world.specs.Step.{recorded_next}
+use Rattle.rd_world.specs.Wire.{StaysRecorded}
 use Rattle.rd_world.proofs.DrawnLemmas.{all_got, drawn_can_happen, picked_step}
 use Rattle.rd_world.proofs.GoingLemmas.{chosen_goes, goes_longer}
 use Rattle.rd_world.proofs.KeysLemmas.{agrees_before}
+use Rattle.rd_world.proofs.RecordedLemmas.{event_recorded}
+use Rattle.rd_world.proofs.RoundsLemmas.{client_read_quiet, host_read_quiet}
 use Rattle.rd_world.specs.Events.{Event, add, apply_job, client_read, client_send, collect, connect, drop_channel, host_read, host_send, issue, is_enabled, remove, take_job, tell}
-use Rattle.rd_world.specs.Run.{NextStep, choices, chosen, device_ids, drawing, event, picked, reads_client, reads_host, settled, settles_by}
+use Rattle.rd_world.specs.Run.{NextStep, choices, chosen, device_ids, drawing, drawn_count, event, picked, reads_client, reads_host, settled, settles_by}
 use Rattle.rd_world.specs.World.{WorldState, journals_in, marks_of}
 
 -- what can happen doesn't hang on the draws
@@ -67,6 +73,19 @@ module _ (starves : Key → Bool) where
 pub when_ok : {T E : Type 0} (P : Type 0) (r : Result T E) → is_err r ≡ false → OnOk r P → P
 when_ok P (Ok x) ok p = p
 when_ok P (Err e) ok p = absurd (false≢true (sym ok))
+
+-- two things that are known of a result that is no error
+pub on_ok_two : {T E : Type 0} (P Q S : Type 0) (r : Result T E) → (P → Q → S) → OnOk r P → OnOk r Q → OnOk r S
+on_ok_two P Q S (Ok x) both p q = both p q
+on_ok_two P Q S (Err e) both p q = tt
+
+pub when_err : {T E : Type 0} (P : Type 0) (r : Result T E) → is_err r ≡ true → OnErr r P → P
+when_err P (Ok x) err p = absurd (false≢true err)
+when_err P (Err e) err p = p
+
+pub counts_none : {T E : Type 0} (r : Result T E) (old new : ℕ) → is_err r ≡ false → CountsFault r old new → new ≡ old
+counts_none (Ok x) old new ok count = count
+counts_none (Err e) old new ok count = absurd (false≢true (sym ok))
 
 counted : (w : WorldState) (c : Choices) (n : ℕ) → map (next_step_of (device_ids w)) (choices_in c) ≡ choices w → n ≡ length (choices_in c) → n ≡ length (choices w)
 counted w c n drawn count = count ∙ sym (length-map (choices_in c) (next_step_of (device_ids w))) ∙ ap length drawn

@@ -1,10 +1,10 @@
 -- What a run writes to its wire, step by step, and where a write fails in its midst.
-use Rattle.std.proofs.Common.{◌≡◌, ℕ, ◌+◌, ◌≤◌, List, [], ◌∷◌, ◌++◌, length, take, drop, Bool, true, Option, Some, None, refl, sym, ap, ◌∙◌, subst, arith, append-nil, append_assoc}
+use Rattle.std.proofs.Common.{◌≡◌, ℕ, ◌+◌, ◌≤◌, List, [], ◌∷◌, ◌++◌, length, get_or, ◌<◌, take, drop, Bool, true, Option, Some, None, refl, sym, ap, ◌∙◌, subst, arith, append-nil, append_assoc}
 use Rattle.std.proofs.Math.Seq.{take-append-add}
 use Rattle.std.proofs.lemmas.List.{take-append-drop}
 use Rattle.std.proofs.KnownBytes.{Appends-nil, Appends-trans}
 use Rattle.std.specs.Io.KnownBytes.{Appends}
-use Rattle.std.specs.Prelude.{◌&&◌, Result, Ok, Err, IfErr}
+use Rattle.std.specs.Prelude.{◌&&◌, codes, Result, Ok, Err, IfErr}
 use Rattle.std.specs.Option.{option_and_then, option_map}
 use Rattle.rd_base.specs.declared.journal.Item.{Item}
 use Rattle.rd_base.specs.declared.journal.Key.{Key}
@@ -17,13 +17,18 @@ use Rattle.rd_world.specs.declared.event.StepNo.TheVariants as no
 use Rattle.rd_world.specs.Events.{act, drop_channel, drops, is_channel_open}
 use Rattle.rd_world.specs.Keys.{AreLonger, MarksAgree}
 use Rattle.rd_world.specs.Recording.{recording_of_deeds}
-use Rattle.rd_world.specs.Run.{Most, asked_by, controls, ends_session, plays, plays_line, settled, some_left}
-use Rattle.rd_world.specs.Wire.{Breaks, GoesOn, IsCut, IsPassed, OnWire, Records, StaysRecorded}
-use Rattle.rd_world.specs.World.{Asked, WorldState, journals_in}
-use Rattle.rd_world.proofs.FuelLemmas.{ComesTo, Steady, both, first_within, second_within, settled_more}
-use Rattle.rd_world.proofs.GoingLemmas.{GoesTo, gone_to, goes_on_same, goes_on_then, settled_goes}
-use Rattle.rd_world.proofs.KeysLemmas.{agrees_before}
-use Rattle.rd_world.proofs.PlayingLemmas.{PlaysTo, Running, begins_from, comes_played, comes_still, control_line, ends_left, longer_line, played_from, run_from, steady_begins, steady_played, steady_still, still_from}
+use Rattle.rd_world.specs.Run.{Most, NextStep, asked_by, chosen, controls, drawing, ends_session, plays, plays_line, settled, some_left, world_of}
+use Rattle.rd_world.specs.Stations.{AreStations}
+use Rattle.rd_world.specs.Step.{recorded_by, recorded_next}
+use Rattle.rd_world.specs.Wire.{Breaks, GoesOn, IsCut, IsCutRun, IsPassed, OnWire, Records, StaysRecorded}
+use Rattle.rd_world.specs.World.{Asked, WorldState, journals_in, marks_of}
+use Rattle.rd_world.proofs.FuelLemmas.{ComesTo, Steady, both, first_within, second_within, plays_more, plays_one_more, settled_more}
+use Rattle.rd_world.proofs.GoingLemmas.{GoesTo, ends_session_goes, goes_longer, goes_on_same, goes_on_then, gone_to, plays_goes, settled_goes}
+use Rattle.rd_world.proofs.GrowingLemmas.{acted_longer, longer_trans}
+use Rattle.rd_world.proofs.KeysLemmas.{agrees_before, marks_agree}
+use Rattle.rd_world.proofs.PlayingLemmas.{PlaysTo, Running, begins_from, control_line, longer_line, nothing_done, played_from, run_from, steady_begins, steady_played, steady_run, steady_still, still_from}
+use Rattle.rd_world.proofs.RoundsLemmas.{event_stays}
+use Rattle.rd_world.proofs.SettlingLemmas.{draw_stays}
 
 -- ---- what is written and what is gathered
 
@@ -78,6 +83,13 @@ breaks_after start held next w x y old new before fails =
       stays = λ earlier is.
           sym (append_assoc earlier before.written fails.recorded) ∙ fails.stays (earlier ++ before.written) (before.follows earlier is);
     }
+
+-- a draw more
+pub records_draw : (start held : Option (List ℕ)) (first w v y : WorldState) (s : NextStep) (old gathered new : List ℕ) → Records start held first old w gathered
+    → v ≡ drawing w → y ≡ chosen (marks_of y) v s → new ≡ gathered ++ recorded_next v s → Records start held first old y new
+records_draw start held first w v y s old gathered new before draw marked added =
+    records_then start held held first w y old gathered new before
+    (records_stays held w y gathered new (draw_stays (marks_of y) w v y s gathered new draw marked added))
 
 -- at once
 pub breaks_here : (start held : Option (List ℕ)) (w : WorldState) (old : List ℕ) → AppendsPrefix start held old → Breaks start held w old w
@@ -145,12 +157,12 @@ passed_settled start x k reached starves most w agrees is =
 pub plays_append : (starves : Key → Bool) (most : Most) (ks ls : List NumberedLine) (w : WorldState)
     → plays starves most (ks ++ ls) w ≡ option_and_then (plays starves most ls) (plays starves most ks w)
 plays_append starves most [] ls w = refl
-plays_append starves most (k ∷ ks) ls w = by (plays_line starves most w k)
+plays_append starves most (k ∷ ks) ls w = by (plays_line starves most w k) (plays_append starves most ks ls)
   where
-    by : (o : Option WorldState)
+    by : (o : Option WorldState) → ((x : WorldState) → plays starves most (ks ++ ls) x ≡ option_and_then (plays starves most ls) (plays starves most ks x))
         → option_and_then (plays starves most (ks ++ ls)) o ≡ option_and_then (plays starves most ls) (option_and_then (plays starves most ks) o)
-    by None = refl
-    by (Some x) = plays_append starves most ks ls x
+    by None goes = refl
+    by (Some x) goes = goes x
 
 -- from lines on to all of them
 passed_on : (lines : List NumberedLine) (i : ℕ) (start x : WorldState) → IsPassed (λ starves most. plays starves most (take i lines) start) x
@@ -200,7 +212,7 @@ no_wire P (Err no.Wire) wanting = absurd (cc wanting)
 no_wire P (Err no.Memory) wanting = tt
 no_wire P (Err (no.Disabled e)) wanting = tt
 
-pub on_wire_weaker : {T U : Type 0} (P Q : Type 0) (r : Result T StepNo) → (P → Q) → OnWire r P → OnWire r Q
+pub on_wire_weaker : {T : Type 0} (P Q : Type 0) (r : Result T StepNo) → (P → Q) → OnWire r P → OnWire r Q
 on_wire_weaker P Q (Ok done) weaker p = tt
 on_wire_weaker P Q (Err no.Wire) weaker p = weaker p
 on_wire_weaker P Q (Err no.Memory) weaker p = tt

@@ -1,7 +1,8 @@
 use Rattle.std.proofs.Common.{◌≡◌, Bool}
 use Rattle.rd_base.specs.declared.journal.Key.{Key}
 use Rattle.rd_world.specs.Run.{all_client_sends}
-use Rattle.rd_world.proofs.RoundsLemmas.{StaysRecorded, client_count}
+use Rattle.rd_world.specs.Wire.{StaysRecorded}
+use Rattle.rd_world.proofs.RoundsLemmas.{client_count}
 use Rattle.rd_world.proofs.world.World.client_send_all.Given as goal
 
 -- what is still to be sent is sent from here
