@@ -70,14 +70,20 @@ client_sent starves w none = no_more starves (client_count w) event.client_send 
 
 -- ---- the recording
 
+pub stays_same : (w x : WorldState) (old : List ℕ) → recording_of_deeds x.deeds ≡ recording_of_deeds w.deeds → StaysRecorded w old x old
+stays_same w x old quiet = ([], quiet ∙ sym (append-nil (recording_of_deeds w.deeds)), sym (append-nil old))
+
+pub stays_then : (w x y : WorldState) (old new last : List ℕ) → StaysRecorded w old x new → StaysRecorded x new y last → StaysRecorded w old y last
+stays_then w x y old new last (more, first, got) (yet_more, second, got_more) = (
+  more ++ yet_more,
+  second ∙ ap (λ (bytes : List ℕ). bytes ++ yet_more) first ∙ append_assoc (recording_of_deeds w.deeds) more yet_more,
+  got_more ∙ ap (λ (bytes : List ℕ). bytes ++ yet_more) got ∙ append_assoc old more yet_more,
+)
+
 pub event_stays : (starves : Key → Bool) (w x : WorldState) (e : Event) (old new : List ℕ) → x ≡ act starves w e → new ≡ old ++ recorded_by w e
     → StaysRecorded w old x new
-event_stays starves w x e old new acted added written before =
-    ap (λ (bytes : List ℕ). written ++ bytes) added
-    ∙ sym (append_assoc written old (recorded_by w e))
-    ∙ ap (λ (bytes : List ℕ). bytes ++ recorded_by w e) before
-    ∙ sym (event_recorded starves w e)
-    ∙ ap (λ (y : WorldState). recording_of_deeds y.deeds) (sym acted)
+event_stays starves w x e old new acted added =
+    (recorded_by w e, ap (λ (y : WorldState). recording_of_deeds y.deeds) acted ∙ event_recorded starves w e, added)
 
 -- ---- rounds
 

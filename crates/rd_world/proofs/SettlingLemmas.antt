@@ -152,10 +152,6 @@ next_recorded starves w reads_host =
 
 pub draw_stays : (starves : Key → Bool) (w v y : WorldState) (s : NextStep) (old new : List ℕ) → v ≡ drawing w → y ≡ chosen starves v s → new ≡ old ++ recorded_next v s
     → StaysRecorded w old y new
-draw_stays starves w v y s old new draw came added written before =
+draw_stays starves w v y s old new draw came added =
     let recorded : WorldState → List ℕ = λ (u : WorldState). recording_of_deeds u.deeds in
-    ap (λ (bytes : List ℕ). written ++ bytes) added
-    ∙ sym (append_assoc written old (recorded_next v s))
-    ∙ ap (λ (bytes : List ℕ). bytes ++ recorded_next v s) (before ∙ sym (ap recorded draw))
-    ∙ sym (next_recorded starves v s)
-    ∙ sym (ap recorded came)
+    (recorded_next v s, ap recorded came ∙ next_recorded starves v s ∙ ap (λ (bytes : List ℕ). bytes ++ recorded_next v s) (ap recorded draw), added)

@@ -4,7 +4,7 @@ use Rattle.std.proofs.Math.Seq.{take-append-add}
 use Rattle.std.proofs.lemmas.List.{take-append-drop}
 use Rattle.std.proofs.KnownBytes.{Appends-nil, Appends-trans}
 use Rattle.std.specs.Io.KnownBytes.{Appends}
-use Rattle.std.specs.Prelude.{◌&&◌, codes, Result, Ok, Err, IfErr}
+use Rattle.std.specs.Prelude.{◌&&◌, codes, Result, Ok, Err, IfErr, IsErrAnd}
 use Rattle.std.specs.Option.{option_and_then, option_map}
 use Rattle.rd_base.specs.declared.journal.Item.{Item}
 use Rattle.rd_base.specs.declared.journal.Key.{Key}
@@ -20,68 +20,69 @@ use Rattle.rd_world.specs.Recording.{recording_of_deeds}
 use Rattle.rd_world.specs.Run.{Most, NextStep, asked_by, chosen, controls, drawing, ends_session, plays, plays_line, settled, some_left, world_of}
 use Rattle.rd_world.specs.Stations.{AreStations}
 use Rattle.rd_world.specs.Step.{recorded_by, recorded_next}
-use Rattle.rd_world.specs.Wire.{Breaks, GoesOn, IsCut, IsCutRun, IsPassed, OnWire, Records, StaysRecorded}
+use Rattle.rd_world.specs.Wire.{Breaks, CountsWire, GoesOn, IsCut, IsCutRun, IsPassed, OnWire, Records, StaysRecorded}
 use Rattle.rd_world.specs.World.{Asked, WorldState, journals_in, marks_of}
 use Rattle.rd_world.proofs.FuelLemmas.{ComesTo, Steady, both, first_within, second_within, plays_more, plays_one_more, settled_more}
 use Rattle.rd_world.proofs.GoingLemmas.{GoesTo, ends_session_goes, goes_longer, goes_on_same, goes_on_then, gone_to, plays_goes, settled_goes}
 use Rattle.rd_world.proofs.GrowingLemmas.{acted_longer, longer_trans}
 use Rattle.rd_world.proofs.KeysLemmas.{agrees_before, marks_agree}
 use Rattle.rd_world.proofs.PlayingLemmas.{PlaysTo, Running, begins_from, control_line, longer_line, nothing_done, played_from, run_from, steady_begins, steady_played, steady_run, steady_still, still_from}
-use Rattle.rd_world.proofs.RoundsLemmas.{event_stays}
+use Rattle.rd_world.proofs.RoundsLemmas.{event_stays, stays_same}
 use Rattle.rd_world.proofs.SettlingLemmas.{draw_stays}
 
 -- ---- what is written and what is gathered
 
 -- nothing was written
 pub records_stays : (held : Option (List ℕ)) (w x : WorldState) (old new : List ℕ) → StaysRecorded w old x new → Records held held w old x new
-records_stays held w x old new stays = record {
-  written = [];
-  appended = Appends-nil held;
-  follows = λ before is. ap (λ (bytes : List ℕ). bytes ++ new) (append-nil before) ∙ stays before is;
-}
+records_stays held w x old new (more, recorded, got) = record { more = more; written = []; recorded = recorded; parts = got; appended = Appends-nil held }
 
 pub records_none : (held : Option (List ℕ)) (w : WorldState) (old : List ℕ) → Records held held w old w old
-records_none held w old = records_stays held w w old old (λ before is. is)
+records_none held w old = records_stays held w w old old (stays_same w w old refl)
 
 -- some of what was gathered was written
 pub records_piece : (start held : Option (List ℕ)) (w : WorldState) (old new : List ℕ)
     → ((written : List ℕ) × (old ≡ written ++ new) × Appends start held written) → Records start held w old w new
 records_piece start held w old new (written, parts, appended) = record {
+  more = [];
   written = written;
+  recorded = sym (append-nil (recording_of_deeds w.deeds));
+  parts = sym parts ∙ sym (append-nil old);
   appended = appended;
-  follows = λ before is. append_assoc before written new ∙ ap (λ (bytes : List ℕ). before ++ bytes) (sym parts) ∙ is;
 }
 
-pub records_then : (start held next : Option (List ℕ)) (w x y : WorldState) (old new more : List ℕ) → Records start held w old x new → Records held next x new y more
-    → Records start next w old y more
-records_then start held next w x y old new more before after = record {
+pub records_then : (start held next : Option (List ℕ)) (w x y : WorldState) (old new last : List ℕ) → Records start held w old x new → Records held next x new y last
+    → Records start next w old y last
+records_then start held next w x y old new last before after = record {
+  more = before.more ++ after.more;
   written = before.written ++ after.written;
+  recorded = after.recorded ∙ ap (λ (bytes : List ℕ). bytes ++ after.more) before.recorded ∙ append_assoc (recording_of_deeds w.deeds) before.more after.more;
+  parts = append_assoc before.written after.written last ∙ ap (λ (bytes : List ℕ). before.written ++ bytes) after.parts
+      ∙ sym (append_assoc before.written new after.more) ∙ ap (λ (bytes : List ℕ). bytes ++ after.more) before.parts ∙ append_assoc old before.more after.more;
   appended = Appends-trans start held next before.written after.written before.appended after.appended;
-  follows = λ earlier is.
-      ap (λ (bytes : List ℕ). bytes ++ more) (sym (append_assoc earlier before.written after.written))
-      ∙ after.follows (earlier ++ before.written) (before.follows earlier is);
 }
 
--- nothing more is gathered
+-- a session from its beginning, of which nothing more is gathered
 pub records_whole : (start held : Option (List ℕ)) (w x : WorldState) (old : List ℕ) → Records start held w old x [] → old ≡ recording_of_deeds w.deeds
     → Appends start held (recording_of_deeds x.deeds)
 records_whole start held w x old records is =
-    subst (λ (bytes : List ℕ). Appends start held bytes) (sym (append-nil records.written) ∙ records.follows [] is) records.appended
+    subst (λ (bytes : List ℕ). Appends start held bytes)
+    (sym (append-nil records.written) ∙ records.parts ∙ ap (λ (bytes : List ℕ). bytes ++ records.more) is ∙ sym records.recorded) records.appended
 
 -- a write failed after what was written
 pub breaks_after : (start held next : Option (List ℕ)) (w x y : WorldState) (old new : List ℕ) → Records start held w old x new → Breaks held next x new y
     → Breaks start next w old y
 breaks_after start held next w x y old new before fails =
     let (n, prefix) = fails.prefix in
+    let all : before.written ++ (new ++ fails.more) ≡ old ++ (before.more ++ fails.more) =
+    sym (append_assoc before.written new fails.more) ∙ ap (λ (bytes : List ℕ). bytes ++ fails.more) before.parts ∙ append_assoc old before.more fails.more in
     record {
-      recorded = before.written ++ fails.recorded;
-      prefix = (
+      more = before.more ++ fails.more;
+      recorded = fails.recorded ∙ ap (λ (bytes : List ℕ). bytes ++ fails.more) before.recorded ∙ append_assoc (recording_of_deeds w.deeds) before.more fails.more;
+      prefix = subst (λ (bytes : List ℕ). AppendsPrefix start next bytes) all (
         length before.written + n,
-        subst (λ (bytes : List ℕ). Appends start next bytes) (sym (take-append-add before.written fails.recorded n))
-        (Appends-trans start held next before.written (take n fails.recorded) before.appended prefix),
+        subst (λ (bytes : List ℕ). Appends start next bytes) (sym (take-append-add before.written (new ++ fails.more) n))
+        (Appends-trans start held next before.written (take n (new ++ fails.more)) before.appended prefix),
       );
-      stays = λ earlier is.
-          sym (append_assoc earlier before.written fails.recorded) ∙ fails.stays (earlier ++ before.written) (before.follows earlier is);
     }
 
 -- a draw more
@@ -93,12 +94,17 @@ records_draw start held first w v y s old gathered new before draw marked added 
 
 -- at once
 pub breaks_here : (start held : Option (List ℕ)) (w : WorldState) (old : List ℕ) → AppendsPrefix start held old → Breaks start held w old w
-breaks_here start held w old prefix = record { recorded = old; prefix = prefix; stays = λ before is. is }
+breaks_here start held w old prefix = record {
+  more = [];
+  recorded = sym (append-nil (recording_of_deeds w.deeds));
+  prefix = subst (λ (bytes : List ℕ). AppendsPrefix start held bytes) (sym (append-nil old)) prefix;
+}
 
 -- of a session from its beginning on
 pub breaks_whole : (start held : Option (List ℕ)) (w x : WorldState) (old : List ℕ) → Breaks start held w old x → old ≡ recording_of_deeds w.deeds
     → AppendsPrefix start held (recording_of_deeds x.deeds)
-breaks_whole start held w x old breaks is = subst (λ (bytes : List ℕ). AppendsPrefix start held bytes) (breaks.stays [] is) breaks.prefix
+breaks_whole start held w x old breaks is =
+    subst (λ (bytes : List ℕ). AppendsPrefix start held bytes) (ap (λ (bytes : List ℕ). bytes ++ breaks.more) is ∙ sym breaks.recorded) breaks.prefix
 
 -- ---- what a session passes
 
@@ -218,11 +224,30 @@ on_wire_weaker P Q (Err no.Wire) weaker p = weaker p
 on_wire_weaker P Q (Err no.Memory) weaker p = tt
 on_wire_weaker P Q (Err (no.Disabled e)) weaker p = tt
 
+-- an error that goes on
+pub on_wire_err : {T : Type 0} (P Q : Type 0) (r : Result T StepNo) (s : StepNo) → IsErrAnd r (λ e. e ≡ s) → (P → Q) → OnWire {T = T} (Err s) P → OnWire r Q
+on_wire_err P Q (Ok done) s is weaker p = absurd is
+on_wire_err {T} P Q (Err e) s is weaker p = on_wire_weaker {T = T} P Q (Err e) weaker (subst (λ (t : StepNo). OnWire {T = T} (Err t) P) (sym is) p)
+
+pub counts_wanting : {T : Type 0} (r : Result T StepNo) (n : ℕ) → IfErr r (λ cause. cause ≡ no.Memory) → CountsWire r n n
+counts_wanting (Ok done) n wanting = refl
+counts_wanting (Err no.Wire) n wanting = absurd (cc wanting)
+counts_wanting (Err no.Memory) n wanting = refl
+counts_wanting (Err (no.Disabled e)) n wanting = absurd (cc wanting)
+
+pub counts_err : {T : Type 0} (r : Result T StepNo) (s : StepNo) (old mid new : ℕ) → IsErrAnd r (λ e. e ≡ s) → mid ≡ old → CountsWire {T = T} (Err s) mid new
+    → CountsWire r old new
+counts_err (Ok done) s old mid new is same count = absurd is
+counts_err {T} (Err e) s old mid new is same count =
+    subst (λ (n : ℕ). CountsWire {T = T} (Err e) n new) same (subst (λ (t : StepNo). CountsWire {T = T} (Err t) mid new) (sym is) count)
+
 module _ (start held : Option (List ℕ)) (w : WorldState) (old : List ℕ) (x : WorldState) where
   -- a settling
   pub cut_settling : (k : ℕ) → ((most : ℕ) (starves : Key → Bool) → MarksAgree starves (journals_in x) → settled starves (k + most) w ≡ settled starves most x)
-      → AreLonger (journals_in w) (journals_in x) → Breaks start held w old x → IsCut start held w old (λ starves most. settled starves most.draws w) x
-  cut_settling k reached longer breaks = record { breaks = breaks; longer = longer; passed = passed_settled w x k reached }
+      → AreLonger (journals_in w) (journals_in x) → AreStations x.stations → Breaks start held w old x
+      → IsCut start held w old (λ starves most. settled starves most.draws w) x
+  cut_settling k reached longer stand breaks =
+      record { breaks = breaks; longer = longer; marked = marks_agree x.stations stand; passed = passed_settled w x k reached }
 
   -- a `settle` line
   pub cut_settle : (number : ℕ) (l : Line) → l ≡ line.Settle → IsCut start held w old (λ starves most. settled starves most.draws w) x
@@ -231,6 +256,7 @@ module _ (start held : Option (List ℕ)) (w : WorldState) (old : List ℕ) (x :
   cut_settle number l is cut = record {
     breaks = cut.breaks;
     longer = cut.longer;
+    marked = cut.marked;
     passed = passed_same (λ starves most. controls starves most w number l) (λ starves most. settled starves most.draws w) x
         (λ starves most. ap (controls starves most w number) is) cut.passed;
   }
@@ -241,9 +267,15 @@ module _ (start held : Option (List ℕ)) (w : WorldState) (old : List ℕ) (x :
   cut_control l asks cut = record {
     breaks = cut.breaks;
     longer = cut.longer;
+    marked = cut.marked;
     passed = passed_same (λ starves most. plays_line starves most w l) (λ starves most. controls starves most w l.number l.line) x
         (λ starves most. control_line starves most w l asks) cut.passed;
   }
+
+pub dropped_records : (start held : Option (List ℕ)) (w y x : WorldState) (old new last : List ℕ) → y ≡ drops w → new ≡ old ++ recorded_by w drop_channel
+    → Records start held y new x last → Records start held w old x last
+dropped_records start held w y x old new last dropped added records =
+    records_then start start held w y x old new last (records_stays start w y old new (event_stays (λ key. true) w y drop_channel old new dropped added)) records
 
 -- the last settling, after a channel was dropped
 pub cut_ending : (start held : Option (List ℕ)) (w y x : WorldState) (old new : List ℕ) → (is_channel_open w && some_left w) ≡ true → y ≡ drops w
@@ -256,6 +288,7 @@ cut_ending start held w y x old new left dropped added stand cut =
     record {
       breaks = breaks_after start start held w y x old new (records_stays start w y old new stays) cut.breaks;
       longer = longer_trans (journals_in w) (journals_in y) (journals_in x) longer cut.longer;
+      marked = cut.marked;
       passed = passed_same (λ starves most. ends_session starves most w) (λ starves most. settled starves most.draws y) x
           (λ starves most. rw left (ap (settled starves most.draws) (sym dropped))) cut.passed;
     }
@@ -270,6 +303,7 @@ cut_line start held next lines i l first w x old new within at before stand_firs
     record {
       breaks = breaks_after start held next first w x old new records cut.breaks;
       longer = longer_trans (journals_in first) (journals_in w) (journals_in x) longer cut.longer;
+      marked = cut.marked;
       passed = passed_in_line lines i l first w x within at before cut.longer cut.passed;
     }
 
@@ -280,6 +314,7 @@ pub cut_between : (start held next : Option (List ℕ)) (lines : List NumberedLi
 cut_between start held next lines i first x old new before stand_first stand records prefix = record {
   breaks = breaks_after start held next first x x old new records (breaks_here held next x new prefix);
   longer = came_longer (λ starves most. plays starves most (take i lines) first) first x (λ starves most. plays_goes starves most (take i lines) first) before stand_first stand;
+  marked = marks_agree x.stations stand;
   passed = passed_after_line lines i first x before;
 }
 
@@ -296,6 +331,7 @@ module _ (start : Option (List ℕ)) (lines : List NumberedLine) (w : WorldState
       → (IsPassed (λ starves most. option_and_then (g starves most) (f starves most)) y → IsPassed (run_from lines) y) → IsCutRun start next lines y
   cut_after held next f g x y new steady comes records cut on = record {
     prefix = breaks_whole start next w y old (breaks_after start held next w x y old new records cut.breaks) first;
+    marked = cut.marked;
     passed = on (passed_then f g x y steady comes cut.longer cut.passed);
   }
 
@@ -325,10 +361,11 @@ module _ (start : Option (List ℕ)) (lines : List NumberedLine) (w : WorldState
       cut_after held next (still_from lines) (λ starves most. ends_session starves most) still y new (steady_still lines) comes records cut (λ passed. passed)
 
   -- and after it
-  pub cut_at_last : (held next : Option (List ℕ)) (x : WorldState) (new : List ℕ) → ComesTo (run_from lines) x → Records start held w old x new
-      → AppendsPrefix held next new → IsCutRun start next lines x
-  cut_at_last held next x new comes records prefix = record {
+  pub cut_at_last : (held next : Option (List ℕ)) (x : WorldState) (new : List ℕ) → ComesTo (run_from lines) x → AreStations x.stations
+      → Records start held w old x new → AppendsPrefix held next new → IsCutRun start next lines x
+  cut_at_last held next x new comes stand records prefix = record {
     prefix = breaks_whole start next w x old (breaks_after start held next w x x old new records (breaks_here held next x new prefix)) first;
+    marked = marks_agree x.stations stand;
     passed = passed_here (run_from lines) x (steady_run lines) comes;
   }
 

@@ -10,28 +10,31 @@ use Rattle.rd_world.specs.declared.event.StepNo.TheVariants as no
 use Rattle.rd_world.specs.Keys.{AreLonger, MarksAgree}
 use Rattle.rd_world.specs.Recording.{recording_of_deeds}
 use Rattle.rd_world.specs.Run.{Most, run_of}
-use Rattle.rd_world.specs.World.{WorldState, journals_in}
+use Rattle.rd_world.specs.World.{WorldState, journals_in, marks_of}
 
--- a write that failed counts one fault, and nothing else counts any
+-- Only a write that fails, or want of memory, ends a session early: that write counts one fault, and nothing else counts any.
 abbrev pub CountsWire : {T : Type 0} → Result T StepNo → ℕ → ℕ → Type 0
 CountsWire (Ok done) old new = new ≡ old
 CountsWire (Err no.Wire) old new = new ≡ one_more old
-CountsWire (Err cause) old new = new ≡ old
+CountsWire (Err no.Memory) old new = new ≡ old
+CountsWire (Err (no.Disabled e)) old new = ⊥
 
 -- this holds where a write failed
 abbrev pub OnWire : {T : Type 0} → Result T StepNo → Type 0 → Type 0
 OnWire (Err no.Wire) P = P
 OnWire r P = Unit {0}
 
--- What a recorder holds stands in the recording after what was written before, from one world and recorder to another.
+-- A session went on from one world to another: a recorder got what its recording got.
 abbrev pub StaysRecorded : WorldState → List ℕ → WorldState → List ℕ → Type 0
-StaysRecorded w old x new = (written : List ℕ) → written ++ old ≡ recording_of_deeds w.deeds → written ++ new ≡ recording_of_deeds x.deeds
+StaysRecorded w old x new = (more : List ℕ) × (recording_of_deeds x.deeds ≡ recording_of_deeds w.deeds ++ more) × (new ≡ old ++ more)
 
--- A session went on from one world to another. A recorder held some bytes of its recording; now the sink holds some of what came, and the recorder the rest.
+-- The same where some of what the recorder held and got was written: the sink has it, and the recorder the rest.
 pub record Records (start held : Option (List ℕ)) (w : WorldState) (old : List ℕ) (x : WorldState) (new : List ℕ) : Type 0 where
+  pub more : List ℕ
   pub written : List ℕ
+  pub recorded : recording_of_deeds x.deeds ≡ recording_of_deeds w.deeds ++ more
+  pub parts : written ++ new ≡ old ++ more
   pub appended : Appends start held written
-  pub follows : (before : List ℕ) → before ++ old ≡ recording_of_deeds w.deeds → (before ++ written) ++ new ≡ recording_of_deeds x.deeds
 
 -- the recording of a later world goes on from that of an earlier one
 abbrev pub GoesOn : WorldState → WorldState → Type 0
@@ -41,20 +44,26 @@ GoesOn w x = (more : List ℕ) × (recording_of_deeds x.deeds ≡ recording_of_d
 abbrev pub IsPassed : ((Key → Bool) → Most → Option WorldState) → WorldState → Type 0
 IsPassed f x = (starves : Key → Bool) (most : Most) (w : WorldState) → MarksAgree starves (journals_in x) → f starves most ≡ Some w → GoesOn x w
 
--- A write failed when a session had come from one world to another: a prefix of what was recorded by then was written.
+-- the runs of a world found no memory of which its journals say so, and no others
+abbrev pub AreMarked : WorldState → Type 0
+AreMarked w = MarksAgree (marks_of w) (journals_in w)
+
+-- A write failed when a session had come from one world to another: a prefix of what the recorder held and got was written.
 pub record Breaks (start held : Option (List ℕ)) (w : WorldState) (old : List ℕ) (x : WorldState) : Type 0 where
-  pub recorded : List ℕ
-  pub prefix : AppendsPrefix start held recorded
-  pub stays : StaysRecorded w old x recorded
+  pub more : List ℕ
+  pub recorded : recording_of_deeds x.deeds ≡ recording_of_deeds w.deeds ++ more
+  pub prefix : AppendsPrefix start held (old ++ more)
 
 -- A write failed in the midst of this, when it had come to this world.
 pub record IsCut (start held : Option (List ℕ)) (w : WorldState) (old : List ℕ) (f : (Key → Bool) → Most → Option WorldState) (x : WorldState) : Type 0 where
   pub breaks : Breaks start held w old x
   pub longer : AreLonger (journals_in w) (journals_in x)
+  pub marked : AreMarked x
   pub passed : IsPassed f x
 
--- The session of a script's lines was cut off at this world: a prefix of what it had recorded was written, and wherever that session ends, its recording
--- goes on from there.
+-- A write failed in the midst of the session of a script's lines, at this world: a prefix of what was recorded by then was written, and wherever that
+-- session ends, if the runs so far found no memory of which the journals say so, its recording goes on from there.
 pub record IsCutRun (start held : Option (List ℕ)) (lines : List NumberedLine) (x : WorldState) : Type 0 where
   pub prefix : AppendsPrefix start held (recording_of_deeds x.deeds)
+  pub marked : AreMarked x
   pub passed : IsPassed (λ starves most. run_of most starves lines) x

@@ -259,7 +259,7 @@ impl<'s> World<'s> {
     // ---- a session
 
     /// The ids of the stations rise, and no key is named at two of them.
-    fn stand(&self)
+    pub(crate) fn stand(&self)
         ensures { AreStations self.now.stations }
     {
         self.stations.len();

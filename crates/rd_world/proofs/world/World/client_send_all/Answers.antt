@@ -3,7 +3,7 @@ use Rattle.rd_world.specs.Events as event
 use Rattle.rd_world.specs.Events.{client_has_message, client_sends_next}
 use Rattle.rd_world.specs.Run.{all_client_sends}
 use Rattle.rd_world.specs.World.{WorldState}
-use Rattle.rd_world.proofs.RoundsLemmas.{client_sends_more, client_sent, event_stays}
+use Rattle.rd_world.proofs.RoundsLemmas.{client_sends_more, client_sent, event_stays, stays_then}
 use Rattle.rd_world.proofs.world.World.client_send_all.Goals as goal
 
 pub sending-preserved : goal.sending-preserved
@@ -14,9 +14,8 @@ sending-preserved c =
     record {
       reached = λ starves.
           c.sending.invariant.reached starves ∙ client_sends_more starves w some ∙ ap (all_client_sends starves) (sym sent);
-      recorded = λ written before.
-          event_stays (λ key. true) w c.client_send.new.self event.client_send c.sending.recorder c.client_send.new.recorder sent (search rules) written
-          (c.sending.invariant.recorded written before);
+      recorded = stays_then c.args.self.now w c.client_send.new.self c.args.recorder.now c.sending.recorder c.client_send.new.recorder c.sending.invariant.recorded
+          (event_stays (λ key. true) w c.client_send.new.self event.client_send c.sending.recorder c.client_send.new.recorder sent (search rules));
     }
 
 pub returns-clause-sent : goal.returns-clause-sent

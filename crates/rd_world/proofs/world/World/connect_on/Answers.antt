@@ -4,7 +4,7 @@ use Rattle.rd_world.specs.Events as event
 use Rattle.rd_world.specs.Events.{connects}
 use Rattle.rd_world.specs.Run.{all_client_sends, client_reads_all, host_reads_all, is_quiet, rounds}
 use Rattle.rd_world.specs.World.{WorldState}
-use Rattle.rd_world.proofs.RoundsLemmas.{event_stays, round, rounds_done, rounds_more}
+use Rattle.rd_world.proofs.RoundsLemmas.{event_stays, round, rounds_done, rounds_more, stays_same, stays_then}
 use Rattle.rd_world.proofs.world.World.connect_on.Goals as goal
 
 pub rounds-init : goal.rounds-init
@@ -16,9 +16,8 @@ rounds-init c =
         λ most starves.
             ap (λ (n : ℕ). rounds starves n (connects c.args.self.now)) (omega arith) ∙ ap (λ (w : WorldState). rounds starves most w) (sym begun),
       );
-      recorded = λ written before.
-          event_stays (λ key. true) c.args.self.now c.connect.new.self event.connect c.args.recorder.now c.connect.new.recorder begun
-          c.in_ok-connect.ensures.recorded written before;
+      recorded = event_stays (λ key. true) c.args.self.now c.connect.new.self event.connect c.args.recorder.now c.connect.new.recorder begun
+          c.in_ok-connect.ensures.recorded;
     }
 
 pub returns-then-is_quiet-clause-connected : goal.returns-then-is_quiet-clause-connected
@@ -43,7 +42,9 @@ rounds-preserved c =
             ap (λ (n : ℕ). rounds starves n (connects c.args.self.now)) (omega arith) ∙ r.1 (suc most) starves
             ∙ rounds_more starves most c.rounds.self c.host_read_all.new.self busy (came starves),
       );
-      recorded = λ written before.
-          c.in_ok-client_send_all.ensures.recorded written (c.in_ok-host_send_all.ensures.recorded written (c.rounds.invariant.recorded written before))
-          ∙ sym c.in_ok-client_read_all.ensures.recorded ∙ sym c.in_ok-host_read_all.ensures.recorded;
+      recorded = stays_then c.args.self.now c.client_send_all.new.self c.host_read_all.new.self c.args.recorder.now c.client_send_all.new.recorder c.client_send_all.new.recorder
+          (stays_then c.args.self.now c.host_send_all.new.self c.client_send_all.new.self c.args.recorder.now c.host_send_all.new.recorder c.client_send_all.new.recorder
+          (stays_then c.args.self.now c.rounds.self c.host_send_all.new.self c.args.recorder.now c.rounds.recorder c.host_send_all.new.recorder
+          c.rounds.invariant.recorded c.in_ok-host_send_all.ensures.recorded) c.in_ok-client_send_all.ensures.recorded)
+          (stays_same c.client_send_all.new.self c.host_read_all.new.self c.client_send_all.new.recorder (c.in_ok-host_read_all.ensures.recorded ∙ c.in_ok-client_read_all.ensures.recorded));
     }

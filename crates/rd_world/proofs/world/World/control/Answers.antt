@@ -1,6 +1,7 @@
 use Rattle.std.proofs.lemmas.Result.{on_ok_weaker}
 use Rattle.rd_base.proofs.ResultLemmas.{of_on_ok}
 use Rattle.rd_world.proofs.PlayingLemmas.{adds_line, drops_line, errand_line, removes_line, settles_line, told_line}
+use Rattle.rd_world.proofs.WireLemmas.{cut_settle, on_wire_weaker}
 use Rattle.rd_world.proofs.world.World.control.Goals as goal
 
 pub returns-in-Settle-clause-controlled : goal.returns-in-Settle-clause-controlled
@@ -38,3 +39,8 @@ returns-in_default-clause-controlled g c =
     (λ ok. told_line c.args.self.now c.notice.new.self c.args.line.now.number c.args.line.now.line c.in_default.not-Settle c.in_default.not-Remove c.in_default.not-Add
     c.in_default.not-Drop c.in_default.not-Connect c.in_default.not-Do (of_on_ok c.notice.result ok c.notice.ensures.told))
     c.or_memory-in_default.ensures.came
+
+pub returns-in-Settle-clause-cut : goal.returns-in-Settle-clause-cut
+returns-in-Settle-clause-cut g c =
+    on_wire_weaker _ _ c.settle.result
+    (λ cut. cut_settle _ _ c.args.self.now c.args.recorder.now c.settle.new.self c.args.line.now.number c.args.line.now.line c.in-Settle.is cut) c.settle.ensures.cut

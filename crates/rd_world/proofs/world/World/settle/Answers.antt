@@ -3,6 +3,7 @@ use Rattle.std.specs.Prelude.{is_err}
 use Rattle.rd_world.specs.Drawn.{next_step_of}
 use Rattle.rd_world.specs.Run.{device_ids, settled}
 use Rattle.rd_world.specs.World.{journals_in}
+use Rattle.rd_world.proofs.KeysLemmas.{marks_agree}
 use Rattle.rd_world.proofs.GrowingLemmas.{longer_self, longer_trans}
 use Rattle.rd_world.proofs.SettlingLemmas.{counts_none, drawn_can, drawn_longer, drawn_placed, one_draw, settled_here, when_err, when_ok}
 use Rattle.rd_world.proofs.WireLemmas.{breaks_after, breaks_here, cut_settling, records_draw, records_none, records_piece, records_then}
@@ -21,6 +22,7 @@ returns-then-count-eq0 g c =
     let r = c.settling.invariant.reached in
     record {
       settled = settled_here _ _ c.choices-choices.result _ r.0 r.1 c.choices-choices.ensures.drawn c.count-count.ensures c.if-count-eq0.true;
+      marked = marks_agree c.settling.self.stations c.choices-choices.ensures.kept;
       counted = c.settling.invariant.counted;
       recorded = c.settling.invariant.records;
       cut = tt;
@@ -44,7 +46,7 @@ returns-then-is_err-2-clause-cut g c =
     let longer = longer_trans _ _ _ c.settling.invariant.longer (drawn_longer _ _ c.choose.new.self step c.draw.ensures marked c.choices-choices.ensures.kept) in
     let records = records_draw _ _ _ _ c.draw.new.self c.choose.new.self step _ _ c.choose.new.recorder c.settling.invariant.records c.draw.ensures marked
         (when_ok _ c.choose.result ok c.choose.ensures.recorded) in
-    cut_settling _ _ _ _ c.choose.new.self drawn.0 drawn.1 longer
+    cut_settling _ _ _ _ c.choose.new.self drawn.0 drawn.1 longer c.stand.ensures
     (breaks_after _ _ _ _ _ _ _ _ records (breaks_here _ _ c.choose.new.self c.choose.new.recorder (when_err _ c.write_piece.result bad c.write_piece.ensures.prefix)))
 
 pub settling-preserved : goal.settling-preserved
