@@ -1,16 +1,15 @@
 -- The script of a load can be played.
-use Rattle.std.proofs.Common.{◌≡◌, ◌∙◌, refl, sym, ap, subst, ℕ, zero, suc, ◌+◌, ◌*◌, ◌≤◌, arith, List, [], ◌∷◌, ◌++◌, length, length-append, map}
+use Rattle.std.proofs.Common.{◌≡◌, ◌∙◌, refl, ap, ℕ, zero, suc, ◌+◌, ◌*◌, ◌≤◌, arith, List, [], ◌∷◌, ◌++◌, length, length-append}
 use Rattle.std.specs.Prelude.{IfSome, codes, fold}
 use Rattle.std.specs.List.{AllByRecursion}
 use Rattle.rd_script.specs.declared.line.Line.{Line}
 use Rattle.rd_script.specs.declared.line.Line.TheVariants as line
 use Rattle.rd_script.specs.declared.line.NumberedLine.{NumberedLine}
-use Rattle.rd_script.specs.Load.{block, blocks, create_line, load_application, load_lines, load_script, numbered}
-use Rattle.rd_script.specs.Script.{max_lines}
+use Rattle.rd_script.specs.Load.{blocks, create_line, load_application, load_lines, load_script, numbered}
 use Rattle.rd_world.specs.Applications.{AreNumbered, IsNumber}
 use Rattle.rd_world.specs.Devices.{Declared, declaring, furnishing}
 use Rattle.rd_world.specs.Noting.{AreNotable, IsNotable}
-use Rattle.rd_world.specs.Opening.{AreDeclarable, AreDeclared, IsDeclarable, bare_lines}
+use Rattle.rd_world.specs.Opening.{AreDeclared, IsDeclarable, bare_lines}
 use Rattle.rd_world.specs.Run.{asked_by, declared_devices}
 use Rattle.rd_world.specs.World.{Asked}
 use Rattle.rd_cli.specs.Playing.{IsPlayable}

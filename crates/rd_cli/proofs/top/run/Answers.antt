@@ -1,4 +1,4 @@
-use Rattle.std.proofs.Common.{List, ℕ, map, refl, subst, string_bytes}
+use Rattle.std.proofs.Common.{map, refl, subst, string_bytes}
 use Rattle.rd_cli.specs.declared.words.Command.{Command}
 use Rattle.rd_cli.specs.Shapes.{HasShape}
 use Rattle.rd_cli.proofs.RunLemmas.{load_runs, no_command}
