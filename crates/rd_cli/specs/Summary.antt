@@ -7,16 +7,16 @@ use Rattle.rd_script.specs.declared.outcome.Outcome.{Outcome}
 use Rattle.rd_script.specs.declared.outcome.Outcome.TheVariants as outcome
 
 -- whether a line's request was completed
-abbrev pub is_done : Outcome → Bool
-is_done (outcome.Done reply) = true
-is_done (outcome.Lost why) = false
-is_done (outcome.Refused why) = false
+abbrev pub was_done : Outcome → Bool
+was_done (outcome.Done reply) = true
+was_done (outcome.Lost why) = false
+was_done (outcome.Refused why) = false
 
--- whether it was lost
-abbrev pub is_lost : Outcome → Bool
-is_lost (outcome.Done reply) = false
-is_lost (outcome.Lost why) = true
-is_lost (outcome.Refused why) = false
+-- whether it was lost before that
+abbrev pub was_lost : Outcome → Bool
+was_lost (outcome.Done reply) = false
+was_lost (outcome.Lost why) = true
+was_lost (outcome.Refused why) = false
 
 -- the bytes of a body that is a buffer
 abbrev pub buffer_of : Body → List ℕ
@@ -27,22 +27,22 @@ buffer_of (body.Buffer bytes) = bytes
 buffer_of body.Locked = []
 buffer_of body.Fault = []
 
--- the bytes that were read by a line
-abbrev pub bytes_of : Outcome → List ℕ
-bytes_of (outcome.Done reply) = buffer_of reply.body
-bytes_of (outcome.Lost why) = []
-bytes_of (outcome.Refused why) = []
+-- the bytes that a line read: no other line of a load than one that reads is replied a buffer
+abbrev pub bytes_read_by : Outcome → List ℕ
+bytes_read_by (outcome.Done reply) = buffer_of reply.body
+bytes_read_by (outcome.Lost why) = []
+bytes_read_by (outcome.Refused why) = []
 
 -- how many lines are done, and how many lost
 abbrev pub count_done : List ((ℕ × ℕ) × Outcome) → ℕ
-count_done entries = count_by (λ (e : (ℕ × ℕ) × Outcome). is_done e.1) entries
+count_done entries = count_by (λ (e : (ℕ × ℕ) × Outcome). was_done e.1) entries
 
 abbrev pub count_lost : List ((ℕ × ℕ) × Outcome) → ℕ
-count_lost entries = count_by (λ (e : (ℕ × ℕ) × Outcome). is_lost e.1) entries
+count_lost entries = count_by (λ (e : (ℕ × ℕ) × Outcome). was_lost e.1) entries
 
--- the bytes that were read by all lines
+-- the bytes that all lines read
 abbrev pub bytes_read : List ((ℕ × ℕ) × Outcome) → List ℕ
-bytes_read entries = flat_map (λ (e : (ℕ × ℕ) × Outcome). bytes_of e.1) entries
+bytes_read entries = flat_map (λ (e : (ℕ × ℕ) × Outcome). bytes_read_by e.1) entries
 
 -- The summary of a load of this number, by the outcomes of its lines. A line was accepted where its request was sent: then it is done or lost. The sum is
 -- that of all bytes that were read.

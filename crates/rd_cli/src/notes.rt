@@ -34,14 +34,14 @@ pub fn note_line<N: Sink>(alloc: Global, notes: &mut N, text: &[u8], number: u32
     }
 }
 
-/// The same, where it is found.
+/// Says what is wrong with a line whose bad word is known.
 fn note_bad_line<N: Sink>(alloc: Global, notes: &mut N, bad: BadWord<'_>) {
     if let Ok(note) = bad_line_note(alloc, bad) {
         let _ = write_all(notes, note.as_bytes());
     }
 }
 
-/// What is said of it.
+/// What is said of such a line.
 fn bad_line_note(alloc: Global, bad: BadWord<'_>) -> Result<String, AllocError> {
     let number = bad.line;
     let (line, cut) = shown(bad.text);

@@ -6,7 +6,7 @@ ghost use Rattle.std.specs.Prelude.{◌≡◌, ◌+◌, ◌*◌, ◌<◌, ◌≤
 ghost use Rattle.std.specs.List.{sum};
 ghost use Rattle.rd_irp.specs.Fits.{IsCountableBody};
 ghost use Rattle.rd_script.specs.Report.{AreCountable, IsCountable};
-ghost use Rattle.rd_cli.specs.Summary.{buffer_of, bytes_of, bytes_read, count_done, count_lost, is_done, is_lost, summary_of};
+ghost use Rattle.rd_cli.specs.Summary.{buffer_of, bytes_read_by, bytes_read, count_done, count_lost, was_done, was_lost, summary_of};
 
 use rd_irp::Body;
 use rd_script::{Outcome, Outcomes};
@@ -30,12 +30,12 @@ impl Tally {
         requires lost { self.old.lost + 1 < 2 ^ 64 }
         requires bytes { self.old.bytes + 2 ^ 64 ≤ 2 ^ 128 }
         requires sum { self.old.sum + 2 ^ 64 ≤ 2 ^ 128 }
-        ensures done { self.new.done ≡ self.old.done + (if is_done outcome.now then 1 else 0) }
-        ensures lost { self.new.lost ≡ self.old.lost + (if is_lost outcome.now then 1 else 0) }
-        ensures bytes { self.new.bytes ≡ self.old.bytes + length (bytes_of outcome.now) }
-        ensures sum { self.new.sum ≡ self.old.sum + sum (bytes_of outcome.now) }
-        ensures few { length (bytes_of outcome.now) < 2 ^ 64 }
-        ensures small { sum (bytes_of outcome.now) < 2 ^ 64 }
+        ensures done { self.new.done ≡ self.old.done + (if was_done outcome.now then 1 else 0) }
+        ensures lost { self.new.lost ≡ self.old.lost + (if was_lost outcome.now then 1 else 0) }
+        ensures bytes { self.new.bytes ≡ self.old.bytes + length (bytes_read_by outcome.now) }
+        ensures sum { self.new.sum ≡ self.old.sum + sum (bytes_read_by outcome.now) }
+        ensures few { length (bytes_read_by outcome.now) < 2 ^ 64 }
+        ensures small { sum (bytes_read_by outcome.now) < 2 ^ 64 }
     {
         match outcome {
             Outcome::Done(reply) => {

@@ -25,7 +25,7 @@ use std::process::ExitCode;
 ///
 /// | status | comes where |
 /// |---|---|
-/// | 0 | the script was played to its end; the input is a recording |
+/// | 0 | the script, or that of the load, was played to its end; the input is a recording |
 /// | 1 | the words are no command (`bad words` on `output`), or a line of the script is refused (`line N WHY`) |
 /// | 2 | a read of the input failed |
 /// | 3 | a write to the output or the recording failed |
