@@ -14,6 +14,7 @@ mod decoding;
 mod ending;
 mod forms;
 mod input;
+mod laws;
 mod load;
 mod notes;
 mod playing;
@@ -24,4 +25,5 @@ mod words;
 
 pub use arguments::words_of;
 pub use decoding::decode;
+pub use laws::summaries_are_as_listed;
 pub use top::{program, run};
