@@ -2,14 +2,17 @@
 use Rattle.std.proofs.Common.{◌≡◌, ◌∙◌, ℕ, List, refl, sym, ap, subst, inl, inr, arith}
 use Rattle.std.specs.Prelude.{◌⊎◌, Result, Ok, Err, IsErrAnd}
 use Rattle.rd_base.specs.History.{History}
+use Rattle.rd_script.specs.declared.outcome.Outcomes.{Outcomes}
 use Rattle.rd_script.specs.declared.script.Script.{Script}
 use Rattle.rd_script.specs.Load.{load_script}
 use Rattle.rd_cli.specs.declared.stop.Stop.{Stop}
 use Rattle.rd_cli.specs.declared.stop.Stop.TheVariants as stop
+use Rattle.rd_cli.specs.Headline.{Played}
 use Rattle.rd_cli.specs.Outside.{IsFaultless, Stream}
 use Rattle.rd_cli.specs.Loading.{ComesOutOfLoad, FailedToSum, IsEndOfLoad, LoadedToEnd, StoppedLoading}
 use Rattle.rd_cli.specs.Playing.{StopsForRecording}
-use Rattle.rd_cli.specs.Stops.{StopsWith}
+use Rattle.rd_cli.specs.Summary.{summary_of}
+use Rattle.rd_cli.specs.Stops.{Prints, StopsWith}
 
 -- how the command came out that stopped with this one error
 pub stopped_with : {T K R : Type 0} (number : ℕ) (output output_after : Stream K) (recording recording_after : Stream R) (books : List (ℕ × History)) (r : Result T Stop) (s : Stop)
@@ -34,6 +37,25 @@ pub stopped_loading : {K R : Type 0} (number : ℕ) (script : Script) (output : 
     → script ≡ load_script number → StopsForRecording script recording recording_after books s → StoppedLoading number output output recording recording_after books s
 stopped_loading number script output recording recording_after books s is stopped =
     stopped_script number output recording recording_after books s (subst (λ (x : Script). StopsForRecording x recording recording_after books s) is stopped)
+
+-- how the command came out whose load was played, by what came of the printing of its summary
+pub printed : {T K R : Type 0} (number : ℕ) (output output_after : Stream K) (recording recording_after : Stream R) (books : List (ℕ × History)) (script : Script) (told : Outcomes) (r : Result T Stop)
+    → script ≡ load_script number → Played script recording recording_after books told → Prints (summary_of number told.lines.entries) output output_after r
+    → ComesOutOfLoad number output output_after recording recording_after books r
+printed {T} number output output_after recording recording_after books script told r is played prints =
+    by r (subst (λ (x : Script). Played x recording recording_after books told) is played) prints
+  where
+    by : (r : Result T Stop) → Played (load_script number) recording recording_after books told → Prints (summary_of number told.lines.entries) output output_after r
+        → ComesOutOfLoad number output output_after recording recording_after books r
+    by (Ok done) own prints = record { told = told; played = own; summed = prints }
+    by (Err stop.Output) own prints = record { told = told; played = own; failed = prints }
+    by (Err stop.Memory) own prints = (ap (λ (o : Stream _). o.faults) prints, own.recorded.faultless)
+    by (Err stop.Words) own prints = absurd prints
+    by (Err (stop.Line line cause)) own prints = absurd prints
+    by (Err stop.Input) own prints = absurd prints
+    by (Err stop.Recording) own prints = absurd prints
+    by (Err (stop.Fault fault)) own prints = absurd prints
+    by (Err stop.Long) own prints = absurd prints
 
 -- ---- the end, by the status
 -- A load that came to its end ends with 0.

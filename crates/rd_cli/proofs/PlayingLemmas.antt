@@ -5,7 +5,9 @@ use Rattle.std.specs.Prelude.{◌⊎◌, Result, Ok, Err, IfErr, IsErrAnd}
 use Rattle.std.specs.Io.KnownBytes.{Consumes, IsAtEnd}
 use Rattle.std.proofs.lemmas.Option.{same_Some}
 use Rattle.rd_base.specs.History.{History}
+use Rattle.rd_script.specs.declared.outcome.Outcomes.{Outcomes}
 use Rattle.rd_script.specs.declared.script.Script.{Script}
+use Rattle.rd_script.specs.Report.{report_of}
 use Rattle.rd_script.specs.declared.keyword.Mode.TheVariants as mode
 use Rattle.rd_script.specs.Script.{BadLine, max_bytes, script_of}
 use Rattle.rd_world.proofs.DeclaredLemmas.{scripts_are_declared, scripts_are_notable}
@@ -14,8 +16,8 @@ use Rattle.rd_cli.proofs.LimitLemmas.{script_cut, script_short}
 use Rattle.rd_cli.specs.declared.stop.Stop.{Stop}
 use Rattle.rd_cli.specs.declared.stop.Stop.TheVariants as stop
 use Rattle.rd_cli.specs.Outside.{AreFaultless, IsFaultless, Outside, Read, ReadToEnd, Stream}
-use Rattle.rd_cli.specs.Headline.{PlayedToEnd}
-use Rattle.rd_cli.specs.Stops.{StopsWith}
+use Rattle.rd_cli.specs.Headline.{Played, PlayedToEnd}
+use Rattle.rd_cli.specs.Stops.{Prints, StopsWith}
 use Rattle.rd_cli.specs.Playing.{ComesOutOfBoth, IsEndOfBoth, FailedToReport, GivesBadLine, GivesScript, HasRead, IsPlayable, ReadsBadLine, ReadsScript, RefusesScript, StoppedPlaying, StopsForRecording}
 
 -- what holds of the one error that a result may be
@@ -49,6 +51,21 @@ stopped_playing before after books script stop.Input reads silent other = absurd
 stopped_playing before after books script stop.Output reads silent other = absurd other
 stopped_playing before after books script (stop.Fault fault) reads silent other = absurd other
 stopped_playing before after books script stop.Long reads silent other = absurd other
+
+-- how the command came out whose script was played, by what came of the printing of its report
+pub printed : {T S K R : Type 0} (before after : Outside S K R) (books : List (ℕ × History)) (script : Script) (told : Outcomes) (r : Result T Stop) → ReadsScript before.input after.input script
+    → Played script before.recording after.recording books told → Prints (report_of script told books) before.output after.output r → ComesOutOfBoth before after books r
+printed before after books script told (Ok done) reads played prints =
+    record { text = reads.text; script = script; told = told; read = reads.read; script_is = reads.script_is; played = played; reported = prints }
+printed before after books script told (Err stop.Output) reads played prints = (script, reads, record { told = told; played = played; failed = prints })
+printed before after books script told (Err stop.Memory) reads played prints =
+    record { input = reads.read.read.faultless; output = ap (λ (o : Stream _). o.faults) prints; recording = played.recorded.faultless }
+printed before after books script told (Err stop.Words) reads played prints = absurd prints
+printed before after books script told (Err (stop.Line line cause)) reads played prints = absurd prints
+printed before after books script told (Err stop.Input) reads played prints = absurd prints
+printed before after books script told (Err stop.Recording) reads played prints = absurd prints
+printed before after books script told (Err (stop.Fault fault)) reads played prints = absurd prints
+printed before after books script told (Err stop.Long) reads played prints = absurd prints
 
 -- ---- scripts and bad lines
 -- No text is both.

@@ -1,8 +1,10 @@
 //! The command `both`: a script, read whole, is played by both ends of one session.
 
 ghost use Rattle.std.specs.Prelude.{◌≡◌, [], IfErr, IfOk, Ok};
-ghost use Rattle.rd_cli.specs.Outside.{outside};
+ghost use Rattle.rd_cli.specs.Outside.{outside, stream};
 ghost use Rattle.rd_cli.specs.Playing.{ComesOutOfBoth, IsEndOfBoth, StopsForText};
+ghost use Rattle.rd_cli.specs.Stops.{Prints};
+ghost use Rattle.rd_script.specs.Report.{AreCountable, report_of};
 ghost use Rattle.rd_script.specs.Script.{script_of};
 ghost use Rattle.rd_script.specs.declared.keyword.Mode.TheVariants as mode;
 
@@ -12,7 +14,7 @@ use crate::notes::note_line;
 use crate::playing::play;
 use crate::stop::Stop;
 use rd_base::{Books, Sink, Source, write_all};
-use rd_script::{MAX_BYTES, Mode, Script, ScriptNo, read_script, report};
+use rd_script::{MAX_BYTES, Mode, Outcomes, Script, ScriptNo, read_script, report};
 use std::alloc::Global;
 
 /// Plays the script of the input, and returns the exit status.
@@ -52,11 +54,7 @@ fn report_script<S: Source, K: Sink, R: Sink, N: Sink>(
     let text = read_all(alloc, input, MAX_BYTES)?;
     let script = script_in(alloc, text, notes)?;
     let told = play(alloc, &script, recording, books)?;
-    let report = report(alloc, &script, &told, books)?;
-    match write_all(output, report.as_slice()) {
-        Ok(()) => Ok(()),
-        Err(_) => Err(Stop::Output),
-    }
+    print_report(alloc, &script, &told, books, output)
 }
 
 /// The script that a text is. Of the first line that is refused the notes say what is wrong with it.
@@ -71,5 +69,23 @@ fn script_in<N: Sink>(alloc: Global, text: Vec<u8>, notes: &mut N) -> Result<Scr
             Err(Stop::Line { line, why })
         }
         Err(ScriptNo::Memory) => Err(Stop::Memory),
+    }
+}
+
+/// Writes the report of a script that was played.
+fn print_report<K: Sink>(
+    alloc: Global,
+    script: &Script,
+    told: &Outcomes,
+    books: &Books,
+    output: &mut K,
+) -> Result<(), Stop>
+    requires { AreCountable told.now.lines.entries }
+    ensures { Prints (report_of script.now told.now books.now) (stream K.held K.faults output.old) (stream K.held K.faults output.new) result }
+{
+    let report = report(alloc, script, told, books)?;
+    match write_all(output, report.as_slice()) {
+        Ok(()) => Ok(()),
+        Err(_) => Err(Stop::Output),
     }
 }
