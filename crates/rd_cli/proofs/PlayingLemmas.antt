@@ -5,16 +5,20 @@ use Rattle.std.specs.Prelude.{◌⊎◌, Result, Ok, Err, IfErr, IsErrAnd}
 use Rattle.std.specs.Io.KnownBytes.{Consumes, IsAtEnd}
 use Rattle.std.proofs.lemmas.Option.{same_Some}
 use Rattle.rd_base.specs.History.{History}
+use Rattle.rd_script.specs.declared.outcome.Outcomes.{Outcomes}
 use Rattle.rd_script.specs.declared.script.Script.{Script}
-use Rattle.rd_script.specs.Script.{BadLine, max_bytes}
-use Rattle.rd_session.specs.Served.{served_of}
-use Rattle.rd_session.proofs.LimitLemmas.{served_cut, served_short}
+use Rattle.rd_script.specs.Report.{report_of}
+use Rattle.rd_script.specs.declared.keyword.Mode.TheVariants as mode
+use Rattle.rd_script.specs.Script.{BadLine, max_bytes, script_of}
+use Rattle.rd_world.proofs.DeclaredLemmas.{scripts_are_declared, scripts_are_notable}
+use Rattle.rd_world.proofs.NumberedLemmas.{scripts_are_numbered}
+use Rattle.rd_cli.proofs.LimitLemmas.{script_cut, script_short}
 use Rattle.rd_cli.specs.declared.stop.Stop.{Stop}
 use Rattle.rd_cli.specs.declared.stop.Stop.TheVariants as stop
 use Rattle.rd_cli.specs.Outside.{AreFaultless, IsFaultless, Outside, Read, ReadToEnd, Stream}
-use Rattle.rd_cli.specs.Headline.{PlayedToEnd}
-use Rattle.rd_cli.specs.Stops.{StopsWith}
-use Rattle.rd_cli.specs.Playing.{ComesOutOfBoth, IsEndOfBoth, FailedToReport, GivesBadLine, GivesScript, HasRead, ReadsBadLine, ReadsScript, RefusesScript, StoppedPlaying, StopsForRecording}
+use Rattle.rd_cli.specs.Headline.{Played, PlayedToEnd}
+use Rattle.rd_cli.specs.Stops.{Prints, StopsWith}
+use Rattle.rd_cli.specs.Playing.{ComesOutOfBoth, IsEndOfBoth, FailedToReport, GivesBadLine, GivesScript, HasRead, IsPlayable, ReadsBadLine, ReadsScript, RefusesScript, StoppedPlaying, StopsForRecording}
 
 -- what holds of the one error that a result may be
 pub err_is : {T E : Type 0} (r : Result T E) (e : E) (P : E → Type 0) → IsErrAnd r (λ s. s ≡ e) → P e → IfErr r P
@@ -26,9 +30,14 @@ pub stopped_with : {T S K R : Type 0} (before after : Outside S K R) (books : Li
 stopped_with before after books (Ok x) s is stopped = absurd is
 stopped_with before after books (Err e) s is stopped = subst (λ (e : Stop). StoppedPlaying before after books e) (sym is) stopped
 
+-- a script that some text is can be played
+pub script_playable : (text : List ℕ) (script : Script) → script_of mode.Both text ≡ Ok script → IsPlayable script
+script_playable text script is =
+    record { declared = scripts_are_declared mode.Both text script is; numbered = scripts_are_numbered mode.Both text script is; notable = scripts_are_notable mode.Both text script is }
+
 -- a script that is short enough to be one was read to the input's end
-pub read_whole : {S : Type 0} (before after : Stream S) (text : List ℕ) (script : Script) → Read before after text → (length text ≤ max_bytes → IsAtEnd after.bytes) → served_of text ≡ Ok script → ReadsScript before after script
-read_whole before after text script read whole is = record { text = text; read = record { read = read; ended = whole (served_short text script is) }; served = is }
+pub read_whole : {S : Type 0} (before after : Stream S) (text : List ℕ) (script : Script) → Read before after text → (length text ≤ max_bytes → IsAtEnd after.bytes) → script_of mode.Both text ≡ Ok script → ReadsScript before after script
+read_whole before after text script read whole is = record { text = text; read = record { read = read; ended = whole (script_short mode.Both text script is) }; script_is = is }
 
 -- a stop of the playing of a script that was read
 pub stopped_playing : {S K R : Type 0} (before after : Outside S K R) (books : List (ℕ × History)) (script : Script) (s : Stop) → ReadsScript before.input after.input script → after.output ≡ before.output
@@ -43,13 +52,28 @@ stopped_playing before after books script stop.Output reads silent other = absur
 stopped_playing before after books script (stop.Fault fault) reads silent other = absurd other
 stopped_playing before after books script stop.Long reads silent other = absurd other
 
+-- how the command came out whose script was played, by what came of the printing of its report
+pub printed : {T S K R : Type 0} (before after : Outside S K R) (books : List (ℕ × History)) (script : Script) (told : Outcomes) (r : Result T Stop) → ReadsScript before.input after.input script
+    → Played script before.recording after.recording books told → Prints (report_of script told books) before.output after.output r → ComesOutOfBoth before after books r
+printed before after books script told (Ok done) reads played prints =
+    record { text = reads.text; script = script; told = told; read = reads.read; script_is = reads.script_is; played = played; reported = prints }
+printed before after books script told (Err stop.Output) reads played prints = (script, reads, record { told = told; played = played; failed = prints })
+printed before after books script told (Err stop.Memory) reads played prints =
+    record { input = reads.read.read.faultless; output = ap (λ (o : Stream _). o.faults) prints; recording = played.recorded.faultless }
+printed before after books script told (Err stop.Words) reads played prints = absurd prints
+printed before after books script told (Err (stop.Line line cause)) reads played prints = absurd prints
+printed before after books script told (Err stop.Input) reads played prints = absurd prints
+printed before after books script told (Err stop.Recording) reads played prints = absurd prints
+printed before after books script told (Err (stop.Fault fault)) reads played prints = absurd prints
+printed before after books script told (Err stop.Long) reads played prints = absurd prints
+
 -- ---- scripts and bad lines
 -- No text is both.
-never_both : (text : List ℕ) (script : Script) (bad : BadLine) → served_of text ≡ Ok script → served_of text ≡ Err bad → ⊥
+never_both : (text : List ℕ) (script : Script) (bad : BadLine) → script_of mode.Both text ≡ Ok script → script_of mode.Both text ≡ Err bad → ⊥
 never_both text script bad is refused = cc (is, refused)
 
 -- A text that was read of a script has no line that is refused.
-script_not_bad : {S : Type 0} (before after : Stream S) (text : List ℕ) (bad : BadLine) → HasRead before after text → served_of text ≡ Err bad → GivesScript before.bytes → ⊥
+script_not_bad : {S : Type 0} (before after : Stream S) (text : List ℕ) (bad : BadLine) → HasRead before after text → script_of mode.Both text ≡ Err bad → GivesScript before.bytes → ⊥
 script_not_bad before after text bad read refused (whole, script, is, played) = go before.bytes after.bytes is read.read.taken read.whole
   where
     go : (left rest : Option (List ℕ)) → left ≡ Some whole → Consumes left rest text → (length text ≤ max_bytes → IsAtEnd rest) → ⊥
@@ -59,12 +83,12 @@ script_not_bad before after text bad read refused (whole, script, is, played) = 
         let same : xs ≡ whole = same_Some _ _ is in
         let parts : whole ≡ text ++ ys = sym same ∙ taken in
         elim (cases_lt max_bytes (length text)) [
-          | inl long ↦ never_both whole script bad played (ap served_of parts ∙ served_cut text ys long ∙ refused)
-          | inr short ↦ never_both text script bad (ap served_of (sym (parts ∙ ap (λ (l : List ℕ). text ++ l) (ended short) ∙ append-nil text)) ∙ played) refused
+          | inl long ↦ never_both whole script bad played (ap (script_of mode.Both) parts ∙ script_cut mode.Both text ys long ∙ refused)
+          | inr short ↦ never_both text script bad (ap (script_of mode.Both) (sym (parts ∙ ap (λ (l : List ℕ). text ++ l) (ended short) ∙ append-nil text)) ∙ played) refused
         ]
 
 -- A script that was read to the input's end is all of the input, of which then no line is refused.
-whole_not_bad : {S : Type 0} (before after : Stream S) (text : List ℕ) (script : Script) (bad : BadLine) → ReadToEnd before after text → served_of text ≡ Ok script → GivesBadLine before.bytes bad → ⊥
+whole_not_bad : {S : Type 0} (before after : Stream S) (text : List ℕ) (script : Script) (bad : BadLine) → ReadToEnd before after text → script_of mode.Both text ≡ Ok script → GivesBadLine before.bytes bad → ⊥
 whole_not_bad before after text script bad read played (whole, is, refused) = go before.bytes after.bytes is read.read.taken read.ended
   where
     go : (left rest : Option (List ℕ)) → left ≡ Some whole → Consumes left rest text → IsAtEnd rest → ⊥
@@ -72,7 +96,7 @@ whole_not_bad before after text script bad read played (whole, is, refused) = go
     go (Some xs) None is taken ended = absurd taken
     go (Some xs) (Some ys) is taken ended =
         let text_is : whole ≡ text = sym (same_Some _ _ is) ∙ taken ∙ ap (λ (l : List ℕ). text ++ l) ended ∙ append-nil text in
-        never_both text script bad played (ap served_of (sym text_is) ∙ refused)
+        never_both text script bad played (ap (script_of mode.Both) (sym text_is) ∙ refused)
 
 -- ---- the end, by the status
 -- A session that came to its end ends with 0.
@@ -84,7 +108,7 @@ played_end before after books played = record {
   unread = λ two. absurd (omega (arith, two));
   unwritten = λ three. absurd (omega (arith, three));
   starved = λ six. absurd (omega (arith, six));
-  refuses = λ bad gives. absurd (whole_not_bad before.input after.input played.text played.script bad played.read played.served gives);
+  refuses = λ bad gives. absurd (whole_not_bad before.input after.input played.text played.script bad played.read played.script_is gives);
   completes = λ script. inl refl;
 }
 
@@ -137,7 +161,7 @@ unwritten_end before after books status script is reads stopped = record {
   unread = λ two. absurd (omega (arith, two, is));
   unwritten = λ three. stopped;
   starved = λ six. absurd (omega (arith, six, is));
-  refuses = λ bad gives. absurd (whole_not_bad before.input after.input reads.text script bad reads.read reads.served gives);
+  refuses = λ bad gives. absurd (whole_not_bad before.input after.input reads.text script bad reads.read reads.script_is gives);
   completes = λ gives. inr (inr (inl is));
 }
 

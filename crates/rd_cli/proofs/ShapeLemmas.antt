@@ -1,10 +1,12 @@
 -- The words that the parser takes are those of a command.
-use Rattle.std.proofs.Common.{◌≡◌, ◌⊎◌, Bool, true, false, List, [], ◌∷◌, Option, Some, None, refl, sym, ap, ap₂, subst, ◌∙◌, inl, inr}
-use Rattle.std.specs.Prelude.{if◌then◌else◌, Box, IfErr, IfOk, Result, Ok, Err, codes, find, fold, option_map}
+use Rattle.std.proofs.Common.{◌≡◌, ◌⊎◌, ℕ, ◌<◌, arith, get_or, Bool, true, false, List, [], ◌∷◌, Option, Some, None, refl, sym, ap, ap₂, subst, ◌∙◌, inl, inr}
+use Rattle.std.specs.Prelude.{if◌then◌else◌, ◌||◌, decimal, Box, IfErr, IfOk, Result, Ok, Err, codes, find, fold, option_map}
 use Rattle.std.specs.Box.{box_value}
 use Rattle.std.specs.List.{list_any}
 use Rattle.std.specs.Str.{bytes_eq}
 use Rattle.std.proofs.lemmas.Bool.{or_parts}
+use Rattle.std.proofs.lemmas.Bool.Decides.{nat_tests}
+use Rattle.std.proofs.lemmas.Fmt.{first_decimal}
 use Rattle.std.proofs.lemmas.Slice.Eq.{bytes_eq-Decides}
 use Rattle.std.proofs.lemmas.Option.{same_Some}
 use Rattle.clap.specs.Words.{App, Shape, Text, built, fault_of, is_simple, is_simple_and_free, subcommand_of, subcommand_rows, takes}
@@ -23,7 +25,20 @@ use Rattle.rd_cli.specs.declared.words.Command.TheVariants as command
 use Rattle.rd_cli.specs.Shapes.{HasShape, StopsForWords, is_flag}
 use Rattle.rd_cli.specs.declared.stop.Stop.{Stop}
 use Rattle.rd_cli.specs.declared.stop.Stop.TheVariants as stop
-use Rattle.rd_cli.specs.Parser.{IsNameOf, command_name, commands}
+use Rattle.rd_cli.specs.Parser.{IsNameOf, commands}
+
+-- ---- commands of one word
+pub data Plain : Type 0 where
+  both : Plain
+  decode : Plain
+
+abbrev pub name_of : Plain → Text
+name_of both = codes "both"
+name_of decode = codes "decode"
+
+abbrev command_of : Plain → Command
+command_of both = command.Both
+command_of decode = command.Decode
 
 -- ---- words that stray
 -- A word that is neither a flag nor a command's name strays, where there are no arguments.
@@ -55,13 +70,13 @@ abbrev names : Names
 names = names_of (built commands)
 
 -- The first word is one of the names, or none of them.
-which : (word : Text) → ((c : Command) × (word ≡ command_name c)) ⊎ (find (answers_to word) names ≡ None)
+which : (word : Text) → ((c : Plain) × (word ≡ name_of c)) ⊎ (find (answers_to word) names ≡ None)
 which word = go (bytes_eq (codes "both") word) (bytes_eq (codes "decode") word) refl refl
   where
-    go : (is_both is_decode : Bool) → bytes_eq (codes "both") word ≡ is_both → bytes_eq (codes "decode") word ≡ is_decode → ((c : Command) × (word ≡ command_name c)) ⊎ (find (answers_to word) names ≡ None)
-    go true is_decode both decode = inl (command.Both, sym ((bytes_eq-Decides (codes "both") word).0 both))
-    go false true both decode = inl (command.Decode, sym ((bytes_eq-Decides (codes "decode") word).0 decode))
-    go false false both decode = inr (rw (both, decode) refl)
+    go : (is_both is_decode : Bool) → bytes_eq (codes "both") word ≡ is_both → bytes_eq (codes "decode") word ≡ is_decode → ((c : Plain) × (word ≡ name_of c)) ⊎ (find (answers_to word) names ≡ None)
+    go true is_decode first second = inl (both, sym ((bytes_eq-Decides (codes "both") word).0 first))
+    go false true first second = inl (decode, sym ((bytes_eq-Decides (codes "decode") word).0 second))
+    go false false first second = inr (rw (first, second) refl)
 
 -- ---- words that are taken
 -- a command that takes nothing, as it is built
@@ -85,18 +100,18 @@ more_strays name word rest others plain enters none =
     strays (leaf name) [] word _ _ plain refl (sym enters ∙ stops ∙ entered)
 
 -- A word after a command's name strays.
-more : (c : Command) (word : Text) (rest : List Text) → is_flag word ≡ false → fault_of commands (command_name c ∷ word ∷ rest) ≡ [] → ⊥
+more : (c : Plain) (word : Text) (rest : List Text) → is_flag word ≡ false → fault_of commands (name_of c ∷ word ∷ rest) ≡ [] → ⊥
 unfolding clap_on_literals
-more command.Both word rest plain fault = more_strays (codes "both") word rest _ plain refl fault
-more command.Decode word rest plain fault = more_strays (codes "decode") word rest _ plain refl fault
+more both word rest plain fault = more_strays (codes "both") word rest _ plain refl fault
+more decode word rest plain fault = more_strays (codes "decode") word rest _ plain refl fault
 
 -- The words after the name are none.
-alone : (c : Command) (word : Text) (rest : List Text) → word ≡ command_name c → list_any is_flag rest ≡ false → fault_of commands (word ∷ rest) ≡ [] → word ∷ rest ≡ command_name c ∷ []
+alone : (c : Plain) (word : Text) (rest : List Text) → word ≡ name_of c → list_any is_flag rest ≡ false → fault_of commands (word ∷ rest) ≡ [] → word ∷ rest ≡ name_of c ∷ []
 alone c word [] is plain fault = ap (λ w. w ∷ []) is
 alone c word (next ∷ rest) is plain fault = absurd (more c next rest (or_parts _ _ plain).0 (subst (λ w. fault_of commands (w ∷ next ∷ rest) ≡ []) is fault))
 
 -- Words that are taken are the name of a command.
-pub taken : (words : List Text) → list_any is_flag words ≡ false → fault_of commands words ≡ [] → (c : Command) × (words ≡ command_name c ∷ [])
+taken : (words : List Text) → list_any is_flag words ≡ false → fault_of commands words ≡ [] → (c : Plain) × (words ≡ name_of c ∷ [])
 unfolding clap_on_literals
 taken [] plain fault = absurd (cc)
 taken (word ∷ rest) plain fault =
@@ -106,30 +121,31 @@ taken (word ∷ rest) plain fault =
     ]
 
 -- and these words enter the command
-pub enters : (c : Command) → option_map (λ p. p.0) (subcommand_of commands (command_name c ∷ [])) ≡ Some (command_name c)
+enters : (c : Plain) → option_map (λ p. p.0) (subcommand_of commands (name_of c ∷ [])) ≡ Some (name_of c)
 unfolding clap_on_literals
-enters command.Both = refl
-enters command.Decode = refl
+enters both = refl
+enters decode = refl
 
 -- Such words are taken.
-pub takes_name : (c : Command) → takes commands (command_name c ∷ []) ≡ true
+takes_name : (c : Plain) → takes commands (name_of c ∷ []) ≡ true
 unfolding clap_on_literals
-takes_name command.Both = refl
-takes_name command.Decode = refl
+takes_name both = refl
+takes_name decode = refl
 
--- a command's words and its name
-pub shape_of_name : (words : List Text) (c : Command) → words ≡ command_name c ∷ [] → HasShape words c
-shape_of_name words command.Both is = is
-shape_of_name words command.Decode is = is
+-- ---- words that are no flags
 
-pub name_of_shape : (words : List Text) (c : Command) → HasShape words c → words ≡ command_name c ∷ []
-name_of_shape words command.Both is = is
-name_of_shape words command.Decode is = is
+-- a word that begins with a digit above 0
+digit_no_flag : (word : Text) → 48 < get_or word 0 0 → is_flag word ≡ false
+digit_no_flag [] above = absurd (omega (arith, above))
+digit_no_flag (byte ∷ word) above = grind (arith, nat_tests)
 
 -- Words of a command have no flag among them.
 pub plain_words : (words : List Text) (c : Command) → HasShape words c → list_any is_flag words ≡ false
 plain_words words command.Both is = ap (λ ws. list_any is_flag ws) is
 plain_words words command.Decode is = ap (λ ws. list_any is_flag ws) is
+plain_words words (command.Load number) (is, within) =
+    let above : 48 < get_or (decimal number) 0 0 = first_decimal number (omega (arith, within.0)) (omega (arith, within.1)) in
+    ap (λ ws. list_any is_flag ws) is ∙ ap (λ (b : Bool). b || false) (digit_no_flag (decimal number) above)
 
 -- ---- what a parse gives
 -- The subcommand's name is that of its rows.
@@ -139,9 +155,9 @@ name_of_rows (Some b) = refl
 
 -- the words are a command's, whose name was met
 pub record Meets (words : List Text) (name : Option Text) : Type 0 where
-  pub command : Command
-  pub words_are : words ≡ command_name command ∷ []
-  pub named : name ≡ Some (command_name command)
+  pub command : Plain
+  pub words_are : words ≡ name_of command ∷ []
+  pub named : name ≡ Some (name_of command)
 
 -- An `Ok` meets a command.
 pub meets : (app : App) (words : List Text) (name : Option Text) → app ≡ commands → list_any is_flag words ≡ false → (is_simple_and_free app ≡ true → fault_of app words ≡ [])
@@ -155,20 +171,37 @@ meets app words name is plain faultless names_it =
       named = names_it (ap is_simple is) ∙ ap₂ (λ (a : App) (ws : List Text). option_map (λ p. p.0) (subcommand_of a ws)) is t.1 ∙ enters t.0;
     }
 
+-- the words are the one of this name
+met_word : (words : List Text) (name : Option Text) (word : Text) → Meets words name → name ≡ Some word → words ≡ word ∷ []
+met_word words name word meeting said = meeting.words_are ∙ ap (λ n. n ∷ []) (same_Some _ _ (sym meeting.named ∙ said))
+
 pub met_shape : (words : List Text) (name : Option Text) (r : Result Command Stop) → Meets words name → IfOk r (IsNameOf name) → IfOk r (HasShape words)
-met_shape words name (Ok c) meeting said = shape_of_name words c (meeting.words_are ∙ ap (λ n. n ∷ []) (same_Some _ _ (sym meeting.named ∙ said)))
+met_shape words name (Ok command.Both) meeting said = met_word words name (codes "both") meeting said
+met_shape words name (Ok command.Decode) meeting said = met_word words name (codes "decode") meeting said
+met_shape words name (Ok (command.Load number)) meeting said = absurd said
 met_shape words name (Err s) meeting said = tt
+
+named : (name : Option Text) (c : Plain) → name ≡ Some (name_of c) → IsNameOf name (command_of c)
+named name both is = is
+named name decode is = is
 
 pub met_none : (words : List Text) (name : Option Text) (r : Result Command Stop) → Meets words name → IfErr r (λ s. (s ≡ stop.Words) × ((c : Command) → ¬ (IsNameOf name c))) → IfErr r (StopsForWords words)
 met_none words name (Ok c) meeting said = tt
-met_none words name (Err s) meeting said = absurd (said.1 meeting.command meeting.named)
+met_none words name (Err s) meeting said = absurd (said.1 (command_of meeting.command) (named name meeting.command meeting.named))
 
 -- An `Err` that isn't for memory is for words that are no command.
-pub refused : (app : App) (words : List Text) (s : Stop) → app ≡ commands → (takes app words ≡ true → s ≡ stop.Memory) → (s ≡ stop.Words) ⊎ (s ≡ stop.Memory) → StopsForWords words s
-refused app words s is passes (inr memory) = subst (λ s. StopsForWords words s) (sym memory) tt
-refused app words s is passes (inl bad) =
-    subst (λ s. StopsForWords words s) (sym bad)
-    (λ c shape. let memory = passes (ap₂ takes is (name_of_shape words c shape) ∙ takes_name c) in not_both (sym bad ∙ memory))
+pub refused : (app : App) (words : List Text) (s : Stop) → app ≡ commands → ((number : ℕ) → ¬ (HasShape words (command.Load number))) → (takes app words ≡ true → s ≡ stop.Memory)
+    → (s ≡ stop.Words) ⊎ (s ≡ stop.Memory) → StopsForWords words s
+refused app words s is no_load passes (inr memory) = subst (λ s. StopsForWords words s) (sym memory) tt
+refused app words s is no_load passes (inl bad) = subst (λ s. StopsForWords words s) (sym bad) none
   where
     not_both : stop.Words ≡ stop.Memory → ⊥
     not_both is = absurd (cc)
+
+    not_named : (c : Plain) → words ≡ name_of c ∷ [] → ⊥
+    not_named c words_are = not_both (sym bad ∙ passes (ap₂ takes is words_are ∙ takes_name c))
+
+    none : (c : Command) → ¬ (HasShape words c)
+    none command.Both shape = not_named both shape
+    none command.Decode shape = not_named decode shape
+    none (command.Load number) shape = no_load number shape

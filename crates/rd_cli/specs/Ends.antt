@@ -6,14 +6,17 @@ use Rattle.rd_cli.specs.Shapes.{HasShape}
 use Rattle.rd_cli.specs.Stops.{StopsWith}
 use Rattle.rd_cli.specs.Playing.{IsEndOfBoth}
 use Rattle.rd_cli.specs.Decoding.{IsEndOfDecode}
+use Rattle.rd_cli.specs.Loading.{IsEndOfLoad}
 use Rattle.rd_cli.specs.declared.words.Command.{Command}
 use Rattle.rd_cli.specs.declared.words.Command.TheVariants as command
 use Rattle.rd_cli.specs.declared.stop.Stop.TheVariants as stop
 
--- how each command ends with a status; `decode` touches no recording, and stores no journal
+-- how each command ends with a status; `decode` touches no recording, and stores no journal; `load` reads no input
 abbrev pub EndsCommand : {S K R : Type 0} → Command → (before after : Outside S K R) → List (ℕ × History) → ℕ → Type 0
 EndsCommand command.Both before after books status = IsEndOfBoth before after books status
 EndsCommand command.Decode before after books status = IsEndOfDecode before.input after.input before.output after.output status × (after.recording ≡ before.recording) × (books ≡ [])
+EndsCommand (command.Load number) before after books status =
+    IsEndOfLoad number before.output after.output before.recording after.recording books status × (after.input ≡ before.input)
 
 -- Words that are no command are refused, which the output says, and nothing else was touched; or memory ran out before it was said.
 pub record RefusesWords {S K R : Type 0} (before after : Outside S K R) (books : List (ℕ × History)) (status : ℕ) : Type 0 where

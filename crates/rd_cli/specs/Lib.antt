@@ -4,5 +4,8 @@ pub mod Shapes
 pub mod Parser
 pub mod Stops
 pub mod Playing
+pub mod Summary
+pub mod Worked
+pub mod Loading
 pub mod Decoding
 pub mod Ends

@@ -1,17 +1,14 @@
--- What the parser of the words knows.
+-- What the parser of the words knows: the commands that are one word.
 use Rattle.std.specs.Prelude.{◌≡◌, ℕ, true, List, Option, Some, codes}
 use Rattle.clap.specs.Words.{App, new_app, with_subcommand}
 use Rattle.rd_cli.specs.declared.words.Command.{Command}
 use Rattle.rd_cli.specs.declared.words.Command.TheVariants as command
 
--- the first word of a command
-abbrev pub command_name : Command → List ℕ
-command_name command.Both = codes "both"
-command_name command.Decode = codes "decode"
-
--- the name is this command's
+-- the name is this command's, where it is one word
 abbrev pub IsNameOf : Option (List ℕ) → Command → Type 0
-IsNameOf name command = name ≡ Some (command_name command)
+IsNameOf name command.Both = name ≡ Some (codes "both")
+IsNameOf name command.Decode = name ≡ Some (codes "decode")
+IsNameOf name (command.Load number) = ⊥
 
 -- no command
 abbrev pub no_command : App
@@ -20,9 +17,9 @@ no_command = let none = new_app (codes "rdr") in record none {
 }
 
 -- and one more
-abbrev pub with_command : App → Command → App
-with_command app command = with_subcommand app (new_app (command_name command)).top
+abbrev pub with_command : App → List ℕ → App
+with_command app name = with_subcommand app (new_app name).top
 
--- each command
+-- each command of one word
 abbrev pub commands : App
-commands = with_command (with_command no_command command.Both) command.Decode
+commands = with_command (with_command no_command (codes "both")) (codes "decode")

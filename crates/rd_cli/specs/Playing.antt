@@ -1,16 +1,19 @@
 -- How the command `both` ends: with which status, what it has done by then, and which event, the first, gave the status.
 use Rattle.std.specs.Prelude.{◌≡◌, ℕ, ◌≤◌, ◌⊎◌, List, [], length, Option, Some, Result, Ok, Err}
 use Rattle.rd_base.specs.History.{History}
-use Rattle.rd_base.specs.declared.journal.Item.{Item}
 use Rattle.std.specs.Io.KnownBytes.{IsAtEnd}
-use Rattle.rd_script.specs.declared.outcome.Outcome.{Outcome}
+use Rattle.rd_script.specs.declared.keyword.Mode.TheVariants as mode
 use Rattle.rd_script.specs.declared.outcome.Outcomes.{Outcomes}
 use Rattle.rd_script.specs.declared.script.Script.{Script}
 use Rattle.rd_script.specs.Report.{report_of}
-use Rattle.rd_script.specs.Script.{BadLine, max_bytes}
-use Rattle.rd_session.specs.Served.{served_of}
+use Rattle.rd_script.specs.Script.{BadLine, max_bytes, script_of}
+use Rattle.rd_world.specs.Applications.{AreNumbered}
+use Rattle.rd_world.specs.Noting.{AreNotable}
+use Rattle.rd_world.specs.Opening.{AreDeclared}
+use Rattle.rd_world.specs.Wire.{IsCutRun}
+use Rattle.rd_world.specs.World.{WorldState}
 use Rattle.rd_cli.specs.Outside.{AreFaultless, FailedToWrite, HasOneFault, IsFaultless, Outside, Read, ReadToEnd, Stream}
-use Rattle.rd_cli.specs.Headline.{IsPlayed, Played, PlayedToEnd, TellsOutcomes}
+use Rattle.rd_cli.specs.Headline.{Played, PlayedToEnd}
 use Rattle.rd_cli.specs.Stops.{StopsWith}
 use Rattle.rd_cli.specs.declared.stop.Stop.{Stop}
 use Rattle.rd_cli.specs.declared.stop.Stop.TheVariants as stop
@@ -20,34 +23,32 @@ pub record HasRead {S : Type 0} (before after : Stream S) (text : List ℕ) : Ty
   pub read : Read before after text
   pub whole : length text ≤ max_bytes → IsAtEnd after.bytes
 
--- The input was read to its end and is a script whose lines are all played.
+-- The input was read to its end and is a script.
 pub record ReadsScript {S : Type 0} (before after : Stream S) (script : Script) : Type 0 where
   pub text : List ℕ
   pub read : ReadToEnd before after text
-  pub served : served_of text ≡ Ok script
+  pub script_is : script_of mode.Both text ≡ Ok script
 
 -- This line of what was read is the first that is refused, for this reason.
 abbrev pub ReadsBadLine : {S : Type 0} → (before after : Stream S) → BadLine → Type 0
-ReadsBadLine before after bad = (text : List ℕ) × HasRead before after text × (served_of text ≡ Err bad)
+ReadsBadLine before after bad = (text : List ℕ) × HasRead before after text × (script_of mode.Both text ≡ Err bad)
 
--- a script that some text is, whose lines are all played
-abbrev pub IsPlayable : Script → Type 0
-IsPlayable script = (text : List ℕ) × (served_of text ≡ Ok script)
+-- What a session wants of the script that it plays: its lines and devices aren't too many, and each line is within the limits of a script.
+pub record IsPlayable (script : Script) : Type 0 where
+  pub declared : AreDeclared script.lines
+  pub numbered : AreNumbered script.lines
+  pub notable : AreNotable script.lines
 
--- The recording failed: a prefix of the recording of a session of this script was written.
+-- The recording failed: the script's session was cut off when it had come to this world. A prefix of its recording was written, and one fault was counted.
 pub record FailedToRecord {R : Type 0} (script : Script) (before after : Stream R) : Type 0 where
-  pub outcomes : List Outcome
-  pub books : List (ℕ × List Item)
-  pub whole : List ℕ
-  pub played : IsPlayed script outcomes whole books
-  pub failed : FailedToWrite before after whole
+  pub world : WorldState
+  pub cut : IsCutRun before.bytes after.bytes script.lines world
+  pub fault : HasOneFault before after
 
 -- The output failed, after the script was played and recorded: a prefix of the report was written.
 pub record FailedToReport {S K R : Type 0} (script : Script) (before after : Outside S K R) (books : List (ℕ × History)) : Type 0 where
-  pub outcomes : List Outcome
   pub told : Outcomes
-  pub played : Played script outcomes before.recording after.recording books
-  pub tells : TellsOutcomes told outcomes
+  pub played : Played script before.recording after.recording books told
   pub failed : FailedToWrite before.output after.output (report_of script told books)
 
 -- What the command has done when it stopped, before a last line says so: the first event that stops it ends it.
@@ -71,7 +72,7 @@ StopsForInput before after _ = ⊥
 
 -- a stop of the reading of a script: for its first refused line, or for want of memory
 abbrev pub StopsForText : List ℕ → Stop → Type 0
-StopsForText text (stop.Line line cause) = served_of text ≡ Err (record { line = line; why = cause })
+StopsForText text (stop.Line line cause) = script_of mode.Both text ≡ Err (record { line = line; why = cause })
 StopsForText text stop.Memory = Unit {0}
 StopsForText text _ = ⊥
 
@@ -86,13 +87,13 @@ abbrev pub ComesOutOfBoth : {T S K R : Type 0} → (before after : Outside S K R
 ComesOutOfBoth before after books (Ok done) = PlayedToEnd before after books
 ComesOutOfBoth before after books (Err s) = StoppedPlaying before after books s
 
--- What the input has left can be told and is a script whose lines are all played.
+-- What the input has left can be told and is a script.
 abbrev pub GivesScript : Option (List ℕ) → Type 0
-GivesScript left = (text : List ℕ) × (script : Script) × (left ≡ Some text) × (served_of text ≡ Ok script)
+GivesScript left = (text : List ℕ) × (script : Script) × (left ≡ Some text) × (script_of mode.Both text ≡ Ok script)
 
 -- What the input has left can be told, and this is its first line that is refused, and why.
 abbrev pub GivesBadLine : Option (List ℕ) → BadLine → Type 0
-GivesBadLine left bad = (text : List ℕ) × (left ≡ Some text) × (served_of text ≡ Err bad)
+GivesBadLine left bad = (text : List ℕ) × (left ≡ Some text) × (script_of mode.Both text ≡ Err bad)
 
 -- The script was refused for a line, which the output says, and nothing was recorded.
 pub record RefusesScript {S K R : Type 0} (before after : Outside S K R) (books : List (ℕ × History)) : Type 0 where

@@ -1,5 +1,5 @@
 -- The words of each command.
-use Rattle.std.specs.Prelude.{◌≡◌, ◌==◌, ℕ, Bool, false, List, [], ◌∷◌, codes}
+use Rattle.std.specs.Prelude.{◌≡◌, ◌==◌, ℕ, ◌≤◌, Bool, false, List, [], ◌∷◌, Option, Some, None, codes, decimal}
 use Rattle.rd_cli.specs.declared.words.Command.{Command}
 use Rattle.rd_cli.specs.declared.words.Command.TheVariants as command
 use Rattle.rd_cli.specs.declared.stop.Stop.{Stop}
@@ -10,10 +10,25 @@ abbrev pub is_flag : List ℕ → Bool
 is_flag [] = false
 is_flag (byte ∷ rest) = byte == 45
 
+-- a number that a load may have
+abbrev pub IsLoadNumber : ℕ → Type 0
+IsLoadNumber number = (1 ≤ number) × (number ≤ 1000)
+
+-- the word is this number of a load, or that of none
+abbrev pub FindsLoadNumber : List ℕ → Option ℕ → Type 0
+FindsLoadNumber word (Some number) = (word ≡ decimal number) × IsLoadNumber number
+FindsLoadNumber word None = (number : ℕ) → IsLoadNumber number → ¬ (word ≡ decimal number)
+
 -- the words are this command
 abbrev pub HasShape : List (List ℕ) → Command → Type 0
 HasShape words command.Both = words ≡ codes "both" ∷ []
 HasShape words command.Decode = words ≡ codes "decode" ∷ []
+HasShape words (command.Load number) = (words ≡ codes "load" ∷ decimal number ∷ []) × IsLoadNumber number
+
+-- the words are the load of this number, or of none
+abbrev pub FindsLoad : List (List ℕ) → Option ℕ → Type 0
+FindsLoad words (Some number) = HasShape words (command.Load number)
+FindsLoad words None = (number : ℕ) → ¬ (HasShape words (command.Load number))
 
 -- a stop of the reading of the words: they are no command, or memory ran out
 abbrev pub StopsForWords : List (List ℕ) → Stop → Type 0

@@ -1,5 +1,5 @@
 -- What a stop is answered with: a status, and a last line on the output.
-use Rattle.std.specs.Prelude.{◌≡◌, ℕ, ◌⊎◌, List, ◌++◌, Option, Some, None, codes, decimal}
+use Rattle.std.specs.Prelude.{◌≡◌, ℕ, ◌⊎◌, List, ◌++◌, Option, Some, None, Result, Ok, Err, codes, decimal}
 use Rattle.rd_base.specs.declared.bad.Why.{Why}
 use Rattle.rd_base.specs.declared.bad.Why.TheVariants as field
 use Rattle.rd_chunk.specs.declared.fault.ChunkWhy.{ChunkWhy}
@@ -94,3 +94,10 @@ SaysLast (Some line) own before after status = ((status ≡ own) × Says line be
 -- a stop ends with its status and its last line
 abbrev pub StopsWith : {K : Type 0} → Stop → (before after : Stream K) → ℕ → Type 0
 StopsWith s before after status = SaysLast (last_line s) (status_of s) before after status
+
+-- What came of the printing of a text: it was written, or the first fault ended that, or memory ran out before any of it was written.
+abbrev pub Prints : {T K : Type 0} → List ℕ → (before after : Stream K) → Result T Stop → Type 0
+Prints text before after (Ok done) = Wrote before after text
+Prints text before after (Err stop.Output) = FailedToWrite before after text
+Prints text before after (Err stop.Memory) = after ≡ before
+Prints text before after (Err s) = ⊥

@@ -1,29 +1,21 @@
 //! The command `both`: a script, read whole, is played by both ends of one session.
 
-ghost use Rattle.std.specs.Prelude.{◌≡◌, ◌<◌, ◌^◌, [], length, IfErr, IfOk, Ok, OnOk};
-ghost use Rattle.std.specs.List.{AllZip};
-ghost use Rattle.rd_cli.specs.Headline.{books_of, Played, TellsOutcomes};
+ghost use Rattle.std.specs.Prelude.{◌≡◌, [], IfErr, IfOk, Ok};
 ghost use Rattle.rd_cli.specs.Outside.{outside, stream};
-ghost use Rattle.rd_cli.specs.Playing.{ComesOutOfBoth, IsEndOfBoth, IsPlayable, StopsForRecording, StopsForText};
-ghost use Rattle.rd_script.specs.Report.{HasJournals};
-ghost use Rattle.rd_session.specs.Asking.{asks_of};
-ghost use Rattle.rd_session.specs.Outcomes.{FitsLine};
-ghost use Rattle.rd_session.specs.Served.{served_of};
+ghost use Rattle.rd_cli.specs.Playing.{ComesOutOfBoth, IsEndOfBoth, StopsForText};
+ghost use Rattle.rd_cli.specs.Stops.{Prints};
+ghost use Rattle.rd_script.specs.Report.{AreCountable, report_of};
+ghost use Rattle.rd_script.specs.Script.{script_of};
+ghost use Rattle.rd_script.specs.declared.keyword.Mode.TheVariants as mode;
 
 use crate::ending::end;
 use crate::input::read_all;
 use crate::notes::note_line;
+use crate::playing::play;
 use crate::stop::Stop;
-use rd_base::{Books, Journal, Sink, Source, write_all};
-use rd_script::{MAX_BYTES, Outcome, Outcomes, Script, ScriptNo, report};
-use rd_session::{
-    RunNo, Session, asks_of, begin_recording, device_of, open_drive, read_served, run_session,
-    scene_of,
-};
-use std::alloc::{AllocError, Global};
-
-/// The one application that is played.
-const APPLICATION: u32 = 1;
+use rd_base::{Books, Sink, Source, write_all};
+use rd_script::{MAX_BYTES, Mode, Outcomes, Script, ScriptNo, read_script, report};
+use std::alloc::Global;
 
 /// Plays the script of the input, and returns the exit status.
 pub fn both<S: Source, K: Sink, R: Sink, N: Sink>(
@@ -61,21 +53,16 @@ fn report_script<S: Source, K: Sink, R: Sink, N: Sink>(
 {
     let text = read_all(alloc, input, MAX_BYTES)?;
     let script = script_in(alloc, text, notes)?;
-    let outcomes = play(alloc, &script, recording, books)?;
-    let told = numbered(alloc, outcomes)?;
-    let report = report(alloc, &script, &told, books)?;
-    match write_all(output, report.as_slice()) {
-        Ok(()) => Ok(()),
-        Err(_) => Err(Stop::Output),
-    }
+    let told = play(alloc, &script, recording, books)?;
+    print_report(alloc, &script, &told, books, output)
 }
 
-/// The script that a text is, where all its lines are played. Of the first line that is refused the notes say which it is.
+/// The script that a text is. Of the first line that is refused the notes say what is wrong with it.
 fn script_in<N: Sink>(alloc: Global, text: Vec<u8>, notes: &mut N) -> Result<Script, Stop>
-    ensures script { IfOk result (λ script. served_of text.items ≡ Ok script) }
+    ensures script { IfOk result (λ script. script_of mode.Both text.items ≡ Ok script) }
     ensures err { IfErr result (StopsForText text.items) }
 {
-    match read_served(alloc, text.as_slice()) {
+    match read_script(alloc, Mode::Both, text.as_slice()) {
         Ok(script) => Ok(script),
         Err(ScriptNo::BadLine { line, why }) => {
             note_line(alloc, notes, text.as_slice(), line);
@@ -85,62 +72,20 @@ fn script_in<N: Sink>(alloc: Global, text: Vec<u8>, notes: &mut N) -> Result<Scr
     }
 }
 
-/// Plays a script: its session goes to the recording, and the drive's journal into the books.
-fn play<R: Sink>(
+/// Writes the report of a script that was played.
+fn print_report<K: Sink>(
     alloc: Global,
     script: &Script,
-    recording: &mut R,
-    books: &mut Books,
-) -> Result<Vec<Outcome>, Stop>
-    requires books { books.old ≡ [] }
-    requires script { IsPlayable script.now }
-    ensures journals { IfOk result (λ outcomes. HasJournals script.now.lines books.new) }
-    ensures fits { IfOk result (λ outcomes. AllZip FitsLine (asks_of script.now.lines) outcomes.items) }
-    ensures played { IfOk result (λ outcomes. Played script.now outcomes.items (stream R.held R.faults recording.old) (stream R.held R.faults recording.new) books.new) }
-    ensures err { IfErr result (StopsForRecording script.now (stream R.held R.faults recording.old) (stream R.held R.faults recording.new) books.new) }
+    told: &Outcomes,
+    books: &Books,
+    output: &mut K,
+) -> Result<(), Stop>
+    requires { AreCountable told.now.lines.entries }
+    ensures { Prints (report_of script.now told.now books.now) (stream K.held K.faults output.old) (stream K.held K.faults output.new) result }
 {
-    let Ok(()) = begin_recording(recording) else {
-        return Err(Stop::Recording);
-    };
-    let lines = script.lines.as_slice();
-    let drive = open_drive(alloc, lines)?;
-    let asks = asks_of(alloc, lines)?;
-    let Session { outcomes, journal } = match run_session(
-        alloc,
-        scene_of(lines),
-        drive,
-        asks,
-        recording,
-    ) {
-        Ok(session) => session,
-        Err(RunNo::Wire) => return Err(Stop::Recording),
-        Err(RunNo::Memory) => return Err(Stop::Memory),
-    };
-    store(books, device_of(lines), journal)?;
-    Ok(outcomes)
-}
-
-/// Stores the journal of a script's drive, if it has one.
-fn store(books: &mut Books, device: Option<u32>, journal: Journal) -> Result<(), AllocError>
-    requires { books.old ≡ [] }
-    ensures { OnOk result (books.new ≡ books_of device journal) }
-{
-    match device {
-        Some(device) => books.put(device, journal),
-        None => Ok(()),
+    let report = report(alloc, script, told, books)?;
+    match write_all(output, report.as_slice()) {
+        Ok(()) => Ok(()),
+        Err(_) => Err(Stop::Output),
     }
-}
-
-/// The outcomes of application 1, each under its number.
-fn numbered(alloc: Global, outcomes: Vec<Outcome>) -> Result<Outcomes, AllocError>
-    requires { length outcomes.items < 2 ^ 32 }
-    ensures { IfOk result (λ told. TellsOutcomes told outcomes.items) }
-{
-    let mut told = Outcomes::new(alloc);
-    let mut number = 0u32;
-    for outcome in outcomes {
-        number += 1;
-        told.lines.insert((APPLICATION, number), outcome)?;
-    }
-    Ok(told)
 }

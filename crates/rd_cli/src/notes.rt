@@ -14,6 +14,9 @@ const USAGE: &str = "\
 rdr: both ends of Remote Desktop drive redirection
 usage: rdr both < SCRIPT
          plays the script of the standard input, prints a report, and leaves the frames in rdr.rec (docs/SCRIPT.md)
+       rdr load N
+         plays a session with N blocks in each of four files, N from 1 to 1000, prints what came of it in one line, and leaves the frames in
+         rdr.rec
        rdr decode < RECORDING
          prints a line for each message of a recording, and names the first fault (docs/RECORDING.md)
 ";
@@ -25,31 +28,20 @@ pub fn note_usage<N: Sink>(notes: &mut N) {
 
 /// Says what is wrong with the line with this number, counted from 1: which of its words, and what is expected there.
 pub fn note_line<N: Sink>(alloc: Global, notes: &mut N, text: &[u8], number: u32) {
-    if let Ok(note) = line_note(alloc, text, number) {
+    match bad_word(alloc, Mode::Both, text) {
+        Some(bad) if bad.line == number => note_bad_line(alloc, notes, bad),
+        _ => {}
+    }
+}
+
+/// Says what is wrong with a line whose bad word is known.
+fn note_bad_line<N: Sink>(alloc: Global, notes: &mut N, bad: BadWord<'_>) {
+    if let Ok(note) = bad_line_note(alloc, bad) {
         let _ = write_all(notes, note.as_bytes());
     }
 }
 
-fn line_note(alloc: Global, text: &[u8], number: u32) -> Result<String, AllocError> {
-    match bad_word(alloc, Mode::Both, text) {
-        Some(bad) if bad.line == number => bad_line_note(alloc, bad),
-        _ => unplayed_note(alloc, text, number),
-    }
-}
-
-/// A line that is in the grammar, but isn't played.
-fn unplayed_note(alloc: Global, text: &[u8], number: u32) -> Result<String, AllocError> {
-    let line = text
-        .split(|byte| *byte == b'\n')
-        .nth((number as usize).saturating_sub(1))
-        .unwrap_or_default();
-    let (shown, cut) = shown(line);
-    format!(in alloc;
-        "rdr: line {number} isn't played yet: {shown}{cut}\nrdr: docs/SCRIPT.md says which lines are\n"
-    )
-}
-
-/// A line that is outside the grammar.
+/// What is said of such a line.
 fn bad_line_note(alloc: Global, bad: BadWord<'_>) -> Result<String, AllocError> {
     let number = bad.line;
     let (line, cut) = shown(bad.text);

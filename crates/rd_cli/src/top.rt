@@ -8,6 +8,7 @@ ghost use Rattle.rd_cli.specs.Outside.{outside};
 use crate::both::both;
 use crate::decoding::decode;
 use crate::ending::end;
+use crate::load::load;
 use crate::notes::note_usage;
 use crate::stop::Stop;
 use crate::words::{Command, command_of};
@@ -18,13 +19,13 @@ use std::process::ExitCode;
 /// Runs a command and returns the exit status.
 ///
 /// `words` are the command's words without the program's name. `both` reads a script from `input` to its end, plays it, writes a
-/// recording of all frames to `recording` as they are sent, and then the report to `output`. `decode` reads a recording from `input` and
-/// prints its lines to `output`. `books` is to be empty; at status 0 of `both` it holds the journal of each device at the end. `notes` is
-/// for people: it gets the usage where the words are no command, and what is wrong with a line of a script.
+/// recording of all frames to `recording` as they are sent, and then the report to `output`. `load` does the same with the script of its
+/// number, reads no input, and writes a summary of one line in the report's place. `decode` reads a recording from `input` and prints its lines to
+/// `output`. `books` is to be empty; at status 0 of `both` and `load` it holds the journal of each device at the end. `notes` is for people: it gets the usage where the words are no command, and what is wrong with a line of a script.
 ///
 /// | status | comes where |
 /// |---|---|
-/// | 0 | the script was played to its end; the input is a recording |
+/// | 0 | the script, or that of the load, was played to its end; the input is a recording |
 /// | 1 | the words are no command (`bad words` on `output`), or a line of the script is refused (`line N WHY`) |
 /// | 2 | a read of the input failed |
 /// | 3 | a write to the output or the recording failed |
@@ -50,6 +51,7 @@ pub fn run<S: Source, K: Sink, R: Sink, N: Sink>(
     match command_of(alloc, words) {
         Ok(Command::Both) => both(alloc, input, output, recording, notes, books),
         Ok(Command::Decode) => decode(alloc, input, output),
+        Ok(Command::Load(number)) => load(alloc, number, output, recording, books),
         Err(stop) => {
             if let Stop::Words = stop {
                 note_usage(notes);

@@ -1,9 +1,9 @@
 //! The command that the words are.
 
-ghost use Rattle.std.specs.Prelude.{◌≡◌, ◌⊎◌, false, IfOk, IfErr, map, option_map, string_bytes};
+ghost use Rattle.std.specs.Prelude.{◌≡◌, ◌⊎◌, ℕ, false, IfOk, IfErr, get_or, map, nat_lt, option_map, string_bytes};
 ghost use Rattle.std.specs.List.{list_any};
 ghost use Rattle.clap.specs.Words.{app_of};
-ghost use Rattle.rd_cli.specs.Shapes.{HasShape, StopsForWords, is_flag};
+ghost use Rattle.rd_cli.specs.Shapes.{FindsLoad, FindsLoadNumber, HasShape, StopsForWords, is_flag};
 ghost use Rattle.rd_cli.specs.declared.words.Command.{Command};
 ghost use Rattle.rd_cli.specs.Parser.{IsNameOf, commands};
 
@@ -12,11 +12,16 @@ use clap::Command as Parser;
 use clap::error::ErrorKind;
 use std::alloc::{AllocError, Global};
 
+/// The greatest number of a load.
+const MAX_LOAD: u32 = 1000;
+
 /// What `rdr` is asked to do.
 #[derive(Clone, Copy, Debug, PartialEq, Eq)]
 pub enum Command {
     Both,
     Decode,
+    /// The load of this number, which is from 1 to 1000.
+    Load(u32),
 }
 
 /// The command whose shape the words have.
@@ -27,7 +32,10 @@ pub fn command_of(alloc: Global, words: &[String]) -> Result<Command, Stop>
     if has_flag(words) {
         return Err(Stop::Words);
     }
-    parsed(alloc, words)
+    match load_of(words) {
+        Some(number) => Ok(Command::Load(number)),
+        None => parsed(alloc, words),
+    }
 }
 
 /// Whether a word is a flag, which no command has.
@@ -47,9 +55,53 @@ fn is_flag(word: &String) -> bool
     }
 }
 
-/// The command that the parser finds in words of which none begins with a hyphen.
+/// The number of the load that the words are, if they are one.
+fn load_of(words: &[String]) -> Option<u32>
+    ensures { FindsLoad (map string_bytes words.now) result }
+{
+    match words {
+        [name, number] => {
+            if name.as_str() == "load" {
+                load_number(number.as_str())
+            } else {
+                None
+            }
+        }
+        _ => None,
+    }
+}
+
+/// The number of a load that a word is: from 1 to 1000, with no zero before it.
+fn load_number(word: &str) -> Option<u32>
+    ensures { FindsLoadNumber word.now result }
+{
+    if !is_above_zero(word.as_bytes()) {
+        return None;
+    }
+    let Ok(number) = word.parse::<u32>() else {
+        return None;
+    };
+    if number <= MAX_LOAD {
+        Some(number)
+    } else {
+        None
+    }
+}
+
+/// Whether a word's first character comes after the digit 0, as that of each number above 0 does.
+fn is_above_zero(word: &[u8]) -> bool
+    ensures { result ≡ nat_lt 48 (get_or word.now 0 0) }
+{
+    match word {
+        [] => false,
+        [byte, ..] => *byte > b'0',
+    }
+}
+
+/// The command of one word that the parser finds in words of which none begins with a hyphen.
 fn parsed(alloc: Global, words: &[String]) -> Result<Command, Stop>
-    requires { list_any is_flag (map string_bytes words.now) ≡ false }
+    requires plain { list_any is_flag (map string_bytes words.now) ≡ false }
+    requires no_load { (number : ℕ) → ¬ (HasShape (map string_bytes words.now) (Command.Load number)) }
     ensures command { IfOk result (HasShape (map string_bytes words.now)) }
     ensures err { IfErr result (StopsForWords (map string_bytes words.now)) }
 {

@@ -9,5 +9,5 @@ returns-then-has_flag-clause-err c command shape =
     let mapped = list_any-map {X = String Global} is_flag (λ w. string_bytes w) c.args.words.now in
     let both : true ≡ false = sym c.if-has_flag.true ∙ c.has_flag.ensures ∙ mapped ∙ plain_words _ command shape in absurd (cc)
 
-pub parsed-requires : goal.parsed-requires
-parsed-requires c = sym (list_any-map {X = String Global} is_flag (λ w. string_bytes w) c.args.words.now) ∙ sym c.has_flag.ensures ∙ c.if-has_flag.false
+pub parsed-requires-clause-plain : goal.parsed-requires-clause-plain
+parsed-requires-clause-plain c = sym (list_any-map {X = String Global} is_flag (λ w. string_bytes w) c.args.words.now) ∙ sym c.has_flag.ensures ∙ c.if-has_flag.false
