@@ -3,9 +3,9 @@
 //!
 //! Cost: two walks over the lines, beside the numbers of those that did nothing, and one write.
 
-use rd_world::application_of;
 use rd_base::{Sink, write_all};
 use rd_script::{Errand, Line, NumberedLine};
+use rd_world::application_of;
 use std::alloc::{AllocError, Global};
 
 /// Of how many lines it is said.
