@@ -1,5 +1,5 @@
 //! What ends a command, and what it leaves: the report, the recording, the journal and the notes.
-use rd_base::{Books, Bytes, Calls, Cut, Item, Key, MemSink, MemSource};
+use rd_base::{Books, Bytes, Calls, Cause, Item, Key, MemSink, MemSource};
 use rd_cli::run;
 use std::alloc::{AllocError, Global};
 use std::process::Abort;
@@ -253,7 +253,7 @@ document 2.1 6869
 fn plays_whole_sessions(rt: HostRuntime) -> Result<(), Fail> {
     let left = comes_to(&rt, rt.alloc(), &["both"], WHOLE, (0, WHOLE_REPORT))?;
     // The drive's journal ends with the removal.
-    assert!(rt; matches!(left.journal.as_slice(), [.., Item::Cut(Cut::Removed)]));
+    assert!(rt; matches!(left.journal.as_slice(), [.., Item::Cut(Cause::Removed)]));
     // The channel's end is what is recorded last.
     assert!(rt; left.recording.as_slice().ends_with(b"\x03"));
     Ok(())
@@ -273,7 +273,11 @@ fn plays_a_load(rt: HostRuntime) -> Result<(), Fail> {
     let written = cut.recording.len();
     assert_eq!(rt; (cut.status, cut.output.as_slice()), (3, b"".as_slice()));
     assert!(rt; 65_536 <= written && written < 68_855, "{written}");
-    assert!(rt; left.recording.as_slice().starts_with(cut.recording.as_slice()));
+    assert!(rt;
+        left.recording
+            .as_slice()
+            .starts_with(cut.recording.as_slice())
+    );
     Ok(())
 }
 
