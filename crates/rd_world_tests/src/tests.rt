@@ -1,11 +1,15 @@
 //! That calls find memory when there is ample, that messages come off a channel one at a time, that a session opens its channel, and that a script is
 //! played to its end.
 ghost use Rattle.std.specs.Prelude.{◌≡◌, false};
+ghost use Rattle.rd_world.specs.Applications.{AreNumbered};
+ghost use Rattle.rd_world.specs.Noting.{AreNotable};
+ghost use Rattle.rd_world.specs.Opening.{AreDeclared};
 
 use rd_base::{Books, Calls, MemSink};
-use rd_script::{Mode, read_script};
+use rd_script::{Mode, Script, read_script};
 use rd_world::{Event, Host, Recorder, Way, World, found_told};
-use std::alloc::AllocError;
+use std::alloc::{AllocError, Global};
+use std::process::Abort;
 
 #[test]
 fn makes_outcomes_of_the_worked_session(rt: HostRuntime) {
@@ -73,10 +77,18 @@ fn a_host_opens_and_ends_a_channel(rt: HostRuntime) {
 /// What a recording begins with, and the host's announce in a frame.
 const ANNOUNCED: &[u8] = b"RDRREC01\x02\0\x14\0\0\0\x0c\0\0\0\x03\0\0\0rDnI\x01\0\x0c\0\x01\0\0\0";
 
+/// The script that a text is.
+fn script_in(rt: &impl Abort, alloc: Global, text: &[u8]) -> Script
+    ensures declared { AreDeclared result.lines }
+    ensures numbered { AreNumbered result.lines }
+    ensures notable { AreNotable result.lines }
+{
+    read_script(alloc, Mode::Both, text).expect(rt, "a script")
+}
+
 #[test]
-#[tactic(auto, using(rd_world::proofs::DeclaredLemmas::scripts_are_declared, rd_world::proofs::NumberedLemmas::scripts_are_numbered))]
 fn a_session_opens_a_channel(rt: HostRuntime) {
-    let script = read_script(rt.alloc(), Mode::Both, b"drive 1 DATA\n").expect(&rt, "a script");
+    let script = script_in(&rt, rt.alloc(), b"drive 1 DATA\n");
     let lines = script.lines.as_slice();
     let mut world = World::new(rt.alloc(), lines).expect(&rt, "memory for a session");
     let mut recorder = Recorder::new(rt.alloc()).expect(&rt, "memory for a recording");
@@ -112,9 +124,8 @@ remove 1
 ";
 
 #[test]
-#[tactic(auto, using(rd_world::proofs::DeclaredLemmas::scripts_are_declared, rd_world::proofs::NumberedLemmas::scripts_are_numbered, rd_world::proofs::DeclaredLemmas::scripts_are_notable))]
 fn a_script_is_played_to_its_end(rt: HostRuntime) {
-    let script = read_script(rt.alloc(), Mode::Both, REMOVED).expect(&rt, "a script");
+    let script = script_in(&rt, rt.alloc(), REMOVED);
     let lines = script.lines.as_slice();
     let mut world = World::new(rt.alloc(), lines).expect(&rt, "memory for a session");
     let mut recorder = Recorder::new(rt.alloc()).expect(&rt, "memory for a recording");
