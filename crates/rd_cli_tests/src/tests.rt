@@ -1,5 +1,5 @@
 //! What ends a command, and what it leaves: the report, the recording, the journal and the notes.
-use rd_base::{Books, Bytes, Calls, Item, Key, MemSink, MemSource};
+use rd_base::{Books, Bytes, Calls, Cause, Item, Key, MemSink, MemSource};
 use rd_cli::run;
 use std::alloc::{AllocError, Global};
 use std::process::Abort;
@@ -12,9 +12,29 @@ const SCRIPT: &[u8] =
 const REPORT: &[u8] =
     b"1.1 done 00000000 0100000001\n1.2 done 00000000 0500000068656c6c6f\n1.3 done 00000000 00000000\ndevice 1 ran 3\n";
 
-/// The recording: the magic, the channel's begin, and each message in a frame of its own after its sender's mark.
+/// The recording: the magic, the channel's begin, and each message in a frame of its own after its sender's mark: the opening, and the requests.
 const RECORDING: &str = "5244525245433031\
 02\
+00140000000c00000003000000\
+72446e4901000c0001000000\
+01140000000c00000003000000\
+7244434301000c0001000000\
+01200000001800000003000000\
+72444e430100000000000000080000005200440052000000\
+004c0000004400000003000000\
+724450530300000001002c0002000000020000000000000001000c00ffff0000000000000500000000000000000000000000000002000800\
+010000000400080002000000\
+00140000000c00000003000000\
+7244434301000c0001000000\
+014c0000004400000003000000\
+724450430300000001002c0002000000020000000000000001000c00ffff0000000000000500000001000000000000000000000002000800\
+010000000400080002000000\
+000c0000000400000003000000\
+72444c55\
+01240000001c00000003000000\
+72444144010000000800000001000000444154410000000000000000\
+00140000000c00000003000000\
+724472640100000000000000\
 00\
 4e0000004600000003000000\
 724452490100000000000000000000000000000000000000\
@@ -178,14 +198,86 @@ fn ends_where_the_outside_fails(rt: HostRuntime) -> Result<(), Fail> {
     for (fails, status, recorded) in [
         ([[1].as_slice(), &[], &[]], 2, 0),
         ([&[2], &[], &[]], 2, 0),
-        ([&[], &[1], &[]], 3, 335),
+        ([&[], &[1], &[]], 3, 692),
         ([&[], &[], &[1]], 3, 0),
-        ([&[], &[], &[2]], 3, 9),
     ] {
         let prefix = recording.get(..recorded).unwrap_or_default();
         let wanted = (status, b"".as_slice(), prefix);
         ends(&rt, rt.alloc(), &["both"], SCRIPT, fails, wanted)?;
     }
+    Ok(())
+}
+
+/// A command comes to this status, and writes this to the output.
+fn comes_to(
+    rt: &impl Abort,
+    alloc: Global,
+    words: &[&str],
+    script: &[u8],
+    wanted: (u8, &[u8]),
+) -> Result<Remains, Fail> {
+    let left = command(alloc, words, script, NEVER)?;
+    assert_eq!(rt; (left.status, left.output.as_slice()), wanted, "{words:?}");
+    Ok(left)
+}
+
+/// Two applications, a drive and a printer. The drive is removed, and then the channel ends.
+const WHOLE: &[u8] = b"drive 1 DATA
+printer 2 PRN1 Driver Office
+file 1 \\a 61
+1 open h 1 \\a
+2 create p 2 - 1 0x40000000 0 0 0
+2 write p 0 6869
+2 close p
+settle
+remove 1
+settle
+1 read h 0 1
+settle
+drop
+2 create p 2 - 1 0x40000000 0 0 0
+";
+
+const WHOLE_REPORT: &[u8] = b"1.1 done 00000000 0100000001
+1.2 refused nodevice
+2.1 done 00000000 0100000000
+2.2 done 00000000 0200000000
+2.3 done 00000000 00000000
+2.4 refused nochannel
+device 1 ran 1
+device 2 ran 3
+document 2.1 6869
+";
+
+#[test]
+fn plays_whole_sessions(rt: HostRuntime) -> Result<(), Fail> {
+    let left = comes_to(&rt, rt.alloc(), &["both"], WHOLE, (0, WHOLE_REPORT))?;
+    // The drive's journal ends with the removal.
+    assert!(rt; matches!(left.journal.as_slice(), [.., Item::Cut(Cause::Removed)]));
+    // The channel's end is what is recorded last.
+    assert!(rt; left.recording.as_slice().ends_with(b"\x03"));
+    Ok(())
+}
+
+/// What a load of two rounds comes to.
+const LOAD: &[u8] = b"load 2 accepted 24 done 24 lost 0 bytes 32768 sum 98304\n";
+
+#[test]
+fn plays_a_load(rt: HostRuntime) -> Result<(), Fail> {
+    let words = ["load", "2"];
+    let left = comes_to(&rt, rt.alloc(), &words, b"nothing is read", (0, LOAD))?;
+    assert_eq!(rt; left.recording.len(), 68_855);
+    // What is recorded goes out in pieces: where the second can't be written, the first has been.
+    let second = [[1].as_slice(), &[], &[2]];
+    let cut = command(rt.alloc(), &words, b"", second)?;
+    let written = cut.recording.len();
+    assert_eq!(rt; (cut.status, cut.output.as_slice()), (3, b"".as_slice()));
+    assert!(rt; 65_536 <= written && written < 68_855, "{written}");
+    assert!(rt;
+        left.recording
+            .as_slice()
+            .starts_with(cut.recording.as_slice())
+    );
     Ok(())
 }
 
@@ -245,14 +337,14 @@ fn names_the_first_line_that_is_refused(rt: HostRuntime) -> Result<(), Fail> {
         (b"drive 1 DATA\nfile 1 \\.. 61", b"line 2 path\n"),
         (b"drive 1 DATA\n1 read h 01 5", b"line 2 number\n"),
         (b"drive 1 DATA\n\xff", b"line 2 words\n"),
-        // Lines that aren't played.
-        (b"drive 1 DATA\ndrive 2 MORE", b"line 2 words\n"),
-        (b"drive 1 DATA\n2 close h", b"line 2 words\n"),
-        (b"drive 1 DATA\n1 lock h 3 1 0:1", b"line 2 words\n"),
-        (b"drive 1 DATA\n1 notify h 0 1", b"line 2 words\n"),
-        // One of each: the earlier is named.
-        (b"drive 1 DATA\nsettle\n1 read h 01 5", b"line 2 words\n"),
-        (b"drive 1 DATA\n1 read h 01 5\nsettle", b"line 2 number\n"),
+        // Lines of a client's script, and of a host's.
+        (b"drive 1 DATA\nat 1 5 remove 1", b"line 2 words\n"),
+        (b"devices 3", b"line 1 words\n"),
+        // Of two the earlier is named.
+        (
+            b"drive 1 DATA\n1 read h 01 5\nsettle now",
+            b"line 2 number\n",
+        ),
     ] {
         refuses(&rt, rt.alloc(), &["both"], script, line)?;
     }
@@ -261,24 +353,19 @@ fn names_the_first_line_that_is_refused(rt: HostRuntime) -> Result<(), Fail> {
 
 #[test]
 fn holds_scripts_to_their_most_lines(rt: HostRuntime) -> Result<(), Fail> {
-    for (lines, status, output, recording) in [
-        (
-            1_000_001,
-            1,
-            b"line 1000001 many\n".as_slice(),
-            b"".as_slice(),
-        ),
-        (1_000_000, 0, b"", b"RDRREC01\x02"),
+    for (lines, wanted) in [
+        (1_000_001, (1, b"line 1000001 many\n".as_slice())),
+        (1_000_000, (0, b"")),
     ] {
         let script = vec![in rt.alloc(); b'\n'; lines]?;
-        let wanted = (status, output, recording);
-        ends(&rt, rt.alloc(), &["both"], script.as_slice(), NEVER, wanted)?;
+        let left = comes_to(&rt, rt.alloc(), &["both"], script.as_slice(), wanted)?;
+        assert_eq!(rt; left.recording.is_empty(), left.status != 0);
     }
     Ok(())
 }
 
 #[test]
-fn knows_each_command_by_its_one_word(rt: HostRuntime) -> Result<(), Fail> {
+fn knows_each_command_by_its_words(rt: HostRuntime) -> Result<(), Fail> {
     for words in [
         [].as_slice(),
         &[""],
@@ -296,6 +383,15 @@ fn knows_each_command_by_its_one_word(rt: HostRuntime) -> Result<(), Fail> {
         &["--help"],
         &["decode", "-h"],
         &["--version"],
+        &["load"],
+        &["load", ""],
+        &["load", "0"],
+        &["load", "01"],
+        &["load", "1001"],
+        &["load", "0x10"],
+        &["load", "-1"],
+        &["load", "1", "2"],
+        &["1", "load"],
     ] {
         refuses(&rt, rt.alloc(), words, SCRIPT, b"bad words\n")?;
     }
@@ -338,6 +434,7 @@ fn tells_people_what_is_wrong(rt: HostRuntime) -> Result<(), Fail> {
     for (words, script, told) in [
         (["--help"], SCRIPT, "usage: rdr both < SCRIPT"),
         (["help"], SCRIPT, "rdr decode < RECORDING"),
+        (["help"], SCRIPT, "rdr load N"),
         (["decode"], CUT, ""),
         (
             ["both"],
@@ -350,6 +447,11 @@ fn tells_people_what_is_wrong(rt: HostRuntime) -> Result<(), Fail> {
             "rdr: expected read of: A read H OFFSET LENGTH\n",
         ),
         (["both"], b"\xffpeek", "no line begins with that word"),
+        (
+            ["both"],
+            b"drop\ndrop\n",
+            "rdr: line 2 did nothing: no channel is open\n",
+        ),
         (["both"], SCRIPT, ""),
     ] {
         let left = command(rt.alloc(), &words, script, NEVER)?;

@@ -1,8 +1,15 @@
-//! That calls find memory when there is ample, and that messages come off a channel one at a time.
+//! That calls find memory when there is ample, that messages come off a channel one at a time, that a session opens its channel, and that a script is
+//! played to its end.
 ghost use Rattle.std.specs.Prelude.{◌≡◌, false};
+ghost use Rattle.rd_world.specs.Applications.{AreNumbered};
+ghost use Rattle.rd_world.specs.Noting.{AreNotable};
+ghost use Rattle.rd_world.specs.Opening.{AreDeclared};
 
-use rd_world::{Host, Way, found_told};
-use std::alloc::AllocError;
+use rd_base::{Books, Calls, MemSink};
+use rd_script::{Mode, Script, read_script};
+use rd_world::{Event, Host, Recorder, Way, World, found_told};
+use std::alloc::{AllocError, Global};
+use std::process::Abort;
 
 #[test]
 fn makes_outcomes_of_the_worked_session(rt: HostRuntime) {
@@ -65,4 +72,74 @@ fn a_host_opens_and_ends_a_channel(rt: HostRuntime) {
         (sent, host.is_open(), host.has_message()),
         ((true, false, true), false, false)
     );
+}
+
+/// What a recording begins with, and the host's announce in a frame.
+const ANNOUNCED: &[u8] = b"RDRREC01\x02\0\x14\0\0\0\x0c\0\0\0\x03\0\0\0rDnI\x01\0\x0c\0\x01\0\0\0";
+
+/// The script that a text is.
+fn script_in(rt: &impl Abort, alloc: Global, text: &[u8]) -> Script
+    ensures declared { AreDeclared result.lines }
+    ensures numbered { AreNumbered result.lines }
+    ensures notable { AreNotable result.lines }
+{
+    read_script(alloc, Mode::Both, text).expect(rt, "a script")
+}
+
+#[test]
+fn a_session_opens_a_channel(rt: HostRuntime) {
+    let script = script_in(&rt, rt.alloc(), b"drive 1 DATA\n");
+    let lines = script.lines.as_slice();
+    let mut world = World::new(rt.alloc(), lines).expect(&rt, "memory for a session");
+    let mut recorder = Recorder::new(rt.alloc()).expect(&rt, "memory for a recording");
+    let mut wire = MemSink::new(rt.alloc(), Calls::of(Vec::new(rt.alloc())));
+    let early = world.enabled(&Event::HostSend);
+    world
+        .step(Event::Connect, &mut recorder)
+        .expect(&rt, "a channel begins");
+    world
+        .settle(&mut recorder, &mut wire)
+        .expect(&rt, "both ends open the channel");
+    recorder
+        .write_all(&mut wire)
+        .expect(&rt, "the recording is written");
+    let late = world.enabled(&Event::ClientSend);
+    let dropped = world.enabled(&Event::Drop);
+    let recorded = wire.bytes().starts_with(ANNOUNCED);
+    assert_eq!(&rt;
+        (early, late, dropped, recorded),
+        (false, false, true, true)
+    );
+}
+
+/// A drive that is removed while an application reads.
+const REMOVED: &[u8] = b"drive 1 DATA
+file 1 \\a 61
+connect
+1 open h 1 \\a
+settle
+1 read h 0 1
+do issue 1
+remove 1
+";
+
+#[test]
+fn a_script_is_played_to_its_end(rt: HostRuntime) {
+    let script = script_in(&rt, rt.alloc(), REMOVED);
+    let lines = script.lines.as_slice();
+    let mut world = World::new(rt.alloc(), lines).expect(&rt, "memory for a session");
+    let mut recorder = Recorder::new(rt.alloc()).expect(&rt, "memory for a recording");
+    let mut wire = MemSink::new(rt.alloc(), Calls::of(Vec::new(rt.alloc())));
+    world
+        .run(lines, &mut recorder, &mut wire)
+        .expect(&rt, "the script is played");
+    let mut books = Books::new(rt.alloc());
+    let told = world
+        .finish(&mut books)
+        .expect(&rt, "memory for what is told");
+    assert_eq!(&rt;
+        (told.lines.len(), told.idle.as_slice()),
+        (2, [3].as_slice())
+    );
+    assert!(&rt; wire.bytes().starts_with(ANNOUNCED) && books.journal(1).is_some());
 }

@@ -1,8 +1,9 @@
 //! Runs the examples of the current folder, and compares what each does with what stands beside it.
 //!
 //! `NAME.script` is played with `both`: `NAME.report` is the output, `NAME.rec` the recording, `NAME.status` the exit status where that
-//! isn't 0. Where there is a `NAME.lines`, `NAME.rec` is read with `decode`: `NAME.lines` is the output, and `NAME.status` the exit status
-//! where no script has that name. It fails where one differs.
+//! isn't 0. `NAME.words` are the words of a command without an input: `NAME.report` is the output. The recording of either is read with `decode`,
+//! which finds no fault. Where there is a `NAME.lines`, `NAME.rec` is read with `decode`: `NAME.lines` is the output, and `NAME.status` the exit
+//! status where no script has that name. It fails where one differs.
 #![tactic(auto)]
 
 use anyhow::{Context, Result, bail};
@@ -15,6 +16,10 @@ fn main(rt: HostRuntime) -> Result<()> {
     for name in &names_of(&rt, ".script")? {
         let difference = played(&rt, name)?;
         differ = differ.saturating_add(told(&rt, "script", name, difference)?);
+    }
+    for name in &names_of(&rt, ".words")? {
+        let difference = obeyed(&rt, name)?;
+        differ = differ.saturating_add(told(&rt, "words", name, difference)?);
     }
     for name in &names_of(&rt, ".lines")? {
         let difference = decoded(&rt, name)?;
@@ -55,7 +60,7 @@ struct Remains {
 
 /// The first thing in which a script's session differs from what stands beside it.
 fn played(rt: &HostRuntime, name: &String) -> Result<Option<&'static str>> {
-    let left = left_by(rt, "both", read(rt, name, "script")?)?;
+    let left = left_by(rt, &["both"], read(rt, name, "script")?)?;
     if left.status != status_of(rt, name)? {
         return Ok(Some("another STATUS"));
     }
@@ -65,12 +70,38 @@ fn played(rt: &HostRuntime, name: &String) -> Result<Option<&'static str>> {
     if left.recording.bytes() != read(rt, name, "rec")?.as_slice() {
         return Ok(Some("another RECORDING"));
     }
-    Ok(None)
+    if left.status != 0 {
+        return Ok(None);
+    }
+    fault_in(rt, &left.recording)
+}
+
+/// The first thing in which a command without an input differs from what stands beside its words.
+fn obeyed(rt: &HostRuntime, name: &String) -> Result<Option<&'static str>> {
+    let line = text(rt, name, "words")?;
+    let words: Vec<&str> = line.trim().split(' ').collect(rt.alloc())?;
+    let left = left_by(rt, words.as_slice(), Vec::new(rt.alloc()))?;
+    if left.status != 0 {
+        return Ok(Some("another STATUS"));
+    }
+    if left.output.bytes() != read(rt, name, "report")?.as_slice() {
+        return Ok(Some("another REPORT"));
+    }
+    fault_in(rt, &left.recording)
+}
+
+/// Whether `decode` finds a fault in what was recorded.
+fn fault_in(rt: &HostRuntime, recording: &MemSink) -> Result<Option<&'static str>> {
+    let left = left_by(rt, &["decode"], recording.bytes().to_vec(rt.alloc())?)?;
+    match left.status {
+        0 => Ok(None),
+        _ => Ok(Some("a FAULT in its recording")),
+    }
 }
 
 /// The first thing in which what `decode` says of a recording differs from what stands beside it.
 fn decoded(rt: &HostRuntime, name: &String) -> Result<Option<&'static str>> {
-    let left = left_by(rt, "decode", read(rt, name, "rec")?)?;
+    let left = left_by(rt, &["decode"], read(rt, name, "rec")?)?;
     let status = match exists(rt, name, "script")? {
         true => 0,
         false => status_of(rt, name)?,
@@ -88,8 +119,11 @@ fn decoded(rt: &HostRuntime, name: &String) -> Result<Option<&'static str>> {
 }
 
 /// Runs a command over an input.
-fn left_by(rt: &HostRuntime, word: &str, input: Vec<u8>) -> Result<Remains> {
-    let words = vec![in rt.alloc(); String::from_str(rt.alloc(), word)?]?;
+fn left_by(rt: &HostRuntime, words: &[&str], input: Vec<u8>) -> Result<Remains> {
+    let words: Vec<String> = words
+        .iter()
+        .map(|word| String::from_str(rt.alloc(), word))
+        .try_collect(rt.alloc())?;
     let never = Calls::of(Vec::new(rt.alloc()));
     let mut input = MemSource::new(Bytes::of(input), never.copy()?);
     let mut output = MemSink::new(rt.alloc(), never.copy()?);
@@ -116,9 +150,14 @@ fn status_of(rt: &HostRuntime, name: &String) -> Result<u8> {
     if !exists(rt, name, "status")? {
         return Ok(0);
     }
-    let path = format!(in rt.alloc(); "{name}.status")?;
+    Ok(text(rt, name, "status")?.trim().parse::<u8>()?)
+}
+
+/// The text of `NAME.ENDING`.
+fn text(rt: &HostRuntime, name: &String, ending: &str) -> Result<String> {
+    let path = format!(in rt.alloc(); "{name}.{ending}")?;
     let text = fs::read_to_string(rt, path.as_str()).context(format_args!("reading {path}"))?;
-    Ok(text.trim().parse::<u8>()?)
+    Ok(text)
 }
 
 /// Whether there is a `NAME.ENDING`.

@@ -1,9 +1,0 @@
-pub mod Asking
-pub mod Opening
-pub mod Served
-pub mod Outcomes
-pub mod Recording
-pub mod Told
-pub mod Session
-pub mod Channel
-pub mod Early
