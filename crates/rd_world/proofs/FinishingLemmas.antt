@@ -29,11 +29,6 @@ use Rattle.rd_world.specs.World.{ApplicationState}
 use Rattle.rd_world.proofs.ApplicationsLemmas.{apart_at, below_of, equal_is, greater_is}
 use Rattle.rd_world.proofs.PlacesLemmas.{key_between}
 
--- A reply that is known has a body that its length field can count.
-pub known_countable : (o : table_outcome.Outcome) → IsKnown o → IsCountable (reported_outcome o)
-known_countable (settled.Done reply) known = known.1.1
-known_countable (settled.Lost cause) known = tt
-
 -- ---- an entry that comes last
 
 module _ {K X : Type 0} where
@@ -149,11 +144,6 @@ pub countable_more : (old new : List ((ℕ × ℕ) × Outcome)) (a : ℕ) (outco
 countable_more old new a outcomes before all added =
     subst AreCountable (sym added) (all_append (λ (e : (ℕ × ℕ) × Outcome). IsCountable e.1) old (numbered_from a 1 outcomes) before (countable_from a 1 outcomes all))
 
--- All were told.
-pub told_of_all : (all rest : List (ℕ × ApplicationState)) (told : List ((ℕ × ℕ) × Outcome)) → AreToldOf all rest told → rest ≡ [] → told ≡ flat_map outcomes_under all
-told_of_all all rest told (done, are, is) none =
-    is ∙ ap (flat_map outcomes_under) (sym (are ∙ ap (λ (l : List (ℕ × ApplicationState)). done ++ l) none ∙ append-nil done))
-
 -- ---- journals and documents
 
 abbrev Stored : Type 0
@@ -170,26 +160,6 @@ pub record AreStored (all : List (ℕ × StationState SessionDevice)) (ids : Lis
   pub count : length ids ≡ place + length rest
   pub stored : journals_of books ≡ map journal_under done
   pub told : documents ≡ flat_map printed_in done
-
-pub stored_none : (all : List (ℕ × StationState SessionDevice)) (ids : List ℕ) (rest : List (StationState SessionDevice)) (books : List (ℕ × History)) (documents : List (ℕ × List (List ℕ)))
-    → all ≡ zip ids rest → length rest ≡ length ids → books ≡ [] → documents ≡ [] → AreStored all ids 0 rest books documents
-stored_none all ids rest books documents is same empty none = record {
-  done = [];
-  are = is;
-  count = omega (arith, same);
-  stored = ap journals_of empty;
-  told = none;
-}
-
-zip_none : (ids : List ℕ) (rest : List (StationState SessionDevice)) → rest ≡ [] → zip ids rest ≡ []
-zip_none [] rest none = refl
-zip_none (id ∷ ids) rest none = ap (λ (l : List (StationState SessionDevice)). zip (id ∷ ids) l) none
-
-pub stored_all : (all : List (ℕ × StationState SessionDevice)) (ids : List ℕ) (place : ℕ) (rest : List (StationState SessionDevice)) (books : List (ℕ × History)) (documents : List (ℕ × List (List ℕ)))
-    → AreStored all ids place rest books documents → rest ≡ [] → (documents ≡ flat_map printed_in all) × (journals_of books ≡ map journal_under all)
-stored_all all ids place rest books documents s none =
-    let whole : all ≡ s.done = s.are ∙ ap (λ (l : List Stored). s.done ++ l) (zip_none (drop place ids) rest none) ∙ append-nil s.done in
-    (s.told ∙ ap (flat_map printed_in) (sym whole), s.stored ∙ ap (map journal_under) (sym whole))
 
 journals_below : (k : ℕ) (done : List Stored) → AllByRecursion (λ (e : Stored). e.0 < k) done → AllByRecursion (λ (j : ℕ × List Item). j.0 < k) (map journal_under done)
 journals_below k [] below = tt

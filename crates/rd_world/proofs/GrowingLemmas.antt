@@ -1,12 +1,11 @@
 -- Journals only become longer and devices keep their ids, whatever happens in a session whose ids rise.
-use Rattle.std.proofs.Common.{◌≡◌, ℕ, zero, suc, length, sym, ◌∙◌, ap, subst, refl, ◌++◌, ◌∷◌, [], List, map, Bool, Some, None, Option, Ok, Err, Result, true, false, cond, append-nil, append_assoc}
-use Rattle.std.specs.Prelude.{find, fold, if◌then◌else◌, is_some, nat_le, not, slice_get, ◌==◌, ◌&&◌}
+use Rattle.std.proofs.Common.{◌≡◌, ℕ, zero, suc, sym, ◌∙◌, ap, subst, refl, ◌++◌, ◌∷◌, [], List, map, Bool, Some, None, Option, Ok, Err, Result, true, false, cond, append-nil, append_assoc}
+use Rattle.std.specs.Prelude.{find, fold, if◌then◌else◌, is_some, nat_le, not, ◌==◌}
 use Rattle.std.specs.List.Sorted.{IsStrictlySortedBy}
 use Rattle.std.specs.Map.{keys_of, lookup, set_value}
 use Rattle.std.specs.Ordering.{nat_cmp}
 use Rattle.std.specs.BTreeMap.{is_at}
-use Rattle.std.specs.Option.{IfSome, IsSome, option_and_then, option_map_or, unwrap_or}
-use Rattle.std.proofs.lemmas.Option.{IfSome_then}
+use Rattle.std.specs.Option.{IsSome, option_and_then, option_map_or}
 use Rattle.rd_base.specs.declared.journal.Cause.TheVariants.{Removed, Dropped}
 use Rattle.rd_base.specs.declared.journal.Item.{Item}
 use Rattle.rd_base.specs.declared.journal.Item.TheVariants.{Came, Ran, Cancelled, Sent, Cut}
@@ -30,11 +29,6 @@ use Rattle.rd_pending.specs.declared.calls.TakeNo.{TakeNo}
 use Rattle.rd_pending.specs.declared.calls.Target.{Target}
 use Rattle.rd_pending.specs.Table as table
 use Rattle.rd_pending.specs.Table.{TableState}
-use Rattle.rd_script.specs.declared.line.Errand.{Errand}
-use Rattle.rd_script.specs.declared.line.Errand.TheVariants as errand
-use Rattle.rd_script.specs.declared.line.Line.{Line}
-use Rattle.rd_script.specs.declared.line.Line.TheVariants as line
-use Rattle.rd_script.specs.declared.line.NumberedLine.{NumberedLine}
 use Rattle.rd_script.specs.declared.outcome.Outcome.{Outcome}
 use Rattle.rd_script.specs.declared.outcome.Outcome.TheVariants as outcome
 use Rattle.rd_script.specs.declared.outcome.Refusal.TheVariants as refusal
@@ -57,8 +51,6 @@ use Rattle.rd_world.specs.Events.{Event, act, adds_device, applies_at, applies_h
 use Rattle.rd_world.specs.Hearing.{after_opening, all_take, announcing, client_handles, client_handles_all, client_handles_first, client_hears, ends_line, given_handle, heard_by_client, host_handles, host_handles_all, host_handles_first, host_hears, next_asked, put_at, put_by, putting, refused_put, reported_outcome, takes_awaited, takes_from, takes_outcome, tries, tries_kept, with_client, with_outcome}
 use Rattle.rd_world.specs.Host.{next_message, side_sends}
 use Rattle.rd_world.specs.Keys.{AreLonger, station_journals}
-use Rattle.rd_world.specs.Run as run
-use Rattle.rd_world.specs.Run.{Most, NextStep, all_client_sends, all_host_sends, asked_by, by_event, choices, chosen, client_reads_all, connects_on, controls, does, drawing, drawn_count, ends_session, event_of, host_count, host_reads_all, idles, is_quiet, notice_of, picked, plays, plays_line, queueing, rounds, settled, settles_by, some_left, when_enabled, while_enabled}
 use Rattle.rd_world.specs.Talk as deed
 use Rattle.rd_world.specs.World.{ApplicationState, Asked, Kept, WayState, WorldState, application_at, client_sends, handling, having_read, host_sends, journals_in, most_messages, station_at, with_application, with_deed, with_station, with_table}
 use Rattle.rd_world.proofs.ApplicationsLemmas.{put_same}

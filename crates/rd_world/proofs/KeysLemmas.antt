@@ -1,6 +1,6 @@
 -- The keys in journals: what each call of a station stores and names, that no key has two runs, and what a run says of its key.
-use Rattle.std.proofs.Common.{◌≡◌, ◌≢◌, ◌⊎◌, ◌∙◌, refl, sym, ap, subst, inl, inr, ℕ, zero, suc, ◌&&◌, ◌||◌, ◌==◌, Bool, true, false, cond, not, List, [], ◌∷◌, ◌++◌, set, reverse, slice_get, map, Some, None, Option, arith, append-nil, append_assoc, eqb-true}
-use Rattle.std.specs.Prelude.{All, Contains, IsFalse, Ok, Err, Result, find, nat_le, nat_lt}
+use Rattle.std.proofs.Common.{◌≡◌, ◌≢◌, ◌⊎◌, ◌∙◌, refl, sym, ap, subst, inl, inr, ℕ, zero, suc, ◌&&◌, Bool, true, false, cond, not, List, [], ◌∷◌, ◌++◌, set, reverse, slice_get, map, Some, None, Option, arith, append-nil, append_assoc}
+use Rattle.std.specs.Prelude.{All, Contains, IsFalse, Ok, Err, Result, find, nat_le}
 use Rattle.std.specs.List.{AllByRecursion, AllZip, list_any, zip}
 use Rattle.std.specs.List.Sorted.{IsStrictlySortedBy}
 use Rattle.std.specs.Map.{keys_of, lookup}
@@ -9,7 +9,7 @@ use Rattle.std.specs.Ordering.{is_eq, match_ordering, nat_cmp}
 use Rattle.std.specs.declared.cmp.Ordering.{Ordering}
 use Rattle.std.specs.declared.cmp.Ordering.TheVariants.{Less, Equal, Greater}
 use Rattle.std.specs.BTreeMap.{insert_entry, is_at}
-use Rattle.std.proofs.lemmas.Bool.{cases_Bool, false≢true, ltb-true}
+use Rattle.std.proofs.lemmas.Bool.{cases_Bool, false≢true}
 use Rattle.std.proofs.lemmas.Bool.Decides.{nat_tests}
 use Rattle.std.proofs.lemmas.List.{reverse-reverse}
 use Rattle.std.proofs.lemmas.Option.{get_or_from_slice_get, slice_get_within}
@@ -331,33 +331,6 @@ named_added (f ∷ stations) id s none zero key (e, at, names) = (e, at, names)
 named_added (f ∷ stations) id s none (suc place) key (e, at, names) = named_added stations id s none place key (e, at, names)
 
 -- ---- journals become longer
-
-none_above : (id low : ℕ) (es : List (ℕ × StationState SessionDevice)) → nat_cmp id low ≡ Less → AllByRecursion (λ (k : ℕ). nat_cmp low k ≡ Less) (keys_of es) → lookup (is_at (nat_cmp id)) es ≡ None
-none_above id low [] less above = refl
-none_above id low (e ∷ es) less above = rw (apart id low e.0 less above.0) (none_above id low es less above.1)
-  where
-    apart : (i l k : ℕ) → nat_cmp i l ≡ Less → nat_cmp l k ≡ Less → is_at (nat_cmp i) k ≡ false
-    apart i l k less above = grind (arith, nat_tests)
-
-longer_put : (es : List (ℕ × StationState SessionDevice)) (id : ℕ) (before after : StationState SessionDevice) (more : List Item) → after.journal ≡ before.journal ++ more → IsStrictlySortedBy nat_cmp (keys_of es)
-    → lookup (is_at (nat_cmp id)) es ≡ Some before → AreLonger (station_journals es) (station_journals (insert_entry nat_cmp es id after))
-unfolding IsStrictlySortedBy
-longer_put [] id before after more longer rise found = absurd (cc)
-longer_put (e ∷ es) id before after more longer rise found = by (nat_cmp id e.0) refl found (longer_put es id before after more longer rise.1)
-  where
-    by : (o : Ordering) → nat_cmp id e.0 ≡ o → cond (is_eq o) (Some e.1) (lookup (is_at (nat_cmp id)) es) ≡ Some before
-        → (lookup (is_at (nat_cmp id)) es ≡ Some before → AreLonger (station_journals es) (station_journals (insert_entry nat_cmp es id after)))
-        → AreLonger (station_journals (e ∷ es)) (station_journals (match_ordering o ((id, after) ∷ e ∷ es) ((e.0, after) ∷ es) (e ∷ insert_entry nat_cmp es id after)))
-    by Less is found later = let none = none_above id e.0 es is rise.0 in absurd (cc)
-    by Equal is found later = let same : e.1 ≡ before = cc in ((refl, (more, longer ∙ ap (λ (s : StationState SessionDevice). s.journal ++ more) (sym same))), longer_self (station_journals es))
-    by Greater is found later = ((refl, ([], sym (append-nil (e.1).journal))), later found)
-
--- A call of a station only makes its journal longer, and leaves the others.
-pub steps_longer : (old : List (ℕ × StationState SessionDevice)) (place : ℕ) (call : StationCall) (new : List (ℕ × StationState SessionDevice)) → AreStations old → StepsAt old place call new
-    → AreLonger (station_journals old) (station_journals new)
-steps_longer old place call new are steps =
-    let stores = step_stores steps.before steps.after call steps.step in
-    subst (λ (es : List (ℕ × StationState SessionDevice)). AreLonger (station_journals old) (station_journals es)) (sym steps.put_back) (longer_put old steps.id steps.before steps.after stores.more stores.longer are.rise steps.found)
 
 -- So does the end of the channel.
 pub drops_longer : (old new : List (ℕ × StationState SessionDevice)) → DropsEach old new → AreLonger (station_journals old) (station_journals new)

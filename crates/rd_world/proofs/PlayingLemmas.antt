@@ -1,6 +1,6 @@
 -- A session's lines, one after the other, and what comes before and after them.
 use Rattle.std.proofs.Common.{◌≡◌, ◌≢◌, ◌<◌, ◌≤◌, ℕ, zero, suc, ◌+◌, List, [], ◌∷◌, ◌++◌, length, get_or, take, take-suc, Bool, true, false, Option, Some, None, refl, sym, ap, ◌∙◌, subst, arith}
-use Rattle.std.specs.Prelude.{◌&&◌, fold, if◌then◌else◌, map}
+use Rattle.std.specs.Prelude.{◌&&◌, fold, map}
 use Rattle.std.specs.List.{AllByRecursion}
 use Rattle.std.specs.Option.{option_and_then, option_map, option_map_or}
 use Rattle.rd_base.specs.declared.journal.Key.{Key}
@@ -65,10 +65,6 @@ module _ (starves : Key → Bool) (most : Most) (w x : WorldState) (number : ℕ
   pub did_back : is_enabled w (host_read (length (w.to_host).pipe)) ≡ true → x ≡ host_reads_all starves w
       → controls starves most w number (line.Do errand.Back) ≡ Some x
   did_back can is = did errand.Back can (is ∙ rw can refl)
-
-  pub connected_on : is_enabled w connect ≡ true → connects_on starves most w ≡ Some x → controls starves most w number line.Connect ≡ Some x
-  unfolding controls
-  connected_on can is = rw can is
 
   pub connected_not : is_enabled w connect ≡ false → x ≡ idles w number → controls starves most w number line.Connect ≡ Some x
   unfolding controls
@@ -201,12 +197,6 @@ take_whole (l ∷ lines) (suc i) long = ap (λ (ls : List NumberedLine). l ∷ l
 
 pub plays_all : (lines : List NumberedLine) (i : ℕ) (w x : WorldState) → length lines ≤ i → PlaysTo (take i lines) w x → PlaysTo lines w x
 plays_all lines i w x long plays_to = subst (λ (ls : List NumberedLine). PlaysTo ls w x) (take_whole lines i long) plays_to
-
--- what holds of each holds of the one at a place
-pub all_at : {X : Type 0} (P : X → Type 0) (xs : List X) (i : ℕ) (d : X) → i < length xs → AllByRecursion P xs → P (get_or xs i d)
-all_at P [] i d within all = absurd (omega (arith, within))
-all_at P (x ∷ xs) zero d within all = all.0
-all_at P (x ∷ xs) (suc i) d within all = all_at P xs i d (omega (arith, within)) all.1
 
 -- ---- the beginning
 

@@ -1,5 +1,5 @@
 -- What the calls of stations come to in a session.
-use Rattle.std.proofs.Common.{◌≡◌, ◌≢◌, ℕ, zero, suc, arith, sym, subst, ◌∙◌, ap, refl, length, ◌++◌, ◌∷◌, [], List, map, reverse, drop, Bool, Some, None, Option, Ok, Err, Result, true, false, slice_get, append-nil}
+use Rattle.std.proofs.Common.{◌≡◌, ◌≢◌, ℕ, zero, suc, arith, sym, subst, ◌∙◌, ap, refl, length, ◌++◌, ◌∷◌, [], List, map, reverse, drop, Bool, Some, None, Option, true, false, slice_get, append-nil}
 use Rattle.std.specs.Map.{lookup}
 use Rattle.std.specs.Ordering.{nat_cmp}
 use Rattle.std.specs.BTreeMap.{insert_entry, is_at}
@@ -36,11 +36,6 @@ use Rattle.rd_world.specs.Devices.{PrinterNames, printer_data}
 use Rattle.rd_world.specs.Run.{new_world}
 use Rattle.rd_world.specs.Step.{next_completion}
 use Rattle.rd_drive.specs.Planned.{Planned}
-use Rattle.rd_irp.specs.declared.op.Op.{Op}
-use Rattle.rd_pending.specs.declared.calls.SubmitNo.{SubmitNo}
-use Rattle.rd_pending.specs.declared.calls.Target.{Target}
-use Rattle.rd_pending.specs.Table as table
-use Rattle.rd_pending.specs.Table.{TableState}
 use Rattle.rd_printer.proofs.EntryLemmas.{lookup-inserted}
 use Rattle.rd_station.specs.declared.answers.Applied.{Applied}
 use Rattle.rd_world.specs.Keys.{MarksAgree, AgreesAt, station_journals}

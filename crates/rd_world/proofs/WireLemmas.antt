@@ -1,12 +1,11 @@
 -- What a run writes to its wire, step by step, and where a write fails in its midst.
-use Rattle.std.proofs.Common.{◌≡◌, ℕ, ◌+◌, ◌≤◌, List, [], ◌∷◌, ◌++◌, length, get_or, ◌<◌, take, drop, Bool, true, Option, Some, None, refl, sym, ap, ◌∙◌, subst, arith, append-nil, append_assoc}
+use Rattle.std.proofs.Common.{◌≡◌, ℕ, ◌+◌, List, [], ◌∷◌, ◌++◌, length, get_or, ◌<◌, take, drop, Bool, true, Option, Some, None, refl, sym, ap, ◌∙◌, subst, arith, append-nil, append_assoc}
 use Rattle.std.proofs.Math.Seq.{take-append-add}
 use Rattle.std.proofs.lemmas.List.{take-append-drop}
 use Rattle.std.proofs.KnownBytes.{Appends-nil, Appends-trans}
 use Rattle.std.specs.Io.KnownBytes.{Appends}
 use Rattle.std.specs.Prelude.{◌&&◌, codes, Result, Ok, Err, IfErr, IsErrAnd}
 use Rattle.std.specs.Option.{option_and_then, option_map}
-use Rattle.rd_base.specs.declared.journal.Item.{Item}
 use Rattle.rd_base.specs.declared.journal.Key.{Key}
 use Rattle.rd_base.specs.Prefixes.{AppendsPrefix}
 use Rattle.rd_script.specs.declared.line.Line.{Line}
@@ -14,7 +13,7 @@ use Rattle.rd_script.specs.declared.line.Line.TheVariants as line
 use Rattle.rd_script.specs.declared.line.NumberedLine.{NumberedLine}
 use Rattle.rd_world.specs.declared.event.StepNo.{StepNo}
 use Rattle.rd_world.specs.declared.event.StepNo.TheVariants as no
-use Rattle.rd_world.specs.Events.{act, drop_channel, drops, is_channel_open}
+use Rattle.rd_world.specs.Events.{drop_channel, drops, is_channel_open}
 use Rattle.rd_world.specs.Keys.{AreLonger, MarksAgree}
 use Rattle.rd_world.specs.Recording.{recording_of_deeds}
 use Rattle.rd_world.specs.Run.{Most, NextStep, asked_by, chosen, connects_on, controls, drawing, ends_session, plays, plays_line, settled, some_left, world_of}
@@ -81,7 +80,7 @@ breaks_after start held next w x y old new before fails =
       prefix = subst (λ (bytes : List ℕ). AppendsPrefix start next bytes) all (
         length before.written + n,
         subst (λ (bytes : List ℕ). Appends start next bytes) (sym (take-append-add before.written (new ++ fails.more) n))
-        (Appends-trans start held next before.written (take n (new ++ fails.more)) before.appended prefix),
+            (Appends-trans start held next before.written (take n (new ++ fails.more)) before.appended prefix),
       );
     }
 
@@ -239,12 +238,6 @@ cut_at_once held w old f goes stand = record {
   marked = marks_agree w.stations stand;
   passed = λ starves most x agrees is. (gone_to w (f starves most) x (goes starves most) is).recording;
 }
-
-pub counts_wanting : {T : Type 0} (r : Result T StepNo) (n : ℕ) → IfErr r (λ cause. cause ≡ no.Memory) → CountsWire r n n
-counts_wanting (Ok done) n wanting = refl
-counts_wanting (Err no.Wire) n wanting = absurd (cc wanting)
-counts_wanting (Err no.Memory) n wanting = refl
-counts_wanting (Err (no.Disabled e)) n wanting = absurd (cc wanting)
 
 pub counts_err : {T : Type 0} (r : Result T StepNo) (s : StepNo) (old mid new : ℕ) → IsErrAnd r (λ e. e ≡ s) → mid ≡ old → CountsWire {T = T} (Err s) mid new
     → CountsWire r old new

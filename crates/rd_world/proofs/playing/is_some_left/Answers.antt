@@ -1,4 +1,4 @@
-use Rattle.std.proofs.Common.{◌≡◌, ◌∙◌, Bool, ap, not}
+use Rattle.std.proofs.Common.{◌∙◌, Bool, ap, not}
 use Rattle.std.specs.Prelude.{◌&&◌}
 use Rattle.rd_world.specs.Left.{is_sent_in}
 use Rattle.rd_world.proofs.LeftLemmas.{told_left}

@@ -51,7 +51,7 @@ returns-in-Remove-clause-cut g c =
     any_cut _ c.or_memory.result (
       c.args.self.now,
       cut_at_once _ c.args.self.now c.args.recorder.now _ (λ starves most. controls_goes starves most c.args.self.now c.args.line.now.number c.args.line.now.line)
-      c.stand.ensures,
+          c.stand.ensures,
     )
 
 pub returns-in-Add-clause-cut : goal.returns-in-Add-clause-cut
@@ -59,7 +59,7 @@ returns-in-Add-clause-cut g c =
     any_cut _ c.or_memory-in-Add.result (
       c.args.self.now,
       cut_at_once _ c.args.self.now c.args.recorder.now _ (λ starves most. controls_goes starves most c.args.self.now c.args.line.now.number c.args.line.now.line)
-      c.stand.ensures,
+          c.stand.ensures,
     )
 
 pub returns-in-Drop-clause-cut : goal.returns-in-Drop-clause-cut
@@ -67,7 +67,7 @@ returns-in-Drop-clause-cut g c =
     any_cut _ c.or_memory-in-Drop.result (
       c.args.self.now,
       cut_at_once _ c.args.self.now c.args.recorder.now _ (λ starves most. controls_goes starves most c.args.self.now c.args.line.now.number c.args.line.now.line)
-      c.stand.ensures,
+          c.stand.ensures,
     )
 
 pub returns-in-Connect-clause-cut : goal.returns-in-Connect-clause-cut
@@ -75,7 +75,7 @@ returns-in-Connect-clause-cut g c =
     any_cut _ c.or_memory-in-Connect.result (
       c.args.self.now,
       cut_at_once _ c.args.self.now c.args.recorder.now _ (λ starves most. controls_goes starves most c.args.self.now c.args.line.now.number c.args.line.now.line)
-      c.stand.ensures,
+          c.stand.ensures,
     )
 
 pub returns-in-Do-clause-cut : goal.returns-in-Do-clause-cut
@@ -83,7 +83,7 @@ returns-in-Do-clause-cut g c =
     any_cut _ c.or_memory-in-Do.result (
       c.args.self.now,
       cut_at_once _ c.args.self.now c.args.recorder.now _ (λ starves most. controls_goes starves most c.args.self.now c.args.line.now.number c.args.line.now.line)
-      c.stand.ensures,
+          c.stand.ensures,
     )
 
 pub returns-in_default-clause-cut : goal.returns-in_default-clause-cut
@@ -91,5 +91,5 @@ returns-in_default-clause-cut g c =
     any_cut _ c.or_memory-in_default.result (
       c.args.self.now,
       cut_at_once _ c.args.self.now c.args.recorder.now _ (λ starves most. controls_goes starves most c.args.self.now c.args.line.now.number c.args.line.now.line)
-      c.stand.ensures,
+          c.stand.ensures,
     )

@@ -1,4 +1,4 @@
-use Rattle.std.proofs.Common.{arith, rules, sym, ◌∙◌}
+use Rattle.std.proofs.Common.{arith, rules}
 use Rattle.rd_world.proofs.LeftLemmas.{left_there, still_none}
 use Rattle.rd_world.proofs.world.World.is_left_waiting.Goals as goal
 

@@ -23,27 +23,26 @@ returns-in_err-play_line-clause-cut g c =
     any_cut _ c.from_residual.result (
       x.0,
       cut_line _ _ _ c.args.lines.now c.loop-line.line-index c.line-item.result c.args.self.now c.loop-line.self x.0 c.args.recorder.now c.loop-line.recorder
-      (search rules) c.line-item.is c.loop-line.invariant.played c.stand.ensures c.loop-line.invariant.stand c.loop-line.invariant.records x.1,
+          (search rules) c.line-item.is c.loop-line.invariant.played c.stand.ensures c.loop-line.invariant.stand c.loop-line.invariant.records x.1,
     )
 
 pub returns-then-is_err-clause-cut : goal.returns-then-is_err-clause-cut
 returns-then-is_err-clause-cut g c =
     let bad : is_err c.write_piece.result ≡ true = search rules in
     let records = records_then _ _ _ c.args.self.now c.loop-line.self c.play_line.new.self c.args.recorder.now c.loop-line.recorder c.play_line.new.recorder
-        c.loop-line.invariant.records c.in_ok-play_line.ensures.recorded in
+    c.loop-line.invariant.records c.in_ok-play_line.ensures.recorded in
     let played = plays_one c.args.lines.now c.loop-line.line-index c.line-item.result c.args.self.now c.loop-line.self c.play_line.new.self (search rules) c.line-item.is
-        c.loop-line.invariant.played c.loop-line.invariant.stand c.in_ok-play_line.ensures.played in
-    (
+    c.loop-line.invariant.played c.loop-line.invariant.stand c.in_ok-play_line.ensures.played in (
       c.play_line.new.self,
       cut_between _ _ _ c.args.lines.now _ c.args.self.now c.play_line.new.self c.args.recorder.now c.play_line.new.recorder played c.stand.ensures
-      c.stand-in-loop-line.ensures records (when_err _ c.write_piece.result bad c.write_piece.ensures.prefix),
+          c.stand-in-loop-line.ensures records (when_err _ c.write_piece.result bad c.write_piece.ensures.prefix),
     )
 
 pub loop-line-preserved : goal.loop-line-preserved
 loop-line-preserved g c =
     let written : is_err c.write_piece.result ≡ false = search rules in
     let records = records_then _ _ _ c.args.self.now c.loop-line.self c.play_line.new.self c.args.recorder.now c.loop-line.recorder c.play_line.new.recorder
-        c.loop-line.invariant.records c.in_ok-play_line.ensures.recorded in
+    c.loop-line.invariant.records c.in_ok-play_line.ensures.recorded in
     record {
       played = plays_one c.args.lines.now c.loop-line.line-index c.line-item.result c.args.self.now c.loop-line.self c.play_line.new.self (search rules) c.line-item.is
           c.loop-line.invariant.played c.loop-line.invariant.stand c.in_ok-play_line.ensures.played;

@@ -1,8 +1,7 @@
-use Rattle.std.proofs.Common.{◌≡◌, Bool, OnOk, Some, sym, ◌∙◌}
+use Rattle.std.proofs.Common.{sym, ◌∙◌}
 use Rattle.std.proofs.lemmas.Result.{on_ok_weaker}
-use Rattle.rd_base.specs.declared.journal.Key.{Key}
 use Rattle.rd_script.specs.declared.line.Line.TheVariants as lines
-use Rattle.rd_world.specs.Run.{Most, controls}
+use Rattle.rd_world.specs.Run.{controls}
 use Rattle.rd_world.proofs.PlayingLemmas.{any_most, connected_not}
 use Rattle.rd_world.proofs.world.World.reconnect.Goals as goal
 

@@ -52,12 +52,14 @@ returns-then-is_err-2-clause-cut g c =
     let marked = when_ok _ c.choose.result ok c.choose.ensures.marked in
     let step = next_step_of (device_ids c.draw.new.self) c.pick-choice.result in
     let drawn = one_draw _ _ _ _ c.choices-choices.result _ _ _ r.0 r.1 c.choices-choices.ensures.drawn c.choices-choices.ensures.kept c.count-count.ensures c.draw.ensures c.picked.ensures
-        c.pick-choice.ensures (when_ok _ c.choose.result ok c.choose.ensures.chosen) marked in
+    c.pick-choice.ensures (when_ok _ c.choose.result ok c.choose.ensures.chosen) marked in
     let longer = longer_trans _ _ _ c.settling.invariant.longer (drawn_longer _ _ c.choose.new.self step c.draw.ensures marked c.choices-choices.ensures.kept) in
     let records = records_draw _ _ _ _ c.draw.new.self c.choose.new.self step _ _ c.choose.new.recorder c.settling.invariant.records c.draw.ensures marked
-        (when_ok _ c.choose.result ok c.choose.ensures.recorded) in
-    (c.choose.new.self, cut_settling _ _ _ _ c.choose.new.self drawn.0 drawn.1 longer c.stand.ensures
-    (breaks_after _ _ _ _ _ _ _ _ records (breaks_here _ _ c.choose.new.self c.choose.new.recorder (when_err _ c.write_piece.result bad c.write_piece.ensures.prefix))))
+    (when_ok _ c.choose.result ok c.choose.ensures.recorded) in (
+      c.choose.new.self,
+      cut_settling _ _ _ _ c.choose.new.self drawn.0 drawn.1 longer c.stand.ensures
+          (breaks_after _ _ _ _ _ _ _ _ records (breaks_here _ _ c.choose.new.self c.choose.new.recorder (when_err _ c.write_piece.result bad c.write_piece.ensures.prefix))),
+    )
 
 pub settling-preserved : goal.settling-preserved
 settling-preserved g c =
@@ -67,7 +69,7 @@ settling-preserved g c =
     let marked = when_ok _ c.choose.result ok c.choose.ensures.marked in
     let step = next_step_of (device_ids c.draw.new.self) c.pick-choice.result in
     let records = records_draw _ _ _ _ c.draw.new.self c.choose.new.self step _ _ c.choose.new.recorder c.settling.invariant.records c.draw.ensures marked
-        (when_ok _ c.choose.result ok c.choose.ensures.recorded) in
+    (when_ok _ c.choose.result ok c.choose.ensures.recorded) in
     record {
       reached = one_draw _ _ _ _ c.choices-choices.result _ _ _ r.0 r.1 c.choices-choices.ensures.drawn c.choices-choices.ensures.kept c.count-count.ensures c.draw.ensures c.picked.ensures
           c.pick-choice.ensures (when_ok _ c.choose.result ok c.choose.ensures.chosen) marked;
