@@ -14,15 +14,11 @@ use Rattle.std.proofs.lemmas.List.Concat.{flat_map-cons}
 use Rattle.rd_base.specs.declared.journal.Item.{Item}
 use Rattle.rd_base.specs.History.{History}
 use Rattle.rd_drive.proofs.AllLemmas.{all_append, all_weaker}
-use Rattle.rd_pending.specs.declared.calls.Outcome as table_outcome
-use Rattle.rd_pending.specs.declared.calls.Outcome.TheVariants as settled
-use Rattle.rd_pending.specs.Known.{IsKnown}
 use Rattle.rd_script.specs.declared.outcome.Outcome.{Outcome}
 use Rattle.rd_script.specs.Report.{AreCountable, IsCountable, numbered_from}
 use Rattle.rd_station.specs.Station.{StationState}
 use Rattle.rd_world.specs.declared.device.SessionDevice.{SessionDevice}
 use Rattle.rd_world.specs.declared.device.SessionDevice.TheVariants as session
-use Rattle.rd_world.specs.Hearing.{reported_outcome}
 use Rattle.rd_world.specs.Report.{outcomes_under}
 use Rattle.rd_world.specs.Session.{by_device, journals_of, printed_in}
 use Rattle.rd_world.specs.World.{ApplicationState}

@@ -2,15 +2,8 @@
 use Rattle.std.proofs.Common.{◌≡◌, ◌≢◌, ◌⊎◌, ◌∙◌, refl, sym, ap, subst, inl, inr, ℕ, zero, suc, ◌&&◌, Bool, true, false, cond, not, List, [], ◌∷◌, ◌++◌, set, reverse, slice_get, map, Some, None, Option, arith, append-nil, append_assoc}
 use Rattle.std.specs.Prelude.{All, Contains, IsFalse, Ok, Err, Result, find, nat_le}
 use Rattle.std.specs.List.{AllByRecursion, AllZip, list_any, zip}
-use Rattle.std.specs.List.Sorted.{IsStrictlySortedBy}
-use Rattle.std.specs.Map.{keys_of, lookup}
 use Rattle.std.specs.Option.{option_map_or}
-use Rattle.std.specs.Ordering.{is_eq, match_ordering, nat_cmp}
-use Rattle.std.specs.declared.cmp.Ordering.{Ordering}
-use Rattle.std.specs.declared.cmp.Ordering.TheVariants.{Less, Equal, Greater}
-use Rattle.std.specs.BTreeMap.{insert_entry, is_at}
 use Rattle.std.proofs.lemmas.Bool.{cases_Bool, false≢true}
-use Rattle.std.proofs.lemmas.Bool.Decides.{nat_tests}
 use Rattle.std.proofs.lemmas.List.{reverse-reverse}
 use Rattle.std.proofs.lemmas.Option.{get_or_from_slice_get, slice_get_within}
 use Rattle.std.proofs.lemmas.List.Elements.{All-cons, All-contains, All-contains_itself, All-head, All-tail, All-weaker}
@@ -44,11 +37,10 @@ use Rattle.rd_station.proofs.Calls.{did_run, reached_kept}
 use Rattle.rd_station.proofs.Members.{find_has, from_contains, has_append, has_right, key_self, same_key, to_contains}
 use Rattle.rd_station.proofs.Remembering.{below_trans, below_true, came_named}
 use Rattle.rd_station.proofs.Requests.{all_less}
-use Rattle.rd_world.proofs.GrowingLemmas.{longer_self}
 use Rattle.rd_world.specs.Devices.{device_cuts, device_parked, device_runs, device_step}
 use Rattle.rd_world.specs.Events.{is_close}
 use Rattle.rd_world.specs.Keys.{MarksAgree, AgreesAt, AreBelow, AreLonger, AreUpTo, KeysApart, NamesAt, station_journals}
-use Rattle.rd_world.specs.Stations.{AreStations, DropsEach, DropsOne, IsReachedBy, StepsAt}
+use Rattle.rd_world.specs.Stations.{AreStations, DropsEach, DropsOne, IsReachedBy}
 use Rattle.rd_world.specs.Talk.{EachAfter, Has}
 use Rattle.rd_world.specs.World.{starved_in, starves_at}
 use Rattle.rd_world.specs.declared.device.SessionDevice.{SessionDevice}

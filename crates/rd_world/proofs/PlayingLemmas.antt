@@ -1,7 +1,6 @@
 -- A session's lines, one after the other, and what comes before and after them.
 use Rattle.std.proofs.Common.{◌≡◌, ◌≢◌, ◌<◌, ◌≤◌, ℕ, zero, suc, ◌+◌, List, [], ◌∷◌, ◌++◌, length, get_or, take, take-suc, Bool, true, false, Option, Some, None, refl, sym, ap, ◌∙◌, subst, arith}
 use Rattle.std.specs.Prelude.{◌&&◌, fold, map}
-use Rattle.std.specs.List.{AllByRecursion}
 use Rattle.std.specs.Option.{option_and_then, option_map, option_map_or}
 use Rattle.rd_base.specs.declared.journal.Key.{Key}
 use Rattle.rd_printer.specs.declared.notice.Notice.{Notice}

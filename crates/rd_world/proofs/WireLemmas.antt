@@ -12,7 +12,6 @@ use Rattle.rd_script.specs.declared.line.Line.{Line}
 use Rattle.rd_script.specs.declared.line.Line.TheVariants as line
 use Rattle.rd_script.specs.declared.line.NumberedLine.{NumberedLine}
 use Rattle.rd_world.specs.declared.event.StepNo.{StepNo}
-use Rattle.rd_world.specs.declared.event.StepNo.TheVariants as no
 use Rattle.rd_world.specs.Events.{drop_channel, drops, is_channel_open}
 use Rattle.rd_world.specs.Keys.{AreLonger, MarksAgree}
 use Rattle.rd_world.specs.Recording.{recording_of_deeds}
