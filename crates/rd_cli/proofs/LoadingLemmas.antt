@@ -9,7 +9,7 @@ use Rattle.rd_cli.specs.declared.stop.Stop.{Stop}
 use Rattle.rd_cli.specs.declared.stop.Stop.TheVariants as stop
 use Rattle.rd_cli.specs.Headline.{Played}
 use Rattle.rd_cli.specs.Outside.{IsFaultless, Stream}
-use Rattle.rd_cli.specs.Loading.{ComesOutOfLoad, FailedToSum, IsEndOfLoad, LoadedToEnd, StoppedLoading}
+use Rattle.rd_cli.specs.Loading.{ComesOutOfLoad, FailedToSummarize, IsEndOfLoad, LoadedToEnd, StoppedLoading}
 use Rattle.rd_cli.specs.Playing.{StopsForRecording}
 use Rattle.rd_cli.specs.Summary.{summary_of}
 use Rattle.rd_cli.specs.Stops.{Prints, StopsWith}
@@ -47,7 +47,7 @@ printed {T} number output output_after recording recording_after books script to
   where
     by : (r : Result T Stop) → Played (load_script number) recording recording_after books told → Prints (summary_of number told.lines.entries) output output_after r
         → ComesOutOfLoad number output output_after recording recording_after books r
-    by (Ok done) own prints = record { told = told; played = own; summed = prints }
+    by (Ok done) own prints = record { told = told; played = own; summarized = prints }
     by (Err stop.Output) own prints = record { told = told; played = own; failed = prints }
     by (Err stop.Memory) own prints = (ap (λ (o : Stream _). o.faults) prints, own.recorded.faultless)
     by (Err stop.Words) own prints = absurd prints
@@ -95,7 +95,7 @@ pub stopped_end : {K R : Type 0} (number : ℕ) (output middle output_after : St
 stopped_end number output middle output_after recording recording_after books stop.Recording status stopped said =
     unwritten_end number output output_after recording recording_after books status said.0 (inl (stopped.0, said.1 ∙ stopped.1, stopped.2))
 stopped_end number output middle output_after recording recording_after books stop.Output status stopped said =
-    unwritten_end number output output_after recording recording_after books status said.0 (inr (subst (λ (o : Stream _). FailedToSum number output o recording recording_after books) (sym said.1) stopped))
+    unwritten_end number output output_after recording recording_after books status said.0 (inr (subst (λ (o : Stream _). FailedToSummarize number output o recording recording_after books) (sym said.1) stopped))
 stopped_end number output middle output_after recording recording_after books stop.Memory status stopped said =
     starved_end number output output_after recording recording_after books status said.0 (ap (λ (o : Stream _). o.faults) said.1 ∙ stopped.0) stopped.1
 stopped_end number output middle output_after recording recording_after books stop.Words status stopped said = absurd stopped

@@ -15,10 +15,10 @@ use Rattle.rd_cli.specs.declared.stop.Stop.TheVariants as stop
 pub record LoadedToEnd {K R : Type 0} (number : ℕ) (output output_after : Stream K) (recording recording_after : Stream R) (books : List (ℕ × History)) : Type 0 where
   pub told : Outcomes
   pub played : Played (load_script number) recording recording_after books told
-  pub summed : Wrote output output_after (summary_of number told.lines.entries)
+  pub summarized : Wrote output output_after (summary_of number told.lines.entries)
 
 -- The output failed, after the load was played and recorded: a prefix of the summary was written.
-pub record FailedToSum {K R : Type 0} (number : ℕ) (output output_after : Stream K) (recording recording_after : Stream R) (books : List (ℕ × History)) : Type 0 where
+pub record FailedToSummarize {K R : Type 0} (number : ℕ) (output output_after : Stream K) (recording recording_after : Stream R) (books : List (ℕ × History)) : Type 0 where
   pub told : Outcomes
   pub played : Played (load_script number) recording recording_after books told
   pub failed : FailedToWrite output output_after (summary_of number told.lines.entries)
@@ -28,7 +28,7 @@ abbrev pub StoppedLoading : {K R : Type 0} → ℕ → (output output_after : St
 StoppedLoading number output output_after recording recording_after books stop.Recording =
     FailedToRecord (load_script number) recording recording_after × (output_after ≡ output) × (books ≡ [])
 StoppedLoading number output output_after recording recording_after books stop.Output =
-    FailedToSum number output output_after recording recording_after books
+    FailedToSummarize number output output_after recording recording_after books
 StoppedLoading number output output_after recording recording_after books stop.Memory =
     IsFaultless output output_after × IsFaultless recording recording_after
 StoppedLoading number output output_after recording recording_after books _ = ⊥
