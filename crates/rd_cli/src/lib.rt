@@ -13,6 +13,7 @@ mod both;
 mod decoding;
 mod ending;
 mod forms;
+mod idle_notes;
 mod input;
 mod laws;
 mod load;
