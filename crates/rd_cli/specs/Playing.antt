@@ -41,8 +41,9 @@ pub record IsPlayable (script : Script) : Type 0 where
   pub numbered : AreNumbered script.lines
   pub notable : AreNotable script.lines
 
--- The recording failed in the midst of the script's session, at this world: a prefix of the world's recording was written, and one fault was counted. Wherever
--- a session of the script ends in which the same runs found no memory as in this world, its recording goes on from the world's.
+-- The recording failed, and the session of the script stopped early. Of a world, the last that is known, a prefix of its recording was written; and wherever the
+-- script's session ends, if the runs in that world's journals found no memory just where these say so, its recording goes on from that world's. One fault was
+-- counted.
 pub record FailedToRecord {R : Type 0} (script : Script) (before after : Stream R) : Type 0 where
   pub world : WorldState
   pub cut : IsCutRun before.bytes after.bytes script.lines world
@@ -54,8 +55,8 @@ pub record FailedToReport {S K R : Type 0} (script : Script) (before after : Out
   pub played : Played script before.recording after.recording books told
   pub failed : FailedToWrite before.output after.output (report_of script told books)
 
--- Memory ran out in the midst of the script's session, at this world: of what was written, and of where sessions of the script go on, the same holds as
--- where the recording failed. No fault was counted, and no journal was stored.
+-- Memory ran out, and the session of the script stopped early: of a world, the last that is known, the same holds as where the recording failed. No fault was
+-- counted, and no journal was stored.
 pub record StarvedInSession {R : Type 0} (script : Script) (before after : Stream R) (books : List (ℕ × History)) : Type 0 where
   pub world : WorldState
   pub cut : IsCutRun before.bytes after.bytes script.lines world
@@ -68,7 +69,7 @@ pub record StarvedAfterSession {R : Type 0} (script : Script) (before after : St
   pub run : WorldRun script.lines world
   pub recorded : Wrote before after (recording_of_deeds world.deeds)
 
--- Memory ran out in the midst of the script's session, or after its end.
+-- Memory ran out before the script's session came to its end, or after that.
 abbrev pub StarvedPlaying : {R : Type 0} → Script → (before after : Stream R) → List (ℕ × History) → Type 0
 StarvedPlaying script before after books = StarvedInSession script before after books ⊎ StarvedAfterSession script before after
 
@@ -76,7 +77,8 @@ StarvedPlaying script before after books = StarvedInSession script before after 
 abbrev pub IsUnplayed : {R : Type 0} → (before after : Stream R) → List (ℕ × History) → Type 0
 IsUnplayed before after books = (after ≡ before) × (books ≡ [])
 
--- Memory ran out before any fault, and nothing was printed: before a script was played, or in the midst of the session of one, or after its end.
+-- Memory ran out before any fault, and nothing was printed. Nothing was recorded then; or the input was read and is a script, whose session stopped early, or
+-- came to its end.
 pub record Starved {S K R : Type 0} (before after : Outside S K R) (books : List (ℕ × History)) : Type 0 where
   pub faultless : AreFaultless before after
   pub unprinted : after.output ≡ before.output
