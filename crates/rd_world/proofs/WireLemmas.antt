@@ -17,14 +17,14 @@ use Rattle.rd_world.specs.declared.event.StepNo.TheVariants as no
 use Rattle.rd_world.specs.Events.{act, drop_channel, drops, is_channel_open}
 use Rattle.rd_world.specs.Keys.{AreLonger, MarksAgree}
 use Rattle.rd_world.specs.Recording.{recording_of_deeds}
-use Rattle.rd_world.specs.Run.{Most, NextStep, asked_by, chosen, controls, drawing, ends_session, plays, plays_line, settled, some_left, world_of}
+use Rattle.rd_world.specs.Run.{Most, NextStep, asked_by, chosen, connects_on, controls, drawing, ends_session, plays, plays_line, settled, some_left, world_of}
 use Rattle.rd_world.specs.Stations.{AreStations}
 use Rattle.rd_world.specs.Step.{recorded_by, recorded_next}
-use Rattle.rd_world.specs.Wire.{Breaks, CountsWire, GoesOn, IsCut, IsCutRun, IsPassed, OnWire, Records, StaysRecorded}
+use Rattle.rd_world.specs.Wire.{Breaks, CountsWire, GoesOn, IsCut, IsCutRun, IsPassed, Records, StaysRecorded}
 use Rattle.rd_world.specs.World.{Asked, WorldState, journals_in, marks_of}
 use Rattle.rd_world.proofs.FuelLemmas.{ComesTo, Steady, both, first_within, second_within, plays_more, plays_one_more, settled_more}
-use Rattle.rd_world.proofs.GoingLemmas.{GoesTo, ends_session_goes, goes_longer, goes_on_same, goes_on_then, gone_to, plays_goes, settled_goes}
-use Rattle.rd_world.proofs.GrowingLemmas.{acted_longer, longer_trans}
+use Rattle.rd_world.proofs.GoingLemmas.{GoesTo, connects_on_goes, ends_session_goes, goes_longer, goes_on_same, goes_on_then, gone_to, plays_goes, settled_goes}
+use Rattle.rd_world.proofs.GrowingLemmas.{acted_longer, longer_self, longer_trans}
 use Rattle.rd_world.proofs.KeysLemmas.{agrees_before, marks_agree}
 use Rattle.rd_world.proofs.PlayingLemmas.{PlaysTo, Running, begins_from, control_line, longer_line, nothing_done, played_from, run_from, steady_begins, steady_played, steady_run, steady_still, still_from}
 use Rattle.rd_world.proofs.RoundsLemmas.{event_stays, stays_same}
@@ -98,6 +98,17 @@ breaks_here start held w old prefix = record {
   more = [];
   recorded = sym (append-nil (recording_of_deeds w.deeds));
   prefix = subst (λ (bytes : List ℕ). AppendsPrefix start held bytes) (sym (append-nil old)) prefix;
+}
+
+-- by what was written before
+pub breaks_before : (start held : Option (List ℕ)) (w x : WorldState) (old new : List ℕ) → Records start held w old x new → Breaks start held w old x
+breaks_before start held w x old new records = record {
+  more = records.more;
+  recorded = records.recorded;
+  prefix = subst (λ (bytes : List ℕ). AppendsPrefix start held bytes) records.parts (
+    length records.written + 0,
+    subst (λ (bytes : List ℕ). Appends start held bytes) (sym (take-append-add records.written new 0 ∙ append-nil records.written)) records.appended,
+  );
 }
 
 -- of a session from its beginning on
@@ -209,25 +220,25 @@ came_longer f w x goes (most, comes) stand_before stand =
     let here : f (marks_of x) most ≡ Some x = comes (marks_of x) (marks_agree x.stations stand) in
     goes_longer w x (gone_to w (f (marks_of x) most) x (goes (marks_of x) most) here) stand_before.rise
 
--- ---- a write that fails
+-- ---- an early end
 
--- where nothing but a want of memory ends it
-pub no_wire : {T : Type 0} (P : Type 0) (r : Result T StepNo) → IfErr r (λ cause. cause ≡ no.Memory) → OnWire r P
-no_wire P (Ok done) wanting = tt
-no_wire P (Err no.Wire) wanting = absurd (cc wanting)
-no_wire P (Err no.Memory) wanting = tt
-no_wire P (Err (no.Disabled e)) wanting = tt
+pub cut_weaker : {T : Type 0} (P Q : Type 0) (r : Result T StepNo) → (P → Q) → IfErr r (λ cause. P) → IfErr r (λ cause. Q)
+cut_weaker P Q (Ok done) weaker p = tt
+cut_weaker P Q (Err cause) weaker p = weaker p
 
-pub on_wire_weaker : {T : Type 0} (P Q : Type 0) (r : Result T StepNo) → (P → Q) → OnWire r P → OnWire r Q
-on_wire_weaker P Q (Ok done) weaker p = tt
-on_wire_weaker P Q (Err no.Wire) weaker p = weaker p
-on_wire_weaker P Q (Err no.Memory) weaker p = tt
-on_wire_weaker P Q (Err (no.Disabled e)) weaker p = tt
+pub any_cut : {T : Type 0} (P : Type 0) (r : Result T StepNo) → P → IfErr r (λ cause. P)
+any_cut P (Ok done) p = tt
+any_cut P (Err cause) p = p
 
--- an error that goes on
-pub on_wire_err : {T : Type 0} (P Q : Type 0) (r : Result T StepNo) (s : StepNo) → IsErrAnd r (λ e. e ≡ s) → (P → Q) → OnWire {T = T} (Err s) P → OnWire r Q
-on_wire_err P Q (Ok done) s is weaker p = absurd is
-on_wire_err {T} P Q (Err e) s is weaker p = on_wire_weaker {T = T} P Q (Err e) weaker (subst (λ (t : StepNo). OnWire {T = T} (Err t) P) (sym is) p)
+-- nothing was written since
+pub cut_at_once : (held : Option (List ℕ)) (w : WorldState) (old : List ℕ) (f : Running) → ((starves : Key → Bool) (most : Most) → GoesTo w (f starves most)) → AreStations w.stations
+    → IsCut held held w old f w
+cut_at_once held w old f goes stand = record {
+  breaks = breaks_here held held w old (0, Appends-nil held);
+  longer = longer_self (journals_in w);
+  marked = marks_agree w.stations stand;
+  passed = λ starves most x agrees is. (gone_to w (f starves most) x (goes starves most) is).recording;
+}
 
 pub counts_wanting : {T : Type 0} (r : Result T StepNo) (n : ℕ) → IfErr r (λ cause. cause ≡ no.Memory) → CountsWire r n n
 counts_wanting (Ok done) n wanting = refl
@@ -375,3 +386,13 @@ module _ (start : Option (List ℕ)) (lines : List NumberedLine) (w : WorldState
   written_all held next x new records appended =
       records_whole start next w x old
       (records_then start held next w x x old new [] records (records_piece held next x new [] (new, sym (append-nil new), appended))) first
+
+  -- at its very beginning
+  pub cut_at_first : (stand : AreStations w.stations) → w ≡ world_of lines → IsCutRun start start lines w
+  cut_at_first stand is = record {
+    prefix = (0, Appends-nil start);
+    marked = marks_agree w.stations stand;
+    passed = played_on w (passed_before (begins_from lines) (λ starves most. plays starves most lines) w (λ starves most. plays_goes starves most lines)
+        (λ starves most x agrees comes.
+        (gone_to w (connects_on starves most w) x (connects_on_goes starves most w) (ap (connects_on starves most) is ∙ comes)).recording));
+  }

@@ -19,11 +19,6 @@ CountsWire (Err no.Wire) old new = new ≡ one_more old
 CountsWire (Err no.Memory) old new = new ≡ old
 CountsWire (Err (no.Disabled e)) old new = ⊥
 
--- this holds where a write failed
-abbrev pub OnWire : {T : Type 0} → Result T StepNo → Type 0 → Type 0
-OnWire (Err no.Wire) P = P
-OnWire r P = Unit {0}
-
 -- A session went on from one world to another: a recorder got what its recording got.
 abbrev pub StaysRecorded : WorldState → List ℕ → WorldState → List ℕ → Type 0
 StaysRecorded w old x new = (more : List ℕ) × (recording_of_deeds x.deeds ≡ recording_of_deeds w.deeds ++ more) × (new ≡ old ++ more)
@@ -48,21 +43,21 @@ IsPassed f x = (starves : Key → Bool) (most : Most) (w : WorldState) → Marks
 abbrev pub AreMarked : WorldState → Type 0
 AreMarked w = MarksAgree (marks_of w) (journals_in w)
 
--- A write failed when a session had come from one world to another: a prefix of what the recorder held and got was written.
+-- A session stopped when it had come from one world to another: a prefix of what the recorder held and got was written.
 pub record Breaks (start held : Option (List ℕ)) (w : WorldState) (old : List ℕ) (x : WorldState) : Type 0 where
   pub more : List ℕ
   pub recorded : recording_of_deeds x.deeds ≡ recording_of_deeds w.deeds ++ more
   pub prefix : AppendsPrefix start held (old ++ more)
 
--- A write failed in the midst of this, when it had come to this world.
+-- It stopped in the midst of this: the last world that is known is this one.
 pub record IsCut (start held : Option (List ℕ)) (w : WorldState) (old : List ℕ) (f : (Key → Bool) → Most → Option WorldState) (x : WorldState) : Type 0 where
   pub breaks : Breaks start held w old x
   pub longer : AreLonger (journals_in w) (journals_in x)
   pub marked : AreMarked x
   pub passed : IsPassed f x
 
--- A write failed in the midst of the session of a script's lines, at this world: a prefix of what was recorded by then was written, and wherever that
--- session ends, if the runs so far found no memory of which the journals say so, its recording goes on from there.
+-- The session of a script's lines stopped early, and the last world that is known is this one: a prefix of what was recorded by then was written, and
+-- wherever that session ends, if the runs so far found no memory of which the journals say so, its recording goes on from there.
 pub record IsCutRun (start held : Option (List ℕ)) (lines : List NumberedLine) (x : WorldState) : Type 0 where
   pub prefix : AppendsPrefix start held (recording_of_deeds x.deeds)
   pub marked : AreMarked x

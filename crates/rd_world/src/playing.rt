@@ -18,8 +18,8 @@ ghost use Rattle.rd_world.specs.Recording.{recording_of_deeds};
 ghost use Rattle.rd_world.specs.Run.{Most, WorldRun, by_event, connects_on, controls, ends_session, idles, is_left_parked, notice_of, plays, plays_line, queueing, some_left, world_of};
 ghost use Rattle.rd_world.specs.Stations.{AreStations};
 ghost use Rattle.rd_world.specs.Step.{MayHappen, event_in};
-ghost use Rattle.rd_world.specs.Wire.{CountsWire, IsCut, IsCutRun, OnWire, Records, StaysRecorded};
-ghost use Rattle.rd_world.specs.World.{journals_in};
+ghost use Rattle.rd_world.specs.Wire.{CountsWire, IsCut, IsCutRun, Records, StaysRecorded};
+ghost use Rattle.rd_world.specs.World.{WorldState, journals_in};
 
 use crate::asking::application_of;
 use crate::event::{Event, StepNo};
@@ -207,8 +207,9 @@ impl<'s> World<'s> {
         ensures controlled { OnOk result ((most : Most) × ((starves : Key → Bool) → MarksAgree starves (journals_in self.new) → controls starves most self.old line.now.number line.now.line ≡ Some self.new)) }
         ensures counted { CountsWire result (R.faults wire.old) (R.faults wire.new) }
         ensures recorded { OnOk result (Records (R.held wire.old) (R.held wire.new) self.old recorder.old self.new recorder.new) }
-        ensures cut { OnWire result (IsCut (R.held wire.old) (R.held wire.new) self.old recorder.old (λ starves most. controls starves most self.old line.now.number line.now.line) self.new) }
+        ensures cut { IfErr result (λ cause. (x : WorldState) × IsCut (R.held wire.old) (R.held wire.new) self.old recorder.old (λ starves most. controls starves most self.old line.now.number line.now.line) x) }
     {
+        self.stand();
         let number = line.number;
         match &line.line {
             Line::Settle => self.settle(recorder, wire),
@@ -248,8 +249,9 @@ impl<'s> World<'s> {
         ensures played { OnOk result ((most : Most) × ((starves : Key → Bool) → MarksAgree starves (journals_in self.new) → plays_line starves most self.old line.now ≡ Some self.new)) }
         ensures counted { CountsWire result (R.faults wire.old) (R.faults wire.new) }
         ensures recorded { OnOk result (Records (R.held wire.old) (R.held wire.new) self.old recorder.old self.new recorder.new) }
-        ensures cut { OnWire result (IsCut (R.held wire.old) (R.held wire.new) self.old recorder.old (λ starves most. plays_line starves most self.old line.now) self.new) }
+        ensures cut { IfErr result (λ cause. (x : WorldState) × IsCut (R.held wire.old) (R.held wire.new) self.old recorder.old (λ starves most. plays_line starves most self.old line.now) x) }
     {
+        self.stand();
         match application_of(&line.line) {
             Some(a) => self.queue(a),
             None => self.control(line, recorder, wire),
@@ -277,7 +279,7 @@ impl<'s> World<'s> {
         ensures kept { OnOk result (AreStations self.new.stations) }
         ensures counted { CountsWire result (R.faults wire.old) (R.faults wire.new) }
         ensures recorded { OnOk result (Records (R.held wire.old) (R.held wire.new) self.old recorder.old self.new recorder.new) }
-        ensures cut { OnWire result (IsCut (R.held wire.old) (R.held wire.new) self.old recorder.old (λ starves most. plays starves most lines.now self.old) self.new) }
+        ensures cut { IfErr result (λ cause. (x : WorldState) × IsCut (R.held wire.old) (R.held wire.new) self.old recorder.old (λ starves most. plays starves most lines.now self.old) x) }
     {
         self.stand();
         for line in lines {
@@ -295,7 +297,7 @@ impl<'s> World<'s> {
         ensures ended { OnOk result ((most : Most) × ((starves : Key → Bool) → MarksAgree starves (journals_in self.new) → ends_session starves most self.old ≡ Some self.new)) }
         ensures counted { CountsWire result (R.faults wire.old) (R.faults wire.new) }
         ensures recorded { OnOk result (Records (R.held wire.old) (R.held wire.new) self.old recorder.old self.new recorder.new) }
-        ensures cut { OnWire result (IsCut (R.held wire.old) (R.held wire.new) self.old recorder.old (λ starves most. ends_session starves most self.old) self.new) }
+        ensures cut { IfErr result (λ cause. (x : WorldState) × IsCut (R.held wire.old) (R.held wire.new) self.old recorder.old (λ starves most. ends_session starves most self.old) x) }
     {
         self.stand();
         match self.is_left_waiting() {
@@ -322,9 +324,10 @@ impl<'s> World<'s> {
         requires empty { recorder.old ≡ codes "RDRREC01" }
         ensures ran { OnOk result (WorldRun lines.now self.new) }
         ensures recorded { OnOk result (Appends (R.held wire.old) (R.held wire.new) (recording_of_deeds self.new.deeds)) }
-        ensures cut { OnWire result (IsCutRun (R.held wire.old) (R.held wire.new) lines.now self.new) }
+        ensures cut { IfErr result (λ cause. (x : WorldState) × IsCutRun (R.held wire.old) (R.held wire.new) lines.now x) }
         ensures counted { CountsWire result (R.faults wire.old) (R.faults wire.new) }
     {
+        self.stand();
         if self.begin(recorder).is_err() {
             return Err(StepNo::Memory);
         }

@@ -2,7 +2,7 @@
 //!
 //! Cost: a draw counts the set bits of five words, and picks by one of them; no application, device or hand is walked over.
 
-ghost use Rattle.std.specs.Prelude.{◌≡◌, ◌+◌, ◌++◌, ◌<◌, ◌≤◌, ℕ, Bool, true, length, map, max, min, OnOk, Some};
+ghost use Rattle.std.specs.Prelude.{◌≡◌, ◌+◌, ◌++◌, ◌<◌, ◌≤◌, ℕ, Bool, true, length, map, max, min, IfErr, OnOk, Some};
 ghost use Rattle.rd_base.specs.declared.journal.Key.{Key};
 ghost use Rattle.std.specs.List.{AllByRecursion};
 ghost use Rattle.rd_world.specs.Choices.{choices_in};
@@ -12,8 +12,8 @@ ghost use Rattle.rd_world.specs.Keys.{MarksAgree};
 ghost use Rattle.rd_world.specs.Run.{choices, chosen, device_ids, drawing, drawn_count, picked, settled};
 ghost use Rattle.rd_world.specs.Stations.{AreStations};
 ghost use Rattle.rd_world.specs.Step.{recorded_next};
-ghost use Rattle.rd_world.specs.Wire.{AreMarked, CountsWire, IsCut, OnWire, Records};
-ghost use Rattle.rd_world.specs.World.{having_read, journals_in, marks_of};
+ghost use Rattle.rd_world.specs.Wire.{AreMarked, CountsWire, IsCut, Records};
+ghost use Rattle.rd_world.specs.World.{WorldState, having_read, journals_in, marks_of};
 
 use crate::bits::Bits;
 use crate::choices::{Choice, Choices};
@@ -135,7 +135,7 @@ impl<'s> World<'s> {
         ensures marked { OnOk result (AreMarked self.new) }
         ensures counted { CountsWire result (R.faults wire.old) (R.faults wire.new) }
         ensures recorded { OnOk result (Records (R.held wire.old) (R.held wire.new) self.old recorder.old self.new recorder.new) }
-        ensures cut { OnWire result (IsCut (R.held wire.old) (R.held wire.new) self.old recorder.old (λ starves most. settled starves most.draws self.old) self.new) }
+        ensures cut { IfErr result (λ cause. (x : WorldState) × IsCut (R.held wire.old) (R.held wire.new) self.old recorder.old (λ starves most. settled starves most.draws self.old) x) }
     {
         'settling: for _ in 0..u64::MAX {
             let choices = self.choices();
@@ -153,6 +153,7 @@ impl<'s> World<'s> {
                 return Err(StepNo::Wire);
             }
         }
+        self.stand();
         Err(StepNo::Memory)
     }
 }

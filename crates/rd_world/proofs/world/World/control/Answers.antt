@@ -1,7 +1,8 @@
 use Rattle.std.proofs.lemmas.Result.{on_ok_weaker}
 use Rattle.rd_base.proofs.ResultLemmas.{of_on_ok}
+use Rattle.rd_world.proofs.GoingLemmas.{controls_goes}
 use Rattle.rd_world.proofs.PlayingLemmas.{adds_line, drops_line, errand_line, removes_line, settles_line, told_line}
-use Rattle.rd_world.proofs.WireLemmas.{cut_settle, on_wire_weaker}
+use Rattle.rd_world.proofs.WireLemmas.{any_cut, cut_at_once, cut_settle, cut_weaker}
 use Rattle.rd_world.proofs.world.World.control.Goals as goal
 
 pub returns-in-Settle-clause-controlled : goal.returns-in-Settle-clause-controlled
@@ -42,5 +43,53 @@ returns-in_default-clause-controlled g c =
 
 pub returns-in-Settle-clause-cut : goal.returns-in-Settle-clause-cut
 returns-in-Settle-clause-cut g c =
-    on_wire_weaker _ _ c.settle.result
-    (λ cut. cut_settle _ _ c.args.self.now c.args.recorder.now c.settle.new.self c.args.line.now.number c.args.line.now.line c.in-Settle.is cut) c.settle.ensures.cut
+    cut_weaker _ _ c.settle.result
+    (λ x. (x.0, cut_settle _ _ c.args.self.now c.args.recorder.now x.0 c.args.line.now.number c.args.line.now.line c.in-Settle.is x.1)) c.settle.ensures.cut
+
+pub returns-in-Remove-clause-cut : goal.returns-in-Remove-clause-cut
+returns-in-Remove-clause-cut g c =
+    any_cut _ c.or_memory.result (
+      c.args.self.now,
+      cut_at_once _ c.args.self.now c.args.recorder.now _ (λ starves most. controls_goes starves most c.args.self.now c.args.line.now.number c.args.line.now.line)
+      c.stand.ensures,
+    )
+
+pub returns-in-Add-clause-cut : goal.returns-in-Add-clause-cut
+returns-in-Add-clause-cut g c =
+    any_cut _ c.or_memory-in-Add.result (
+      c.args.self.now,
+      cut_at_once _ c.args.self.now c.args.recorder.now _ (λ starves most. controls_goes starves most c.args.self.now c.args.line.now.number c.args.line.now.line)
+      c.stand.ensures,
+    )
+
+pub returns-in-Drop-clause-cut : goal.returns-in-Drop-clause-cut
+returns-in-Drop-clause-cut g c =
+    any_cut _ c.or_memory-in-Drop.result (
+      c.args.self.now,
+      cut_at_once _ c.args.self.now c.args.recorder.now _ (λ starves most. controls_goes starves most c.args.self.now c.args.line.now.number c.args.line.now.line)
+      c.stand.ensures,
+    )
+
+pub returns-in-Connect-clause-cut : goal.returns-in-Connect-clause-cut
+returns-in-Connect-clause-cut g c =
+    any_cut _ c.or_memory-in-Connect.result (
+      c.args.self.now,
+      cut_at_once _ c.args.self.now c.args.recorder.now _ (λ starves most. controls_goes starves most c.args.self.now c.args.line.now.number c.args.line.now.line)
+      c.stand.ensures,
+    )
+
+pub returns-in-Do-clause-cut : goal.returns-in-Do-clause-cut
+returns-in-Do-clause-cut g c =
+    any_cut _ c.or_memory-in-Do.result (
+      c.args.self.now,
+      cut_at_once _ c.args.self.now c.args.recorder.now _ (λ starves most. controls_goes starves most c.args.self.now c.args.line.now.number c.args.line.now.line)
+      c.stand.ensures,
+    )
+
+pub returns-in_default-clause-cut : goal.returns-in_default-clause-cut
+returns-in_default-clause-cut g c =
+    any_cut _ c.or_memory-in_default.result (
+      c.args.self.now,
+      cut_at_once _ c.args.self.now c.args.recorder.now _ (λ starves most. controls_goes starves most c.args.self.now c.args.line.now.number c.args.line.now.line)
+      c.stand.ensures,
+    )

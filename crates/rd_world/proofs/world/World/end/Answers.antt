@@ -3,9 +3,10 @@ use Rattle.std.specs.Prelude.{◌&&◌, is_err}
 use Rattle.std.proofs.lemmas.Result.{on_ok_weaker}
 use Rattle.rd_world.specs.Events.{drops, is_channel_open}
 use Rattle.rd_world.specs.Run.{some_left}
+use Rattle.rd_world.proofs.GoingLemmas.{ends_session_goes}
 use Rattle.rd_world.proofs.PlayingLemmas.{ended_dropped, ended_still}
 use Rattle.rd_world.proofs.SettlingLemmas.{when_ok}
-use Rattle.rd_world.proofs.WireLemmas.{cut_ending, dropped_records, on_wire_weaker, records_none}
+use Rattle.rd_world.proofs.WireLemmas.{cut_at_once, cut_ending, cut_weaker, dropped_records, records_none}
 use Rattle.rd_world.proofs.world.World.end.Goals as goal
 
 pub returns-else-is_err : goal.returns-else-is_err
@@ -20,8 +21,8 @@ returns-else-is_err g c =
       recorded = on_ok_weaker c.settle.result
           (λ records. dropped_records _ _ c.args.self.now c.drop_channel.new.self c.settle.new.self c.args.recorder.now c.drop_channel.new.recorder _ dropped added records)
           c.settle.ensures.recorded;
-      cut = on_wire_weaker _ _ c.settle.result
-          (λ cut. cut_ending _ _ c.args.self.now c.drop_channel.new.self c.settle.new.self c.args.recorder.now c.drop_channel.new.recorder left dropped added c.stand.ensures cut)
+      cut = cut_weaker _ _ c.settle.result
+          (λ x. (x.0, cut_ending _ _ c.args.self.now c.drop_channel.new.self x.0 c.args.recorder.now c.drop_channel.new.recorder left dropped added c.stand.ensures x.1))
           c.settle.ensures.cut;
     }
 
@@ -34,3 +35,15 @@ returns-in-Ok-false g c =
       recorded = records_none (g.R.Sink.held c.args.wire.now) c.args.self.now c.args.recorder.now;
       cut = tt;
     }
+
+pub returns-then-is_err-clause-cut : goal.returns-then-is_err-clause-cut
+returns-then-is_err-clause-cut g c = (
+  c.args.self.now,
+  cut_at_once _ c.args.self.now c.args.recorder.now _ (λ starves most. ends_session_goes starves most c.args.self.now) c.stand.ensures,
+)
+
+pub returns-in-Err-clause-cut : goal.returns-in-Err-clause-cut
+returns-in-Err-clause-cut g c = (
+  c.args.self.now,
+  cut_at_once _ c.args.self.now c.args.recorder.now _ (λ starves most. ends_session_goes starves most c.args.self.now) c.stand.ensures,
+)

@@ -2,7 +2,7 @@ use Rattle.std.proofs.Common.{rules, ◌≡◌, ◌∙◌, false, true, refl}
 use Rattle.std.specs.Prelude.{is_err}
 use Rattle.rd_world.proofs.PlayingLemmas.{plays_all, plays_none, plays_one}
 use Rattle.rd_world.proofs.SettlingLemmas.{counts_none, when_err, when_ok}
-use Rattle.rd_world.proofs.WireLemmas.{counts_err, cut_between, cut_line, on_wire_err, records_none, records_piece, records_then}
+use Rattle.rd_world.proofs.WireLemmas.{any_cut, counts_err, cut_between, cut_line, records_none, records_piece, records_then}
 use Rattle.rd_world.proofs.world.World.play.Goals as goal
 
 pub loop-line-init : goal.loop-line-init
@@ -19,10 +19,12 @@ returns-in_err-play_line-clause-counted g c =
 
 pub returns-in_err-play_line-clause-cut : goal.returns-in_err-play_line-clause-cut
 returns-in_err-play_line-clause-cut g c =
-    on_wire_err _ _ _ c.in_err-play_line.field-0.0 c.from_residual.ensures.1
-    (λ cut. cut_line _ _ _ c.args.lines.now c.loop-line.line-index c.line-item.result c.args.self.now c.loop-line.self c.play_line.new.self c.args.recorder.now c.loop-line.recorder
-    (search rules) c.line-item.is c.loop-line.invariant.played c.stand.ensures c.loop-line.invariant.stand c.loop-line.invariant.records cut)
-    c.in_err-play_line.ensures.cut
+    let x = c.in_err-play_line.ensures.cut in
+    any_cut _ c.from_residual.result (
+      x.0,
+      cut_line _ _ _ c.args.lines.now c.loop-line.line-index c.line-item.result c.args.self.now c.loop-line.self x.0 c.args.recorder.now c.loop-line.recorder
+      (search rules) c.line-item.is c.loop-line.invariant.played c.stand.ensures c.loop-line.invariant.stand c.loop-line.invariant.records x.1,
+    )
 
 pub returns-then-is_err-clause-cut : goal.returns-then-is_err-clause-cut
 returns-then-is_err-clause-cut g c =
@@ -31,8 +33,11 @@ returns-then-is_err-clause-cut g c =
         c.loop-line.invariant.records c.in_ok-play_line.ensures.recorded in
     let played = plays_one c.args.lines.now c.loop-line.line-index c.line-item.result c.args.self.now c.loop-line.self c.play_line.new.self (search rules) c.line-item.is
         c.loop-line.invariant.played c.loop-line.invariant.stand c.in_ok-play_line.ensures.played in
-    cut_between _ _ _ c.args.lines.now _ c.args.self.now c.play_line.new.self c.args.recorder.now c.play_line.new.recorder played c.stand.ensures
-    c.stand-in-loop-line.ensures records (when_err _ c.write_piece.result bad c.write_piece.ensures.prefix)
+    (
+      c.play_line.new.self,
+      cut_between _ _ _ c.args.lines.now _ c.args.self.now c.play_line.new.self c.args.recorder.now c.play_line.new.recorder played c.stand.ensures
+      c.stand-in-loop-line.ensures records (when_err _ c.write_piece.result bad c.write_piece.ensures.prefix),
+    )
 
 pub loop-line-preserved : goal.loop-line-preserved
 loop-line-preserved g c =

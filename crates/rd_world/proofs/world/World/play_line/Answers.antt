@@ -4,9 +4,10 @@ use Rattle.std.proofs.lemmas.Result.{on_ok_weaker}
 use Rattle.rd_world.specs.Recording.{recording_of_deeds}
 use Rattle.rd_world.specs.Run.{asked_by}
 use Rattle.rd_world.specs.World.{Asked, WorldState}
+use Rattle.rd_world.proofs.GoingLemmas.{plays_line_goes}
 use Rattle.rd_world.proofs.PlayingLemmas.{queues_line}
 use Rattle.rd_world.proofs.RoundsLemmas.{stays_same}
-use Rattle.rd_world.proofs.WireLemmas.{cut_control, on_wire_weaker, records_stays}
+use Rattle.rd_world.proofs.WireLemmas.{any_cut, cut_at_once, cut_control, cut_weaker, records_stays}
 use Rattle.rd_world.proofs.world.World.play_line.Goals as goal
 
 pub returns-in-Some-clause-played : goal.returns-in-Some-clause-played
@@ -25,4 +26,11 @@ returns-in-Some-clause-recorded g c =
 pub returns-in-None-clause-cut : goal.returns-in-None-clause-cut
 returns-in-None-clause-cut g c =
     let asks : None ≡ option_map (λ (e : ℕ × Asked). e.0) (asked_by c.args.line.now.line) = sym c.in-None.is ∙ c.application_of.ensures in
-    on_wire_weaker _ _ c.control.result (λ cut. cut_control _ _ c.args.self.now c.args.recorder.now c.control.new.self c.args.line.now asks cut) c.control.ensures.cut
+    cut_weaker _ _ c.control.result (λ x. (x.0, cut_control _ _ c.args.self.now c.args.recorder.now x.0 c.args.line.now asks x.1)) c.control.ensures.cut
+
+pub returns-in-Some-clause-cut : goal.returns-in-Some-clause-cut
+returns-in-Some-clause-cut g c =
+    any_cut _ c.queue.result (
+      c.args.self.now,
+      cut_at_once _ c.args.self.now c.args.recorder.now _ (λ starves most. plays_line_goes starves most c.args.self.now c.args.line.now) c.stand.ensures,
+    )

@@ -6,7 +6,7 @@ use Rattle.rd_world.specs.World.{journals_in}
 use Rattle.rd_world.proofs.KeysLemmas.{marks_agree}
 use Rattle.rd_world.proofs.GrowingLemmas.{longer_self, longer_trans}
 use Rattle.rd_world.proofs.SettlingLemmas.{counts_none, drawn_can, drawn_longer, drawn_placed, one_draw, settled_here, when_err, when_ok}
-use Rattle.rd_world.proofs.WireLemmas.{breaks_after, breaks_here, cut_settling, records_draw, records_none, records_piece, records_then}
+use Rattle.rd_world.proofs.WireLemmas.{breaks_after, breaks_before, breaks_here, cut_settling, records_draw, records_none, records_piece, records_then}
 use Rattle.rd_world.proofs.world.World.settle.Goals as goal
 
 pub settling-init : goal.settling-init
@@ -34,6 +34,16 @@ choose-requires-clause-can g c = drawn_can _ _ c.choices-choices.result _ _ c.ch
 pub choose-requires-clause-placed : goal.choose-requires-clause-placed
 choose-requires-clause-placed g c = drawn_placed _ _ c.choices-choices.result _ _ c.choices-choices.ensures.placed c.draw.ensures c.pick-choice.ensures
 
+pub returns-then-is_err-clause-cut : goal.returns-then-is_err-clause-cut
+returns-then-is_err-clause-cut g c =
+    let i = c.settling.invariant in
+    (c.settling.self, cut_settling _ _ _ _ c.settling.self (i.reached).0 (i.reached).1 i.longer c.choices-choices.ensures.kept (breaks_before _ _ _ _ _ _ i.records))
+
+pub returns-clause-cut : goal.returns-clause-cut
+returns-clause-cut g c =
+    let i = c.settling.invariant in
+    (c.settling.self, cut_settling _ _ _ _ c.settling.self (i.reached).0 (i.reached).1 i.longer c.stand-2.ensures (breaks_before _ _ _ _ _ _ i.records))
+
 pub returns-then-is_err-2-clause-cut : goal.returns-then-is_err-2-clause-cut
 returns-then-is_err-2-clause-cut g c =
     let ok : is_err c.choose.result ≡ false = search rules in
@@ -46,8 +56,8 @@ returns-then-is_err-2-clause-cut g c =
     let longer = longer_trans _ _ _ c.settling.invariant.longer (drawn_longer _ _ c.choose.new.self step c.draw.ensures marked c.choices-choices.ensures.kept) in
     let records = records_draw _ _ _ _ c.draw.new.self c.choose.new.self step _ _ c.choose.new.recorder c.settling.invariant.records c.draw.ensures marked
         (when_ok _ c.choose.result ok c.choose.ensures.recorded) in
-    cut_settling _ _ _ _ c.choose.new.self drawn.0 drawn.1 longer c.stand.ensures
-    (breaks_after _ _ _ _ _ _ _ _ records (breaks_here _ _ c.choose.new.self c.choose.new.recorder (when_err _ c.write_piece.result bad c.write_piece.ensures.prefix)))
+    (c.choose.new.self, cut_settling _ _ _ _ c.choose.new.self drawn.0 drawn.1 longer c.stand.ensures
+    (breaks_after _ _ _ _ _ _ _ _ records (breaks_here _ _ c.choose.new.self c.choose.new.recorder (when_err _ c.write_piece.result bad c.write_piece.ensures.prefix))))
 
 pub settling-preserved : goal.settling-preserved
 settling-preserved g c =
