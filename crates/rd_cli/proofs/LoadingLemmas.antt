@@ -1,5 +1,5 @@
 -- How the command `load` ends, from how it came out.
-use Rattle.std.proofs.Common.{◌≡◌, ◌∙◌, ℕ, List, refl, sym, ap, subst, inl, inr, arith}
+use Rattle.std.proofs.Common.{◌≡◌, ◌∙◌, ℕ, List, refl, sym, subst, inl, inr, arith}
 use Rattle.std.specs.Prelude.{◌⊎◌, Result, Ok, Err, IsErrAnd}
 use Rattle.rd_base.specs.History.{History}
 use Rattle.rd_script.specs.declared.outcome.Outcomes.{Outcomes}
@@ -8,9 +8,10 @@ use Rattle.rd_script.specs.Load.{load_script}
 use Rattle.rd_cli.specs.declared.stop.Stop.{Stop}
 use Rattle.rd_cli.specs.declared.stop.Stop.TheVariants as stop
 use Rattle.rd_cli.specs.Headline.{Played}
-use Rattle.rd_cli.specs.Outside.{IsFaultless, Stream}
-use Rattle.rd_cli.specs.Loading.{ComesOutOfLoad, FailedToSum, IsEndOfLoad, LoadedToEnd, StoppedLoading}
-use Rattle.rd_cli.specs.Playing.{StopsForRecording}
+use Rattle.rd_cli.specs.Outside.{Stream}
+use Rattle.rd_cli.specs.Loading.{ComesOutOfLoad, FailedToSummarize, IsEndOfLoad, LoadedToEnd, StoppedLoading}
+use Rattle.rd_cli.specs.Playing.{IsUnplayed, StarvedPlaying, StopsForRecording}
+use Rattle.rd_cli.proofs.PlayingLemmas.{played_starved}
 use Rattle.rd_cli.specs.Summary.{summary_of}
 use Rattle.rd_cli.specs.Stops.{Prints, StopsWith}
 
@@ -25,7 +26,7 @@ stopped_with number output output_after recording recording_after books (Err e) 
 stopped_script : {K R : Type 0} (number : ℕ) (output : Stream K) (recording recording_after : Stream R) (books : List (ℕ × History)) (s : Stop)
     → StopsForRecording (load_script number) recording recording_after books s → StoppedLoading number output output recording recording_after books s
 stopped_script number output recording recording_after books stop.Recording (failed, none) = (failed, refl, none)
-stopped_script number output recording recording_after books stop.Memory faultless = (refl, faultless)
+stopped_script number output recording recording_after books stop.Memory starved = (refl, starved)
 stopped_script number output recording recording_after books stop.Words other = absurd other
 stopped_script number output recording recording_after books (stop.Line line cause) other = absurd other
 stopped_script number output recording recording_after books stop.Input other = absurd other
@@ -47,9 +48,9 @@ printed {T} number output output_after recording recording_after books script to
   where
     by : (r : Result T Stop) → Played (load_script number) recording recording_after books told → Prints (summary_of number told.lines.entries) output output_after r
         → ComesOutOfLoad number output output_after recording recording_after books r
-    by (Ok done) own prints = record { told = told; played = own; summed = prints }
+    by (Ok done) own prints = record { told = told; played = own; summarized = prints }
     by (Err stop.Output) own prints = record { told = told; played = own; failed = prints }
-    by (Err stop.Memory) own prints = (ap (λ (o : Stream _). o.faults) prints, own.recorded.faultless)
+    by (Err stop.Memory) own prints = (prints, inr (inr (played_starved (load_script number) recording recording_after books told own)))
     by (Err stop.Words) own prints = absurd prints
     by (Err (stop.Line line cause)) own prints = absurd prints
     by (Err stop.Input) own prints = absurd prints
@@ -68,14 +69,14 @@ loaded_end number output output_after recording recording_after books loaded = r
   starved = λ six. absurd (omega (arith, six));
 }
 
--- What counted no fault may end with 6.
+-- Want of memory ends with 6.
 pub starved_end : {K R : Type 0} (number : ℕ) (output output_after : Stream K) (recording recording_after : Stream R) (books : List (ℕ × History)) (status : ℕ) → status ≡ 6
-    → IsFaultless output output_after → IsFaultless recording recording_after → IsEndOfLoad number output output_after recording recording_after books status
-starved_end number output output_after recording recording_after books status is silent unrecorded = record {
+    → output_after ≡ output → IsUnplayed recording recording_after books ⊎ StarvedPlaying (load_script number) recording recording_after books → IsEndOfLoad number output output_after recording recording_after books status
+starved_end number output output_after recording recording_after books status is silent starved = record {
   known = inr (inr is);
   played = λ zero. absurd (omega (arith, zero, is));
   unwritten = λ three. absurd (omega (arith, three, is));
-  starved = λ six. (silent, unrecorded);
+  starved = λ six. (silent, starved);
 }
 
 -- a failed write ends with 3
@@ -95,9 +96,9 @@ pub stopped_end : {K R : Type 0} (number : ℕ) (output middle output_after : St
 stopped_end number output middle output_after recording recording_after books stop.Recording status stopped said =
     unwritten_end number output output_after recording recording_after books status said.0 (inl (stopped.0, said.1 ∙ stopped.1, stopped.2))
 stopped_end number output middle output_after recording recording_after books stop.Output status stopped said =
-    unwritten_end number output output_after recording recording_after books status said.0 (inr (subst (λ (o : Stream _). FailedToSum number output o recording recording_after books) (sym said.1) stopped))
+    unwritten_end number output output_after recording recording_after books status said.0 (inr (subst (λ (o : Stream _). FailedToSummarize number output o recording recording_after books) (sym said.1) stopped))
 stopped_end number output middle output_after recording recording_after books stop.Memory status stopped said =
-    starved_end number output output_after recording recording_after books status said.0 (ap (λ (o : Stream _). o.faults) said.1 ∙ stopped.0) stopped.1
+    starved_end number output output_after recording recording_after books status said.0 (said.1 ∙ stopped.0) stopped.1
 stopped_end number output middle output_after recording recording_after books stop.Words status stopped said = absurd stopped
 stopped_end number output middle output_after recording recording_after books (stop.Line line cause) status stopped said = absurd stopped
 stopped_end number output middle output_after recording recording_after books stop.Input status stopped said = absurd stopped

@@ -10,15 +10,17 @@ use Rattle.rd_script.specs.declared.script.Script.{Script}
 use Rattle.rd_script.specs.Report.{report_of}
 use Rattle.rd_script.specs.declared.keyword.Mode.TheVariants as mode
 use Rattle.rd_script.specs.Script.{BadLine, max_bytes, script_of}
+use Rattle.rd_world.specs.Recording.{recording_of_deeds}
+use Rattle.rd_world.specs.Talk.{Deed}
 use Rattle.rd_world.proofs.DeclaredLemmas.{scripts_are_declared, scripts_are_notable}
 use Rattle.rd_world.proofs.NumberedLemmas.{scripts_are_numbered}
 use Rattle.rd_cli.proofs.LimitLemmas.{script_cut, script_short}
 use Rattle.rd_cli.specs.declared.stop.Stop.{Stop}
 use Rattle.rd_cli.specs.declared.stop.Stop.TheVariants as stop
-use Rattle.rd_cli.specs.Outside.{AreFaultless, IsFaultless, Outside, Read, ReadToEnd, Stream}
+use Rattle.rd_cli.specs.Outside.{IsFaultless, Outside, Read, ReadToEnd, Stream, Wrote}
 use Rattle.rd_cli.specs.Headline.{Played, PlayedToEnd}
 use Rattle.rd_cli.specs.Stops.{Prints, StopsWith}
-use Rattle.rd_cli.specs.Playing.{ComesOutOfBoth, IsEndOfBoth, FailedToReport, GivesBadLine, GivesScript, HasRead, IsPlayable, ReadsBadLine, ReadsScript, RefusesScript, StoppedPlaying, StopsForRecording}
+use Rattle.rd_cli.specs.Playing.{ComesOutOfBoth, IsEndOfBoth, FailedToReport, GivesBadLine, GivesScript, HasRead, IsPlayable, ReadsBadLine, ReadsScript, RefusesScript, Starved, StarvedAfterSession, StarvedPlaying, StoppedPlaying, StopsForRecording}
 
 -- what holds of the one error that a result may be
 pub err_is : {T E : Type 0} (r : Result T E) (e : E) (P : E → Type 0) → IsErrAnd r (λ s. s ≡ e) → P e → IfErr r P
@@ -39,12 +41,46 @@ script_playable text script is =
 pub read_whole : {S : Type 0} (before after : Stream S) (text : List ℕ) (script : Script) → Read before after text → (length text ≤ max_bytes → IsAtEnd after.bytes) → script_of mode.Both text ≡ Ok script → ReadsScript before after script
 read_whole before after text script read whole is = record { text = text; read = record { read = read; ended = whole (script_short mode.Both text script is) }; script_is = is }
 
+-- want of memory before a script was played
+pub starved_unplayed : {S K R : Type 0} (before after : Outside S K R) (books : List (ℕ × History)) → IsFaultless before.input after.input → after.output ≡ before.output → after.recording ≡ before.recording → books ≡ [] → Starved before after books
+starved_unplayed before after books input silent unrecorded unstored = record {
+  faultless = record { input = input; output = ap (λ (o : Stream _). o.faults) silent; recording = ap (λ (o : Stream _). o.faults) unrecorded };
+  unprinted = silent;
+  recording = inl (unrecorded, unstored);
+}
+
+-- want of memory in the midst of a session or after it counted no fault
+starved_faultless : {R : Type 0} (before after : Stream R) (books : List (ℕ × History)) (script : Script) → StarvedPlaying script before after books → IsFaultless before after
+starved_faultless before after books script (inl cut) = cut.faultless
+starved_faultless before after books script (inr ended) = ended.recorded.faultless
+
+-- want of memory while a script was played that was read, or after that
+starved_playing : {S K R : Type 0} (before after : Outside S K R) (books : List (ℕ × History)) (script : Script) → ReadsScript before.input after.input script → after.output ≡ before.output
+    → StarvedPlaying script before.recording after.recording books → Starved before after books
+starved_playing before after books script reads silent starved = record {
+  faultless = record {
+    input = reads.read.read.faultless;
+    output = ap (λ (o : Stream _). o.faults) silent;
+    recording = starved_faultless before.recording after.recording books script starved;
+  };
+  unprinted = silent;
+  recording = inr (script, reads, starved);
+}
+
+-- Memory ran out after the session of a script that was played.
+pub played_starved : {R : Type 0} (script : Script) (before after : Stream R) (books : List (ℕ × History)) (told : Outcomes) → Played script before after books told → StarvedAfterSession script before after
+played_starved script before after books told played = record {
+  world = played.run.world;
+  run = played.run.run;
+  recorded = subst (λ (deeds : List Deed). Wrote before after (recording_of_deeds deeds)) (sym played.run.did) played.recorded;
+}
+
 -- a stop of the playing of a script that was read
 pub stopped_playing : {S K R : Type 0} (before after : Outside S K R) (books : List (ℕ × History)) (script : Script) (s : Stop) → ReadsScript before.input after.input script → after.output ≡ before.output
     → StopsForRecording script before.recording after.recording books s → StoppedPlaying before after books s
 stopped_playing before after books script stop.Recording reads silent (failed, none) = (script, reads, failed, silent, none)
-stopped_playing before after books script stop.Memory reads silent faultless =
-    record { input = reads.read.read.faultless; output = ap (λ (o : Stream _). o.faults) silent; recording = faultless }
+stopped_playing before after books script stop.Memory reads silent (inl unplayed) = starved_unplayed before after books reads.read.read.faultless silent unplayed.0 unplayed.1
+stopped_playing before after books script stop.Memory reads silent (inr starved) = starved_playing before after books script reads silent starved
 stopped_playing before after books script stop.Words reads silent other = absurd other
 stopped_playing before after books script (stop.Line line cause) reads silent other = absurd other
 stopped_playing before after books script stop.Input reads silent other = absurd other
@@ -59,7 +95,7 @@ printed before after books script told (Ok done) reads played prints =
     record { text = reads.text; script = script; told = told; read = reads.read; script_is = reads.script_is; played = played; reported = prints }
 printed before after books script told (Err stop.Output) reads played prints = (script, reads, record { told = told; played = played; failed = prints })
 printed before after books script told (Err stop.Memory) reads played prints =
-    record { input = reads.read.read.faultless; output = ap (λ (o : Stream _). o.faults) prints; recording = played.recorded.faultless }
+    starved_playing before after books script reads prints (inr (played_starved script before.recording after.recording books told played))
 printed before after books script told (Err stop.Words) reads played prints = absurd prints
 printed before after books script told (Err (stop.Line line cause)) reads played prints = absurd prints
 printed before after books script told (Err stop.Input) reads played prints = absurd prints
@@ -112,15 +148,15 @@ played_end before after books played = record {
   completes = λ script. inl refl;
 }
 
--- What counted no fault may end with 6.
-pub starved_end : {S K R : Type 0} (before after : Outside S K R) (books : List (ℕ × History)) (status : ℕ) → status ≡ 6 → AreFaultless before after → IsEndOfBoth before after books status
-starved_end before after books status is faultless = record {
+-- Want of memory ends with 6.
+pub starved_end : {S K R : Type 0} (before after : Outside S K R) (books : List (ℕ × History)) (status : ℕ) → status ≡ 6 → Starved before after books → IsEndOfBoth before after books status
+starved_end before after books status is starved = record {
   known = inr (inr (inr (inr is)));
   played = λ zero. absurd (omega (arith, zero, is));
   refused = λ one. absurd (omega (arith, one, is));
   unread = λ two. absurd (omega (arith, two, is));
   unwritten = λ three. absurd (omega (arith, three, is));
-  starved = λ six. faultless;
+  starved = λ six. starved;
   refuses = λ bad gives. inr (inr is);
   completes = λ script. inr (inr (inr is));
 }
@@ -169,15 +205,17 @@ unwritten_end before after books status script is reads stopped = record {
 abbrev pub with_output : {S K R : Type 0} → Outside S K R → Stream K → Outside S K R
 with_output o output = record { input = o.input; output = output; recording = o.recording }
 
--- faults of an outside whose output is still the same
-still_faultless : {S K R : Type 0} (before middle : Outside S K R) (output : Stream K) → AreFaultless before middle → output ≡ middle.output → AreFaultless before (with_output middle output)
-still_faultless before middle output faultless same =
-    record { input = faultless.input; output = ap (λ (o : Stream _). o.faults) same ∙ faultless.output; recording = faultless.recording }
-
--- nothing was touched but an input, which counted no fault
-untouched_faultless : {S K R : Type 0} (before after : Outside S K R) → IsFaultless before.input after.input → after.output ≡ before.output → after.recording ≡ before.recording → AreFaultless before after
-untouched_faultless before after input output recording =
-    record { input = input; output = ap (λ (o : Stream _). o.faults) output; recording = ap (λ (o : Stream _). o.faults) recording }
+-- want of memory, where the output is still the same
+still_starved : {S K R : Type 0} (before middle : Outside S K R) (output : Stream K) (books : List (ℕ × History)) → Starved before middle books → output ≡ middle.output → Starved before (with_output middle output) books
+still_starved before middle output books starved same = record {
+  faultless = record {
+    input = starved.faultless.input;
+    output = ap (λ (o : Stream _). o.faults) same ∙ starved.faultless.output;
+    recording = starved.faultless.recording;
+  };
+  unprinted = same ∙ starved.unprinted;
+  recording = starved.recording;
+}
 
 -- A refused line, which is said, or can't be put together.
 line_end : {S K R : Type 0} (before middle : Outside S K R) (output : Stream K) (books : List (ℕ × History)) (bad : BadLine) (status : ℕ) → ReadsBadLine before.input middle.input bad → middle.output ≡ before.output → middle.recording ≡ before.recording → books ≡ []
@@ -186,7 +224,7 @@ line_end before middle output books bad status reads silent unrecorded unstored 
     let says = subst (λ (o : Stream _). StopsWith (stop.Line bad.line bad.why) o output 1) silent (inl (refl, said.1)) in
     refused_end before (with_output middle output) books status said.0 (record { bad = bad; reads = reads; says = says; unrecorded = unrecorded; unstored = unstored })
 line_end before middle output books bad status reads silent unrecorded unstored (inr starved) =
-    starved_end before (with_output middle output) books status starved.0 (untouched_faultless before (with_output middle output) reads.1.read.faultless (starved.1 ∙ silent) unrecorded)
+    starved_end before (with_output middle output) books status starved.0 (starved_unplayed before (with_output middle output) books reads.1.read.faultless (starved.1 ∙ silent) unrecorded unstored)
 
 -- How the command ends, from how it stopped and what was said of it.
 pub stopped_end : {S K R : Type 0} (before middle : Outside S K R) (output : Stream K) (books : List (ℕ × History)) (s : Stop) (status : ℕ)
@@ -198,7 +236,7 @@ stopped_end before middle output books stop.Recording status stopped said =
 stopped_end before middle output books stop.Output status stopped said =
     let report = subst (λ (o : Stream _). FailedToReport stopped.0 before (with_output middle o) books) (sym said.1) stopped.2 in
     unwritten_end before (with_output middle output) books status stopped.0 said.0 stopped.1 (inr (stopped.0, stopped.1, report))
-stopped_end before middle output books stop.Memory status stopped said = starved_end before (with_output middle output) books status said.0 (still_faultless before middle output stopped said.1)
+stopped_end before middle output books stop.Memory status stopped said = starved_end before (with_output middle output) books status said.0 (still_starved before middle output books stopped said.1)
 stopped_end before middle output books stop.Words status stopped said = absurd stopped
 stopped_end before middle output books (stop.Fault fault) status stopped said = absurd stopped
 stopped_end before middle output books stop.Long status stopped said = absurd stopped

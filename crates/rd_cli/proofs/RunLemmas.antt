@@ -1,5 +1,5 @@
 -- How a run ends whose words came to no command.
-use Rattle.std.proofs.Common.{◌≡◌, ◌∙◌, ℕ, List, [], ◌∷◌, length, get_or, refl, sym, ap, subst, inr, arith}
+use Rattle.std.proofs.Common.{◌≡◌, ◌∙◌, ℕ, List, [], ◌∷◌, length, get_or, refl, sym, ap, subst, inl, inr, arith}
 use Rattle.std.specs.Prelude.{codes}
 use Rattle.std.proofs.lemmas.Fmt.{decimal_injective}
 use Rattle.rd_base.specs.History.{History}
@@ -11,17 +11,17 @@ use Rattle.rd_cli.specs.declared.words.Command.{Command}
 use Rattle.rd_cli.specs.declared.words.Command.TheVariants as command
 use Rattle.rd_cli.specs.declared.stop.Stop.{Stop}
 use Rattle.rd_cli.specs.declared.stop.Stop.TheVariants as stop
-use Rattle.rd_cli.proofs.PlayingLemmas.{starved_end, with_output}
+use Rattle.rd_cli.proofs.PlayingLemmas.{starved_end, starved_unplayed, with_output}
 use Rattle.rd_cli.proofs.DecodingLemmas as decoding
 use Rattle.rd_cli.proofs.LoadingLemmas as loading
 
 -- want of memory, before anything was touched, may end each command
 starved : {S K R : Type 0} (before : Outside S K R) (output : Stream K) (books : List (ℕ × History)) (status : ℕ) → status ≡ 6 → output ≡ before.output → books ≡ [] → (c : Command) → EndsCommand c before (with_output before output) books status
 starved before output books status is silent unstored command.Both =
-    starved_end before (with_output before output) books status is (record { input = refl; output = ap (λ (o : Stream _). o.faults) silent; recording = refl })
+    starved_end before (with_output before output) books status is (starved_unplayed before (with_output before output) books refl silent refl unstored)
 starved before output books status is silent unstored command.Decode = (decoding.starved_end before.input before.input before.output output status is (decoding.untouched before.input before.output output silent), refl, unstored)
 starved before output books status is silent unstored (command.Load number) =
-    (loading.starved_end number before.output output before.recording before.recording books status is (ap (λ (o : Stream _). o.faults) silent) refl, refl)
+    (loading.starved_end number before.output output before.recording before.recording books status is silent (inl (refl, unstored)), refl)
 
 -- How a run ends, from why its words came to no command and what was said of it.
 pub no_command : {S K R : Type 0} (words : List (List ℕ)) (before : Outside S K R) (output : Stream K) (books : List (ℕ × History)) (s : Stop) (status : ℕ)

@@ -18,7 +18,7 @@ EndsCommand command.Decode before after books status = IsEndOfDecode before.inpu
 EndsCommand (command.Load number) before after books status =
     IsEndOfLoad number before.output after.output before.recording after.recording books status × (after.input ≡ before.input)
 
--- Words that are no command are refused, which the output says, and nothing else was touched; or memory ran out before it was said.
+-- Words that are no command are refused, and nothing but the output was touched. It says so, unless the write of that failed or memory ran out before.
 pub record RefusesWords {S K R : Type 0} (before after : Outside S K R) (books : List (ℕ × History)) (status : ℕ) : Type 0 where
   pub says : StopsWith stop.Words before.output after.output status
   pub unread : after.input ≡ before.input

@@ -1,4 +1,4 @@
--- What holds of a session of a script that came to its end: how its script, its recording, its journals and its report belong together.
+-- What a session of a script that came to its end leaves: the script's session comes to journals, outcomes and deeds, and the recording is that of the deeds.
 use Rattle.std.specs.Prelude.{◌≡◌, ℕ, List, Ok}
 use Rattle.rd_base.specs.History.{History}
 use Rattle.rd_script.specs.declared.keyword.Mode.TheVariants as mode

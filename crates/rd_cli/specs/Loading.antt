@@ -4,9 +4,9 @@ use Rattle.std.specs.Prelude.{◌≡◌, ℕ, ◌⊎◌, List, [], Result, Ok, E
 use Rattle.rd_base.specs.History.{History}
 use Rattle.rd_script.specs.declared.outcome.Outcomes.{Outcomes}
 use Rattle.rd_script.specs.Load.{load_script}
-use Rattle.rd_cli.specs.Outside.{FailedToWrite, IsFaultless, Stream, Wrote}
+use Rattle.rd_cli.specs.Outside.{FailedToWrite, Stream, Wrote}
 use Rattle.rd_cli.specs.Headline.{Played}
-use Rattle.rd_cli.specs.Playing.{FailedToRecord}
+use Rattle.rd_cli.specs.Playing.{FailedToRecord, IsUnplayed, StarvedPlaying}
 use Rattle.rd_cli.specs.Summary.{summary_of}
 use Rattle.rd_cli.specs.declared.stop.Stop.{Stop}
 use Rattle.rd_cli.specs.declared.stop.Stop.TheVariants as stop
@@ -15,10 +15,10 @@ use Rattle.rd_cli.specs.declared.stop.Stop.TheVariants as stop
 pub record LoadedToEnd {K R : Type 0} (number : ℕ) (output output_after : Stream K) (recording recording_after : Stream R) (books : List (ℕ × History)) : Type 0 where
   pub told : Outcomes
   pub played : Played (load_script number) recording recording_after books told
-  pub summed : Wrote output output_after (summary_of number told.lines.entries)
+  pub summarized : Wrote output output_after (summary_of number told.lines.entries)
 
 -- The output failed, after the load was played and recorded: a prefix of the summary was written.
-pub record FailedToSum {K R : Type 0} (number : ℕ) (output output_after : Stream K) (recording recording_after : Stream R) (books : List (ℕ × History)) : Type 0 where
+pub record FailedToSummarize {K R : Type 0} (number : ℕ) (output output_after : Stream K) (recording recording_after : Stream R) (books : List (ℕ × History)) : Type 0 where
   pub told : Outcomes
   pub played : Played (load_script number) recording recording_after books told
   pub failed : FailedToWrite output output_after (summary_of number told.lines.entries)
@@ -28,9 +28,9 @@ abbrev pub StoppedLoading : {K R : Type 0} → ℕ → (output output_after : St
 StoppedLoading number output output_after recording recording_after books stop.Recording =
     FailedToRecord (load_script number) recording recording_after × (output_after ≡ output) × (books ≡ [])
 StoppedLoading number output output_after recording recording_after books stop.Output =
-    FailedToSum number output output_after recording recording_after books
+    FailedToSummarize number output output_after recording recording_after books
 StoppedLoading number output output_after recording recording_after books stop.Memory =
-    IsFaultless output output_after × IsFaultless recording recording_after
+    (output_after ≡ output) × (IsUnplayed recording recording_after books ⊎ StarvedPlaying (load_script number) recording recording_after books)
 StoppedLoading number output output_after recording recording_after books _ = ⊥
 
 -- How the command came out: it came to its end, or it stopped.
@@ -47,5 +47,5 @@ pub record IsEndOfLoad {K R : Type 0} (number : ℕ) (output output_after : Stre
   -- 3: the first fault was the recording's, or the output's
   pub unwritten : status ≡ 3
       → StoppedLoading number output output_after recording recording_after books stop.Recording ⊎ StoppedLoading number output output_after recording recording_after books stop.Output
-  -- 6: memory ran out before any fault
+  -- 6: memory ran out before any fault, and nothing was printed
   pub starved : status ≡ 6 → StoppedLoading number output output_after recording recording_after books stop.Memory

@@ -10,9 +10,11 @@ use Rattle.rd_script.specs.Script.{BadLine, max_bytes, script_of}
 use Rattle.rd_world.specs.Applications.{AreNumbered}
 use Rattle.rd_world.specs.Noting.{AreNotable}
 use Rattle.rd_world.specs.Opening.{AreDeclared}
+use Rattle.rd_world.specs.Recording.{recording_of_deeds}
+use Rattle.rd_world.specs.Run.{WorldRun}
 use Rattle.rd_world.specs.Wire.{IsCutRun}
 use Rattle.rd_world.specs.World.{WorldState}
-use Rattle.rd_cli.specs.Outside.{AreFaultless, FailedToWrite, HasOneFault, IsFaultless, Outside, Read, ReadToEnd, Stream}
+use Rattle.rd_cli.specs.Outside.{AreFaultless, FailedToWrite, HasOneFault, IsFaultless, Outside, Read, ReadToEnd, Stream, Wrote}
 use Rattle.rd_cli.specs.Headline.{Played, PlayedToEnd}
 use Rattle.rd_cli.specs.Stops.{StopsWith}
 use Rattle.rd_cli.specs.declared.stop.Stop.{Stop}
@@ -39,7 +41,9 @@ pub record IsPlayable (script : Script) : Type 0 where
   pub numbered : AreNumbered script.lines
   pub notable : AreNotable script.lines
 
--- The recording failed: the script's session was cut off when it had come to this world. A prefix of its recording was written, and one fault was counted.
+-- The recording failed, and the session of the script stopped early. Of a world, the last that is known, a prefix of its recording was written; and wherever the
+-- script's session ends, if the runs in that world's journals found no memory just where these say so, its recording goes on from that world's. One fault was
+-- counted.
 pub record FailedToRecord {R : Type 0} (script : Script) (before after : Stream R) : Type 0 where
   pub world : WorldState
   pub cut : IsCutRun before.bytes after.bytes script.lines world
@@ -51,6 +55,36 @@ pub record FailedToReport {S K R : Type 0} (script : Script) (before after : Out
   pub played : Played script before.recording after.recording books told
   pub failed : FailedToWrite before.output after.output (report_of script told books)
 
+-- Memory ran out, and the session of the script stopped early: of a world, the last that is known, the same holds as where the recording failed. No fault was
+-- counted, and no journal was stored.
+pub record StarvedInSession {R : Type 0} (script : Script) (before after : Stream R) (books : List (ℕ × History)) : Type 0 where
+  pub world : WorldState
+  pub cut : IsCutRun before.bytes after.bytes script.lines world
+  pub faultless : IsFaultless before after
+  pub unstored : books ≡ []
+
+-- Memory ran out after the script's session had come to its end, in this world: its recording was written whole, with no fault.
+pub record StarvedAfterSession {R : Type 0} (script : Script) (before after : Stream R) : Type 0 where
+  pub world : WorldState
+  pub run : WorldRun script.lines world
+  pub recorded : Wrote before after (recording_of_deeds world.deeds)
+
+-- Memory ran out before the script's session came to its end, or after that.
+abbrev pub StarvedPlaying : {R : Type 0} → Script → (before after : Stream R) → List (ℕ × History) → Type 0
+StarvedPlaying script before after books = StarvedInSession script before after books ⊎ StarvedAfterSession script before after
+
+-- nothing was recorded, and no journal was stored
+abbrev pub IsUnplayed : {R : Type 0} → (before after : Stream R) → List (ℕ × History) → Type 0
+IsUnplayed before after books = (after ≡ before) × (books ≡ [])
+
+-- Memory ran out before any fault, and nothing was printed. Nothing was recorded then; or the input was read and is a script, whose session stopped early, or
+-- came to its end.
+pub record Starved {S K R : Type 0} (before after : Outside S K R) (books : List (ℕ × History)) : Type 0 where
+  pub faultless : AreFaultless before after
+  pub unprinted : after.output ≡ before.output
+  pub recording : IsUnplayed before.recording after.recording books
+      ⊎ ((script : Script) × ReadsScript before.input after.input script × StarvedPlaying script before.recording after.recording books)
+
 -- What the command has done when it stopped, before a last line says so: the first event that stops it ends it.
 abbrev pub StoppedPlaying : {S K R : Type 0} → (before after : Outside S K R) → List (ℕ × History) → Stop → Type 0
 StoppedPlaying before after books (stop.Line line cause) =
@@ -61,7 +95,7 @@ StoppedPlaying before after books stop.Recording =
     (script : Script) × ReadsScript before.input after.input script × FailedToRecord script before.recording after.recording × (after.output ≡ before.output) × (books ≡ [])
 StoppedPlaying before after books stop.Output =
     (script : Script) × ReadsScript before.input after.input script × FailedToReport script before after books
-StoppedPlaying before after books stop.Memory = AreFaultless before after
+StoppedPlaying before after books stop.Memory = Starved before after books
 StoppedPlaying before after books _ = ⊥
 
 -- a stop of the reading of an input: for its first fault, or for want of memory
@@ -76,10 +110,10 @@ StopsForText text (stop.Line line cause) = script_of mode.Both text ≡ Err (rec
 StopsForText text stop.Memory = Unit {0}
 StopsForText text _ = ⊥
 
--- a stop of the playing of a script: for the recording, when no journal was stored, or for want of memory
+-- a stop of the playing of a script: for the recording, when no journal was stored, or for want of memory, before its session, in it or after it
 abbrev pub StopsForRecording : {R : Type 0} → Script → (before after : Stream R) → List (ℕ × History) → Stop → Type 0
 StopsForRecording script before after books stop.Recording = FailedToRecord script before after × (books ≡ [])
-StopsForRecording script before after books stop.Memory = IsFaultless before after
+StopsForRecording script before after books stop.Memory = IsUnplayed before after books ⊎ StarvedPlaying script before after books
 StopsForRecording script before after books _ = ⊥
 
 -- How the command came out, before a last line: it came to its end, or it stopped.
@@ -95,7 +129,7 @@ GivesScript left = (text : List ℕ) × (script : Script) × (left ≡ Some text
 abbrev pub GivesBadLine : Option (List ℕ) → BadLine → Type 0
 GivesBadLine left bad = (text : List ℕ) × (left ≡ Some text) × (script_of mode.Both text ≡ Err bad)
 
--- The script was refused for a line, which the output says, and nothing was recorded.
+-- The script was refused for a line, and nothing was recorded. The output says so, unless the write of that failed.
 pub record RefusesScript {S K R : Type 0} (before after : Outside S K R) (books : List (ℕ × History)) : Type 0 where
   pub bad : BadLine
   pub reads : ReadsBadLine before.input after.input bad
@@ -115,8 +149,8 @@ pub record IsEndOfBoth {S K R : Type 0} (before after : Outside S K R) (books : 
   pub unread : status ≡ 2 → StoppedPlaying before after books stop.Input
   -- 3: the first fault was the recording's, or the output's
   pub unwritten : status ≡ 3 → StoppedPlaying before after books stop.Recording ⊎ StoppedPlaying before after books stop.Output
-  -- 6: memory ran out before any fault
-  pub starved : status ≡ 6 → AreFaultless before after
+  -- 6: memory ran out before any fault, and nothing was printed
+  pub starved : status ≡ 6 → Starved before after books
   -- A bad line is refused, unless a read fails or memory runs out.
   pub refuses : (bad : BadLine) → GivesBadLine before.input.bytes bad → (status ≡ 1) ⊎ ((status ≡ 2) ⊎ (status ≡ 6))
   -- A script comes to its end, unless a read or a write fails or memory runs out. It is never refused.

@@ -1,4 +1,4 @@
--- The summary of a load: how many of its lines were accepted, and what was read.
+-- The summary of a load: how many of its lines the host's table took, and what was read.
 use Rattle.std.specs.Prelude.{ℕ, ◌+◌, Bool, true, false, List, [], ◌++◌, length, codes, count_by, decimal}
 use Rattle.std.specs.List.{flat_map, sum}
 use Rattle.rd_irp.specs.declared.completion.Body.{Body}
@@ -27,7 +27,7 @@ buffer_of (body.Buffer bytes) = bytes
 buffer_of body.Locked = []
 buffer_of body.Fault = []
 
--- the bytes that a line read: no other line of a load than one that reads is replied a buffer
+-- the bytes that a load's line read: none of a load but one that reads is replied a buffer
 abbrev pub bytes_read_by : Outcome → List ℕ
 bytes_read_by (outcome.Done reply) = buffer_of reply.body
 bytes_read_by (outcome.Lost why) = []
@@ -40,12 +40,12 @@ count_done entries = count_by (λ (e : (ℕ × ℕ) × Outcome). was_done e.1) e
 abbrev pub count_lost : List ((ℕ × ℕ) × Outcome) → ℕ
 count_lost entries = count_by (λ (e : (ℕ × ℕ) × Outcome). was_lost e.1) entries
 
--- the bytes that all lines read
+-- the bytes that all lines of a load read
 abbrev pub bytes_read : List ((ℕ × ℕ) × Outcome) → List ℕ
 bytes_read entries = flat_map (λ (e : (ℕ × ℕ) × Outcome). bytes_read_by e.1) entries
 
--- The summary of a load of this number, by the outcomes of its lines. A line was accepted where its request was sent: then it is done or lost. The sum is
--- that of all bytes that were read.
+-- The summary of a load of this number, by the outcomes of its lines. A line was accepted where the host's table took its request: then it is done or lost.
+-- The sum is that of all bytes that were read.
 abbrev pub summary_of : ℕ → List ((ℕ × ℕ) × Outcome) → List ℕ
 summary_of number entries =
     codes "load " ++ decimal number

@@ -9,6 +9,7 @@ ghost use Rattle.rd_script.specs.Script.{script_of};
 ghost use Rattle.rd_script.specs.declared.keyword.Mode.TheVariants as mode;
 
 use crate::ending::end;
+use crate::idle_notes::note_idle;
 use crate::input::read_all;
 use crate::notes::note_line;
 use crate::playing::play;
@@ -54,6 +55,7 @@ fn report_script<S: Source, K: Sink, R: Sink, N: Sink>(
     let text = read_all(alloc, input, MAX_BYTES)?;
     let script = script_in(alloc, text, notes)?;
     let told = play(alloc, &script, recording, books)?;
+    note_idle(alloc, notes, script.lines.as_slice(), told.idle.as_slice());
     print_report(alloc, &script, &told, books, output)
 }
 

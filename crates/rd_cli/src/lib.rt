@@ -1,9 +1,9 @@
 //! The program, but for the system's own streams: what `rdr` does with its words, its input and its two outputs, and the status with which it
 //! ends.
 //!
-//! It stands on all layers below. `program` is what `main` calls, with the words that `words_of` finds. `run` finds the command that the words are, by `clap`, and runs it: `both` reads a script whole, plays it
-//! through both sides of its session, whose every frame goes into a recording, and reports what came of each line; `load` plays the script of a
-//! number and sums up what came of it; `decode` prints a recording.
+//! It stands on all layers below. `program` is what `main` calls, with the words that `words_of` finds. `run` finds the command that the words are, by
+//! `clap`, and runs it: `both` reads a script whole, plays it through both sides of its session, whose every frame goes into a recording, and reports what
+//! came of each line; `load` plays the script of a number and prints a summary of what came of it; `decode` prints a recording.
 //!
 //! Cost: `both` reads its input once, in pieces of 8,192 bytes, and writes its report once; `load` goes once over the bytes that were read; what `decode` costs stands in `rd_decode`.
 #![tactic(auto)]
@@ -13,6 +13,7 @@ mod both;
 mod decoding;
 mod ending;
 mod forms;
+mod idle_notes;
 mod input;
 mod laws;
 mod load;

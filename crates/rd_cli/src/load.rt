@@ -29,14 +29,14 @@ pub fn load<K: Sink, R: Sink>(
     ensures { IsEndOfLoad number (stream K.held K.faults output.old) (stream K.held K.faults output.new)
         (stream R.held R.faults recording.old) (stream R.held R.faults recording.new) books.new result }
 {
-    match sum_up(alloc, number, output, recording, books) {
+    match summarize(alloc, number, output, recording, books) {
         Ok(()) => 0,
         Err(stop) => end(alloc, output, stop),
     }
 }
 
 /// Plays the load, and writes its summary to the output. The first event that stops it ends it.
-fn sum_up<K: Sink, R: Sink>(
+fn summarize<K: Sink, R: Sink>(
     alloc: Global,
     number: u32,
     output: &mut K,

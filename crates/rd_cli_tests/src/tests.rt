@@ -191,6 +191,7 @@ fn keeps_a_journal(rt: HostRuntime) -> Result<(), Fail> {
     Ok(())
 }
 
+/// Only one call fails: a write that was tried again, or another after it, would come through, and be seen.
 #[test]
 fn ends_where_the_outside_fails(rt: HostRuntime) -> Result<(), Fail> {
     let recording = hex::decode(rt.alloc(), RECORDING)?;
@@ -267,7 +268,10 @@ fn plays_a_load(rt: HostRuntime) -> Result<(), Fail> {
     let words = ["load", "2"];
     let left = comes_to(&rt, rt.alloc(), &words, b"nothing is read", (0, LOAD))?;
     assert_eq!(rt; left.recording.len(), 68_855);
-    // What is recorded goes out in pieces: where the second can't be written, the first has been.
+    // What is recorded goes out in pieces: where the first can't be written, the second isn't.
+    let first = [[1].as_slice(), &[], &[1]];
+    ends(&rt, rt.alloc(), &words, b"", first, (3, b"", b""))?;
+    // Where the second can't be, the first has been.
     let second = [[1].as_slice(), &[], &[2]];
     let cut = command(rt.alloc(), &words, b"", second)?;
     let written = cut.recording.len();

@@ -3,7 +3,7 @@ use Rattle.rd_script.specs.declared.script.Script.{Script}
 use Rattle.rd_cli.specs.Playing.{IsPlayable}
 use Rattle.rd_cli.proofs.LoadedLemmas.{load_playable}
 use Rattle.rd_cli.proofs.LoadingLemmas.{printed}
-use Rattle.rd_cli.proofs.load.sum_up.Goals as goal
+use Rattle.rd_cli.proofs.load.summarize.Goals as goal
 
 pub play-requires-clause-script : goal.play-requires-clause-script
 play-requires-clause-script g c = subst (λ (s : Script). IsPlayable s) (sym c.in_ok-script.ensures) (load_playable c.args.number c.requires.number)
