@@ -5,7 +5,7 @@
 ghost use Rattle.std.specs.Prelude.{◌≡◌, ◌+◌, ◌*◌, ◌<◌, ◌≤◌, ◌^◌, if◌then◌else◌, length, IfOk, string_bytes};
 ghost use Rattle.std.specs.List.{sum};
 ghost use Rattle.rd_irp.specs.Fits.{IsCountableBody};
-ghost use Rattle.rd_script.specs.Report.{AreCountable, IsCountable};
+ghost use Rattle.rd_script.specs.Report.{AreCountable, IsCountableOutcome};
 ghost use Rattle.rd_cli.specs.Summary.{buffer_of, bytes_read_by, bytes_read, count_done, count_lost, was_done, was_lost, summary_of};
 
 use rd_irp::Body;
@@ -25,7 +25,7 @@ struct Tally {
 impl Tally {
     /// One line more.
     fn add(&mut self, outcome: &Outcome)
-        requires countable { IsCountable outcome.now }
+        requires countable { IsCountableOutcome outcome.now }
         requires done { self.old.done + 1 < 2 ^ 64 }
         requires lost { self.old.lost + 1 < 2 ^ 64 }
         requires bytes { self.old.bytes + 2 ^ 64 ≤ 2 ^ 128 }

@@ -117,11 +117,11 @@ report_of script outcomes books =
 -- ---- what a report can be made of
 
 -- the buffer of a done reply is short enough for its length
-abbrev pub IsCountable : Outcome → Type 0
-IsCountable (outcome.Done reply) = IsCountableBody reply.body
-IsCountable (outcome.Lost why) = Unit {0}
-IsCountable (outcome.Refused why) = Unit {0}
+abbrev pub IsCountableOutcome : Outcome → Type 0
+IsCountableOutcome (outcome.Done reply) = IsCountableBody reply.body
+IsCountableOutcome (outcome.Lost why) = Unit {0}
+IsCountableOutcome (outcome.Refused why) = Unit {0}
 
 -- each outcome's is
 abbrev pub AreCountable : List ((ℕ × ℕ) × Outcome) → Type 0
-AreCountable entries = AllByRecursion (λ (e : (ℕ × ℕ) × Outcome). IsCountable e.1) entries
+AreCountable entries = AllByRecursion (λ (e : (ℕ × ℕ) × Outcome). IsCountableOutcome e.1) entries

@@ -10,7 +10,7 @@ ghost use Rattle.hex.specs.Hex.{encode_lower};
 ghost use Rattle.rd_irp.specs.Fits.{IsCountableBody};
 ghost use Rattle.rd_irp.specs.Written.{body_bytes};
 ghost use Rattle.rd_script.specs.ReportLines.{kinds_of};
-ghost use Rattle.rd_script.specs.Report.{cached_line, cause_word, device_lines, document_lines, documents_from, hex_text, idle_line, is_run, listed_line, outcome_line, outcome_text, refusal_word, report_of, status_digits, AreCountable, IsCountable};
+ghost use Rattle.rd_script.specs.Report.{cached_line, cause_word, device_lines, document_lines, documents_from, hex_text, idle_line, is_run, listed_line, outcome_line, outcome_text, refusal_word, report_of, status_digits, AreCountable, IsCountableOutcome};
 
 use crate::line::NumberedLine;
 use crate::outcome::{Outcome, Outcomes, Refusal};
@@ -107,7 +107,7 @@ fn put_outcome(
     kind: Kind,
     outcome: &Outcome,
 ) -> Result<(), AllocError>
-    requires { IsCountable outcome.now }
+    requires { IsCountableOutcome outcome.now }
     ensures { OnOk result (string_bytes text.new ≡ string_bytes text.old ++ outcome_text kind outcome.now) }
 {
     match outcome {
@@ -156,7 +156,7 @@ fn put_line(
     kind: Kind,
     outcome: &Outcome,
 ) -> Result<(), AllocError>
-    requires { IsCountable outcome.now }
+    requires { IsCountableOutcome outcome.now }
     ensures { OnOk result (string_bytes text.new ≡ string_bytes text.old
         ++ (decimal id.0 ++ codes "." ++ decimal id.1 ++ outcome_text kind outcome.now ++ codes "\n")) }
 {

@@ -15,7 +15,7 @@ use Rattle.rd_base.specs.declared.journal.Item.{Item}
 use Rattle.rd_base.specs.History.{History}
 use Rattle.rd_drive.proofs.AllLemmas.{all_append, all_weaker}
 use Rattle.rd_script.specs.declared.outcome.Outcome.{Outcome}
-use Rattle.rd_script.specs.Report.{AreCountable, IsCountable, numbered_from}
+use Rattle.rd_script.specs.Report.{AreCountable, IsCountableOutcome, numbered_from}
 use Rattle.rd_station.specs.Station.{StationState}
 use Rattle.rd_world.specs.declared.device.SessionDevice.{SessionDevice}
 use Rattle.rd_world.specs.declared.device.SessionDevice.TheVariants as session
@@ -101,7 +101,7 @@ numbered_below : (k a from : ℕ) (os : List Outcome) → a < k → AllByRecursi
 numbered_below k a from [] under = tt
 numbered_below k a from (o ∷ os) under = (under, numbered_below k a (from + 1) os under)
 
-countable_from : (a from : ℕ) (os : List Outcome) → AllByRecursion IsCountable os → AreCountable (numbered_from a from os)
+countable_from : (a from : ℕ) (os : List Outcome) → AllByRecursion IsCountableOutcome os → AreCountable (numbered_from a from os)
 countable_from a from [] all = tt
 countable_from a from (o ∷ os) all = (all.0, countable_from a (from + 1) os all.1)
 
@@ -136,9 +136,9 @@ told_of_more all rest behind old new a x outcomes (done, are, is) next same adde
       ∙ sym (flat_map-append outcomes_under done ((a, x) ∷ [])),
 )
 
-pub countable_more : (old new : List ((ℕ × ℕ) × Outcome)) (a : ℕ) (outcomes : List Outcome) → AreCountable old → AllByRecursion IsCountable outcomes → new ≡ old ++ numbered_from a 1 outcomes → AreCountable new
+pub countable_more : (old new : List ((ℕ × ℕ) × Outcome)) (a : ℕ) (outcomes : List Outcome) → AreCountable old → AllByRecursion IsCountableOutcome outcomes → new ≡ old ++ numbered_from a 1 outcomes → AreCountable new
 countable_more old new a outcomes before all added =
-    subst AreCountable (sym added) (all_append (λ (e : (ℕ × ℕ) × Outcome). IsCountable e.1) old (numbered_from a 1 outcomes) before (countable_from a 1 outcomes all))
+    subst AreCountable (sym added) (all_append (λ (e : (ℕ × ℕ) × Outcome). IsCountableOutcome e.1) old (numbered_from a 1 outcomes) before (countable_from a 1 outcomes all))
 
 -- ---- journals and documents
 

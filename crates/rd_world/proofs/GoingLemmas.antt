@@ -19,7 +19,7 @@ use Rattle.rd_world.specs.Recording.{recording_of_deeds}
 use Rattle.rd_world.specs.Run as run
 use Rattle.rd_world.specs.Run.{Most, NextStep, all_client_sends, all_host_sends, asked_by, by_event, choices, chosen, client_reads_all, connects_on, controls, does, drawing, drawn_count, ends_session, event_of, host_count, host_reads_all, idles, is_quiet, notice_of, picked, plays, plays_line, queueing, rounds, settled, settles_by, some_left, when_enabled, while_enabled}
 use Rattle.rd_world.specs.Step.{recorded_by}
-use Rattle.rd_world.specs.Wire.{GoesOn}
+use Rattle.rd_world.specs.Wire.{RecordsOn}
 use Rattle.rd_world.specs.World.{Asked, WorldState, journals_in}
 use Rattle.rd_world.proofs.GrowingLemmas.{Grows, event_grows, grows_by, grows_not}
 use Rattle.rd_world.proofs.RecordedLemmas.{event_recorded}
@@ -27,18 +27,18 @@ use Rattle.rd_world.proofs.RecordedLemmas.{event_recorded}
 -- ---- worlds
 
 -- the recording of the third goes on from that of the first
-pub goes_on_then : (w x y : WorldState) → GoesOn w x → GoesOn x y → GoesOn w y
+pub goes_on_then : (w x y : WorldState) → RecordsOn w x → RecordsOn x y → RecordsOn w y
 goes_on_then w x y (more, first) (yet_more, second) =
     (more ++ yet_more, second ∙ ap (λ (bytes : List ℕ). bytes ++ yet_more) first ∙ append_assoc (recording_of_deeds w.deeds) more yet_more)
 
 -- what was done tells as much
-pub goes_on_same : (w x : WorldState) → recording_of_deeds x.deeds ≡ recording_of_deeds w.deeds → GoesOn w x
+pub goes_on_same : (w x : WorldState) → recording_of_deeds x.deeds ≡ recording_of_deeds w.deeds → RecordsOn w x
 goes_on_same w x same = ([], same ∙ sym (append-nil (recording_of_deeds w.deeds)))
 
 -- The second world's journals only became longer, if the ids of the first rise, and its recording goes on from that of the first.
 pub record Goes (w x : WorldState) : Type 0 where
   pub grows : Grows w x
-  pub recording : GoesOn w x
+  pub recording : RecordsOn w x
 
 pub goes_longer : (w x : WorldState) → Goes w x → IsStrictlySortedBy nat_cmp (keys_of w.stations) → AreLonger (journals_in w) (journals_in x)
 goes_longer w x goes = (goes.grows).longer

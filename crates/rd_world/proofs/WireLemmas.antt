@@ -18,7 +18,7 @@ use Rattle.rd_world.specs.Recording.{recording_of_deeds}
 use Rattle.rd_world.specs.Run.{Most, NextStep, asked_by, chosen, connects_on, controls, drawing, ends_session, plays, plays_line, settled, some_left, world_of}
 use Rattle.rd_world.specs.Stations.{AreStations}
 use Rattle.rd_world.specs.Step.{recorded_by, recorded_next}
-use Rattle.rd_world.specs.Wire.{Breaks, CountsWire, GoesOn, IsCut, IsCutRun, IsPassed, Records, StaysRecorded}
+use Rattle.rd_world.specs.Wire.{Breaks, CountsWire, RecordsOn, IsCut, IsCutRun, IsPassed, Records, StaysRecorded}
 use Rattle.rd_world.specs.World.{Asked, WorldState, journals_in, marks_of}
 use Rattle.rd_world.proofs.FuelLemmas.{ComesTo, Steady, both, first_within, second_within, plays_more, plays_one_more, settled_more}
 use Rattle.rd_world.proofs.GoingLemmas.{GoesTo, connects_on_goes, ends_session_goes, goes_longer, goes_on_same, goes_on_then, gone_to, plays_goes, settled_goes}
@@ -132,7 +132,7 @@ pub passed_then : (f : (Key → Bool) → Most → Option WorldState) (g : (Key 
     → IsPassed (λ starves most. option_and_then (g starves most) (f starves most)) x
 passed_then f g w x steady (m, comes) longer passed starves most y agrees is = by (f starves most) refl is
   where
-    by : (o : Option WorldState) → f starves most ≡ o → option_and_then (g starves most) o ≡ Some y → GoesOn x y
+    by : (o : Option WorldState) → f starves most ≡ o → option_and_then (g starves most) o ≡ Some y → RecordsOn x y
     by None first then = absurd (cc then)
     by (Some v) first then =
         let later : f starves (both most m) ≡ Some v = steady starves most (both most m) (first_within most m) v first in
@@ -148,7 +148,7 @@ pub passed_before : (f : (Key → Bool) → Most → Option WorldState) (g : (Ke
     → IsPassed (λ starves most. option_and_then (g starves most) (f starves most)) x
 passed_before f g x goes passed starves most y agrees is = by (f starves most) refl is
   where
-    by : (o : Option WorldState) → f starves most ≡ o → option_and_then (g starves most) o ≡ Some y → GoesOn x y
+    by : (o : Option WorldState) → f starves most ≡ o → option_and_then (g starves most) o ≡ Some y → RecordsOn x y
     by None first then = absurd (cc then)
     by (Some v) first then =
         goes_on_then x v y (passed starves most v agrees first) (gone_to v (g starves most v) y (goes starves most v) then).recording

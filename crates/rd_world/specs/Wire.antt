@@ -32,16 +32,16 @@ pub record Records (start held : Option (List ℕ)) (w : WorldState) (old : List
   pub appended : Appends start held written
 
 -- the recording of a later world goes on from that of an earlier one
-abbrev pub GoesOn : WorldState → WorldState → Type 0
-GoesOn w x = (more : List ℕ) × (recording_of_deeds x.deeds ≡ recording_of_deeds w.deeds ++ more)
+abbrev pub RecordsOn : WorldState → WorldState → Type 0
+RecordsOn w x = (more : List ℕ) × (recording_of_deeds x.deeds ≡ recording_of_deeds w.deeds ++ more)
 
 -- Whatever this comes to, if the runs so far found no memory just where these journals say so, it goes on from this world.
 abbrev pub IsPassed : ((Key → Bool) → Most → Option WorldState) → WorldState → Type 0
-IsPassed f x = (starves : Key → Bool) (most : Most) (w : WorldState) → MarksAgree starves (journals_in x) → f starves most ≡ Some w → GoesOn x w
+IsPassed f x = (starves : Key → Bool) (most : Most) (w : WorldState) → MarksAgree starves (journals_in x) → f starves most ≡ Some w → RecordsOn x w
 
 -- the runs of a world found no memory of which its journals say so, and no others
-abbrev pub AreMarked : WorldState → Type 0
-AreMarked w = MarksAgree (marks_of w) (journals_in w)
+abbrev pub MarksOwnRuns : WorldState → Type 0
+MarksOwnRuns w = MarksAgree (marks_of w) (journals_in w)
 
 -- A session stopped when it had come from one world to another: a prefix of what the recorder held and got was written.
 pub record Breaks (start held : Option (List ℕ)) (w : WorldState) (old : List ℕ) (x : WorldState) : Type 0 where
@@ -53,12 +53,12 @@ pub record Breaks (start held : Option (List ℕ)) (w : WorldState) (old : List 
 pub record IsCut (start held : Option (List ℕ)) (w : WorldState) (old : List ℕ) (f : (Key → Bool) → Most → Option WorldState) (x : WorldState) : Type 0 where
   pub breaks : Breaks start held w old x
   pub longer : AreLonger (journals_in w) (journals_in x)
-  pub marked : AreMarked x
+  pub marked : MarksOwnRuns x
   pub passed : IsPassed f x
 
 -- The session of a script's lines stopped early, and the last world that is known is this one: a prefix of what was recorded by then was written, and
 -- wherever that session ends, if the runs so far found no memory of which the journals say so, its recording goes on from there.
 pub record IsCutRun (start held : Option (List ℕ)) (lines : List NumberedLine) (x : WorldState) : Type 0 where
   pub prefix : AppendsPrefix start held (recording_of_deeds x.deeds)
-  pub marked : AreMarked x
+  pub marked : MarksOwnRuns x
   pub passed : IsPassed (λ starves most. run_of most starves lines) x

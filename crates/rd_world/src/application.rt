@@ -3,7 +3,7 @@
 ghost use Rattle.std.specs.Prelude.{◌≡◌, ◌<◌, ◌≤◌, ◌+◌, length, IfSome, IsTrue, OnOk, Some};
 ghost use Rattle.std.specs.List.{AllByRecursion};
 ghost use Rattle.std.specs.Option.{option_map_or};
-ghost use Rattle.rd_script.specs.Report.{IsCountable};
+ghost use Rattle.rd_script.specs.Report.{IsCountableOutcome};
 ghost use Rattle.rd_script.specs.Script.{max_lines};
 ghost use Rattle.rd_world.specs.Applications.{AreAsking, AsksFor, asked_lines};
 ghost use Rattle.rd_world.specs.Events.{may_issue, target_of};
@@ -35,7 +35,7 @@ pub struct Application<'s> {
 impl<'s> Model for Application<'s> {
     ghost use Rattle.std.specs.Prelude.{◌<◌, ◌≤◌, vec_len, IfSome};
     ghost use Rattle.std.specs.List.{AllByRecursion};
-    ghost use Rattle.rd_script.specs.Report.{IsCountable};
+    ghost use Rattle.rd_script.specs.Report.{IsCountableOutcome};
     ghost use Rattle.rd_script.specs.Script.{max_lines};
     ghost use Rattle.rd_world.specs.Applications.{AreAsking, asked_lines};
     ghost use Rattle.rd_world.specs.World.{ApplicationState};
@@ -46,7 +46,7 @@ impl<'s> Model for Application<'s> {
 
     ghost invariant = { λ a. (a.queued ≤ vec_len a.places) × (vec_len a.places ≤ max_lines) × AreAsking a.lines.now a.places.items
         × (vec_len a.outcomes ≤ a.queued) × IfSome a.awaits (λ n. vec_len a.outcomes < a.queued)
-        × AllByRecursion IsCountable a.outcomes.items };
+        × AllByRecursion IsCountableOutcome a.outcomes.items };
 }
 
 impl<'s> Application<'s> {
@@ -129,7 +129,7 @@ impl<'s> Application<'s> {
     #[tactic(auto, using(rd_drive::proofs::AllLemmas::all_append))]
     pub fn end_line(&mut self, outcome: Outcome, given: Option<Handle>) -> Result<(), AllocError>
         requires more { length self.old.outcomes < self.old.queued }
-        requires countable { IsCountable outcome }
+        requires countable { IsCountableOutcome outcome }
         ensures { OnOk result (self.new ≡ option_map_or (λ asked. with_outcome self.old outcome given asked) (next_asked self.old) self.old) }
     {
         let line = self.next();
@@ -147,7 +147,7 @@ impl<'s> Application<'s> {
     pub fn finish(self) -> Vec<Outcome>
         ensures outcomes { result.items ≡ self.entry.outcomes }
         ensures few { length result.items ≤ max_lines }
-        ensures countable { AllByRecursion IsCountable result.items }
+        ensures countable { AllByRecursion IsCountableOutcome result.items }
     {
         let Application { outcomes, .. } = self;
         outcomes

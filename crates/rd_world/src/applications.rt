@@ -7,7 +7,7 @@ ghost use Rattle.std.specs.Option.{option_map_or};
 ghost use Rattle.std.specs.Ordering.{nat_cmp};
 ghost use Rattle.std.specs.BTreeMap.{insert_entry};
 ghost use Rattle.rd_script.specs.declared.line.NumberedLine.{NumberedLine};
-ghost use Rattle.rd_script.specs.Report.{IsCountable};
+ghost use Rattle.rd_script.specs.Report.{IsCountableOutcome};
 ghost use Rattle.rd_world.specs.Applications.{AreApplications, ArePlaced, AreNumbered, AsksFor, FindsPlace, IsNumber, IsThere, application_in, awaits_at, issues_at};
 ghost use Rattle.rd_world.specs.Bits.{IsMarked, Marks, has, where_holds};
 ghost use Rattle.rd_world.specs.Events.{may_issue, target_of};
@@ -176,7 +176,7 @@ impl<'s> Applications<'s> {
     ) -> Result<(), AllocError>
         requires there { IsThere self.old number }
         requires more { length (application_in self.old number).outcomes < (application_in self.old number).queued }
-        requires countable { IsCountable outcome }
+        requires countable { IsCountableOutcome outcome }
         ensures ended { OnOk result (let x = application_in self.old number in
             self.new ≡ option_map_or (λ asked. insert_entry nat_cmp self.old number (with_outcome x outcome given asked)) (next_asked x) self.old) }
         ensures kept { AreApplications self.new }

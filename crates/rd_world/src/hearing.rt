@@ -4,7 +4,7 @@ ghost use Rattle.std.specs.Prelude.{◌≡◌, ◌≢◌, fold, false, OnOk};
 ghost use Rattle.rd_client.specs.Core.{listed};
 ghost use Rattle.rd_devices.specs.declared.list.Announce.{Announce};
 ghost use Rattle.rd_pending.specs.Known.{IsKnown};
-ghost use Rattle.rd_script.specs.Report.{IsCountable};
+ghost use Rattle.rd_script.specs.Report.{IsCountableOutcome};
 ghost use Rattle.rd_world.specs.Hearing.{all_take, announcing, answers_directly, client_handles_all, client_hears, given_handle, host_handles, host_handles_all, host_hears, is_device_told, putting, reported_outcome, takes_outcome, tries_kept};
 ghost use Rattle.rd_world.specs.World.{most_messages};
 
@@ -253,7 +253,7 @@ fn given_handle(taken: &Taken) -> Option<Handle>
 fn reported_outcome(taken: Taken) -> Outcome
     requires { IsKnown taken.outcome }
     ensures outcome { result ≡ reported_outcome taken.outcome }
-    ensures countable { IsCountable result }
+    ensures countable { IsCountableOutcome result }
 {
     match taken.outcome {
         rd_pending::Outcome::Done(reply) => Outcome::Done(reply),

@@ -12,7 +12,7 @@ ghost use Rattle.rd_world.specs.Keys.{MarksAgree};
 ghost use Rattle.rd_world.specs.Run.{choices, chosen, device_ids, drawing, drawn_count, picked, settled};
 ghost use Rattle.rd_world.specs.Stations.{AreStations};
 ghost use Rattle.rd_world.specs.Step.{recorded_next};
-ghost use Rattle.rd_world.specs.Wire.{AreMarked, CountsWire, IsCut, Records};
+ghost use Rattle.rd_world.specs.Wire.{MarksOwnRuns, CountsWire, IsCut, Records};
 ghost use Rattle.rd_world.specs.World.{WorldState, having_read, journals_in, marks_of};
 
 use crate::bits::Bits;
@@ -132,7 +132,7 @@ impl<'s> World<'s> {
     /// Draws until nothing can happen by itself. What is recorded goes to the wire in pieces.
     pub fn settle<R: Sink>(&mut self, recorder: &mut Recorder, wire: &mut R) -> Result<(), StepNo>
         ensures settled { OnOk result ((most : ℕ) × ((starves : Key → Bool) → MarksAgree starves (journals_in self.new) → settled starves most self.old ≡ Some self.new)) }
-        ensures marked { OnOk result (AreMarked self.new) }
+        ensures marked { OnOk result (MarksOwnRuns self.new) }
         ensures counted { CountsWire result (R.faults wire.old) (R.faults wire.new) }
         ensures recorded { OnOk result (Records (R.held wire.old) (R.held wire.new) self.old recorder.old self.new recorder.new) }
         ensures cut { IfErr result (λ cause. (x : WorldState) × IsCut (R.held wire.old) (R.held wire.new) self.old recorder.old (λ starves most. settled starves most.draws self.old) x) }
