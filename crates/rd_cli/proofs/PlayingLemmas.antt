@@ -12,6 +12,10 @@ use Rattle.rd_script.specs.declared.keyword.Mode.TheVariants as mode
 use Rattle.rd_script.specs.Script.{BadLine, max_bytes, script_of}
 use Rattle.rd_world.specs.Recording.{recording_of_deeds}
 use Rattle.rd_world.specs.Talk.{Deed}
+use Rattle.rd_world.specs.Wire.{CountsWire, IsCutRun}
+use Rattle.rd_world.specs.World.{WorldState}
+use Rattle.rd_world.specs.declared.event.StepNo.{StepNo}
+use Rattle.rd_world.specs.declared.event.StepNo.TheVariants as no
 use Rattle.rd_world.proofs.DeclaredLemmas.{scripts_are_declared, scripts_are_notable}
 use Rattle.rd_world.proofs.NumberedLemmas.{scripts_are_numbered}
 use Rattle.rd_cli.proofs.LimitLemmas.{script_cut, script_short}
@@ -19,7 +23,7 @@ use Rattle.rd_cli.specs.declared.stop.Stop.{Stop}
 use Rattle.rd_cli.specs.declared.stop.Stop.TheVariants as stop
 use Rattle.rd_cli.specs.Outside.{IsFaultless, Outside, Read, ReadToEnd, Stream, Wrote}
 use Rattle.rd_cli.specs.Headline.{Played, PlayedToEnd}
-use Rattle.rd_cli.specs.Stops.{Prints, StopsWith}
+use Rattle.rd_cli.specs.Stops.{Prints, StopsWith, early_stop}
 use Rattle.rd_cli.specs.Playing.{ComesOutOfBoth, IsEndOfBoth, FailedToReport, GivesBadLine, GivesScript, HasRead, IsPlayable, ReadsBadLine, ReadsScript, RefusesScript, Starved, StarvedAfterSession, StarvedPlaying, StoppedPlaying, StopsForRecording}
 
 -- what holds of the one error that a result may be
@@ -40,6 +44,14 @@ script_playable text script is =
 -- a script that is short enough to be one was read to the input's end
 pub read_whole : {S : Type 0} (before after : Stream S) (text : List ℕ) (script : Script) → Read before after text → (length text ≤ max_bytes → IsAtEnd after.bytes) → script_of mode.Both text ≡ Ok script → ReadsScript before after script
 read_whole before after text script read whole is = record { text = text; read = record { read = read; ended = whole (script_short mode.Both text script is) }; script_is = is }
+
+-- a session that stopped early
+pub stopped_early : {R : Type 0} (script : Script) (before after : Stream R) (books : List (ℕ × History)) (cause : StepNo)
+    → (x : WorldState) × IsCutRun before.bytes after.bytes script.lines x → CountsWire {T = Unit {0}} (Err cause) before.faults after.faults → books ≡ []
+    → StopsForRecording script before after books (early_stop cause)
+stopped_early script before after books no.Wire cut counted unstored = (record { world = cut.0; cut = cut.1; fault = counted }, unstored)
+stopped_early script before after books no.Memory cut counted unstored = inr (inl (record { world = cut.0; cut = cut.1; faultless = counted; unstored = unstored }))
+stopped_early script before after books (no.Disabled event) cut counted unstored = absurd counted
 
 -- want of memory before a script was played
 pub starved_unplayed : {S K R : Type 0} (before after : Outside S K R) (books : List (ℕ × History)) → IsFaultless before.input after.input → after.output ≡ before.output → after.recording ≡ before.recording → books ≡ [] → Starved before after books

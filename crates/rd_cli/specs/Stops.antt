@@ -9,9 +9,17 @@ use Rattle.rd_decode.specs.declared.fault.FaultWhy.{FaultWhy}
 use Rattle.rd_decode.specs.declared.fault.FaultWhy.TheVariants as fault
 use Rattle.rd_script.specs.declared.why.LineWhy.{LineWhy}
 use Rattle.rd_script.specs.declared.why.LineWhy.TheVariants as why
+use Rattle.rd_world.specs.declared.event.StepNo.{StepNo}
+use Rattle.rd_world.specs.declared.event.StepNo.TheVariants as no
 use Rattle.rd_cli.specs.Outside.{FailedToWrite, Stream, Wrote}
 use Rattle.rd_cli.specs.declared.stop.Stop.{Stop}
 use Rattle.rd_cli.specs.declared.stop.Stop.TheVariants as stop
+
+-- what ends a command whose session stopped early: a write to the recording failed, or memory ran out
+abbrev pub early_stop : StepNo → Stop
+early_stop no.Wire = stop.Recording
+early_stop no.Memory = stop.Memory
+early_stop (no.Disabled event) = stop.Memory
 
 -- the exit status of each cause
 abbrev pub status_of : Stop → ℕ

@@ -9,7 +9,7 @@ ghost use Rattle.rd_script.specs.Report.{AreCountable};
 use crate::stop::Stop;
 use rd_base::{Books, Sink};
 use rd_script::{Outcomes, Script};
-use rd_world::{Recorder, StepNo, World};
+use rd_world::{Recorder, World};
 use std::alloc::Global;
 
 /// Plays a script: its session goes to the recording while it is played, and the devices' journals into the books at its end.
@@ -28,9 +28,6 @@ pub fn play<R: Sink>(
     let lines = script.lines.as_slice();
     let mut recorder = Recorder::new(alloc)?;
     let mut world = World::new(alloc, lines)?;
-    match world.run(lines, &mut recorder, recording) {
-        Ok(()) => Ok(world.finish(books)?),
-        Err(StepNo::Wire) => Err(Stop::Recording),
-        Err(_) => Err(Stop::Memory),
-    }
+    world.run(lines, &mut recorder, recording)?;
+    Ok(world.finish(books)?)
 }

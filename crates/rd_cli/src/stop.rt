@@ -1,10 +1,12 @@
 //! What ends a command before its end.
 
 ghost use Rattle.std.specs.Prelude.{◌≡◌};
+ghost use Rattle.rd_cli.specs.Stops.{early_stop};
 ghost use Rattle.rd_cli.specs.declared.stop.Stop.TheVariants as stop;
 
 use rd_decode::Fault;
 use rd_script::LineWhy;
+use rd_world::StepNo;
 use std::alloc::{AllocError, AllocFailed};
 
 #[derive(Debug, Drop)]
@@ -57,5 +59,16 @@ impl<T: Drop> From<AllocFailed<T>> for Stop {
 
     fn from(_error: AllocFailed<T>) -> Stop {
         Stop::Memory
+    }
+}
+
+impl From<StepNo> for Stop {
+    ghost from_gives = { λ cause e. e ≡ early_stop cause };
+
+    fn from(cause: StepNo) -> Stop {
+        match cause {
+            StepNo::Wire => Stop::Recording,
+            _ => Stop::Memory,
+        }
     }
 }
