@@ -94,7 +94,8 @@ last_line _ = None
 abbrev pub Says : {K : Type 0} → List ℕ → (before after : Stream K) → Type 0
 Says line before after = Wrote before after line ⊎ FailedToWrite before after line
 
--- The status is this one, and the last line, if there is one, was said; or memory ran out before it could be, and the output wasn't touched.
+-- The status is this one, and the last line, if there is one, was written, or the first fault ended that; or memory ran out before, and the output wasn't
+-- touched.
 abbrev pub SaysLast : {K : Type 0} → Option (List ℕ) → ℕ → (before after : Stream K) → ℕ → Type 0
 SaysLast None own before after status = (status ≡ own) × (after ≡ before)
 SaysLast (Some line) own before after status = ((status ≡ own) × Says line before after) ⊎ ((status ≡ 6) × (after ≡ before))

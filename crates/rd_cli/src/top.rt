@@ -19,9 +19,10 @@ use std::process::ExitCode;
 /// Runs a command and returns the exit status.
 ///
 /// `words` are the command's words without the program's name. `both` reads a script from `input` to its end, plays it, writes a
-/// recording of all frames to `recording` as they are sent, and then the report to `output`. `load` does the same with the script of its
+/// recording of all frames to `recording` meanwhile, and then the report to `output`. `load` does the same with the script of its
 /// number, reads no input, and writes a summary of one line in the report's place. `decode` reads a recording from `input` and prints its lines to
-/// `output`. `books` is to be empty; a session that comes to its end stores its devices' journals there. `notes` is for people: it gets the usage where the words are no command, and what is wrong with a line of a script.
+/// `output`. `books` is to be empty; a session that comes to its end stores its devices' journals there. `notes` is for people: it gets the usage
+/// where the words are no command, what is wrong with a line of a script, and why lines did nothing.
 ///
 /// | status | comes where |
 /// |---|---|
