@@ -51,7 +51,7 @@ module _ (lines : List NumberedLine) (starves : Key → Bool) where
 
 -- ---- reads that are drawn
 
-both : (a b : Bool) → (a && b) ≡ true → (a ≡ true) × (b ≡ true)
+pub both : (a b : Bool) → (a && b) ≡ true → (a ≡ true) × (b ≡ true)
 both true true e = (refl, refl)
 both true false e = absurd (cc)
 both false b e = absurd (cc)
