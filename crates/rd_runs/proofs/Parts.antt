@@ -125,35 +125,36 @@ IsRefused w a asked cause None = cause ≡ refusal.NoHandle
 IsRefused w a asked cause (Some named) =
     (t : TableState) × (why : SubmitNo) × (table.submit (w.side).table a named asked.op ≡ (t, Err why)) × (cause ≡ refusal_of why)
 
-abbrev pub MayBe : List NumberedLine → WorldState → Part → Type 0
-MayBe lines w (accepts a asked named t number) =
-    (may_issue (application_at w a) ≡ true) × (next_asked (application_at w a) ≡ Some asked) × (target_of (application_at w a) asked ≡ Some named)
+-- A request is accepted in a world between two moves.
+abbrev pub MayBe : List NumberedLine → (Key → Bool) → WorldState → Part → Type 0
+MayBe lines starves w (accepts a asked named t number) =
+    Reached lines starves w × (may_issue (application_at w a) ≡ true) × (next_asked (application_at w a) ≡ Some asked) × (target_of (application_at w a) asked ≡ Some named)
     × (table.submit (w.side).table a named asked.op ≡ (t, Ok number))
-MayBe lines w (refuses a asked cause) =
+MayBe lines starves w (refuses a asked cause) =
     (may_issue (application_at w a) ≡ true) × (next_asked (application_at w a) ≡ Some asked) × IsRefused w a asked cause (target_of (application_at w a) asked)
-MayBe lines w (hands_out a number t taken next) =
+MayBe lines starves w (hands_out a number t taken next) =
     ((application_at w a).awaits ≡ Some number) × (next_asked (application_at w a) ≡ next) × (table.take (w.side).table number ≡ (t, Ok taken))
-MayBe lines w (host_sends_one message) = next_message w.side ≡ Some message
-MayBe lines w (host_gets n) = is_read (w.to_host).pipe n ≡ true
-MayBe lines w host_keeps_part = first_message ((w.to_host).part ++ (w.to_host).unhandled) ≡ None
-MayBe lines w (host_hears_one message rest) = first_message ((w.to_host).part ++ (w.to_host).unhandled) ≡ Some (message, rest)
-MayBe lines w (tells_one n) = IsOfLines lines (event.tell n) × (is_enabled w (event.tell n) ≡ true)
-MayBe lines w begins = is_enabled w event.connect ≡ true
-MayBe lines w ends = is_channel_open w ≡ true
-MayBe lines w (client_sends_one c o) = client.client_send w.client ≡ (c, Some o)
-MayBe lines w (client_gets n) = (is_read (w.to_client).pipe n ≡ true) × (w.kept ≡ None)
-MayBe lines w client_keeps_part = (w.kept ≡ None) × (first_message ((w.to_client).part ++ (w.to_client).unhandled) ≡ None)
-MayBe lines w (client_hears_one message rest) = (w.kept ≡ None) × (first_message ((w.to_client).part ++ (w.to_client).unhandled) ≡ Some (message, rest))
-MayBe lines w (tries_one k) = w.kept ≡ Some k
-MayBe lines w (collects_one device s after c) = (client_has_message w ≡ false) × (station_at w device ≡ Some s) × (station.collect s ≡ (after, Some c))
-MayBe lines w (takes_one device hand s after job) = (is_hand_free w hand ≡ true) × (station_at w device ≡ Some s) × (station.take s ≡ (after, given.Job job))
-MayBe lines w (applies_one hand device job o) = (hand_at w hand ≡ Some (Some (device, job))) × (station_at w device ≡ o)
-MayBe lines w (removes_one device o) = (is_enabled w (event.remove device) ≡ true) × (station_at w device ≡ o)
-MayBe lines w (adds_one device names o) =
+MayBe lines starves w (host_sends_one message) = next_message w.side ≡ Some message
+MayBe lines starves w (host_gets n) = is_read (w.to_host).pipe n ≡ true
+MayBe lines starves w host_keeps_part = first_message ((w.to_host).part ++ (w.to_host).unhandled) ≡ None
+MayBe lines starves w (host_hears_one message rest) = first_message ((w.to_host).part ++ (w.to_host).unhandled) ≡ Some (message, rest)
+MayBe lines starves w (tells_one n) = IsOfLines lines (event.tell n) × (is_enabled w (event.tell n) ≡ true)
+MayBe lines starves w begins = is_enabled w event.connect ≡ true
+MayBe lines starves w ends = is_channel_open w ≡ true
+MayBe lines starves w (client_sends_one c o) = client.client_send w.client ≡ (c, Some o)
+MayBe lines starves w (client_gets n) = (is_read (w.to_client).pipe n ≡ true) × (w.kept ≡ None)
+MayBe lines starves w client_keeps_part = (w.kept ≡ None) × (first_message ((w.to_client).part ++ (w.to_client).unhandled) ≡ None)
+MayBe lines starves w (client_hears_one message rest) = (w.kept ≡ None) × (first_message ((w.to_client).part ++ (w.to_client).unhandled) ≡ Some (message, rest))
+MayBe lines starves w (tries_one k) = w.kept ≡ Some k
+MayBe lines starves w (collects_one device s after c) = (client_has_message w ≡ false) × (station_at w device ≡ Some s) × (station.collect s ≡ (after, Some c))
+MayBe lines starves w (takes_one device hand s after job) = (is_hand_free w hand ≡ true) × (station_at w device ≡ Some s) × (station.take s ≡ (after, given.Job job))
+MayBe lines starves w (applies_one hand device job o) = (hand_at w hand ≡ Some (Some (device, job))) × (station_at w device ≡ o)
+MayBe lines starves w (removes_one device o) = (is_enabled w (event.remove device) ≡ true) × (station_at w device ≡ o)
+MayBe lines starves w (adds_one device names o) =
     (is_enabled w (event.add device) ≡ true) × (lookup (is_at (nat_cmp device)) w.printers ≡ names) × (station_at w device ≡ o)
-MayBe lines w (queues_one a) = MayPass lines w (queues a)
-MayBe lines w (idle_one number) = Unit {0}
-MayBe lines w draws_one = Unit {0}
+MayBe lines starves w (queues_one a) = MayPass lines w (queues a)
+MayBe lines starves w (idle_one number) = Unit {0}
+MayBe lines starves w draws_one = Unit {0}
 
 -- ---- moves by parts
 
@@ -167,7 +168,7 @@ is_off true e = absurd (cc)
 
 -- what is kept by each part is kept by each move
 module _ (lines : List NumberedLine) (starves : Key → Bool) (P : WorldState → Type 0)
-    (keep : (w : WorldState) (p : Part) → MayBe lines w p → P w → P (done starves w p)) where
+    (keep : (w : WorldState) (p : Part) → MayBe lines starves w p → P w → P (done starves w p)) where
   -- ---- applications
 
   refused_keeps : (w : WorldState) (a : ℕ) (asked : Asked) (cause : Refusal) → may_issue (application_at w a) ≡ true → next_asked (application_at w a) ≡ Some asked
@@ -176,21 +177,21 @@ module _ (lines : List NumberedLine) (starves : Key → Bool) (P : WorldState �
       subst (λ (o : Option Asked). P (option_map_or (λ asked. with_application w a (with_outcome (application_at w a) (outcome.Refused cause) None asked)) o w)) (sym next)
       (keep w (refuses a asked cause) (may, next, refused) p)
 
-  asked_keeps : (w : WorldState) (a : ℕ) (asked : Asked) → may_issue (application_at w a) ≡ true → next_asked (application_at w a) ≡ Some asked → P w
+  asked_keeps : (w : WorldState) (a : ℕ) (asked : Asked) → Reached lines starves w → may_issue (application_at w a) ≡ true → next_asked (application_at w a) ≡ Some asked → P w
       → (o : Option Target) → target_of (application_at w a) asked ≡ o → P (asks w a asked.op o)
-  asked_keeps w a asked may next p None target = refused_keeps w a asked refusal.NoHandle may next (subst (IsRefused w a asked refusal.NoHandle) (sym target) refl) p
-  asked_keeps w a asked may next p (Some named) target = by (table.submit (w.side).table a named asked.op) refl
+  asked_keeps w a asked reached may next p None target = refused_keeps w a asked refusal.NoHandle may next (subst (IsRefused w a asked refusal.NoHandle) (sym target) refl) p
+  asked_keeps w a asked reached may next p (Some named) target = by (table.submit (w.side).table a named asked.op) refl
     where
       by : (r : TableState × Result ℕ SubmitNo) → table.submit (w.side).table a named asked.op ≡ r → P (comes_of_asking w a asked.op named r)
-      by (t, Ok number) made = keep w (accepts a asked named t number) (may, next, target, made) p
+      by (t, Ok number) made = keep w (accepts a asked named t number) (reached, may, next, target, made) p
       by (t, Err cause) made = refused_keeps w a asked (refusal_of cause) may next (subst (IsRefused w a asked (refusal_of cause)) (sym target) (t, cause, made, refl)) p
 
-  issue_keeps : (w : WorldState) (a : ℕ) → may_issue (application_at w a) ≡ true → P w → P (issues w a)
-  issue_keeps w a may p = by (next_asked (application_at w a)) refl
+  issue_keeps : (w : WorldState) (a : ℕ) → Reached lines starves w → may_issue (application_at w a) ≡ true → P w → P (issues w a)
+  issue_keeps w a reached may p = by (next_asked (application_at w a)) refl
     where
       by : (o : Option Asked) → next_asked (application_at w a) ≡ o → P (issues_next w a o)
       by None next = p
-      by (Some asked) next = asked_keeps w a asked may next p (target_of (application_at w a) asked) refl
+      by (Some asked) next = asked_keeps w a asked reached may next p (target_of (application_at w a) asked) refl
 
   outcome_keeps : (w : WorldState) (a : ℕ) → P w → P (takes_outcome w a)
   outcome_keeps w a p = by (application_at w a).awaits refl
@@ -304,40 +305,40 @@ module _ (lines : List NumberedLine) (starves : Key → Bool) (P : WorldState �
       by (c, None) made = p
       by (c, Some o) made = keep w (client_sends_one c o) made p
 
-  pub event_keeps : (w : WorldState) (e : Event) → IsOfLines lines e → is_enabled w e ≡ true → P w → P (act starves w e)
-  event_keeps w (event.issue a) said can p = issue_keeps w a can p
-  event_keeps w event.host_send said can p = host_send_keeps w p
-  event_keeps w (event.client_read n) said can p =
+  pub event_keeps : (w : WorldState) (e : Event) → Reached lines starves w → IsOfLines lines e → is_enabled w e ≡ true → P w → P (act starves w e)
+  event_keeps w (event.issue a) reached said can p = issue_keeps w a reached can p
+  event_keeps w event.host_send reached said can p = host_send_keeps w p
+  event_keeps w (event.client_read n) reached said can p =
       let (some, kept) = both (is_read (w.to_client).pipe n) (is_none w.kept) can in
       client_all_keeps (done starves w (client_gets n)) (keep w (client_gets n) (some, no_kept w.kept kept) p)
     where
       no_kept : (o : Option Kept) → is_none o ≡ true → o ≡ None
       no_kept None e = refl
       no_kept (Some k) e = absurd (cc)
-  event_keeps w event.client_send said can p = client_send_keeps w p
-  event_keeps w (event.collect device) said can p = collect_keeps w device can p
-  event_keeps w (event.host_read n) said can p =
+  event_keeps w event.client_send reached said can p = client_send_keeps w p
+  event_keeps w (event.collect device) reached said can p = collect_keeps w device can p
+  event_keeps w (event.host_read n) reached said can p =
       let x : WorldState = done starves w (host_gets n) in
       all_take_keeps (host_handles (most_messages x.to_host) x) (host_handling_keeps (most_messages x.to_host) x (keep w (host_gets n) can p))
-  event_keeps w (event.take_job device hand) said can p = take_keeps w device hand (both (is_hand_free w hand) (job_waits w device) can).0 p
-  event_keeps w (event.apply_job hand) said can p = apply_keeps w hand p
-  event_keeps w (event.remove device) said can p =
+  event_keeps w (event.take_job device hand) reached said can p = take_keeps w device hand (both (is_hand_free w hand) (job_waits w device) can).0 p
+  event_keeps w (event.apply_job hand) reached said can p = apply_keeps w hand p
+  event_keeps w (event.remove device) reached said can p =
       let part : Part = removes_one device (station_at w device) in tries_keeps (done starves w part) device (keep w part (can, refl) p)
-  event_keeps w (event.add device) said can p = adding (lookup (is_at (nat_cmp device)) w.printers) refl
+  event_keeps w (event.add device) reached said can p = adding (lookup (is_at (nat_cmp device)) w.printers) refl
     where
       adding : (names : Option PrinterNames) → lookup (is_at (nat_cmp device)) w.printers ≡ names
           → P (announced_by (told_added (refreshed_by w device names) device) device (station_at (refreshed_by w device names) device))
       adding None is = keep w (adds_one device None (station_at w device)) (can, is, refl) p
       adding (Some names) is = keep w (adds_one device (Some names) (station_at w device)) (can, is, refl) p
-  event_keeps w event.drop_channel said can p = all_take_keeps (cutting w) (keep w ends can p)
-  event_keeps w event.connect said can p = keep w begins can p
-  event_keeps w (event.tell n) said can p = keep w (tells_one n) (said, can) p
+  event_keeps w event.drop_channel reached said can p = all_take_keeps (cutting w) (keep w ends can p)
+  event_keeps w event.connect reached said can p = keep w begins can p
+  event_keeps w (event.tell n) reached said can p = keep w (tells_one n) (said, can) p
 
-  pub move_keeps : (w : WorldState) (m : Move) → MayPass lines w m → P w → P (moved starves w m)
-  move_keeps w (happens e) (said, can) p = event_keeps w e said can p
-  move_keeps w (queues a) may p = keep w (queues_one a) may p
-  move_keeps w (idle number) may p = keep w (idle_one number) tt p
-  move_keeps w draws may p = keep w draws_one tt p
+  pub move_keeps : (w : WorldState) (m : Move) → Reached lines starves w → MayPass lines w m → P w → P (moved starves w m)
+  move_keeps w (happens e) reached (said, can) p = event_keeps w e reached said can p
+  move_keeps w (queues a) reached may p = keep w (queues_one a) may p
+  move_keeps w (idle number) reached may p = keep w (idle_one number) tt p
+  move_keeps w draws reached may p = keep w draws_one tt p
 
 -- ---- worlds that are reached by parts
 
@@ -349,28 +350,28 @@ module _ (lines : List NumberedLine) (starves : Key → Bool) where
   -- a world that is behind parts
   pub record IsBehind (w : WorldState) : Type 0 where
     pub parts : List Part
-    pub may : EachAfter (λ before p. MayBe lines (after_parts before) p) parts
+    pub may : EachAfter (λ before p. MayBe lines starves (after_parts before) p) parts
     pub leads : w ≡ after_parts parts
 
-  one_part : (w : WorldState) (p : Part) → MayBe lines w p → IsBehind w → IsBehind (done starves w p)
+  one_part : (w : WorldState) (p : Part) → MayBe lines starves w p → IsBehind w → IsBehind (done starves w p)
   one_part w p may b = record {
     parts = p ∷ b.parts;
-    may = (subst (λ (x : WorldState). MayBe lines x p) b.leads may, b.may);
+    may = (subst (λ (x : WorldState). MayBe lines starves x p) b.leads may, b.may);
     leads = ap (λ (x : WorldState). done starves x p) b.leads;
   }
 
   -- each world that is reached is behind parts
   pub reached_behind : (w : WorldState) → Reached lines starves w → IsBehind w
   reached_behind =
-      by_moves lines starves IsBehind (record { parts = []; may = tt; leads = refl }) (λ w m steps b. move_keeps lines starves IsBehind one_part w m steps.2 b)
+      by_moves lines starves IsBehind (record { parts = []; may = tt; leads = refl }) (λ w m steps b. move_keeps lines starves IsBehind one_part w m steps.0 steps.2 b)
 
   -- What holds at the beginning and is kept by each part holds of each world that is behind parts. What was proved before of these may be used of the world
   -- before a part and of the one after it.
   pub by_parts : (P : WorldState → Type 0) → P (world_of lines)
-      → ((w : WorldState) (p : Part) → IsBehind w → IsBehind (done starves w p) → MayBe lines w p → P w → P (done starves w p)) → (w : WorldState) → IsBehind w → P w
+      → ((w : WorldState) (p : Part) → IsBehind w → IsBehind (done starves w p) → MayBe lines starves w p → P w → P (done starves w p)) → (w : WorldState) → IsBehind w → P w
   by_parts P first step w b = subst P (sym b.leads) (go b.parts b.may)
     where
-      go : (parts : List Part) → EachAfter (λ before p. MayBe lines (after_parts before) p) parts → P (after_parts parts)
+      go : (parts : List Part) → EachAfter (λ before p. MayBe lines starves (after_parts before) p) parts → P (after_parts parts)
       go [] may = first
       go (p ∷ before) may =
           step (after_parts before) p (record { parts = before; may = may.1; leads = refl }) (record { parts = p ∷ before; may = may; leads = refl }) may.0 (go before may.1)
