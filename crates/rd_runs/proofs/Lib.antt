@@ -6,3 +6,4 @@ pub mod HostLemmas
 pub mod IdleLemmas
 pub mod BeginningLemmas
 pub mod Standing
+pub mod AskedLemmas

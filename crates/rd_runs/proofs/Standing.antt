@@ -1,5 +1,5 @@
 -- In each world that lines come to the deeds lead to the host's side, which might do each, and where no channel is open nothing is under way, held or to be sent.
-use Rattle.std.proofs.Common.{◌≡◌, ◌⊎◌, ◌∙◌, refl, sym, ap, subst, inl, inr, ℕ, ◌+◌, ◌&&◌, arith, Bool, true, false, not, List, [], ◌∷◌, ◌++◌, length, map, fold, Some, None, Option, Result, Ok, Err, append-nil, is_ok, is_some}
+use Rattle.std.proofs.Common.{◌≡◌, ◌∙◌, refl, sym, ap, subst, inl, ℕ, ◌&&◌, arith, Bool, true, false, not, List, [], ◌∷◌, ◌++◌, map, fold, Some, None, Option, Result, Ok, Err, append-nil, is_ok, is_some}
 use Rattle.std.specs.Prelude.{nat_le, nat_lt}
 use Rattle.std.specs.Option.{option_map_or}
 use Rattle.std.proofs.lemmas.Bool.Decides.{nat_tests}
@@ -18,27 +18,23 @@ use Rattle.rd_pending.specs.Table as table
 use Rattle.rd_pending.specs.Table.{MaySubmit, TableState, submit_refusal}
 use Rattle.rd_printer.specs.declared.notice.Notice.{Notice}
 use Rattle.rd_script.specs.declared.line.NumberedLine.{NumberedLine}
-use Rattle.rd_station.specs.declared.answers.Completion.{Completion}
-use Rattle.rd_station.specs.Station as station
 use Rattle.rd_station.specs.Station.{StationState}
 use Rattle.rd_runs.specs.Moves.{Reached}
 use Rattle.rd_runs.proofs.BeginningLemmas.{Unset, begins_as, first_idle, unset}
 use Rattle.rd_runs.proofs.HostLemmas.{AreOfClient, IsHostOf, IsOfClient, all_of_client, host_begun, host_channel, host_ended, host_heard, host_moved, host_submitted, host_told, host_took, host_write, opens, same_open, sending_opens}
 use Rattle.rd_runs.proofs.IdleLemmas.{AreIdle, applied_all_idle, cut_idle, none_collected, none_taken}
-use Rattle.rd_runs.proofs.Insides.{AreOwn, IsInside, Outside, added_inside, all_dropped_inside, all_refreshed_inside, applied_inside, hears_inside, outside, put_inside, removed_inside, stationed}
+use Rattle.rd_runs.proofs.Insides.{AreOwn, IsInside, Outside, added_inside, all_dropped_inside, all_refreshed_inside, applied_inside, hears_inside, put_inside, removed_inside, stationed}
 use Rattle.rd_runs.proofs.Parts.{IsBehind, MayBe, Part, accepts, adds_one, applies_one, begins, by_parts, client_gets, client_hears_one, client_keeps_part, client_sends_one, collects_one, done, draws_one, ends, hands_out, host_gets, host_hears_one, host_keeps_part, host_sends_one, idle_one, queues_one, refuses, removes_one, takes_one, tells_one, tries_one}
 use Rattle.rd_runs.proofs.Reaching.{both}
 use Rattle.rd_world.specs.declared.device.SessionDevice.{SessionDevice}
-use Rattle.rd_world.specs.Devices.{Declared, PrinterNames}
-use Rattle.rd_world.specs.Events as event
-use Rattle.rd_world.specs.Events.{completion_message, connects, cutting, deed_on, dropping, is_channel_open, is_enabled, is_read, is_ready, refreshing, target_of}
-use Rattle.rd_world.specs.Hearing.{next_asked, with_client}
-use Rattle.rd_world.specs.Host.{HostSide, new_side, next_message}
+use Rattle.rd_world.specs.Devices.{PrinterNames}
+use Rattle.rd_world.specs.Events.{completion_message, deed_on, dropping, is_channel_open, is_read, is_ready, refreshing, target_of}
+use Rattle.rd_world.specs.Hearing.{next_asked}
 use Rattle.rd_world.specs.HostDeeds.{IsInRange}
 use Rattle.rd_world.specs.Noting.{IsTellable}
 use Rattle.rd_world.specs.Run.{declared_devices, notice_of, world_of}
 use Rattle.rd_world.specs.Talk.{Deed, Has, adds, client_reads, client_writes, completes, open_channel, removes, stores, submits, takes}
-use Rattle.rd_world.specs.World.{Asked, Kept, WayState, WorldState, application_at, client_sends, first_message, station_at, with_deed, with_station, with_table}
+use Rattle.rd_world.specs.World.{Asked, Kept, WayState, WorldState, application_at, first_message, with_deed, with_station}
 
 -- ---- the invariant
 
