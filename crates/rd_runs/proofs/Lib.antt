@@ -7,3 +7,5 @@ pub mod IdleLemmas
 pub mod BeginningLemmas
 pub mod Standing
 pub mod AskedLemmas
+pub mod KeysOnLemmas
+pub mod KeysOn

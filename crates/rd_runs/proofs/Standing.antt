@@ -134,7 +134,7 @@ none_sent : (c after : ClientCoreState) (o : Outgoing) → (c.core).outbox ≡ [
 none_sent c after o none made =
     let nothing : (client.client_send c).1 ≡ None = rw none refl in cc (nothing, ap (λ (r : ClientCoreState × Option Outgoing). r.1) made)
 
-is_off : (b : Bool) → not b ≡ true → b ≡ false
+pub is_off : (b : Bool) → not b ≡ true → b ≡ false
 is_off false e = refl
 is_off true e = absurd (cc)
 
