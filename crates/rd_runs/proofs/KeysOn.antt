@@ -1,5 +1,5 @@
 -- In each world that lines come to, what a client holds, keeps back or answers itself came on the channel that began last.
-use Rattle.std.proofs.Common.{◌≡◌, ◌⊎◌, ◌∙◌, refl, sym, ap, subst, inl, inr, ℕ, ◌+◌, ◌&&◌, Bool, true, false, not, List, [], ◌∷◌, ◌++◌, length, map, fold, Some, None, Option, Result, Ok, Err}
+use Rattle.std.proofs.Common.{◌≡◌, ◌∙◌, refl, sym, ap, subst, inl, inr, ℕ, ◌+◌, Bool, true, false, List, [], ◌∷◌, map, fold, Some, None, Option, Result, Ok, Err}
 use Rattle.std.specs.Prelude.{if◌then◌else◌}
 use Rattle.std.specs.List.{AllByRecursion}
 use Rattle.std.specs.Map.{lookup}
@@ -26,19 +26,18 @@ use Rattle.rd_hello.specs.declared.client.ClientState.{ClientState}
 use Rattle.rd_hello.specs.declared.end_fault.EndFault.{EndFault}
 use Rattle.rd_pending.proofs.MapLemmas.{beside, inserted}
 use Rattle.rd_script.specs.declared.line.NumberedLine.{NumberedLine}
-use Rattle.rd_station.specs.declared.answers.Completion.{Completion}
 use Rattle.rd_station.specs.declared.refusals.PutWhy.{PutWhy}
 use Rattle.rd_station.specs.declared.refusals.PutWhy.TheVariants as why
 use Rattle.rd_station.specs.Station as station
 use Rattle.rd_station.specs.Station.{StationState, put_refusal, put_unless}
-use Rattle.rd_runs.proofs.BeginningLemmas.{Unset, begins_as, first_idle, unset}
-use Rattle.rd_runs.proofs.IdleLemmas.{AreIdle, IsIdle, cut_idle}
+use Rattle.rd_runs.proofs.BeginningLemmas.{Unset, begins_as, first_idle}
+use Rattle.rd_runs.proofs.IdleLemmas.{cut_idle}
 use Rattle.rd_runs.proofs.Insides.{IsInside, Outside, added_inside, all_dropped_inside, hears_inside, put_inside, removed_inside}
 use Rattle.rd_runs.proofs.KeysOnLemmas.{HeldOn, all_mapped, announced_on, applied_on, collected_on, idle_on, put_on, removed_on, took_on}
 use Rattle.rd_runs.proofs.Parts.{IsBehind, MayBe, Part, accepts, adds_one, announced_by, applies_one, begins, by_parts, client_gets, client_hears_one, client_keeps_part, client_sends_one, collects_one, cut_by, done, draws_one, ends, hands_out, host_gets, host_hears_one, host_keeps_part, host_sends_one, idle_one, queues_one, refreshed_by, refuses, removes_one, takes_one, tells_one, told_added, told_removed, tries_one}
-use Rattle.rd_runs.proofs.Standing.{FitLines, Stands, is_off, shut_now, stands}
+use Rattle.rd_runs.proofs.Standing.{FitLines, is_off, shut_now, stands}
 use Rattle.rd_world.specs.declared.device.SessionDevice.{SessionDevice}
-use Rattle.rd_world.specs.Devices.{Declared, PrinterNames, device_cut, printer_data}
+use Rattle.rd_world.specs.Devices.{PrinterNames, device_cut}
 use Rattle.rd_world.specs.Events.{came_of, dropping, is_channel_open, refreshing}
 use Rattle.rd_world.specs.Hearing.{after_opening, announcing, answers_directly, client_hears, heard_by_client, is_device_told, put_at, put_by, putting, refused_put, with_client}
 use Rattle.rd_world.specs.Run.{declared_devices, world_of}
@@ -206,7 +205,7 @@ OnNow w = On w.channels w
 still_on : (w v : WorldState) → IsInside w v → On w.channels v → OnNow v
 still_on w v i on = subst (λ (n : ℕ). On n v) (sym (ap (λ (o : Outside). o.channels) i.same)) on
 
-sent_on : (c : ℕ) (clt after : ClientCoreState) (o : Outgoing) → AllByRecursion (AnswersOn c) (clt.core).outbox → client.client_send clt ≡ (after, Some o)
+pub sent_on : (c : ℕ) (clt after : ClientCoreState) (o : Outgoing) → AllByRecursion (AnswersOn c) (clt.core).outbox → client.client_send clt ≡ (after, Some o)
     → AnswersOn c o × (after.channel ≡ clt.channel) × AllByRecursion (AnswersOn c) (after.core).outbox
 sent_on c clt after o all made = by (clt.core).outbox refl
   where

@@ -1,24 +1,11 @@
 -- The requests that a client holds came on the channel that began last.
-use Rattle.std.proofs.Common.{◌≡◌, ◌⊎◌, ◌∙◌, refl, sym, ap, subst, inl, inr, ℕ, ◌+◌, ◌==◌, ◌&&◌, Bool, true, false, cond, not, List, [], ◌∷◌, ◌++◌, length, map, filter, fold, Some, None, Option, Result, Ok, Err}
+use Rattle.std.proofs.Common.{◌≡◌, ◌∙◌, refl, sym, ap, subst, ℕ, Bool, true, false, cond, not, List, [], ◌∷◌, ◌++◌, map, filter, Some, None, Option, Result, Ok, Err}
 use Rattle.std.specs.Prelude.{find, if◌then◌else◌, nat_le}
 use Rattle.std.specs.List.{AllByRecursion, flat_map}
-use Rattle.std.specs.Map.{lookup}
-use Rattle.std.specs.Ordering.{nat_cmp}
-use Rattle.std.specs.BTreeMap.{insert_entry, is_at}
 use Rattle.std.specs.Option.{IfSome, option_map_or}
-use Rattle.std.specs.declared.alloc.AllocError.{AllocError}
-use Rattle.std.proofs.lemmas.Bool.{cases_eq}
-use Rattle.rd_base.specs.declared.journal.Cause.TheVariants.{Dropped, Removed}
+use Rattle.rd_base.specs.declared.journal.Cause.TheVariants.{Removed}
 use Rattle.rd_base.specs.declared.journal.Item.TheVariants.{Cancelled, Cut, Sent}
 use Rattle.rd_base.specs.declared.journal.Key.{Key}
-use Rattle.rd_client.specs.Core as client
-use Rattle.rd_client.specs.Core.{ClientCoreState, HostSays, Outgoing, client_begin, client_hear, client_hear_made, client_opened, client_side, listed, notices, plain, replies, requests}
-use Rattle.rd_client.specs.declared.heard.Heard.{Heard}
-use Rattle.rd_client.specs.declared.heard.Heard.TheVariants.{Nothing, Ask, Print}
-use Rattle.rd_core.specs.Core.{CoreState}
-use Rattle.rd_core.specs.Hearing as hearing
-use Rattle.rd_core.specs.Hearing.{Meaning, nothing, opens, says, wrong}
-use Rattle.rd_devices.specs.DeviceList.{list_bytes}
 use Rattle.rd_drive.proofs.AllLemmas.{all_append}
 use Rattle.rd_drive.specs.declared.plan.Job.{Job}
 use Rattle.rd_drive.specs.declared.step.End.{End}
@@ -26,11 +13,8 @@ use Rattle.rd_drive.specs.declared.step.Step.{Step}
 use Rattle.rd_drive.specs.declared.step.Step.TheVariants as step
 use Rattle.rd_drive.specs.Device.{is_parked}
 use Rattle.rd_drive.specs.Stepped.{Stepped}
-use Rattle.rd_hello.specs.declared.client.ClientState.{ClientState}
-use Rattle.rd_hello.specs.declared.end_fault.EndFault.{EndFault}
 use Rattle.rd_irp.specs.declared.completion.Kind.{Kind}
 use Rattle.rd_irp.specs.Fits.{kind_of}
-use Rattle.rd_pending.proofs.MapLemmas.{beside, inserted}
 use Rattle.rd_station.specs.declared.answers.Applied.{Applied}
 use Rattle.rd_station.specs.declared.answers.Applied.TheVariants as applied
 use Rattle.rd_station.specs.declared.answers.Completion.{Completion}
@@ -41,7 +25,6 @@ use Rattle.rd_station.specs.declared.held.ParkedJob.{ParkedJob}
 use Rattle.rd_station.specs.declared.refusals.AnnounceNo.{AnnounceNo}
 use Rattle.rd_station.specs.declared.refusals.AnnounceNo.TheVariants as refused
 use Rattle.rd_station.specs.declared.refusals.PutWhy.{PutWhy}
-use Rattle.rd_station.specs.declared.refusals.PutWhy.TheVariants as why
 use Rattle.rd_station.specs.Station as station
 use Rattle.rd_station.specs.Station.{StationState, apply_from, cancelled_in_hand, cancelled_parked, cancelled_waiting, ended_completion, entry_count, is_ended, is_key, marked_removed, max_entries, own_completion, parked_after, put_refusal, put_unless, ran, take_first, without_taken}
 use Rattle.rd_world.specs.declared.device.SessionDevice.{SessionDevice}

@@ -9,3 +9,6 @@ pub mod Standing
 pub mod AskedLemmas
 pub mod KeysOnLemmas
 pub mod KeysOn
+pub mod WayLemmas
+pub mod TrafficLemmas
+pub mod Carrying

@@ -107,7 +107,7 @@ host_inside : (w v : WorldState) → IsInside w v → IsHostOf w.side w.channels
 host_inside w v i h =
     host_moved (ap (λ (o : Outside). o.side) i.same) (ap (λ (o : Outside). o.channels) i.same) i.deeds (all_of_client w.side w.channels i.more w.deeds (of_client i.more i.own) h)
 
-open_inside : (w v : WorldState) → IsInside w v → open_channel v.deeds ≡ open_channel w.deeds
+pub open_inside : (w v : WorldState) → IsInside w v → open_channel v.deeds ≡ open_channel w.deeds
 open_inside w v i = ap open_channel i.deeds ∙ same_open i.more w.deeds (of_client i.more i.own)
 
 -- it stands where the channel's state is as it was
@@ -137,6 +137,39 @@ none_sent c after o none made =
 pub is_off : (b : Bool) → not b ≡ true → b ≡ false
 is_off false e = refl
 is_off true e = absurd (cc)
+
+-- what passes only while a channel is open
+abbrev pub NeedsOpen : Part → Type 0
+NeedsOpen (host_sends_one message) = Unit {0}
+NeedsOpen (host_gets n) = Unit {0}
+NeedsOpen (host_hears_one message rest) = Unit {0}
+NeedsOpen (tells_one n) = Unit {0}
+NeedsOpen ends = Unit {0}
+NeedsOpen (client_sends_one c o) = Unit {0}
+NeedsOpen (client_gets n) = Unit {0}
+NeedsOpen (client_hears_one message rest) = Unit {0}
+NeedsOpen (tries_one k) = Unit {0}
+NeedsOpen (collects_one device s after c) = Unit {0}
+NeedsOpen (takes_one device hand s after job) = Unit {0}
+NeedsOpen (removes_one device o) = Unit {0}
+NeedsOpen (adds_one device names o) = Unit {0}
+NeedsOpen p = ⊥
+
+pub needs_open : (lines : List NumberedLine) (starves : Key → Bool) (w : WorldState) (p : Part) → MayBe lines starves w p → NeedsOpen p → Stands w → open_channel w.deeds ≡ Some w.channels
+needs_open lines starves w (host_sends_one message) next needs s = sending_opens w.side w.channels w.deeds s.host message next
+needs_open lines starves w (host_gets n) can needs s = opened_by w s (λ shut. no_read (w.to_host).pipe n shut.up_pipe can)
+needs_open lines starves w (host_hears_one message rest) is needs s = opened_by w s (λ shut. no_message w.to_host message rest s.host_part shut.up_unhandled is)
+needs_open lines starves w (tells_one n) (said, can) needs s = open_now w s (both (is_channel_open w) (is_host_ready (((w.side).core).core).shake) can).0
+needs_open lines starves w ends is needs s = open_now w s is
+needs_open lines starves w (client_sends_one c o) made needs s = opened_by w s (λ shut. none_sent w.client c o shut.outbox_none made)
+needs_open lines starves w (client_gets n) (can, kept) needs s = opened_by w s (λ shut. no_read (w.to_client).pipe n shut.down_pipe can)
+needs_open lines starves w (client_hears_one message rest) (kept, is) needs s = opened_by w s (λ shut. no_message w.to_client message rest s.client_part shut.down_unhandled is)
+needs_open lines starves w (tries_one k) kept needs s = opened_by w s (λ shut. cc (kept, shut.kept_none))
+needs_open lines starves w (collects_one device x after c) (quiet, there, made) needs s = opened_by w s (λ shut. none_collected x after c (shut.idle device x there) made)
+needs_open lines starves w (takes_one device hand x after job) (free, there, made) needs s = opened_by w s (λ shut. none_taken x after job (shut.idle device x there) made)
+needs_open lines starves w (removes_one device o) (can, there) needs s = open_now w s (both (is_channel_open w) _ (both (is_ready w) _ can).0).0
+needs_open lines starves w (adds_one device names o) (can, printer, there) needs s = open_now w s (both (is_channel_open w) _ (both (is_ready w) _ can).0).0
+needs_open lines starves w p may needs s = absurd needs
 
 -- a request that is accepted has nothing against it
 accepted_free : (t new : TableState) (a number : ℕ) (named : Target) (o : Op) → table.submit t a named o ≡ (new, Ok number) → submit_refusal t named ≡ None
@@ -202,13 +235,13 @@ module _ (lines : List NumberedLine) (starves : Key → Bool) (fit : FitLines li
     host = host_write w.side w.channels w.deeds s.host message next;
     client_part = s.client_part;
     host_part = s.host_part;
-    shut = never w.deeds (sending_opens w.side w.channels w.deeds s.host message next);
+    shut = never w.deeds (needs_open lines starves w (host_sends_one message) next tt s);
   }
   step w (host_gets n) b can s = record {
     host = s.host;
     client_part = s.client_part;
     host_part = s.host_part;
-    shut = never w.deeds (opened_by w s (λ shut. no_read (w.to_host).pipe n shut.up_pipe can));
+    shut = never w.deeds (needs_open lines starves w (host_gets n) can tt s);
   }
   step w host_keeps_part b is s = record {
     host = s.host;
@@ -225,7 +258,7 @@ module _ (lines : List NumberedLine) (starves : Key → Bool) (fit : FitLines li
     };
   }
   step w (host_hears_one message rest) b is s =
-      let opened = opened_by w s (λ shut. no_message w.to_host message rest s.host_part shut.up_unhandled is) in
+      let opened = needs_open lines starves w (host_hears_one message rest) is tt s in
       record { host = host_heard w.side w.channels w.deeds s.host message opened; client_part = s.client_part; host_part = refl; shut = never w.deeds opened }
   step w (tells_one n) b ((l, has, said), can) s =
       let (is, ready) = both (is_channel_open w) (is_host_ready (((w.side).core).core).shake) can in
@@ -271,7 +304,7 @@ module _ (lines : List NumberedLine) (starves : Key → Bool) (fit : FitLines li
       }
   step w (client_sends_one c o) b made s =
       let one : AreOfClient (deed_on w.channels o ∷ []) = (of_client_on w.channels o, tt) in
-      let opened = opened_by w s (λ shut. none_sent w.client c o shut.outbox_none made) in
+      let opened = needs_open lines starves w (client_sends_one c o) made tt s in
       record {
         host = all_of_client w.side w.channels (deed_on w.channels o ∷ []) w.deeds one s.host;
         client_part = s.client_part;
@@ -282,7 +315,7 @@ module _ (lines : List NumberedLine) (starves : Key → Bool) (fit : FitLines li
     host = s.host;
     client_part = s.client_part;
     host_part = s.host_part;
-    shut = never w.deeds (opened_by w s (λ shut. no_read (w.to_client).pipe n shut.down_pipe can));
+    shut = never w.deeds (needs_open lines starves w (client_gets n) (can, kept) tt s);
   }
   step w client_keeps_part b (kept, is) s = record {
     host = s.host;
@@ -299,7 +332,7 @@ module _ (lines : List NumberedLine) (starves : Key → Bool) (fit : FitLines li
     };
   }
   step w (client_hears_one message rest) b (kept, is) s =
-      let opened = opened_by w s (λ shut. no_message w.to_client message rest s.client_part shut.down_unhandled is) in
+      let opened = needs_open lines starves w (client_hears_one message rest) (kept, is) tt s in
       let x : WorldState = record w { to_client = record w.to_client { part = []; taken = _; unhandled = rest } } in
       let read : WorldState = with_deed x (client_reads w.channels message) in
       inside_open read (done starves w (client_hears_one message rest)) (hears_inside x message) (record {
@@ -309,12 +342,12 @@ module _ (lines : List NumberedLine) (starves : Key → Bool) (fit : FitLines li
         shut = never w.deeds opened;
       }) opened
   step w (tries_one k) b kept s =
-      let opened = opened_by w s (λ shut. cc (kept, shut.kept_none)) in
+      let opened = needs_open lines starves w (tries_one k) kept tt s in
       let x : WorldState = record w { kept = None } in
       inside_open x (done starves w (tries_one k)) (put_inside x k.device k.job)
       (record { host = s.host; client_part = s.client_part; host_part = s.host_part; shut = never w.deeds opened }) opened
   step w (collects_one device x after c) b (quiet, there, made) s =
-      let opened = opened_by w s (λ shut. none_collected x after c (shut.idle device x there) made) in
+      let opened = needs_open lines starves w (collects_one device x after c) (quiet, there, made) tt s in
       let y : WorldState = with_station w device after in
       let i = stationed w device after in
       record {
@@ -324,7 +357,7 @@ module _ (lines : List NumberedLine) (starves : Key → Bool) (fit : FitLines li
         shut = never y.deeds (open_inside w y i ∙ opened);
       }
   step w (takes_one device hand x after job) b (free, there, made) s =
-      let opened = opened_by w s (λ shut. none_taken x after job (shut.idle device x there) made) in
+      let opened = needs_open lines starves w (takes_one device hand x after job) (free, there, made) tt s in
       let y : WorldState = with_station w device after in
       let i = stationed w device after in
       record { host = host_inside w y i s.host; client_part = s.client_part; host_part = s.host_part; shut = never y.deeds (open_inside w y i ∙ opened) }
@@ -341,9 +374,9 @@ module _ (lines : List NumberedLine) (starves : Key → Bool) (fit : FitLines li
         idle = applied_all_idle starves w hand device job (Some x) there shut.idle;
       })
   step w (removes_one device o) b (can, there) s =
-      inside_open w (done starves w (removes_one device o)) (removed_inside w device o) s (open_now w s (both (is_channel_open w) _ (both (is_ready w) _ can).0).0)
+      inside_open w (done starves w (removes_one device o)) (removed_inside w device o) s (needs_open lines starves w (removes_one device o) (can, there) tt s)
   step w (adds_one device names o) b (can, printer, there) s =
-      inside_open w (done starves w (adds_one device names o)) (added_inside w device names o) s (open_now w s (both (is_channel_open w) _ (both (is_ready w) _ can).0).0)
+      inside_open w (done starves w (adds_one device names o)) (added_inside w device names o) s (needs_open lines starves w (adds_one device names o) (can, printer, there) tt s)
   step w (queues_one a) b may s = record { host = s.host; client_part = s.client_part; host_part = s.host_part; shut = s.shut }
   step w (idle_one number) b may s = record { host = s.host; client_part = s.client_part; host_part = s.host_part; shut = s.shut }
   step w draws_one b may s = record { host = s.host; client_part = s.client_part; host_part = s.host_part; shut = s.shut }
