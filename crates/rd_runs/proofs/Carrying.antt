@@ -156,10 +156,10 @@ module _ (lines : List NumberedLine) (starves : Key → Bool) (fit : FitLines li
   step w (tries_one kept) b may k fits =
       let x : WorldState = record w { kept = None } in
       inside_now x (done starves w (tries_one kept)) (put_inside x kept.device kept.job) k fits
-  step w (collects_one device s after c) b (quiet, there, made) k fits =
+  step w (collects_one device s after c) b (reached, quiet, there, made) k fits =
       let y : WorldState = with_station w device after in
       let i = stationed w device after in
-      let is = opened w (collects_one device s after c) b (quiet, there, made) tt in
+      let is = opened w (collects_one device s after c) b (reached, quiet, there, made) tt in
       completed_one y (open_inside w y i ∙ is) (inside_now w y i k fits.1) c.key (collected_on w.channels s ((on_now lines starves fit w b).held device s there) after c made).0 (completion_message device c) fits.0
   step w (takes_one device hand s after job) b may k fits = inside_now w (with_station w device after) (stationed w device after) k fits
   step w (applies_one hand device job None) b may k fits = k fits

@@ -276,7 +276,7 @@ module _ (lines : List NumberedLine) (starves : Key → Bool) (fit : FitLines li
       let own : ((k.job).key).channel ≡ w.channels = subst (λ (o : Option Kept). IfSome o (λ (k : Kept). ((k.job).key).channel ≡ w.channels)) kept on.back in
       still_on x (done starves w (tries_one k)) (put_inside x k.device k.job)
       (putting_on w.channels x k.device k.job own (record { channel = on.channel; outbox = on.outbox; back = tt; held = on.held }))
-  step w (collects_one device s after x) b (quiet, there, made) on =
+  step w (collects_one device s after x) b (reached, quiet, there, made) on =
       stationed_on w.channels w device after (collected_on w.channels s (on.held device s there) after x made).1 on
   step w (takes_one device hand s after job) b (free, there, made) on =
       stationed_on w.channels w device after (took_on w.channels s (on.held device s there) after job made) on

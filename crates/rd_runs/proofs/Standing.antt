@@ -165,7 +165,7 @@ needs_open lines starves w (client_sends_one c o) made needs s = opened_by w s (
 needs_open lines starves w (client_gets n) (can, kept) needs s = opened_by w s (λ shut. no_read (w.to_client).pipe n shut.down_pipe can)
 needs_open lines starves w (client_hears_one message rest) (kept, is) needs s = opened_by w s (λ shut. no_message w.to_client message rest s.client_part shut.down_unhandled is)
 needs_open lines starves w (tries_one k) kept needs s = opened_by w s (λ shut. cc (kept, shut.kept_none))
-needs_open lines starves w (collects_one device x after c) (quiet, there, made) needs s = opened_by w s (λ shut. none_collected x after c (shut.idle device x there) made)
+needs_open lines starves w (collects_one device x after c) (reached, quiet, there, made) needs s = opened_by w s (λ shut. none_collected x after c (shut.idle device x there) made)
 needs_open lines starves w (takes_one device hand x after job) (free, there, made) needs s = opened_by w s (λ shut. none_taken x after job (shut.idle device x there) made)
 needs_open lines starves w (removes_one device o) (can, there) needs s = open_now w s (both (is_channel_open w) _ (both (is_ready w) _ can).0).0
 needs_open lines starves w (adds_one device names o) (can, printer, there) needs s = open_now w s (both (is_channel_open w) _ (both (is_ready w) _ can).0).0
@@ -346,8 +346,8 @@ module _ (lines : List NumberedLine) (starves : Key → Bool) (fit : FitLines li
       let x : WorldState = record w { kept = None } in
       inside_open x (done starves w (tries_one k)) (put_inside x k.device k.job)
       (record { host = s.host; client_part = s.client_part; host_part = s.host_part; shut = never w.deeds opened }) opened
-  step w (collects_one device x after c) b (quiet, there, made) s =
-      let opened = needs_open lines starves w (collects_one device x after c) (quiet, there, made) tt s in
+  step w (collects_one device x after c) b (reached, quiet, there, made) s =
+      let opened = needs_open lines starves w (collects_one device x after c) (reached, quiet, there, made) tt s in
       let y : WorldState = with_station w device after in
       let i = stationed w device after in
       record {
