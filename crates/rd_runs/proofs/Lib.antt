@@ -12,3 +12,5 @@ pub mod KeysOn
 pub mod WayLemmas
 pub mod TrafficLemmas
 pub mod Carrying
+pub mod SizeLemmas
+pub mod Sizes

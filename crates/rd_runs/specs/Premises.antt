@@ -1,14 +1,19 @@
 -- What statements about a host take of lines, and of the handles that applications hold.
 use Rattle.std.specs.Prelude.{◌≡◌, ℕ, ◌^◌, ◌<◌, Bool, List, Some, IfSome}
 use Rattle.rd_base.specs.declared.journal.Key.{Key}
+use Rattle.rd_chunk.specs.Carrier.{IsMessage}
 use Rattle.rd_irp.specs.Fits.{Fits}
 use Rattle.rd_irp.specs.Written.{IsOpInRange}
 use Rattle.rd_pending.specs.declared.calls.Handle.{Handle}
 use Rattle.rd_script.specs.declared.line.NumberedLine.{NumberedLine}
+use Rattle.rd_station.specs.declared.answers.Completion.{Completion}
+use Rattle.rd_station.specs.Station.{StationState, collect}
+use Rattle.rd_world.specs.declared.device.SessionDevice.{SessionDevice}
+use Rattle.rd_world.specs.Events.{completion_message}
 use Rattle.rd_world.specs.Noting.{AreNotable}
 use Rattle.rd_world.specs.Run.{asked_by}
 use Rattle.rd_world.specs.Talk.{Has}
-use Rattle.rd_world.specs.World.{Asked, WorldState, application_at, handle_named}
+use Rattle.rd_world.specs.World.{Asked, WorldState, application_at, handle_named, station_at}
 use Rattle.rd_runs.specs.Moves.{Reached}
 
 -- What a line asks for fits a request, whose fields have room for its numbers.
@@ -30,3 +35,9 @@ pub record HostPremises (lines : List NumberedLine) (starves : Key → Bool) : T
   pub fitting : AreFitting lines
   pub notable : AreNotable lines
   pub handles : (w : WorldState) → Reached lines starves w → (a : ℕ) (name : List ℕ) (h : Handle) → handle_named (application_at w a) name ≡ Some h → IsHandleInRange h
+
+-- Each completion that can be collected in a world that lines come to is of a message's size.
+abbrev pub AreCompletionsFit : List NumberedLine → (Key → Bool) → Type 0
+AreCompletionsFit lines starves =
+    (w : WorldState) → Reached lines starves w → (device : ℕ) (s after : StationState SessionDevice) (c : Completion) → station_at w device ≡ Some s → collect s ≡ (after, Some c)
+    → IsMessage (completion_message device c)

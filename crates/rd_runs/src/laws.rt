@@ -5,9 +5,10 @@ ghost use Rattle.rd_base.specs.declared.journal.Key.{Key};
 ghost use Rattle.rd_chunk.specs.Carrier.{IsMessage};
 ghost use Rattle.rd_script.specs.declared.line.NumberedLine.{NumberedLine};
 ghost use Rattle.rd_runs.specs.Moves.{Reached};
-ghost use Rattle.rd_runs.specs.Premises.{HostPremises};
+ghost use Rattle.rd_runs.specs.Premises.{AreCompletionsFit, HostPremises};
 ghost use Rattle.rd_world.specs.HostDeeds.{MayDo, side_of};
 ghost use Rattle.rd_world.specs.Joining.{IsCarried};
+ghost use Rattle.rd_world.specs.Opening.{AreDeclared};
 ghost use Rattle.rd_world.specs.Recording.{client_channel, client_id, written_by};
 ghost use Rattle.rd_world.specs.Run.{Most, WorldRun, choices, run_of};
 ghost use Rattle.rd_world.specs.Talk.{AtEachPoint, EachAfter, open_channel};
@@ -34,4 +35,10 @@ pub fn runs_keep_hosts()
 pub fn runs_carry()
     ensures carried { (lines : List NumberedLine) (starves : Key → Bool) → HostPremises lines starves → (w : WorldState) → Reached lines starves w → All (λ deed. IfSome (written_by deed) IsMessage) w.deeds → AtEachPoint IsCarried w.deeds }
     ensures on_open { (lines : List NumberedLine) (starves : Key → Bool) → HostPremises lines starves → (w : WorldState) → Reached lines starves w → All (λ deed. IfSome (written_by deed) IsMessage) w.deeds → EachAfter (λ before deed. IfSome (client_channel deed) (λ c. open_channel before ≡ Some c)) w.deeds }
+{}
+
+/// Where what devices complete is of a message's size, all that was written is: by the limits of a script its devices' announcements are short, and by the table's
+/// its requests are.
+pub fn runs_fit()
+    ensures { (lines : List NumberedLine) (starves : Key → Bool) → HostPremises lines starves → AreDeclared lines → AreCompletionsFit lines starves → (w : WorldState) → Reached lines starves w → All (λ deed. IfSome (written_by deed) IsMessage) w.deeds }
 {}
