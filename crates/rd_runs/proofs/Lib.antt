@@ -14,3 +14,5 @@ pub mod TrafficLemmas
 pub mod Carrying
 pub mod SizeLemmas
 pub mod Sizes
+pub mod FileNumbers
+pub mod RoomLemmas
