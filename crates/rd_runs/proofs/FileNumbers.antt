@@ -1,5 +1,5 @@
 -- The number of a file that a completion gives has room in its field, whatever else the completion carries.
-use Rattle.std.proofs.Common.{◌≡◌, ◌∙◌, refl, sym, ap, subst, ℕ, zero, suc, ◌+◌, ◌*◌, ◌/◌, ◌%◌, ◌||◌, ◌<◌, ◌≤◌, ◌^◌, ◌==◌, arith, cond, Bool, true, false, List, [], ◌∷◌, ◌++◌, length, take, drop, replicate, Some, None, Option, Result, Ok, Err}
+use Rattle.std.proofs.Common.{◌≡◌, ◌∙◌, refl, sym, ap, subst, ℕ, zero, suc, ◌+◌, ◌/◌, ◌%◌, ◌||◌, ◌<◌, ◌^◌, ◌==◌, arith, cond, Bool, true, false, List, [], ◌∷◌, ◌++◌, length, take, drop, replicate, Some, None, Result, Ok, Err}
 use Rattle.std.specs.Prelude.{if◌then◌else◌, nat_lt}
 use Rattle.std.specs.Option.{IfSome}
 use Rattle.rd_base.specs.declared.bad.Bad.{Bad}
@@ -23,14 +23,14 @@ use Rattle.rd_hello.specs.declared.hello.Hello.TheVariants as hello
 use Rattle.rd_hello.specs.Hello.{hello_body_bytes, hello_bytes, packet_of_hello}
 use Rattle.rd_base.specs.Position.{Position, at_start}
 use Rattle.rd_base.proofs.LayoutLemmas.{met_below}
-use Rattle.rd_base.proofs.ResultLemmas.{and_then_ok, ok_one}
+use Rattle.rd_base.proofs.ResultLemmas.{and_then_ok}
 use Rattle.rd_irp.specs.declared.completion.Body.{Body}
 use Rattle.rd_irp.specs.declared.completion.Body.TheVariants as body
 use Rattle.rd_irp.specs.declared.completion.Head.{Head}
 use Rattle.rd_irp.specs.declared.completion.Kind.{Kind}
 use Rattle.rd_irp.specs.declared.completion.Kind.TheVariants as kind
 use Rattle.rd_irp.specs.Completion.{completion_body, completion_head, success_body}
-use Rattle.rd_irp.specs.Written.{body_bytes, completion_bytes, head_bytes}
+use Rattle.rd_irp.specs.Written.{body_bytes, completion_bytes}
 use Rattle.rd_world.proofs.Messages.{no_head_in, written_packet}
 use Rattle.rd_world.specs.Hearing.{created_file}
 use Rattle.rd_world.specs.Talk.{head_in}

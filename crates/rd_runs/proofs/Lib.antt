@@ -16,3 +16,4 @@ pub mod SizeLemmas
 pub mod Sizes
 pub mod FileNumbers
 pub mod RoomLemmas
+pub mod Together

@@ -1,6 +1,6 @@
 -- The numbers in a host's table have room in their fields: the devices of its requests, and the files that their replies give.
-use Rattle.std.proofs.Common.{◌≡◌, ◌∙◌, refl, sym, ap, subst, ℕ, zero, suc, ◌+◌, ◌<◌, ◌^◌, ◌==◌, ◌&&◌, Bool, true, false, cond, List, [], ◌∷◌, ◌++◌, map, fold, Some, None, Option, Result, Ok, Err, Ordering, is_some}
-use Rattle.std.specs.Prelude.{if◌then◌else◌, is_none, nat_le}
+use Rattle.std.proofs.Common.{◌≡◌, ◌∙◌, refl, sym, ap, subst, ℕ, suc, ◌+◌, ◌<◌, ◌^◌, ◌==◌, ◌&&◌, Bool, true, false, cond, List, [], ◌∷◌, fold, Some, None, Option, Result, Ok, Err, Ordering, is_some}
+use Rattle.std.specs.Prelude.{if◌then◌else◌, is_none}
 use Rattle.std.specs.List.{AllByRecursion}
 use Rattle.std.specs.Map.{lookup, remove_entry, set_value}
 use Rattle.std.specs.Ordering.{match_ordering, nat_cmp}
@@ -23,8 +23,6 @@ use Rattle.rd_irp.specs.declared.completion.Body.{Body}
 use Rattle.rd_irp.specs.declared.completion.Head.{Head}
 use Rattle.rd_irp.specs.declared.op.Op.{Op}
 use Rattle.rd_irp.specs.Completion.{completion_body}
-use Rattle.rd_pending.specs.declared.calls.Completed.{Completed}
-use Rattle.rd_pending.specs.declared.calls.CompleteNo.{CompleteNo}
 use Rattle.rd_pending.specs.declared.calls.LiveNo.{LiveNo}
 use Rattle.rd_pending.specs.declared.calls.Outcome as outcomes
 use Rattle.rd_pending.specs.declared.calls.Outcome.TheVariants.{Done, Lost}

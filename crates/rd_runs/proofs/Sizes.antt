@@ -36,9 +36,9 @@ use Rattle.rd_runs.proofs.Carrying.{AreFit, IsFit}
 use Rattle.rd_runs.proofs.HostLemmas.{IsHostOf}
 use Rattle.rd_runs.proofs.Insides.{AreOwn, IsInside, Outside, added_inside, all_dropped_inside, all_refreshed_inside, applied_inside, hears_inside, put_inside, removed_inside, stationed}
 use Rattle.rd_runs.proofs.KeysOn.{all_dropped_client}
-use Rattle.rd_runs.proofs.Parts.{IsBehind, MayBe, Part, accepts, adds_one, announced_by, applies_one, begins, by_parts, client_gets, client_hears_one, client_keeps_part, client_sends_one, collects_one, cut_by, done, draws_one, ends, hands_out, host_gets, host_hears_one, host_keeps_part, host_sends_one, idle_one, queues_one, refreshed_by, refuses, removes_one, takes_one, tells_one, told_added, told_removed, tries_one}
+use Rattle.rd_runs.proofs.Parts.{MayBe, Part, accepts, adds_one, announced_by, applies_one, begins, client_gets, client_hears_one, client_keeps_part, client_sends_one, collects_one, cut_by, done, draws_one, ends, hands_out, host_gets, host_hears_one, host_keeps_part, host_sends_one, idle_one, queues_one, refreshed_by, refuses, removes_one, takes_one, tells_one, told_added, told_removed, tries_one}
 use Rattle.rd_runs.proofs.SizeLemmas.{ClientFits, added_fits, begun_fits, data_few, direct_fits, emptied_fits, heard_fits, refreshed_fits, removed_fits, sent_fits, side_heard_kept}
-use Rattle.rd_runs.proofs.Standing.{FitLines, stands}
+use Rattle.rd_runs.proofs.Standing.{AreTellable, Stands}
 use Rattle.rd_world.proofs.OpenedLemmas.{opens_all}
 use Rattle.rd_world.proofs.OpeningLemmas.{declared_openable}
 use Rattle.rd_world.proofs.ShortLemmas.{announces_first}
@@ -207,30 +207,30 @@ first_client devices are =
       short = subst AreShort (sym (announces_first list)) opened.short;
     }
 
-module _ (lines : List NumberedLine) (starves : Key → Bool) (fit : FitLines lines starves) (declared : AreDeclared lines) (completions : AreCompletionsFit lines starves) where
-  first : Fits (world_of lines)
-  first =
+module _ (lines : List NumberedLine) (starves : Key → Bool) (told : AreTellable lines) (declared : AreDeclared lines) (completions : AreCompletionsFit lines starves) where
+  pub fits_first : Fits (world_of lines)
+  fits_first =
       let devices : List (ℕ × Declared) = declared_devices (bare_lines lines) in
       let are : AreOpenable devices = declared_openable lines declared in
       begins_as lines FitsAs (record { deeds = tt; host = kept_new as_it_is host_state.Start; ends = first_client devices are; names = short_printers devices are.each })
 
-  step : (w : WorldState) (p : Part) → IsBehind lines starves w → MayBe lines starves w p → Fits w → Fits (done starves w p)
-  step w (accepts a asked named t number) b may f = record { deeds = (tt, f.deeds); host = f.host; ends = f.ends; names = f.names }
-  step w (refuses a asked cause) b may f = record { deeds = f.deeds; host = f.host; ends = f.ends; names = f.names }
-  step w (hands_out a number t taken None) b may f = record { deeds = (tt, f.deeds); host = f.host; ends = f.ends; names = f.names }
-  step w (hands_out a number t taken (Some asked)) b may f = record { deeds = (tt, f.deeds); host = f.host; ends = f.ends; names = f.names }
-  step w (host_sends_one message) b next f = record {
-    deeds = (next_fits w.side w.channels w.deeds message (stands lines starves fit w b).host f.host next, f.deeds);
+  pub fits_step : (w : WorldState) (p : Part) → Stands w → MayBe lines starves w p → Fits w → Fits (done starves w p)
+  fits_step w (accepts a asked named t number) stand may f = record { deeds = (tt, f.deeds); host = f.host; ends = f.ends; names = f.names }
+  fits_step w (refuses a asked cause) stand may f = record { deeds = f.deeds; host = f.host; ends = f.ends; names = f.names }
+  fits_step w (hands_out a number t taken None) stand may f = record { deeds = (tt, f.deeds); host = f.host; ends = f.ends; names = f.names }
+  fits_step w (hands_out a number t taken (Some asked)) stand may f = record { deeds = (tt, f.deeds); host = f.host; ends = f.ends; names = f.names }
+  fits_step w (host_sends_one message) stand next f = record {
+    deeds = (next_fits w.side w.channels w.deeds message stand.host f.host next, f.deeds);
     host = sent_kept w.side f.host;
     ends = f.ends;
     names = f.names;
   }
-  step w (host_gets n) b may f = record { deeds = f.deeds; host = f.host; ends = f.ends; names = f.names }
-  step w host_keeps_part b may f = record { deeds = f.deeds; host = f.host; ends = f.ends; names = f.names }
-  step w (host_hears_one message rest) b may f = record { deeds = (tt, f.deeds); host = side_heard_kept w.side message f.host; ends = f.ends; names = f.names }
-  step w (tells_one n) b ((l, has, said), can) f =
-      record { deeds = (tt, f.deeds); host = kept_message as_it_is ((w.side).core).core _ f.host (fit.told l n has said).fit; ends = f.ends; names = f.names }
-  step w begins b may f =
+  fits_step w (host_gets n) stand may f = record { deeds = f.deeds; host = f.host; ends = f.ends; names = f.names }
+  fits_step w host_keeps_part stand may f = record { deeds = f.deeds; host = f.host; ends = f.ends; names = f.names }
+  fits_step w (host_hears_one message rest) stand may f = record { deeds = (tt, f.deeds); host = side_heard_kept w.side message f.host; ends = f.ends; names = f.names }
+  fits_step w (tells_one n) stand ((l, has, says), can) f =
+      record { deeds = (tt, f.deeds); host = kept_message as_it_is ((w.side).core).core _ f.host (told l n has says).fit; ends = f.ends; names = f.names }
+  fits_step w begins stand may f =
       let devices : List ℕ = map (λ (e : ℕ × PrinterNames). e.0) w.printers in
       let fresh : WorldState = fold refreshing w devices in
       let clt = all_refreshed_client devices w f.names f.ends in
@@ -241,7 +241,7 @@ module _ (lines : List NumberedLine) (starves : Key → Bool) (fit : FitLines li
         ends = begun_fits fresh.client clt (w.channels + 1);
         names = g.names;
       }
-  step w ends b may f =
+  fits_step w ends stand may f =
       let devices : List ℕ = map (λ (e : ℕ × StationState SessionDevice). e.0) w.stations in
       let cut : WorldState = fold dropping w devices in
       let clt = subst ClientFits (sym (all_dropped_client devices w)) f.ends in
@@ -252,7 +252,7 @@ module _ (lines : List NumberedLine) (starves : Key → Bool) (fit : FitLines li
         ends = emptied_fits cut.client clt;
         names = g.names;
       }
-  step w (client_sends_one after o) b made f =
+  fits_step w (client_sends_one after o) stand made f =
       let sent = sent_fits w.client f.ends after o made in
       record { deeds = (written_on w.channels o sent.0, f.deeds); host = f.host; ends = sent.1; names = f.names }
     where
@@ -262,38 +262,34 @@ module _ (lines : List NumberedLine) (starves : Key → Bool) (fit : FitLines li
           by : (a : Option Key) → IsFit (option_map_or (λ key. completes key o.message) a (client_writes channel o.message))
           by None = fits
           by (Some key) = fits
-  step w (client_gets n) b may f = record { deeds = f.deeds; host = f.host; ends = f.ends; names = f.names }
-  step w client_keeps_part b may f = record { deeds = f.deeds; host = f.host; ends = f.ends; names = f.names }
-  step w (client_hears_one message rest) b may f =
+  fits_step w (client_gets n) stand may f = record { deeds = f.deeds; host = f.host; ends = f.ends; names = f.names }
+  fits_step w client_keeps_part stand may f = record { deeds = f.deeds; host = f.host; ends = f.ends; names = f.names }
+  fits_step w (client_hears_one message rest) stand may f =
       let x : WorldState = record w { to_client = record w.to_client { part = []; taken = _; unhandled = rest } } in
       inside_fits (with_deed x (client_reads w.channels message)) (done starves w (client_hears_one message rest)) (hears_inside x message)
       (record { deeds = (tt, f.deeds); host = f.host; ends = f.ends; names = f.names }) (hears_client x message f.ends)
-  step w (tries_one k) b may f =
+  fits_step w (tries_one k) stand may f =
       let x : WorldState = record w { kept = None } in
       inside_fits x (done starves w (tries_one k)) (put_inside x k.device k.job) (record { deeds = f.deeds; host = f.host; ends = f.ends; names = f.names }) (put_client x k.device k.job f.ends)
-  step w (collects_one device s after c) b (reached, quiet, there, made) f =
+  fits_step w (collects_one device s after c) stand (reached, quiet, there, made) f =
       let y : WorldState = with_station w device after in
       let g : Fits y = inside_fits w y (stationed w device after) f f.ends in
       record { deeds = (completions w reached device s after c there made, g.deeds); host = g.host; ends = g.ends; names = g.names }
-  step w (takes_one device hand s after job) b may f =
+  fits_step w (takes_one device hand s after job) stand may f =
       let y : WorldState = with_station w device after in
       let g : Fits y = inside_fits w y (stationed w device after) f f.ends in
       record { deeds = g.deeds; host = g.host; ends = g.ends; names = g.names }
-  step w (applies_one hand device job None) b may f = record { deeds = f.deeds; host = f.host; ends = f.ends; names = f.names }
-  step w (applies_one hand device job (Some s)) b may f =
+  fits_step w (applies_one hand device job None) stand may f = record { deeds = f.deeds; host = f.host; ends = f.ends; names = f.names }
+  fits_step w (applies_one hand device job (Some s)) stand may f =
       inside_fits w (done starves w (applies_one hand device job (Some s))) (applied_inside starves w hand device job (Some s)) f f.ends
-  step w (removes_one device o) b may f =
+  fits_step w (removes_one device o) stand may f =
       inside_fits w (done starves w (removes_one device o)) (removed_inside w device o) f
       (subst ClientFits (sym (cut_client (told_removed w device) device o)) (removed_fits w.client f.ends device))
-  step w (adds_one device names o) b (can, printer, there) f =
+  fits_step w (adds_one device names o) stand (can, printer, there) f =
       let fresh : WorldState = refreshed_by w device names in
       let clt = refreshed_client w device names (subst (λ (o : Option PrinterNames). IfSome o AreShortNames) printer (found_short w.printers device f.names)) f.ends in
       inside_fits w (done starves w (adds_one device names o)) (added_inside w device names o) f
       (subst ClientFits (sym (announced_client (told_added fresh device) device o)) (added_fits fresh.client clt device))
-  step w (queues_one a) b may f = record { deeds = f.deeds; host = f.host; ends = f.ends; names = f.names }
-  step w (idle_one number) b may f = record { deeds = f.deeds; host = f.host; ends = f.ends; names = f.names }
-  step w draws_one b may f = record { deeds = f.deeds; host = f.host; ends = f.ends; names = f.names }
-
-  -- every world that lines come to, and each in between
-  pub all_fit : (w : WorldState) → IsBehind lines starves w → Fits w
-  all_fit = by_parts lines starves Fits first (λ w p before after may f. step w p before may f)
+  fits_step w (queues_one a) stand may f = record { deeds = f.deeds; host = f.host; ends = f.ends; names = f.names }
+  fits_step w (idle_one number) stand may f = record { deeds = f.deeds; host = f.host; ends = f.ends; names = f.names }
+  fits_step w draws_one stand may f = record { deeds = f.deeds; host = f.host; ends = f.ends; names = f.names }

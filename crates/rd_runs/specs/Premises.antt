@@ -11,9 +11,10 @@ use Rattle.rd_station.specs.Station.{StationState, collect}
 use Rattle.rd_world.specs.declared.device.SessionDevice.{SessionDevice}
 use Rattle.rd_world.specs.Events.{completion_message}
 use Rattle.rd_world.specs.Noting.{AreNotable}
+use Rattle.rd_world.specs.Opening.{AreDeclared}
 use Rattle.rd_world.specs.Run.{asked_by}
 use Rattle.rd_world.specs.Talk.{Has}
-use Rattle.rd_world.specs.World.{Asked, WorldState, application_at, handle_named, station_at}
+use Rattle.rd_world.specs.World.{Asked, WorldState, station_at}
 use Rattle.rd_runs.specs.Moves.{Reached}
 
 -- What a line asks for fits a request, whose fields have room for its numbers.
@@ -30,14 +31,15 @@ AreFitting lines = (l : NumberedLine) (a : ℕ) (asked : Asked) → Has l lines 
 abbrev pub IsHandleInRange : Handle → Type 0
 IsHandleInRange h = (h.device < 2 ^ 32) × (h.file < 2 ^ 32)
 
--- What lines ask for fits, what they tell of printers is short, and the numbers of handles have room in each world that they come to.
-pub record HostPremises (lines : List NumberedLine) (starves : Key → Bool) : Type 0 where
-  pub fitting : AreFitting lines
-  pub notable : AreNotable lines
-  pub handles : (w : WorldState) → Reached lines starves w → (a : ℕ) (name : List ℕ) (h : Handle) → handle_named (application_at w a) name ≡ Some h → IsHandleInRange h
-
 -- Each completion that can be collected in a world that lines come to is of a message's size.
 abbrev pub AreCompletionsFit : List NumberedLine → (Key → Bool) → Type 0
 AreCompletionsFit lines starves =
     (w : WorldState) → Reached lines starves w → (device : ℕ) (s after : StationState SessionDevice) (c : Completion) → station_at w device ≡ Some s → collect s ≡ (after, Some c)
     → IsMessage (completion_message device c)
+
+-- Of lines: what they ask for fits, what they declare is within the limits of a script, and what they tell of printers is short. And what devices complete fits.
+pub record RunPremises (lines : List NumberedLine) (starves : Key → Bool) : Type 0 where
+  pub fitting : AreFitting lines
+  pub declared : AreDeclared lines
+  pub notable : AreNotable lines
+  pub completions : AreCompletionsFit lines starves
