@@ -17,3 +17,5 @@ pub mod Sizes
 pub mod FileNumbers
 pub mod RoomLemmas
 pub mod Together
+pub mod Handled
+pub mod Resting

@@ -7,11 +7,12 @@ ghost use Rattle.rd_pending.specs.declared.calls.Handle.{Handle};
 ghost use Rattle.rd_script.specs.declared.line.NumberedLine.{NumberedLine};
 ghost use Rattle.rd_runs.specs.Moves.{Reached};
 ghost use Rattle.rd_runs.specs.Premises.{IsHandleInRange, RunPremises};
+ghost use Rattle.rd_world.specs.Host.{next_message};
 ghost use Rattle.rd_world.specs.HostDeeds.{MayDo, side_of};
 ghost use Rattle.rd_world.specs.Joining.{IsCarried};
 ghost use Rattle.rd_world.specs.Recording.{client_channel, client_id, written_by};
 ghost use Rattle.rd_world.specs.Run.{Most, WorldRun, choices, run_of};
-ghost use Rattle.rd_world.specs.Talk.{AtEachPoint, EachAfter, open_channel};
+ghost use Rattle.rd_world.specs.Talk.{AtEachPoint, EachAfter, client_read, client_wrote, host_read, host_wrote, open_channel};
 ghost use Rattle.rd_world.specs.World.{WorldState, application_at, handle_named, marks_of};
 
 /// A run is moves, one after the other: events that can happen, lines that are queued, lines that did nothing, and draws. Where it ends nothing more can
@@ -38,4 +39,12 @@ pub fn runs_carry()
     ensures carried { (lines : List NumberedLine) (starves : Key → Bool) → RunPremises lines starves → (w : WorldState) → Reached lines starves w → AtEachPoint IsCarried w.deeds }
     ensures fit { (lines : List NumberedLine) (starves : Key → Bool) → RunPremises lines starves → (w : WorldState) → Reached lines starves w → All (λ deed. IfSome (written_by deed) IsMessage) w.deeds }
     ensures on_open { (lines : List NumberedLine) (starves : Key → Bool) → RunPremises lines starves → (w : WorldState) → Reached lines starves w → EachAfter (λ before deed. IfSome (client_channel deed) (λ c. open_channel before ≡ Some c)) w.deeds }
+{}
+
+/// Where a run ends on a channel that is still open, neither end has something to send, the host has read all that the client wrote there, and the client all that the
+/// host wrote, unless it keeps a job back.
+pub fn runs_come_to_rest()
+    ensures sent { (most : Most) (starves : Key → Bool) (lines : List NumberedLine) (w : WorldState) → run_of most starves lines ≡ Some w → (next_message w.side ≡ None) × (w.client.core.outbox ≡ []) }
+    ensures heard { (most : Most) (starves : Key → Bool) (lines : List NumberedLine) (w : WorldState) → RunPremises lines starves → run_of most starves lines ≡ Some w → open_channel w.deeds ≡ Some w.channels → host_read w.channels w.deeds ≡ client_wrote w.channels w.deeds }
+    ensures read { (most : Most) (starves : Key → Bool) (lines : List NumberedLine) (w : WorldState) → RunPremises lines starves → run_of most starves lines ≡ Some w → open_channel w.deeds ≡ Some w.channels → w.kept ≡ None → client_read w.channels w.deeds ≡ host_wrote w.channels w.deeds }
 {}

@@ -6,4 +6,4 @@
 
 mod laws;
 
-pub use laws::{runs_are_moves, runs_carry, runs_keep_hosts};
+pub use laws::{runs_are_moves, runs_carry, runs_come_to_rest, runs_keep_hosts};
