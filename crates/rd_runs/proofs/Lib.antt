@@ -19,3 +19,4 @@ pub mod RoomLemmas
 pub mod Together
 pub mod Handled
 pub mod Resting
+pub mod FittingLines

@@ -1,12 +1,15 @@
 //! What holds of each world that a script's lines come to, as contracts of functions that do nothing.
 
-ghost use Rattle.std.specs.Prelude.{◌≡◌, ◌⊎◌, ℕ, [], All, Bool, IfSome, List, None, Some};
+ghost use Rattle.std.specs.Prelude.{◌≡◌, ◌⊎◌, ℕ, [], All, Bool, IfSome, List, None, Ok, Some};
 ghost use Rattle.rd_base.specs.declared.journal.Key.{Key};
 ghost use Rattle.rd_chunk.specs.Carrier.{IsMessage};
 ghost use Rattle.rd_pending.specs.declared.calls.Handle.{Handle};
+ghost use Rattle.rd_script.specs.declared.keyword.Mode.{Mode};
 ghost use Rattle.rd_script.specs.declared.line.NumberedLine.{NumberedLine};
+ghost use Rattle.rd_script.specs.declared.script.Script.{Script};
+ghost use Rattle.rd_script.specs.Script.{script_of};
 ghost use Rattle.rd_runs.specs.Moves.{Reached};
-ghost use Rattle.rd_runs.specs.Premises.{IsHandleInRange, RunPremises};
+ghost use Rattle.rd_runs.specs.Premises.{AreCompletionsFit, IsHandleInRange, RunPremises};
 ghost use Rattle.rd_world.specs.Host.{next_message};
 ghost use Rattle.rd_world.specs.HostDeeds.{MayDo, side_of};
 ghost use Rattle.rd_world.specs.Joining.{IsCarried};
@@ -47,4 +50,9 @@ pub fn runs_come_to_rest()
     ensures sent { (most : Most) (starves : Key → Bool) (lines : List NumberedLine) (w : WorldState) → run_of most starves lines ≡ Some w → (next_message w.side ≡ None) × (w.client.core.outbox ≡ []) }
     ensures heard { (most : Most) (starves : Key → Bool) (lines : List NumberedLine) (w : WorldState) → RunPremises lines starves → run_of most starves lines ≡ Some w → open_channel w.deeds ≡ Some w.channels → host_read w.channels w.deeds ≡ client_wrote w.channels w.deeds }
     ensures read { (most : Most) (starves : Key → Bool) (lines : List NumberedLine) (w : WorldState) → RunPremises lines starves → run_of most starves lines ≡ Some w → open_channel w.deeds ≡ Some w.channels → w.kept ≡ None → client_read w.channels w.deeds ≡ host_wrote w.channels w.deeds }
+{}
+
+/// The lines of every script are as the statements above take them: what is left to show is that what its devices complete is of a message's size.
+pub fn scripts_meet_premises()
+    ensures { (m : Mode) (text : List ℕ) (script : Script) (starves : Key → Bool) → script_of m text ≡ Ok script → AreCompletionsFit script.lines starves → RunPremises script.lines starves }
 {}
