@@ -1,2 +1,6 @@
 pub mod DeviceLemmas
 pub mod CallLemmas
+pub mod AskingLemmas
+pub mod HeldLemmas
+pub mod OrderlyLemmas
+pub mod ClientLemmas

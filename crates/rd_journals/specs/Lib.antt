@@ -1,1 +1,3 @@
 pub mod Stations
+pub mod Reads
+pub mod Orderly
