@@ -4,3 +4,4 @@ pub mod AskingLemmas
 pub mod HeldLemmas
 pub mod OrderlyLemmas
 pub mod ClientLemmas
+pub mod HostLemmas
