@@ -5,3 +5,4 @@ pub mod HeldLemmas
 pub mod OrderlyLemmas
 pub mod ClientLemmas
 pub mod HostLemmas
+pub mod ChannelLemmas
