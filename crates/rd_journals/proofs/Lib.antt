@@ -6,3 +6,4 @@ pub mod OrderlyLemmas
 pub mod ClientLemmas
 pub mod HostLemmas
 pub mod ChannelLemmas
+pub mod RunLemmas
