@@ -1,10 +1,10 @@
 -- What a client makes of a message: which key a request gets.
-use Rattle.std.proofs.Common.{◌≡◌, refl, sym, ap, subst, ℕ, ◌+◌, ◌==◌, Bool, true, false, cond, List, Some, None, Option}
+use Rattle.std.proofs.Common.{◌≡◌, refl, sym, ap, subst, ℕ, ◌+◌, Bool, true, false, cond, List, Some, None, Option}
 use Rattle.std.specs.Prelude.{is_some, Result, Ok, Err}
 use Rattle.rd_base.specs.declared.bad.Bad.{Bad}
 use Rattle.rd_base.specs.declared.packet.Packet.{Packet}
 use Rattle.rd_base.specs.declared.packet.Packet.TheVariants as packet
-use Rattle.rd_base.specs.Header.{any_header, packet_id}
+use Rattle.rd_base.specs.Header.{any_header}
 use Rattle.rd_base.specs.Layout.{met}
 use Rattle.rd_base.specs.Position.{Position, at_start}
 use Rattle.rd_client.specs.Core as client
@@ -17,7 +17,6 @@ use Rattle.rd_core.specs.Hearing.{Meaning, read_as}
 use Rattle.rd_devices.specs.declared.reply.DeviceReply.{DeviceReply}
 use Rattle.rd_devices.specs.DeviceList.{list_bytes}
 use Rattle.rd_devices.specs.DeviceReply.{device_reply}
-use Rattle.rd_drive.specs.declared.plan.Job.{Job}
 use Rattle.rd_hello.specs.ClientTable.{client_step}
 use Rattle.rd_hello.specs.Hello.{hello}
 use Rattle.rd_hello.specs.Moves.{packet_in}

@@ -1,5 +1,5 @@
 -- What each call of a station keeps, whatever the channel.
-use Rattle.std.proofs.Common.{◌≡◌, ◌⊎◌, ◌∙◌, refl, sym, ap, subst, inl, inr, ℕ, suc, ◌+◌, ◌<◌, ◌≤◌, ◌==◌, Bool, true, false, cond, not, List, [], ◌∷◌, ◌++◌, length, map, arith, append-nil}
+use Rattle.std.proofs.Common.{◌≡◌, ◌⊎◌, ◌∙◌, refl, sym, ap, subst, inl, inr, ℕ, ◌+◌, ◌<◌, ◌≤◌, Bool, true, false, cond, not, List, [], ◌∷◌, ◌++◌, length, map, arith, append-nil}
 use Rattle.std.specs.Prelude.{Err, IfSome, None, Ok, Option, Result, Some, filter, find, nat_le, nat_lt}
 use Rattle.std.specs.List.{AllByRecursion}
 use Rattle.std.specs.Map.{lookup}
@@ -10,7 +10,7 @@ use Rattle.std.proofs.lemmas.Bool.Decides.{nat_tests}
 use Rattle.rd_base.specs.Lawful.{IsBelow, named_key}
 use Rattle.rd_base.specs.declared.journal.Cause.TheVariants.{Dropped, Removed}
 use Rattle.rd_base.specs.declared.journal.Item.{Item}
-use Rattle.rd_base.specs.declared.journal.Item.TheVariants.{Came, Ran, Cancelled, Sent, Cut}
+use Rattle.rd_base.specs.declared.journal.Item.TheVariants.{Came, Cancelled, Cut}
 use Rattle.rd_base.specs.declared.journal.Key.{Key}
 use Rattle.rd_drive.specs.Device.{is_parked}
 use Rattle.rd_drive.specs.Planned.{Planned}
@@ -27,17 +27,15 @@ use Rattle.rd_station.specs.declared.answers.Completion.{Completion}
 use Rattle.rd_station.specs.declared.answers.Given.{Given}
 use Rattle.rd_station.specs.declared.answers.Given.TheVariants as given
 use Rattle.rd_station.specs.declared.held.InHand.{InHand}
-use Rattle.rd_station.specs.declared.memory.Memory.{Memory}
 use Rattle.rd_station.specs.declared.refusals.AnnounceNo.{AnnounceNo}
 use Rattle.rd_station.specs.declared.refusals.AnnounceNo.TheVariants as refused
-use Rattle.rd_station.proofs.Calls.{did_run}
-use Rattle.rd_station.proofs.Members.{all_of, find_has, from_contains, to_contains}
+use Rattle.rd_station.proofs.Members.{all_of, find_has, to_contains}
 use Rattle.rd_station.proofs.Remembering.{has_any}
 use Rattle.rd_station.proofs.Soundness.{cancelled_then, collected_first, ran_then, removed_then, sound_announce, sound_cancel, sound_collect, sound_drop, sound_new, sound_put, sound_remove, sound_run, sound_take, taken_first}
 use Rattle.rd_world.specs.Devices.{device_cuts, device_parked, device_runs}
 use Rattle.rd_world.specs.Talk.{Has}
 use Rattle.rd_world.specs.declared.device.SessionDevice.{SessionDevice}
-use Rattle.rd_world.proofs.KeysLemmas.{Comes, MayStore, Stores, step_names, step_stores}
+use Rattle.rd_world.proofs.KeysLemmas.{Comes, MayStore, step_names, step_stores}
 use Rattle.rd_journals.specs.Stations.{IsFit, IsIdle, IsOn}
 
 abbrev Of : Type 0

@@ -1,5 +1,5 @@
 -- A removal, an addition, a channel's begin and its end keep a world orderly.
-use Rattle.std.proofs.Common.{◌≡◌, ◌∙◌, refl, sym, ap, subst, inl, inr, ℕ, suc, ◌+◌, ◌<◌, ◌≤◌, ◌==◌, ◌||◌, Bool, true, false, cond, List, [], ◌∷◌, ◌++◌, length, map, arith, eq-eqb, eqb-true}
+use Rattle.std.proofs.Common.{◌≡◌, ◌∙◌, refl, sym, ap, subst, inl, inr, ℕ, suc, ◌+◌, ◌<◌, ◌≤◌, ◌==◌, ◌||◌, Bool, true, false, cond, List, [], ◌∷◌, length, map, arith, eq-eqb, eqb-true}
 use Rattle.std.specs.Prelude.{Some, None, Option, filter, fold, is_some}
 use Rattle.std.specs.Map.{lookup}
 use Rattle.std.specs.Option.{option_map_or}
@@ -12,17 +12,16 @@ use Rattle.rd_client.specs.Core as client
 use Rattle.rd_client.specs.Core.{ClientCoreState, client_begin}
 use Rattle.rd_pending.specs.Table as table
 use Rattle.rd_pending.specs.Table.{TableState}
-use Rattle.rd_station.specs.Memory.{NamesKey}
 use Rattle.rd_station.specs.Station as station
 use Rattle.rd_station.specs.Station.{StationState}
 use Rattle.rd_world.specs.Devices.{PrinterNames, device_cut, printer_data}
-use Rattle.rd_world.specs.Events.{adds_device, connects, cutting, dropping, drops, refreshing, removes_device, removing}
-use Rattle.rd_world.specs.Hearing.{tries_kept, with_client}
+use Rattle.rd_world.specs.Events.{adds_device, connects, dropping, drops, refreshing, removes_device, removing}
+use Rattle.rd_world.specs.Hearing.{with_client}
 use Rattle.rd_world.specs.Host.{begins_on, ends_channel}
 use Rattle.rd_world.specs.Talk.{adds, client_read, host_begins, host_ends, is_request, removes}
 use Rattle.rd_world.specs.World.{WorldState, ending, new_way, station_at, with_deed, with_station}
 use Rattle.rd_world.specs.declared.device.SessionDevice.{SessionDevice}
-use Rattle.rd_journals.specs.Orderly.{AreHeld, AreOrdered, HasStation, IsShut, Orderly, OrderlyOn, current}
+use Rattle.rd_journals.specs.Orderly.{AreHeld, HasStation, Orderly, OrderlyOn, current}
 use Rattle.rd_journals.specs.Reads.{IsGiven}
 use Rattle.rd_journals.specs.Stations.{IsOn}
 use Rattle.rd_journals.proofs.CallLemmas.{Goes, NoKey, dropped, removed}

@@ -1,5 +1,5 @@
 -- What a client hears, and what its stations and hands do, keeps a world orderly.
-use Rattle.std.proofs.Common.{◌≡◌, ◌∙◌, refl, sym, ap, subst, inl, inr, ℕ, zero, suc, ◌<◌, ◌+◌, ◌==◌, ◌&&◌, Bool, true, false, cond, not, List, [], ◌∷◌, ◌++◌, length, arith, eq-eqb}
+use Rattle.std.proofs.Common.{◌≡◌, ◌∙◌, refl, sym, ap, subst, inl, inr, ℕ, zero, suc, ◌<◌, ◌+◌, ◌==◌, ◌&&◌, Bool, true, false, cond, not, List, [], ◌∷◌, length, arith, eq-eqb}
 use Rattle.std.specs.Prelude.{Some, None, Option, filter, fold, is_some, if◌then◌else◌, Result, Ok, Err}
 use Rattle.std.specs.List.{cons_option}
 use Rattle.std.specs.Option.{option_and_then, option_map_or}
@@ -26,17 +26,16 @@ use Rattle.rd_station.specs.declared.answers.Given.TheVariants as given
 use Rattle.rd_station.specs.declared.refusals.PutWhy.{PutWhy}
 use Rattle.rd_station.specs.declared.refusals.PutWhy.TheVariants as why
 use Rattle.rd_world.specs.Events.{applies_at, applies_held, applies_job, came_of, collects, collects_from, completion_message, hand_at, is_close, takes_job, takes_job_from}
-use Rattle.rd_world.specs.Hearing.{after_opening, announcing, answers_directly, client_handles, client_handles_all, client_handles_first, client_hears, heard_by_client, is_device_told, put_at, put_by, putting, refused_put, tries, tries_kept, with_client}
-use Rattle.rd_world.specs.Talk.{Deed, client_read, client_reads, completes, is_request, request_at, request_in}
+use Rattle.rd_world.specs.Hearing.{after_opening, announcing, answers_directly, client_handles, client_handles_all, client_handles_first, client_hears, heard_by_client, is_device_told, put_at, put_by, putting, tries, tries_kept, with_client}
+use Rattle.rd_world.specs.Talk.{client_read, client_reads, completes, is_request, request_at, request_in}
 use Rattle.rd_world.specs.World.{Kept, WayState, WorldState, client_sends, handling, most_messages, station_at, with_deed, with_station}
 use Rattle.rd_world.specs.declared.device.SessionDevice.{SessionDevice}
-use Rattle.rd_journals.specs.Orderly.{AreHeld, AreOrdered, HasStation, IsNext, Orderly, OrderlyOn, current}
-use Rattle.rd_journals.specs.Reads.{ComesRead, IsGiven, IsRead}
-use Rattle.rd_journals.specs.Stations.{IsOn}
+use Rattle.rd_journals.specs.Orderly.{IsNext, Orderly, OrderlyOn, current}
+use Rattle.rd_journals.specs.Reads.{IsGiven, IsRead}
 use Rattle.rd_journals.proofs.AskingLemmas.{HeardAs, hears}
 use Rattle.rd_journals.proofs.CallLemmas.{Goes, NoKey, announced, applied_back, came, collected, may_put, taken}
 use Rattle.rd_journals.proofs.DeviceLemmas.{comes, ran_fits}
-use Rattle.rd_journals.proofs.OrderlyLemmas.{beside, beside_open, goes_orderly, still_orderly, while_open}
+use Rattle.rd_journals.proofs.OrderlyLemmas.{beside_open, goes_orderly, still_orderly, while_open}
 
 abbrev Of : Type 0
 Of = StationState SessionDevice
@@ -115,21 +114,24 @@ module _ (c : ℕ) (w : WorldState) (m : List ℕ) (is : Orderly w) (opened : ((
   grown asked more key less (inr here) = inr (here.0, omega (arith, less, here.1))
 
   read_orderly : (x : ClientCoreState) → x.channel ≡ (w.client).channel → (w.client).asked < x.asked + 1 → ((x.core).fault ≡ None → length (filter is_request (m ∷ client_read w.channels w.deeds)) ≡ x.asked) → OrderlyOn c (read_by x)
-  read_orderly x same less counts = (record {
-    held = record {
-      tied = (is.held).tied;
-      on = (is.held).on;
-      named = λ d s has key names. grown (w.client).asked x.asked key less ((is.held).named d s has key names);
-      none = (is.held).none;
-      reads = (tt, (is.held).reads);
-    };
-    counted = λ fine. ap (λ (ms : List (List ℕ)). length (filter is_request ms)) own_read ∙ counts fine;
-    unread = λ y above. other_read y above ∙ is.unread y above;
-    same_channel = same ∙ is.same_channel;
-    same_opened = is.same_opened;
-    kept_next = λ k some. absurd (cc (free, some));
-    shut = λ none. absurd (cc (none, opened));
-  }, opened)
+  read_orderly x same less counts = (
+    record {
+      held = record {
+        tied = (is.held).tied;
+        on = (is.held).on;
+        named = λ d s has key names. grown (w.client).asked x.asked key less ((is.held).named d s has key names);
+        none = (is.held).none;
+        reads = (tt, (is.held).reads);
+      };
+      counted = λ fine. ap (λ (ms : List (List ℕ)). length (filter is_request ms)) own_read ∙ counts fine;
+      unread = λ y above. other_read y above ∙ is.unread y above;
+      same_channel = same ∙ is.same_channel;
+      same_opened = is.same_opened;
+      kept_next = λ k some. absurd (cc (free, some));
+      shut = λ none. absurd (cc (none, opened));
+    },
+    opened,
+  )
 
   counted_other : is_request m ≡ false → ((w.client).core).fault ≡ None → length (filter is_request (m ∷ client_read w.channels w.deeds)) ≡ (w.client).asked
   counted_other other fine = ap (λ (b : Bool). length (cond b (m ∷ filter is_request (client_read w.channels w.deeds)) (filter is_request (client_read w.channels w.deeds)))) other ∙ is.counted fine

@@ -1,19 +1,14 @@
 -- What the devices of a session do is what every device promises, and leaves them fit.
-use Rattle.std.proofs.Common.{◌≡◌, ◌∙◌, refl, sym, ap, subst, ℕ, ◌≤◌, ◌==◌, length, arith, Bool, true, false, cond, List, []}
-use Rattle.std.specs.Prelude.{IsFalse, IsTrue}
+use Rattle.std.proofs.Common.{◌≡◌, ◌∙◌, refl, sym, ap, subst, ℕ, ◌≤◌, length, arith, Bool, true, false, []}
 use Rattle.rd_base.specs.Statuses.{no_memory}
 use Rattle.rd_base.specs.declared.journal.Key.{Key}
 use Rattle.rd_drive.specs.Answered.{IsAnsweredBy, parked_of}
-use Rattle.rd_drive.specs.Bounded.{IsBounded}
-use Rattle.rd_drive.specs.Device.{IsAnswerTo, Parked, Parks, is_starved}
+use Rattle.rd_drive.specs.Device.{IsAnswerTo, Parks, is_starved}
 use Rattle.rd_drive.specs.DriveState.{DriveState}
-use Rattle.rd_drive.specs.DriveStep.{drive_step, outcome_of}
-use Rattle.rd_drive.specs.Outcome.{fault}
-use Rattle.rd_drive.specs.Planned.{Planned}
+use Rattle.rd_drive.specs.DriveStep.{outcome_of}
 use Rattle.rd_drive.specs.Promise.{CutsOff}
-use Rattle.rd_drive.specs.Stepped.{Stepped, ran_step, starved_step}
+use Rattle.rd_drive.specs.Stepped.{Stepped, ran_step}
 use Rattle.rd_drive.specs.declared.plan.Job.{Job}
-use Rattle.rd_drive.specs.declared.step.End.{End}
 use Rattle.rd_drive.specs.declared.step.Step.{Step}
 use Rattle.rd_drive.specs.declared.step.Step.TheVariants as step
 use Rattle.rd_drive.proofs.AnswerLemmas.{fault_answers}
@@ -23,7 +18,6 @@ use Rattle.rd_drive.proofs.OperationLemmas.{outcome_answered}
 use Rattle.std.proofs.lemmas.List.{append-nil, length-map}
 use Rattle.rd_irp.specs.declared.op.Op.{Op}
 use Rattle.rd_irp.specs.declared.op.Op.TheVariants as op
-use Rattle.rd_printer.specs.Printer.{PrinterState, printer_step}
 use Rattle.rd_printer.proofs.PrinterLemmas.{is_printed, printers_step}
 use Rattle.rd_station.specs.Station.{CameOf}
 use Rattle.rd_world.specs.Devices.{device_cut, device_cuts, device_parked, device_runs, device_step}

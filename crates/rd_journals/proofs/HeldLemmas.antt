@@ -1,5 +1,5 @@
 -- The stations of a world and the journals that the deeds tell, where one of them goes on.
-use Rattle.std.proofs.Common.{◌≡◌, ◌≢◌, ◌⊎◌, ◌∙◌, refl, sym, ap, subst, inl, inr, ℕ, ◌==◌, Bool, true, false, cond, List, [], ◌∷◌, ◌++◌, length, map, reverse, arith, eqb-true, eq-eqb}
+use Rattle.std.proofs.Common.{◌≡◌, ◌⊎◌, ◌∙◌, refl, sym, ap, subst, inl, inr, ℕ, ◌==◌, Bool, true, false, cond, List, [], ◌∷◌, ◌++◌, length, map, reverse, arith, eqb-true, eq-eqb}
 use Rattle.std.specs.Prelude.{Some, None, Option}
 use Rattle.std.specs.List.{cons_option}
 use Rattle.std.specs.Map.{lookup}

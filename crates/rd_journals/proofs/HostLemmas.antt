@@ -1,10 +1,9 @@
 -- What a host and its applications do keeps a world orderly.
-use Rattle.std.proofs.Common.{◌≡◌, ◌∙◌, refl, sym, ap, subst, ℕ, zero, suc, Bool, true, false, cond, List, [], ◌∷◌, ◌++◌, length, map}
-use Rattle.std.specs.Prelude.{Some, None, Option, fold, is_some, if◌then◌else◌, Result, Ok, Err}
+use Rattle.std.proofs.Common.{◌≡◌, ◌∙◌, refl, sym, ap, subst, ℕ, zero, suc, Bool, true, false, List, [], ◌∷◌, map}
+use Rattle.std.specs.Prelude.{Some, None, Option, fold, if◌then◌else◌, Result, Ok, Err}
 use Rattle.std.specs.Option.{option_map_or}
 use Rattle.rd_base.specs.declared.journal.Key.{Key}
-use Rattle.rd_client.specs.Core as client
-use Rattle.rd_client.specs.Core.{ClientCoreState, Outgoing}
+use Rattle.rd_client.specs.Core.{Outgoing}
 use Rattle.rd_core.specs.Core as core
 use Rattle.rd_devices.specs.declared.list.Announce.{Announce}
 use Rattle.rd_hello.specs.declared.end_fault.EndFault.{EndFault}
@@ -29,13 +28,13 @@ use Rattle.rd_pending.proofs.Neutral.{channel_kept}
 use Rattle.rd_script.specs.declared.outcome.Outcome.{Outcome}
 use Rattle.rd_script.specs.declared.outcome.Outcome.TheVariants as outcome
 use Rattle.rd_script.specs.declared.outcome.Refusal.TheVariants as refusal
-use Rattle.rd_world.specs.Events.{asks, client_sends_first, client_sends_next, comes_of_asking, deed_on, host_sends_next, issues, issues_next, own_deed, refusal_of, target_of}
+use Rattle.rd_world.specs.Events.{asks, client_sends_first, client_sends_next, comes_of_asking, host_sends_next, issues, issues_next, refusal_of, target_of}
 use Rattle.rd_world.specs.Hearing.{all_take, ends_line, given_handle, host_handles, host_handles_all, host_handles_first, host_hears, next_asked, reported_outcome, takes_awaited, takes_from, takes_outcome, with_client, with_outcome}
 use Rattle.rd_world.specs.Host.{HostSide, admits, forgets, hears, host_heard, lived, next_message, sent_from, side_sends}
 use Rattle.rd_world.specs.Talk as deed
 use Rattle.rd_world.specs.Talk.{Deed}
 use Rattle.rd_world.specs.World.{ApplicationState, Asked, WayState, WorldState, application_at, client_sends, handling, host_sends, most_messages, with_application, with_deed, with_table}
-use Rattle.rd_journals.specs.Orderly.{AreOrdered, IsNext, Orderly, OrderlyOn}
+use Rattle.rd_journals.specs.Orderly.{AreOrdered, Orderly, OrderlyOn}
 use Rattle.rd_journals.proofs.OrderlyLemmas.{beside, beside_open, while_open}
 
 -- ---- what a host does leaves its channel as it is

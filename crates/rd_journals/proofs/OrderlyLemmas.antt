@@ -1,7 +1,6 @@
 -- What keeps a world orderly: a station that goes on, what an end does beside its stations, and what is under way while a channel is open.
-use Rattle.std.proofs.Common.{◌≡◌, ◌⊎◌, ◌∙◌, refl, sym, ap, subst, inl, inr, ℕ, suc, ◌<◌, ◌==◌, List, [], ◌∷◌, ◌++◌, length, map, reverse, arith}
+use Rattle.std.proofs.Common.{◌≡◌, ◌∙◌, refl, sym, ap, subst, inl, inr, ℕ, suc, List, [], ◌∷◌, ◌++◌, length, map, reverse, arith}
 use Rattle.std.specs.Prelude.{Some, None, Option, filter}
-use Rattle.rd_base.specs.Lawful.{IsBelow}
 use Rattle.rd_base.specs.declared.journal.Key.{Key}
 use Rattle.rd_client.specs.Core.{Outgoing}
 use Rattle.rd_drive.specs.declared.plan.Job.{Job}
@@ -11,10 +10,10 @@ use Rattle.rd_station.specs.Station.{StationState, held}
 use Rattle.rd_station.specs.declared.answers.Completion.{Completion}
 use Rattle.rd_station.specs.declared.held.InHand.{InHand}
 use Rattle.rd_station.proofs.Members.{has_right, to_contains}
-use Rattle.rd_world.specs.Talk.{Deed, EachAfter, Has, client_read, is_request, journal, request_at}
+use Rattle.rd_world.specs.Talk.{Deed, Has, client_read, is_request, journal, request_at}
 use Rattle.rd_world.specs.World.{Kept, WorldState, station_at, with_station}
 use Rattle.rd_world.specs.declared.device.SessionDevice.{SessionDevice}
-use Rattle.rd_journals.specs.Orderly.{AreHeld, AreOrdered, HasStation, IsNext, IsShut, Orderly, OrderlyOn, current}
+use Rattle.rd_journals.specs.Orderly.{AreOrdered, IsNext, Orderly, current}
 use Rattle.rd_journals.specs.Reads.{ComesRead, IsGiven, IsRead}
 use Rattle.rd_journals.specs.Stations.{IsOn}
 use Rattle.rd_journals.proofs.CallLemmas.{Goes, NoKey}

@@ -1,7 +1,6 @@
 -- Each world that is reached is orderly.
-use Rattle.std.proofs.Common.{◌≡◌, ◌∙◌, refl, sym, ap, subst, inl, inr, ℕ, zero, suc, ◌<◌, ◌≤◌, ◌&&◌, Bool, true, false, cond, List, [], ◌∷◌, ◌++◌, length, map, reverse, arith}
-use Rattle.std.specs.Prelude.{Some, None, Option, drop, is_none, is_some, nat_le, nat_lt, not, take}
-use Rattle.std.specs.List.{AllByRecursion}
+use Rattle.std.proofs.Common.{◌≡◌, refl, sym, ap, subst, ℕ, ◌&&◌, Bool, true, false, cond, List, [], ◌∷◌, map, reverse, arith}
+use Rattle.std.specs.Prelude.{Some, None, Option, is_none, is_some, nat_le, nat_lt, not}
 use Rattle.std.specs.Map.{lookup}
 use Rattle.std.specs.Option.{option_map_or}
 use Rattle.std.specs.Ordering.{nat_cmp}
@@ -9,7 +8,6 @@ use Rattle.std.specs.BTreeMap.{is_at}
 use Rattle.std.proofs.lemmas.Bool.Decides.{nat_tests}
 use Rattle.rd_base.specs.Lawful.{IsLawful, named_key}
 use Rattle.rd_base.specs.declared.journal.Key.{Key}
-use Rattle.rd_client.specs.Core as client
 use Rattle.rd_client.specs.Core.{Outgoing}
 use Rattle.rd_printer.specs.Printer.{new_printer}
 use Rattle.rd_script.specs.declared.line.NumberedLine.{NumberedLine}
@@ -26,13 +24,13 @@ use Rattle.rd_world.specs.Events.{Event, act, add, apply_job, client_has_message
 use Rattle.rd_world.specs.Host.{first_waiting, next_message}
 use Rattle.rd_world.specs.Opening.{bare_lines}
 use Rattle.rd_world.specs.Run.{applications_of, declared_devices, new_world, station_of, world_of}
-use Rattle.rd_world.specs.Talk.{Deed, journal, tells}
+use Rattle.rd_world.specs.Talk.{journal, tells}
 use Rattle.rd_world.specs.World.{ApplicationState, WorldState, having_read, station_at}
 use Rattle.rd_world.specs.declared.device.SessionDevice.{SessionDevice}
 use Rattle.rd_world.specs.declared.device.SessionDevice.TheVariants as session
 use Rattle.rd_world.proofs.BeginningLemmas.{begun_by}
 use Rattle.rd_world.proofs.OpeningLemmas.{lines_begin}
-use Rattle.rd_journals.specs.Orderly.{AreOrdered, IsShut, Orderly}
+use Rattle.rd_journals.specs.Orderly.{Orderly}
 use Rattle.rd_journals.specs.Stations.{AreFit, IsFit, IsOn}
 use Rattle.rd_journals.proofs.CallLemmas.{new_on}
 use Rattle.rd_journals.proofs.ChannelLemmas.{adds_orderly, connects_orderly, drops_orderly, removes_orderly}

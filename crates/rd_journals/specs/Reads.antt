@@ -1,5 +1,5 @@
 -- The requests that a client read, by their keys.
-use Rattle.std.specs.Prelude.{◌≡◌, ◌⊎◌, ℕ, ◌<◌, suc, if◌then◌else◌, List, [], ◌∷◌, Option, Some, None}
+use Rattle.std.specs.Prelude.{◌≡◌, ◌⊎◌, ℕ, ◌<◌, suc, if◌then◌else◌, List, [], ◌∷◌, Some}
 use Rattle.rd_base.specs.declared.journal.Item.TheVariants.{Came}
 use Rattle.rd_base.specs.declared.journal.Key.{Key}
 use Rattle.rd_irp.specs.declared.request.Request.{Request}

@@ -1,1 +1,27 @@
-//! Laws of the journals in runs, as contracts of functions that do nothing.
+//! What holds of the journals in every run, as contracts of functions that do nothing.
+
+ghost use Rattle.std.specs.Prelude.{◌≡◌, ℕ, Bool, List, Some, reverse};
+ghost use Rattle.rd_base.specs.declared.journal.Key.{Key};
+ghost use Rattle.rd_base.specs.Lawful.{IsLawful};
+ghost use Rattle.rd_script.specs.declared.line.NumberedLine.{NumberedLine};
+ghost use Rattle.rd_station.specs.Station.{StationState};
+ghost use Rattle.rd_runs.specs.Moves.{Reached};
+ghost use Rattle.rd_world.specs.Opening.{bare_lines};
+ghost use Rattle.rd_world.specs.Run.{declared_devices};
+ghost use Rattle.rd_world.specs.Stations.{IsReachedBy};
+ghost use Rattle.rd_world.specs.Talk.{EachAfter, journal};
+ghost use Rattle.rd_world.specs.World.{WorldState, station_at};
+ghost use Rattle.rd_world.specs.declared.device.SessionDevice.{SessionDevice};
+ghost use Rattle.rd_journals.specs.Orderly.{Orderly};
+ghost use Rattle.rd_journals.specs.Reads.{ComesRead};
+ghost use Rattle.rd_journals.specs.Stations.{AreFit};
+
+/// Whatever lines that declare fit devices come to: the journal of each device, as the deeds tell it, is lawful, and is that of its station, which came to be
+/// by its calls; and each key comes after the read of its request, which names the device.
+pub fn runs_keep_journals()
+    ensures lawful { (lines : List NumberedLine) (starves : Key → Bool) (w : WorldState) → AreFit (declared_devices (bare_lines lines)) → Reached lines starves w → (device : ℕ) → IsLawful (reverse (journal device w.deeds)) }
+    ensures tied { (lines : List NumberedLine) (starves : Key → Bool) (w : WorldState) → AreFit (declared_devices (bare_lines lines)) → Reached lines starves w → (device : ℕ) (s : StationState SessionDevice) → station_at w device ≡ Some s → reverse (journal device w.deeds) ≡ s.journal }
+    ensures reached { (lines : List NumberedLine) (starves : Key → Bool) (w : WorldState) → AreFit (declared_devices (bare_lines lines)) → Reached lines starves w → (device : ℕ) (s : StationState SessionDevice) → station_at w device ≡ Some s → IsReachedBy s }
+    ensures comes_read { (lines : List NumberedLine) (starves : Key → Bool) (w : WorldState) → AreFit (declared_devices (bare_lines lines)) → Reached lines starves w → EachAfter ComesRead w.deeds }
+    ensures orderly { (lines : List NumberedLine) (starves : Key → Bool) (w : WorldState) → AreFit (declared_devices (bare_lines lines)) → Reached lines starves w → Orderly w }
+{}

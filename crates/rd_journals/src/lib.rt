@@ -1,4 +1,8 @@
 //! What holds of the journals of a session's devices in every run.
+//!
+//! It stands on `rd_runs`, and has no code: each statement is the contract of a function that does nothing.
 #![tactic(auto)]
 
 mod laws;
+
+pub use laws::runs_keep_journals;
