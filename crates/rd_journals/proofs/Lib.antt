@@ -7,3 +7,4 @@ pub mod ClientLemmas
 pub mod HostLemmas
 pub mod ChannelLemmas
 pub mod RunLemmas
+pub mod ReplyLemmas

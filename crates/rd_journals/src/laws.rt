@@ -1,15 +1,20 @@
 //! What holds of the journals in every run, as contracts of functions that do nothing.
 
-ghost use Rattle.std.specs.Prelude.{◌≡◌, ℕ, Bool, List, Some, reverse};
+ghost use Rattle.std.specs.Prelude.{◌≡◌, ℕ, Bool, List, Some, ◌++◌, reverse, Contains};
+ghost use Rattle.rd_base.specs.declared.journal.Item.{Item};
 ghost use Rattle.rd_base.specs.declared.journal.Key.{Key};
 ghost use Rattle.rd_base.specs.Lawful.{IsLawful};
+ghost use Rattle.rd_drive.specs.Once.{HaveOneReplyEach};
+ghost use Rattle.rd_drive.specs.Replies.{KeyedReply};
 ghost use Rattle.rd_script.specs.declared.line.NumberedLine.{NumberedLine};
 ghost use Rattle.rd_station.specs.Station.{StationState};
 ghost use Rattle.rd_runs.specs.Moves.{Reached};
+ghost use Rattle.rd_world.specs.Devices.{Declared};
 ghost use Rattle.rd_world.specs.Opening.{bare_lines};
 ghost use Rattle.rd_world.specs.Run.{declared_devices};
+ghost use Rattle.rd_world.specs.Session.{replies_in};
 ghost use Rattle.rd_world.specs.Stations.{IsReachedBy};
-ghost use Rattle.rd_world.specs.Talk.{EachAfter, journal};
+ghost use Rattle.rd_world.specs.Talk.{Deed, EachAfter, journal};
 ghost use Rattle.rd_world.specs.World.{WorldState, station_at};
 ghost use Rattle.rd_world.specs.declared.device.SessionDevice.{SessionDevice};
 ghost use Rattle.rd_journals.specs.Orderly.{Orderly};
@@ -24,4 +29,10 @@ pub fn runs_keep_journals()
     ensures reached { (lines : List NumberedLine) (starves : Key → Bool) (w : WorldState) → AreFit (declared_devices (bare_lines lines)) → Reached lines starves w → (device : ℕ) (s : StationState SessionDevice) → station_at w device ≡ Some s → IsReachedBy s }
     ensures comes_read { (lines : List NumberedLine) (starves : Key → Bool) (w : WorldState) → AreFit (declared_devices (bare_lines lines)) → Reached lines starves w → EachAfter ComesRead w.deeds }
     ensures orderly { (lines : List NumberedLine) (starves : Key → Bool) (w : WorldState) → AreFit (declared_devices (bare_lines lines)) → Reached lines starves w → Orderly w }
+{}
+
+/// What a beginning of a journal gives stays, whatever is stored after it; and a lawful journal gives no key two replies.
+pub fn replies_stay()
+    ensures grows { (devices : List (ℕ × Declared)) (deeds : List Deed) (device : ℕ) (earlier more : List Item) (reply : KeyedReply) → Contains (replies_in devices deeds device earlier) reply → Contains (replies_in devices deeds device (earlier ++ more)) reply }
+    ensures once { (devices : List (ℕ × Declared)) (deeds : List Deed) (device : ℕ) (items : List Item) → AreFit devices → IsLawful items → HaveOneReplyEach (replies_in devices deeds device items) }
 {}

@@ -5,4 +5,4 @@
 
 mod laws;
 
-pub use laws::runs_keep_journals;
+pub use laws::{replies_stay, runs_keep_journals};
