@@ -8,3 +8,4 @@ pub mod HostLemmas
 pub mod ChannelLemmas
 pub mod RunLemmas
 pub mod ReplyLemmas
+pub mod ShortLemmas

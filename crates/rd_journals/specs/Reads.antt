@@ -1,6 +1,7 @@
 -- The requests that a client read, by their keys.
 use Rattle.std.specs.Prelude.{◌≡◌, ◌⊎◌, ℕ, ◌<◌, suc, if◌then◌else◌, List, [], ◌∷◌, Some}
-use Rattle.rd_base.specs.declared.journal.Item.TheVariants.{Came}
+use Rattle.rd_base.specs.declared.journal.Item.{Item}
+use Rattle.rd_base.specs.declared.journal.Item.TheVariants.{Came, Cut}
 use Rattle.rd_base.specs.declared.journal.Key.{Key}
 use Rattle.rd_irp.specs.declared.request.Request.{Request}
 use Rattle.rd_world.specs.Talk.{Deed, client_read, client_reads, is_request, request_at, stores}
@@ -23,3 +24,9 @@ reads (deed ∷ before) = reads before
 -- Of so many channels that began and so many requests that were read on the last one: the key is of one that was read.
 abbrev pub IsGiven : ℕ → ℕ → Key → Type 0
 IsGiven channels asked key = (key.channel < channels) ⊎ ((key.channel ≡ channels) × (key.index < asked))
+
+-- how many entries of a journal say that the device was cut off
+abbrev pub cuts : List Item → ℕ
+cuts [] = 0
+cuts (Cut cause ∷ entries) = suc (cuts entries)
+cuts (entry ∷ entries) = cuts entries

@@ -1,6 +1,6 @@
 //! What holds of the journals in every run, as contracts of functions that do nothing.
 
-ghost use Rattle.std.specs.Prelude.{◌≡◌, ℕ, Bool, List, Some, ◌++◌, reverse, Contains};
+ghost use Rattle.std.specs.Prelude.{◌≡◌, ℕ, ◌+◌, ◌*◌, ◌≤◌, Bool, List, Some, ◌++◌, length, reverse, Contains};
 ghost use Rattle.rd_base.specs.declared.journal.Item.{Item};
 ghost use Rattle.rd_base.specs.declared.journal.Key.{Key};
 ghost use Rattle.rd_base.specs.Lawful.{IsLawful};
@@ -18,7 +18,7 @@ ghost use Rattle.rd_world.specs.Talk.{Deed, EachAfter, journal};
 ghost use Rattle.rd_world.specs.World.{WorldState, station_at};
 ghost use Rattle.rd_world.specs.declared.device.SessionDevice.{SessionDevice};
 ghost use Rattle.rd_journals.specs.Orderly.{Orderly};
-ghost use Rattle.rd_journals.specs.Reads.{ComesRead};
+ghost use Rattle.rd_journals.specs.Reads.{ComesRead, cuts, reads};
 ghost use Rattle.rd_journals.specs.Stations.{AreFit};
 
 /// Whatever lines that declare fit devices come to: the journal of each device, as the deeds tell it, is lawful, and is that of its station, which came to be
@@ -35,4 +35,9 @@ pub fn runs_keep_journals()
 pub fn replies_stay()
     ensures grows { (devices : List (ℕ × Declared)) (deeds : List Deed) (device : ℕ) (earlier more : List Item) (reply : KeyedReply) → Contains (replies_in devices deeds device earlier) reply → Contains (replies_in devices deeds device (earlier ++ more)) reply }
     ensures once { (devices : List (ℕ × Declared)) (deeds : List Deed) (device : ℕ) (items : List Item) → AreFit devices → IsLawful items → HaveOneReplyEach (replies_in devices deeds device items) }
+{}
+
+/// A device's journal has at most three entries for each request that was read, and its cuts.
+pub fn journals_are_short()
+    ensures { (lines : List NumberedLine) (starves : Key → Bool) (w : WorldState) → AreFit (declared_devices (bare_lines lines)) → Reached lines starves w → (device : ℕ) → length (journal device w.deeds) ≤ 3 * reads w.deeds + cuts (journal device w.deeds) }
 {}
