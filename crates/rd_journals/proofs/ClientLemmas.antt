@@ -47,7 +47,7 @@ channel_of w = current ((w.side).table).channel w.channels
 pub channel_open : (w : WorldState) (c : ℕ) → ((w.side).table).channel ≡ Some c → channel_of w ≡ w.channels
 channel_open w c opened = ap (λ (o : Option ℕ). current o w.channels) opened
 
-isnt_some : {A : Type 0} (x : Option A) → is_some x ≡ false → x ≡ None
+pub isnt_some : {A : Type 0} (x : Option A) → is_some x ≡ false → x ≡ None
 isnt_some None e = refl
 isnt_some (Some a) e = absurd (cc)
 
@@ -87,7 +87,7 @@ announcing_orderly w d is = by (station_at w d) refl
     by None there = is
     by (Some s) there = still_orderly w d s (station.announce s).0 is there (announced (channel_of w) s ((is.held).on d s there))
 
-announcing_open : (c : ℕ) (w : WorldState) (d : ℕ) → OrderlyOn c w → OrderlyOn c (announcing w d)
+pub announcing_open : (c : ℕ) (w : WorldState) (d : ℕ) → OrderlyOn c w → OrderlyOn c (announcing w d)
 announcing_open c w d (is, opened) = (announcing_orderly w d is, by (station_at w d))
   where
     by : (o : Option Of) → let x = option_map_or (λ (s : Of). with_station w d (station.announce s).0) o w in ((x.side).table).channel ≡ Some c
@@ -100,7 +100,7 @@ all_announced c (a ∷ devices) w is = all_announced c devices (announcing w a.i
 
 module _ (c : ℕ) (w : WorldState) (m : List ℕ) (is : Orderly w) (opened : ((w.side).table).channel ≡ Some c) (free : w.kept ≡ None) where
   -- the client is this one, and has read the message
-  abbrev read_by : ClientCoreState → WorldState
+  abbrev pub read_by : ClientCoreState → WorldState
   read_by x = with_deed (with_client w x) (client_reads w.channels m)
 
   own_read : client_read w.channels (client_reads w.channels m ∷ w.deeds) ≡ m ∷ client_read w.channels w.deeds
@@ -113,7 +113,7 @@ module _ (c : ℕ) (w : WorldState) (m : List ℕ) (is : Orderly w) (opened : ((
   grown asked more key less (inl earlier) = inl earlier
   grown asked more key less (inr here) = inr (here.0, omega (arith, less, here.1))
 
-  read_orderly : (x : ClientCoreState) → x.channel ≡ (w.client).channel → (w.client).asked < x.asked + 1 → ((x.core).fault ≡ None → length (filter is_request (m ∷ client_read w.channels w.deeds)) ≡ x.asked) → OrderlyOn c (read_by x)
+  pub read_orderly : (x : ClientCoreState) → x.channel ≡ (w.client).channel → (w.client).asked < x.asked + 1 → ((x.core).fault ≡ None → length (filter is_request (m ∷ client_read w.channels w.deeds)) ≡ x.asked) → OrderlyOn c (read_by x)
   read_orderly x same less counts = (
     record {
       held = record {
@@ -133,13 +133,13 @@ module _ (c : ℕ) (w : WorldState) (m : List ℕ) (is : Orderly w) (opened : ((
     opened,
   )
 
-  counted_other : is_request m ≡ false → ((w.client).core).fault ≡ None → length (filter is_request (m ∷ client_read w.channels w.deeds)) ≡ (w.client).asked
+  pub counted_other : is_request m ≡ false → ((w.client).core).fault ≡ None → length (filter is_request (m ∷ client_read w.channels w.deeds)) ≡ (w.client).asked
   counted_other other fine = ap (λ (b : Bool). length (cond b (m ∷ filter is_request (client_read w.channels w.deeds)) (filter is_request (client_read w.channels w.deeds)))) other ∙ is.counted fine
 
-  counted_one : is_request m ≡ true → ((w.client).core).fault ≡ None → length (filter is_request (m ∷ client_read w.channels w.deeds)) ≡ (w.client).asked + 1
+  pub counted_one : is_request m ≡ true → ((w.client).core).fault ≡ None → length (filter is_request (m ∷ client_read w.channels w.deeds)) ≡ (w.client).asked + 1
   counted_one one fine = ap (λ (b : Bool). length (cond b (m ∷ filter is_request (client_read w.channels w.deeds)) (filter is_request (client_read w.channels w.deeds)))) one ∙ omega (arith, is.counted fine)
 
-  next_job : (x : ClientCoreState) (r : Request) → x.asked ≡ (w.client).asked + 1 → request_in m ≡ Some r → is_request m ≡ true → ((w.client).core).fault ≡ None
+  pub next_job : (x : ClientCoreState) (r : Request) → x.asked ≡ (w.client).asked + 1 → request_in m ≡ Some r → is_request m ≡ true → ((w.client).core).fault ≡ None
       → IsNext w.stations w.channels x.asked (client_reads w.channels m ∷ w.deeds) r.device (job_of r (w.client).channel (w.client).asked)
   next_job x r one spelled is_one fine = record {
     channel = is.same_channel;
@@ -197,7 +197,7 @@ pub handles_all_orderly : (c : ℕ) (w : WorldState) → OrderlyOn c w → Order
 handles_all_orderly c w is = handles_orderly c (most_messages w.to_client) w is
 
 -- a job that was kept back is tried again, which is so only while a channel is open
-open_or_shut : (o : Option ℕ) → (o ≡ None → ⊥) → (c : ℕ) × (o ≡ Some c)
+pub open_or_shut : (o : Option ℕ) → (o ≡ None → ⊥) → (c : ℕ) × (o ≡ Some c)
 open_or_shut None never = absurd (never refl)
 open_or_shut (Some c) never = (c, refl)
 

@@ -89,16 +89,19 @@ stored_reads d (x ∷ xs) deeds came each = (one x (λ key same. came key (inl s
     one (Sent k) is = tt
     one (Cut cause) is = tt
 
-turned_has : {A : Type 0} (x : A) (xs : List A) → Has x (reverse xs) → Has x xs
+pub turned_has : {A : Type 0} (x : A) (xs : List A) → Has x (reverse xs) → Has x xs
 turned_has x xs has = contains_has x xs (to_contains (reverse xs) x has)
+
+pub stored_deeds : (w : WorldState) (d : ℕ) (old new : Of) → station_at w d ≡ Some old → (more : List Item) → new.journal ≡ old.journal ++ more → (with_station w d new).deeds ≡ map (stores d) (reverse more) ++ w.deeds
+stored_deeds w d old new there more longer =
+    ap (λ (n : ℕ). stored_beyond n d new ++ w.deeds) (ap (λ (x : Option Of). option_map_or (λ (s : Of). length s.journal) x 0) there)
+    ∙ ap (λ (ds : List Deed). ds ++ w.deeds) (stored_more d old.journal new.journal more longer)
 
 -- ---- one station goes on
 
 module _ (New : Key → Type 0) (at then : ℕ → ℕ) (channels asked : ℕ) (w : WorldState) (d : ℕ) (old new : Of) (there : station_at w d ≡ Some old) (goes : Goes New (then d) old new) where
   pub deeds_are : (with_station w d new).deeds ≡ map (stores d) (reverse goes.more) ++ w.deeds
-  deeds_are =
-      ap (λ (n : ℕ). stored_beyond n d new ++ w.deeds) (ap (λ (x : Option Of). option_map_or (λ (s : Of). length s.journal) x 0) there)
-      ∙ ap (λ (ds : List Deed). ds ++ w.deeds) (stored_more d old.journal new.journal goes.more goes.longer)
+  deeds_are = stored_deeds w d old new there goes.more goes.longer
 
   pub read_then : (c : ℕ) → client_read c (with_station w d new).deeds ≡ client_read c w.deeds
   read_then c = ap (client_read c) deeds_are ∙ stored_unread d c (reverse goes.more) w.deeds

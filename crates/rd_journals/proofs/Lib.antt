@@ -9,3 +9,5 @@ pub mod ChannelLemmas
 pub mod RunLemmas
 pub mod ReplyLemmas
 pub mod ShortLemmas
+pub mod WritingLemmas
+pub mod StandingLemmas

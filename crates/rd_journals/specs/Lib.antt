@@ -1,3 +1,4 @@
 pub mod Stations
 pub mod Reads
 pub mod Orderly
+pub mod Standing
