@@ -32,6 +32,7 @@ use Rattle.rd_world.specs.World.{Kept, WayState, WorldState, client_sends, handl
 use Rattle.rd_world.specs.declared.device.SessionDevice.{SessionDevice}
 use Rattle.rd_journals.specs.Orderly.{IsNext, Orderly, OrderlyOn, current}
 use Rattle.rd_journals.specs.Reads.{IsGiven, IsRead}
+use Rattle.rd_journals.specs.Stations.{IsOn}
 use Rattle.rd_journals.proofs.AskingLemmas.{HeardAs, hears}
 use Rattle.rd_journals.proofs.CallLemmas.{Goes, NoKey, announced, applied_back, came, collected, may_put, taken}
 use Rattle.rd_journals.proofs.DeviceLemmas.{comes, ran_fits}
@@ -247,25 +248,26 @@ takes_job_orderly w d hand is = at (station_at w d) refl
     at None there = is
     at (Some s) there = from s there (station.take s) refl
 
+-- what a station makes of a job that comes back
+spared : (b : Bool) (o : Op) → o ≡ op.Close → (b && not (is_close o)) ≡ false
+spared b o same = ap (λ (x : Op). b && not (is_close x)) same ∙ and_false b
+  where
+    and_false : (x : Bool) → (x && false) ≡ false
+    and_false true = refl
+    and_false false = refl
+
+pub given_back : (starves : Key → Bool) (w : WorldState) (s : Of) (job : Job) → IsOn (channel_of w) s → Goes NoKey (channel_of w) s (station.apply s job w.moment (came_of starves w job s.device)).0
+given_back starves w s job on =
+    let starved : Bool = starves job.key && not (is_close job.op) in
+    let planned : Planned = record { job = job; starved = starved } in
+    applied_back (channel_of w) s on planned w.moment (came_of starves w job s.device) (comes s.device job w.moment starved on.fit (spared (starves job.key) job.op)) (ran_fits s.device job w.moment starved on.fit)
+
 pub applies_orderly : (starves : Key → Bool) (w : WorldState) (hand : ℕ) → Orderly w → Orderly (applies_job starves w hand)
 applies_orderly starves w hand is = by (option_and_then (λ held. held) (hand_at w hand))
   where
-    spared : (b : Bool) (o : Op) → o ≡ op.Close → (b && not (is_close o)) ≡ false
-    spared b o same = ap (λ (x : Op). b && not (is_close x)) same ∙ and_false b
-      where
-        and_false : (x : Bool) → (x && false) ≡ false
-        and_false true = refl
-        and_false false = refl
-
     at : (d : ℕ) (job : Job) (o : Option Of) → station_at w d ≡ o → Orderly (applies_at starves w hand d job o)
     at d job None there = is
-    at d job (Some s) there =
-        let on = (is.held).on d s there in
-        let starved : Bool = starves job.key && not (is_close job.op) in
-        let planned : Planned = record { job = job; starved = starved } in
-        still_orderly w d s (station.apply s job w.moment (came_of starves w job s.device)).0 is there
-        (applied_back (channel_of w) s on planned w.moment (came_of starves w job s.device)
-        (comes s.device job w.moment starved on.fit (spared (starves job.key) job.op)) (ran_fits s.device job w.moment starved on.fit))
+    at d job (Some s) there = still_orderly w d s (station.apply s job w.moment (came_of starves w job s.device)).0 is there (given_back starves w s job ((is.held).on d s there))
 
     by : (o : Option (ℕ × Job)) → Orderly (applies_held starves w hand o)
     by None = is

@@ -11,3 +11,4 @@ pub mod ReplyLemmas
 pub mod ShortLemmas
 pub mod WritingLemmas
 pub mod StandingLemmas
+pub mod ServingLemmas

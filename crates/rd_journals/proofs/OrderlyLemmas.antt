@@ -1,6 +1,7 @@
 -- What keeps a world orderly: a station that goes on, what an end does beside its stations, and what is under way while a channel is open.
 use Rattle.std.proofs.Common.{◌≡◌, ◌∙◌, refl, sym, ap, subst, inl, inr, ℕ, suc, List, [], ◌∷◌, ◌++◌, length, map, reverse, arith}
-use Rattle.std.specs.Prelude.{Some, None, Option, filter}
+use Rattle.std.specs.Prelude.{Contains, Some, None, Option, filter}
+use Rattle.rd_base.specs.declared.journal.Item.TheVariants.{Came}
 use Rattle.rd_base.specs.declared.journal.Key.{Key}
 use Rattle.rd_client.specs.Core.{Outgoing}
 use Rattle.rd_drive.specs.declared.plan.Job.{Job}
@@ -9,7 +10,10 @@ use Rattle.rd_station.specs.Memory.{NamesKey}
 use Rattle.rd_station.specs.Station.{StationState, held}
 use Rattle.rd_station.specs.declared.answers.Completion.{Completion}
 use Rattle.rd_station.specs.declared.held.InHand.{InHand}
+use Rattle.rd_station.proofs.Calls.{reached_keeps}
+use Rattle.rd_station.proofs.Keeping.{held_at}
 use Rattle.rd_station.proofs.Members.{has_right, to_contains}
+use Rattle.rd_world.specs.Devices.{device_cuts, device_parked, device_runs}
 use Rattle.rd_world.specs.Talk.{Deed, Has, client_read, is_request, journal, request_at}
 use Rattle.rd_world.specs.World.{Kept, WorldState, station_at, with_station}
 use Rattle.rd_world.specs.declared.device.SessionDevice.{SessionDevice}
@@ -114,19 +118,25 @@ module _ {stations : List (ℕ × Of)} {deeds : List Deed} {channels client_chan
 
 -- ---- nothing is ready at a station while no channel is open
 
-pub ready_on : (c : ℕ) (s : Of) → IsOn c s → (x : Completion) (xs : List Completion) → s.ready ≡ x ∷ xs → (key : Key) × NamesKey s.journal key × (key.channel ≡ c)
-ready_on c s on x xs e =
-    let (last, is, same) = on.sound.remembers.channel (x.key, x.completion) (to_contains (held s) (x.key, x.completion) among) in
-    elim (on.last last is) [
-      | inl at ↦ (last, on.sound.remembers.named last is, at)
-      | inr idle ↦ absurd (let none : [] ≡ x ∷ xs = sym idle.3 ∙ e in cc (none))
-    ]
+ready_held : (s : Of) (x : Completion) (xs : List Completion) → s.ready ≡ x ∷ xs → Has {A = Key × ℕ} (x.key, x.completion) (held s)
+ready_held s x xs e = has_right (x.key, x.completion) others (map (λ (y : Completion). (y.key, y.completion)) s.ready) (subst (λ (ys : List Completion). Has {A = Key × ℕ} (x.key, x.completion) (map (λ (y : Completion). (y.key, y.completion)) ys)) (sym e) (inl refl))
   where
     others : List (Key × ℕ)
     others = map (λ (job : Job). (job.key, job.completion)) s.waiting ++ map (λ (t : InHand). (t.key, t.completion)) s.taken ++ map (λ p. (p.key, p.completion)) s.parked
 
-    among : Has (x.key, x.completion) (held s)
-    among = has_right (x.key, x.completion) others (map (λ (y : Completion). (y.key, y.completion)) s.ready) (subst (λ (ys : List Completion). Has {A = Key × ℕ} (x.key, x.completion) (map (λ (y : Completion). (y.key, y.completion)) ys)) (sym e) (inl refl))
+-- the request of what is ready came
+pub ready_came : (c : ℕ) (s : Of) → IsOn c s → (x : Completion) (xs : List Completion) → s.ready ≡ x ∷ xs → Contains s.journal (Came x.key)
+ready_came c s on x xs e =
+    let (channel, keeps) = reached_keeps device_runs device_parked device_cuts s on.sound.reached in
+    (held_at device_parked channel s keeps (x.key, x.completion) (ready_held s x xs e)).1
+
+pub ready_on : (c : ℕ) (s : Of) → IsOn c s → (x : Completion) (xs : List Completion) → s.ready ≡ x ∷ xs → (key : Key) × NamesKey s.journal key × (key.channel ≡ c)
+ready_on c s on x xs e =
+    let (last, is, same) = on.sound.remembers.channel (x.key, x.completion) (to_contains (held s) (x.key, x.completion) (ready_held s x xs e)) in
+    elim (on.last last is) [
+      | inl at ↦ (last, on.sound.remembers.named last is, at)
+      | inr idle ↦ absurd (let none : [] ≡ x ∷ xs = sym idle.3 ∙ e in cc (none))
+    ]
 
 pub ready_open : (w : WorldState) (d : ℕ) (s : Of) → Orderly w → station_at w d ≡ Some s → (x : Completion) (xs : List Completion) → s.ready ≡ x ∷ xs → ((w.side).table).channel ≡ None → ⊥
 ready_open w d s is there x xs e none =

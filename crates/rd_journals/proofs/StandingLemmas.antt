@@ -171,7 +171,7 @@ module _ {channels asked : ℕ} {stations : List (ℕ × Of)} {pending : Option 
     closed = is.closed;
   }
 
-  pub stands_own : {then : List Outgoing} → AddsOwn outbox then → AreStanding channels asked stations pending then deeds
+  pub stands_own : {grown : List Outgoing} → AddsOwn outbox grown → AreStanding channels asked stations pending grown deeds
   stands_own (more, same, own) = record {
     stand = is.stand;
     out = λ x has. elim (has_append x outbox more (subst (Has x) same has)) [ inl before ↦ is.out x before | inr later ↦ by x.answers x.message (own x later) ];
@@ -182,8 +182,8 @@ module _ {channels asked : ℕ} {stations : List (ℕ × Of)} {pending : Option 
       by None m is = is.1
       by (Some key) m is = absurd (cc (is.0))
 
-  pub stands_fewer : (then : List Outgoing) → ((o : Outgoing) → Has o then → Has o outbox) → AreStanding channels asked stations pending then deeds
-  stands_fewer then less = record { stand = is.stand; out = λ o has. is.out o (less o has); closed = is.closed }
+  pub stands_fewer : (fewer : List Outgoing) → ((o : Outgoing) → Has o fewer → Has o outbox) → AreStanding channels asked stations pending fewer deeds
+  stands_fewer fewer less = record { stand = is.stand; out = λ o has. is.out o (less o has); closed = is.closed }
 
 -- A job comes whose key is that of no completion and of no entry.
 pub stands_come : (channels asked : ℕ) (outbox : List Outgoing) (w : WorldState) (d : ℕ) (old new : Of) (key : Key) → station_at w d ≡ Some old → new.journal ≡ old.journal ++ Came key ∷ []
