@@ -72,13 +72,13 @@ adds_orderly c w d (is, opened) = announcing_orderly (added (refreshing w d)) d 
 
 -- ---- a channel begins
 
-all_refreshed : (ds : List ℕ) (w : WorldState) → fold refreshing w ds ≡ with_client w (fold refreshing w ds).client
+pub all_refreshed : (ds : List ℕ) (w : WorldState) → fold refreshing w ds ≡ with_client w (fold refreshing w ds).client
 all_refreshed [] w = refl
 all_refreshed (d ∷ ds) w =
     let one = refreshed_only w d in
     all_refreshed ds (refreshing w d) ∙ ap (λ (x : WorldState). with_client x (fold refreshing (refreshing w d) ds).client) one.1
 
-abbrev begun_on : WorldState → WorldState → WorldState
+abbrev pub begun_on : WorldState → WorldState → WorldState
 begun_on w fresh = record (with_deed fresh (host_begins (w.channels + 1))) {
   channels = w.channels + 1;
   client = client_begin fresh.client (w.channels + 1);
@@ -220,7 +220,7 @@ module _ (w : WorldState) where
   all_dropped [] gone x cut = cut
   all_dropped (d ∷ ds) gone x cut = all_dropped ds (also gone d) (dropping x d) (one_dropped gone x d cut)
 
-abbrev ended_with : WorldState → WorldState
+abbrev pub ended_with : WorldState → WorldState
 ended_with cut = record (with_deed cut (host_ends cut.channels)) {
   side = ends_channel cut.side;
   client = record cut.client { core = record (cut.client).core { outbox = [] } };

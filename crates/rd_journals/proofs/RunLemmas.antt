@@ -43,19 +43,19 @@ Of = StationState SessionDevice
 
 -- ---- what can happen only while a channel is open
 
-left : (a b : Bool) → (a && b) ≡ true → a ≡ true
+pub left : (a b : Bool) → (a && b) ≡ true → a ≡ true
 left true b e = refl
 left false b e = absurd (cc (e))
 
-right : (a b : Bool) → (a && b) ≡ true → b ≡ true
+pub right : (a b : Bool) → (a && b) ≡ true → b ≡ true
 right true b e = e
 right false b e = absurd (cc (e))
 
-opened : (o : Option ℕ) → is_some o ≡ true → (c : ℕ) × (o ≡ Some c)
+pub opened : (o : Option ℕ) → is_some o ≡ true → (c : ℕ) × (o ≡ Some c)
 opened None e = absurd (cc (e))
 opened (Some c) e = (c, refl)
 
-not_opened : (o : Option ℕ) → not (is_some o) ≡ true → o ≡ None
+pub not_opened : (o : Option ℕ) → not (is_some o) ≡ true → o ≡ None
 not_opened None e = refl
 not_opened (Some c) e = absurd (cc (e))
 
@@ -73,22 +73,22 @@ nothing_sent : (messages : List Outgoing) → messages ≡ [] → not (is_empty 
 nothing_sent messages none e = cc (subst (λ (ms : List Outgoing). not (is_empty ms) ≡ true) none e)
 
 module _ (w : WorldState) (is : Orderly w) where
-  abbrev now : Option ℕ
+  abbrev pub now : Option ℕ
   now = ((w.side).table).channel
 
   host_open : is_enabled w host_send ≡ true → (c : ℕ) × (now ≡ Some c)
   host_open can = unless_shut now (λ none. let s = is.shut none in let nothing : next_message w.side ≡ None = (λ i. first_waiting (s.own_none i) (s.requests_none i)) in cc (ap is_some nothing, can))
 
-  read_open : (n : ℕ) → is_read (w.to_client).pipe n ≡ true → (c : ℕ) × (now ≡ Some c)
+  pub read_open : (n : ℕ) → is_read (w.to_client).pipe n ≡ true → (c : ℕ) × (now ≡ Some c)
   read_open n can = unless_shut now (λ none. nothing_read (w.to_client).pipe n (is.shut none).to_client_none can)
 
-  back_open : (n : ℕ) → is_read (w.to_host).pipe n ≡ true → (c : ℕ) × (now ≡ Some c)
+  pub back_open : (n : ℕ) → is_read (w.to_host).pipe n ≡ true → (c : ℕ) × (now ≡ Some c)
   back_open n can = unless_shut now (λ none. nothing_read (w.to_host).pipe n (is.shut none).to_host_none can)
 
-  send_open : client_has_message w ≡ true → (c : ℕ) × (now ≡ Some c)
+  pub send_open : client_has_message w ≡ true → (c : ℕ) × (now ≡ Some c)
   send_open can = unless_shut now (λ none. nothing_sent ((w.client).core).outbox (is.shut none).answers_none can)
 
-  collect_open : (d : ℕ) → has_completion w d ≡ true → (c : ℕ) × (now ≡ Some c)
+  pub collect_open : (d : ℕ) → has_completion w d ≡ true → (c : ℕ) × (now ≡ Some c)
   collect_open d can = unless_shut now (λ none. by none (station_at w d) refl can)
     where
       some : now ≡ None → (s : Of) → station_at w d ≡ Some s → (xs : List Completion) → s.ready ≡ xs → not (is_empty xs) ≡ true → ⊥
@@ -99,7 +99,7 @@ module _ (w : WorldState) (is : Orderly w) where
       by none None there can = cc (can)
       by none (Some s) there can = some none s there s.ready refl can
 
-  acts_orderly : (starves : Key → Bool) (e : Event) → is_enabled w e ≡ true → Orderly (act starves w e)
+  pub acts_orderly : (starves : Key → Bool) (e : Event) → is_enabled w e ≡ true → Orderly (act starves w e)
   acts_orderly starves (issue a) can = issues_orderly w a is
   acts_orderly starves host_send can = let (c, at) = host_open can in host_sends_orderly c w (is, at)
   acts_orderly starves (client_read n) can =

@@ -1,32 +1,22 @@
 -- Each event keeps completions where they stand.
-use Rattle.std.proofs.Common.{◌≡◌, ◌≢◌, ◌⊎◌, ◌∙◌, refl, sym, ap, subst, inl, inr, ℕ, zero, suc, ◌<◌, ◌+◌, ◌==◌, ◌&&◌, Bool, true, false, cond, not, List, [], ◌∷◌, ◌++◌, length, map, reverse, arith}
+use Rattle.std.proofs.Common.{◌≡◌, ◌≢◌, ◌⊎◌, ◌∙◌, refl, sym, ap, subst, inl, inr, ℕ, zero, suc, ◌<◌, ◌+◌, ◌==◌, Bool, true, false, List, [], ◌∷◌, ◌++◌, length, reverse, arith}
 use Rattle.std.specs.Prelude.{Some, None, Option, Contains, filter, fold, is_some, if◌then◌else◌, Result, Ok, Err}
-use Rattle.std.specs.List.{list_any}
-use Rattle.std.specs.Map.{lookup}
 use Rattle.std.specs.Option.{option_and_then, option_map_or}
-use Rattle.std.specs.Ordering.{nat_cmp}
-use Rattle.std.specs.BTreeMap.{is_at}
-use Rattle.std.proofs.lemmas.List.Elements.{Contains-append_left, Contains-append_right}
+use Rattle.std.proofs.lemmas.List.Elements.{Contains-append_left}
 use Rattle.rd_base.specs.Lawful.{IsBelow, named_key}
 use Rattle.rd_base.specs.Statuses.{insufficient_resources, no_such_device}
 use Rattle.rd_base.specs.declared.journal.Item.{Item}
 use Rattle.rd_base.specs.declared.journal.Item.TheVariants.{Came, Sent}
 use Rattle.rd_base.specs.declared.journal.Key.{Key}
-use Rattle.rd_base.specs.declared.packet.Packet.TheVariants.{IoCompletion}
 use Rattle.rd_base.specs.declared.status.Status.{Status}
 use Rattle.rd_client.specs.Core as client
 use Rattle.rd_client.specs.Core.{ClientCoreState, Outgoing, client_hear, job_of, listed, listed_one, plain}
 use Rattle.rd_client.specs.declared.heard.Heard.{Heard}
 use Rattle.rd_client.specs.declared.heard.Heard.TheVariants as heard
-use Rattle.rd_core.specs.Core as core
 use Rattle.rd_devices.specs.declared.list.Announce.{Announce}
-use Rattle.rd_drive.specs.Planned.{Planned}
 use Rattle.rd_drive.specs.declared.plan.Job.{Job}
-use Rattle.rd_hello.specs.Moves.{is_of}
 use Rattle.rd_hello.specs.declared.client.ClientState.{ClientState}
 use Rattle.rd_hello.specs.declared.end_fault.EndFault.{EndFault}
-use Rattle.rd_irp.specs.declared.op.Op.{Op}
-use Rattle.rd_irp.specs.declared.op.Op.TheVariants as op
 use Rattle.rd_irp.specs.declared.request.Request.{Request}
 use Rattle.rd_station.specs.Memory.{NamesKey}
 use Rattle.rd_station.specs.Station as station
@@ -36,26 +26,25 @@ use Rattle.rd_station.specs.declared.answers.Given.{Given}
 use Rattle.rd_station.specs.declared.answers.Given.TheVariants as given
 use Rattle.rd_station.specs.declared.refusals.PutWhy.{PutWhy}
 use Rattle.rd_station.specs.declared.refusals.PutWhy.TheVariants as why
-use Rattle.rd_station.proofs.Members.{from_contains, has_append, has_right, to_contains}
+use Rattle.rd_station.proofs.Members.{has_append, has_right, to_contains}
 use Rattle.rd_station.proofs.Remembering.{any_has, came_named, has_any}
-use Rattle.rd_world.specs.Devices.{PrinterNames, device_cut, printer_data}
-use Rattle.rd_world.specs.Events.{applies_at, applies_held, applies_job, came_of, collects, collects_from, completion_message, hand_at, is_close, takes_job, takes_job_from}
-use Rattle.rd_world.specs.Hearing.{after_opening, announcing, answers_directly, client_handles, client_handles_all, client_handles_first, client_hears, heard_by_client, is_device_told, put_at, put_by, putting, refused_put, tries, tries_kept, with_client}
+use Rattle.rd_world.specs.Events.{applies_at, applies_held, applies_job, came_of, collects, collects_from, completion_message, hand_at, takes_job, takes_job_from}
+use Rattle.rd_world.specs.Hearing.{after_opening, announcing, answers_directly, client_handles, client_handles_all, client_handles_first, client_hears, heard_by_client, is_device_told, put_at, put_by, putting, tries, tries_kept}
 use Rattle.rd_world.specs.Joining.{Stands}
-use Rattle.rd_world.specs.Talk.{Deed, Has, client_read, client_reads, completes, is_completion_of, is_request, journal, request_at}
-use Rattle.rd_world.specs.World.{Kept, WayState, WorldState, client_sends, handling, most_messages, station_at, with_deed, with_station}
+use Rattle.rd_world.specs.Talk.{Has, client_read, client_reads, completes, is_request, journal, request_at}
+use Rattle.rd_world.specs.World.{Kept, WayState, WorldState, client_sends, handling, most_messages, station_at, with_station}
 use Rattle.rd_world.specs.declared.device.SessionDevice.{SessionDevice}
 use Rattle.rd_world.proofs.Journals.{contains_has, has_contains}
 use Rattle.rd_journals.specs.Orderly.{HasStation, IsNext, Orderly, OrderlyOn}
-use Rattle.rd_journals.specs.Reads.{IsGiven, IsRead}
-use Rattle.rd_journals.specs.Standing.{AreStanding, IsNamed, IsOut, IsStanding, IsUnserved, pending_of}
+use Rattle.rd_journals.specs.Reads.{IsGiven}
+use Rattle.rd_journals.specs.Standing.{AreStanding, IsNamed, IsStanding, pending_of}
 use Rattle.rd_journals.proofs.AskingLemmas.{HeardAs, hears}
-use Rattle.rd_journals.proofs.CallLemmas.{Goes, NoKey, announced, applied_back, collected, taken}
-use Rattle.rd_journals.proofs.ClientLemmas.{announcing_open, announcing_orderly, channel_of, counted_one, counted_other, handles_all_orderly, hears_orderly, isnt_some, given_back, next_job, open_or_shut, putting_orderly, read_by, read_orderly}
+use Rattle.rd_journals.proofs.CallLemmas.{Goes, NoKey, announced, collected, taken}
+use Rattle.rd_journals.proofs.ClientLemmas.{announcing_orderly, channel_of, counted_one, counted_other, hears_orderly, isnt_some, given_back, next_job, open_or_shut, putting_orderly, read_by, read_orderly}
 use Rattle.rd_journals.proofs.HeldLemmas.{has_here}
 use Rattle.rd_journals.proofs.OrderlyLemmas.{beside_open, ready_came, still_orderly, while_open}
 use Rattle.rd_journals.proofs.ShortLemmas.{came_read}
-use Rattle.rd_journals.proofs.StandingLemmas.{Still, stands_as, stands_beside, stands_come, stands_done, stands_fewer, stands_more, stands_own, stands_still, still_goes, still_not, still_then}
+use Rattle.rd_journals.proofs.StandingLemmas.{stands_as, stands_beside, stands_come, stands_done, stands_more, stands_own, stands_still, still_goes}
 use Rattle.rd_journals.proofs.WritingLemmas.{AddsOwn, hear_adds}
 
 abbrev Of : Type 0
@@ -124,7 +113,7 @@ putting_stands c w d job (ordered, opened) free next is = at (station_at w d) re
 
 -- ---- a message is heard
 
-announcing_still : (w : WorldState) (d : ℕ) → Orderly w → IsStanding w → IsStanding (announcing w d)
+pub announcing_still : (w : WorldState) (d : ℕ) → Orderly w → IsStanding w → IsStanding (announcing w d)
 announcing_still w d ordered is = by (station_at w d) refl
   where
     by : (o : Option Of) → station_at w d ≡ o → IsStanding (option_map_or (λ (s : Of). with_station w d (station.announce s).0) o w)

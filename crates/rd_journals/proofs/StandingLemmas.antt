@@ -1,5 +1,5 @@
 -- What keeps completions where they stand: stations that name no new key, a job that comes, and what the ends do beside them.
-use Rattle.std.proofs.Common.{◌≡◌, ◌≢◌, ◌⊎◌, ◌∙◌, refl, sym, ap, subst, inl, inr, ℕ, ◌<◌, ◌==◌, ◌||◌, Bool, true, false, cond, List, [], ◌∷◌, ◌++◌, map, reverse, arith, eqb-true, append-nil}
+use Rattle.std.proofs.Common.{◌≡◌, ◌⊎◌, ◌∙◌, refl, sym, ap, subst, inl, inr, ℕ, ◌==◌, ◌||◌, Bool, true, false, cond, List, [], ◌∷◌, ◌++◌, map, reverse, eqb-true, append-nil}
 use Rattle.std.specs.Prelude.{Some, None, Option}
 use Rattle.std.specs.List.{list_any}
 use Rattle.rd_base.specs.Lawful.{named_key}
@@ -12,19 +12,18 @@ use Rattle.rd_client.specs.Core.{Outgoing}
 use Rattle.rd_hello.specs.Moves.{is_of}
 use Rattle.rd_station.specs.Memory.{NamesKey}
 use Rattle.rd_station.specs.Station.{StationState, drop_channel, emptied, is_key}
-use Rattle.rd_station.proofs.Members.{from_contains, has_append, has_right, same_key}
-use Rattle.rd_station.proofs.Remembering.{has_any, names_left, names_none_new}
-use Rattle.rd_world.specs.Devices.{device_cut}
+use Rattle.rd_station.proofs.Members.{has_append, same_key}
+use Rattle.rd_station.proofs.Remembering.{names_left, names_none_new}
 use Rattle.rd_world.specs.Joining.{Stands}
 use Rattle.rd_world.specs.Talk.{Deed, EachAfter, Has, completes, is_completion_of, stores}
 use Rattle.rd_world.specs.World.{WorldState, station_at, with_station}
 use Rattle.rd_world.specs.declared.device.SessionDevice.{SessionDevice}
 use Rattle.rd_journals.specs.Orderly.{HasStation}
-use Rattle.rd_journals.specs.Reads.{IsGiven, IsRead}
+use Rattle.rd_journals.specs.Reads.{IsRead}
 use Rattle.rd_journals.specs.Standing.{AreStanding, IsNamed, IsOut, IsUnserved}
 use Rattle.rd_journals.proofs.CallLemmas.{Goes, NoKey}
 use Rattle.rd_journals.proofs.HeldLemmas.{found_then, has_elsewhere, has_here, stored_deeds, turned_has}
-use Rattle.rd_journals.proofs.WritingLemmas.{AddsOwn, IsOwn}
+use Rattle.rd_journals.proofs.WritingLemmas.{AddsOwn}
 
 abbrev Of : Type 0
 Of = StationState SessionDevice

@@ -1,9 +1,7 @@
 -- What a client has to write after it heard a message: no completion that it hadn't before.
-use Rattle.std.proofs.Common.{◌≡◌, ◌∙◌, refl, sym, ap, subst, inl, inr, ◌⊎◌, ℕ, ◌==◌, Bool, true, false, cond, List, [], ◌∷◌, ◌++◌, map, Some, None, Option, append-nil, append_assoc}
-use Rattle.std.specs.Prelude.{Result, Ok, Err}
+use Rattle.std.proofs.Common.{◌≡◌, ◌∙◌, refl, sym, ap, subst, inl, inr, ℕ, Bool, true, false, cond, List, [], ◌∷◌, ◌++◌, map, Some, None, Option, append-nil, append_assoc}
+use Rattle.std.specs.Prelude.{Result, Err}
 use Rattle.std.specs.Option.{option_to_list}
-use Rattle.rd_base.specs.Header.{packet_id}
-use Rattle.rd_base.specs.declared.packet.Packet.{Packet}
 use Rattle.rd_base.specs.declared.packet.Packet.TheVariants as packet
 use Rattle.rd_client.specs.Core as client
 use Rattle.rd_client.specs.Core.{ClientCoreState, HostSays, Outgoing, client_hear, client_hear_made, client_opened, client_side, plain}
@@ -66,6 +64,9 @@ AddsOwn old new = (more : List Outgoing) × (new ≡ old ++ more) × AreOwn more
 
 adds_none : (old : List Outgoing) → AddsOwn old old
 adds_none old = ([], sym (append-nil old), none_own)
+
+pub adds_own : (old : List Outgoing) (m : List ℕ) → is_of packet.IoCompletion m ≡ false → AddsOwn old (old ++ plain m ∷ [])
+adds_own old m own = (plain m ∷ [], refl, one_own m own)
 
 opened_adds : (c : ClientCoreState) (after : CoreState ClientState Outgoing) → AddsOwn (c.core).outbox after.outbox → AddsOwn (c.core).outbox ((client_opened c after).core).outbox
 opened_adds c after (more, same, own) = by (client.becomes_ready (c.core).shake after.shake)

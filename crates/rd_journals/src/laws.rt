@@ -10,6 +10,7 @@ ghost use Rattle.rd_script.specs.declared.line.NumberedLine.{NumberedLine};
 ghost use Rattle.rd_station.specs.Station.{StationState};
 ghost use Rattle.rd_runs.specs.Moves.{Reached};
 ghost use Rattle.rd_world.specs.Devices.{Declared};
+ghost use Rattle.rd_world.specs.Joining.{Stands};
 ghost use Rattle.rd_world.specs.Opening.{bare_lines};
 ghost use Rattle.rd_world.specs.Run.{declared_devices};
 ghost use Rattle.rd_world.specs.Session.{replies_in};
@@ -40,4 +41,10 @@ pub fn replies_stay()
 /// A device's journal has at most three entries for each request that was read, and its cuts.
 pub fn journals_are_short()
     ensures { (lines : List NumberedLine) (starves : Key → Bool) (w : WorldState) → AreFit (declared_devices (bare_lines lines)) → Reached lines starves w → (device : ℕ) → length (journal device w.deeds) ≤ 3 * reads w.deeds + cuts (journal device w.deeds) }
+{}
+
+/// Each key comes after the read of its request and before its completion; a completion is written after its key was sent, where the key came at all; and
+/// nothing else that a client writes is a completion.
+pub fn completions_stand()
+    ensures { (lines : List NumberedLine) (starves : Key → Bool) (w : WorldState) → AreFit (declared_devices (bare_lines lines)) → Reached lines starves w → EachAfter Stands w.deeds }
 {}
