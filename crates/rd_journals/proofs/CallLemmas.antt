@@ -41,33 +41,45 @@ use Rattle.rd_journals.specs.Stations.{IsFit, IsIdle, IsOn}
 abbrev Of : Type 0
 Of = StationState SessionDevice
 
+-- the job that comes by a call, or is run by it
+abbrev pub OfJob : (Job → Type 0) → StationCall → Type 0
+OfJob J (puts job None) = J job
+OfJob J (applies planned moment answer) = J planned.job
+OfJob J _ = Unit {0}
+
+abbrev pub AnyJob : Job → Type 0
+AnyJob job = Unit {0}
+
 -- A station goes on: it stores these entries, by which no key is named that wasn't before, but for new ones; and it is as it should be on a channel.
-pub record Goes (New : Key → Type 0) (c : ℕ) (old new : Of) : Type 0 where
+-- It does a call, with a job of which this holds, or nothing.
+pub record Goes (New : Key → Type 0) (J : Job → Type 0) (c : ℕ) (old new : Of) : Type 0 where
   pub more : List Item
   pub longer : new.journal ≡ old.journal ++ more
   pub comes : (key : Key) → Has (Came key) more → New key
   pub names : (key : Key) → NamesKey new.journal key → NamesKey old.journal key ⊎ New key
   pub on : IsOn c new
+  pub did : (new ≡ old) ⊎ ((call : StationCall) × StationStep device_runs device_parked device_cuts old call new × OfJob J call)
 
 abbrev pub NoKey : Key → Type 0
 NoKey key = ⊥
 
-pub goes_not : (c : ℕ) (s : Of) → IsOn c s → Goes NoKey c s s
-goes_not c s on = record { more = []; longer = sym (append-nil s.journal); comes = λ key none. none; names = λ key names. inl names; on = on }
+pub goes_not : (J : Job → Type 0) (c : ℕ) (s : Of) → IsOn c s → Goes NoKey J c s s
+goes_not J c s on = record { more = []; longer = sym (append-nil s.journal); comes = λ key none. none; names = λ key names. inl names; on = on; did = inl refl }
 
 come_by : (call : StationCall) (more : List Item) → AllByRecursion (MayStore call) more → (key : Key) → Has (Came key) more → Comes call key
 come_by call [] all key none = absurd none
 come_by call (x ∷ more) all key (inl here) = subst (MayStore call) (sym here) all.0
 come_by call (x ∷ more) all key (inr later) = come_by call more all.1 key later
 
-goes_by : (call : StationCall) (c : ℕ) (old new : Of) → StationStep device_runs device_parked device_cuts old call new → IsOn c new → Goes (Comes call) c old new
-goes_by call c old new step on =
+goes_by : (J : Job → Type 0) (call : StationCall) (c : ℕ) (old new : Of) → OfJob J call → StationStep device_runs device_parked device_cuts old call new → IsOn c new → Goes (Comes call) J c old new
+goes_by J call c old new of step on =
     let stores = step_stores old new call step in record {
       more = stores.more;
       longer = stores.longer;
       comes = come_by call stores.more stores.each;
       names = step_names call old new step on.sound.reached;
       on = on;
+      did = inr (call, step, of);
     }
 
 -- ---- which jobs may come
@@ -149,21 +161,21 @@ new_on c device fit nothing = record {
   forgotten = λ f e. absurd (cc (e));
 }
 
-module _ (c : ℕ) (s : Of) (on : IsOn c s) where
-  pub announced : Goes NoKey c s (announce s).0
+module _ (J : Job → Type 0) (c : ℕ) (s : Of) (on : IsOn c s) where
+  pub announced : Goes NoKey J c s (announce s).0
   announced = by s.live refl (nat_le max_entries (entry_count s)) refl
     where
       by : (b : Bool) → s.live ≡ b → (d : Bool) → nat_le max_entries (entry_count s) ≡ d
-          → Goes NoKey c s (cond {A = Of × Result (Unit {0}) AnnounceNo} b (s, Err refused.Live) (cond d (s, Err (refused.Worn (entry_count s))) (record s { live = true }, Ok tt))).0
-      by true e d f = goes_not c s on
-      by false e true f = goes_not c s on
-      by false e false f = goes_by (announces (Ok tt)) c s (record s { live = true })
+          → Goes NoKey J c s (cond {A = Of × Result (Unit {0}) AnnounceNo} b (s, Err refused.Live) (cond d (s, Err (refused.Worn (entry_count s))) (record s { live = true }, Ok tt))).0
+      by true e d f = goes_not J c s on
+      by false e true f = goes_not J c s on
+      by false e false f = goes_by J (announces (Ok tt)) c s (record s { live = true }) tt
           (ap (λ b. cond {A = Of × Result (Unit {0}) AnnounceNo} b (s, Err refused.Live) (cond (nat_le max_entries (entry_count s)) (s, Err (refused.Worn (entry_count s))) (record s { live = true }, Ok tt))) e
           ∙ ap (λ b. cond {A = Of × Result (Unit {0}) AnnounceNo} b (s, Err (refused.Worn (entry_count s))) (record s { live = true }, Ok tt)) f)
           (record { fit = on.fit; keys = on.keys; spare = reserved s + 1; memory = on.memory; sound = sound_announce device_runs device_parked device_cuts s on.keys on.spare on.memory on.sound (reserved s + 1) e f (omega arith); last = on.last; forgotten = on.forgotten })
 
-  pub came : (job : Job) → MayPut s job.key → job.key.channel ≡ c → put_refusal s job ≡ None → Goes (λ key. key ≡ job.key) c s (record s { waiting = s.waiting ++ job ∷ []; journal = s.journal ++ Came job.key ∷ [] })
-  came job may here free = goes_by (puts job None) c s _ (may, ap (station.put_unless s job) free) (record {
+  pub came : (job : Job) → J job → MayPut s job.key → job.key.channel ≡ c → put_refusal s job ≡ None → Goes (λ key. key ≡ job.key) J c s (record s { waiting = s.waiting ++ job ∷ []; journal = s.journal ++ Came job.key ∷ [] })
+  came job own may here free = goes_by J (puts job None) c s _ own (may, ap (station.put_unless s job) free) (record {
     fit = on.fit;
     keys = (job.completion, job.key) ∷ on.keys;
     spare = reserved s + 2;
@@ -174,14 +186,14 @@ module _ (c : ℕ) (s : Of) (on : IsOn c s) where
     forgotten = on.forgotten;
   })
 
-  pub taken : Goes NoKey c s (take s).0
+  pub taken : Goes NoKey J c s (take s).0
   taken = by s.ended refl s.waiting refl
     where
-      by : (b : Bool) → s.ended ≡ b → (jobs : List Job) → s.waiting ≡ jobs → Goes NoKey c s (cond {A = Of × Given} b (s, given.Over) (take_first s jobs)).0
-      by true e jobs f = goes_not c s on
-      by false e [] f = goes_not c s on
+      by : (b : Bool) → s.ended ≡ b → (jobs : List Job) → s.waiting ≡ jobs → Goes NoKey J c s (cond {A = Of × Given} b (s, given.Over) (take_first s jobs)).0
+      by true e jobs f = goes_not J c s on
+      by false e [] f = goes_not J c s on
       by false e (job ∷ jobs) f =
-          goes_by (takes (given.Job job)) c s _ (taken_first device_runs device_parked device_cuts s on.keys on.spare on.memory on.sound job jobs e f) (record {
+          goes_by J (takes (given.Job job)) c s _ tt (taken_first device_runs device_parked device_cuts s on.keys on.spare on.memory on.sound job jobs e f) (record {
             fit = on.fit;
             keys = on.keys;
             spare = on.spare;
@@ -191,12 +203,12 @@ module _ (c : ℕ) (s : Of) (on : IsOn c s) where
             forgotten = on.forgotten;
           })
 
-  pub collected : Goes NoKey c s (collect s).0
+  pub collected : Goes NoKey J c s (collect s).0
   collected = by s.ready refl
     where
-      by : (cs : List Completion) → s.ready ≡ cs → Goes NoKey c s (collect_first s cs).0
-      by [] f = goes_not c s on
-      by (x ∷ xs) f = goes_by (collects (Some x)) c s _ (collected_first device_runs device_parked device_cuts s on.keys on.spare on.memory on.sound x xs f) (record {
+      by : (cs : List Completion) → s.ready ≡ cs → Goes NoKey J c s (collect_first s cs).0
+      by [] f = goes_not J c s on
+      by (x ∷ xs) f = goes_by J (collects (Some x)) c s _ tt (collected_first device_runs device_parked device_cuts s on.keys on.spare on.memory on.sound x xs f) (record {
         fit = on.fit;
         keys = without x.completion on.keys;
         spare = on.spare;
@@ -206,9 +218,9 @@ module _ (c : ℕ) (s : Of) (on : IsOn c s) where
         forgotten = on.forgotten;
       })
 
-  pub applied_back : (planned : Planned) (moment : ℕ) (then : Stepped SessionDevice) → CameOf device_runs device_parked device_cuts s.device planned moment then → IsFit then.state
-      → Goes NoKey c s (apply s planned.job moment then).0
-  applied_back planned moment then promise fit = by (find (λ (t : InHand). is_key t.key planned.job.key) s.taken) refl
+  pub applied_back : (planned : Planned) → J planned.job → (moment : ℕ) (then : Stepped SessionDevice) → CameOf device_runs device_parked device_cuts s.device planned moment then → IsFit then.state
+      → Goes NoKey J c s (apply s planned.job moment then).0
+  applied_back planned own moment then promise fit = by (find (λ (t : InHand). is_key t.key planned.job.key) s.taken) refl
     where
       busy : (t : InHand) → find (λ (u : InHand). is_key u.key planned.job.key) s.taken ≡ Some t → (key : Key) → on.memory.last ≡ Some key → key.channel ≡ c
       busy t f key is = elim (on.last key is) [
@@ -216,13 +228,13 @@ module _ (c : ℕ) (s : Of) (on : IsOn c s) where
         | inr idle ↦ absurd (subst (λ (ts : List InHand). Has t ts) idle.1 (find_has (λ (u : InHand). is_key u.key planned.job.key) t s.taken f).0)
       ]
 
-      by : (found : Option InHand) → find (λ (t : InHand). is_key t.key planned.job.key) s.taken ≡ found → Goes NoKey c s (apply_from s planned.job moment then found).0
-      by None f = goes_not c s on
+      by : (found : Option InHand) → find (λ (t : InHand). is_key t.key planned.job.key) s.taken ≡ found → Goes NoKey J c s (apply_from s planned.job moment then found).0
+      by None f = goes_not J c s on
       by (Some t) f = hand t.removed refl
         where
           hand : (b : Bool) → t.removed ≡ b
-              → Goes NoKey c s (cond {A = Of × Applied} b (cancelled_in_hand s t (kind_of planned.job.op), applied.Cancelled) (ran s t (kind_of planned.job.op) moment then, cond (is_parked then.answer) applied.Parked applied.Ran)).0
-          hand true e = goes_by (applies planned moment applied.Cancelled) c s _ (then, cancelled_then device_runs device_parked device_cuts s on.keys on.spare on.memory on.sound planned moment t f then e, absurd) (record {
+              → Goes NoKey J c s (cond {A = Of × Applied} b (cancelled_in_hand s t (kind_of planned.job.op), applied.Cancelled) (ran s t (kind_of planned.job.op) moment then, cond (is_parked then.answer) applied.Parked applied.Ran)).0
+          hand true e = goes_by J (applies planned moment applied.Cancelled) c s _ own (then, cancelled_then device_runs device_parked device_cuts s on.keys on.spare on.memory on.sound planned moment t f then e, absurd) (record {
             fit = on.fit;
             keys = on.keys;
             spare = on.spare;
@@ -231,7 +243,7 @@ module _ (c : ℕ) (s : Of) (on : IsOn c s) where
             last = λ key is. inl (busy t f key is);
             forgotten = on.forgotten;
           })
-          hand false e = goes_by (applies planned moment (cond (is_parked then.answer) applied.Parked applied.Ran)) c s _ (then, ran_then device_runs device_parked device_cuts s on.keys on.spare on.memory on.sound planned moment t f e then promise, λ did. promise) (record {
+          hand false e = goes_by J (applies planned moment (cond (is_parked then.answer) applied.Parked applied.Ran)) c s _ own (then, ran_then device_runs device_parked device_cuts s on.keys on.spare on.memory on.sound planned moment t f e then promise, λ did. promise) (record {
             fit = fit;
             keys = on.keys;
             spare = on.spare;
@@ -241,7 +253,7 @@ module _ (c : ℕ) (s : Of) (on : IsOn c s) where
             forgotten = on.forgotten;
           })
 
-  pub removed : (cut : SessionDevice) → CutsOff device_cuts device_parked s.device cut → IsFit cut → Goes NoKey c s (remove s cut).0
+  pub removed : (cut : SessionDevice) → CutsOff device_cuts device_parked s.device cut → IsFit cut → Goes NoKey J c s (remove s cut).0
   removed cut off fit = by s.live refl
     where
       gone : Of
@@ -255,9 +267,9 @@ module _ (c : ℕ) (s : Of) (on : IsOn c s) where
         journal = s.journal ++ Cut Removed ∷ map (λ (job : Job). Cancelled job.key) s.waiting;
       }
 
-      by : (b : Bool) → s.live ≡ b → Goes NoKey c s (cond {A = Of × Bool} (not b) (s, false) (gone, true)).0
-      by false e = goes_not c s on
-      by true e = goes_by (removes true) c s gone (cut, removed_then device_runs device_parked device_cuts s on.keys on.spare on.memory on.sound cut e, λ f. off) (record {
+      by : (b : Bool) → s.live ≡ b → Goes NoKey J c s (cond {A = Of × Bool} (not b) (s, false) (gone, true)).0
+      by false e = goes_not J c s on
+      by true e = goes_by J (removes true) c s gone tt (cut, removed_then device_runs device_parked device_cuts s on.keys on.spare on.memory on.sound cut e, λ f. off) (record {
         fit = fit;
         keys = on.keys;
         spare = on.spare;
@@ -272,8 +284,8 @@ module _ (c : ℕ) (s : Of) (on : IsOn c s) where
 
   -- The channel ends, after which all that was named is of earlier ones.
   pub dropped : (then : ℕ) → c ≤ then → ((key : Key) → NamesKey s.journal key → key.channel < then) → (cut : SessionDevice) → CutsOff device_cuts device_parked s.device cut → IsFit cut
-      → Goes NoKey then s (drop_channel s cut)
-  dropped then later above cut off fit = goes_by drops then s (drop_channel s cut) (cut, refl, λ live. off) (record {
+      → Goes NoKey J then s (drop_channel s cut)
+  dropped then later above cut off fit = goes_by J drops then s (drop_channel s cut) tt (cut, refl, λ live. off) (record {
     fit = device_fits s.live;
     keys = [];
     spare = 0;

@@ -24,7 +24,7 @@ use Rattle.rd_world.specs.declared.device.SessionDevice.{SessionDevice}
 use Rattle.rd_journals.specs.Orderly.{AreHeld, HasStation, Orderly, OrderlyOn, current}
 use Rattle.rd_journals.specs.Reads.{IsGiven}
 use Rattle.rd_journals.specs.Stations.{IsOn}
-use Rattle.rd_journals.proofs.CallLemmas.{Goes, NoKey, dropped, removed}
+use Rattle.rd_journals.proofs.CallLemmas.{AnyJob, Goes, NoKey, dropped, removed}
 use Rattle.rd_journals.proofs.ClientLemmas.{announcing_orderly, channel_of, channel_open, tries_orderly}
 use Rattle.rd_journals.proofs.DeviceLemmas.{cut_fits, cuts_off}
 use Rattle.rd_journals.proofs.HeldLemmas.{has_elsewhere, held_on, read_then}
@@ -49,7 +49,7 @@ removes_orderly c w d (is, opened) = tries_orderly (removing w d) d (by (station
     by None there = so
     by (Some s) there =
         let on = (so.held).on d s there in
-        still_orderly told d s (station.remove s (device_cut s.device).state).0 so there (removed (channel_of told) s on (device_cut s.device).state (cuts_off s.device on.fit) (cut_fits s.device on.fit))
+        still_orderly told d s (station.remove s (device_cut s.device).state).0 so there (removed AnyJob (channel_of told) s on (device_cut s.device).state (cuts_off s.device on.fit) (cut_fits s.device on.fit))
 
 -- only the data of announcements is replaced
 pub refreshed_only : (w : WorldState) (d : ℕ) → (x : ClientCoreState) × (refreshing w d ≡ with_client w x) × (x.channel ≡ (w.client).channel) × (x.asked ≡ (w.client).asked) × (x.core ≡ (w.client).core)
@@ -196,7 +196,7 @@ module _ (w : WorldState) where
           by_id q s has true e = absurd (cc (subst (λ (y : ℕ). station_at x y ≡ Some s) (eqb-true q d e) has, missing))
           by_id q s has false e = subst (λ (n : ℕ). IsOn n s) (sym (same_at gone d q e)) ((cut.held).on q s has)
 
-      stepped : (s : Of) → station_at x d ≡ Some s → (new : Of) → Goes NoKey (at (also gone d) d) s new → Cutting (also gone d) (with_station x d new)
+      stepped : (s : Of) → station_at x d ≡ Some s → (new : Of) → Goes NoKey AnyJob (at (also gone d) d) s new → Cutting (also gone d) (with_station x d new)
       stepped s there new goes = record {
         alone = ap (λ (y : WorldState). record y { stations = (with_station x d new).stations; deeds = (with_station x d new).deeds }) cut.alone;
         held = held_on NoKey (at gone) (at (also gone d)) w.channels (w.client).asked x d s new there goes (same_at gone d) cut.held (λ key none. absurd none);
@@ -213,7 +213,7 @@ module _ (w : WorldState) where
       by (Some s) there =
           let on = (cut.held).on d s there in
           stepped s there (station.drop_channel s (device_cut s.device).state)
-          (dropped (at gone d) s on (at (also gone d) d) (omega (arith, own_at gone d, at_low gone d)) (λ key names. omega (arith, own_at gone d, given_low key ((cut.held).named d s there key names)))
+          (dropped AnyJob (at gone d) s on (at (also gone d) d) (omega (arith, own_at gone d, at_low gone d)) (λ key names. omega (arith, own_at gone d, given_low key ((cut.held).named d s there key names)))
           (device_cut s.device).state (cuts_off s.device on.fit) (cut_fits s.device on.fit))
 
   all_dropped : (ds : List ℕ) (gone : ℕ → Bool) (x : WorldState) → Cutting gone x → Cutting (fold also gone ds) (fold dropping x ds)

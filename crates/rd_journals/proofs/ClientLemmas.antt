@@ -34,7 +34,7 @@ use Rattle.rd_journals.specs.Orderly.{IsNext, Orderly, OrderlyOn, current}
 use Rattle.rd_journals.specs.Reads.{IsGiven, IsRead}
 use Rattle.rd_journals.specs.Stations.{IsOn}
 use Rattle.rd_journals.proofs.AskingLemmas.{HeardAs, hears}
-use Rattle.rd_journals.proofs.CallLemmas.{Goes, NoKey, announced, applied_back, came, collected, may_put, taken}
+use Rattle.rd_journals.proofs.CallLemmas.{AnyJob, Goes, NoKey, announced, applied_back, came, collected, may_put, taken}
 use Rattle.rd_journals.proofs.DeviceLemmas.{comes, ran_fits}
 use Rattle.rd_journals.proofs.OrderlyLemmas.{beside_open, goes_orderly, still_orderly, while_open}
 
@@ -64,7 +64,7 @@ putting_orderly c w d job (is, opened) free next = at (station_at w d) refl
     here s there None none =
         let on = (is.held).on d s there in
         let same : job.key.channel ≡ channel_of w = next.channel ∙ sym (channel_open w c opened) in
-        let goes = came (channel_of w) s on job (may_put (channel_of w) s job.key on same (next.above d s there)) same none in
+        let goes = came AnyJob (channel_of w) s on job tt (may_put (channel_of w) s job.key on same (next.above d s there)) same none in
         let fresh : (key : Key) → key ≡ job.key → IsGiven w.channels (w.client).asked key × IsRead d key w.deeds =
         λ key e. subst (λ (k : Key). IsGiven w.channels (w.client).asked k × IsRead d k w.deeds) (sym e)
         (inr (next.channel, next.index), (next.request, ap (λ (n : ℕ). request_at (client_read n w.deeds) job.key.index) next.channel ∙ next.read, sym next.device_is)) in
@@ -86,7 +86,7 @@ announcing_orderly w d is = by (station_at w d) refl
   where
     by : (o : Option Of) → station_at w d ≡ o → Orderly (option_map_or (λ (s : Of). with_station w d (station.announce s).0) o w)
     by None there = is
-    by (Some s) there = still_orderly w d s (station.announce s).0 is there (announced (channel_of w) s ((is.held).on d s there))
+    by (Some s) there = still_orderly w d s (station.announce s).0 is there (announced AnyJob (channel_of w) s ((is.held).on d s there))
 
 pub announcing_open : (c : ℕ) (w : WorldState) (d : ℕ) → OrderlyOn c w → OrderlyOn c (announcing w d)
 announcing_open c w d (is, opened) = (announcing_orderly w d is, by (station_at w d))
@@ -224,7 +224,7 @@ collects_orderly w d c is opened = at (station_at w d) refl
     from : (s : Of) → station_at w d ≡ Some s → (r : Of × Option Completion) → station.collect s ≡ r → Orderly (collects_from w d r)
     from s there (new, None) e = is
     from s there (new, Some x) e =
-        let goes : Goes NoKey (channel_of w) s new = subst (λ (r : Of × Option Completion). Goes NoKey (channel_of w) s r.0) e (collected (channel_of w) s ((is.held).on d s there)) in
+        let goes : Goes NoKey AnyJob (channel_of w) s new = subst (λ (r : Of × Option Completion). Goes NoKey AnyJob (channel_of w) s r.0) e (collected AnyJob (channel_of w) s ((is.held).on d s there)) in
         let so = still_orderly w d s new is there goes in
         tries_orderly (client_sends (with_station w d new) (completes x.key (completion_message d x)) (completion_message d x)) d
         (beside_open so opened (completes x.key (completion_message d x)) (λ q. refl) (λ q. refl) tt)
@@ -242,7 +242,7 @@ takes_job_orderly w d hand is = at (station_at w d) refl
     from s there (new, given.Nothing) e = is
     from s there (new, given.Over) e = is
     from s there (new, given.Job job) e =
-        still_orderly w d s new is there (subst (λ (r : Of × Given). Goes NoKey (channel_of w) s r.0) e (taken (channel_of w) s ((is.held).on d s there)))
+        still_orderly w d s new is there (subst (λ (r : Of × Given). Goes NoKey AnyJob (channel_of w) s r.0) e (taken AnyJob (channel_of w) s ((is.held).on d s there)))
 
     at : (o : Option Of) → station_at w d ≡ o → Orderly (option_map_or (λ (s : Of). takes_job_from w d hand (station.take s)) o w)
     at None there = is
@@ -256,11 +256,11 @@ spared b o same = ap (λ (x : Op). b && not (is_close x)) same ∙ and_false b
     and_false true = refl
     and_false false = refl
 
-pub given_back : (starves : Key → Bool) (w : WorldState) (s : Of) (job : Job) → IsOn (channel_of w) s → Goes NoKey (channel_of w) s (station.apply s job w.moment (came_of starves w job s.device)).0
+pub given_back : (starves : Key → Bool) (w : WorldState) (s : Of) (job : Job) → IsOn (channel_of w) s → Goes NoKey AnyJob (channel_of w) s (station.apply s job w.moment (came_of starves w job s.device)).0
 given_back starves w s job on =
     let starved : Bool = starves job.key && not (is_close job.op) in
     let planned : Planned = record { job = job; starved = starved } in
-    applied_back (channel_of w) s on planned w.moment (came_of starves w job s.device) (comes s.device job w.moment starved on.fit (spared (starves job.key) job.op)) (ran_fits s.device job w.moment starved on.fit)
+    applied_back AnyJob (channel_of w) s on planned tt w.moment (came_of starves w job s.device) (comes s.device job w.moment starved on.fit (spared (starves job.key) job.op)) (ran_fits s.device job w.moment starved on.fit)
 
 pub applies_orderly : (starves : Key → Bool) (w : WorldState) (hand : ℕ) → Orderly w → Orderly (applies_job starves w hand)
 applies_orderly starves w hand is = by (option_and_then (λ held. held) (hand_at w hand))

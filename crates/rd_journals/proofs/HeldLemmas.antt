@@ -25,7 +25,7 @@ use Rattle.rd_world.proofs.StepLemmas.{stored_more}
 use Rattle.rd_journals.specs.Orderly.{AreHeld, HasStation}
 use Rattle.rd_journals.specs.Reads.{ComesRead, IsGiven, IsRead}
 use Rattle.rd_journals.specs.Stations.{IsOn}
-use Rattle.rd_journals.proofs.CallLemmas.{Goes}
+use Rattle.rd_journals.proofs.CallLemmas.{AnyJob, Goes}
 
 abbrev Of : Type 0
 Of = StationState SessionDevice
@@ -99,7 +99,7 @@ stored_deeds w d old new there more longer =
 
 -- ---- one station goes on
 
-module _ (New : Key → Type 0) (at then : ℕ → ℕ) (channels asked : ℕ) (w : WorldState) (d : ℕ) (old new : Of) (there : station_at w d ≡ Some old) (goes : Goes New (then d) old new) where
+module _ (New : Key → Type 0) (at then : ℕ → ℕ) (channels asked : ℕ) (w : WorldState) (d : ℕ) (old new : Of) (there : station_at w d ≡ Some old) (goes : Goes New AnyJob (then d) old new) where
   pub deeds_are : (with_station w d new).deeds ≡ map (stores d) (reverse goes.more) ++ w.deeds
   deeds_are = stored_deeds w d old new there goes.more goes.longer
 

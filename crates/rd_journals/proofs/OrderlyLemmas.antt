@@ -20,14 +20,14 @@ use Rattle.rd_world.specs.declared.device.SessionDevice.{SessionDevice}
 use Rattle.rd_journals.specs.Orderly.{AreOrdered, IsNext, Orderly, current}
 use Rattle.rd_journals.specs.Reads.{ComesRead, IsGiven, IsRead}
 use Rattle.rd_journals.specs.Stations.{IsOn}
-use Rattle.rd_journals.proofs.CallLemmas.{Goes, NoKey}
+use Rattle.rd_journals.proofs.CallLemmas.{AnyJob, Goes, NoKey}
 use Rattle.rd_journals.proofs.HeldLemmas.{found_then, held_on, read_then}
 
 abbrev Of : Type 0
 Of = StationState SessionDevice
 
 -- A station goes on.
-pub goes_orderly : (New : Key → Type 0) (w : WorldState) (d : ℕ) (old new : Of) → Orderly w → station_at w d ≡ Some old → Goes New (current ((w.side).table).channel w.channels) old new
+pub goes_orderly : (New : Key → Type 0) (w : WorldState) (d : ℕ) (old new : Of) → Orderly w → station_at w d ≡ Some old → Goes New AnyJob (current ((w.side).table).channel w.channels) old new
     → ((key : Key) → New key → IsGiven w.channels (w.client).asked key × IsRead d key w.deeds) → ((k : Kept) → w.kept ≡ Some k → (key : Key) → New key → ⊥) → Orderly (with_station w d new)
 goes_orderly New w d old new is there goes fresh free = record {
   held = held_on New at at w.channels (w.client).asked w d old new there goes (λ q apart. refl) is.held fresh;
@@ -57,7 +57,7 @@ goes_orderly New w d old new is there goes fresh free = record {
     reads c = read_then New at at w.channels (w.client).asked w d old new there goes c
 
 -- the same by a call that names no new key
-pub still_orderly : (w : WorldState) (d : ℕ) (old new : Of) → Orderly w → station_at w d ≡ Some old → Goes NoKey (current ((w.side).table).channel w.channels) old new → Orderly (with_station w d new)
+pub still_orderly : (w : WorldState) (d : ℕ) (old new : Of) → Orderly w → station_at w d ≡ Some old → Goes NoKey AnyJob (current ((w.side).table).channel w.channels) old new → Orderly (with_station w d new)
 still_orderly w d old new is there goes = goes_orderly NoKey w d old new is there goes (λ key none. absurd none) (λ k kept key none. none)
 
 module _ {stations : List (ℕ × Of)} {deeds : List Deed} {channels client_channel asked : ℕ} {fault : Option EndFault} {answers : List Outgoing} {opened : Option ℕ} {own requests : List (List ℕ)} {to_client to_host : List ℕ} {kept : Option Kept}

@@ -42,7 +42,7 @@ use Rattle.rd_world.proofs.OpeningLemmas.{lines_begin}
 use Rattle.rd_journals.specs.Orderly.{Orderly, OrderlyOn}
 use Rattle.rd_journals.specs.Standing.{AreStanding, IsOut, IsStanding, IsUnserved, pending_of}
 use Rattle.rd_journals.specs.Stations.{AreFit}
-use Rattle.rd_journals.proofs.CallLemmas.{removed}
+use Rattle.rd_journals.proofs.CallLemmas.{AnyJob, removed}
 use Rattle.rd_journals.proofs.ChannelLemmas.{all_refreshed, begun_on, ended_with}
 use Rattle.rd_journals.proofs.ClientLemmas.{channel_of}
 use Rattle.rd_journals.proofs.DeviceLemmas.{cut_fits, cuts_off}
@@ -76,7 +76,7 @@ removes_stands c w d (ordered, at) is = by (station_at told d) refl
     ordered_then None there = (so, stands)
     ordered_then (Some s) there =
         let on = (so.held).on d s there in
-        let goes = removed (channel_of told) s on (device_cut s.device).state (cuts_off s.device on.fit) (cut_fits s.device on.fit) in
+        let goes = removed AnyJob (channel_of told) s on (device_cut s.device).state (cuts_off s.device on.fit) (cut_fits s.device on.fit) in
         (still_orderly told d s (station.remove s (device_cut s.device).state).0 so there goes, stands_still stands (still_goes told d (channel_of told) s (station.remove s (device_cut s.device).state).0 there goes))
 
     by : (o : Option Of) → station_at told d ≡ o → IsStanding (removes_device w d)

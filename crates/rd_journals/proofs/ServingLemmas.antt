@@ -39,7 +39,7 @@ use Rattle.rd_journals.specs.Orderly.{HasStation, IsNext, Orderly, OrderlyOn}
 use Rattle.rd_journals.specs.Reads.{IsGiven}
 use Rattle.rd_journals.specs.Standing.{AreStanding, IsNamed, IsStanding, pending_of}
 use Rattle.rd_journals.proofs.AskingLemmas.{HeardAs, hears}
-use Rattle.rd_journals.proofs.CallLemmas.{Goes, NoKey, announced, collected, taken}
+use Rattle.rd_journals.proofs.CallLemmas.{AnyJob, Goes, NoKey, announced, collected, taken}
 use Rattle.rd_journals.proofs.ClientLemmas.{announcing_orderly, channel_of, counted_one, counted_other, hears_orderly, isnt_some, given_back, next_job, open_or_shut, putting_orderly, read_by, read_orderly}
 use Rattle.rd_journals.proofs.HeldLemmas.{has_here}
 use Rattle.rd_journals.proofs.OrderlyLemmas.{beside_open, ready_came, still_orderly, while_open}
@@ -118,7 +118,7 @@ announcing_still w d ordered is = by (station_at w d) refl
   where
     by : (o : Option Of) → station_at w d ≡ o → IsStanding (option_map_or (λ (s : Of). with_station w d (station.announce s).0) o w)
     by None there = is
-    by (Some s) there = stands_still is (still_goes w d (channel_of w) s (station.announce s).0 there (announced (channel_of w) s ((ordered.held).on d s there)))
+    by (Some s) there = stands_still is (still_goes w d (channel_of w) s (station.announce s).0 there (announced AnyJob (channel_of w) s ((ordered.held).on d s there)))
 
 all_announced : (devices : List Announce) (w : WorldState) → Orderly w → IsStanding w → IsStanding (fold (λ x (a : Announce). announcing x a.id) w devices)
 all_announced [] w ordered is = is
@@ -214,7 +214,7 @@ collects_stands c w d (ordered, opened) is = at (station_at w d) refl
         let new : Of = (collect_first s (x ∷ xs)).0 in
         let after : WorldState = with_station w d new in
         let m : List ℕ = completion_message d x in
-        let goes : Goes NoKey (channel_of w) s new = subst (λ (ys : List Completion). Goes NoKey (channel_of w) s (collect_first s ys).0) e (collected (channel_of w) s ((ordered.held).on d s there)) in
+        let goes : Goes NoKey AnyJob (channel_of w) s new = subst (λ (ys : List Completion). Goes NoKey AnyJob (channel_of w) s (collect_first s ys).0) e (collected AnyJob (channel_of w) s ((ordered.held).on d s there)) in
         let so : Orderly after = still_orderly w d s new ordered there goes in
         let stands : AreStanding w.channels (w.client).asked after.stations (pending_of w.kept) ((w.client).core).outbox after.deeds = stands_still is (still_goes w d (channel_of w) s new there goes) in
         let here : HasStation after.stations d new = has_here w.stations d new in
@@ -245,7 +245,7 @@ takes_job_stands w d hand ordered is = at (station_at w d) refl
     from s there (new, given.Nothing) e = is
     from s there (new, given.Over) e = is
     from s there (new, given.Job job) e =
-        stands_still is (still_goes w d (channel_of w) s new there (subst (λ (r : Of × Given). Goes NoKey (channel_of w) s r.0) e (taken (channel_of w) s ((ordered.held).on d s there))))
+        stands_still is (still_goes w d (channel_of w) s new there (subst (λ (r : Of × Given). Goes NoKey AnyJob (channel_of w) s r.0) e (taken AnyJob (channel_of w) s ((ordered.held).on d s there))))
 
     at : (o : Option Of) → station_at w d ≡ o → IsStanding (option_map_or (λ (s : Of). takes_job_from w d hand (station.take s)) o w)
     at None there = is

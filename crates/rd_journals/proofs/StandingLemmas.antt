@@ -21,7 +21,7 @@ use Rattle.rd_world.specs.declared.device.SessionDevice.{SessionDevice}
 use Rattle.rd_journals.specs.Orderly.{HasStation}
 use Rattle.rd_journals.specs.Reads.{IsRead}
 use Rattle.rd_journals.specs.Standing.{AreStanding, IsNamed, IsOut, IsUnserved}
-use Rattle.rd_journals.proofs.CallLemmas.{Goes, NoKey}
+use Rattle.rd_journals.proofs.CallLemmas.{AnyJob, Goes, NoKey}
 use Rattle.rd_journals.proofs.HeldLemmas.{found_then, has_elsewhere, has_here, stored_deeds, turned_has}
 use Rattle.rd_journals.proofs.WritingLemmas.{AddsOwn}
 
@@ -94,7 +94,7 @@ module _ (w : WorldState) (d : ℕ) (old new : Of) (there : station_at w d ≡ S
       stored : then.deeds ≡ map (stores d) (reverse more) ++ w.deeds
       stored = stored_deeds w d old new there more longer
 
-pub still_goes : (w : WorldState) (d c : ℕ) (old new : Of) → station_at w d ≡ Some old → Goes NoKey c old new → Still w.stations w.deeds (with_station w d new).stations (with_station w d new).deeds
+pub still_goes : (w : WorldState) (d c : ℕ) (old new : Of) → station_at w d ≡ Some old → Goes NoKey AnyJob c old new → Still w.stations w.deeds (with_station w d new).stations (with_station w d new).deeds
 still_goes w d c old new there goes = still_station w d old new there goes.more goes.longer goes.comes (λ key names. elim (goes.names key names) [ inl was ↦ was | inr never ↦ absurd never ])
 
 pub still_dropped : (w : WorldState) (d : ℕ) (s : Of) → station_at w d ≡ Some s → (cut : SessionDevice) → Still w.stations w.deeds (with_station w d (drop_channel s cut)).stations (with_station w d (drop_channel s cut)).deeds
