@@ -15,7 +15,7 @@ use Rattle.rd_pending.specs.Table.{TableState}
 use Rattle.rd_station.specs.Station as station
 use Rattle.rd_station.specs.Station.{StationState}
 use Rattle.rd_world.specs.Devices.{PrinterNames, device_cut, printer_data}
-use Rattle.rd_world.specs.Events.{adds_device, connects, dropping, drops, refreshing, removes_device, removing}
+use Rattle.rd_world.specs.Events.{connects, cutting, dropping, refreshing}
 use Rattle.rd_world.specs.Hearing.{with_client}
 use Rattle.rd_world.specs.Host.{begins_on, ends_channel}
 use Rattle.rd_world.specs.Talk.{adds, client_read, host_begins, host_ends, is_request, removes}
@@ -25,10 +25,10 @@ use Rattle.rd_journals.specs.Orderly.{AreHeld, HasStation, Orderly, OrderlyOn, c
 use Rattle.rd_journals.specs.Reads.{IsGiven}
 use Rattle.rd_journals.specs.Stations.{IsOn}
 use Rattle.rd_journals.proofs.CallLemmas.{AnyJob, Goes, NoKey, dropped, removed}
-use Rattle.rd_journals.proofs.ClientLemmas.{announcing_orderly, channel_of, channel_open, tries_orderly}
+use Rattle.rd_runs.proofs.Parts.{announced_by, cut_by, refreshed_by, told_added, told_removed}
+use Rattle.rd_journals.proofs.ClientLemmas.{announced_orderly, channel_of, channel_open}
 use Rattle.rd_journals.proofs.DeviceLemmas.{cut_fits, cuts_off}
 use Rattle.rd_journals.proofs.HeldLemmas.{has_elsewhere, held_on, read_then}
-use Rattle.rd_journals.proofs.HostLemmas.{all_take_orderly}
 use Rattle.rd_journals.proofs.OrderlyLemmas.{beside_open, still_orderly}
 
 abbrev Of : Type 0
@@ -36,16 +36,16 @@ Of = StationState SessionDevice
 
 -- ---- a device is removed, or added
 
-pub removes_orderly : (c : ℕ) (w : WorldState) (d : ℕ) → OrderlyOn c w → Orderly (removes_device w d)
-removes_orderly c w d (is, opened) = tries_orderly (removing w d) d (by (station_at told d) refl)
+pub removes_orderly : (c : ℕ) (w : WorldState) (d : ℕ) → OrderlyOn c w → (o : Option Of) → station_at w d ≡ o → Orderly (cut_by (told_removed w d) d o)
+removes_orderly c w d (is, opened) o there = by o there
   where
     told : WorldState
-    told = with_deed (with_client w (client.tell_removed w.client d)) (removes d)
+    told = told_removed w d
 
     so : Orderly told
     so = beside_open is opened (removes d) (λ q. refl) (λ q. refl) tt
 
-    by : (o : Option Of) → station_at told d ≡ o → Orderly (option_map_or (λ (s : Of). with_station told d (station.remove s (device_cut s.device).state).0) o told)
+    by : (o : Option Of) → station_at told d ≡ o → Orderly (cut_by told d o)
     by None there = so
     by (Some s) there =
         let on = (so.held).on d s there in
@@ -60,15 +60,9 @@ refreshed_only w d = by (lookup (is_at (nat_cmp d)) w.printers)
     by None = (w.client, refl, refl, refl, refl)
     by (Some names) = (client.refresh w.client d (printer_data w.cache names), refl, refl, refl, refl)
 
-pub adds_orderly : (c : ℕ) (w : WorldState) (d : ℕ) → OrderlyOn c w → Orderly (adds_device w d)
-adds_orderly c w d (is, opened) = announcing_orderly (added (refreshing w d)) d (by (lookup (is_at (nat_cmp d)) w.printers))
-  where
-    added : WorldState → WorldState
-    added x = with_deed (with_client x (client.tell_added x.client d)) (adds d)
-
-    by : (o : Option PrinterNames) → Orderly (added (option_map_or (λ (names : PrinterNames). with_client w (client.refresh w.client d (printer_data w.cache names))) o w))
-    by None = beside_open is opened (adds d) (λ q. refl) (λ q. refl) tt
-    by (Some names) = beside_open is opened (adds d) (λ q. refl) (λ q. refl) tt
+pub adds_orderly : (c : ℕ) (w : WorldState) (d : ℕ) → OrderlyOn c w → (names : Option PrinterNames) (o : Option Of) → station_at w d ≡ o → Orderly (announced_by (told_added (refreshed_by w d names) d) d o)
+adds_orderly c w d (is, opened) None o there = announced_orderly (told_added w d) d o there (beside_open is opened (adds d) (λ q. refl) (λ q. refl) tt)
+adds_orderly c w d (is, opened) (Some names) o there = announced_orderly (told_added (refreshed_by w d (Some names)) d) d o there (beside_open is opened (adds d) (λ q. refl) (λ q. refl) tt)
 
 -- ---- a channel begins
 
@@ -229,8 +223,8 @@ ended_with cut = record (with_deed cut (host_ends cut.channels)) {
   kept = None;
 }
 
-pub drops_orderly : (c : ℕ) (w : WorldState) → OrderlyOn c w → Orderly (drops w)
-drops_orderly c w (is, opened) = all_take_orderly (ended_with cut) (subst (λ (x : WorldState). Orderly (ended_with x)) (sym all.alone) so)
+pub cutting_orderly : (c : ℕ) (w : WorldState) → OrderlyOn c w → Orderly (cutting w)
+cutting_orderly c w (is, opened) = subst (λ (x : WorldState). Orderly (ended_with x)) (sym all.alone) so
   where
     ids : List ℕ
     ids = map (λ (e : ℕ × Of). e.0) w.stations

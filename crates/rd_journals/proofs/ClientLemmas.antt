@@ -1,8 +1,8 @@
 -- What a client hears, and what its stations and hands do, keeps a world orderly.
-use Rattle.std.proofs.Common.{◌≡◌, ◌∙◌, refl, sym, ap, subst, inl, inr, ℕ, zero, suc, ◌<◌, ◌+◌, ◌==◌, ◌&&◌, Bool, true, false, cond, not, List, [], ◌∷◌, length, arith, eq-eqb}
+use Rattle.std.proofs.Common.{◌≡◌, ◌∙◌, refl, sym, ap, subst, inl, inr, ℕ, ◌<◌, ◌+◌, ◌==◌, ◌&&◌, Bool, true, false, cond, not, List, [], ◌∷◌, length, arith, eq-eqb}
 use Rattle.std.specs.Prelude.{Some, None, Option, filter, fold, is_some, if◌then◌else◌, Result, Ok, Err}
 use Rattle.std.specs.List.{cons_option}
-use Rattle.std.specs.Option.{option_and_then, option_map_or}
+use Rattle.std.specs.Option.{option_map_or}
 use Rattle.rd_base.specs.declared.journal.Key.{Key}
 use Rattle.rd_base.specs.Statuses.{insufficient_resources, no_such_device}
 use Rattle.rd_base.specs.declared.status.Status.{Status}
@@ -19,24 +19,24 @@ use Rattle.rd_irp.specs.declared.op.Op.{Op}
 use Rattle.rd_irp.specs.declared.op.Op.TheVariants as op
 use Rattle.rd_irp.specs.declared.request.Request.{Request}
 use Rattle.rd_station.specs.Station as station
-use Rattle.rd_station.specs.Station.{StationState, put_refusal, put_unless}
+use Rattle.rd_station.specs.Station.{StationState, collect_first, put_refusal, put_unless}
 use Rattle.rd_station.specs.declared.answers.Completion.{Completion}
 use Rattle.rd_station.specs.declared.answers.Given.{Given}
-use Rattle.rd_station.specs.declared.answers.Given.TheVariants as given
 use Rattle.rd_station.specs.declared.refusals.PutWhy.{PutWhy}
 use Rattle.rd_station.specs.declared.refusals.PutWhy.TheVariants as why
-use Rattle.rd_world.specs.Events.{applies_at, applies_held, applies_job, came_of, collects, collects_from, completion_message, hand_at, is_close, takes_job, takes_job_from}
-use Rattle.rd_world.specs.Hearing.{after_opening, announcing, answers_directly, client_handles, client_handles_all, client_handles_first, client_hears, heard_by_client, is_device_told, put_at, put_by, putting, tries, tries_kept, with_client}
+use Rattle.rd_world.specs.Events.{applies_at, came_of, completion_message, is_close}
+use Rattle.rd_world.specs.Hearing.{after_opening, announcing, answers_directly, client_hears, heard_by_client, is_device_told, put_at, put_by, putting, with_client}
 use Rattle.rd_world.specs.Talk.{client_read, client_reads, completes, is_request, request_at, request_in}
-use Rattle.rd_world.specs.World.{Kept, WayState, WorldState, client_sends, handling, most_messages, station_at, with_deed, with_station}
+use Rattle.rd_world.specs.World.{Kept, WorldState, client_sends, station_at, with_deed, with_station}
 use Rattle.rd_world.specs.declared.device.SessionDevice.{SessionDevice}
 use Rattle.rd_journals.specs.Orderly.{IsNext, Orderly, OrderlyOn, current}
 use Rattle.rd_journals.specs.Reads.{IsGiven, IsRead}
 use Rattle.rd_journals.specs.Stations.{IsOn}
+use Rattle.rd_runs.proofs.Parts.{announced_by}
 use Rattle.rd_journals.proofs.AskingLemmas.{HeardAs, hears}
 use Rattle.rd_journals.proofs.CallLemmas.{AnyJob, Goes, NoKey, announced, applied_back, came, collected, may_put, taken}
 use Rattle.rd_journals.proofs.DeviceLemmas.{comes, ran_fits}
-use Rattle.rd_journals.proofs.OrderlyLemmas.{beside_open, goes_orderly, still_orderly, while_open}
+use Rattle.rd_journals.proofs.OrderlyLemmas.{beside_open, goes_orderly, ready_open, still_orderly, while_open}
 
 abbrev Of : Type 0
 Of = StationState SessionDevice
@@ -81,12 +81,12 @@ putting_orderly c w d job (is, opened) free next = at (station_at w d) refl
 
 -- ---- a message is heard
 
+pub announced_orderly : (w : WorldState) (d : ℕ) (o : Option Of) → station_at w d ≡ o → Orderly w → Orderly (announced_by w d o)
+announced_orderly w d None there is = is
+announced_orderly w d (Some s) there is = still_orderly w d s (station.announce s).0 is there (announced AnyJob (channel_of w) s ((is.held).on d s there))
+
 pub announcing_orderly : (w : WorldState) (d : ℕ) → Orderly w → Orderly (announcing w d)
-announcing_orderly w d is = by (station_at w d) refl
-  where
-    by : (o : Option Of) → station_at w d ≡ o → Orderly (option_map_or (λ (s : Of). with_station w d (station.announce s).0) o w)
-    by None there = is
-    by (Some s) there = still_orderly w d s (station.announce s).0 is there (announced AnyJob (channel_of w) s ((is.held).on d s there))
+announcing_orderly w d is = announced_orderly w d (station_at w d) refl is
 
 pub announcing_open : (c : ℕ) (w : WorldState) (d : ℕ) → OrderlyOn c w → OrderlyOn c (announcing w d)
 announcing_open c w d (is, opened) = (announcing_orderly w d is, by (station_at w d))
@@ -180,73 +180,35 @@ module _ (c : ℕ) (w : WorldState) (m : List ℕ) (is : Orderly w) (opened : ((
           subst (λ (y : ℕ × Job). IsNext w.stations w.channels x.asked (client_reads w.channels m ∷ w.deeds) y.0 y.1) (λ i. (sym named i, sym is_job i)) (next_job x r asked spelled one fine) in
           putting_orderly c (read_by x) device job so free next
 
--- ---- bytes are handled
+-- ---- a job that was kept back is tried again, which is so only while a channel is open
 
-handles_orderly : (c most : ℕ) (w : WorldState) → OrderlyOn c w → OrderlyOn c (client_handles most w)
-handles_orderly c zero w is = is
-handles_orderly c (suc most) w (is, opened) = by (is_some w.kept) refl (handles_orderly c most)
-  where
-    first : (free : w.kept ≡ None) (found : WayState × Option (List ℕ)) → ((x : WorldState) → OrderlyOn c x → OrderlyOn c (client_handles most x)) → OrderlyOn c (client_handles_first w found (client_handles most))
-    first free (y, None) later = (while_open is opened is.kept_next, opened)
-    first free (y, Some m) later = later (client_hears (record w { to_client = y }) m) (hears_orderly c (record w { to_client = y }) m (while_open is opened is.kept_next) opened free)
-
-    by : (b : Bool) → is_some w.kept ≡ b → ((x : WorldState) → OrderlyOn c x → OrderlyOn c (client_handles most x)) → OrderlyOn c (if b then w else client_handles_first w (handling w.to_client) (client_handles most))
-    by true e later = (is, opened)
-    by false e later = first (isnt_some w.kept e) (handling w.to_client) later
-
-pub handles_all_orderly : (c : ℕ) (w : WorldState) → OrderlyOn c w → OrderlyOn c (client_handles_all w)
-handles_all_orderly c w is = handles_orderly c (most_messages w.to_client) w is
-
--- a job that was kept back is tried again, which is so only while a channel is open
 pub open_or_shut : (o : Option ℕ) → (o ≡ None → ⊥) → (c : ℕ) × (o ≡ Some c)
 open_or_shut None never = absurd (never refl)
 open_or_shut (Some c) never = (c, refl)
 
-pub tries_orderly : (w : WorldState) (d : ℕ) → Orderly w → Orderly (tries_kept w d)
-tries_orderly w d is = by w.kept refl
-  where
-    again : (k : Kept) → w.kept ≡ Some k → (b : Bool) → Orderly (if b then client_handles_all (putting (record w { kept = None }) k.device k.job) else w)
-    again k some false = is
-    again k some true =
-        let (c, opened) = open_or_shut ((w.side).table).channel (λ none. cc ((is.shut none).kept_none, some)) in
-        (handles_all_orderly c (putting (record w { kept = None }) k.device k.job)
-        (putting_orderly c (record w { kept = None }) k.device k.job (while_open is opened (λ l none. absurd (cc (none))), opened) refl (is.kept_next k some))).0
-
-    by : (o : Option Kept) → w.kept ≡ o → Orderly (tries w d o)
-    by None e = is
-    by (Some k) e = again k e (k.device == d)
+pub tries_orderly : (w : WorldState) (k : Kept) → w.kept ≡ Some k → Orderly w → Orderly (putting (record w { kept = None }) k.device k.job)
+tries_orderly w k some is =
+    let (c, opened) = open_or_shut ((w.side).table).channel (λ none. cc ((is.shut none).kept_none, some)) in
+    (putting_orderly c (record w { kept = None }) k.device k.job (while_open is opened (λ l none. absurd (cc (none))), opened) refl (is.kept_next k some)).0
 
 -- ---- a completion is collected
 
-pub collects_orderly : (w : WorldState) (d c : ℕ) → Orderly w → ((w.side).table).channel ≡ Some c → Orderly (collects w d)
-collects_orderly w d c is opened = at (station_at w d) refl
+pub collects_orderly : (w : WorldState) (d : ℕ) (s after : Of) (x : Completion) → station_at w d ≡ Some s → station.collect s ≡ (after, Some x) → Orderly w
+    → Orderly (client_sends (with_station w d after) (completes x.key (completion_message d x)) (completion_message d x))
+collects_orderly w d s after x there made is =
+    let (c, opened) = open_or_shut ((w.side).table).channel (λ none. some s.ready refl made none) in
+    beside_open (still_orderly w d s after is there (subst (λ (r : Of × Option Completion). Goes NoKey AnyJob (channel_of w) s r.0) made (collected AnyJob (channel_of w) s ((is.held).on d s there)))) opened
+    (completes x.key (completion_message d x)) (λ q. refl) (λ q. refl) tt
   where
-    from : (s : Of) → station_at w d ≡ Some s → (r : Of × Option Completion) → station.collect s ≡ r → Orderly (collects_from w d r)
-    from s there (new, None) e = is
-    from s there (new, Some x) e =
-        let goes : Goes NoKey AnyJob (channel_of w) s new = subst (λ (r : Of × Option Completion). Goes NoKey AnyJob (channel_of w) s r.0) e (collected AnyJob (channel_of w) s ((is.held).on d s there)) in
-        let so = still_orderly w d s new is there goes in
-        tries_orderly (client_sends (with_station w d new) (completes x.key (completion_message d x)) (completion_message d x)) d
-        (beside_open so opened (completes x.key (completion_message d x)) (λ q. refl) (λ q. refl) tt)
-
-    at : (o : Option Of) → station_at w d ≡ o → Orderly (option_map_or (λ (s : Of). collects_from w d (station.collect s)) o w)
-    at None there = is
-    at (Some s) there = from s there (station.collect s) refl
+    some : (cs : List Completion) → s.ready ≡ cs → collect_first s cs ≡ (after, Some x) → ((w.side).table).channel ≡ None → ⊥
+    some [] e made none = let nothing : None ≡ Some x = ap (λ (r : Of × Option Completion). r.1) made in cc (nothing)
+    some (y ∷ ys) e made none = ready_open w d s is there y ys e none
 
 -- ---- a hand takes a job, and gives it back
 
-pub takes_job_orderly : (w : WorldState) (d hand : ℕ) → Orderly w → Orderly (takes_job w d hand)
-takes_job_orderly w d hand is = at (station_at w d) refl
-  where
-    from : (s : Of) → station_at w d ≡ Some s → (r : Of × Given) → station.take s ≡ r → Orderly (takes_job_from w d hand r)
-    from s there (new, given.Nothing) e = is
-    from s there (new, given.Over) e = is
-    from s there (new, given.Job job) e =
-        still_orderly w d s new is there (subst (λ (r : Of × Given). Goes NoKey AnyJob (channel_of w) s r.0) e (taken AnyJob (channel_of w) s ((is.held).on d s there)))
-
-    at : (o : Option Of) → station_at w d ≡ o → Orderly (option_map_or (λ (s : Of). takes_job_from w d hand (station.take s)) o w)
-    at None there = is
-    at (Some s) there = from s there (station.take s) refl
+pub takes_orderly : (w : WorldState) (d : ℕ) (s after : Of) (answer : Given) → station_at w d ≡ Some s → station.take s ≡ (after, answer) → Orderly w → Orderly (with_station w d after)
+takes_orderly w d s after answer there made is =
+    still_orderly w d s after is there (subst (λ (r : Of × Given). Goes NoKey AnyJob (channel_of w) s r.0) made (taken AnyJob (channel_of w) s ((is.held).on d s there)))
 
 -- what a station makes of a job that comes back
 spared : (b : Bool) (o : Op) → o ≡ op.Close → (b && not (is_close o)) ≡ false
@@ -262,13 +224,6 @@ given_back starves w s job on =
     let planned : Planned = record { job = job; starved = starved } in
     applied_back AnyJob (channel_of w) s on planned tt w.moment (came_of starves w job s.device) (comes s.device job w.moment starved on.fit (spared (starves job.key) job.op)) (ran_fits s.device job w.moment starved on.fit)
 
-pub applies_orderly : (starves : Key → Bool) (w : WorldState) (hand : ℕ) → Orderly w → Orderly (applies_job starves w hand)
-applies_orderly starves w hand is = by (option_and_then (λ held. held) (hand_at w hand))
-  where
-    at : (d : ℕ) (job : Job) (o : Option Of) → station_at w d ≡ o → Orderly (applies_at starves w hand d job o)
-    at d job None there = is
-    at d job (Some s) there = still_orderly w d s (station.apply s job w.moment (came_of starves w job s.device)).0 is there (given_back starves w s job ((is.held).on d s there))
-
-    by : (o : Option (ℕ × Job)) → Orderly (applies_held starves w hand o)
-    by None = is
-    by (Some (d, job)) = at d job (station_at w d) refl
+pub applies_orderly : (starves : Key → Bool) (w : WorldState) (hand d : ℕ) (job : Job) (o : Option Of) → station_at w d ≡ o → Orderly w → Orderly (applies_at starves w hand d job o)
+applies_orderly starves w hand d job None there is = is
+applies_orderly starves w hand d job (Some s) there is = still_orderly w d s (station.apply s job w.moment (came_of starves w job s.device)).0 is there (given_back starves w s job ((is.held).on d s there))

@@ -1,5 +1,5 @@
 -- What a host and its applications do keeps a world orderly.
-use Rattle.std.proofs.Common.{◌≡◌, ◌∙◌, refl, sym, ap, subst, ℕ, zero, suc, Bool, true, false, List, [], ◌∷◌, map}
+use Rattle.std.proofs.Common.{◌≡◌, ◌∙◌, refl, sym, ap, subst, ℕ, suc, Bool, true, false, List, [], ◌∷◌}
 use Rattle.std.specs.Prelude.{Some, None, Option, fold, if◌then◌else◌, Result, Ok, Err}
 use Rattle.std.specs.Option.{option_map_or}
 use Rattle.rd_base.specs.declared.journal.Key.{Key}
@@ -17,7 +17,6 @@ use Rattle.rd_irp.specs.declared.op.Op.{Op}
 use Rattle.rd_pending.specs.History as call
 use Rattle.rd_pending.specs.Table as table
 use Rattle.rd_pending.specs.Table.{Fate, TableState, Untaken, awaited, known, submit_refusal, untaken_at}
-use Rattle.rd_pending.specs.declared.calls.Handle.{Handle}
 use Rattle.rd_pending.specs.declared.calls.LiveNo.{LiveNo}
 use Rattle.rd_pending.specs.declared.calls.SubmitNo.{SubmitNo}
 use Rattle.rd_pending.specs.declared.calls.TakeNo.{TakeNo}
@@ -25,17 +24,15 @@ use Rattle.rd_pending.specs.declared.calls.Taken.{Taken}
 use Rattle.rd_pending.specs.declared.calls.Target.{Target}
 use Rattle.rd_pending.proofs.Effects.{submits}
 use Rattle.rd_pending.proofs.Neutral.{channel_kept}
-use Rattle.rd_script.specs.declared.outcome.Outcome.{Outcome}
-use Rattle.rd_script.specs.declared.outcome.Outcome.TheVariants as outcome
-use Rattle.rd_script.specs.declared.outcome.Refusal.TheVariants as refusal
-use Rattle.rd_world.specs.Events.{asks, client_sends_first, client_sends_next, comes_of_asking, host_sends_next, issues, issues_next, refusal_of, target_of}
-use Rattle.rd_world.specs.Hearing.{all_take, ends_line, given_handle, host_handles, host_handles_all, host_handles_first, host_hears, next_asked, reported_outcome, takes_awaited, takes_from, takes_outcome, with_client, with_outcome}
-use Rattle.rd_world.specs.Host.{HostSide, admits, forgets, hears, host_heard, lived, next_message, sent_from, side_sends}
+use Rattle.rd_world.specs.Events.{client_sends_first, client_sends_next, comes_of_asking}
+use Rattle.rd_world.specs.Hearing.{host_hears, with_client}
+use Rattle.rd_world.specs.Host.{HostSide, admits, forgets, hears, host_heard, lived, sent_from, side_sends}
 use Rattle.rd_world.specs.Talk as deed
 use Rattle.rd_world.specs.Talk.{Deed}
-use Rattle.rd_world.specs.World.{ApplicationState, Asked, WayState, WorldState, application_at, client_sends, handling, host_sends, most_messages, with_application, with_deed, with_table}
+use Rattle.rd_world.specs.World.{Asked, WorldState, client_sends, host_sends, with_deed, with_table}
+use Rattle.rd_runs.proofs.Parts.{ended_by}
 use Rattle.rd_journals.specs.Orderly.{AreOrdered, Orderly, OrderlyOn}
-use Rattle.rd_journals.proofs.OrderlyLemmas.{beside, beside_open, while_open}
+use Rattle.rd_journals.proofs.OrderlyLemmas.{beside, beside_open}
 
 -- ---- what a host does leaves its channel as it is
 
@@ -85,14 +82,7 @@ take_outbox t n = go (untaken_at t n) refl
     go None e = rw e refl
     go (Some u) e = by_fate u e u.fate refl
 
--- ---- applications take outcomes
-
-pub ends_line_orderly : (w : WorldState) (a : ℕ) (o : Outcome) (given : Option Handle) → Orderly w → Orderly (ends_line w a o given)
-ends_line_orderly w a o given is = by (next_asked (application_at w a))
-  where
-    by : (x : Option Asked) → Orderly (option_map_or (λ asked. with_application w a (with_outcome (application_at w a) o given asked)) x w)
-    by None = is
-    by (Some asked) = is
+-- ---- applications
 
 -- a table that differs in neither its channel nor what it is to send
 same_table : (w : WorldState) (t : TableState) → t.channel ≡ ((w.side).table).channel → t.outbox ≡ ((w.side).table).outbox → Orderly w → Orderly (with_table w t)
@@ -100,29 +90,41 @@ same_table w t channel outbox is =
     subst (λ (x : Option ℕ × List (List ℕ)). AreOrdered w.stations w.deeds w.channels (w.client).channel (w.client).asked ((w.client).core).fault ((w.client).core).outbox x.0 (((w.side).core).core).outbox x.1 (w.to_client).pipe (w.to_host).pipe w.kept)
     (λ i. (sym channel i, sym outbox i)) is
 
-takes_from_orderly : (w : WorldState) (a number : ℕ) (r : TableState × Result Taken TakeNo) → (r.0).channel ≡ ((w.side).table).channel → (r.0).outbox ≡ ((w.side).table).outbox → Orderly w → Orderly (takes_from w a number r)
-takes_from_orderly w a number (t, Err cause) channel outbox is = is
-takes_from_orderly w a number (t, Ok taken) channel outbox is =
-    ends_line_orderly (with_deed (with_table w t) (deed.takes number)) a (reported_outcome taken.outcome) (given_handle taken)
-    (beside (same_table w t channel outbox is) (deed.takes number) (λ d. refl) (λ c. refl) tt)
-
-takes_outcome_orderly : (w : WorldState) (a : ℕ) → Orderly w → Orderly (takes_outcome w a)
-takes_outcome_orderly w a is = by (application_at w a).awaits
+pub hands_out_orderly : (w : WorldState) (a number : ℕ) (t : TableState) (taken : Taken) (next : Option Asked) → table.take (w.side).table number ≡ (t, Ok taken) → Orderly w
+    → Orderly (ended_by (with_deed (with_table w t) (deed.takes number)) a taken next)
+hands_out_orderly w a number t taken next made is = by next
   where
-    by : (o : Option ℕ) → Orderly (takes_awaited w a o)
-    by None = is
-    by (Some number) = takes_from_orderly w a number (table.take (w.side).table number) (channel_kept (call.takes number) tt (w.side).table) (take_outbox (w.side).table number) is
+    same : t ≡ (table.take (w.side).table number).0
+    same = ap (λ (r : TableState × Result Taken TakeNo). r.0) (sym made)
 
-all_taken : (ids : List ℕ) (w : WorldState) → Orderly w → Orderly (fold takes_outcome w ids)
-all_taken [] w is = is
-all_taken (a ∷ ids) w is = all_taken ids (takes_outcome w a) (takes_outcome_orderly w a is)
+    so : Orderly (with_deed (with_table w t) (deed.takes number))
+    so = beside (same_table w t (ap (λ (x : TableState). x.channel) same ∙ channel_kept (call.takes number) tt (w.side).table) (ap (λ (x : TableState). x.outbox) same ∙ take_outbox (w.side).table number) is)
+        (deed.takes number) (λ d. refl) (λ c. refl) tt
 
-pub all_take_orderly : (w : WorldState) → Orderly w → Orderly (all_take w)
-all_take_orderly w is = all_taken (map (λ (e : ℕ × ApplicationState). e.0) w.applications) w is
+    by : (x : Option Asked) → Orderly (ended_by (with_deed (with_table w t) (deed.takes number)) a taken x)
+    by None = so
+    by (Some asked) = so
+
+pub accepts_orderly : (w : WorldState) (a : ℕ) (asked : Asked) (named : Target) (t : TableState) (number : ℕ) → table.submit (w.side).table a named asked.op ≡ (t, Ok number) → Orderly w
+    → Orderly (comes_of_asking w a asked.op named (t, Ok number))
+accepts_orderly w a asked named t number made is = subst (λ (r : TableState × Result ℕ SubmitNo). Orderly (comes_of_asking w a asked.op named r)) made (by (submit_refusal (w.side).table named) refl)
+  where
+    o : Op
+    o = asked.op
+
+    by : (r : Option SubmitNo) → submit_refusal (w.side).table named ≡ r → Orderly (comes_of_asking w a o named (table.submit (w.side).table a named o))
+    by (Some cause) e =
+        let refused : table.submit (w.side).table a named o ≡ ((w.side).table, Err cause) = rw e refl in
+        let both : ◌≡◌ {A = Result ℕ SubmitNo} (Ok number) (Err cause) = ap (λ (r : TableState × Result ℕ SubmitNo). r.1) (sym made ∙ refused) in
+        absurd (cc (both))
+    by None e =
+        let same : table.submit (w.side).table a named o ≡ (table.accept (w.side).table named o, Ok (suc ((w.side).table).count)) = rw e refl in
+        let so : Orderly (comes_of_asking w a o named (table.accept (w.side).table named o, Ok (suc ((w.side).table).count))) = beside_open is (submits (w.side).table a named o e).is_open (deed.submits a named o) (λ d. refl) (λ c. refl) tt in
+        subst (λ (r : TableState × Result ℕ SubmitNo). Orderly (comes_of_asking w a o named r)) (sym same) so
 
 -- ---- a host reads, and sends
 
-hears_orderly : (c : ℕ) (w : WorldState) (m : List ℕ) → OrderlyOn c w → OrderlyOn c (host_hears w m)
+pub hears_orderly : (c : ℕ) (w : WorldState) (m : List ℕ) → OrderlyOn c w → OrderlyOn c (host_hears w m)
 hears_orderly c w m (is, opened) =
     let s = hears w.side m in
     let same = hears_same w.side m in
@@ -132,56 +134,13 @@ hears_orderly c w m (is, opened) =
       same ∙ opened,
     )
 
-handles_orderly : (c most : ℕ) (w : WorldState) → OrderlyOn c w → OrderlyOn c (host_handles most w)
-handles_orderly c zero w is = is
-handles_orderly c (suc most) w (is, opened) = first (handling w.to_host) (handles_orderly c most)
-  where
-    first : (found : WayState × Option (List ℕ)) → ((x : WorldState) → OrderlyOn c x → OrderlyOn c (host_handles most x)) → OrderlyOn c (host_handles_first w found (host_handles most))
-    first (y, None) later = (while_open is opened is.kept_next, opened)
-    first (y, Some m) later = later (host_hears (record w { to_host = y }) m) (hears_orderly c (record w { to_host = y }) m (while_open is opened is.kept_next, opened))
-
-pub host_handles_orderly : (c : ℕ) (w : WorldState) → OrderlyOn c w → Orderly (host_handles_all w)
-host_handles_orderly c w is = all_take_orderly (host_handles (most_messages w.to_host) w) (handles_orderly c (most_messages w.to_host) w is).0
-
-pub host_sends_orderly : (c : ℕ) (w : WorldState) → OrderlyOn c w → Orderly (host_sends_next w)
-host_sends_orderly c w (is, opened) = by (next_message w.side)
-  where
-    by : (o : Option (List ℕ)) → Orderly (option_map_or (host_sends (record w { side = side_sends w.side })) o w)
-    by None = is
-    by (Some m) =
-        let s = side_sends w.side in
-        let x = host_sends (record w { side = s }) m in
-        let so : AreOrdered w.stations x.deeds w.channels (w.client).channel (w.client).asked ((w.client).core).fault ((w.client).core).outbox ((w.side).table).channel ((s.core).core).outbox (s.table).outbox (x.to_client).pipe (w.to_host).pipe w.kept =
-        beside_open is opened (deed.host_writes w.channels m) (λ d. refl) (λ y. refl) tt in
-        subst (λ (o : Option ℕ). AreOrdered w.stations x.deeds w.channels (w.client).channel (w.client).asked ((w.client).core).fault ((w.client).core).outbox o ((s.core).core).outbox (s.table).outbox (x.to_client).pipe (w.to_host).pipe w.kept) (sym (sends_same w.side)) so
-
--- ---- an application issues a line
-
-asks_orderly : (w : WorldState) (a : ℕ) (o : Op) (named : Target) → Orderly w → Orderly (comes_of_asking w a o named (table.submit (w.side).table a named o))
-asks_orderly w a o named is = by (submit_refusal (w.side).table named) refl
-  where
-    t : TableState
-    t = (w.side).table
-
-    by : (r : Option SubmitNo) → submit_refusal t named ≡ r → Orderly (comes_of_asking w a o named (table.submit t a named o))
-    by (Some cause) e =
-        let same : table.submit t a named o ≡ (t, Err cause) = rw e refl in
-        subst (λ (r : TableState × Result ℕ SubmitNo). Orderly (comes_of_asking w a o named r)) (sym same) (ends_line_orderly w a (outcome.Refused (refusal_of cause)) None is)
-    by None e =
-        let same : table.submit t a named o ≡ (table.accept t named o, Ok (suc t.count)) = rw e refl in
-        let so : Orderly (comes_of_asking w a o named (table.accept t named o, Ok (suc t.count))) = beside_open is (submits t a named o e).is_open (deed.submits a named o) (λ d. refl) (λ c. refl) tt in
-        subst (λ (r : TableState × Result ℕ SubmitNo). Orderly (comes_of_asking w a o named r)) (sym same) so
-
-pub issues_orderly : (w : WorldState) (a : ℕ) → Orderly w → Orderly (issues w a)
-issues_orderly w a is = by (next_asked (application_at w a))
-  where
-    named : (o : Op) (x : Option Target) → Orderly (asks w a o x)
-    named o None = ends_line_orderly w a (outcome.Refused refusal.NoHandle) None is
-    named o (Some target) = asks_orderly w a o target is
-
-    by : (x : Option Asked) → Orderly (issues_next w a x)
-    by None = is
-    by (Some asked) = named asked.op (target_of (application_at w a) asked)
+pub host_sends_orderly : (c : ℕ) (w : WorldState) (m : List ℕ) → OrderlyOn c w → Orderly (host_sends (record w { side = side_sends w.side }) m)
+host_sends_orderly c w m (is, opened) =
+    let s = side_sends w.side in
+    let x = host_sends (record w { side = s }) m in
+    let so : AreOrdered w.stations x.deeds w.channels (w.client).channel (w.client).asked ((w.client).core).fault ((w.client).core).outbox ((w.side).table).channel ((s.core).core).outbox (s.table).outbox (x.to_client).pipe (w.to_host).pipe w.kept =
+    beside_open is opened (deed.host_writes w.channels m) (λ d. refl) (λ y. refl) tt in
+    subst (λ (o : Option ℕ). AreOrdered w.stations x.deeds w.channels (w.client).channel (w.client).asked ((w.client).core).fault ((w.client).core).outbox o ((s.core).core).outbox (s.table).outbox (x.to_client).pipe (w.to_host).pipe w.kept) (sym (sends_same w.side)) so
 
 -- ---- a client sends a message of its own
 

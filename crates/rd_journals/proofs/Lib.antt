@@ -12,4 +12,3 @@ pub mod ShortLemmas
 pub mod WritingLemmas
 pub mod StandingLemmas
 pub mod ServingLemmas
-pub mod ServedLemmas

@@ -1,31 +1,40 @@
 -- Each world that is reached is orderly.
-use Rattle.std.proofs.Common.{◌≡◌, refl, sym, ap, subst, ℕ, ◌&&◌, Bool, true, false, cond, List, [], ◌∷◌, map, reverse, arith}
-use Rattle.std.specs.Prelude.{Some, None, Option, is_none, is_some, nat_le, nat_lt, not}
+use Rattle.std.proofs.Common.{◌≡◌, ◌∙◌, refl, sym, ap, subst, ℕ, ◌&&◌, Bool, true, false, cond, List, [], ◌∷◌, ◌++◌, map, reverse, append-nil, arith}
+use Rattle.std.specs.Prelude.{Some, None, Option, Result, is_some, nat_le, nat_lt, not}
 use Rattle.std.specs.Map.{lookup}
-use Rattle.std.specs.Option.{option_map_or}
 use Rattle.std.specs.Ordering.{nat_cmp}
 use Rattle.std.specs.BTreeMap.{is_at}
 use Rattle.std.proofs.lemmas.Bool.Decides.{nat_tests}
 use Rattle.rd_base.specs.Lawful.{IsLawful, named_key}
 use Rattle.rd_base.specs.declared.journal.Key.{Key}
-use Rattle.rd_client.specs.Core.{Outgoing}
+use Rattle.rd_client.specs.Core as client
+use Rattle.rd_client.specs.Core.{ClientCoreState, Outgoing}
+use Rattle.rd_core.specs.Core as core
 use Rattle.rd_printer.specs.Printer.{new_printer}
 use Rattle.rd_script.specs.declared.line.NumberedLine.{NumberedLine}
+use Rattle.rd_pending.specs.History as call
+use Rattle.rd_pending.specs.Table.{TableState}
+use Rattle.rd_pending.specs.declared.calls.SubmitNo.{SubmitNo}
+use Rattle.rd_pending.specs.declared.calls.TakeNo.{TakeNo}
+use Rattle.rd_pending.specs.declared.calls.Taken.{Taken}
+use Rattle.rd_pending.proofs.Neutral.{channel_kept}
 use Rattle.rd_station.specs.Memory.{NamesKey}
 use Rattle.rd_station.specs.Station.{StationState, new_station}
-use Rattle.rd_station.specs.declared.answers.Completion.{Completion}
+use Rattle.rd_station.specs.declared.answers.Given.TheVariants as given
 use Rattle.rd_station.specs.Tied.{IsKept}
 use Rattle.rd_station.proofs.Calls.{reached_kept, reached_new}
 use Rattle.rd_station.proofs.Remembering.{any_has}
-use Rattle.rd_runs.specs.Moves.{MayPass, Move, Reached, draws, happens, idle, moved, queues}
-use Rattle.rd_runs.proofs.Reaching.{by_moves}
+use Rattle.rd_runs.specs.Moves.{Reached}
+use Rattle.rd_runs.proofs.Insides.{IsInside, Outside, added_inside, all_dropped_inside, applied_inside, hears_inside, put_inside, removed_inside}
+use Rattle.rd_runs.proofs.Parts.{IsBehind, MayBe, Part, accepts, adds_one, applies_one, begins, by_parts, client_gets, client_hears_one, client_keeps_part, client_sends_one, collects_one, done, draws_one, ends, hands_out, host_gets, host_hears_one, host_keeps_part, host_sends_one, idle_one, queues_one, reached_behind, refuses, removes_one, takes_one, tells_one, tries_one}
 use Rattle.rd_world.specs.Devices.{Declared, device_cuts, device_parked, device_runs}
-use Rattle.rd_world.specs.Events.{Event, act, add, apply_job, client_has_message, client_read, client_send, collect, connect, drop_channel, has_completion, host_read, host_send, is_channel_open, is_empty, is_enabled, is_read, issue, remove, take_job, tell}
+use Rattle.rd_world.specs.Events.{client_sends_first, is_channel_open, is_read}
+use Rattle.rd_world.specs.Hearing.{client_hears}
 use Rattle.rd_world.specs.Host.{first_waiting, next_message}
 use Rattle.rd_world.specs.Opening.{bare_lines}
 use Rattle.rd_world.specs.Run.{applications_of, declared_devices, new_world, station_of, world_of}
-use Rattle.rd_world.specs.Talk.{journal, tells}
-use Rattle.rd_world.specs.World.{ApplicationState, WorldState, having_read, station_at}
+use Rattle.rd_world.specs.Talk.{client_reads, journal, tells}
+use Rattle.rd_world.specs.World.{ApplicationState, Asked, WayState, WorldState, first_message, handling_by, station_at, with_deed}
 use Rattle.rd_world.specs.declared.device.SessionDevice.{SessionDevice}
 use Rattle.rd_world.specs.declared.device.SessionDevice.TheVariants as session
 use Rattle.rd_world.proofs.BeginningLemmas.{begun_by}
@@ -33,10 +42,11 @@ use Rattle.rd_world.proofs.OpeningLemmas.{lines_begin}
 use Rattle.rd_journals.specs.Orderly.{Orderly}
 use Rattle.rd_journals.specs.Stations.{AreFit, IsFit, IsOn}
 use Rattle.rd_journals.proofs.CallLemmas.{new_on}
-use Rattle.rd_journals.proofs.ChannelLemmas.{adds_orderly, connects_orderly, drops_orderly, removes_orderly}
-use Rattle.rd_journals.proofs.ClientLemmas.{applies_orderly, collects_orderly, handles_all_orderly, takes_job_orderly}
-use Rattle.rd_journals.proofs.HostLemmas.{client_sends_orderly, host_handles_orderly, host_sends_orderly, issues_orderly}
-use Rattle.rd_journals.proofs.OrderlyLemmas.{beside_open, ready_open, while_open}
+use Rattle.rd_journals.proofs.ChannelLemmas.{adds_orderly, connects_orderly, cutting_orderly, removes_orderly}
+use Rattle.rd_journals.proofs.ClientLemmas.{applies_orderly, collects_orderly, hears_orderly, open_or_shut, takes_orderly, tries_orderly}
+use Rattle.rd_journals.proofs.HostLemmas.{accepts_orderly, client_sends_orderly, hands_out_orderly, hears_same, host_sends_orderly, sends_same}
+use Rattle.rd_journals.proofs.HostLemmas as host
+use Rattle.rd_journals.proofs.OrderlyLemmas.{beside_open, while_open}
 
 abbrev Of : Type 0
 Of = StationState SessionDevice
@@ -59,62 +69,134 @@ pub not_opened : (o : Option ℕ) → not (is_some o) ≡ true → o ≡ None
 not_opened None e = refl
 not_opened (Some c) e = absurd (cc (e))
 
-unless_shut : (o : Option ℕ) → (o ≡ None → ⊥) → (c : ℕ) × (o ≡ Some c)
-unless_shut None never = absurd (never refl)
-unless_shut (Some c) never = (c, refl)
-
 nothing_read : (pipe : List ℕ) (n : ℕ) → pipe ≡ [] → is_read pipe n ≡ true → ⊥
 nothing_read pipe n none e = no_byte n (subst (λ (p : List ℕ). is_read p n ≡ true) none e)
   where
     no_byte : (k : ℕ) → (nat_lt 0 k && nat_le k 0) ≡ true → ⊥
     no_byte k e = grind (arith, nat_tests, e)
 
-nothing_sent : (messages : List Outgoing) → messages ≡ [] → not (is_empty messages) ≡ true → ⊥
-nothing_sent messages none e = cc (subst (λ (ms : List Outgoing). not (is_empty ms) ≡ true) none e)
+-- ---- what is read and not handled
+
+-- No message stands whole in a part, and while no channel is open nothing is left to handle.
+pub record IsHandled (opened : Option ℕ) (to_client to_host : WayState) : Type 0 where
+  pub client_part : first_message to_client.part ≡ None
+  pub host_part : first_message to_host.part ≡ None
+  pub shut : opened ≡ None → (to_client.unhandled ≡ []) × (to_host.unhandled ≡ [])
+
+abbrev pub IsHandledIn : WorldState → Type 0
+IsHandledIn w = IsHandled ((w.side).table).channel w.to_client w.to_host
+
+no_message : (part : List ℕ) (unhandled : List ℕ) (found : List ℕ × List ℕ) → first_message part ≡ None → unhandled ≡ [] → first_message (part ++ unhandled) ≡ Some found → ⊥
+no_message part unhandled found none empty some =
+    let same : part ++ unhandled ≡ part = ap (λ (xs : List ℕ). part ++ xs) empty ∙ append-nil part in
+    cc (sym (ap first_message same) ∙ some, none)
 
 module _ (w : WorldState) (is : Orderly w) where
   abbrev pub now : Option ℕ
   now = ((w.side).table).channel
 
-  host_open : is_enabled w host_send ≡ true → (c : ℕ) × (now ≡ Some c)
-  host_open can = unless_shut now (λ none. let s = is.shut none in let nothing : next_message w.side ≡ None = (λ i. first_waiting (s.own_none i) (s.requests_none i)) in cc (ap is_some nothing, can))
+  pub sends_open : (m : List ℕ) → next_message w.side ≡ Some m → (c : ℕ) × (now ≡ Some c)
+  sends_open m some = open_or_shut now (λ none. let s = is.shut none in let nothing : next_message w.side ≡ None = (λ i. first_waiting (s.own_none i) (s.requests_none i)) in cc (nothing, some))
 
-  pub read_open : (n : ℕ) → is_read (w.to_client).pipe n ≡ true → (c : ℕ) × (now ≡ Some c)
-  read_open n can = unless_shut now (λ none. nothing_read (w.to_client).pipe n (is.shut none).to_client_none can)
+  pub gets_open : (n : ℕ) → is_read (w.to_client).pipe n ≡ true → (c : ℕ) × (now ≡ Some c)
+  gets_open n can = open_or_shut now (λ none. nothing_read (w.to_client).pipe n (is.shut none).to_client_none can)
 
   pub back_open : (n : ℕ) → is_read (w.to_host).pipe n ≡ true → (c : ℕ) × (now ≡ Some c)
-  back_open n can = unless_shut now (λ none. nothing_read (w.to_host).pipe n (is.shut none).to_host_none can)
+  back_open n can = open_or_shut now (λ none. nothing_read (w.to_host).pipe n (is.shut none).to_host_none can)
 
-  pub send_open : client_has_message w ≡ true → (c : ℕ) × (now ≡ Some c)
-  send_open can = unless_shut now (λ none. nothing_sent ((w.client).core).outbox (is.shut none).answers_none can)
+  pub own_open : (c : ClientCoreState) (o : Outgoing) → client.client_send w.client ≡ (c, Some o) → (c : ℕ) × (now ≡ Some c)
+  own_open c o made = open_or_shut now (λ none.
+      let nothing : (core.send_from (w.client).core ((w.client).core).outbox).1 ≡ None = ap (λ (os : List Outgoing). (core.send_from (w.client).core os).1) (is.shut none).answers_none in
+      let some : (core.send_from (w.client).core ((w.client).core).outbox).1 ≡ Some o = ap (λ (r : ClientCoreState × Option Outgoing). r.1) made in
+      cc (nothing, some))
 
-  pub collect_open : (d : ℕ) → has_completion w d ≡ true → (c : ℕ) × (now ≡ Some c)
-  collect_open d can = unless_shut now (λ none. by none (station_at w d) refl can)
+  module _ (handled : IsHandledIn w) where
+    pub hears_open : (m rest : List ℕ) → first_message ((w.to_client).part ++ (w.to_client).unhandled) ≡ Some (m, rest) → (c : ℕ) × (now ≡ Some c)
+    hears_open m rest some = open_or_shut now (λ none. no_message (w.to_client).part (w.to_client).unhandled (m, rest) handled.client_part (handled.shut none).0 some)
+
+    pub host_hears_open : (m rest : List ℕ) → first_message ((w.to_host).part ++ (w.to_host).unhandled) ≡ Some (m, rest) → (c : ℕ) × (now ≡ Some c)
+    host_hears_open m rest some = open_or_shut now (λ none. no_message (w.to_host).part (w.to_host).unhandled (m, rest) handled.host_part (handled.shut none).1 some)
+
+handled_inside : (w v : WorldState) → IsInside w v → IsHandledIn w → IsHandledIn v
+handled_inside w v inside handled = subst (λ (o : Outside). IsHandled ((o.side).table).channel o.to_client o.to_host) (sym inside.same) handled
+
+module _ (lines : List NumberedLine) (starves : Key → Bool) where
+  part_orderly : (w : WorldState) (p : Part) → MayBe lines starves w p → Orderly w → IsHandledIn w → Orderly (done starves w p)
+  part_orderly w (accepts a asked named t number) (reached, may, next, target, made) is handled = accepts_orderly w a asked named t number made is
+  part_orderly w (refuses a asked cause) may is handled = is
+  part_orderly w (hands_out a number t taken next) (waits, nexts, made) is handled = hands_out_orderly w a number t taken next made is
+  part_orderly w (host_sends_one m) some is handled = let (c, at) = sends_open w is m some in host_sends_orderly c w m (is, at)
+  part_orderly w (host_gets n) can is handled = let (c, at) = back_open w is n can in while_open is at is.kept_next
+  part_orderly w host_keeps_part none is handled = is
+  part_orderly w (host_hears_one m rest) some is handled =
+      let (c, at) = host_hears_open w is handled m rest some in (host.hears_orderly c (record w { to_host = (handling_by w.to_host (Some (m, rest))).0 }) m (is, at)).0
+  part_orderly w (tells_one n) (of_lines, can) is handled = let (c, at) = opened (now w is) (left (is_channel_open w) _ can) in beside_open is at (tells n) (λ d. refl) (λ x. refl) tt
+  part_orderly w begins can is handled = connects_orderly w is (not_opened (now w is) can)
+  part_orderly w ends can is handled = let (c, at) = opened (now w is) can in cutting_orderly c w (is, at)
+  part_orderly w (client_sends_one x o) made is handled =
+      let (c, at) = own_open w is x o made in subst (λ (r : ClientCoreState × Option Outgoing). Orderly (client_sends_first w r)) made (client_sends_orderly c w (is, at))
+  part_orderly w (client_gets n) (can, kept) is handled = let (c, at) = gets_open w is n can in while_open is at is.kept_next
+  part_orderly w client_keeps_part none is handled = is
+  part_orderly w (client_hears_one m rest) (kept, some) is handled =
+      let (c, at) = hears_open w is handled m rest some in (hears_orderly c (record w { to_client = (handling_by w.to_client (Some (m, rest))).0 }) m is at kept).0
+  part_orderly w (tries_one k) some is handled = tries_orderly w k some is
+  part_orderly w (collects_one d s after x) (reached, idle, there, made) is handled = collects_orderly w d s after x there made is
+  part_orderly w (takes_one d hand s after job) (free, there, made) is handled = takes_orderly w d s after (given.Job job) there made is
+  part_orderly w (applies_one hand d job o) (holds, there) is handled = applies_orderly starves w hand d job o there is
+  part_orderly w (removes_one d o) (can, there) is handled =
+      let (c, at) = opened (now w is) (left (is_channel_open w) _ (left (is_channel_open w && _) _ can)) in removes_orderly c w d (is, at) o there
+  part_orderly w (adds_one d names o) (can, printers, there) is handled =
+      let (c, at) = opened (now w is) (left (is_channel_open w) _ (left (is_channel_open w && _) _ can)) in adds_orderly c w d (is, at) names o there
+  part_orderly w (queues_one a) may is handled = is
+  part_orderly w (idle_one number) may is handled = is
+  part_orderly w draws_one may is handled = is
+
+  part_handled : (w : WorldState) (p : Part) → MayBe lines starves w p → Orderly w → IsHandledIn w → IsHandledIn (done starves w p)
+  part_handled w (accepts a asked named t number) (reached, may, next, target, made) is handled =
+      subst (λ (o : Option ℕ). IsHandled o w.to_client w.to_host) (sym (channel_kept (call.submits a named asked.op) tt (w.side).table) ∙ ap (λ (r : TableState × Result ℕ SubmitNo). (r.0).channel) made) handled
+  part_handled w (refuses a asked cause) may is handled = handled
+  part_handled w (hands_out a number t taken next) (waits, nexts, made) is handled = by next
     where
-      some : now ≡ None → (s : Of) → station_at w d ≡ Some s → (xs : List Completion) → s.ready ≡ xs → not (is_empty xs) ≡ true → ⊥
-      some none s there [] e can = cc (can)
-      some none s there (x ∷ xs) e can = ready_open w d s is there x xs e none
+      so : IsHandled t.channel w.to_client w.to_host
+      so = subst (λ (o : Option ℕ). IsHandled o w.to_client w.to_host) (sym (channel_kept (call.takes number) tt (w.side).table) ∙ ap (λ (r : TableState × Result Taken TakeNo). (r.0).channel) made) handled
 
-      by : now ≡ None → (o : Option Of) → station_at w d ≡ o → option_map_or (λ (s : Of). not (is_empty s.ready)) o false ≡ true → ⊥
-      by none None there can = cc (can)
-      by none (Some s) there can = some none s there s.ready refl can
-
-  pub acts_orderly : (starves : Key → Bool) (e : Event) → is_enabled w e ≡ true → Orderly (act starves w e)
-  acts_orderly starves (issue a) can = issues_orderly w a is
-  acts_orderly starves host_send can = let (c, at) = host_open can in host_sends_orderly c w (is, at)
-  acts_orderly starves (client_read n) can =
-      let (c, at) = read_open n (left (is_read (w.to_client).pipe n) (is_none w.kept) can) in
-      (handles_all_orderly c (record w { to_client = having_read n w.to_client }) (while_open is at is.kept_next, at)).0
-  acts_orderly starves client_send can = let (c, at) = send_open can in client_sends_orderly c w (is, at)
-  acts_orderly starves (collect d) can = let (c, at) = collect_open d (right (not (client_has_message w)) (has_completion w d) can) in collects_orderly w d c is at
-  acts_orderly starves (host_read n) can = let (c, at) = back_open n can in host_handles_orderly c (record w { to_host = having_read n w.to_host }) (while_open is at is.kept_next, at)
-  acts_orderly starves (take_job d hand) can = takes_job_orderly w d hand is
-  acts_orderly starves (apply_job hand) can = applies_orderly starves w hand is
-  acts_orderly starves (remove d) can = let (c, at) = opened now (left (is_channel_open w) _ (left (is_channel_open w && _) _ can)) in removes_orderly c w d (is, at)
-  acts_orderly starves (add d) can = let (c, at) = opened now (left (is_channel_open w) _ (left (is_channel_open w && _) _ can)) in adds_orderly c w d (is, at)
-  acts_orderly starves drop_channel can = let (c, at) = opened now can in drops_orderly c w (is, at)
-  acts_orderly starves connect can = connects_orderly w is (not_opened now can)
-  acts_orderly starves (tell n) can = let (c, at) = opened now (left (is_channel_open w) _ can) in beside_open is at (tells n) (λ d. refl) (λ x. refl) tt
+      by : (x : Option Asked) → IsHandledIn (done starves w (hands_out a number t taken x))
+      by None = so
+      by (Some asked) = so
+  part_handled w (host_sends_one m) some is handled =
+      let (c, at) = sends_open w is m some in
+      record { client_part = handled.client_part; host_part = handled.host_part; shut = λ none. absurd (cc (sym (sends_same w.side) ∙ none, at)) }
+  part_handled w (host_gets n) can is handled = let (c, at) = back_open w is n can in record { client_part = handled.client_part; host_part = handled.host_part; shut = λ none. absurd (cc (none, at)) }
+  part_handled w host_keeps_part found is handled = record { client_part = handled.client_part; host_part = found; shut = λ none. ((handled.shut none).0, refl) }
+  part_handled w (host_hears_one m rest) some is handled =
+      let (c, at) = host_hears_open w is handled m rest some in
+      record { client_part = handled.client_part; host_part = refl; shut = λ none. absurd (cc (sym (hears_same w.side m) ∙ none, at)) }
+  part_handled w (tells_one n) may is handled = handled
+  part_handled w begins can is handled = record { client_part = refl; host_part = refl; shut = λ none. (refl, refl) }
+  part_handled w ends can is handled =
+      let inside = all_dropped_inside (map (λ (e : ℕ × Of). e.0) w.stations) w in
+      record {
+        client_part = ap (λ (o : Outside). first_message (o.to_client).part) inside.same ∙ handled.client_part;
+        host_part = ap (λ (o : Outside). first_message (o.to_host).part) inside.same ∙ handled.host_part;
+        shut = λ none. (refl, refl);
+      }
+  part_handled w (client_sends_one x o) made is handled = record { client_part = handled.client_part; host_part = handled.host_part; shut = handled.shut }
+  part_handled w (client_gets n) (can, kept) is handled = let (c, at) = gets_open w is n can in record { client_part = handled.client_part; host_part = handled.host_part; shut = λ none. absurd (cc (none, at)) }
+  part_handled w client_keeps_part (kept, found) is handled = record { client_part = found; host_part = handled.host_part; shut = λ none. (refl, (handled.shut none).1) }
+  part_handled w (client_hears_one m rest) (kept, some) is handled =
+      let (c, at) = hears_open w is handled m rest some in
+      let x : WorldState = record w { to_client = (handling_by w.to_client (Some (m, rest))).0 } in
+      handled_inside (with_deed x (client_reads w.channels m)) (client_hears x m) (hears_inside x m)
+      (record { client_part = refl; host_part = handled.host_part; shut = λ none. absurd (cc (none, at)) })
+  part_handled w (tries_one k) some is handled = handled_inside (record w { kept = None }) _ (put_inside (record w { kept = None }) k.device k.job) handled
+  part_handled w (collects_one d s after x) may is handled = record { client_part = handled.client_part; host_part = handled.host_part; shut = handled.shut }
+  part_handled w (takes_one d hand s after job) may is handled = handled
+  part_handled w (applies_one hand d job o) may is handled = handled_inside w _ (applied_inside starves w hand d job o) handled
+  part_handled w (removes_one d o) may is handled = handled_inside w _ (removed_inside w d o) handled
+  part_handled w (adds_one d names o) may is handled = handled_inside w _ (added_inside w d names o) handled
+  part_handled w (queues_one a) may is handled = handled
+  part_handled w (idle_one number) may is handled = handled
+  part_handled w draws_one may is handled = handled
 
 -- ---- the beginning
 
@@ -148,16 +230,19 @@ new_orderly es applications all = record {
 begins_orderly : (lines : List NumberedLine) → AreFit (declared_devices (bare_lines lines)) → Orderly (world_of lines)
 begins_orderly lines all = subst Orderly (sym (begun_by lines _ (lines_begin lines))) (new_orderly (declared_devices (bare_lines lines)) (applications_of (bare_lines lines)) all)
 
+begins_handled : (lines : List NumberedLine) → IsHandledIn (world_of lines)
+begins_handled lines = subst IsHandledIn (sym (begun_by lines _ (lines_begin lines))) (record { client_part = refl; host_part = refl; shut = λ none. (refl, refl) })
+
 -- ---- every run
 
-moved_orderly : (lines : List NumberedLine) (starves : Key → Bool) (w : WorldState) (m : Move) → MayPass lines w m → Orderly w → Orderly (moved starves w m)
-moved_orderly lines starves w (happens e) may is = acts_orderly w is starves e may.1
-moved_orderly lines starves w (queues a) may is = is
-moved_orderly lines starves w (idle number) may is = is
-moved_orderly lines starves w draws may is = is
+-- Each world that is behind parts is orderly.
+pub behind_orderly : (lines : List NumberedLine) (starves : Key → Bool) (w : WorldState) → AreFit (declared_devices (bare_lines lines)) → IsBehind lines starves w → Orderly w × IsHandledIn w
+behind_orderly lines starves w fit behind =
+    by_parts lines starves (λ x. Orderly x × IsHandledIn x) (begins_orderly lines fit, begins_handled lines)
+    (λ x p before after may both. (part_orderly lines starves x p may both.0 both.1, part_handled lines starves x p may both.0 both.1)) w behind
 
 pub reached_orderly : (lines : List NumberedLine) (starves : Key → Bool) (w : WorldState) → AreFit (declared_devices (bare_lines lines)) → Reached lines starves w → Orderly w
-reached_orderly lines starves w fit reached = by_moves lines starves Orderly (begins_orderly lines fit) (λ x m steps is. moved_orderly lines starves x m steps.2 is) w reached
+reached_orderly lines starves w fit reached = (behind_orderly lines starves w fit (reached_behind lines starves w reached)).0
 
 -- the journal that is told of a device is lawful
 pub orderly_lawful : (w : WorldState) → Orderly w → (d : ℕ) → IsLawful (reverse (journal d w.deeds))

@@ -1,4 +1,4 @@
-use Rattle.rd_journals.proofs.ServedLemmas.{reached_standing}
+use Rattle.rd_journals.proofs.ServingLemmas.{reached_standing}
 use Rattle.rd_journals.proofs.laws.completions_stand.Goals as goal
 
 pub returns : goal.returns
