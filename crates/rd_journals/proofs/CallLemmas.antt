@@ -29,7 +29,7 @@ use Rattle.rd_station.specs.declared.answers.Given.TheVariants as given
 use Rattle.rd_station.specs.declared.held.InHand.{InHand}
 use Rattle.rd_station.specs.declared.refusals.AnnounceNo.{AnnounceNo}
 use Rattle.rd_station.specs.declared.refusals.AnnounceNo.TheVariants as refused
-use Rattle.rd_station.proofs.Members.{all_of, find_has, to_contains}
+use Rattle.rd_station.proofs.Members.{all_of, find_has, has_append, to_contains}
 use Rattle.rd_station.proofs.Remembering.{has_any}
 use Rattle.rd_station.proofs.Soundness.{cancelled_then, collected_first, ran_then, removed_then, sound_announce, sound_cancel, sound_collect, sound_drop, sound_new, sound_put, sound_remove, sound_run, sound_take, taken_first}
 use Rattle.rd_world.specs.Devices.{device_cuts, device_parked, device_runs}
@@ -59,20 +59,21 @@ pub record Goes (New : Key → Type 0) (J : Job → Type 0) (c : ℕ) (old new :
   pub names : (key : Key) → NamesKey new.journal key → NamesKey old.journal key ⊎ New key
   pub on : IsOn c new
   pub did : (new ≡ old) ⊎ ((call : StationCall) × StationStep device_runs device_parked device_cuts old call new × OfJob J call)
+  pub waits : (job : Job) → Has job new.waiting → Has job old.waiting ⊎ J job
 
 abbrev pub NoKey : Key → Type 0
 NoKey key = ⊥
 
 pub goes_not : (J : Job → Type 0) (c : ℕ) (s : Of) → IsOn c s → Goes NoKey J c s s
-goes_not J c s on = record { more = []; longer = sym (append-nil s.journal); comes = λ key none. none; names = λ key names. inl names; on = on; did = inl refl }
+goes_not J c s on = record { more = []; longer = sym (append-nil s.journal); comes = λ key none. none; names = λ key names. inl names; on = on; did = inl refl; waits = λ job has. inl has }
 
 come_by : (call : StationCall) (more : List Item) → AllByRecursion (MayStore call) more → (key : Key) → Has (Came key) more → Comes call key
 come_by call [] all key none = absurd none
 come_by call (x ∷ more) all key (inl here) = subst (MayStore call) (sym here) all.0
 come_by call (x ∷ more) all key (inr later) = come_by call more all.1 key later
 
-goes_by : (J : Job → Type 0) (call : StationCall) (c : ℕ) (old new : Of) → OfJob J call → StationStep device_runs device_parked device_cuts old call new → IsOn c new → Goes (Comes call) J c old new
-goes_by J call c old new of step on =
+goes_by : (J : Job → Type 0) (call : StationCall) (c : ℕ) (old new : Of) → OfJob J call → ((job : Job) → Has job new.waiting → Has job old.waiting ⊎ J job) → StationStep device_runs device_parked device_cuts old call new → IsOn c new → Goes (Comes call) J c old new
+goes_by J call c old new of waits step on =
     let stores = step_stores old new call step in record {
       more = stores.more;
       longer = stores.longer;
@@ -80,6 +81,7 @@ goes_by J call c old new of step on =
       names = step_names call old new step on.sound.reached;
       on = on;
       did = inr (call, step, of);
+      waits = waits;
     }
 
 -- ---- which jobs may come
@@ -169,22 +171,24 @@ module _ (J : Job → Type 0) (c : ℕ) (s : Of) (on : IsOn c s) where
           → Goes NoKey J c s (cond {A = Of × Result (Unit {0}) AnnounceNo} b (s, Err refused.Live) (cond d (s, Err (refused.Worn (entry_count s))) (record s { live = true }, Ok tt))).0
       by true e d f = goes_not J c s on
       by false e true f = goes_not J c s on
-      by false e false f = goes_by J (announces (Ok tt)) c s (record s { live = true }) tt
+      by false e false f = goes_by J (announces (Ok tt)) c s (record s { live = true }) tt (λ j has. inl has)
           (ap (λ b. cond {A = Of × Result (Unit {0}) AnnounceNo} b (s, Err refused.Live) (cond (nat_le max_entries (entry_count s)) (s, Err (refused.Worn (entry_count s))) (record s { live = true }, Ok tt))) e
           ∙ ap (λ b. cond {A = Of × Result (Unit {0}) AnnounceNo} b (s, Err (refused.Worn (entry_count s))) (record s { live = true }, Ok tt)) f)
           (record { fit = on.fit; keys = on.keys; spare = reserved s + 1; memory = on.memory; sound = sound_announce device_runs device_parked device_cuts s on.keys on.spare on.memory on.sound (reserved s + 1) e f (omega arith); last = on.last; forgotten = on.forgotten })
 
   pub came : (job : Job) → J job → MayPut s job.key → job.key.channel ≡ c → put_refusal s job ≡ None → Goes (λ key. key ≡ job.key) J c s (record s { waiting = s.waiting ++ job ∷ []; journal = s.journal ++ Came job.key ∷ [] })
-  came job own may here free = goes_by J (puts job None) c s _ own (may, ap (station.put_unless s job) free) (record {
-    fit = on.fit;
-    keys = (job.completion, job.key) ∷ on.keys;
-    spare = reserved s + 2;
-    memory = after_come on.memory job.key;
-    sound = sound_put device_runs device_parked device_cuts s on.keys on.spare on.memory on.sound job ((job.completion, job.key) ∷ on.keys) (reserved s + 2) may free
-        (λ id. ap (λ b. cond b (Some job.key) (lookup (is_at (nat_cmp id)) on.keys)) (by_either id job.completion)) (omega arith);
-    last = λ key e. let same : job.key ≡ key = cc in inl (ap (λ (k : Key). k.channel) (sym same) ∙ here);
-    forgotten = on.forgotten;
-  })
+  came job own may here free = goes_by J (puts job None) c s _ own
+      (λ j has. elim (has_append j s.waiting (job ∷ []) has) [ inl was ↦ inl was | inr last ↦ elim last [ inl same ↦ inr (subst J (sym same) own) | inr none ↦ absurd none ] ])
+      (may, ap (station.put_unless s job) free) (record {
+        fit = on.fit;
+        keys = (job.completion, job.key) ∷ on.keys;
+        spare = reserved s + 2;
+        memory = after_come on.memory job.key;
+        sound = sound_put device_runs device_parked device_cuts s on.keys on.spare on.memory on.sound job ((job.completion, job.key) ∷ on.keys) (reserved s + 2) may free
+            (λ id. ap (λ b. cond b (Some job.key) (lookup (is_at (nat_cmp id)) on.keys)) (by_either id job.completion)) (omega arith);
+        last = λ key e. let same : job.key ≡ key = cc in inl (ap (λ (k : Key). k.channel) (sym same) ∙ here);
+        forgotten = on.forgotten;
+      })
 
   pub taken : Goes NoKey J c s (take s).0
   taken = by s.ended refl s.waiting refl
@@ -193,7 +197,7 @@ module _ (J : Job → Type 0) (c : ℕ) (s : Of) (on : IsOn c s) where
       by true e jobs f = goes_not J c s on
       by false e [] f = goes_not J c s on
       by false e (job ∷ jobs) f =
-          goes_by J (takes (given.Job job)) c s _ tt (taken_first device_runs device_parked device_cuts s on.keys on.spare on.memory on.sound job jobs e f) (record {
+          goes_by J (takes (given.Job job)) c s _ tt (λ j has. inl (subst (λ (ws : List Job). Has j ws) (sym f) (inr has))) (taken_first device_runs device_parked device_cuts s on.keys on.spare on.memory on.sound job jobs e f) (record {
             fit = on.fit;
             keys = on.keys;
             spare = on.spare;
@@ -208,7 +212,7 @@ module _ (J : Job → Type 0) (c : ℕ) (s : Of) (on : IsOn c s) where
     where
       by : (cs : List Completion) → s.ready ≡ cs → Goes NoKey J c s (collect_first s cs).0
       by [] f = goes_not J c s on
-      by (x ∷ xs) f = goes_by J (collects (Some x)) c s _ tt (collected_first device_runs device_parked device_cuts s on.keys on.spare on.memory on.sound x xs f) (record {
+      by (x ∷ xs) f = goes_by J (collects (Some x)) c s _ tt (λ j has. inl has) (collected_first device_runs device_parked device_cuts s on.keys on.spare on.memory on.sound x xs f) (record {
         fit = on.fit;
         keys = without x.completion on.keys;
         spare = on.spare;
@@ -234,7 +238,7 @@ module _ (J : Job → Type 0) (c : ℕ) (s : Of) (on : IsOn c s) where
         where
           hand : (b : Bool) → t.removed ≡ b
               → Goes NoKey J c s (cond {A = Of × Applied} b (cancelled_in_hand s t (kind_of planned.job.op), applied.Cancelled) (ran s t (kind_of planned.job.op) moment then, cond (is_parked then.answer) applied.Parked applied.Ran)).0
-          hand true e = goes_by J (applies planned moment applied.Cancelled) c s _ own (then, cancelled_then device_runs device_parked device_cuts s on.keys on.spare on.memory on.sound planned moment t f then e, absurd) (record {
+          hand true e = goes_by J (applies planned moment applied.Cancelled) c s _ own (λ j has. inl has) (then, cancelled_then device_runs device_parked device_cuts s on.keys on.spare on.memory on.sound planned moment t f then e, absurd) (record {
             fit = on.fit;
             keys = on.keys;
             spare = on.spare;
@@ -243,7 +247,7 @@ module _ (J : Job → Type 0) (c : ℕ) (s : Of) (on : IsOn c s) where
             last = λ key is. inl (busy t f key is);
             forgotten = on.forgotten;
           })
-          hand false e = goes_by J (applies planned moment (cond (is_parked then.answer) applied.Parked applied.Ran)) c s _ own (then, ran_then device_runs device_parked device_cuts s on.keys on.spare on.memory on.sound planned moment t f e then promise, λ did. promise) (record {
+          hand false e = goes_by J (applies planned moment (cond (is_parked then.answer) applied.Parked applied.Ran)) c s _ own (λ j has. inl has) (then, ran_then device_runs device_parked device_cuts s on.keys on.spare on.memory on.sound planned moment t f e then promise, λ did. promise) (record {
             fit = fit;
             keys = on.keys;
             spare = on.spare;
@@ -269,7 +273,7 @@ module _ (J : Job → Type 0) (c : ℕ) (s : Of) (on : IsOn c s) where
 
       by : (b : Bool) → s.live ≡ b → Goes NoKey J c s (cond {A = Of × Bool} (not b) (s, false) (gone, true)).0
       by false e = goes_not J c s on
-      by true e = goes_by J (removes true) c s gone tt (cut, removed_then device_runs device_parked device_cuts s on.keys on.spare on.memory on.sound cut e, λ f. off) (record {
+      by true e = goes_by J (removes true) c s gone tt (λ j none. absurd none) (cut, removed_then device_runs device_parked device_cuts s on.keys on.spare on.memory on.sound cut e, λ f. off) (record {
         fit = fit;
         keys = on.keys;
         spare = on.spare;
@@ -285,7 +289,7 @@ module _ (J : Job → Type 0) (c : ℕ) (s : Of) (on : IsOn c s) where
   -- The channel ends, after which all that was named is of earlier ones.
   pub dropped : (then : ℕ) → c ≤ then → ((key : Key) → NamesKey s.journal key → key.channel < then) → (cut : SessionDevice) → CutsOff device_cuts device_parked s.device cut → IsFit cut
       → Goes NoKey J then s (drop_channel s cut)
-  dropped then later above cut off fit = goes_by J drops then s (drop_channel s cut) tt (cut, refl, λ live. off) (record {
+  dropped then later above cut off fit = goes_by J drops then s (drop_channel s cut) tt (λ j has. absurd (none_waits s.live j has)) (cut, refl, λ live. off) (record {
     fit = device_fits s.live;
     keys = [];
     spare = 0;
@@ -301,6 +305,10 @@ module _ (J : Job → Type 0) (c : ℕ) (s : Of) (on : IsOn c s) where
       device_fits : (b : Bool) → IsFit (left b).device
       device_fits true = fit
       device_fits false = on.fit
+
+      none_waits : (b : Bool) (j : Job) → Has j (left b).waiting → ⊥
+      none_waits true j none = none
+      none_waits false j none = none
 
       idle : (b : Bool) → IsIdle (left b)
       idle true = (refl, refl, refl, refl)

@@ -218,12 +218,12 @@ spared b o same = ap (λ (x : Op). b && not (is_close x)) same ∙ and_false b
     and_false true = refl
     and_false false = refl
 
-pub given_back : (starves : Key → Bool) (w : WorldState) (s : Of) (job : Job) → IsOn (channel_of w) s → Goes NoKey AnyJob (channel_of w) s (station.apply s job w.moment (came_of starves w job s.device)).0
-given_back starves w s job on =
+pub given_back : (J : Job → Type 0) (starves : Key → Bool) (w : WorldState) (s : Of) (job : Job) → J job → IsOn (channel_of w) s → Goes NoKey J (channel_of w) s (station.apply s job w.moment (came_of starves w job s.device)).0
+given_back J starves w s job own on =
     let starved : Bool = starves job.key && not (is_close job.op) in
     let planned : Planned = record { job = job; starved = starved } in
-    applied_back AnyJob (channel_of w) s on planned tt w.moment (came_of starves w job s.device) (comes s.device job w.moment starved on.fit (spared (starves job.key) job.op)) (ran_fits s.device job w.moment starved on.fit)
+    applied_back J (channel_of w) s on planned own w.moment (came_of starves w job s.device) (comes s.device job w.moment starved on.fit (spared (starves job.key) job.op)) (ran_fits s.device job w.moment starved on.fit)
 
 pub applies_orderly : (starves : Key → Bool) (w : WorldState) (hand d : ℕ) (job : Job) (o : Option Of) → station_at w d ≡ o → Orderly w → Orderly (applies_at starves w hand d job o)
 applies_orderly starves w hand d job None there is = is
-applies_orderly starves w hand d job (Some s) there is = still_orderly w d s (station.apply s job w.moment (came_of starves w job s.device)).0 is there (given_back starves w s job ((is.held).on d s there))
+applies_orderly starves w hand d job (Some s) there is = still_orderly w d s (station.apply s job w.moment (came_of starves w job s.device)).0 is there (given_back AnyJob starves w s job tt ((is.held).on d s there))

@@ -12,3 +12,4 @@ pub mod ShortLemmas
 pub mod WritingLemmas
 pub mod StandingLemmas
 pub mod ServingLemmas
+pub mod WorkLemmas

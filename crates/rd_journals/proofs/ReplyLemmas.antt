@@ -68,7 +68,7 @@ replies_grow devices deeds device earlier more reply = by (lookup (is_at (nat_cm
 
 -- ---- one reply each
 
-fit_at : (devices : List (ℕ × Declared)) (device : ℕ) (d : Declared) → AreFit devices → lookup (is_at (nat_cmp device)) devices ≡ Some d → IsFit d.state × (device_parked d.state ≡ [])
+pub fit_at : (devices : List (ℕ × Declared)) (device : ℕ) (d : Declared) → AreFit devices → lookup (is_at (nat_cmp device)) devices ≡ Some d → IsFit d.state × (device_parked d.state ≡ [])
 fit_at [] device d all there = absurd (cc (there))
 fit_at (e ∷ devices) device d all there = by (is_at (nat_cmp device) e.0) there (fit_at devices device d all.1)
   where

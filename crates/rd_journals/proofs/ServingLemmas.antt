@@ -193,9 +193,9 @@ connects_stands w is = subst (λ (x : WorldState). IsStanding (begun_on w x)) (s
     so = stands_fewer (stands_beside (stands_as is later) (deed.host_begins (w.channels + 1)) tt (λ key. refl)) [] (λ o has. absurd has)
 
 -- some stations were dropped
-record Dropped (w x : WorldState) : Type 0 where
-  alone : x ≡ record w { stations = x.stations; deeds = x.deeds }
-  still : Still w.stations w.deeds x.stations x.deeds
+pub record Dropped (w x : WorldState) : Type 0 where
+  pub alone : x ≡ record w { stations = x.stations; deeds = x.deeds }
+  pub still : Still w.stations w.deeds x.stations x.deeds
 
 one_dropped : (w x : WorldState) (d : ℕ) → Dropped w x → Dropped w (dropping x d)
 one_dropped w x d is = by (station_at x d) refl
@@ -208,7 +208,7 @@ one_dropped w x d is = by (station_at x d) refl
           still = still_then is.still (still_dropped x d s there (device_cut s.device).state);
         }
 
-all_dropped : (ds : List ℕ) (w x : WorldState) → Dropped w x → Dropped w (fold dropping x ds)
+pub all_dropped : (ds : List ℕ) (w x : WorldState) → Dropped w x → Dropped w (fold dropping x ds)
 all_dropped [] w x is = is
 all_dropped (d ∷ ds) w x is = all_dropped ds w (dropping x d) (one_dropped w x d is)
 
@@ -349,7 +349,7 @@ module _ (lines : List NumberedLine) (starves : Key → Bool) where
       stands_still is (still_goes w d (channel_of w) s after there (subst (λ (r : Of × Given). Goes NoKey AnyJob (channel_of w) s r.0) made (taken AnyJob (channel_of w) s ((ordered.held).on d s there))))
   part_stands w (applies_one hand d job None) may ordered handled is = is
   part_stands w (applies_one hand d job (Some s)) (holds, there) ordered handled is =
-      stands_still is (still_goes w d (channel_of w) s (station.apply s job w.moment (came_of starves w job s.device)).0 there (given_back starves w s job ((ordered.held).on d s there)))
+      stands_still is (still_goes w d (channel_of w) s (station.apply s job w.moment (came_of starves w job s.device)).0 there (given_back AnyJob starves w s job tt ((ordered.held).on d s there)))
   part_stands w (removes_one d o) (can, there) ordered handled is =
       let (c, at) = opened ((w.side).table).channel (left (is_channel_open w) _ (left (is_channel_open w && _) _ can)) in removes_stands c w d (ordered, at) is o there
   part_stands w (adds_one d names o) (can, printers, there) ordered handled is =

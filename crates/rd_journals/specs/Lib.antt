@@ -2,3 +2,4 @@ pub mod Stations
 pub mod Reads
 pub mod Orderly
 pub mod Standing
+pub mod Jobs

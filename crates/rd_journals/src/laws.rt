@@ -1,5 +1,8 @@
 //! What holds of the journals in every run, as contracts of functions that do nothing.
 
+ghost use Rattle.std.specs.Map.{lookup};
+ghost use Rattle.std.specs.Ordering.{nat_cmp};
+ghost use Rattle.std.specs.BTreeMap.{is_at};
 ghost use Rattle.std.specs.Prelude.{◌≡◌, ℕ, ◌+◌, ◌*◌, ◌≤◌, Bool, List, Some, ◌++◌, length, reverse, Contains};
 ghost use Rattle.rd_base.specs.declared.journal.Item.{Item};
 ghost use Rattle.rd_base.specs.declared.journal.Key.{Key};
@@ -18,6 +21,7 @@ ghost use Rattle.rd_world.specs.Stations.{IsReachedBy};
 ghost use Rattle.rd_world.specs.Talk.{Deed, EachAfter, journal};
 ghost use Rattle.rd_world.specs.World.{WorldState, station_at};
 ghost use Rattle.rd_world.specs.declared.device.SessionDevice.{SessionDevice};
+ghost use Rattle.rd_journals.specs.Jobs.{IsTiedTo};
 ghost use Rattle.rd_journals.specs.Orderly.{Orderly};
 ghost use Rattle.rd_journals.specs.Reads.{ComesRead, cuts, reads};
 ghost use Rattle.rd_journals.specs.Stations.{AreFit};
@@ -47,4 +51,11 @@ pub fn journals_are_short()
 /// nothing else that a client writes is a completion.
 pub fn completions_stand()
     ensures { (lines : List NumberedLine) (starves : Key → Bool) (w : WorldState) → AreFit (declared_devices (bare_lines lines)) → Reached lines starves w → EachAfter Stands w.deeds }
+{}
+
+/// Each station is that of a declared device and is tied to its journal: its device is in the state in which the journal leaves it, by the requests that were
+/// read, and what is ready are the replies that the journal gives to their keys, or CANCELLED.
+pub fn stations_are_tied()
+    ensures { (lines : List NumberedLine) (starves : Key → Bool) (w : WorldState) → AreFit (declared_devices (bare_lines lines)) → Reached lines starves w → (device : ℕ) (s : StationState SessionDevice) → station_at w device ≡ Some s
+        → (x : Declared) × (lookup (is_at (nat_cmp device)) (declared_devices (bare_lines lines)) ≡ Some x) × IsTiedTo w.deeds x s }
 {}

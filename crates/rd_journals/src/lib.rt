@@ -5,4 +5,6 @@
 
 mod laws;
 
-pub use laws::{completions_stand, journals_are_short, replies_stay, runs_keep_journals};
+pub use laws::{
+    completions_stand, journals_are_short, replies_stay, runs_keep_journals, stations_are_tied,
+};
