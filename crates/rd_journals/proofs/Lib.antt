@@ -13,3 +13,4 @@ pub mod WritingLemmas
 pub mod StandingLemmas
 pub mod ServingLemmas
 pub mod WorkLemmas
+pub mod OwnLemmas
