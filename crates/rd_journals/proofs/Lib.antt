@@ -14,3 +14,4 @@ pub mod StandingLemmas
 pub mod ServingLemmas
 pub mod WorkLemmas
 pub mod OwnLemmas
+pub mod CompletionLemmas

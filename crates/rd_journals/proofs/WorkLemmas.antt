@@ -504,7 +504,7 @@ module _ (Fine : Request → Type 0) (Good : Reply → Type 0) (lost : Good canc
   behind_working starves w fit behind =
       by_parts lines starves (λ x. AreFine Fine x.deeds → IsWorking Fine Good lost good devices x) (λ fines. begins_working)
       (λ x p before after may is fines. let both = behind_orderly lines starves x fit before in
-          part_works Fine Good lost good devices lines starves x p may both.0 both.1 fines (is (λ c k r read. fines c k r (part_later Fine Good lost good devices lines starves x p c k r read)))) w behind
+      part_works Fine Good lost good devices lines starves x p may both.0 both.1 fines (is (λ c k r read. fines c k r (part_later Fine Good lost good devices lines starves x p c k r read)))) w behind
 
 -- ---- so each station is tied to its journal
 

@@ -1,11 +1,12 @@
 -- Which jobs the stations and the hands of a session have, and what the devices did by them.
-use Rattle.std.specs.Prelude.{◌≡◌, ℕ, List, Option, Some}
+use Rattle.std.specs.Prelude.{◌≡◌, ℕ, ◌<◌, ◌^◌, List, Option, Some}
 use Rattle.std.specs.List.{AllByRecursion}
 use Rattle.std.specs.Map.{lookup}
 use Rattle.std.specs.Ordering.{nat_cmp}
 use Rattle.std.specs.BTreeMap.{is_at}
 use Rattle.rd_base.specs.declared.journal.Key.{Key}
 use Rattle.rd_client.specs.Core.{job_of}
+use Rattle.rd_drive.specs.Ranged.{SetsFew}
 use Rattle.rd_drive.specs.declared.plan.Job.{Job}
 use Rattle.rd_irp.specs.Fits.{kind_of}
 use Rattle.rd_irp.specs.declared.completion.Kind.{Kind}
@@ -17,8 +18,10 @@ use Rattle.rd_station.specs.declared.held.InHand.{InHand}
 use Rattle.rd_station.specs.declared.held.ParkedJob.{ParkedJob}
 use Rattle.rd_station.specs.Tied.{IsTied}
 use Rattle.rd_world.specs.Devices.{Declared, device_cut, device_cuts, device_parked, device_runs, device_step}
+use Rattle.rd_world.specs.Events.{completion_message}
 use Rattle.rd_world.specs.Session.{request_read}
 use Rattle.rd_world.specs.Talk.{Deed, Has, client_read, request_at}
+use Rattle.rd_world.specs.Told.{CompletesWith}
 use Rattle.rd_world.specs.declared.device.SessionDevice.{SessionDevice}
 use Rattle.rd_journals.specs.Orderly.{HasStation}
 
@@ -75,3 +78,14 @@ AreFine Fine deeds = (c : ℕ) (k : ℕ) (r : Request) → request_at (client_re
 -- A device's station is tied to its journal: what is ready are its keys' replies by it, and the device is in the state in which it leaves it.
 abbrev pub IsTiedTo : List Deed → Declared → StationState SessionDevice → Type 0
 IsTiedTo deeds x s = IsTied device_step device_cut (request_read deeds) x.state s
+
+-- the numbers of a request, and of what it sets, have room in the fields of its completion
+abbrev pub HasRoom : Request → Type 0
+HasRoom r = (r.device < 2 ^ 32) × (r.completion < 2 ^ 32) × SetsFew r.op
+
+-- What is ready at a device's station completes the request of its key, which was read and names the device, with its reply.
+pub record IsCompletionOf (deeds : List Deed) (d : ℕ) (x : Completion) : Type 0 where
+  pub request : Request
+  pub read : request_at (client_read x.key.channel deeds) x.key.index ≡ Some request
+  pub device : request.device ≡ d
+  pub completes : CompletesWith request x.reply (completion_message d x)

@@ -10,6 +10,7 @@ ghost use Rattle.rd_base.specs.Lawful.{IsLawful};
 ghost use Rattle.rd_drive.specs.Once.{HaveOneReplyEach};
 ghost use Rattle.rd_drive.specs.Replies.{KeyedReply};
 ghost use Rattle.rd_script.specs.declared.line.NumberedLine.{NumberedLine};
+ghost use Rattle.rd_station.specs.declared.answers.Completion.{Completion};
 ghost use Rattle.rd_station.specs.Station.{StationState};
 ghost use Rattle.rd_runs.specs.Moves.{Reached};
 ghost use Rattle.rd_world.specs.Devices.{Declared};
@@ -18,10 +19,10 @@ ghost use Rattle.rd_world.specs.Opening.{bare_lines};
 ghost use Rattle.rd_world.specs.Run.{declared_devices};
 ghost use Rattle.rd_world.specs.Session.{replies_in};
 ghost use Rattle.rd_world.specs.Stations.{IsReachedBy};
-ghost use Rattle.rd_world.specs.Talk.{Deed, EachAfter, journal};
+ghost use Rattle.rd_world.specs.Talk.{Deed, EachAfter, Has, journal};
 ghost use Rattle.rd_world.specs.World.{WorldState, station_at};
 ghost use Rattle.rd_world.specs.declared.device.SessionDevice.{SessionDevice};
-ghost use Rattle.rd_journals.specs.Jobs.{IsTiedTo};
+ghost use Rattle.rd_journals.specs.Jobs.{AreFine, HasRoom, IsCompletionOf, IsTiedTo};
 ghost use Rattle.rd_journals.specs.Orderly.{Orderly};
 ghost use Rattle.rd_journals.specs.Reads.{ComesRead, cuts, reads};
 ghost use Rattle.rd_journals.specs.Stations.{AreFit};
@@ -58,4 +59,11 @@ pub fn completions_stand()
 pub fn stations_are_tied()
     ensures { (lines : List NumberedLine) (starves : Key → Bool) (w : WorldState) → AreFit (declared_devices (bare_lines lines)) → Reached lines starves w → (device : ℕ) (s : StationState SessionDevice) → station_at w device ≡ Some s
         → (x : Declared) × (lookup (is_at (nat_cmp device)) (declared_devices (bare_lines lines)) ≡ Some x) × IsTiedTo w.deeds x s }
+{}
+
+/// Where the numbers of the requests that were read have room in their completions, what is ready at a station completes, in bytes, the request of its key with
+/// its reply, and that request names the station's device.
+pub fn completions_are_of_requests()
+    ensures { (lines : List NumberedLine) (starves : Key → Bool) (w : WorldState) → AreFit (declared_devices (bare_lines lines)) → Reached lines starves w → AreFine HasRoom w.deeds → (device : ℕ) (s : StationState SessionDevice) → station_at w device ≡ Some s
+        → (x : Completion) → Has x s.ready → IsCompletionOf w.deeds device x }
 {}

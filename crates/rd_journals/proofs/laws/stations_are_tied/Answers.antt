@@ -1,6 +1,3 @@
-use Rattle.std.specs.Prelude.{ℕ}
-use Rattle.rd_drive.specs.Planned.{Planned}
-use Rattle.rd_drive.specs.Stepped.{Stepped}
 use Rattle.rd_irp.specs.declared.completion.Reply.{Reply}
 use Rattle.rd_irp.specs.declared.request.Request.{Request}
 use Rattle.rd_runs.proofs.Parts.{reached_behind}
