@@ -15,3 +15,4 @@ pub mod ServingLemmas
 pub mod WorkLemmas
 pub mod OwnLemmas
 pub mod CompletionLemmas
+pub mod FitLemmas

@@ -3,16 +3,20 @@
 ghost use Rattle.std.specs.Map.{lookup};
 ghost use Rattle.std.specs.Ordering.{nat_cmp};
 ghost use Rattle.std.specs.BTreeMap.{is_at};
-ghost use Rattle.std.specs.Prelude.{◌≡◌, ℕ, ◌+◌, ◌*◌, ◌≤◌, Bool, List, Some, ◌++◌, length, reverse, Contains};
+ghost use Rattle.std.specs.Prelude.{◌≡◌, ℕ, ◌+◌, ◌*◌, ◌≤◌, Bool, List, Ok, Some, ◌++◌, length, reverse, Contains};
 ghost use Rattle.rd_base.specs.declared.journal.Item.{Item};
 ghost use Rattle.rd_base.specs.declared.journal.Key.{Key};
 ghost use Rattle.rd_base.specs.Lawful.{IsLawful};
 ghost use Rattle.rd_drive.specs.Once.{HaveOneReplyEach};
 ghost use Rattle.rd_drive.specs.Replies.{KeyedReply};
+ghost use Rattle.rd_script.specs.declared.keyword.Mode.{Mode};
 ghost use Rattle.rd_script.specs.declared.line.NumberedLine.{NumberedLine};
+ghost use Rattle.rd_script.specs.declared.script.Script.{Script};
+ghost use Rattle.rd_script.specs.Script.{script_of};
 ghost use Rattle.rd_station.specs.declared.answers.Completion.{Completion};
 ghost use Rattle.rd_station.specs.Station.{StationState};
 ghost use Rattle.rd_runs.specs.Moves.{Reached};
+ghost use Rattle.rd_runs.specs.Premises.{AreCompletionsFit, RunPremises};
 ghost use Rattle.rd_world.specs.Devices.{Declared};
 ghost use Rattle.rd_world.specs.Joining.{Stands};
 ghost use Rattle.rd_world.specs.Opening.{bare_lines};
@@ -66,4 +70,11 @@ pub fn stations_are_tied()
 pub fn completions_are_of_requests()
     ensures { (lines : List NumberedLine) (starves : Key → Bool) (w : WorldState) → AreFit (declared_devices (bare_lines lines)) → Reached lines starves w → AreFine HasRoom w.deeds → (device : ℕ) (s : StationState SessionDevice) → station_at w device ≡ Some s
         → (x : Completion) → Has x s.ready → IsCompletionOf w.deeds device x }
+{}
+
+/// What devices complete is of a message's size, in every run of lines that declare fit devices; so all that statements about a host take of lines is true of
+/// every script whose devices are fit.
+pub fn completions_are_fit()
+    ensures completions { (lines : List NumberedLine) (starves : Key → Bool) → AreFit (declared_devices (bare_lines lines)) → AreCompletionsFit lines starves }
+    ensures premises { (m : Mode) (text : List ℕ) (script : Script) (starves : Key → Bool) → script_of m text ≡ Ok script → AreFit (declared_devices (bare_lines script.lines)) → RunPremises script.lines starves }
 {}
