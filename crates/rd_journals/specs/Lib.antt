@@ -1,0 +1,5 @@
+pub mod Stations
+pub mod Reads
+pub mod Orderly
+pub mod Standing
+pub mod Jobs
