@@ -1,0 +1,377 @@
+-- What passes in a session, part by part: each move is a list of parts, and what comes of a part computes from what it carries.
+use Rattle.std.proofs.Common.{◌≡◌, refl, sym, ap, subst, ℕ, zero, suc, ◌==◌, Bool, true, false, not, List, [], ◌∷◌, ◌++◌, map, fold, Some, None, Option, Result, Ok, Err}
+use Rattle.std.specs.Prelude.{if◌then◌else◌, is_none, is_some}
+use Rattle.std.specs.Map.{lookup}
+use Rattle.std.specs.Ordering.{nat_cmp}
+use Rattle.std.specs.BTreeMap.{is_at}
+use Rattle.std.specs.Option.{option_and_then, option_map_or}
+use Rattle.rd_base.specs.declared.journal.Key.{Key}
+use Rattle.rd_client.specs.Core as client
+use Rattle.rd_client.specs.Core.{ClientCoreState, Outgoing}
+use Rattle.rd_drive.specs.declared.plan.Job.{Job}
+use Rattle.rd_pending.specs.declared.calls.SubmitNo.{SubmitNo}
+use Rattle.rd_pending.specs.declared.calls.Taken.{Taken}
+use Rattle.rd_pending.specs.declared.calls.TakeNo.{TakeNo}
+use Rattle.rd_pending.specs.declared.calls.Target.{Target}
+use Rattle.rd_pending.specs.Table as table
+use Rattle.rd_pending.specs.Table.{TableState}
+use Rattle.rd_printer.specs.declared.notice.Notice.{Notice}
+use Rattle.rd_script.specs.declared.line.NumberedLine.{NumberedLine}
+use Rattle.rd_script.specs.declared.outcome.Outcome.TheVariants as outcome
+use Rattle.rd_script.specs.declared.outcome.Refusal.{Refusal}
+use Rattle.rd_script.specs.declared.outcome.Refusal.TheVariants as refusal
+use Rattle.rd_station.specs.declared.answers.Completion.{Completion}
+use Rattle.rd_station.specs.declared.answers.Given.{Given}
+use Rattle.rd_station.specs.declared.answers.Given.TheVariants as given
+use Rattle.rd_station.specs.Station as station
+use Rattle.rd_station.specs.Station.{StationState}
+use Rattle.rd_runs.specs.Moves.{IsOfLines, MayPass, Move, Reached, draws, happens, idle, moved, queues}
+use Rattle.rd_runs.proofs.Reaching.{both, by_moves}
+use Rattle.rd_world.specs.declared.device.SessionDevice.{SessionDevice}
+use Rattle.rd_world.specs.Devices.{PrinterNames, device_cut, printer_data}
+use Rattle.rd_world.specs.Events as event
+use Rattle.rd_world.specs.Events.{Event, act, applies_at, asks, client_has_message, collects_from, comes_of_asking, completion_message, connects, cutting, deed_on, hand_at, has_completion, host_has_message, is_channel_open, is_enabled, is_hand_free, is_read, is_ready, issues, issues_next, job_waits, may_issue, refusal_of, target_of, takes_job_from, telling_of, with_hand}
+use Rattle.rd_world.specs.Hearing.{client_handles, client_handles_all, client_handles_first, client_hears, ends_line, given_handle, host_handles, host_handles_first, host_hears, next_asked, putting, reported_outcome, takes_awaited, takes_from, takes_outcome, all_take, tries, tries_kept, with_client, with_outcome}
+use Rattle.rd_world.specs.Host.{next_message, side_sends}
+use Rattle.rd_world.specs.Run.{drawing, idles, queueing, world_of}
+use Rattle.rd_world.specs.Talk.{EachAfter, adds, completes, removes, submits, takes}
+use Rattle.rd_world.specs.World.{ApplicationState, Asked, Kept, WorldState, application_at, client_sends, first_message, handling_by, having_read, host_sends, most_messages, station_at, with_application, with_deed, with_station, with_table}
+
+-- What passes at once. Of an application: a request is accepted, a line refused, an outcome taken. Of the host: it sends, gets bytes, keeps them as a part
+-- of a message, hears a message; it tells of a printer, begins a channel and ends one. Of the client: it sends what is its own, gets bytes, keeps them, hears a
+-- message, tries a job that was kept back, sends a completion; a job goes into a hand and is run; a device is removed and added. And what is no event.
+pub data Part : Type 0 where
+  accepts : ℕ → Asked → Target → TableState → ℕ → Part
+  refuses : ℕ → Asked → Refusal → Part
+  hands_out : ℕ → ℕ → TableState → Taken → Option Asked → Part
+  host_sends_one : List ℕ → Part
+  host_gets : ℕ → Part
+  host_keeps_part : Part
+  host_hears_one : List ℕ → List ℕ → Part
+  tells_one : Notice → Part
+  begins ends : Part
+  client_sends_one : ClientCoreState → Outgoing → Part
+  client_gets : ℕ → Part
+  client_keeps_part : Part
+  client_hears_one : List ℕ → List ℕ → Part
+  tries_one : Kept → Part
+  collects_one : ℕ → StationState SessionDevice → StationState SessionDevice → Completion → Part
+  takes_one : ℕ → ℕ → StationState SessionDevice → StationState SessionDevice → Job → Part
+  applies_one : ℕ → ℕ → Job → Option (StationState SessionDevice) → Part
+  removes_one : ℕ → Option (StationState SessionDevice) → Part
+  adds_one : ℕ → Option PrinterNames → Option (StationState SessionDevice) → Part
+  queues_one idle_one : ℕ → Part
+  draws_one : Part
+
+-- ---- what comes of it
+
+-- the data of a device's announcement, where it is a printer's
+abbrev pub refreshed_by : WorldState → ℕ → Option PrinterNames → WorldState
+refreshed_by w device names = option_map_or (λ (n : PrinterNames). with_client w (client.refresh w.client device (printer_data w.cache n))) names w
+
+-- the host is told of a device that has this station
+abbrev pub announced_by : WorldState → ℕ → Option (StationState SessionDevice) → WorldState
+announced_by w device o = option_map_or (λ (s : StationState SessionDevice). with_station w device (station.announce s).0) o w
+
+-- a device that has this station is cut off
+abbrev pub cut_by : WorldState → ℕ → Option (StationState SessionDevice) → WorldState
+cut_by w device o = option_map_or (λ (s : StationState SessionDevice). with_station w device (station.remove s (device_cut s.device).state).0) o w
+
+abbrev pub told_removed : WorldState → ℕ → WorldState
+told_removed w device = with_deed (with_client w (client.tell_removed w.client device)) (removes device)
+
+abbrev pub told_added : WorldState → ℕ → WorldState
+told_added w device = with_deed (with_client w (client.tell_added w.client device)) (adds device)
+
+-- the outcome of a line that asked for this
+abbrev pub ended_by : WorldState → ℕ → Taken → Option Asked → WorldState
+ended_by w a taken next =
+    option_map_or (λ asked. with_application w a (with_outcome (application_at w a) (reported_outcome taken.outcome) (given_handle taken) asked)) next w
+
+module _ (starves : Key → Bool) where
+  abbrev pub done : WorldState → Part → WorldState
+  done w (accepts a asked named t number) =
+      let application = application_at w a in
+      with_application (with_deed (with_table w t) (submits a named asked.op)) a (record application { awaits = Some number })
+  done w (refuses a asked cause) = with_application w a (with_outcome (application_at w a) (outcome.Refused cause) None asked)
+  done w (hands_out a number t taken next) = ended_by (with_deed (with_table w t) (takes number)) a taken next
+  done w (host_sends_one message) = host_sends (record w { side = side_sends w.side }) message
+  done w (host_gets n) = record w { to_host = having_read n w.to_host }
+  done w host_keeps_part = record w { to_host = (handling_by w.to_host None).0 }
+  done w (host_hears_one message rest) = host_hears (record w { to_host = (handling_by w.to_host (Some (message, rest))).0 }) message
+  done w (tells_one n) = telling_of w n
+  done w begins = connects w
+  done w ends = cutting w
+  done w (client_sends_one c o) = client_sends (with_client w c) (deed_on w.channels o) o.message
+  done w (client_gets n) = record w { to_client = having_read n w.to_client }
+  done w client_keeps_part = record w { to_client = (handling_by w.to_client None).0 }
+  done w (client_hears_one message rest) = client_hears (record w { to_client = (handling_by w.to_client (Some (message, rest))).0 }) message
+  done w (tries_one k) = putting (record w { kept = None }) k.device k.job
+  done w (collects_one device s after c) =
+      let bytes = completion_message device c in client_sends (with_station w device after) (completes c.key bytes) bytes
+  done w (takes_one device hand s after job) = with_hand (with_station w device after) hand (Some (device, job))
+  done w (applies_one hand device job o) = applies_at starves w hand device job o
+  done w (removes_one device o) = cut_by (told_removed w device) device o
+  done w (adds_one device names o) = announced_by (told_added (refreshed_by w device names) device) device o
+  done w (queues_one a) = queueing w a
+  done w (idle_one number) = idles w number
+  done w draws_one = drawing w
+
+-- ---- when it may pass
+
+-- why a line is refused
+abbrev pub IsRefused : WorldState → ℕ → Asked → Refusal → Option Target → Type 0
+IsRefused w a asked cause None = cause ≡ refusal.NoHandle
+IsRefused w a asked cause (Some named) =
+    (t : TableState) × (why : SubmitNo) × (table.submit (w.side).table a named asked.op ≡ (t, Err why)) × (cause ≡ refusal_of why)
+
+-- A request is accepted in a world between two moves.
+abbrev pub MayBe : List NumberedLine → (Key → Bool) → WorldState → Part → Type 0
+MayBe lines starves w (accepts a asked named t number) =
+    Reached lines starves w × (may_issue (application_at w a) ≡ true) × (next_asked (application_at w a) ≡ Some asked) × (target_of (application_at w a) asked ≡ Some named)
+    × (table.submit (w.side).table a named asked.op ≡ (t, Ok number))
+MayBe lines starves w (refuses a asked cause) =
+    (may_issue (application_at w a) ≡ true) × (next_asked (application_at w a) ≡ Some asked) × IsRefused w a asked cause (target_of (application_at w a) asked)
+MayBe lines starves w (hands_out a number t taken next) =
+    ((application_at w a).awaits ≡ Some number) × (next_asked (application_at w a) ≡ next) × (table.take (w.side).table number ≡ (t, Ok taken))
+MayBe lines starves w (host_sends_one message) = next_message w.side ≡ Some message
+MayBe lines starves w (host_gets n) = is_read (w.to_host).pipe n ≡ true
+MayBe lines starves w host_keeps_part = first_message ((w.to_host).part ++ (w.to_host).unhandled) ≡ None
+MayBe lines starves w (host_hears_one message rest) = first_message ((w.to_host).part ++ (w.to_host).unhandled) ≡ Some (message, rest)
+MayBe lines starves w (tells_one n) = IsOfLines lines (event.tell n) × (is_enabled w (event.tell n) ≡ true)
+MayBe lines starves w begins = is_enabled w event.connect ≡ true
+MayBe lines starves w ends = is_channel_open w ≡ true
+MayBe lines starves w (client_sends_one c o) = client.client_send w.client ≡ (c, Some o)
+MayBe lines starves w (client_gets n) = (is_read (w.to_client).pipe n ≡ true) × (w.kept ≡ None)
+MayBe lines starves w client_keeps_part = (w.kept ≡ None) × (first_message ((w.to_client).part ++ (w.to_client).unhandled) ≡ None)
+MayBe lines starves w (client_hears_one message rest) = (w.kept ≡ None) × (first_message ((w.to_client).part ++ (w.to_client).unhandled) ≡ Some (message, rest))
+MayBe lines starves w (tries_one k) = w.kept ≡ Some k
+MayBe lines starves w (collects_one device s after c) = (client_has_message w ≡ false) × (station_at w device ≡ Some s) × (station.collect s ≡ (after, Some c))
+MayBe lines starves w (takes_one device hand s after job) = (is_hand_free w hand ≡ true) × (station_at w device ≡ Some s) × (station.take s ≡ (after, given.Job job))
+MayBe lines starves w (applies_one hand device job o) = (hand_at w hand ≡ Some (Some (device, job))) × (station_at w device ≡ o)
+MayBe lines starves w (removes_one device o) = (is_enabled w (event.remove device) ≡ true) × (station_at w device ≡ o)
+MayBe lines starves w (adds_one device names o) =
+    (is_enabled w (event.add device) ≡ true) × (lookup (is_at (nat_cmp device)) w.printers ≡ names) × (station_at w device ≡ o)
+MayBe lines starves w (queues_one a) = MayPass lines w (queues a)
+MayBe lines starves w (idle_one number) = Unit {0}
+MayBe lines starves w draws_one = Unit {0}
+
+-- ---- moves by parts
+
+none_of : (o : Option Kept) → is_some o ≡ false → o ≡ None
+none_of None e = refl
+none_of (Some k) e = absurd (cc)
+
+is_off : (b : Bool) → not b ≡ true → b ≡ false
+is_off false e = refl
+is_off true e = absurd (cc)
+
+-- what is kept by each part is kept by each move
+module _ (lines : List NumberedLine) (starves : Key → Bool) (P : WorldState → Type 0)
+    (keep : (w : WorldState) (p : Part) → MayBe lines starves w p → P w → P (done starves w p)) where
+  -- ---- applications
+
+  refused_keeps : (w : WorldState) (a : ℕ) (asked : Asked) (cause : Refusal) → may_issue (application_at w a) ≡ true → next_asked (application_at w a) ≡ Some asked
+      → IsRefused w a asked cause (target_of (application_at w a) asked) → P w → P (ends_line w a (outcome.Refused cause) None)
+  refused_keeps w a asked cause may next refused p =
+      subst (λ (o : Option Asked). P (option_map_or (λ asked. with_application w a (with_outcome (application_at w a) (outcome.Refused cause) None asked)) o w)) (sym next)
+      (keep w (refuses a asked cause) (may, next, refused) p)
+
+  asked_keeps : (w : WorldState) (a : ℕ) (asked : Asked) → Reached lines starves w → may_issue (application_at w a) ≡ true → next_asked (application_at w a) ≡ Some asked → P w
+      → (o : Option Target) → target_of (application_at w a) asked ≡ o → P (asks w a asked.op o)
+  asked_keeps w a asked reached may next p None target = refused_keeps w a asked refusal.NoHandle may next (subst (IsRefused w a asked refusal.NoHandle) (sym target) refl) p
+  asked_keeps w a asked reached may next p (Some named) target = by (table.submit (w.side).table a named asked.op) refl
+    where
+      by : (r : TableState × Result ℕ SubmitNo) → table.submit (w.side).table a named asked.op ≡ r → P (comes_of_asking w a asked.op named r)
+      by (t, Ok number) made = keep w (accepts a asked named t number) (reached, may, next, target, made) p
+      by (t, Err cause) made = refused_keeps w a asked (refusal_of cause) may next (subst (IsRefused w a asked (refusal_of cause)) (sym target) (t, cause, made, refl)) p
+
+  issue_keeps : (w : WorldState) (a : ℕ) → Reached lines starves w → may_issue (application_at w a) ≡ true → P w → P (issues w a)
+  issue_keeps w a reached may p = by (next_asked (application_at w a)) refl
+    where
+      by : (o : Option Asked) → next_asked (application_at w a) ≡ o → P (issues_next w a o)
+      by None next = p
+      by (Some asked) next = asked_keeps w a asked reached may next p (target_of (application_at w a) asked) refl
+
+  outcome_keeps : (w : WorldState) (a : ℕ) → P w → P (takes_outcome w a)
+  outcome_keeps w a p = by (application_at w a).awaits refl
+    where
+      from : (number : ℕ) → (application_at w a).awaits ≡ Some number → (r : TableState × Result Taken TakeNo) → table.take (w.side).table number ≡ r → P (takes_from w a number r)
+      from number waits (t, Err cause) made = p
+      from number waits (t, Ok taken) made = keep w (hands_out a number t taken (next_asked (application_at w a))) (waits, refl, made) p
+
+      by : (o : Option ℕ) → (application_at w a).awaits ≡ o → P (takes_awaited w a o)
+      by None waits = p
+      by (Some number) waits = from number waits (table.take (w.side).table number) refl
+
+  outcomes_keep : (applications : List ℕ) (w : WorldState) → P w → P (fold takes_outcome w applications)
+  outcomes_keep [] w p = p
+  outcomes_keep (a ∷ applications) w p = outcomes_keep applications (takes_outcome w a) (outcome_keeps w a p)
+
+  all_take_keeps : (w : WorldState) → P w → P (all_take w)
+  all_take_keeps w p = outcomes_keep (map (λ (e : ℕ × ApplicationState). e.0) w.applications) w p
+
+  -- ---- what comes is handled
+
+  client_handling_keeps : (most : ℕ) (w : WorldState) → P w → P (client_handles most w)
+  client_handling_keeps zero w p = p
+  client_handling_keeps (suc most) w p = by (is_some w.kept) refl (client_handling_keeps most)
+    where
+      first : w.kept ≡ None → ((x : WorldState) → P x → P (client_handles most x)) → (o : Option (List ℕ × List ℕ))
+          → first_message ((w.to_client).part ++ (w.to_client).unhandled) ≡ o → P (client_handles_first w (handling_by w.to_client o) (client_handles most))
+      first kept next None is = keep w client_keeps_part (kept, is) p
+      first kept next (Some (message, rest)) is =
+          next (done starves w (client_hears_one message rest)) (keep w (client_hears_one message rest) (kept, is) p)
+
+      by : (b : Bool) → is_some w.kept ≡ b → ((x : WorldState) → P x → P (client_handles most x))
+          → P (if b then w else client_handles_first w (handling_by w.to_client (first_message ((w.to_client).part ++ (w.to_client).unhandled))) (client_handles most))
+      by true kept next = p
+      by false kept next = first (none_of w.kept kept) next (first_message ((w.to_client).part ++ (w.to_client).unhandled)) refl
+
+  client_all_keeps : (w : WorldState) → P w → P (client_handles_all w)
+  client_all_keeps w p = client_handling_keeps (most_messages w.to_client) w p
+
+  tries_keeps : (w : WorldState) (device : ℕ) → P w → P (tries_kept w device)
+  tries_keeps w device p = by w.kept refl
+    where
+      by : (o : Option Kept) → w.kept ≡ o → P (tries w device o)
+      by None kept = p
+      by (Some k) kept = when (k.device == device)
+        where
+          when : (b : Bool) → P (if b then client_handles_all (putting (record w { kept = None }) k.device k.job) else w)
+          when true = client_all_keeps (done starves w (tries_one k)) (keep w (tries_one k) kept p)
+          when false = p
+
+  host_handling_keeps : (most : ℕ) (w : WorldState) → P w → P (host_handles most w)
+  host_handling_keeps zero w p = p
+  host_handling_keeps (suc most) w p = by (first_message ((w.to_host).part ++ (w.to_host).unhandled)) refl (host_handling_keeps most)
+    where
+      by : (o : Option (List ℕ × List ℕ)) → first_message ((w.to_host).part ++ (w.to_host).unhandled) ≡ o → ((x : WorldState) → P x → P (host_handles most x))
+          → P (host_handles_first w (handling_by w.to_host o) (host_handles most))
+      by None is next = keep w host_keeps_part is p
+      by (Some (message, rest)) is next = next (done starves w (host_hears_one message rest)) (keep w (host_hears_one message rest) is p)
+
+  -- ---- events
+
+  collect_keeps : (w : WorldState) (device : ℕ) → is_enabled w (event.collect device) ≡ true → P w → P (event.collects w device)
+  collect_keeps w device can p = by (station_at w device) refl
+    where
+      idle : client_has_message w ≡ false
+      idle = is_off (client_has_message w) (both (not (client_has_message w)) (has_completion w device) can).0
+
+      from : (s : StationState SessionDevice) → station_at w device ≡ Some s → (r : StationState SessionDevice × Option Completion) → station.collect s ≡ r
+          → P (collects_from w device r)
+      from s there (after, None) made = p
+      from s there (after, Some c) made =
+          tries_keeps (done starves w (collects_one device s after c)) device (keep w (collects_one device s after c) (idle, there, made) p)
+
+      by : (o : Option (StationState SessionDevice)) → station_at w device ≡ o → P (option_map_or (λ (s : StationState SessionDevice). collects_from w device (station.collect s)) o w)
+      by None there = p
+      by (Some s) there = from s there (station.collect s) refl
+
+  take_keeps : (w : WorldState) (device hand : ℕ) → is_hand_free w hand ≡ true → P w → P (event.takes_job w device hand)
+  take_keeps w device hand free p = by (station_at w device) refl
+    where
+      from : (s : StationState SessionDevice) → station_at w device ≡ Some s → (r : StationState SessionDevice × Given) → station.take s ≡ r
+          → P (takes_job_from w device hand r)
+      from s there (after, given.Job job) made = keep w (takes_one device hand s after job) (free, there, made) p
+      from s there (after, given.Nothing) made = p
+      from s there (after, given.Over) made = p
+
+      by : (o : Option (StationState SessionDevice)) → station_at w device ≡ o
+          → P (option_map_or (λ (s : StationState SessionDevice). takes_job_from w device hand (station.take s)) o w)
+      by None there = p
+      by (Some s) there = from s there (station.take s) refl
+
+  apply_keeps : (w : WorldState) (hand : ℕ) → P w → P (event.applies_job starves w hand)
+  apply_keeps w hand p = by (hand_at w hand) refl
+    where
+      by : (o : Option (Option (ℕ × Job))) → hand_at w hand ≡ o → P (event.applies_held starves w hand (option_and_then (λ held. held) o))
+      by None holds = p
+      by (Some None) holds = p
+      by (Some (Some (device, job))) holds = keep w (applies_one hand device job (station_at w device)) (holds, refl) p
+
+  host_send_keeps : (w : WorldState) → P w → P (event.host_sends_next w)
+  host_send_keeps w p = by (next_message w.side) refl
+    where
+      by : (o : Option (List ℕ)) → next_message w.side ≡ o → P (option_map_or (host_sends (record w { side = side_sends w.side })) o w)
+      by None next = p
+      by (Some message) next = keep w (host_sends_one message) next p
+
+  client_send_keeps : (w : WorldState) → P w → P (event.client_sends_next w)
+  client_send_keeps w p = by (client.client_send w.client) refl
+    where
+      by : (r : ClientCoreState × Option Outgoing) → client.client_send w.client ≡ r → P (event.client_sends_first w r)
+      by (c, None) made = p
+      by (c, Some o) made = keep w (client_sends_one c o) made p
+
+  pub event_keeps : (w : WorldState) (e : Event) → Reached lines starves w → IsOfLines lines e → is_enabled w e ≡ true → P w → P (act starves w e)
+  event_keeps w (event.issue a) reached said can p = issue_keeps w a reached can p
+  event_keeps w event.host_send reached said can p = host_send_keeps w p
+  event_keeps w (event.client_read n) reached said can p =
+      let (some, kept) = both (is_read (w.to_client).pipe n) (is_none w.kept) can in
+      client_all_keeps (done starves w (client_gets n)) (keep w (client_gets n) (some, no_kept w.kept kept) p)
+    where
+      no_kept : (o : Option Kept) → is_none o ≡ true → o ≡ None
+      no_kept None e = refl
+      no_kept (Some k) e = absurd (cc)
+  event_keeps w event.client_send reached said can p = client_send_keeps w p
+  event_keeps w (event.collect device) reached said can p = collect_keeps w device can p
+  event_keeps w (event.host_read n) reached said can p =
+      let x : WorldState = done starves w (host_gets n) in
+      all_take_keeps (host_handles (most_messages x.to_host) x) (host_handling_keeps (most_messages x.to_host) x (keep w (host_gets n) can p))
+  event_keeps w (event.take_job device hand) reached said can p = take_keeps w device hand (both (is_hand_free w hand) (job_waits w device) can).0 p
+  event_keeps w (event.apply_job hand) reached said can p = apply_keeps w hand p
+  event_keeps w (event.remove device) reached said can p =
+      let part : Part = removes_one device (station_at w device) in tries_keeps (done starves w part) device (keep w part (can, refl) p)
+  event_keeps w (event.add device) reached said can p = adding (lookup (is_at (nat_cmp device)) w.printers) refl
+    where
+      adding : (names : Option PrinterNames) → lookup (is_at (nat_cmp device)) w.printers ≡ names
+          → P (announced_by (told_added (refreshed_by w device names) device) device (station_at (refreshed_by w device names) device))
+      adding None is = keep w (adds_one device None (station_at w device)) (can, is, refl) p
+      adding (Some names) is = keep w (adds_one device (Some names) (station_at w device)) (can, is, refl) p
+  event_keeps w event.drop_channel reached said can p = all_take_keeps (cutting w) (keep w ends can p)
+  event_keeps w event.connect reached said can p = keep w begins can p
+  event_keeps w (event.tell n) reached said can p = keep w (tells_one n) (said, can) p
+
+  pub move_keeps : (w : WorldState) (m : Move) → Reached lines starves w → MayPass lines w m → P w → P (moved starves w m)
+  move_keeps w (happens e) reached (said, can) p = event_keeps w e reached said can p
+  move_keeps w (queues a) reached may p = keep w (queues_one a) may p
+  move_keeps w (idle number) reached may p = keep w (idle_one number) tt p
+  move_keeps w draws reached may p = keep w draws_one tt p
+
+-- ---- worlds that are reached by parts
+
+module _ (lines : List NumberedLine) (starves : Key → Bool) where
+  abbrev pub after_parts : List Part → WorldState
+  after_parts [] = world_of lines
+  after_parts (p ∷ before) = done starves (after_parts before) p
+
+  -- a world that is behind parts
+  pub record IsBehind (w : WorldState) : Type 0 where
+    pub parts : List Part
+    pub may : EachAfter (λ before p. MayBe lines starves (after_parts before) p) parts
+    pub leads : w ≡ after_parts parts
+
+  one_part : (w : WorldState) (p : Part) → MayBe lines starves w p → IsBehind w → IsBehind (done starves w p)
+  one_part w p may b = record {
+    parts = p ∷ b.parts;
+    may = (subst (λ (x : WorldState). MayBe lines starves x p) b.leads may, b.may);
+    leads = ap (λ (x : WorldState). done starves x p) b.leads;
+  }
+
+  -- each world that is reached is behind parts
+  pub reached_behind : (w : WorldState) → Reached lines starves w → IsBehind w
+  reached_behind =
+      by_moves lines starves IsBehind (record { parts = []; may = tt; leads = refl }) (λ w m steps b. move_keeps lines starves IsBehind one_part w m steps.0 steps.2 b)
+
+  -- What holds at the beginning and is kept by each part holds of each world that is behind parts. What was proved before of these may be used of the world
+  -- before a part and of the one after it.
+  pub by_parts : (P : WorldState → Type 0) → P (world_of lines)
+      → ((w : WorldState) (p : Part) → IsBehind w → IsBehind (done starves w p) → MayBe lines starves w p → P w → P (done starves w p)) → (w : WorldState) → IsBehind w → P w
+  by_parts P first step w b = subst P (sym b.leads) (go b.parts b.may)
+    where
+      go : (parts : List Part) → EachAfter (λ before p. MayBe lines starves (after_parts before) p) parts → P (after_parts parts)
+      go [] may = first
+      go (p ∷ before) may =
+          step (after_parts before) p (record { parts = before; may = may.1; leads = refl }) (record { parts = p ∷ before; may = may; leads = refl }) may.0 (go before may.1)
