@@ -1,15 +1,18 @@
 //! What holds of every reply of a session's devices, as contracts of functions that do nothing.
 
-ghost use Rattle.std.specs.Prelude.{◌&&◌, ℕ, Bool, not};
+ghost use Rattle.std.specs.Prelude.{◌&&◌, ℕ, Bool, not, List};
+ghost use Rattle.std.specs.List.{AllByRecursion};
 ghost use Rattle.rd_base.specs.declared.journal.Key.{Key};
 ghost use Rattle.rd_drive.specs.Promise.{CutsOff, IsDevice};
 ghost use Rattle.rd_drive.specs.Ranged.{AreEndsInRange, IsSteppedInRange, SetsFew};
 ghost use Rattle.rd_drive.specs.Stepped.{ran_step};
 ghost use Rattle.rd_drive.specs.declared.plan.Job.{Job};
 ghost use Rattle.rd_irp.specs.declared.op.Op.{Op};
-ghost use Rattle.rd_ranges.specs.Ranges.{IsFitDevice, RunsAs};
-ghost use Rattle.rd_world.specs.Devices.{device_cut, device_cuts, device_parked, device_step};
+ghost use Rattle.rd_script.specs.declared.line.Line.{Line};
+ghost use Rattle.rd_ranges.specs.Ranges.{IsFitDevice, NamesShort, RunsAs};
+ghost use Rattle.rd_world.specs.Devices.{Declared, device_cut, device_cuts, device_parked, device_step};
 ghost use Rattle.rd_world.specs.Events.{is_close};
+ghost use Rattle.rd_world.specs.Run.{declared_devices};
 ghost use Rattle.rd_world.specs.declared.device.SessionDevice.{SessionDevice};
 
 /// The status and the numbers of every reply of a session's device have room in their fields, in whichever state it is.
@@ -18,9 +21,10 @@ pub fn replies_have_room()
     ensures cut { (s : SessionDevice) → AreEndsInRange (device_cut s).ends }
 {}
 
-/// A fit device does what every device promises, and stays fit.
+/// A device that lines declare is fit, where what they name has room; one that is fit does what every device promises, and stays so.
 pub fn devices_stay_fit()
     ensures devices { IsDevice device_step device_cut device_parked IsFitDevice }
     ensures runs { (s : SessionDevice) (job : Job) (moment : ℕ) (starved : Bool) → IsFitDevice s → RunsAs s job moment (starved && not (is_close job.op)) }
+    ensures declared { (lines : List Line) → AllByRecursion NamesShort lines → AllByRecursion (λ (e : ℕ × Declared). IsFitDevice (e.1).state) (declared_devices lines) }
     ensures cuts { (s : SessionDevice) → IsFitDevice s → CutsOff device_cuts device_parked s (device_cut s).state }
 {}

@@ -1,3 +1,4 @@
+use Rattle.rd_ranges.proofs.DeclaredLemmas.{declared_fit}
 use Rattle.rd_ranges.proofs.DeviceLemmas.{any_devices, cut_applies, run_applies}
 use Rattle.rd_ranges.proofs.laws.devices_stay_fit.Goals as goal
 
@@ -9,3 +10,6 @@ returns-clause-runs c = run_applies
 
 pub returns-clause-cuts : goal.returns-clause-cuts
 returns-clause-cuts c = cut_applies
+
+pub returns-clause-declared : goal.returns-clause-declared
+returns-clause-declared c = declared_fit
