@@ -1,12 +1,14 @@
 -- When a session's device is fit, and what its replies have then.
 use Rattle.std.specs.Prelude.{◌≡◌, ◌≤◌, ℕ, Bool, true, List, length}
 use Rattle.std.specs.List.{AllByRecursion}
+use Rattle.rd_base.specs.declared.journal.Item.{Item}
+use Rattle.rd_base.specs.declared.journal.Item.TheVariants.{Ran}
 use Rattle.rd_base.specs.declared.journal.Key.{Key}
 use Rattle.rd_dirinfo.specs.Paths.{is_within_limits}
 use Rattle.rd_drive.specs.Bounded.{IsBounded}
 use Rattle.rd_drive.specs.Device.{Parked}
 use Rattle.rd_drive.specs.Promise.{Applies}
-use Rattle.rd_drive.specs.Ranged.{IsReplyInRange}
+use Rattle.rd_drive.specs.Ranged.{IsReplyInRange, SetsFew}
 use Rattle.rd_drive.specs.Replies.{KeyedReply}
 use Rattle.rd_drive.specs.Stepped.{Stepped, ran_step}
 use Rattle.rd_drive.specs.declared.plan.Job.{Job}
@@ -42,6 +44,11 @@ pub record IsFullReply (o : Op) (reply : Reply) : Type 0 where
 -- each of some keys is answered by such a reply to its request
 abbrev pub AreFullReplies : (Key → Request) → List KeyedReply → Type 0
 AreFullReplies requests replies = AllByRecursion (λ (given : KeyedReply). IsFullReply (requests given.0).op given.1) replies
+
+-- a run is of a request that sets few bytes
+abbrev pub RunsFew : (Key → Request) → Item → Type 0
+RunsFew requests (Ran key moment starved parked) = SetsFew (requests key).op
+RunsFew requests _ = Unit {0}
 
 -- each request that waits has the layout of its key's request
 abbrev pub AreParkedAs : (Key → Request) → List Parked → Type 0

@@ -1,15 +1,18 @@
 //! What holds of every reply of a session's devices, as contracts of functions that do nothing.
 
-ghost use Rattle.std.specs.Prelude.{◌&&◌, ℕ, Bool, not, List};
+ghost use Rattle.std.specs.Prelude.{◌&&◌, ℕ, ◌≡◌, Bool, not, List, []};
 ghost use Rattle.std.specs.List.{AllByRecursion};
+ghost use Rattle.rd_base.specs.declared.journal.Item.{Item};
 ghost use Rattle.rd_base.specs.declared.journal.Key.{Key};
 ghost use Rattle.rd_drive.specs.Promise.{CutsOff, IsDevice};
 ghost use Rattle.rd_drive.specs.Ranged.{AreEndsInRange, IsSteppedInRange, SetsFew};
+ghost use Rattle.rd_drive.specs.Replies.{replies_by};
 ghost use Rattle.rd_drive.specs.Stepped.{ran_step};
 ghost use Rattle.rd_drive.specs.declared.plan.Job.{Job};
 ghost use Rattle.rd_irp.specs.declared.op.Op.{Op};
 ghost use Rattle.rd_script.specs.declared.line.Line.{Line};
-ghost use Rattle.rd_ranges.specs.Ranges.{IsFitDevice, NamesShort, RunsAs};
+ghost use Rattle.rd_irp.specs.declared.request.Request.{Request};
+ghost use Rattle.rd_ranges.specs.Ranges.{AreFullReplies, IsFitDevice, NamesShort, RunsAs, RunsFew};
 ghost use Rattle.rd_world.specs.Devices.{Declared, device_cut, device_cuts, device_parked, device_step};
 ghost use Rattle.rd_world.specs.Events.{is_close};
 ghost use Rattle.rd_world.specs.Run.{declared_devices};
@@ -27,4 +30,11 @@ pub fn devices_stay_fit()
     ensures runs { (s : SessionDevice) (job : Job) (moment : ℕ) (starved : Bool) → IsFitDevice s → RunsAs s job moment (starved && not (is_close job.op)) }
     ensures declared { (lines : List Line) → AllByRecursion NamesShort lines → AllByRecursion (λ (e : ℕ × Declared). IsFitDevice (e.1).state) (declared_devices lines) }
     ensures cuts { (s : SessionDevice) → IsFitDevice s → CutsOff device_cuts device_parked s (device_cut s).state }
+{}
+
+/// Each reply that a device's journal gives completes its key's request: it has the layout of that one, isn't too long, and its numbers have room. So it is
+/// where the device was fit at first and nothing waited in it, and the requests that ran set few bytes.
+pub fn journals_reply_fully()
+    ensures { (requests : Key → Request) (s : SessionDevice) (items : List Item) → IsFitDevice s → device_parked s ≡ [] → AllByRecursion (RunsFew requests) items
+        → AreFullReplies requests (replies_by device_step device_cut requests s items) }
 {}
