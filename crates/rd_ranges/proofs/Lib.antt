@@ -1,3 +1,4 @@
 pub mod DeviceLemmas
 pub mod DeclaredLemmas
 pub mod JournalLemmas
+pub mod SpelledLemmas

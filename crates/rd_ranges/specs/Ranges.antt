@@ -13,6 +13,7 @@ use Rattle.rd_drive.specs.Replies.{KeyedReply}
 use Rattle.rd_drive.specs.Stepped.{Stepped, ran_step}
 use Rattle.rd_drive.specs.declared.plan.Job.{Job}
 use Rattle.rd_irp.specs.Fits.{IsReplyTo, kind_of}
+use Rattle.rd_irp.specs.Written.{completion_bytes}
 use Rattle.rd_irp.specs.declared.completion.Reply.{Reply}
 use Rattle.rd_irp.specs.declared.op.Op.{Op}
 use Rattle.rd_irp.specs.declared.request.Request.{Request}
@@ -44,6 +45,11 @@ pub record IsFullReply (o : Op) (reply : Reply) : Type 0 where
 -- each of some keys is answered by such a reply to its request
 abbrev pub AreFullReplies : (Key → Request) → List KeyedReply → Type 0
 AreFullReplies requests replies = AllByRecursion (λ (given : KeyedReply). IsFullReply (requests given.0).op given.1) replies
+
+-- the completion of a request by a reply
+abbrev pub completion_with : Request → Reply → List ℕ
+completion_with r reply =
+    completion_bytes (kind_of r.op) (record { device = r.device; completion = r.completion; status = reply.status }) reply.body
 
 -- a run is of a request that sets few bytes
 abbrev pub RunsFew : (Key → Request) → Item → Type 0

@@ -1,9 +1,12 @@
 //! What holds of every reply of a session's devices, as contracts of functions that do nothing.
 
-ghost use Rattle.std.specs.Prelude.{◌&&◌, ℕ, ◌≡◌, Bool, not, List, []};
+ghost use Rattle.std.specs.Prelude.{◌&&◌, ℕ, ◌≡◌, ◌==◌, ◌<◌, ◌^◌, Bool, false, not, List, []};
 ghost use Rattle.std.specs.List.{AllByRecursion};
 ghost use Rattle.rd_base.specs.declared.journal.Item.{Item};
 ghost use Rattle.rd_base.specs.declared.journal.Key.{Key};
+ghost use Rattle.rd_base.specs.declared.status.Status.{Status};
+ghost use Rattle.rd_chunk.specs.Carrier.{IsMessage};
+ghost use Rattle.rd_drive.specs.Outcome.{fault};
 ghost use Rattle.rd_drive.specs.Promise.{CutsOff, IsDevice};
 ghost use Rattle.rd_drive.specs.Ranged.{AreEndsInRange, IsSteppedInRange, SetsFew};
 ghost use Rattle.rd_drive.specs.Replies.{replies_by};
@@ -11,11 +14,13 @@ ghost use Rattle.rd_drive.specs.Stepped.{ran_step};
 ghost use Rattle.rd_drive.specs.declared.plan.Job.{Job};
 ghost use Rattle.rd_irp.specs.declared.op.Op.{Op};
 ghost use Rattle.rd_script.specs.declared.line.Line.{Line};
+ghost use Rattle.rd_irp.specs.declared.completion.Reply.{Reply};
 ghost use Rattle.rd_irp.specs.declared.request.Request.{Request};
-ghost use Rattle.rd_ranges.specs.Ranges.{AreFullReplies, IsFitDevice, NamesShort, RunsAs, RunsFew};
+ghost use Rattle.rd_ranges.specs.Ranges.{AreFullReplies, IsFitDevice, IsFullReply, NamesShort, RunsAs, RunsFew, completion_with};
 ghost use Rattle.rd_world.specs.Devices.{Declared, device_cut, device_cuts, device_parked, device_step};
 ghost use Rattle.rd_world.specs.Events.{is_close};
 ghost use Rattle.rd_world.specs.Run.{declared_devices};
+ghost use Rattle.rd_world.specs.Told.{CompletesWith};
 ghost use Rattle.rd_world.specs.declared.device.SessionDevice.{SessionDevice};
 
 /// The status and the numbers of every reply of a session's device have room in their fields, in whichever state it is.
@@ -37,4 +42,12 @@ pub fn devices_stay_fit()
 pub fn journals_reply_fully()
     ensures { (requests : Key → Request) (s : SessionDevice) (items : List Item) → IsFitDevice s → device_parked s ≡ [] → AllByRecursion (RunsFew requests) items
         → AreFullReplies requests (replies_by device_step device_cut requests s items) }
+{}
+
+/// A completion is a message, and completes its request with its reply, and with no other; one that says why a request isn't done is such a reply too.
+pub fn completions_complete()
+    ensures message { (r : Request) (reply : Reply) → IsFullReply r.op reply → IsMessage (completion_with r reply) }
+    ensures completes { (r : Request) (reply : Reply) → IsFullReply r.op reply → r.device < 2 ^ 32 → r.completion < 2 ^ 32 → CompletesWith r reply (completion_with r reply) }
+    ensures alone { (r : Request) (reply : Reply) → IsFullReply r.op reply → r.device < 2 ^ 32 → r.completion < 2 ^ 32 → (other : Reply) → CompletesWith r other (completion_with r reply) → other ≡ reply }
+    ensures faults { (operation : Op) (status : Status) → (status.0 == 0) ≡ false → status.0 < 2 ^ 32 → IsFullReply operation (fault status) }
 {}
