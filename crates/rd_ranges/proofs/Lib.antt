@@ -2,3 +2,4 @@ pub mod DeviceLemmas
 pub mod DeclaredLemmas
 pub mod JournalLemmas
 pub mod SpelledLemmas
+pub mod ReadLemmas

@@ -1,5 +1,5 @@
 -- When a session's device is fit, and what its replies have then.
-use Rattle.std.specs.Prelude.{◌≡◌, ◌≤◌, ℕ, Bool, true, List, length}
+use Rattle.std.specs.Prelude.{◌≡◌, ◌≤◌, ◌<◌, ◌^◌, ℕ, Bool, true, List, length}
 use Rattle.std.specs.List.{AllByRecursion}
 use Rattle.rd_base.specs.declared.journal.Item.{Item}
 use Rattle.rd_base.specs.declared.journal.Item.TheVariants.{Ran}
@@ -69,3 +69,10 @@ pub record RunsAs (s : SessionDevice) (job : Job) (moment : ℕ) (starved : Bool
   pub applies : let came = came_by s job moment starved in
       Applies device_runs device_parked s (record { job = job; starved = starved }) moment came.answer came.ends came.state
   pub fit : IsFitDevice (came_by s job moment starved).state
+
+-- the numbers of a request have room in their fields, and the bytes that it sets can be counted
+pub record HasRoom (r : Request) : Type 0 where
+  pub device : r.device < 2 ^ 32
+  pub file : r.file < 2 ^ 32
+  pub completion : r.completion < 2 ^ 32
+  pub few : SetsFew r.op

@@ -1,7 +1,9 @@
 //! What holds of every reply of a session's devices, as contracts of functions that do nothing.
 
-ghost use Rattle.std.specs.Prelude.{◌&&◌, ℕ, ◌≡◌, ◌==◌, ◌<◌, ◌^◌, Bool, false, not, List, []};
+ghost use Rattle.std.specs.Prelude.{◌&&◌, ℕ, ◌≡◌, ◌==◌, ◌<◌, ◌^◌, Bool, false, not, List, [], Ok, Some};
 ghost use Rattle.std.specs.List.{AllByRecursion};
+ghost use Rattle.rd_base.specs.Layout.{AreBytes, met};
+ghost use Rattle.rd_base.specs.Position.{Position, at_start};
 ghost use Rattle.rd_base.specs.declared.journal.Item.{Item};
 ghost use Rattle.rd_base.specs.declared.journal.Key.{Key};
 ghost use Rattle.rd_base.specs.declared.status.Status.{Status};
@@ -14,12 +16,17 @@ ghost use Rattle.rd_drive.specs.Stepped.{ran_step};
 ghost use Rattle.rd_drive.specs.declared.plan.Job.{Job};
 ghost use Rattle.rd_irp.specs.declared.op.Op.{Op};
 ghost use Rattle.rd_script.specs.declared.line.Line.{Line};
+ghost use Rattle.rd_irp.specs.Completion.{completion_body};
+ghost use Rattle.rd_irp.specs.Written.{IsBodyInRange};
+ghost use Rattle.rd_irp.specs.declared.completion.Body.{Body};
+ghost use Rattle.rd_irp.specs.declared.completion.Kind.{Kind};
 ghost use Rattle.rd_irp.specs.declared.completion.Reply.{Reply};
 ghost use Rattle.rd_irp.specs.declared.request.Request.{Request};
-ghost use Rattle.rd_ranges.specs.Ranges.{AreFullReplies, IsFitDevice, IsFullReply, NamesShort, RunsAs, RunsFew, completion_with};
+ghost use Rattle.rd_ranges.specs.Ranges.{AreFullReplies, HasRoom, IsFitDevice, IsFullReply, NamesShort, RunsAs, RunsFew, completion_with};
 ghost use Rattle.rd_world.specs.Devices.{Declared, device_cut, device_cuts, device_parked, device_step};
 ghost use Rattle.rd_world.specs.Events.{is_close};
 ghost use Rattle.rd_world.specs.Run.{declared_devices};
+ghost use Rattle.rd_world.specs.Talk.{request_in};
 ghost use Rattle.rd_world.specs.Told.{CompletesWith};
 ghost use Rattle.rd_world.specs.declared.device.SessionDevice.{SessionDevice};
 
@@ -50,4 +57,10 @@ pub fn completions_complete()
     ensures completes { (r : Request) (reply : Reply) → IsFullReply r.op reply → r.device < 2 ^ 32 → r.completion < 2 ^ 32 → CompletesWith r reply (completion_with r reply) }
     ensures alone { (r : Request) (reply : Reply) → IsFullReply r.op reply → r.device < 2 ^ 32 → r.completion < 2 ^ 32 → (other : Reply) → CompletesWith r other (completion_with r reply) → other ≡ reply }
     ensures faults { (operation : Op) (status : Status) → (status.0 == 0) ≡ false → status.0 < 2 ^ 32 → IsFullReply operation (fault status) }
+{}
+
+/// What is read of bytes has numbers with room in their fields: a request, and the body of a completion, with the file id that it gives.
+pub fn what_is_read_has_room()
+    ensures requests { (bytes : List ℕ) (r : Request) → AreBytes bytes → request_in bytes ≡ Some r → HasRoom r }
+    ensures bodies { (kind : Kind) (status : Status) (bytes : List ℕ) (body : Body) (q : Position) → AreBytes bytes → met (completion_body kind status) (at_start bytes) ≡ Ok (body, q) → IsBodyInRange body }
 {}
