@@ -15,11 +15,11 @@ use Rattle.rd_drive.proofs.FittingLemmas.{all_add}
 use Rattle.rd_drive.proofs.TargetLemmas.{carried_limits}
 use Rattle.rd_drive.specs.Bounded.{IsBounded}
 use Rattle.rd_drive.specs.DriveState.{DriveState, Node, empty_drive, holding, is_at_path, made_path, new_node, node_of_path, node_path, opening_attributes}
-use Rattle.rd_ranges.specs.Ranges.{IsFitDevice, NamesShort}
+use Rattle.rd_ranges.specs.Ranges.{AreFreshDevices, IsFitDevice, IsFreshDevice, NamesShort}
 use Rattle.rd_script.specs.declared.line.Line.{Line}
 use Rattle.rd_script.specs.declared.line.Line.TheVariants as line
 use Rattle.rd_tree.proofs.WayLemmas.{true_same}
-use Rattle.rd_world.specs.Devices.{Declared, declaring, furnishing, holding_at, with_first}
+use Rattle.rd_world.specs.Devices.{Declared, declaring, device_parked, furnishing, holding_at, with_first}
 use Rattle.rd_world.specs.Run.{declared_devices}
 use Rattle.rd_world.specs.declared.device.SessionDevice.{SessionDevice}
 use Rattle.rd_world.specs.declared.device.SessionDevice.TheVariants as session
@@ -54,52 +54,46 @@ bounded_with s path bytes short bounded = record {
 
 -- ---- the devices
 
-abbrev IsFitEntry : ℕ × Declared → Type 0
-IsFitEntry e = IsFitDevice (e.1).state
-
-abbrev AreFit : List (ℕ × Declared) → Type 0
-AreFit es = AllByRecursion IsFitEntry es
-
-inserted_fit : (k : ℕ) (d : Declared) (es : List (ℕ × Declared)) → IsFitDevice d.state → AreFit es → AreFit (insert_entry nat_cmp es k d)
+inserted_fit : (k : ℕ) (d : Declared) (es : List (ℕ × Declared)) → IsFreshDevice d → AreFreshDevices es → AreFreshDevices (insert_entry nat_cmp es k d)
 inserted_fit k d [] own all = (own, tt)
 inserted_fit k d (e ∷ es) own all = by (inserted_fit k d es own all.1) (nat_cmp k e.0)
   where
-    by : AreFit (insert_entry nat_cmp es k d) → (r : Ordering) → AreFit (match_ordering r ((k, d) ∷ e ∷ es) ((e.0, d) ∷ es) (e ∷ insert_entry nat_cmp es k d))
+    by : AreFreshDevices (insert_entry nat_cmp es k d) → (r : Ordering) → AreFreshDevices (match_ordering r ((k, d) ∷ e ∷ es) ((e.0, d) ∷ es) (e ∷ insert_entry nat_cmp es k d))
     by rest Less = (own, all)
     by rest Equal = (own, all.1)
     by rest Greater = (all.0, rest)
 
-first_fit : (path : Names) (bytes : Option (List ℕ)) → is_within_limits path ≡ true → (d : Declared) (s : SessionDevice) → IsFitDevice s
-    → IsFitDevice (with_first (path, bytes) (record d { state = s })).state
-first_fit path bytes short d (session.Drive s) fit = bounded_with s path bytes short fit
-first_fit path bytes short d (session.Printer s) fit = tt
+first_fit : (path : Names) (bytes : Option (List ℕ)) → is_within_limits path ≡ true → (d : Declared) (s : SessionDevice) → IsFitDevice s → device_parked s ≡ []
+    → IsFreshDevice (with_first (path, bytes) (record d { state = s }))
+first_fit path bytes short d (session.Drive s) fit quiet = record { fit = bounded_with s path bytes short fit; quiet = quiet }
+first_fit path bytes short d (session.Printer s) fit quiet = record { fit = tt; quiet = refl }
 
-held_fit : (device : ℕ) (path : Names) (bytes : Option (List ℕ)) → is_within_limits path ≡ true → (es : List (ℕ × Declared)) → AreFit es → AreFit (holding_at es device (path, bytes))
+held_fit : (device : ℕ) (path : Names) (bytes : Option (List ℕ)) → is_within_limits path ≡ true → (es : List (ℕ × Declared)) → AreFreshDevices es → AreFreshDevices (holding_at es device (path, bytes))
 held_fit device path bytes short [] all = tt
 held_fit device path bytes short (e ∷ es) all = (one (e.0 == device), held_fit device path bytes short es all.1)
   where
-    one : (b : Bool) → IsFitDevice (if b then with_first (path, bytes) e.1 else e.1).state
-    one true = first_fit path bytes short e.1 (e.1).state all.0
+    one : (b : Bool) → IsFreshDevice (if b then with_first (path, bytes) e.1 else e.1)
+    one true = first_fit path bytes short e.1 (e.1).state (all.0).fit (all.0).quiet
     one false = all.0
 
-declaring_fit : (es : List (ℕ × Declared)) (l : Line) → NamesShort l → AreFit es → AreFit (declaring es l)
+declaring_fit : (es : List (ℕ × Declared)) (l : Line) → NamesShort l → AreFreshDevices es → AreFreshDevices (declaring es l)
 unfolding declaring NamesShort
-declaring_fit es (line.Drive device name) short all = inserted_fit device _ es (bounded_empty _ name short) all
-declaring_fit es (line.DriveFold device name) short all = inserted_fit device _ es (bounded_empty _ name short) all
-declaring_fit es (line.Printer device name driver printer) short all = inserted_fit device _ es tt all
+declaring_fit es (line.Drive device name) short all = inserted_fit device _ es (record { fit = bounded_empty _ name short; quiet = refl }) all
+declaring_fit es (line.DriveFold device name) short all = inserted_fit device _ es (record { fit = bounded_empty _ name short; quiet = refl }) all
+declaring_fit es (line.Printer device name driver printer) short all = inserted_fit device _ es (record { fit = tt; quiet = refl }) all
 declaring_fit es _ short all = all
 
-furnishing_fit : (es : List (ℕ × Declared)) (l : Line) → NamesShort l → AreFit es → AreFit (furnishing es l)
+furnishing_fit : (es : List (ℕ × Declared)) (l : Line) → NamesShort l → AreFreshDevices es → AreFreshDevices (furnishing es l)
 unfolding furnishing NamesShort
 furnishing_fit es (line.Folder device path) short all = held_fit device path None short es all
 furnishing_fit es (line.File device path bytes) short all = held_fit device path (Some bytes) short es all
 furnishing_fit es (line.Fill device path len byte) short all = held_fit device path (Some (replicate len byte)) short es all
 furnishing_fit es _ short all = all
 
-all_fold : (change : List (ℕ × Declared) → Line → List (ℕ × Declared)) → ((es : List (ℕ × Declared)) (l : Line) → NamesShort l → AreFit es → AreFit (change es l))
-    → (ls : List Line) (es : List (ℕ × Declared)) → AllByRecursion NamesShort ls → AreFit es → AreFit (fold change es ls)
+all_fold : (change : List (ℕ × Declared) → Line → List (ℕ × Declared)) → ((es : List (ℕ × Declared)) (l : Line) → NamesShort l → AreFreshDevices es → AreFreshDevices (change es l))
+    → (ls : List Line) (es : List (ℕ × Declared)) → AllByRecursion NamesShort ls → AreFreshDevices es → AreFreshDevices (fold change es ls)
 all_fold change keeps [] es short all = all
 all_fold change keeps (l ∷ ls) es short all = all_fold change keeps ls (change es l) short.1 (keeps es l short.0 all)
 
-pub declared_fit : (lines : List Line) → AllByRecursion NamesShort lines → AllByRecursion (λ (e : ℕ × Declared). IsFitDevice (e.1).state) (declared_devices lines)
+pub declared_fit : (lines : List Line) → AllByRecursion NamesShort lines → AreFreshDevices (declared_devices lines)
 declared_fit lines short = all_fold furnishing furnishing_fit lines _ short (all_fold declaring declaring_fit lines [] short tt)

@@ -3,3 +3,4 @@ pub mod DeclaredLemmas
 pub mod JournalLemmas
 pub mod SpelledLemmas
 pub mod ReadLemmas
+pub mod SessionLemmas

@@ -1,5 +1,5 @@
 -- When a session's device is fit, and what its replies have then.
-use Rattle.std.specs.Prelude.{◌≡◌, ◌≤◌, ◌<◌, ◌^◌, ℕ, Bool, true, List, length}
+use Rattle.std.specs.Prelude.{◌≡◌, ◌≤◌, ◌<◌, ◌^◌, ℕ, Bool, true, List, [], length}
 use Rattle.std.specs.List.{AllByRecursion}
 use Rattle.rd_base.specs.declared.journal.Item.{Item}
 use Rattle.rd_base.specs.declared.journal.Item.TheVariants.{Ran}
@@ -19,7 +19,7 @@ use Rattle.rd_irp.specs.declared.op.Op.{Op}
 use Rattle.rd_irp.specs.declared.request.Request.{Request}
 use Rattle.rd_script.specs.declared.line.Line.{Line}
 use Rattle.rd_script.specs.declared.line.Line.TheVariants as line
-use Rattle.rd_world.specs.Devices.{device_parked, device_runs, device_step}
+use Rattle.rd_world.specs.Devices.{Declared, device_parked, device_runs, device_step}
 use Rattle.rd_world.specs.declared.device.SessionDevice.{SessionDevice}
 use Rattle.rd_world.specs.declared.device.SessionDevice.TheVariants as session
 
@@ -27,6 +27,14 @@ use Rattle.rd_world.specs.declared.device.SessionDevice.TheVariants as session
 abbrev pub IsFitDevice : SessionDevice → Type 0
 IsFitDevice (session.Drive s) = IsBounded s
 IsFitDevice (session.Printer s) = Unit {0}
+
+-- a device is fit, and nothing waits in it
+pub record IsFreshDevice (d : Declared) : Type 0 where
+  pub fit : IsFitDevice d.state
+  pub quiet : device_parked d.state ≡ []
+
+abbrev pub AreFreshDevices : List (ℕ × Declared) → Type 0
+AreFreshDevices devices = AllByRecursion (λ (d : ℕ × Declared). IsFreshDevice d.1) devices
 
 -- What a line names has room on a drive: the name of a drive as its label, and the path of a folder or a file.
 unfoldable pub NamesShort : Line → Type 0

@@ -1,6 +1,6 @@
 //! What holds of every reply of a session's devices, as contracts of functions that do nothing.
 
-ghost use Rattle.std.specs.Prelude.{◌&&◌, ℕ, ◌≡◌, ◌==◌, ◌<◌, ◌^◌, Bool, false, not, List, [], Ok, Some};
+ghost use Rattle.std.specs.Prelude.{◌&&◌, ℕ, ◌≡◌, ◌==◌, ◌<◌, ◌^◌, Bool, false, not, List, [], Ok, Some, Contains, reverse};
 ghost use Rattle.std.specs.List.{AllByRecursion};
 ghost use Rattle.rd_base.specs.Layout.{AreBytes, met};
 ghost use Rattle.rd_base.specs.Position.{Position, at_start};
@@ -10,7 +10,7 @@ ghost use Rattle.rd_base.specs.declared.status.Status.{Status};
 ghost use Rattle.rd_chunk.specs.Carrier.{IsMessage};
 ghost use Rattle.rd_drive.specs.Outcome.{fault};
 ghost use Rattle.rd_drive.specs.Promise.{CutsOff, IsDevice};
-ghost use Rattle.rd_drive.specs.Ranged.{AreEndsInRange, IsSteppedInRange, SetsFew};
+ghost use Rattle.rd_drive.specs.Ranged.{AreEndsInRange, IsReplyInRange, IsSteppedInRange, SetsFew};
 ghost use Rattle.rd_drive.specs.Replies.{replies_by};
 ghost use Rattle.rd_drive.specs.Stepped.{ran_step};
 ghost use Rattle.rd_drive.specs.declared.plan.Job.{Job};
@@ -22,11 +22,16 @@ ghost use Rattle.rd_irp.specs.declared.completion.Body.{Body};
 ghost use Rattle.rd_irp.specs.declared.completion.Kind.{Kind};
 ghost use Rattle.rd_irp.specs.declared.completion.Reply.{Reply};
 ghost use Rattle.rd_irp.specs.declared.request.Request.{Request};
-ghost use Rattle.rd_ranges.specs.Ranges.{AreFullReplies, HasRoom, IsFitDevice, IsFullReply, NamesShort, RunsAs, RunsFew, completion_with};
+ghost use Rattle.rd_pending.specs.Outcomes.{Accepted};
+ghost use Rattle.rd_pending.specs.declared.calls.Outcome.TheVariants.{Done};
+ghost use Rattle.rd_ranges.specs.Ranges.{AreFreshDevices, AreFullReplies, HasRoom, IsFitDevice, IsFullReply, NamesShort, RunsAs, RunsFew, completion_with};
 ghost use Rattle.rd_world.specs.Devices.{Declared, device_cut, device_cuts, device_parked, device_step};
 ghost use Rattle.rd_world.specs.Events.{is_close};
+ghost use Rattle.rd_world.specs.Joining.{ClientCameTo, Joins};
+ghost use Rattle.rd_world.specs.Recording.{request_of};
+ghost use Rattle.rd_world.specs.Session.{replies_in};
 ghost use Rattle.rd_world.specs.Run.{declared_devices};
-ghost use Rattle.rd_world.specs.Talk.{request_in};
+ghost use Rattle.rd_world.specs.Talk.{Deed, journal, request_in};
 ghost use Rattle.rd_world.specs.Told.{CompletesWith};
 ghost use Rattle.rd_world.specs.declared.device.SessionDevice.{SessionDevice};
 
@@ -40,7 +45,7 @@ pub fn replies_have_room()
 pub fn devices_stay_fit()
     ensures devices { IsDevice device_step device_cut device_parked IsFitDevice }
     ensures runs { (s : SessionDevice) (job : Job) (moment : ℕ) (starved : Bool) → IsFitDevice s → RunsAs s job moment (starved && not (is_close job.op)) }
-    ensures declared { (lines : List Line) → AllByRecursion NamesShort lines → AllByRecursion (λ (e : ℕ × Declared). IsFitDevice (e.1).state) (declared_devices lines) }
+    ensures declared { (lines : List Line) → AllByRecursion NamesShort lines → AreFreshDevices (declared_devices lines) }
     ensures cuts { (s : SessionDevice) → IsFitDevice s → CutsOff device_cuts device_parked s (device_cut s).state }
 {}
 
@@ -63,4 +68,13 @@ pub fn completions_complete()
 pub fn what_is_read_has_room()
     ensures requests { (bytes : List ℕ) (r : Request) → AreBytes bytes → request_in bytes ≡ Some r → HasRoom r }
     ensures bodies { (kind : Kind) (status : Status) (bytes : List ℕ) (body : Body) (q : Position) → AreBytes bytes → met (completion_body kind status) (at_start bytes) ≡ Ok (body, q) → IsBodyInRange body }
+{}
+
+/// So each reply that a session's journals give completes its key's request; and what comes of a request has numbers with room, with the file id of an open
+/// one among them, where both sides are joined.
+pub fn session_replies_complete()
+    ensures given { (devices : List (ℕ × Declared)) (deeds : List Deed) → AreFreshDevices devices → (device : ℕ) (items : List Item) → AllByRecursion (RunsFew (request_of deeds)) items
+        → (key : Key) (reply : Reply) → Contains (replies_in devices deeds device items) (key, reply) → IsFullReply (request_of deeds key).op reply }
+    ensures outcomes { (devices : List (ℕ × Declared)) (deeds : List Deed) → AreFreshDevices devices → (client : ℕ) → Joins client (replies_in devices deeds) deeds
+        → ((device : ℕ) → AllByRecursion (RunsFew (request_of deeds)) (reverse (journal device deeds))) → (a : Accepted) (reply : Reply) → ClientCameTo client deeds a (Done reply) → IsReplyInRange reply }
 {}
