@@ -1,9 +1,9 @@
 -- The world that lines begin.
-use Rattle.std.proofs.Common.{◌≡◌, ◌∙◌, refl, ap, subst, sym, ℕ, Bool, true, false, cond, List, [], ◌∷◌, map, fold, Some, None, Option}
+use Rattle.std.proofs.Common.{◌≡◌, ◌∙◌, refl, subst, sym, ℕ, Bool, true, false, cond, List, [], ◌∷◌, map, fold, Some, Option}
 use Rattle.std.specs.Map.{lookup}
 use Rattle.std.specs.Ordering.{nat_cmp}
 use Rattle.std.specs.BTreeMap.{is_at}
-use Rattle.rd_client.specs.Core.{ClientCoreState, new_client}
+use Rattle.rd_client.specs.Core.{ClientCoreState}
 use Rattle.rd_script.specs.declared.line.Line.{Line}
 use Rattle.rd_script.specs.declared.line.Line.TheVariants as line
 use Rattle.rd_script.specs.declared.line.NumberedLine.{NumberedLine}

@@ -17,11 +17,9 @@ use Rattle.rd_pending.specs.Table as table
 use Rattle.rd_pending.specs.Table.{Fate, Slot, TableState, Untaken, awaited, freed, known, live_refusal, slot_for, submit_refusal, untaken_at, with_fate}
 use Rattle.rd_pending.proofs.Effects as effects
 use Rattle.rd_pending.proofs.Neutral.{AreNeutral, IsNeutral, channel_all}
-use Rattle.rd_world.specs.Host.{HostSide, side_sends}
 use Rattle.rd_world.specs.HostDeeds.{calls_by, calls_of, sending, side_of}
-use Rattle.rd_world.specs.Talk.{Deed, adds, client_reads, client_writes, completes, host_begins, host_ends, host_reads, host_writes, open_channel, removes, stores, submits, takes, tells}
+use Rattle.rd_world.specs.Talk.{Deed, host_begins, host_ends, host_reads, host_writes, open_channel, submits, takes}
 use Rattle.rd_world.proofs.Calls.{Does, neutral_reading, table_of}
-
 
 -- ---- calls that neither begin nor end a channel leave it
 

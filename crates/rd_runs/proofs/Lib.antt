@@ -6,3 +6,9 @@ pub mod HostLemmas
 pub mod IdleLemmas
 pub mod BeginningLemmas
 pub mod Standing
+pub mod AskedLemmas
+pub mod KeysOnLemmas
+pub mod KeysOn
+pub mod WayLemmas
+pub mod TrafficLemmas
+pub mod Carrying

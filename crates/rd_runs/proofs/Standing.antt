@@ -1,5 +1,5 @@
 -- In each world that lines come to the deeds lead to the host's side, which might do each, and where no channel is open nothing is under way, held or to be sent.
-use Rattle.std.proofs.Common.{◌≡◌, ◌⊎◌, ◌∙◌, refl, sym, ap, subst, inl, inr, ℕ, ◌+◌, ◌&&◌, arith, Bool, true, false, not, List, [], ◌∷◌, ◌++◌, length, map, fold, Some, None, Option, Result, Ok, Err, append-nil, is_ok, is_some}
+use Rattle.std.proofs.Common.{◌≡◌, ◌∙◌, refl, sym, ap, subst, inl, ℕ, ◌&&◌, arith, Bool, true, false, not, List, [], ◌∷◌, ◌++◌, map, fold, Some, None, Option, Result, Ok, Err, append-nil, is_ok, is_some}
 use Rattle.std.specs.Prelude.{nat_le, nat_lt}
 use Rattle.std.specs.Option.{option_map_or}
 use Rattle.std.proofs.lemmas.Bool.Decides.{nat_tests}
@@ -18,27 +18,23 @@ use Rattle.rd_pending.specs.Table as table
 use Rattle.rd_pending.specs.Table.{MaySubmit, TableState, submit_refusal}
 use Rattle.rd_printer.specs.declared.notice.Notice.{Notice}
 use Rattle.rd_script.specs.declared.line.NumberedLine.{NumberedLine}
-use Rattle.rd_station.specs.declared.answers.Completion.{Completion}
-use Rattle.rd_station.specs.Station as station
 use Rattle.rd_station.specs.Station.{StationState}
 use Rattle.rd_runs.specs.Moves.{Reached}
 use Rattle.rd_runs.proofs.BeginningLemmas.{Unset, begins_as, first_idle, unset}
 use Rattle.rd_runs.proofs.HostLemmas.{AreOfClient, IsHostOf, IsOfClient, all_of_client, host_begun, host_channel, host_ended, host_heard, host_moved, host_submitted, host_told, host_took, host_write, opens, same_open, sending_opens}
 use Rattle.rd_runs.proofs.IdleLemmas.{AreIdle, applied_all_idle, cut_idle, none_collected, none_taken}
-use Rattle.rd_runs.proofs.Insides.{AreOwn, IsInside, Outside, added_inside, all_dropped_inside, all_refreshed_inside, applied_inside, hears_inside, outside, put_inside, removed_inside, stationed}
+use Rattle.rd_runs.proofs.Insides.{AreOwn, IsInside, Outside, added_inside, all_dropped_inside, all_refreshed_inside, applied_inside, hears_inside, put_inside, removed_inside, stationed}
 use Rattle.rd_runs.proofs.Parts.{IsBehind, MayBe, Part, accepts, adds_one, applies_one, begins, by_parts, client_gets, client_hears_one, client_keeps_part, client_sends_one, collects_one, done, draws_one, ends, hands_out, host_gets, host_hears_one, host_keeps_part, host_sends_one, idle_one, queues_one, refuses, removes_one, takes_one, tells_one, tries_one}
 use Rattle.rd_runs.proofs.Reaching.{both}
 use Rattle.rd_world.specs.declared.device.SessionDevice.{SessionDevice}
-use Rattle.rd_world.specs.Devices.{Declared, PrinterNames}
-use Rattle.rd_world.specs.Events as event
-use Rattle.rd_world.specs.Events.{completion_message, connects, cutting, deed_on, dropping, is_channel_open, is_enabled, is_read, is_ready, refreshing, target_of}
-use Rattle.rd_world.specs.Hearing.{next_asked, with_client}
-use Rattle.rd_world.specs.Host.{HostSide, new_side, next_message}
+use Rattle.rd_world.specs.Devices.{PrinterNames}
+use Rattle.rd_world.specs.Events.{completion_message, deed_on, dropping, is_channel_open, is_read, is_ready, refreshing, target_of}
+use Rattle.rd_world.specs.Hearing.{next_asked}
 use Rattle.rd_world.specs.HostDeeds.{IsInRange}
 use Rattle.rd_world.specs.Noting.{IsTellable}
 use Rattle.rd_world.specs.Run.{declared_devices, notice_of, world_of}
 use Rattle.rd_world.specs.Talk.{Deed, Has, adds, client_reads, client_writes, completes, open_channel, removes, stores, submits, takes}
-use Rattle.rd_world.specs.World.{Asked, Kept, WayState, WorldState, application_at, client_sends, first_message, station_at, with_deed, with_station, with_table}
+use Rattle.rd_world.specs.World.{Asked, Kept, WayState, WorldState, application_at, first_message, with_deed, with_station}
 
 -- ---- the invariant
 
@@ -111,7 +107,7 @@ host_inside : (w v : WorldState) → IsInside w v → IsHostOf w.side w.channels
 host_inside w v i h =
     host_moved (ap (λ (o : Outside). o.side) i.same) (ap (λ (o : Outside). o.channels) i.same) i.deeds (all_of_client w.side w.channels i.more w.deeds (of_client i.more i.own) h)
 
-open_inside : (w v : WorldState) → IsInside w v → open_channel v.deeds ≡ open_channel w.deeds
+pub open_inside : (w v : WorldState) → IsInside w v → open_channel v.deeds ≡ open_channel w.deeds
 open_inside w v i = ap open_channel i.deeds ∙ same_open i.more w.deeds (of_client i.more i.own)
 
 -- it stands where the channel's state is as it was
@@ -138,9 +134,42 @@ none_sent : (c after : ClientCoreState) (o : Outgoing) → (c.core).outbox ≡ [
 none_sent c after o none made =
     let nothing : (client.client_send c).1 ≡ None = rw none refl in cc (nothing, ap (λ (r : ClientCoreState × Option Outgoing). r.1) made)
 
-is_off : (b : Bool) → not b ≡ true → b ≡ false
+pub is_off : (b : Bool) → not b ≡ true → b ≡ false
 is_off false e = refl
 is_off true e = absurd (cc)
+
+-- what passes only while a channel is open
+abbrev pub NeedsOpen : Part → Type 0
+NeedsOpen (host_sends_one message) = Unit {0}
+NeedsOpen (host_gets n) = Unit {0}
+NeedsOpen (host_hears_one message rest) = Unit {0}
+NeedsOpen (tells_one n) = Unit {0}
+NeedsOpen ends = Unit {0}
+NeedsOpen (client_sends_one c o) = Unit {0}
+NeedsOpen (client_gets n) = Unit {0}
+NeedsOpen (client_hears_one message rest) = Unit {0}
+NeedsOpen (tries_one k) = Unit {0}
+NeedsOpen (collects_one device s after c) = Unit {0}
+NeedsOpen (takes_one device hand s after job) = Unit {0}
+NeedsOpen (removes_one device o) = Unit {0}
+NeedsOpen (adds_one device names o) = Unit {0}
+NeedsOpen p = ⊥
+
+pub needs_open : (lines : List NumberedLine) (starves : Key → Bool) (w : WorldState) (p : Part) → MayBe lines starves w p → NeedsOpen p → Stands w → open_channel w.deeds ≡ Some w.channels
+needs_open lines starves w (host_sends_one message) next needs s = sending_opens w.side w.channels w.deeds s.host message next
+needs_open lines starves w (host_gets n) can needs s = opened_by w s (λ shut. no_read (w.to_host).pipe n shut.up_pipe can)
+needs_open lines starves w (host_hears_one message rest) is needs s = opened_by w s (λ shut. no_message w.to_host message rest s.host_part shut.up_unhandled is)
+needs_open lines starves w (tells_one n) (said, can) needs s = open_now w s (both (is_channel_open w) (is_host_ready (((w.side).core).core).shake) can).0
+needs_open lines starves w ends is needs s = open_now w s is
+needs_open lines starves w (client_sends_one c o) made needs s = opened_by w s (λ shut. none_sent w.client c o shut.outbox_none made)
+needs_open lines starves w (client_gets n) (can, kept) needs s = opened_by w s (λ shut. no_read (w.to_client).pipe n shut.down_pipe can)
+needs_open lines starves w (client_hears_one message rest) (kept, is) needs s = opened_by w s (λ shut. no_message w.to_client message rest s.client_part shut.down_unhandled is)
+needs_open lines starves w (tries_one k) kept needs s = opened_by w s (λ shut. cc (kept, shut.kept_none))
+needs_open lines starves w (collects_one device x after c) (quiet, there, made) needs s = opened_by w s (λ shut. none_collected x after c (shut.idle device x there) made)
+needs_open lines starves w (takes_one device hand x after job) (free, there, made) needs s = opened_by w s (λ shut. none_taken x after job (shut.idle device x there) made)
+needs_open lines starves w (removes_one device o) (can, there) needs s = open_now w s (both (is_channel_open w) _ (both (is_ready w) _ can).0).0
+needs_open lines starves w (adds_one device names o) (can, printer, there) needs s = open_now w s (both (is_channel_open w) _ (both (is_ready w) _ can).0).0
+needs_open lines starves w p may needs s = absurd needs
 
 -- a request that is accepted has nothing against it
 accepted_free : (t new : TableState) (a number : ℕ) (named : Target) (o : Op) → table.submit t a named o ≡ (new, Ok number) → submit_refusal t named ≡ None
@@ -206,13 +235,13 @@ module _ (lines : List NumberedLine) (starves : Key → Bool) (fit : FitLines li
     host = host_write w.side w.channels w.deeds s.host message next;
     client_part = s.client_part;
     host_part = s.host_part;
-    shut = never w.deeds (sending_opens w.side w.channels w.deeds s.host message next);
+    shut = never w.deeds (needs_open lines starves w (host_sends_one message) next tt s);
   }
   step w (host_gets n) b can s = record {
     host = s.host;
     client_part = s.client_part;
     host_part = s.host_part;
-    shut = never w.deeds (opened_by w s (λ shut. no_read (w.to_host).pipe n shut.up_pipe can));
+    shut = never w.deeds (needs_open lines starves w (host_gets n) can tt s);
   }
   step w host_keeps_part b is s = record {
     host = s.host;
@@ -229,7 +258,7 @@ module _ (lines : List NumberedLine) (starves : Key → Bool) (fit : FitLines li
     };
   }
   step w (host_hears_one message rest) b is s =
-      let opened = opened_by w s (λ shut. no_message w.to_host message rest s.host_part shut.up_unhandled is) in
+      let opened = needs_open lines starves w (host_hears_one message rest) is tt s in
       record { host = host_heard w.side w.channels w.deeds s.host message opened; client_part = s.client_part; host_part = refl; shut = never w.deeds opened }
   step w (tells_one n) b ((l, has, said), can) s =
       let (is, ready) = both (is_channel_open w) (is_host_ready (((w.side).core).core).shake) can in
@@ -275,7 +304,7 @@ module _ (lines : List NumberedLine) (starves : Key → Bool) (fit : FitLines li
       }
   step w (client_sends_one c o) b made s =
       let one : AreOfClient (deed_on w.channels o ∷ []) = (of_client_on w.channels o, tt) in
-      let opened = opened_by w s (λ shut. none_sent w.client c o shut.outbox_none made) in
+      let opened = needs_open lines starves w (client_sends_one c o) made tt s in
       record {
         host = all_of_client w.side w.channels (deed_on w.channels o ∷ []) w.deeds one s.host;
         client_part = s.client_part;
@@ -286,7 +315,7 @@ module _ (lines : List NumberedLine) (starves : Key → Bool) (fit : FitLines li
     host = s.host;
     client_part = s.client_part;
     host_part = s.host_part;
-    shut = never w.deeds (opened_by w s (λ shut. no_read (w.to_client).pipe n shut.down_pipe can));
+    shut = never w.deeds (needs_open lines starves w (client_gets n) (can, kept) tt s);
   }
   step w client_keeps_part b (kept, is) s = record {
     host = s.host;
@@ -303,7 +332,7 @@ module _ (lines : List NumberedLine) (starves : Key → Bool) (fit : FitLines li
     };
   }
   step w (client_hears_one message rest) b (kept, is) s =
-      let opened = opened_by w s (λ shut. no_message w.to_client message rest s.client_part shut.down_unhandled is) in
+      let opened = needs_open lines starves w (client_hears_one message rest) (kept, is) tt s in
       let x : WorldState = record w { to_client = record w.to_client { part = []; taken = _; unhandled = rest } } in
       let read : WorldState = with_deed x (client_reads w.channels message) in
       inside_open read (done starves w (client_hears_one message rest)) (hears_inside x message) (record {
@@ -313,12 +342,12 @@ module _ (lines : List NumberedLine) (starves : Key → Bool) (fit : FitLines li
         shut = never w.deeds opened;
       }) opened
   step w (tries_one k) b kept s =
-      let opened = opened_by w s (λ shut. cc (kept, shut.kept_none)) in
+      let opened = needs_open lines starves w (tries_one k) kept tt s in
       let x : WorldState = record w { kept = None } in
       inside_open x (done starves w (tries_one k)) (put_inside x k.device k.job)
       (record { host = s.host; client_part = s.client_part; host_part = s.host_part; shut = never w.deeds opened }) opened
   step w (collects_one device x after c) b (quiet, there, made) s =
-      let opened = opened_by w s (λ shut. none_collected x after c (shut.idle device x there) made) in
+      let opened = needs_open lines starves w (collects_one device x after c) (quiet, there, made) tt s in
       let y : WorldState = with_station w device after in
       let i = stationed w device after in
       record {
@@ -328,7 +357,7 @@ module _ (lines : List NumberedLine) (starves : Key → Bool) (fit : FitLines li
         shut = never y.deeds (open_inside w y i ∙ opened);
       }
   step w (takes_one device hand x after job) b (free, there, made) s =
-      let opened = opened_by w s (λ shut. none_taken x after job (shut.idle device x there) made) in
+      let opened = needs_open lines starves w (takes_one device hand x after job) (free, there, made) tt s in
       let y : WorldState = with_station w device after in
       let i = stationed w device after in
       record { host = host_inside w y i s.host; client_part = s.client_part; host_part = s.host_part; shut = never y.deeds (open_inside w y i ∙ opened) }
@@ -345,9 +374,9 @@ module _ (lines : List NumberedLine) (starves : Key → Bool) (fit : FitLines li
         idle = applied_all_idle starves w hand device job (Some x) there shut.idle;
       })
   step w (removes_one device o) b (can, there) s =
-      inside_open w (done starves w (removes_one device o)) (removed_inside w device o) s (open_now w s (both (is_channel_open w) _ (both (is_ready w) _ can).0).0)
+      inside_open w (done starves w (removes_one device o)) (removed_inside w device o) s (needs_open lines starves w (removes_one device o) (can, there) tt s)
   step w (adds_one device names o) b (can, printer, there) s =
-      inside_open w (done starves w (adds_one device names o)) (added_inside w device names o) s (open_now w s (both (is_channel_open w) _ (both (is_ready w) _ can).0).0)
+      inside_open w (done starves w (adds_one device names o)) (added_inside w device names o) s (needs_open lines starves w (adds_one device names o) (can, printer, there) tt s)
   step w (queues_one a) b may s = record { host = s.host; client_part = s.client_part; host_part = s.host_part; shut = s.shut }
   step w (idle_one number) b may s = record { host = s.host; client_part = s.client_part; host_part = s.host_part; shut = s.shut }
   step w draws_one b may s = record { host = s.host; client_part = s.client_part; host_part = s.host_part; shut = s.shut }

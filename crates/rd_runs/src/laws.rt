@@ -1,10 +1,16 @@
 //! What holds of each world that a script's lines come to, as contracts of functions that do nothing.
 
-ghost use Rattle.std.specs.Prelude.{◌≡◌, [], Bool, List, Some};
+ghost use Rattle.std.specs.Prelude.{◌≡◌, ◌⊎◌, [], All, Bool, IfSome, List, None, Some};
 ghost use Rattle.rd_base.specs.declared.journal.Key.{Key};
+ghost use Rattle.rd_chunk.specs.Carrier.{IsMessage};
 ghost use Rattle.rd_script.specs.declared.line.NumberedLine.{NumberedLine};
 ghost use Rattle.rd_runs.specs.Moves.{Reached};
+ghost use Rattle.rd_runs.specs.Premises.{HostPremises};
+ghost use Rattle.rd_world.specs.HostDeeds.{MayDo, side_of};
+ghost use Rattle.rd_world.specs.Joining.{IsCarried};
+ghost use Rattle.rd_world.specs.Recording.{client_channel, client_id, written_by};
 ghost use Rattle.rd_world.specs.Run.{Most, WorldRun, choices, run_of};
+ghost use Rattle.rd_world.specs.Talk.{AtEachPoint, EachAfter, open_channel};
 ghost use Rattle.rd_world.specs.World.{WorldState, marks_of};
 
 /// A run is moves, one after the other: events that can happen, lines that are queued, lines that did nothing, and draws. Where it ends nothing more can
@@ -13,4 +19,19 @@ pub fn runs_are_moves()
     ensures steps { (most : Most) (starves : Key → Bool) (lines : List NumberedLine) (w : WorldState) → run_of most starves lines ≡ Some w → Reached lines starves w }
     ensures session { (lines : List NumberedLine) (w : WorldState) → WorldRun lines w → Reached lines (marks_of w) w }
     ensures rest { (most : Most) (starves : Key → Bool) (lines : List NumberedLine) (w : WorldState) → run_of most starves lines ≡ Some w → choices w ≡ [] }
+{}
+
+/// What was done leads to the host's side, which might do each deed: it begins a channel above those before it, accepts what may be submitted, hands out what
+/// is known, sends what is next, and tells, writes and reads while a channel is open. The channel that is open is the last that began.
+pub fn runs_keep_hosts()
+    ensures side { (lines : List NumberedLine) (starves : Key → Bool) → HostPremises lines starves → (w : WorldState) → Reached lines starves w → side_of client_id w.deeds ≡ w.side }
+    ensures may { (lines : List NumberedLine) (starves : Key → Bool) → HostPremises lines starves → (w : WorldState) → Reached lines starves w → EachAfter (λ before deed. MayDo (side_of client_id before) deed) w.deeds }
+    ensures channel { (lines : List NumberedLine) (starves : Key → Bool) → HostPremises lines starves → (w : WorldState) → Reached lines starves w → (w.side.table.channel ≡ open_channel w.deeds) × ((open_channel w.deeds ≡ None) ⊎ (open_channel w.deeds ≡ Some w.channels)) }
+{}
+
+/// Where all that was written is of a message's size, what each end has read is what the other began to write, at each point and on each channel, however the bytes
+/// between them were cut; and a client reads and writes on the channel that is open.
+pub fn runs_carry()
+    ensures carried { (lines : List NumberedLine) (starves : Key → Bool) → HostPremises lines starves → (w : WorldState) → Reached lines starves w → All (λ deed. IfSome (written_by deed) IsMessage) w.deeds → AtEachPoint IsCarried w.deeds }
+    ensures on_open { (lines : List NumberedLine) (starves : Key → Bool) → HostPremises lines starves → (w : WorldState) → Reached lines starves w → All (λ deed. IfSome (written_by deed) IsMessage) w.deeds → EachAfter (λ before deed. IfSome (client_channel deed) (λ c. open_channel before ≡ Some c)) w.deeds }
 {}

@@ -6,4 +6,4 @@
 
 mod laws;
 
-pub use laws::runs_are_moves;
+pub use laws::{runs_are_moves, runs_carry, runs_keep_hosts};
