@@ -3,6 +3,7 @@ use Rattle.std.proofs.Common.{◌≡◌, ◌∙◌, refl, sym, ap, subst, ℕ, z
 use Rattle.std.specs.Prelude.{filter_map, if◌then◌else◌, is_some}
 use Rattle.std.specs.List.{cons_option}
 use Rattle.std.specs.Option.{option_and_then, option_map_or}
+use Rattle.rd_base.specs.Statuses.{not_supported}
 use Rattle.rd_base.specs.declared.journal.Item.{Item}
 use Rattle.rd_base.specs.declared.journal.Key.{Key}
 use Rattle.rd_client.specs.Core as client
@@ -24,10 +25,10 @@ use Rattle.rd_host.specs.declared.act.Act.{Act}
 use Rattle.rd_host.specs.declared.act.Act.TheVariants as host_act
 use Rattle.rd_irp.specs.declared.op.Op.{Op}
 use Rattle.rd_pending.proofs.Neutral.{channel_kept}
-use Rattle.rd_pending.specs.History as history
+use Rattle.rd_pending.specs.History as call
 use Rattle.rd_pending.specs.Table as table
 use Rattle.rd_pending.specs.Table.{TableState}
-use Rattle.rd_pending.specs.declared.calls.Call.TheVariants as call
+
 use Rattle.rd_pending.specs.declared.calls.LiveNo.{LiveNo}
 use Rattle.rd_pending.specs.declared.calls.SubmitNo.{SubmitNo}
 use Rattle.rd_pending.specs.declared.calls.TakeNo.{TakeNo}
@@ -44,7 +45,7 @@ use Rattle.rd_station.specs.declared.refusals.PutWhy.{PutWhy}
 use Rattle.rd_station.specs.declared.refusals.PutWhy.TheVariants as why
 use Rattle.rd_controls.proofs.ReadyLemmas.{client_kept, host_kept}
 use Rattle.rd_world.specs.Acts.{act_by}
-use Rattle.rd_world.specs.Control.{Act}
+use Rattle.rd_world.specs.Control as control
 use Rattle.rd_world.specs.Events as event
 use Rattle.rd_world.specs.Events.{Event, act, applies_at, applies_held, asks, client_sends_first, collects_from, comes_of_asking, completion_message, deed_on, issues_next, takes_job_from, target_of, with_hand}
 use Rattle.rd_world.specs.Hearing.{after_opening, all_take, announcing, client_handles, client_handles_all, client_handles_first, client_hears, ends_line, heard_by_client, host_handles, host_handles_first, host_hears, next_asked, put_at, put_by, putting, refused_put, takes_awaited, takes_from, takes_outcome, tries, tries_kept, with_client, with_outcome}
@@ -61,7 +62,7 @@ pub record Seen : Type 0 where
   pub channels : ℕ
   pub idle : List ℕ
   pub devices : List ClientDevice
-  pub acts : List Act
+  pub acts : List control.Act
 
 abbrev pub seen : WorldState → Seen
 seen w = record { channel = ((w.side).table).channel; channels = w.channels; idle = w.idle; devices = (w.client).devices; acts = filter_map act_by w.deeds }
@@ -100,7 +101,7 @@ pub stationed : (w : WorldState) (device : ℕ) (s : StationState SessionDevice)
 stationed w device s =
     let count : ℕ = option_map_or (λ (old : StationState SessionDevice). length old.journal) (station_at w device) 0 in
     record {
-      same = ap (λ (acts : List Act). record (seen w) { acts = acts }) (stores_silent device (reverse (drop count s.journal)) w.deeds);
+      same = ap (λ (acts : List control.Act). record (seen w) { acts = acts }) (stores_silent device (reverse (drop count s.journal)) w.deeds);
       client = λ is. is;
       host = λ is. is;
     }
@@ -204,7 +205,7 @@ client_send_unseen w = by ((w.client).core).outbox
     by : (l : List Outgoing) → Unseen w (client_sends_first w (let sent = core.send_from (w.client).core l in (record w.client { core = sent.0 }, sent.1)))
     by [] = unseen_none w
     by (o ∷ later) = record {
-      same = ap (λ (a : Option Act). record (seen w) { acts = cons_option a (filter_map act_by w.deeds) }) (deed_silent w.channels o);
+      same = ap (λ (a : Option control.Act). record (seen w) { acts = cons_option a (filter_map act_by w.deeds) }) (deed_silent w.channels o);
       client = λ is. is;
       host = λ is. is;
     }
@@ -272,7 +273,7 @@ admits_beside s a = by (is_served_type a.kind)
     from : (r : TableState × Result ℕ LiveNo) → (r.0).channel ≡ (s.table).channel → Beside s (lived s a.id r)
     from (after, life) same = record { channel = same; ready = λ is. is }
 
-    by : (b : Bool) → Beside s (if b then lived s a.id (table.live s.table a.id) else record s { core = host.reply s.core a.id _ })
+    by : (b : Bool) → Beside s (if b then lived s a.id (table.live s.table a.id) else record s { core = host.reply s.core a.id not_supported })
     by true = from (table.live s.table a.id) (channel_kept (call.lives a.id) tt s.table)
     by false = record { channel = refl; ready = λ is. is }
 
