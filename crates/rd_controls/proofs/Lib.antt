@@ -1,3 +1,4 @@
 pub mod Walking
 pub mod ReadyLemmas
 pub mod Unseen
+pub mod Marks

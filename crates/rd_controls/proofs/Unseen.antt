@@ -55,17 +55,21 @@ use Rattle.rd_world.specs.World.{ApplicationState, Asked, Kept, WayState, WorldS
 use Rattle.rd_world.specs.declared.device.SessionDevice.{SessionDevice}
 use Rattle.rd_pending.specs.declared.calls.Handle.{Handle}
 
--- what control lines are seen by: the channel that is open, how many began, the lines that did nothing, the client's devices, and what was done by lines,
--- the newest first
+-- a device's id, and whether it was removed and not added since
+abbrev pub mark : ClientDevice → ℕ × Bool
+mark d = ((d.announce).id, d.removed)
+
+-- what control lines are seen by: the channel that is open, how many began, the lines that did nothing, the client's devices by their ids with
+-- whether they are gone, and what was done by lines, the newest first
 pub record Seen : Type 0 where
   pub channel : Option ℕ
   pub channels : ℕ
   pub idle : List ℕ
-  pub devices : List ClientDevice
+  pub marks : List (ℕ × Bool)
   pub acts : List control.Act
 
 abbrev pub seen : WorldState → Seen
-seen w = record { channel = ((w.side).table).channel; channels = w.channels; idle = w.idle; devices = (w.client).devices; acts = filter_map act_by w.deeds }
+seen w = record { channel = ((w.side).table).channel; channels = w.channels; idle = w.idle; marks = map mark (w.client).devices; acts = filter_map act_by w.deeds }
 
 abbrev pub client_ready : WorldState → Bool
 client_ready w = is_client_ready ((w.client).core).shake
@@ -152,7 +156,7 @@ client_hears_unseen w message =
     let x : WorldState = with_deed (with_client w heard.0) (client_reads w.channels message) in
     let kept = client_kept w.client message in
     unseen_by w x _
-    (record { same = ap (λ (ds : List ClientDevice). record (seen w) { devices = ds }) kept.devices; client = kept.ready; host = λ is. is })
+    (record { same = ap (λ (ds : List ClientDevice). record (seen w) { marks = map mark ds }) kept.devices; client = kept.ready; host = λ is. is })
     (heard_unseen ((w.client).core).shake x heard.1)
 
 client_handles_unseen : (most : ℕ) (w : WorldState) → Unseen w (client_handles most w)
