@@ -2,3 +2,5 @@ pub mod Walking
 pub mod ReadyLemmas
 pub mod Unseen
 pub mod Marks
+pub mod Numbers
+pub mod Acting

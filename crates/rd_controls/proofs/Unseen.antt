@@ -91,7 +91,7 @@ pub unseen_by : (w x y : WorldState) → Unseen w x → Unseen x y → Unseen w 
 unseen_by w x y first second =
     record { same = second.same ∙ first.same; client = λ is. second.client (first.client is); host = λ is. second.host (first.host is) }
 
-option_unseen : {X : Type 0} (w : WorldState) (f : X → WorldState) (o : Option X) → ((x : X) → Unseen w (f x)) → Unseen w (option_map_or f o w)
+pub option_unseen : {X : Type 0} (w : WorldState) (f : X → WorldState) (o : Option X) → ((x : X) → Unseen w (f x)) → Unseen w (option_map_or f o w)
 option_unseen w f None each = unseen_none w
 option_unseen w f (Some x) each = each x
 
