@@ -155,13 +155,13 @@ module _ (ids : List ℕ) (lines : List NumberedLine) where
       let u = all_refreshed (map (λ (e : ℕ × PrinterNames). e.0) w.printers) w in
       let channel = w.channels + 1 in
       let all : seen (connects w) ≡ record (seen w) { channel = Some channel; channels = channel; acts = control.begun channel ∷ filter_map act_by w.deeds } =
-          λ i. record {
-            channel = begun_channel (w.side).table channel none i;
-            channels = channel;
-            idle = (u.same i).idle;
-            marks = (u.same i).marks;
-            acts = control.begun channel ∷ (u.same i).acts;
-          } in
+      λ i. record {
+        channel = begun_channel (w.side).table channel none i;
+        channels = channel;
+        idle = (u.same i).idle;
+        marks = (u.same i).marks;
+        acts = control.begun channel ∷ (u.same i).acts;
+      } in
       let own : channel ≡ c.channels + 1 = ap (λ (k : ℕ). k + 1) sees.channels in
       subst (SeenAs (connected c) ls) (sym all) (record {
         channel = ap (λ (k : ℕ). Some k) own;

@@ -4,3 +4,4 @@ pub mod Unseen
 pub mod Marks
 pub mod Numbers
 pub mod Acting
+pub mod Leading

@@ -28,7 +28,6 @@ use Rattle.rd_pending.proofs.Neutral.{channel_kept}
 use Rattle.rd_pending.specs.History as call
 use Rattle.rd_pending.specs.Table as table
 use Rattle.rd_pending.specs.Table.{TableState}
-
 use Rattle.rd_pending.specs.declared.calls.LiveNo.{LiveNo}
 use Rattle.rd_pending.specs.declared.calls.SubmitNo.{SubmitNo}
 use Rattle.rd_pending.specs.declared.calls.TakeNo.{TakeNo}
