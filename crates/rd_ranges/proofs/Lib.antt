@@ -4,3 +4,4 @@ pub mod JournalLemmas
 pub mod SpelledLemmas
 pub mod ReadLemmas
 pub mod SessionLemmas
+pub mod RowLemmas
