@@ -5,3 +5,4 @@ pub mod SpelledLemmas
 pub mod ReadLemmas
 pub mod SessionLemmas
 pub mod RowLemmas
+pub mod ScriptLemmas

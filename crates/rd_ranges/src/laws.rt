@@ -1,6 +1,6 @@
 //! What holds of every reply of a session's devices, as contracts of functions that do nothing.
 
-ghost use Rattle.std.specs.Prelude.{◌&&◌, ℕ, ◌≡◌, ◌==◌, ◌<◌, ◌^◌, Bool, false, not, List, [], Ok, Some, Contains, reverse};
+ghost use Rattle.std.specs.Prelude.{◌&&◌, ℕ, ◌≡◌, ◌==◌, ◌<◌, ◌^◌, Bool, false, not, List, [], Ok, Some, Contains, map, reverse};
 ghost use Rattle.std.specs.List.{AllByRecursion};
 ghost use Rattle.rd_base.specs.Layout.{AreBytes, met};
 ghost use Rattle.rd_base.specs.Position.{Position, at_start};
@@ -15,7 +15,11 @@ ghost use Rattle.rd_drive.specs.Replies.{replies_by};
 ghost use Rattle.rd_drive.specs.Stepped.{ran_step};
 ghost use Rattle.rd_drive.specs.declared.plan.Job.{Job};
 ghost use Rattle.rd_irp.specs.declared.op.Op.{Op};
+ghost use Rattle.rd_script.specs.declared.keyword.Mode.{Mode};
 ghost use Rattle.rd_script.specs.declared.line.Line.{Line};
+ghost use Rattle.rd_script.specs.declared.line.NumberedLine.{NumberedLine};
+ghost use Rattle.rd_script.specs.declared.script.Script.{Script};
+ghost use Rattle.rd_script.specs.Script.{script_of};
 ghost use Rattle.rd_irp.specs.Completion.{completion_body};
 ghost use Rattle.rd_irp.specs.Written.{IsBodyInRange};
 ghost use Rattle.rd_irp.specs.declared.completion.Body.{Body};
@@ -47,6 +51,11 @@ pub fn devices_stay_fit()
     ensures runs { (s : SessionDevice) (job : Job) (moment : ℕ) (starved : Bool) → IsFitDevice s → RunsAs s job moment (starved && not (is_close job.op)) }
     ensures declared { (lines : List Line) → AllByRecursion NamesShort lines → AreFreshDevices (declared_devices lines) }
     ensures cuts { (s : SessionDevice) → IsFitDevice s → CutsOff device_cuts device_parked s (device_cut s).state }
+{}
+
+/// So the devices of a script that was read are fit, and nothing waits in them.
+pub fn scripts_declare_fresh_devices()
+    ensures { (mode : Mode) (text : List ℕ) (script : Script) → script_of mode text ≡ Ok script → AreFreshDevices (declared_devices (map (λ (l : NumberedLine). l.line) script.lines)) }
 {}
 
 /// Each reply that a device's journal gives completes its key's request: it has the layout of that one, isn't too long, and its numbers have room. So it is

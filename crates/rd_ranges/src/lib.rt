@@ -7,4 +7,7 @@
 
 mod laws;
 
-pub use laws::{devices_stay_fit, replies_have_room};
+pub use laws::{
+    completions_complete, devices_stay_fit, journals_reply_fully, replies_have_room,
+    scripts_declare_fresh_devices, session_replies_complete, what_is_read_has_room,
+};
