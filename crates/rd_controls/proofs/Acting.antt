@@ -1,17 +1,16 @@
 -- What is seen of a control line's event, and what follows from it.
-use Rattle.std.proofs.Common.{◌≡◌, ◌∙◌, refl, sym, ap, subst, ℕ, ◌+◌, Bool, true, false, List, [], ◌∷◌, ◌++◌, map, fold, reverse, Some, None, Option, Result, append-nil, arith}
+use Rattle.std.proofs.Common.{◌≡◌, ◌∙◌, refl, sym, ap, subst, ℕ, ◌+◌, Bool, true, false, List, [], ◌∷◌, ◌++◌, map, fold, reverse, Some, None, Option, append-nil}
 use Rattle.std.specs.Prelude.{filter, filter_map, if◌then◌else◌, is_some, not}
 use Rattle.std.specs.Map.{lookup}
 use Rattle.std.specs.Ordering.{nat_cmp}
 use Rattle.std.specs.BTreeMap.{is_at}
-use Rattle.std.specs.Option.{IfSome, option_map_or}
+use Rattle.std.specs.Option.{IfSome}
 use Rattle.std.proofs.lemmas.List.Elements.{filter-append}
-use Rattle.rd_base.specs.declared.journal.Key.{Key}
 use Rattle.rd_client.specs.Core as client
 use Rattle.rd_client.specs.Core.{device_marked}
 use Rattle.rd_controls.proofs.Marks.{added_marks, marked_by, refresh_marks, removed_marks}
 use Rattle.rd_controls.proofs.Numbers.{Rise, numbers, reverse_cons, rise_with, rise_without}
-use Rattle.rd_controls.proofs.Unseen.{Seen, Unseen, all_take_unseen, announced, mark, option_unseen, seen, stationed, tries_unseen, unseen_by, unseen_none}
+use Rattle.rd_controls.proofs.Unseen.{Seen, Unseen, all_take_unseen, announced, option_unseen, seen, stationed, tries_unseen, unseen_by, unseen_none}
 use Rattle.rd_pending.specs.Table as table
 use Rattle.rd_pending.specs.Table.{TableState}
 use Rattle.rd_printer.specs.declared.notice.Notice.{Notice}
@@ -23,10 +22,9 @@ use Rattle.rd_world.specs.Control as control
 use Rattle.rd_world.specs.Control.{Control, added_at, connected, dropped_at, idled, noticed_at, removed_at}
 use Rattle.rd_world.specs.Devices.{PrinterNames, device_cut, printer_data}
 use Rattle.rd_world.specs.Events.{adds_device, connects, cutting, dropping, drops, refreshing, removes_device, removing, telling_of}
-use Rattle.rd_world.specs.Hearing.{all_take, tries_kept, with_client}
-use Rattle.rd_world.specs.Host.{begins_on}
+use Rattle.rd_world.specs.Hearing.{with_client}
 use Rattle.rd_world.specs.Run.{idles}
-use Rattle.rd_world.specs.Talk.{adds, host_begins, host_ends, removes, tells}
+use Rattle.rd_world.specs.Talk.{adds, removes}
 use Rattle.rd_world.specs.World.{WorldState, station_at, with_deed, with_station}
 use Rattle.rd_world.specs.declared.device.SessionDevice.{SessionDevice}
 

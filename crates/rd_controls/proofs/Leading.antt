@@ -1,33 +1,31 @@
 -- Along a run the control lines do what follows from the lines.
-use Rattle.std.proofs.Common.{◌≡◌, ◌⊎◌, ◌∙◌, refl, sym, ap, subst, inl, inr, ℕ, ◌+◌, ◌≤◌, ◌==◌, ◌&&◌, Bool, true, false, List, [], ◌∷◌, ◌++◌, length, map, fold, reverse, Some, None, Option, arith}
-use Rattle.std.specs.Prelude.{filter, filter_map, if◌then◌else◌, is_some, not}
+use Rattle.std.proofs.Common.{◌≡◌, ◌∙◌, refl, sym, ap, subst, inl, inr, ℕ, ◌+◌, ◌≤◌, ◌&&◌, Bool, true, false, List, [], ◌∷◌, length, map, fold, Some, None, Option, arith}
+use Rattle.std.specs.Prelude.{if◌then◌else◌, is_some, not}
 use Rattle.std.specs.List.{AllByRecursion}
 use Rattle.std.specs.Option.{IfSome, option_and_then, option_map_or}
-use Rattle.std.specs.List.Sorted.{IsStrictlyIncreasing}
 use Rattle.std.proofs.lemmas.Map.Keys.{IsStrictlyIncreasing-from_sorted, sorted_from_strictly_increasing}
 use Rattle.std.proofs.lemmas.List.{append-nil}
 use Rattle.rd_base.specs.declared.journal.Key.{Key}
 use Rattle.rd_client.specs.Core as client
 use Rattle.rd_controls.proofs.Acting.{SeenAs, added_as, added_unseen, begun_as, dropped_as, errand_idled, idled_as, passed, refreshed_unseen, removed_as, removed_unseen, told_as}
-use Rattle.rd_controls.proofs.Marks.{first_marks, gone_marks, known_marks, marked_by}
+use Rattle.rd_controls.proofs.Marks.{first_marks, gone_marks, known_marks}
 use Rattle.rd_controls.proofs.Numbers.{Rise, an_errand, no_errand, numbers, picked_reverse}
-use Rattle.rd_controls.proofs.Unseen.{Seen, Unseen, client_ready, event_unseen, host_ready, seen}
+use Rattle.rd_controls.proofs.Unseen.{client_ready, event_unseen, host_ready, seen}
 use Rattle.rd_controls.proofs.Walking.{does_keeps, rounds_keep, settled_keeps}
 use Rattle.rd_controls.specs.Controls.{AreOrdered, AreReady, DoAsSaid, NamesKnown, OpensWhole, control_with}
 use Rattle.rd_printer.specs.declared.notice.Notice.{Notice}
-use Rattle.rd_runs.specs.Moves.{IsOfLines, MayPass, Move, Reached, ReachedWithin, draws, event_weight, happens, idle, moved, queues, weight}
+use Rattle.rd_runs.specs.Moves.{IsOfLines, MayPass, Move, ReachedWithin, draws, event_weight, happens, idle, moved, queues, weight}
 use Rattle.rd_script.specs.declared.line.Errand.{Errand}
 use Rattle.rd_script.specs.declared.line.Line.{Line}
 use Rattle.rd_script.specs.declared.line.Line.TheVariants as line
 use Rattle.rd_script.specs.declared.line.NumberedLine.{NumberedLine}
 use Rattle.rd_world.proofs.PlayingLemmas.{may_connect}
 use Rattle.rd_world.specs.Acts.{act_by, is_errand, is_errand_at}
-use Rattle.rd_world.specs.Control as control
-use Rattle.rd_world.specs.Control.{Control, added_at, connected, control_of, controlled, dropped_at, first_control, idled, is_among, noticed_at, removed_at, where_open}
-use Rattle.rd_world.specs.Devices.{Declared, announce_of}
+use Rattle.rd_world.specs.Control.{Control, added_at, connected, control_of, controlled, dropped_at, idled, is_among, noticed_at, removed_at, where_open}
+use Rattle.rd_world.specs.Devices.{Declared}
 use Rattle.rd_world.specs.Events as event
 use Rattle.rd_world.specs.Events.{Event, act, is_channel_open, is_enabled}
-use Rattle.rd_world.specs.Run.{Most, applications_of, asked_by, by_event, connects_on, controls, declared_devices, does, drawing, ends_session, event_of, idles, is_quiet, new_world, notice_of, plays, plays_line, queueing, rounds, run_of, setting, settled, some_left, world_of}
+use Rattle.rd_world.specs.Run.{Most, applications_of, asked_by, by_event, connects_on, controls, declared_devices, does, drawing, ends_session, event_of, idles, is_quiet, new_world, notice_of, plays, plays_line, queueing, run_of, setting, settled, some_left, world_of}
 use Rattle.rd_world.specs.Talk.{Has}
 use Rattle.rd_world.specs.World.{Asked, WorldState}
 

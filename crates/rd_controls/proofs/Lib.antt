@@ -5,3 +5,4 @@ pub mod Marks
 pub mod Numbers
 pub mod Acting
 pub mod Leading
+pub mod ScriptLemmas

@@ -1,5 +1,5 @@
 -- The devices of a client by their ids, with whether they are gone, and of a control the same.
-use Rattle.std.proofs.Common.{◌≡◌, ◌∙◌, refl, sym, ap, subst, ℕ, ◌==◌, ◌&&◌, ◌||◌, Bool, true, false, not, replicate, List, [], ◌∷◌, ◌++◌, map, Some, None, Option, arith}
+use Rattle.std.proofs.Common.{◌≡◌, ◌∙◌, refl, sym, ap, ℕ, ◌==◌, ◌&&◌, ◌||◌, Bool, true, false, not, replicate, List, [], ◌∷◌, ◌++◌, map, Some, None, Option, arith}
 use Rattle.std.specs.Prelude.{filter, fold, if◌then◌else◌}
 use Rattle.std.specs.List.{AllByRecursion, list_any}
 use Rattle.std.specs.BTreeMap.{insert_entry}

@@ -1,5 +1,5 @@
 -- An end that is ready stays so, whatever it hears and sends.
-use Rattle.std.proofs.Common.{◌≡◌, refl, ap, ℕ, Bool, true, false, List, [], ◌∷◌, Some, None, Option, Result, Ok, Err}
+use Rattle.std.proofs.Common.{◌≡◌, refl, ℕ, Bool, true, false, List, Some, None, Option, Result, Ok, Err}
 use Rattle.std.specs.Prelude.{if◌then◌else◌}
 use Rattle.std.specs.Option.{IfSome}
 use Rattle.rd_base.specs.Header.{any_header}
@@ -10,11 +10,9 @@ use Rattle.rd_base.specs.declared.packet.Packet.{Packet}
 use Rattle.rd_client.specs.Core.{ClientCoreState, HostSays, Outgoing, becomes_ready, client_hear, client_hear_made, client_opened, client_side, hear_says, listed, notices, plain, replies, requests, with_outgoing}
 use Rattle.rd_client.specs.Order.{is_client_ready}
 use Rattle.rd_core.specs.Core.{CoreState}
-use Rattle.rd_core.specs.Hearing.{Meaning, Side, by_row, from_header, from_hello, from_known, from_own, from_packet, hear, hear_said, hear_unless, is_hello, is_read_in, nothing, opens, said, says, wrong}
+use Rattle.rd_core.specs.Hearing.{Meaning, Side, by_row, from_header, from_hello, from_own, from_packet, hear, hear_said, hear_unless, is_hello, is_read_in, nothing, opens, said, says, wrong}
 use Rattle.rd_devices.specs.DeviceList.{list_bytes}
-use Rattle.rd_hello.specs.ClientTable.{client_step}
 use Rattle.rd_hello.specs.Hello.{hello}
-use Rattle.rd_hello.specs.HostTable.{host_step}
 use Rattle.rd_hello.specs.Rows.{OrderRow}
 use Rattle.rd_hello.specs.declared.client.ClientState.{ClientState}
 use Rattle.rd_hello.specs.declared.client.ClientState.TheVariants as client_state

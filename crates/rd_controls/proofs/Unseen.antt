@@ -1,5 +1,5 @@
 -- What happens by itself begins and ends no channel, removes and adds no device, tells of no printer, and leaves an end that is ready so.
-use Rattle.std.proofs.Common.{◌≡◌, ◌∙◌, refl, sym, ap, subst, ℕ, zero, suc, ◌+◌, ◌==◌, Bool, true, false, List, [], ◌∷◌, ◌++◌, length, map, reverse, drop, fold, Some, None, Option, Result, Ok, Err, arith}
+use Rattle.std.proofs.Common.{◌≡◌, ◌∙◌, refl, sym, ap, subst, ℕ, zero, suc, ◌==◌, Bool, true, false, List, [], ◌∷◌, ◌++◌, length, map, reverse, drop, fold, Some, None, Option, Result, Ok, Err, arith}
 use Rattle.std.specs.Prelude.{filter_map, if◌then◌else◌, is_some}
 use Rattle.std.specs.List.{cons_option}
 use Rattle.std.specs.Option.{option_and_then, option_map_or}
@@ -49,8 +49,8 @@ use Rattle.rd_world.specs.Events as event
 use Rattle.rd_world.specs.Events.{Event, act, applies_at, applies_held, asks, client_sends_first, collects_from, comes_of_asking, completion_message, deed_on, issues_next, takes_job_from, target_of, with_hand}
 use Rattle.rd_world.specs.Hearing.{after_opening, all_take, announcing, client_handles, client_handles_all, client_handles_first, client_hears, ends_line, heard_by_client, host_handles, host_handles_first, host_hears, next_asked, put_at, put_by, putting, refused_put, takes_awaited, takes_from, takes_outcome, tries, tries_kept, with_client, with_outcome}
 use Rattle.rd_world.specs.Host.{HostSide, admits, forgets, hears, host_heard, lived, next_message, sent_from, side_sends}
-use Rattle.rd_world.specs.Talk.{Deed, client_reads, client_writes, completes, host_reads, stores, submits, takes}
-use Rattle.rd_world.specs.World.{ApplicationState, Asked, Kept, WayState, WorldState, application_at, client_sends, handling, having_read, host_sends, most_messages, station_at, stored_beyond, with_application, with_deed, with_station, with_table}
+use Rattle.rd_world.specs.Talk.{Deed, client_reads, client_writes, completes, stores, takes}
+use Rattle.rd_world.specs.World.{ApplicationState, Asked, Kept, WayState, WorldState, application_at, client_sends, handling, having_read, host_sends, most_messages, station_at, with_application, with_deed, with_station, with_table}
 use Rattle.rd_world.specs.declared.device.SessionDevice.{SessionDevice}
 use Rattle.rd_pending.specs.declared.calls.Handle.{Handle}
 

@@ -1,5 +1,5 @@
 -- What control lines do in a run, and what that takes of its lines and of the opening of a channel.
-use Rattle.std.specs.Prelude.{◌≡◌, ℕ, Bool, true, not, List, [], filter, filter_map, map, reverse, Option, IfSome, Some}
+use Rattle.std.specs.Prelude.{◌≡◌, ℕ, Bool, true, not, List, filter, filter_map, map, reverse, Option, IfSome, Some}
 use Rattle.std.specs.List.{AllByRecursion}
 use Rattle.std.specs.List.Sorted.{IsStrictlyIncreasing}
 use Rattle.std.specs.Option.{option_map_or}

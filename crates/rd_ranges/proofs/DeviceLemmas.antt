@@ -1,39 +1,27 @@
 -- What a session's devices keep, and what their replies have, whatever they are asked.
-use Rattle.std.proofs.Common.{◌≡◌, ◌∙◌, refl, sym, ap, subst, ℕ, ◌≤◌, ◌<◌, ◌&&◌, Bool, true, false, cond, List, [], ◌∷◌, ◌++◌, length, Some, None, Option, lit<, arith}
-use Rattle.std.specs.Prelude.{◌==◌, fold, if◌then◌else◌, not, IsTrue, IsFalse}
-use Rattle.std.specs.BTreeMap.{insert_entry}
-use Rattle.std.specs.List.{AllByRecursion}
-use Rattle.std.specs.Ordering.{match_ordering, nat_cmp}
-use Rattle.std.specs.declared.cmp.Ordering.{Ordering}
-use Rattle.std.specs.declared.cmp.Ordering.TheVariants.{Less, Equal, Greater}
+use Rattle.std.proofs.Common.{◌≡◌, refl, sym, ap, subst, ℕ, ◌≤◌, ◌&&◌, Bool, true, false, [], length, lit<, arith}
+use Rattle.std.specs.Prelude.{not}
 use Rattle.std.proofs.lemmas.List.{append-nil, length-map}
 use Rattle.rd_base.specs.declared.journal.Key.{Key}
 use Rattle.rd_base.specs.Statuses.{no_memory}
-use Rattle.rd_dirinfo.specs.Paths.{Names, is_same_path, is_within_limits, last_name, parent}
-use Rattle.rd_dirinfo.specs.declared.naming.Naming.{Naming}
 use Rattle.rd_drive.proofs.AnswerLemmas.{fault_answers}
 use Rattle.rd_drive.proofs.ComesLemmas.{none_ended}
 use Rattle.rd_drive.proofs.BoundedLemmas.{bounded_devices, cut_ranged, step_ranged}
 use Rattle.rd_drive.proofs.OperationLemmas.{outcome_answered}
 use Rattle.rd_drive.specs.Answered.{IsAnsweredBy, parked_of}
-use Rattle.rd_drive.specs.Bounded.{IsBounded}
-use Rattle.rd_drive.specs.Device.{IsAnswerTo, Parked, Parks, is_starved}
-use Rattle.rd_drive.specs.DriveState.{DriveState}
-use Rattle.rd_drive.specs.DriveStep.{drive_cut, drive_step, outcome_of}
+use Rattle.rd_drive.specs.Device.{IsAnswerTo, Parks, is_starved}
+use Rattle.rd_drive.specs.DriveStep.{outcome_of}
 use Rattle.rd_drive.specs.Outcome.{fault}
-use Rattle.rd_drive.specs.Planned.{Planned}
-use Rattle.rd_drive.specs.Promise.{Applies, Cancels, CutsOff, IsDevice}
+use Rattle.rd_drive.specs.Promise.{Cancels, CutsOff, IsDevice}
 use Rattle.rd_drive.specs.Ranged.{AreEndsInRange, IsSteppedInRange, SetsFew}
-use Rattle.rd_drive.specs.Stepped.{Stepped, ran_step}
+use Rattle.rd_drive.specs.Stepped.{ran_step}
 use Rattle.rd_drive.specs.declared.plan.Job.{Job}
 use Rattle.rd_drive.specs.declared.step.Step.{Step}
 use Rattle.rd_drive.specs.declared.step.Step.TheVariants as step
 use Rattle.rd_irp.specs.declared.op.Op.{Op}
-use Rattle.rd_irp.specs.declared.op.Op.TheVariants as op
 use Rattle.rd_printer.proofs.PrinterLemmas.{is_printed, printed_range, printers_step}
-use Rattle.rd_printer.specs.Printer.{printer_step}
 use Rattle.rd_ranges.specs.Ranges.{IsFitDevice, RunsAs}
-use Rattle.rd_world.specs.Devices.{device_cut, device_cuts, device_parked, device_runs, device_step}
+use Rattle.rd_world.specs.Devices.{device_cut, device_cuts, device_parked, device_step}
 use Rattle.rd_world.specs.Events.{is_close}
 use Rattle.rd_world.specs.declared.device.SessionDevice.{SessionDevice}
 use Rattle.rd_world.specs.declared.device.SessionDevice.TheVariants as session

@@ -1,7 +1,6 @@
 -- Each reply that a journal of a fit device gives completes its key's request.
-use Rattle.std.proofs.Common.{◌≡◌, ◌⊎◌, ◌∙◌, refl, sym, ap, subst, inl, inr, ℕ, Bool, true, false, List, [], ◌∷◌, ◌++◌, map, lit<}
+use Rattle.std.proofs.Common.{◌≡◌, ◌∙◌, refl, sym, ap, subst, inl, inr, ℕ, Bool, true, false, List, [], ◌∷◌, map, lit<}
 use Rattle.std.specs.List.{AllByRecursion}
-use Rattle.rd_base.specs.declared.journal.Cause.{Cause}
 use Rattle.rd_base.specs.declared.journal.Item.{Item}
 use Rattle.rd_base.specs.declared.journal.Item.TheVariants.{Came, Cancelled, Cut, Ran, Sent}
 use Rattle.rd_base.specs.declared.journal.Key.{Key}
@@ -11,15 +10,13 @@ use Rattle.rd_drive.proofs.AnswerLemmas.{fault_answers}
 use Rattle.rd_drive.specs.Device.{AreEnded, IsAnswerTo, Parked, Parks, parked_by}
 use Rattle.rd_drive.specs.Promise.{cut_end}
 use Rattle.rd_drive.specs.Ranged.{AreEndsInRange, IsAnswerInRange}
-use Rattle.rd_drive.specs.Replies.{end_reply, own_reply, replies_at, replies_by, run_of, state_after}
+use Rattle.rd_drive.specs.Replies.{end_reply, own_reply, replies_at, replies_by, state_after}
 use Rattle.rd_drive.specs.declared.plan.Job.{Job}
 use Rattle.rd_drive.specs.declared.step.End.{End}
 use Rattle.rd_drive.specs.declared.step.Step.{Step}
 use Rattle.rd_drive.specs.declared.step.Step.TheVariants as step
-use Rattle.rd_irp.specs.Fits.{BodyFits, IsSendable, kind_of}
+use Rattle.rd_irp.specs.Fits.{BodyFits, kind_of}
 use Rattle.rd_irp.specs.declared.completion.Kind.{Kind}
-use Rattle.rd_irp.specs.declared.completion.Reply.{Reply}
-use Rattle.rd_irp.specs.declared.op.Op.{Op}
 use Rattle.rd_irp.specs.declared.request.Request.{Request}
 use Rattle.rd_ranges.proofs.DeviceLemmas.{any_answer, any_devices, any_in_range}
 use Rattle.rd_ranges.specs.Ranges.{AreFullReplies, AreParkedAs, IsFitDevice, IsFullReply, RunsFew}

@@ -1,5 +1,5 @@
 -- What is read of bytes has numbers with room in their fields.
-use Rattle.std.proofs.Common.{◌≡◌, ◌∙◌, refl, sym, ap, subst, ℕ, ◌<◌, ◌^◌, Bool, true, false, List, [], ◌∷◌, ◌++◌, length, Some, None, Option, Result, Ok, Err}
+use Rattle.std.proofs.Common.{◌≡◌, ◌∙◌, refl, sym, ap, subst, ℕ, ◌<◌, ◌^◌, Bool, true, false, List, length, Some, None, Option, Result, Ok, Err}
 use Rattle.std.specs.Prelude.{◌==◌}
 use Rattle.rd_base.proofs.LayoutLemmas.{found}
 use Rattle.rd_base.proofs.NumberLemmas.{IsBytes}
@@ -9,21 +9,20 @@ use Rattle.rd_base.specs.declared.bad.Bad.{Bad}
 use Rattle.rd_base.specs.declared.status.Status.{Status}
 use Rattle.rd_client.specs.Core.{op_read, request_with_head}
 use Rattle.rd_drive.specs.Ranged.{SetsFew}
-use Rattle.rd_irp.specs.Completion.{completion_body, completion_head, success_body}
+use Rattle.rd_irp.specs.Completion.{completion_body, success_body}
 use Rattle.rd_irp.specs.Op.{class_and_bytes, close_body, control_body, create_body, directory_body, lock_body, notify_body, op_body, query_dir_body, query_file_body, query_volume_body, read_body, set_file_body, set_volume_body, write_body}
 use Rattle.rd_irp.specs.Request.{body_after, request_head}
 use Rattle.rd_irp.specs.Written.{IsBodyInRange}
 use Rattle.rd_irp.specs.declared.completion.Body.{Body}
 use Rattle.rd_irp.specs.declared.completion.Body.TheVariants as body
-use Rattle.rd_irp.specs.declared.completion.Head.{Head}
 use Rattle.rd_irp.specs.declared.completion.Kind.{Kind}
 use Rattle.rd_irp.specs.declared.completion.Kind.TheVariants as kind
 use Rattle.rd_irp.specs.declared.op.Op.{Op}
-use Rattle.rd_irp.specs.declared.op.Op.TheVariants.{Close, Control, Create, Lock, Malformed, Notify, QueryDir, QueryFile, QueryVolume, Read, SetFile, SetVolume, Unknown, Write}
+use Rattle.rd_irp.specs.declared.op.Op.TheVariants.{Close, Control, Create, Lock, Notify, QueryDir, QueryFile, QueryVolume, Read, Unknown, Write}
 use Rattle.rd_irp.specs.declared.request.Request.{Request}
 use Rattle.rd_irp.specs.declared.request.RequestHead.{RequestHead}
 use Rattle.rd_ranges.specs.Ranges.{HasRoom}
-use Rattle.rd_world.specs.Talk.{head_in, request_in}
+use Rattle.rd_world.specs.Talk.{request_in}
 
 -- ---- what each value of a layout has
 

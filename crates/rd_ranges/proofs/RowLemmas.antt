@@ -1,19 +1,15 @@
 -- What a line of a script that was read names, by what was said before it.
-use Rattle.std.proofs.Common.{◌≡◌, refl, ap, subst, ℕ, ◌≤◌, ◌&&◌, Bool, true, false, List, [], ◌∷◌, length, Option, Some, None, Result, Ok, Err, arith}
-use Rattle.std.specs.Prelude.{not}
+use Rattle.std.proofs.Common.{◌≡◌, refl, ap, subst, ℕ, ◌≤◌, Bool, true, false, List, length, Option, Some, None, Ok, arith}
 use Rattle.std.proofs.lemmas.Bool.{and_parts, leb-true}
-use Rattle.rd_base.specs.Layout.{and_then}
 use Rattle.rd_dirinfo.proofs.PathLemmas.{path_is_within}
 use Rattle.rd_dirinfo.specs.Paths.{Names, is_within_limits, names_of, parsed_path, path_fault}
-use Rattle.rd_ranges.specs.Ranges.{NamesShort}
 use Rattle.rd_script.proofs.RowLemmas.{ok_same, then_ok}
-use Rattle.rd_script.specs.Keywords.{acts, in_client, keywords, notice_words, stands_in, verbs}
-use Rattle.rd_script.specs.Numbers.{flag_word, number32_word, number64_word, number_word}
+use Rattle.rd_script.specs.Keywords.{in_client, stands_in}
 use Rattle.rd_script.specs.Row.{Row, done, given, met_words, test, words_of, ◌>>=◌}
 use Rattle.rd_script.specs.Rows.{act_row, add_row, application_row, at_add, at_remove, at_row, cache_add_row, cache_delete_row, cache_rename_row, cache_row, cache_update_row, channels_row, clock_row, control_line_row, control_row, create_numbers, create_row, devices_row, dir_row, do_row, drive_row, drivefold_row, file_row, fill_row, folder_row, form_row, keyword_row, keyword_word, known_device, line_row, lock_row, new_path, notice_row, notify_row, open_row, piece_row, printer_row, query_row, read_row, real_row, remove_row, seed_row, set_row, setvolume_row, verb_row, volume_row, workers_row, write_row}
 use Rattle.rd_script.specs.Said.{Said, is_known}
 use Rattle.rd_script.specs.Script.{is_application, line_of}
-use Rattle.rd_script.specs.Texts.{is_application_name, name_word}
+use Rattle.rd_script.specs.Texts.{name_word}
 use Rattle.rd_script.specs.declared.keyword.Act.{Act}
 use Rattle.rd_script.specs.declared.keyword.Act.TheVariants as act
 use Rattle.rd_script.specs.declared.keyword.Keyword.{Keyword}

@@ -1,5 +1,5 @@
 -- The replies of a session's devices, and what comes of its requests.
-use Rattle.std.proofs.Common.{◌≡◌, refl, sym, subst, ℕ, ◌<◌, ◌≤◌, arith, List, [], ◌∷◌, ◌++◌, length, Some, None, Option}
+use Rattle.std.proofs.Common.{◌≡◌, refl, ℕ, arith, List, [], Some, None, Option}
 use Rattle.std.specs.Prelude.{Contains, reverse}
 use Rattle.std.specs.BTreeMap.{is_at}
 use Rattle.std.specs.List.{AllByRecursion}

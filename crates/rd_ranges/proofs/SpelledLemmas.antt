@@ -1,9 +1,8 @@
 -- A completion spells its reply.
-use Rattle.std.proofs.Common.{◌≡◌, refl, sym, ap, subst, ℕ, ◌+◌, ◌*◌, ◌≤◌, ◌<◌, ◌^◌, Bool, true, false, List, [], ◌∷◌, ◌++◌, drop, length, length-append, arith}
+use Rattle.std.proofs.Common.{◌≡◌, refl, sym, ap, subst, ℕ, ◌+◌, ◌≤◌, ◌<◌, ◌^◌, false, List, ◌++◌, drop, length, length-append, arith}
 use Rattle.std.specs.Prelude.{◌==◌}
 use Rattle.rd_base.specs.declared.status.Status.{Status}
 use Rattle.rd_chunk.specs.Carrier.{IsMessage}
-use Rattle.rd_chunk.specs.Sizes.{max_message}
 use Rattle.rd_drive.proofs.AnswerLemmas.{fault_answers}
 use Rattle.rd_drive.specs.Outcome.{fault}
 use Rattle.rd_irp.proofs.WrittenLemmas.{body_after_head, body_spelled, head_spelled, length-body_bytes}
