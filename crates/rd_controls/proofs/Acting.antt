@@ -98,7 +98,7 @@ module _ (ids : List ℕ) (lines : List NumberedLine) where
 
   -- a channel ends
 
-  all_dropped : (devices : List ℕ) (w : WorldState) → Unseen w (fold dropping w devices)
+  pub all_dropped : (devices : List ℕ) (w : WorldState) → Unseen w (fold dropping w devices)
   all_dropped [] w = unseen_none w
   all_dropped (device ∷ devices) w = unseen_by w (dropping w device) _ one (all_dropped devices (dropping w device))
     where
@@ -132,11 +132,12 @@ module _ (ids : List ℕ) (lines : List NumberedLine) where
       option_unseen w (λ (names : PrinterNames). with_client w (client.refresh w.client device (printer_data w.cache names))) (lookup (is_at (nat_cmp device)) w.printers)
       (λ names. record {
         same = ap (λ (ms : List (ℕ × Bool)). record (seen w) { marks = ms }) (refresh_marks w.client device (printer_data w.cache names));
+        grows = ([], refl);
         client = λ is. is;
         host = λ is. is;
       })
 
-  all_refreshed : (devices : List ℕ) (w : WorldState) → Unseen w (fold refreshing w devices)
+  pub all_refreshed : (devices : List ℕ) (w : WorldState) → Unseen w (fold refreshing w devices)
   all_refreshed [] w = unseen_none w
   all_refreshed (device ∷ devices) w = unseen_by w (refreshing w device) _ (refreshed_unseen w device) (all_refreshed devices (refreshing w device))
 

@@ -6,3 +6,4 @@ pub mod Numbers
 pub mod Acting
 pub mod Leading
 pub mod ScriptLemmas
+pub mod Resting

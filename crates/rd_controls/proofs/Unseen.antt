@@ -1,5 +1,5 @@
 -- What happens by itself begins and ends no channel, removes and adds no device, tells of no printer, and leaves an end that is ready so.
-use Rattle.std.proofs.Common.{◌≡◌, ◌∙◌, refl, sym, ap, subst, ℕ, zero, suc, ◌==◌, Bool, true, false, List, [], ◌∷◌, ◌++◌, length, map, reverse, drop, fold, Some, None, Option, Result, Ok, Err, arith}
+use Rattle.std.proofs.Common.{◌≡◌, ◌∙◌, refl, sym, ap, subst, ℕ, zero, suc, ◌==◌, Bool, true, false, List, [], ◌∷◌, ◌++◌, length, map, reverse, drop, fold, Some, None, Option, Result, Ok, Err, append_assoc, arith}
 use Rattle.std.specs.Prelude.{filter_map, if◌then◌else◌, is_some}
 use Rattle.std.specs.List.{cons_option}
 use Rattle.std.specs.Option.{option_and_then, option_map_or}
@@ -49,8 +49,8 @@ use Rattle.rd_world.specs.Events as event
 use Rattle.rd_world.specs.Events.{Event, act, applies_at, applies_held, asks, client_sends_first, collects_from, comes_of_asking, completion_message, deed_on, issues_next, takes_job_from, target_of, with_hand}
 use Rattle.rd_world.specs.Hearing.{after_opening, all_take, announcing, client_handles, client_handles_all, client_handles_first, client_hears, ends_line, heard_by_client, host_handles, host_handles_first, host_hears, next_asked, put_at, put_by, putting, refused_put, takes_awaited, takes_from, takes_outcome, tries, tries_kept, with_client, with_outcome}
 use Rattle.rd_world.specs.Host.{HostSide, admits, forgets, hears, host_heard, lived, next_message, sent_from, side_sends}
-use Rattle.rd_world.specs.Talk.{Deed, client_reads, client_writes, completes, stores, takes}
-use Rattle.rd_world.specs.World.{ApplicationState, Asked, Kept, WayState, WorldState, application_at, client_sends, handling, having_read, host_sends, most_messages, station_at, with_application, with_deed, with_station, with_table}
+use Rattle.rd_world.specs.Talk.{Deed, EndsWith, client_reads, client_writes, completes, host_reads, host_writes, stores, submits, takes}
+use Rattle.rd_world.specs.World.{ApplicationState, Asked, Kept, WayState, WorldState, application_at, client_sends, handling, having_read, host_sends, most_messages, station_at, stored_beyond, with_application, with_deed, with_station, with_table}
 use Rattle.rd_world.specs.declared.device.SessionDevice.{SessionDevice}
 use Rattle.rd_pending.specs.declared.calls.Handle.{Handle}
 
@@ -79,16 +79,22 @@ host_ready w = is_host_ready (((w.side).core).core).shake
 -- The second world is what is left of the first by something of which nothing is seen.
 pub record Unseen (w v : WorldState) : Type 0 where
   pub same : seen v ≡ seen w
+  pub grows : EndsWith v.deeds w.deeds
   pub client : client_ready w ≡ true → client_ready v ≡ true
   pub host : host_ready w ≡ true → host_ready v ≡ true
 
 pub unseen_none : (w : WorldState) → Unseen w w
-unseen_none w = record { same = refl; client = λ is. is; host = λ is. is }
+unseen_none w = record { same = refl; grows = ([], refl); client = λ is. is; host = λ is. is }
 
 -- by way of a third
 pub unseen_by : (w x y : WorldState) → Unseen w x → Unseen x y → Unseen w y
 unseen_by w x y first second =
-    record { same = second.same ∙ first.same; client = λ is. second.client (first.client is); host = λ is. second.host (first.host is) }
+    record {
+      same = second.same ∙ first.same;
+      grows = (second.grows.0 ++ first.grows.0, second.grows.1 ∙ ap (λ (ds : List Deed). second.grows.0 ++ ds) first.grows.1 ∙ sym (append_assoc second.grows.0 first.grows.0 w.deeds));
+      client = λ is. second.client (first.client is);
+      host = λ is. second.host (first.host is);
+    }
 
 pub option_unseen : {X : Type 0} (w : WorldState) (f : X → WorldState) (o : Option X) → ((x : X) → Unseen w (f x)) → Unseen w (option_map_or f o w)
 option_unseen w f None each = unseen_none w
@@ -105,6 +111,7 @@ stationed w device s =
     let count : ℕ = option_map_or (λ (old : StationState SessionDevice). length old.journal) (station_at w device) 0 in
     record {
       same = ap (λ (acts : List control.Act). record (seen w) { acts = acts }) (stores_silent device (reverse (drop count s.journal)) w.deeds);
+      grows = (stored_beyond count device s, refl);
       client = λ is. is;
       host = λ is. is;
     }
@@ -119,9 +126,9 @@ all_announced (a ∷ devices) w = unseen_by w (announcing w a.id) _ (announced w
 -- ---- the client hears
 
 refused_unseen : (w : WorldState) (device : ℕ) (job : Job) (cause : PutWhy) → Unseen w (refused_put w device job cause)
-refused_unseen w device job why.Gone = record { same = refl; client = λ is. is; host = λ is. is }
-refused_unseen w device job (why.Full held) = record { same = refl; client = λ is. is; host = λ is. is }
-refused_unseen w device job (why.Worn count) = record { same = refl; client = λ is. is; host = λ is. is }
+refused_unseen w device job why.Gone = record { same = refl; grows = ([], refl); client = λ is. is; host = λ is. is }
+refused_unseen w device job (why.Full held) = record { same = refl; grows = ([], refl); client = λ is. is; host = λ is. is }
+refused_unseen w device job (why.Worn count) = record { same = refl; grows = ([], refl); client = λ is. is; host = λ is. is }
 refused_unseen w device job (why.Duplicate key) = unseen_none w
 refused_unseen w device job why.Memory = unseen_none w
 
@@ -133,7 +140,7 @@ put_unseen w device job = at (station_at w device)
     by (s, Some cause) = refused_unseen w device job cause
 
     at : (o : Option (StationState SessionDevice)) → Unseen w (put_at w device job o)
-    at None = record { same = refl; client = λ is. is; host = λ is. is }
+    at None = record { same = refl; grows = ([], refl); client = λ is. is; host = λ is. is }
     at (Some s) = by (station.put s job)
 
 opening_unseen : (shake : ClientState) (w : WorldState) → Unseen w (after_opening shake w)
@@ -147,7 +154,7 @@ heard_unseen : (shake : ClientState) (w : WorldState) (r : Result Heard EndFault
 heard_unseen shake w (Err fault) = unseen_none w
 heard_unseen shake w (Ok Nothing) = opening_unseen shake w
 heard_unseen shake w (Ok (Ask device job)) = put_unseen w device job
-heard_unseen shake w (Ok (Print n)) = record { same = refl; client = λ is. is; host = λ is. is }
+heard_unseen shake w (Ok (Print n)) = record { same = refl; grows = ([], refl); client = λ is. is; host = λ is. is }
 
 client_hears_unseen : (w : WorldState) (message : List ℕ) → Unseen w (client_hears w message)
 client_hears_unseen w message =
@@ -155,7 +162,7 @@ client_hears_unseen w message =
     let x : WorldState = with_deed (with_client w heard.0) (client_reads w.channels message) in
     let kept = client_kept w.client message in
     unseen_by w x _
-    (record { same = ap (λ (ds : List ClientDevice). record (seen w) { marks = map mark ds }) kept.devices; client = kept.ready; host = λ is. is })
+    (record { same = ap (λ (ds : List ClientDevice). record (seen w) { marks = map mark ds }) kept.devices; grows = (client_reads w.channels message ∷ [], refl); client = kept.ready; host = λ is. is })
     (heard_unseen ((w.client).core).shake x heard.1)
 
 client_handles_unseen : (most : ℕ) (w : WorldState) → Unseen w (client_handles most w)
@@ -163,11 +170,11 @@ client_handles_unseen zero w = unseen_none w
 client_handles_unseen (suc most) w = by (is_some w.kept) (client_handles_unseen most)
   where
     first : ((x : WorldState) → Unseen x (client_handles most x)) → (r : WayState × Option (List ℕ)) → Unseen w (client_handles_first w r (client_handles most))
-    first next (y, None) = record { same = refl; client = λ is. is; host = λ is. is }
+    first next (y, None) = record { same = refl; grows = ([], refl); client = λ is. is; host = λ is. is }
     first next (y, Some message) =
         let x : WorldState = record w { to_client = y } in
         unseen_by w (client_hears x message) _
-        (let h = client_hears_unseen x message in record { same = h.same; client = h.client; host = h.host }) (next (client_hears x message))
+        (let h = client_hears_unseen x message in record { same = h.same; grows = h.grows; client = h.client; host = h.host }) (next (client_hears x message))
 
     by : (b : Bool) → ((x : WorldState) → Unseen x (client_handles most x)) → Unseen w (if b then w else client_handles_first w (handling w.to_client) (client_handles most))
     by true next = unseen_none w
@@ -187,7 +194,7 @@ tries_unseen w device = by w.kept
         x = putting (record w { kept = None }) k.device k.job
 
         put : Unseen w x
-        put = let p = put_unseen (record w { kept = None }) k.device k.job in record { same = p.same; client = p.client; host = p.host }
+        put = let p = put_unseen (record w { kept = None }) k.device k.job in record { same = p.same; grows = p.grows; client = p.client; host = p.host }
 
         when : (b : Bool) → Unseen w (if b then client_handles_all x else w)
         when true = unseen_by w x _ put (client_handles_all_unseen x)
@@ -209,6 +216,7 @@ client_send_unseen w = by ((w.client).core).outbox
     by [] = unseen_none w
     by (o ∷ later) = record {
       same = ap (λ (a : Option control.Act). record (seen w) { acts = cons_option a (filter_map act_by w.deeds) }) (deed_silent w.channels o);
+      grows = (deed_on w.channels o ∷ [], refl);
       client = λ is. is;
       host = λ is. is;
     }
@@ -222,14 +230,14 @@ collect_unseen w device = at (station_at w device)
         let bytes : List ℕ = completion_message device c in
         let x : WorldState = with_station w device s in
         let y : WorldState = client_sends x (completes c.key bytes) bytes in
-        unseen_by w x _ (stationed w device s) (unseen_by x y _ (record { same = refl; client = λ is. is; host = λ is. is }) (tries_unseen y device))
+        unseen_by w x _ (stationed w device s) (unseen_by x y _ (record { same = refl; grows = (completes c.key bytes ∷ [], refl); client = λ is. is; host = λ is. is }) (tries_unseen y device))
 
     at : (o : Option (StationState SessionDevice)) → Unseen w (option_map_or (λ (s : StationState SessionDevice). collects_from w device (station.collect s)) o w)
     at None = unseen_none w
     at (Some s) = by (station.collect s)
 
 handed : (w : WorldState) (hand : ℕ) (held : Option (ℕ × Job)) → Unseen w (with_hand w hand held)
-handed w hand held = record { same = refl; client = λ is. is; host = λ is. is }
+handed w hand held = record { same = refl; grows = ([], refl); client = λ is. is; host = λ is. is }
 
 take_unseen : (w : WorldState) (device hand : ℕ) → Unseen w (event.takes_job w device hand)
 take_unseen w device hand = at (station_at w device)
@@ -268,7 +276,7 @@ beside_by : (s t u : HostSide) → Beside s t → Beside t u → Beside s u
 beside_by s t u first second = record { channel = second.channel ∙ first.channel; ready = λ is. second.ready (first.ready is) }
 
 sided : (w : WorldState) (t : HostSide) → Beside w.side t → Unseen w (record w { side = t })
-sided w t b = record { same = ap (λ (c : Option ℕ). record (seen w) { channel = c }) b.channel; client = λ is. is; host = b.ready }
+sided w t b = record { same = ap (λ (c : Option ℕ). record (seen w) { channel = c }) b.channel; grows = ([], refl); client = λ is. is; host = b.ready }
 
 admits_beside : (s : HostSide) (a : Announce) → Beside s (admits s a)
 admits_beside s a = by (is_served_type a.kind)
@@ -302,18 +310,18 @@ hears_beside s message =
     beside_by s (record s { core = made.0 }) _ (record { channel = refl; ready = host_kept s.core message }) (host_heard_beside (record s { core = made.0 }) made.1)
 
 host_hears_unseen : (w : WorldState) (message : List ℕ) → Unseen w (host_hears w message)
-host_hears_unseen w message = let b = sided w (hears w.side message) (hears_beside w.side message) in record { same = b.same; client = b.client; host = b.host }
+host_hears_unseen w message = let b = sided w (hears w.side message) (hears_beside w.side message) in record { same = b.same; grows = (host_reads w.channels message ∷ [], refl); client = b.client; host = b.host }
 
 host_handles_unseen : (most : ℕ) (w : WorldState) → Unseen w (host_handles most w)
 host_handles_unseen zero w = unseen_none w
 host_handles_unseen (suc most) w = by (host_handles_unseen most) (handling w.to_host)
   where
     by : ((x : WorldState) → Unseen x (host_handles most x)) → (r : WayState × Option (List ℕ)) → Unseen w (host_handles_first w r (host_handles most))
-    by next (y, None) = record { same = refl; client = λ is. is; host = λ is. is }
+    by next (y, None) = record { same = refl; grows = ([], refl); client = λ is. is; host = λ is. is }
     by next (y, Some message) =
         let x : WorldState = record w { to_host = y } in
         unseen_by w (host_hears x message) _
-        (let h = host_hears_unseen x message in record { same = h.same; client = h.client; host = h.host }) (next (host_hears x message))
+        (let h = host_hears_unseen x message in record { same = h.same; grows = h.grows; client = h.client; host = h.host }) (next (host_hears x message))
 
 sends_beside : (s : HostSide) → Beside s (side_sends s)
 sends_beside s = by ((s.core).core).outbox refl
@@ -326,13 +334,13 @@ sends_beside s = by ((s.core).core).outbox refl
 host_send_unseen : (w : WorldState) → Unseen w (event.host_sends_next w)
 host_send_unseen w =
     option_unseen w (host_sends (record w { side = side_sends w.side })) (next_message w.side)
-    (λ message. let b = sided w (side_sends w.side) (sends_beside w.side) in record { same = b.same; client = b.client; host = b.host })
+    (λ message. let b = sided w (side_sends w.side) (sends_beside w.side) in record { same = b.same; grows = (host_writes w.channels message ∷ [], refl); client = b.client; host = b.host })
 
 -- ---- applications
 
 line_unseen : (w : WorldState) (a : ℕ) (o : Outcome) (holds : Option Handle) → Unseen w (ends_line w a o holds)
 line_unseen w a o holds =
-    option_unseen w (λ asked. with_application w a (with_outcome (application_at w a) o holds asked)) (next_asked (application_at w a)) (λ asked. record { same = refl; client = λ is. is; host = λ is. is })
+    option_unseen w (λ asked. with_application w a (with_outcome (application_at w a) o holds asked)) (next_asked (application_at w a)) (λ asked. record { same = refl; grows = ([], refl); client = λ is. is; host = λ is. is })
 
 tabled : (w : WorldState) (t : TableState) → t.channel ≡ ((w.side).table).channel → Unseen w (with_table w t)
 tabled w t same = sided w (record w.side { table = t }) (record { channel = same; ready = λ is. is })
@@ -345,7 +353,7 @@ outcome_unseen w a = by (application_at w a).awaits
     from number (t, Ok taken) same =
         let x : WorldState = with_deed (with_table w t) (takes number) in
         let b = tabled w t same in
-        unseen_by w x _ (record { same = b.same; client = b.client; host = b.host }) (line_unseen x a _ _)
+        unseen_by w x _ (record { same = b.same; grows = (takes number ∷ [], refl); client = b.client; host = b.host }) (line_unseen x a _ _)
 
     by : (o : Option ℕ) → Unseen w (takes_awaited w a o)
     by None = unseen_none w
@@ -362,7 +370,7 @@ issue_unseen : (w : WorldState) (a : ℕ) → Unseen w (event.issues w a)
 issue_unseen w a = by (next_asked (application_at w a))
   where
     from : (asked : Op) (named : Target) (r : TableState × Result ℕ SubmitNo) → (r.0).channel ≡ ((w.side).table).channel → Unseen w (comes_of_asking w a asked named r)
-    from asked named (t, Ok number) same = let b = tabled w t same in record { same = b.same; client = b.client; host = b.host }
+    from asked named (t, Ok number) same = let b = tabled w t same in record { same = b.same; grows = (submits a named asked ∷ [], refl); client = b.client; host = b.host }
     from asked named (t, Err cause) same = line_unseen w a _ None
 
     asks_unseen : (o : Op) (named : Option Target) → Unseen w (asks w a o named)
@@ -380,13 +388,13 @@ event_unseen starves w (event.issue a) none = issue_unseen w a
 event_unseen starves w event.host_send none = host_send_unseen w
 event_unseen starves w (event.client_read n) none =
     let x : WorldState = record w { to_client = having_read n w.to_client } in
-    unseen_by w x _ (record { same = refl; client = λ is. is; host = λ is. is }) (client_handles_all_unseen x)
+    unseen_by w x _ (record { same = refl; grows = ([], refl); client = λ is. is; host = λ is. is }) (client_handles_all_unseen x)
 event_unseen starves w event.client_send none = client_send_unseen w
 event_unseen starves w (event.collect device) none = collect_unseen w device
 event_unseen starves w (event.host_read n) none =
     let x : WorldState = record w { to_host = having_read n w.to_host } in
     let y : WorldState = host_handles (most_messages x.to_host) x in
-    unseen_by w x _ (record { same = refl; client = λ is. is; host = λ is. is }) (unseen_by x y _ (host_handles_unseen (most_messages x.to_host) x) (all_take_unseen y))
+    unseen_by w x _ (record { same = refl; grows = ([], refl); client = λ is. is; host = λ is. is }) (unseen_by x y _ (host_handles_unseen (most_messages x.to_host) x) (all_take_unseen y))
 event_unseen starves w (event.take_job device hand) none = take_unseen w device hand
 event_unseen starves w (event.apply_job hand) none = apply_unseen starves w hand
 event_unseen starves w e none = absurd (omega (arith, none))

@@ -1,5 +1,5 @@
 -- What each event that happens by itself keeps, and a draw, is kept by settling, by the rounds of a channel's begin, and by a `do` line.
-use Rattle.std.proofs.Common.{◌≡◌, refl, ℕ, zero, suc, ◌+◌, ◌<◌, ◌≤◌, ◌&&◌, ◌/◌, ◌^◌, Bool, true, false, List, [], ◌∷◌, length, Some, Option, arith}
+use Rattle.std.proofs.Common.{◌≡◌, refl, ℕ, zero, suc, ◌+◌, ◌<◌, ◌≤◌, ◌&&◌, ◌/◌, ◌^◌, Bool, true, false, List, [], ◌∷◌, length, Some, None, Option, arith}
 use Rattle.std.specs.Prelude.{if◌then◌else◌, is_none, max, min, nat_le, nat_lt, slice_get}
 use Rattle.std.specs.List.{AllByRecursion, flat_map}
 use Rattle.std.specs.Option.{IfSome, unwrap_or}
@@ -98,17 +98,25 @@ module _ (starves : Key → Bool) (P : WorldState → Type 0) (free : (w : World
       let x : WorldState = drawing (drawing w) in
       free x (host_read (drawn_count x (w.to_host).pipe)) refl (count_fits x (w.to_host).pipe can) (draw (drawing w) (draw w p))
 
-  settles_keeps : (w : WorldState) (cs : List NextStep) (on : WorldState → Option WorldState) → AllByRecursion (CanCome w) cs
-      → ((x : WorldState) → P x → IfSome (on x) P) → P w → IfSome (settles_by starves w cs on) P
-  settles_keeps w [] on all next p = p
-  settles_keeps w (c ∷ cs) on all next p =
+  settles_keeps : (R : WorldState → Type 0) (w : WorldState) (cs : List NextStep) (on : WorldState → Option WorldState) → (cs ≡ [] → R w) → AllByRecursion (CanCome w) cs
+      → ((x : WorldState) → P x → IfSome (on x) R) → P w → IfSome (settles_by starves w cs on) R
+  settles_keeps R w [] on rests all next p = rests refl
+  settles_keeps R w (c ∷ cs) on rests all next p =
       let i : ℕ = picked (drawing w).draws (length (c ∷ cs)) in
       let one : NextStep = unwrap_or (slice_get (c ∷ cs) i) c in
       next (chosen starves (drawing w) one) (chosen_keeps w one (pick_has (CanCome w) (c ∷ cs) i c all all.0) p)
 
+  -- settling ends where nothing can happen by itself
+  pub settled_rests : (most : ℕ) (w : WorldState) → P w → IfSome (settled starves most w) (λ x. P x × (choices x ≡ []))
+  settled_rests zero w p = tt
+  settled_rests (suc most) w p = settles_keeps (λ x. P x × (choices x ≡ [])) w (choices w) (settled starves most) (λ rests. (p, rests)) (choices_can w) (settled_rests most) p
+
   pub settled_keeps : (most : ℕ) (w : WorldState) → P w → IfSome (settled starves most w) P
-  settled_keeps zero w p = tt
-  settled_keeps (suc most) w p = settles_keeps w (choices w) (settled starves most) (choices_can w) (settled_keeps most) p
+  settled_keeps most w p = by (settled starves most w) (settled_rests most w p)
+    where
+      by : (o : Option WorldState) → IfSome o (λ x. P x × (choices x ≡ [])) → IfSome o P
+      by None own = tt
+      by (Some x) own = own.0
 
   while_keeps : (most : ℕ) (e : Event) → event_weight e ≡ 0 → (w : WorldState) → P w → P (while_enabled starves most e w)
   while_keeps zero e none w p = p
