@@ -1,0 +1,49 @@
+-- What control lines do in a run, and what that takes of its lines and of the opening of a channel.
+use Rattle.std.specs.Prelude.{◌≡◌, ℕ, Bool, true, not, List, filter, filter_map, map, reverse, Option, IfSome, Some}
+use Rattle.std.specs.List.{AllByRecursion}
+use Rattle.std.specs.List.Sorted.{IsStrictlyIncreasing}
+use Rattle.std.specs.Option.{option_map_or}
+use Rattle.rd_base.specs.declared.journal.Key.{Key}
+use Rattle.rd_client.specs.Order.{is_client_ready}
+use Rattle.rd_host.specs.Order.{is_host_ready}
+use Rattle.rd_runs.specs.Moves.{Reached}
+use Rattle.rd_script.specs.declared.line.Line.{Line}
+use Rattle.rd_script.specs.declared.line.Line.TheVariants as line
+use Rattle.rd_script.specs.declared.line.NumberedLine.{NumberedLine}
+use Rattle.rd_world.specs.Acts.{act_by, is_errand_at}
+use Rattle.rd_world.specs.Control.{Control, control_of, dropped_at, is_among}
+use Rattle.rd_world.specs.Events.{is_channel_open}
+use Rattle.rd_world.specs.Run.{is_quiet}
+use Rattle.rd_world.specs.World.{WorldState}
+
+-- the devices that a line removes and adds are among these
+unfoldable pub NamesKnown : List ℕ → Line → Type 0
+NamesKnown ids (line.Remove device) = is_among ids device ≡ true
+NamesKnown ids (line.Add device) = is_among ids device ≡ true
+NamesKnown ids _ = Unit {0}
+
+-- The numbers of lines rise, and they remove and add known devices.
+pub record AreOrdered (ids : List ℕ) (lines : List NumberedLine) : Type 0 where
+  pub rise : IsStrictlyIncreasing (map (λ (l : NumberedLine). l.number) lines)
+  pub known : AllByRecursion (λ (l : NumberedLine). NamesKnown ids l.line) lines
+
+-- both ends are ready
+pub record AreReady (w : WorldState) : Type 0 where
+  pub client : is_client_ready ((w.client).core).shake ≡ true
+  pub host : is_host_ready (((w.side).core).core).shake ≡ true
+
+-- Where a channel is open, and nothing is under way or to be sent, both ends are ready.
+abbrev pub OpensWhole : List NumberedLine → (Key → Bool) → Type 0
+OpensWhole lines starves = (w : WorldState) → Reached lines starves w → is_channel_open w ≡ true → is_quiet w ≡ true → AreReady w
+
+-- What follows from the lines, and from the channel that was left open after them, if one was.
+abbrev pub control_with : Option ℕ → Control → Control
+control_with left control = option_map_or (dropped_at control) left control
+
+-- The control lines did what follows from the lines alone, but for the channel that ended after everything: that one was open after the last line.
+pub record DoAsSaid (ids : List ℕ) (lines : List NumberedLine) (w : WorldState) : Type 0 where
+  pub left : Option ℕ
+  pub was_open : IfSome left (λ channel. (control_of ids lines).current ≡ Some channel)
+  pub acts : filter_map act_by (reverse w.deeds) ≡ (control_with left (control_of ids lines)).acts
+  pub idle_lines : filter (λ number. not (is_errand_at lines number)) w.idle ≡ (control_with left (control_of ids lines)).idle
+  pub idle_rise : IsStrictlyIncreasing w.idle

@@ -1,0 +1,34 @@
+//! What the control lines of a script do in every run, as contracts of functions that do nothing.
+
+ghost use Rattle.std.specs.Prelude.{◌≡◌, ℕ, Bool, List, Ok, Some, map};
+ghost use Rattle.rd_base.specs.declared.journal.Key.{Key};
+ghost use Rattle.rd_controls.specs.Controls.{AreOrdered, DoAsSaid, OpensWhole};
+ghost use Rattle.rd_script.specs.Script.{script_of};
+ghost use Rattle.rd_script.specs.declared.keyword.Mode.TheVariants as Mode;
+ghost use Rattle.rd_script.specs.declared.line.NumberedLine.{NumberedLine};
+ghost use Rattle.rd_script.specs.declared.script.Script.{Script};
+ghost use Rattle.rd_world.specs.Devices.{Declared};
+ghost use Rattle.rd_world.specs.Run.{Most, WorldRun, declared_devices, run_of};
+ghost use Rattle.rd_world.specs.World.{WorldState, marks_of};
+
+/// In every run of lines whose numbers rise, and which remove and add devices of theirs, channels begin and end, devices are removed and added and printers
+/// are told of by the control lines alone, in their order and as follows from the lines alone, whatever is drawn; and the lines that did nothing are those that
+/// then do nothing, beside `do` lines, each once. It takes that a channel opens wherever the bytes under way run out; a channel that is open
+/// after everything may end last.
+pub fn control_lines_do_as_said()
+    ensures { (lines : List NumberedLine) (starves : Key → Bool) (most : Most) (w : WorldState)
+        → let ids = map (λ (e : ℕ × Declared). e.0) (declared_devices (map (λ (x : NumberedLine). x.line) lines)) in
+        AreOrdered ids lines → OpensWhole lines starves → run_of most starves lines ≡ Some w → DoAsSaid ids lines w }
+{}
+
+/// The lines of a script that was read for both sides are such lines.
+pub fn scripts_are_ordered()
+    ensures { (text : List ℕ) (script : Script) → script_of Mode.Both text ≡ Ok script
+        → AreOrdered (map (λ (e : ℕ × Declared). e.0) (declared_devices (map (λ (l : NumberedLine). l.line) script.lines))) script.lines }
+{}
+
+/// So in every session of a script the control lines do what follows from its lines, where channels open.
+pub fn sessions_do_as_said()
+    ensures { (text : List ℕ) (script : Script) (w : WorldState) → script_of Mode.Both text ≡ Ok script → WorldRun script.lines w → OpensWhole script.lines (marks_of w)
+        → DoAsSaid (map (λ (e : ℕ × Declared). e.0) (declared_devices (map (λ (l : NumberedLine). l.line) script.lines))) script.lines w }
+{}
