@@ -20,3 +20,5 @@ pub mod Together
 pub mod Handled
 pub mod Resting
 pub mod FittingLines
+pub mod SendingLemmas
+pub mod Sending
