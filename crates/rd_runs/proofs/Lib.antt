@@ -22,3 +22,4 @@ pub mod Resting
 pub mod FittingLines
 pub mod SendingLemmas
 pub mod Sending
+pub mod BoundLemmas

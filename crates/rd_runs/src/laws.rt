@@ -9,7 +9,7 @@ ghost use Rattle.rd_script.specs.declared.line.NumberedLine.{NumberedLine};
 ghost use Rattle.rd_script.specs.declared.script.Script.{Script};
 ghost use Rattle.rd_script.specs.Script.{script_of};
 ghost use Rattle.rd_runs.specs.Moves.{Reached};
-ghost use Rattle.rd_runs.specs.Premises.{AreBounded, IsHandleInRange, RunPremises};
+ghost use Rattle.rd_runs.specs.Premises.{IsHandleInRange, RunPremises};
 ghost use Rattle.rd_world.specs.Host.{next_message};
 ghost use Rattle.rd_world.specs.HostDeeds.{MayDo, side_of};
 ghost use Rattle.rd_world.specs.Joining.{IsCarried};
@@ -52,7 +52,7 @@ pub fn runs_come_to_rest()
     ensures read { (most : Most) (starves : Key → Bool) (lines : List NumberedLine) (w : WorldState) → RunPremises lines → run_of most starves lines ≡ Some w → open_channel w.deeds ≡ Some w.channels → w.kept ≡ None → client_read w.channels w.deeds ≡ host_wrote w.channels w.deeds }
 {}
 
-/// The lines of every script are as the statements above take them: what is left to show is that the devices that they declare are within their bounds.
+/// The lines of every script are as the statements above take them, so these hold of each session of a script.
 pub fn scripts_meet_premises()
-    ensures { (m : Mode) (text : List ℕ) (script : Script) → script_of m text ≡ Ok script → AreBounded script.lines → RunPremises script.lines }
+    ensures { (m : Mode) (text : List ℕ) (script : Script) → script_of m text ≡ Ok script → RunPremises script.lines }
 {}
