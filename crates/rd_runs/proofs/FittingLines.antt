@@ -16,7 +16,7 @@ use Rattle.rd_script.specs.Numbers.{below_base, digit_of, digits_from, digits_in
 use Rattle.rd_script.specs.Row.{given, met_words, test, word, words_of}
 use Rattle.rd_script.specs.Script.{BadLine, Reading, TextLine, bad_line, fits, go_on, is_application, is_skipped, line_of, lines_of, read_all, reading, reading_at_start, script_of, script_read, skipping, step, taken}
 use Rattle.rd_script.specs.Texts.{all_ranges, escaped, few_bytes, few_ranges, few_units, handle_word, hex_word, is_dash, is_visible, name_word, place_word, prepended, range_from, range_of, ranges_of, some_units, unit_before, units_after, units_of, units_word}
-use Rattle.rd_runs.specs.Premises.{AreFitting, IsFitting}
+use Rattle.rd_runs.specs.Premises.{AreSubmittable, IsSubmittable}
 use Rattle.rd_world.proofs.RowFacts.{AreShort, Gives, gives_after, gives_between, gives_done, gives_few_bytes, gives_given, gives_test, gives_then, gives_weaker}
 use Rattle.rd_world.specs.Run.{asked_by}
 use Rattle.rd_world.specs.Talk.{Has}
@@ -226,7 +226,7 @@ MakesWithin _ = Unit {0}
 
 -- what a line asks for fits, if it asks for something, and what it makes is within limits
 abbrev pub LineFits : Line → Type 0
-LineFits l = IfSome (asked_by l) (λ (x : ℕ × Asked). IsFitting x.1) × MakesWithin l
+LineFits l = IfSome (asked_by l) (λ (x : ℕ × Asked). IsSubmittable x.1) × MakesWithin l
 
 -- a path of a drive at which a node can be made
 gives_made : (n : ℕ) (said : Said) (device : ℕ) → Gives n (λ (path : Names). is_within_limits path ≡ true) (new_path said device)
@@ -584,6 +584,6 @@ read_lines m text script is = by (read_all (lines_of text) (reading_at_start m))
     by (Err bad) at is = absurd (cc is)
 
 -- what the lines of a script ask for fits a request
-pub scripts_are_fitting : (m : Mode) (text : List ℕ) (script : Script) → script_of m text ≡ Ok script → AreFitting script.lines
+pub scripts_are_fitting : (m : Mode) (text : List ℕ) (script : Script) → script_of m text ≡ Ok script → AreSubmittable script.lines
 scripts_are_fitting m text script is l a asked has names =
-    subst (λ (o : Option (ℕ × Asked)). IfSome o (λ (x : ℕ × Asked). IsFitting x.1)) names (one_of script.lines l (read_lines m text script is) has).0
+    subst (λ (o : Option (ℕ × Asked)). IfSome o (λ (x : ℕ × Asked). IsSubmittable x.1)) names (one_of script.lines l (read_lines m text script is) has).0

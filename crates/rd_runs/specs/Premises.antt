@@ -16,14 +16,14 @@ use Rattle.rd_world.specs.Talk.{Has}
 use Rattle.rd_world.specs.World.{Asked}
 
 -- What a line asks for fits a request, whose fields have room for its numbers.
-pub record IsFitting (asked : Asked) : Type 0 where
+pub record IsSubmittable (asked : Asked) : Type 0 where
   pub fits : Fits asked.op
   pub range : IsOpInRange asked.op
   pub device : IfSome asked.device (λ device. device < 2 ^ 32)
 
 -- the same of each of these lines
-abbrev pub AreFitting : List NumberedLine → Type 0
-AreFitting lines = (l : NumberedLine) (a : ℕ) (asked : Asked) → Has l lines → asked_by l.line ≡ Some (a, asked) → IsFitting asked
+abbrev pub AreSubmittable : List NumberedLine → Type 0
+AreSubmittable lines = (l : NumberedLine) (a : ℕ) (asked : Asked) → Has l lines → asked_by l.line ≡ Some (a, asked) → IsSubmittable asked
 
 -- a request has room for the numbers of a handle
 abbrev pub IsHandleInRange : Handle → Type 0
@@ -40,7 +40,7 @@ AreBounded lines = AllByRecursion (λ (e : ℕ × Declared). DeviceFits (e.1).st
 
 -- Of lines: what they ask for fits, what they declare is within the limits of a script, the devices are within their bounds, and what they tell of printers is short.
 pub record RunPremises (lines : List NumberedLine) : Type 0 where
-  pub fitting : AreFitting lines
+  pub fitting : AreSubmittable lines
   pub declared : AreDeclared lines
   pub bounded : AreBounded lines
   pub notable : AreNotable lines
