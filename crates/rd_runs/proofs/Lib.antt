@@ -23,3 +23,4 @@ pub mod FittingLines
 pub mod SendingLemmas
 pub mod Sending
 pub mod BoundLemmas
+pub mod Counting

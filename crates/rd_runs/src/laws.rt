@@ -1,6 +1,6 @@
 //! What holds of each world that a script's lines come to, as contracts of functions that do nothing.
 
-ghost use Rattle.std.specs.Prelude.{◌≡◌, ◌⊎◌, ℕ, [], All, Bool, IfSome, List, None, Ok, Some};
+ghost use Rattle.std.specs.Prelude.{◌≡◌, ◌⊎◌, ℕ, ◌+◌, ◌≤◌, [], All, Bool, IfSome, List, None, Ok, Some, length};
 ghost use Rattle.rd_base.specs.declared.journal.Key.{Key};
 ghost use Rattle.rd_chunk.specs.Carrier.{IsMessage};
 ghost use Rattle.rd_pending.specs.declared.calls.Handle.{Handle};
@@ -8,6 +8,7 @@ ghost use Rattle.rd_script.specs.declared.keyword.Mode.{Mode};
 ghost use Rattle.rd_script.specs.declared.line.NumberedLine.{NumberedLine};
 ghost use Rattle.rd_script.specs.declared.script.Script.{Script};
 ghost use Rattle.rd_script.specs.Script.{script_of};
+ghost use Rattle.rd_runs.specs.Counts.{accepted};
 ghost use Rattle.rd_runs.specs.Moves.{Reached};
 ghost use Rattle.rd_runs.specs.Premises.{IsHandleInRange, RunPremises};
 ghost use Rattle.rd_world.specs.Host.{next_message};
@@ -50,6 +51,12 @@ pub fn runs_come_to_rest()
     ensures sent { (most : Most) (starves : Key → Bool) (lines : List NumberedLine) (w : WorldState) → run_of most starves lines ≡ Some w → (next_message w.side ≡ None) × (w.client.core.outbox ≡ []) }
     ensures heard { (most : Most) (starves : Key → Bool) (lines : List NumberedLine) (w : WorldState) → RunPremises lines → run_of most starves lines ≡ Some w → open_channel w.deeds ≡ Some w.channels → host_read w.channels w.deeds ≡ client_wrote w.channels w.deeds }
     ensures read { (most : Most) (starves : Key → Bool) (lines : List NumberedLine) (w : WorldState) → RunPremises lines → run_of most starves lines ≡ Some w → open_channel w.deeds ≡ Some w.channels → w.kept ≡ None → client_read w.channels w.deeds ≡ host_wrote w.channels w.deeds }
+{}
+
+/// A run has no more channels, and its host accepts no more requests, than there are lines and two.
+pub fn runs_count_lines()
+    ensures channels { (lines : List NumberedLine) (starves : Key → Bool) (w : WorldState) → Reached lines starves w → w.channels ≤ length lines + 2 }
+    ensures requests { (lines : List NumberedLine) (starves : Key → Bool) (w : WorldState) → Reached lines starves w → accepted w.deeds ≤ length lines + 2 }
 {}
 
 /// The lines of every script are as the statements above take them, so these hold of each session of a script.
