@@ -16,3 +16,5 @@ pub mod WorkLemmas
 pub mod OwnLemmas
 pub mod CompletionLemmas
 pub mod FitLemmas
+pub mod PathedLines
+pub mod DeclaredLemmas

@@ -72,9 +72,13 @@ pub fn completions_are_of_requests()
         → (x : Completion) → Has x s.ready → IsCompletionOf w.deeds device x }
 {}
 
-/// What devices complete is of a message's size, in every run of lines that declare fit devices; so all that statements about a host take of lines is true of
-/// every script whose devices are fit.
+/// What devices complete is of a message's size, in every run of lines that declare fit devices.
 pub fn completions_are_fit()
-    ensures completions { (lines : List NumberedLine) (starves : Key → Bool) → AreFit (declared_devices (bare_lines lines)) → AreCompletionsFit lines starves }
-    ensures premises { (m : Mode) (text : List ℕ) (script : Script) (starves : Key → Bool) → script_of m text ≡ Ok script → AreFit (declared_devices (bare_lines script.lines)) → RunPremises script.lines starves }
+    ensures { (lines : List NumberedLine) (starves : Key → Bool) → AreFit (declared_devices (bare_lines lines)) → AreCompletionsFit lines starves }
+{}
+
+/// The lines of every script are as the statements here and about a host take them.
+pub fn scripts_are_fit()
+    ensures devices { (m : Mode) (text : List ℕ) (script : Script) → script_of m text ≡ Ok script → AreFit (declared_devices (bare_lines script.lines)) }
+    ensures premises { (m : Mode) (text : List ℕ) (script : Script) (starves : Key → Bool) → script_of m text ≡ Ok script → RunPremises script.lines starves }
 {}
