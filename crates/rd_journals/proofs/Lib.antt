@@ -18,3 +18,4 @@ pub mod CompletionLemmas
 pub mod FitLemmas
 pub mod PathedLines
 pub mod DeclaredLemmas
+pub mod RoomLemmas

@@ -65,10 +65,11 @@ pub fn stations_are_tied()
         → (x : Declared) × (lookup (is_at (nat_cmp device)) (declared_devices (bare_lines lines)) ≡ Some x) × IsTiedTo w.deeds x s }
 {}
 
-/// Where the numbers of the requests that were read have room in their completions, what is ready at a station completes, in bytes, the request of its key with
-/// its reply, and that request names the station's device.
+/// The numbers of each request that was read have room in its completion; and what is ready at a station completes, in bytes, the request of its key with its
+/// reply, and that request names the station's device.
 pub fn completions_are_of_requests()
-    ensures { (lines : List NumberedLine) (starves : Key → Bool) (w : WorldState) → AreFit (declared_devices (bare_lines lines)) → Reached lines starves w → AreFine HasRoom w.deeds → (device : ℕ) (s : StationState SessionDevice) → station_at w device ≡ Some s
+    ensures room { (lines : List NumberedLine) (starves : Key → Bool) (w : WorldState) → RunPremises lines starves → Reached lines starves w → AreFine HasRoom w.deeds }
+    ensures completes { (lines : List NumberedLine) (starves : Key → Bool) (w : WorldState) → AreFit (declared_devices (bare_lines lines)) → RunPremises lines starves → Reached lines starves w → (device : ℕ) (s : StationState SessionDevice) → station_at w device ≡ Some s
         → (x : Completion) → Has x s.ready → IsCompletionOf w.deeds device x }
 {}
 
