@@ -1,6 +1,6 @@
 -- What a script declares are fit devices.
-use Rattle.std.proofs.Common.{◌≡◌, ◌∙◌, refl, ap, subst, arith, ℕ, ◌≤◌, Bool, true, false, cond, List, [], ◌∷◌, ◌++◌, length, Option, Some, None, Ok}
-use Rattle.std.specs.Prelude.{◌==◌, fold, if◌then◌else◌, map, replicate}
+use Rattle.std.proofs.Common.{◌≡◌, ◌∙◌, refl, ap, arith, ℕ, Bool, true, false, List, [], ◌∷◌, ◌++◌, Option, Some, None, Ok}
+use Rattle.std.specs.Prelude.{◌==◌, fold, if◌then◌else◌, replicate}
 use Rattle.std.specs.BTreeMap.{insert_entry}
 use Rattle.std.specs.List.{AllByRecursion}
 use Rattle.std.specs.Option.{option_map_or}
@@ -8,7 +8,6 @@ use Rattle.std.specs.Ordering.{match_ordering, nat_cmp}
 use Rattle.std.specs.declared.cmp.Ordering.{Ordering}
 use Rattle.std.specs.declared.cmp.Ordering.TheVariants.{Less, Equal, Greater}
 use Rattle.rd_dirinfo.specs.Paths.{IsSamePath, Names, is_within_limits, last_name, parent}
-use Rattle.rd_drive.specs.Bounded.{IsBounded}
 use Rattle.rd_drive.specs.DriveState.{DriveState, Node, is_at_path, made_path, new_node, node_of_path, node_path, opening_attributes}
 use Rattle.rd_drive.proofs.AboveLemmas.{path_joined}
 use Rattle.rd_drive.proofs.AnswerLemmas.{found_passes}
@@ -24,7 +23,7 @@ use Rattle.rd_tree.proofs.WayLemmas.{true_same}
 use Rattle.rd_world.specs.declared.device.SessionDevice.{SessionDevice}
 use Rattle.rd_world.specs.declared.device.SessionDevice.TheVariants as session
 use Rattle.rd_world.specs.Devices.{Declared, declaring, device_parked, furnishing, holding_at, with_first}
-use Rattle.rd_world.specs.Opening.{AreDeclarable, IsDeclarable, bare_lines, max_device_name}
+use Rattle.rd_world.specs.Opening.{AreDeclarable, IsDeclarable, bare_lines}
 use Rattle.rd_world.specs.Run.{declared_devices}
 use Rattle.rd_world.proofs.DeclaredLemmas.{scripts_are_declared}
 use Rattle.rd_journals.specs.Stations.{AreFit, IsFit}

@@ -8,7 +8,6 @@ use Rattle.rd_base.specs.Layout.{and_then}
 use Rattle.rd_dirinfo.specs.Paths.{Names, is_within_limits, names_of, parsed_path, path_fault}
 use Rattle.rd_dirinfo.proofs.PathLemmas.{path_is_within}
 use Rattle.rd_drive.proofs.AllLemmas.{all_append}
-use Rattle.rd_irp.specs.Fits.{max_buffer}
 use Rattle.rd_irp.specs.Op.{max_ranges}
 use Rattle.rd_script.specs.declared.keyword.Mode.{Mode}
 use Rattle.rd_script.specs.declared.line.NumberedLine.{NumberedLine}
@@ -30,7 +29,7 @@ use Rattle.rd_script.specs.declared.line.Line.TheVariants as line
 use Rattle.rd_script.specs.declared.why.LineWhy.{LineWhy}
 use Rattle.rd_script.specs.declared.why.LineWhy.TheVariants as why
 use Rattle.rd_script.specs.Keywords.{acts, notice_words}
-use Rattle.rd_script.specs.Rows.{act_row, add_row, application_row, at_add, at_remove, at_row, buffer_word, cache_add_row, cache_delete_row, cache_rename_row, cache_row, cache_update_row, channels_row, clock_row, control_line_row, control_row, create_numbers, create_row, devices_row, dir_row, do_row, drive_id, drive_row, drivefold_row, end_row, entry_word, errand_row, file_row, fill_length, fill_row, folder_row, form_row, id_word, keyword_row, keyword_word, known_device, line_row, lock_row, max_applications, max_cached, moment_row, new_device, new_path, notice_row, notify_row, open_row, path_word, piece_row, printer_name, printer_row, query_row, read_row, real_row, remove_row, seed_row, set_row, setvolume_row, verb_row, verb_word, volume_row, workers_row, write_row}
+use Rattle.rd_script.specs.Rows.{act_row, add_row, application_row, at_add, at_remove, at_row, buffer_word, cache_add_row, cache_delete_row, cache_rename_row, cache_row, cache_update_row, channels_row, clock_row, control_line_row, control_row, create_numbers, create_row, devices_row, dir_row, do_row, drive_id, drive_row, drivefold_row, end_row, entry_word, errand_row, file_row, fill_length, fill_row, folder_row, form_row, keyword_row, keyword_word, known_device, line_row, lock_row, max_applications, max_cached, moment_row, new_device, new_path, notice_row, notify_row, open_row, path_word, piece_row, printer_name, printer_row, query_row, read_row, real_row, remove_row, seed_row, set_row, setvolume_row, verb_row, verb_word, volume_row, workers_row, write_row}
 use Rattle.rd_script.specs.Said.{Said, is_free}
 use Rattle.rd_script.proofs.RowLemmas.{ok_same}
 use Rattle.rd_world.proofs.RowFacts.{AreShort, Gives, gives_after, gives_done, gives_given, gives_then}
