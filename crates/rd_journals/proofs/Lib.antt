@@ -19,3 +19,4 @@ pub mod FitLemmas
 pub mod PathedLines
 pub mod DeclaredLemmas
 pub mod RoomLemmas
+pub mod AnswerLemmas

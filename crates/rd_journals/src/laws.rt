@@ -26,7 +26,7 @@ ghost use Rattle.rd_world.specs.Stations.{IsReachedBy};
 ghost use Rattle.rd_world.specs.Talk.{Deed, EachAfter, Has, journal};
 ghost use Rattle.rd_world.specs.World.{WorldState, station_at};
 ghost use Rattle.rd_world.specs.declared.device.SessionDevice.{SessionDevice};
-ghost use Rattle.rd_journals.specs.Jobs.{AreFine, HasRoom, IsCompletionOf, IsTiedTo};
+ghost use Rattle.rd_journals.specs.Jobs.{AnswersRead, AreFine, HasRoom, IsCompletionOf, IsTiedTo};
 ghost use Rattle.rd_journals.specs.Orderly.{Orderly};
 ghost use Rattle.rd_journals.specs.Reads.{ComesRead, cuts, reads};
 ghost use Rattle.rd_journals.specs.Stations.{AreFit};
@@ -71,6 +71,11 @@ pub fn completions_are_of_requests()
     ensures room { (lines : List NumberedLine) (starves : Key → Bool) (w : WorldState) → RunPremises lines starves → Reached lines starves w → AreFine HasRoom w.deeds }
     ensures completes { (lines : List NumberedLine) (starves : Key → Bool) (w : WorldState) → AreFit (declared_devices (bare_lines lines)) → RunPremises lines starves → Reached lines starves w → (device : ℕ) (s : StationState SessionDevice) → station_at w device ≡ Some s
         → (x : Completion) → Has x s.ready → IsCompletionOf w.deeds device x }
+{}
+
+/// Each completion that a client wrote completes, with some reply, the request of its key, which it had read: it has that one's device, completion id and layout.
+pub fn completions_answer()
+    ensures { (lines : List NumberedLine) (starves : Key → Bool) (w : WorldState) → AreFit (declared_devices (bare_lines lines)) → RunPremises lines starves → Reached lines starves w → EachAfter AnswersRead w.deeds }
 {}
 
 /// What devices complete is of a message's size, in every run of lines that declare fit devices.
