@@ -224,7 +224,7 @@ collects_spelled w d s after x of is =
     spelled_deed (spelled_inside w left inside is) (completes x.key (completion_message d x))
     (answer_grown w.deeds left.deeds (grown_inside w left inside) x.key (completion_message d x) (record { request = of.request; reply = x.reply; read = of.read; completes = of.completes }))
 
-was_ready : (s after : Of) (x : Completion) → station.collect s ≡ (after, Some x) → Has x s.ready
+pub was_ready : (s after : Of) (x : Completion) → station.collect s ≡ (after, Some x) → Has x s.ready
 was_ready s after x = by s.ready
   where
     by : (cs : List Completion) → collect_first s cs ≡ (after, Some x) → Has x cs
@@ -254,7 +254,7 @@ adds_spelled w d (Some names) o is =
 -- ---- each part, and every run
 
 module _ (lines : List NumberedLine) (starves : Key → Bool) (fit : AreFit (declared_devices (bare_lines lines))) (premises : RunPremises lines starves) where
-  fines : (w : WorldState) → IsBehind lines starves w → AreFine HasRoom w.deeds
+  pub fines : (w : WorldState) → IsBehind lines starves w → AreFine HasRoom w.deeds
   fines w behind = let k = knows lines starves premises w behind in read_roomy client_id w.deeds k.stands.host.may (carried_now w.deeds k.carries.each)
 
   part_spelled : (w : WorldState) (p : Part) → MayBe lines starves w p → IsBehind lines starves w → IsBehind lines starves (done starves w p) → Orderly w → IsHandledIn w → IsSpelled w → IsSpelled (done starves w p)

@@ -20,3 +20,4 @@ pub mod PathedLines
 pub mod DeclaredLemmas
 pub mod RoomLemmas
 pub mod AnswerLemmas
+pub mod InOrderLemmas

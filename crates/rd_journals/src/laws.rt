@@ -30,6 +30,7 @@ ghost use Rattle.rd_journals.specs.Jobs.{AnswersRead, AreFine, HasRoom, IsComple
 ghost use Rattle.rd_journals.specs.Orderly.{Orderly};
 ghost use Rattle.rd_journals.specs.Reads.{ComesRead, cuts, reads};
 ghost use Rattle.rd_journals.specs.Stations.{AreFit};
+ghost use Rattle.rd_journals.specs.Told.{InOrder};
 
 /// Whatever lines that declare fit devices come to: the journal of each device, as the deeds tell it, is lawful, and is that of its station, which came to be
 /// by its calls; and each key comes after the read of its request, which names the device.
@@ -76,6 +77,11 @@ pub fn completions_are_of_requests()
 /// Each completion that a client wrote completes, with some reply, the request of its key, which it had read: it has that one's device, completion id and layout.
 pub fn completions_answer()
     ensures { (lines : List NumberedLine) (starves : Key → Bool) (w : WorldState) → AreFit (declared_devices (bare_lines lines)) → RunPremises lines starves → Reached lines starves w → EachAfter AnswersRead w.deeds }
+{}
+
+/// Of each device on each channel the completions of the keys that came are those that its journal sent, in its order.
+pub fn completions_are_in_order()
+    ensures { (lines : List NumberedLine) (starves : Key → Bool) (w : WorldState) → AreFit (declared_devices (bare_lines lines)) → RunPremises lines starves → Reached lines starves w → InOrder w.deeds }
 {}
 
 /// What devices complete is of a message's size, in every run of lines that declare fit devices.
