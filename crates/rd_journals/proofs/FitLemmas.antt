@@ -1,22 +1,18 @@
 -- What is collected in a run is of a message's size.
-use Rattle.std.proofs.Common.{◌≡◌, ap, subst, ℕ, Bool, List, [], ◌∷◌, Option, Some, None}
+use Rattle.std.proofs.Common.{◌≡◌, ap, subst, Bool, List, [], ◌∷◌, Option, Some, None}
 use Rattle.std.proofs.lemmas.List.Elements.{All-head}
 use Rattle.std.specs.Prelude.{All}
 use Rattle.rd_base.specs.declared.journal.Key.{Key}
-use Rattle.rd_chunk.specs.Carrier.{IsMessage}
 use Rattle.rd_drive.specs.Device.{CompletesKind}
 use Rattle.rd_script.specs.declared.line.NumberedLine.{NumberedLine}
 use Rattle.rd_station.specs.Station.{StationState, collect, collect_first}
 use Rattle.rd_station.specs.declared.answers.Completion.{Completion}
 use Rattle.rd_station.proofs.Calls.{reached_kept}
-use Rattle.rd_runs.specs.Moves.{Reached}
 use Rattle.rd_runs.specs.Premises.{AreCompletionsFit}
 use Rattle.rd_world.specs.Devices.{device_cuts, device_parked, device_runs}
-use Rattle.rd_world.specs.Events.{completion_message}
 use Rattle.rd_world.specs.Opening.{bare_lines}
 use Rattle.rd_world.specs.Run.{declared_devices}
 use Rattle.rd_world.specs.Stations.{IsReachedBy}
-use Rattle.rd_world.specs.World.{WorldState, station_at}
 use Rattle.rd_world.specs.declared.device.SessionDevice.{SessionDevice}
 use Rattle.rd_world.proofs.SentLemmas.{completion_is_message}
 use Rattle.rd_journals.specs.Stations.{AreFit}

@@ -16,3 +16,8 @@ pub mod WorkLemmas
 pub mod OwnLemmas
 pub mod CompletionLemmas
 pub mod FitLemmas
+pub mod PathedLines
+pub mod DeclaredLemmas
+pub mod RoomLemmas
+pub mod AnswerLemmas
+pub mod InOrderLemmas

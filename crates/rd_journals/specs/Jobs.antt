@@ -5,7 +5,7 @@ use Rattle.std.specs.Map.{lookup}
 use Rattle.std.specs.Ordering.{nat_cmp}
 use Rattle.std.specs.BTreeMap.{is_at}
 use Rattle.rd_base.specs.declared.journal.Key.{Key}
-use Rattle.rd_client.specs.Core.{job_of}
+use Rattle.rd_client.specs.Core.{Outgoing, job_of}
 use Rattle.rd_drive.specs.Ranged.{SetsFew}
 use Rattle.rd_drive.specs.declared.plan.Job.{Job}
 use Rattle.rd_irp.specs.Fits.{kind_of}
@@ -20,8 +20,9 @@ use Rattle.rd_station.specs.Tied.{IsTied}
 use Rattle.rd_world.specs.Devices.{Declared, device_cut, device_cuts, device_parked, device_runs, device_step}
 use Rattle.rd_world.specs.Events.{completion_message}
 use Rattle.rd_world.specs.Session.{request_read}
-use Rattle.rd_world.specs.Talk.{Deed, Has, client_read, request_at}
+use Rattle.rd_world.specs.Talk.{Deed, EachAfter, Has, client_read, completes, request_at}
 use Rattle.rd_world.specs.Told.{CompletesWith}
+use Rattle.rd_world.specs.World.{WorldState}
 use Rattle.rd_world.specs.declared.device.SessionDevice.{SessionDevice}
 use Rattle.rd_journals.specs.Orderly.{HasStation}
 
@@ -89,3 +90,23 @@ pub record IsCompletionOf (deeds : List Deed) (d : ℕ) (x : Completion) : Type 
   pub read : request_at (client_read x.key.channel deeds) x.key.index ≡ Some request
   pub device : request.device ≡ d
   pub completes : CompletesWith request x.reply (completion_message d x)
+
+-- The message completes, with some reply, the request of the key, which was read.
+pub record IsAnswerOf (deeds : List Deed) (key : Key) (message : List ℕ) : Type 0 where
+  pub request : Request
+  pub reply : Reply
+  pub read : request_at (client_read key.channel deeds) key.index ≡ Some request
+  pub completes : CompletesWith request reply message
+
+-- a completion is written after the read of the request that it completes
+abbrev pub AnswersRead : List Deed → Deed → Type 0
+AnswersRead before (completes key message) = IsAnswerOf before key message
+AnswersRead before _ = Unit {0}
+
+-- What was written answers what was read, and what is to be written will.
+pub record AreSpelled (outbox : List Outgoing) (deeds : List Deed) : Type 0 where
+  pub out : (o : Outgoing) → Has o outbox → (key : Key) → o.answers ≡ Some key → IsAnswerOf deeds key o.message
+  pub each : EachAfter AnswersRead deeds
+
+abbrev pub IsSpelled : WorldState → Type 0
+IsSpelled w = AreSpelled ((w.client).core).outbox w.deeds
