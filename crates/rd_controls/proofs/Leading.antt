@@ -1,5 +1,5 @@
 -- Along a run the control lines do what follows from the lines.
-use Rattle.std.proofs.Common.{◌≡◌, ◌∙◌, refl, sym, ap, subst, inl, inr, ℕ, ◌+◌, ◌≤◌, ◌&&◌, Bool, true, false, List, [], ◌∷◌, length, map, fold, Some, None, Option, arith}
+use Rattle.std.proofs.Common.{◌≡◌, ◌∙◌, refl, sym, ap, subst, inl, inr, ℕ, ◌+◌, ◌≤◌, ◌&&◌, Bool, true, false, List, [], ◌∷◌, length, map, fold, Some, None, Option, arith, ◌++◌}
 use Rattle.std.specs.Prelude.{if◌then◌else◌, is_some, not}
 use Rattle.std.specs.List.{AllByRecursion}
 use Rattle.std.specs.Option.{IfSome, option_and_then, option_map_or}
@@ -12,21 +12,23 @@ use Rattle.rd_controls.proofs.Marks.{first_marks, gone_marks, known_marks}
 use Rattle.rd_controls.proofs.Numbers.{Rise, an_errand, no_errand, numbers, picked_reverse}
 use Rattle.rd_controls.proofs.Unseen.{client_ready, event_unseen, host_ready, seen}
 use Rattle.rd_controls.proofs.Walking.{does_keeps, rounds_keep, settled_keeps}
-use Rattle.rd_controls.specs.Controls.{AreOrdered, AreReady, DoAsSaid, NamesKnown, OpensWhole, control_with}
+use Rattle.rd_controls.specs.Controls.{AreOrdered, AreReady, DoAsSaid, NamesKnown, OpensWhole, RestWhereSettled, RestsAt, control_with}
 use Rattle.rd_printer.specs.declared.notice.Notice.{Notice}
-use Rattle.rd_runs.specs.Moves.{IsOfLines, MayPass, Move, ReachedWithin, draws, event_weight, happens, idle, moved, queues, weight}
+use Rattle.rd_runs.specs.Moves.{IsOfLines, MayPass, Move, ReachedWithin, draws, event_weight, happens, idle, moved, queues, weight, Reached}
 use Rattle.rd_script.specs.declared.line.Errand.{Errand}
 use Rattle.rd_script.specs.declared.line.Line.{Line}
 use Rattle.rd_script.specs.declared.line.Line.TheVariants as line
 use Rattle.rd_script.specs.declared.line.NumberedLine.{NumberedLine}
 use Rattle.rd_world.proofs.PlayingLemmas.{may_connect}
-use Rattle.rd_world.specs.Acts.{act_by, is_errand, is_errand_at}
+use Rattle.rd_world.specs.Acts.{act_by, is_errand, is_errand_at, is_settle}
 use Rattle.rd_world.specs.Control.{Control, added_at, connected, control_of, controlled, dropped_at, idled, is_among, noticed_at, removed_at, where_open}
 use Rattle.rd_world.specs.Devices.{Declared}
 use Rattle.rd_world.specs.Events as event
 use Rattle.rd_world.specs.Events.{Event, act, is_channel_open, is_enabled}
-use Rattle.rd_world.specs.Run.{Most, applications_of, asked_by, by_event, connects_on, controls, declared_devices, does, drawing, ends_session, event_of, idles, is_quiet, new_world, notice_of, plays, plays_line, queueing, run_of, setting, settled, some_left, world_of}
-use Rattle.rd_world.specs.Talk.{Has}
+use Rattle.rd_world.specs.Run.{Most, applications_of, asked_by, by_event, choices, connects_on, controls, declared_devices, does, drawing, ends_session, event_of, idles, is_quiet, new_world, notice_of, plays, plays_line, queueing, run_of, setting, settled, some_left, world_of}
+use Rattle.rd_world.specs.Talk.{Deed, EndsWith, Has}
+use Rattle.rd_world.specs.Session.{at_settles}
+use Rattle.rd_controls.proofs.Resting.{later_end, later_line, later_settled, settle_rests, then_more}
 use Rattle.rd_world.specs.World.{Asked, WorldState}
 
 both_true : (a b : Bool) → a ≡ true → b ≡ true → (a && b) ≡ true
@@ -446,6 +448,102 @@ module _ (lines : List NumberedLine) (starves : Key → Bool) (most : Most) (ids
       (then_on (Led (connected first) lines) (Led (control_of ids lines) []) (plays starves most lines) begun (plays_led lines (λ x has. has) known (connected first))
       (begins_led first lines (world_of lines) 0 start (omega arith) sees (may_connect lines) sees.channel)))
 
+-- ---- where lines settle
+
+settle_controls_none : (c : Control) (number : ℕ) (l : Line) → is_settle l ≡ true → controlled c number l ≡ c
+unfolding is_settle controlled notice_of
+settle_controls_none c number line.Settle is = refl
+settle_controls_none c number l is = absurd cc
+
+module _ (lines : List NumberedLine) (starves : Key → Bool) (most : Most) (ids : List ℕ) (rise : Rise (numbers lines)) (opens : OpensWhole lines starves) where
+  abbrev Follows : Control → List NumberedLine → WorldState → Type 0
+  Follows c ls w = Led lines starves most ids rise opens c ls w
+
+  -- what playing lines leaves, and where it came to rest
+  record Played (c : Control) (ls : List NumberedLine) (w v : WorldState) : Type 0 where
+    grows : EndsWith v.deeds w.deeds
+    rests : AllByRecursion (RestsAt lines starves v.deeds) (at_settles c ls)
+
+  rest_later : (d e : List Deed) → EndsWith e d → (cs : List Control) → AllByRecursion (RestsAt lines starves d) cs → AllByRecursion (RestsAt lines starves e) cs
+  rest_later d e more [] all = tt
+  rest_later d e more (c ∷ cs) all = (
+    record {
+      world = (all.0).world;
+      reached = (all.0).reached;
+      rests = (all.0).rests;
+      grown = then_more (all.0).world.deeds d e more (all.0).grown;
+      acts = (all.0).acts;
+      channel = (all.0).channel;
+    },
+    rest_later d e more cs all.1,
+  )
+
+  rest_here : (c d : Control) (ls : List NumberedLine) (w v : WorldState) → d ≡ c → Follows d ls w → choices w ≡ [] → EndsWith v.deeds w.deeds → RestsAt lines starves v.deeds c
+  rest_here c d ls w v same l rests grows = record {
+    world = w;
+    reached = reached_of l.base.count l.base.few l.base.reached;
+    rests = rests;
+    grown = grows;
+    acts = picked_reverse act_by w.deeds ∙ l.base.sees.acts ∙ ap (λ (k : Control). k.acts) same;
+    channel = l.base.sees.channel ∙ ap (λ (k : Control). k.current) same;
+  }
+    where
+      reached_of : (n : ℕ) → n + length ls ≤ length lines + 1 → ReachedWithin n lines starves w → Reached lines starves w
+      reached_of n few r = record { moves = r.moves; pass = r.pass; few = omega (arith, few, r.few); leads = r.leads }
+
+  plays_rest : (ls : List NumberedLine) → ((x : NumberedLine) → Has x ls → Has x lines) → AllByRecursion (λ (x : NumberedLine). NamesKnown ids x.line) ls
+      → (c : Control) (w : WorldState) → Follows c ls w → IfSome (plays starves most ls w) (Played c ls w)
+  plays_rest [] among known c w l = record { grows = ([], refl); rests = tt }
+  plays_rest (x ∷ ls) among known c w l =
+      go (plays_line starves most w x) (line_led lines starves most ids rise opens c x ls w (among x (inl refl)) l known.0) (later_line ids lines starves most w.deeds w x ([], refl))
+      (λ is. settle_rests starves most w x is) (plays_rest ls (λ y has. among y (inr has)) known.1 (controlled c x.number x.line))
+    where
+      on : (y : WorldState) → Follows (controlled c x.number x.line) ls y → EndsWith y.deeds w.deeds → (is_settle x.line ≡ true → choices y ≡ []) → (v : WorldState)
+          → Played (controlled c x.number x.line) ls y v → (b : Bool) → is_settle x.line ≡ b
+          → AllByRecursion (RestsAt lines starves v.deeds) ((if b then c ∷ [] else []) ++ at_settles (controlled c x.number x.line) ls)
+      on y follows grows rests v played true is =
+          (rest_here c (controlled c x.number x.line) ls y v (settle_controls_none c x.number x.line is) follows (rests is) played.grows, played.rests)
+      on y follows grows rests v played false is = played.rests
+
+      all : (y : WorldState) → Follows (controlled c x.number x.line) ls y → EndsWith y.deeds w.deeds → (is_settle x.line ≡ true → choices y ≡ []) → (o : Option WorldState)
+          → IfSome o (Played (controlled c x.number x.line) ls y) → IfSome o (Played c (x ∷ ls) w)
+      all y follows grows rests None own = tt
+      all y follows grows rests (Some v) own =
+          record { grows = then_more w.deeds y.deeds v.deeds own.grows grows; rests = on y follows grows rests v own (is_settle x.line) refl }
+
+      go : (o : Option WorldState) → IfSome o (Follows (controlled c x.number x.line) ls) → IfSome o (λ v. EndsWith v.deeds w.deeds)
+          → (is_settle x.line ≡ true → IfSome o (λ v. choices v ≡ []))
+          → ((y : WorldState) → Follows (controlled c x.number x.line) ls y → IfSome (plays starves most ls y) (Played (controlled c x.number x.line) ls y))
+          → IfSome (option_and_then (plays starves most ls) o) (Played c (x ∷ ls) w)
+      go None follows grows rests next = tt
+      go (Some y) follows grows rests next = all y follows grows rests (plays starves most ls y) (next y follows)
+
+  -- of a whole run
+  abbrev AllRest : WorldState → Type 0
+  AllRest w = AllByRecursion (RestsAt lines starves w.deeds) (at_settles (connected (before_all ids)) lines)
+
+  on_rests : (o : Option WorldState) (w : WorldState) → AllRest w → IfSome o (λ v. EndsWith v.deeds w.deeds) → IfSome o AllRest
+  on_rests None w all grows = tt
+  on_rests (Some v) w all grows = rest_later w.deeds v.deeds grows (at_settles (connected (before_all ids)) lines) all
+
+  run_rests : AllByRecursion (λ (x : NumberedLine). NamesKnown ids x.line) lines → SeenAs ids lines (before_all ids) lines (seen (world_of lines)) → IfSome (run_of most starves lines) AllRest
+  run_rests known sees =
+      let start : ReachedWithin 0 lines starves (world_of lines) = record { moves = []; pass = tt; few = omega arith; leads = refl } in
+      let first : Control = before_all ids in
+      let begun : Option WorldState = connects_on starves most (world_of lines) in
+      let played : Option WorldState = option_and_then (plays starves most lines) begun in
+      then_on lines starves most ids rise opens AllRest AllRest (ends_session starves most) (option_and_then (settled starves most.draws) played)
+      (λ v all. on_rests (ends_session starves most v) v all (later_end ids lines starves most v.deeds v ([], refl)))
+      (then_on lines starves most ids rise opens AllRest AllRest (settled starves most.draws) played
+      (λ v all. on_rests (settled starves most.draws v) v all (later_settled ids lines starves most v.deeds v ([], refl)))
+      (then_on lines starves most ids rise opens (Follows (connected first) lines) AllRest (plays starves most lines) begun
+      (λ w l. played_rests (plays starves most lines w) w (plays_rest lines (λ x has. has) known (connected first) w l))
+      (begins_led lines starves most ids rise opens first lines (world_of lines) 0 start (omega arith) sees (may_connect lines) sees.channel)))
+    where
+      played_rests : (o : Option WorldState) (w : WorldState) → IfSome o (Played (connected (before_all ids)) lines w) → IfSome o AllRest
+      played_rests None w own = tt
+      played_rests (Some v) w own = own.rests
+
 -- ---- a run
 
 one_set_seen : (w : WorldState) (l : Line) → seen (setting w l) ≡ seen w
@@ -460,18 +558,23 @@ all_set_seen : (ls : List Line) (w : WorldState) → seen (fold setting w ls) �
 all_set_seen [] w = refl
 all_set_seen (l ∷ ls) w = all_set_seen ls (setting w l) ∙ one_set_seen w l
 
+-- what is seen at first
+first_sees : (lines : List NumberedLine) → Rise (numbers lines)
+    → let ids = map (λ (e : ℕ × Declared). e.0) (declared_devices (map (λ (x : NumberedLine). x.line) lines)) in SeenAs ids lines (before_all ids) lines (seen (world_of lines))
+first_sees lines rise =
+    let bare : List Line = map (λ (x : NumberedLine). x.line) lines in
+    let ids : List ℕ = map (λ (e : ℕ × Declared). e.0) (declared_devices bare) in
+    subst (SeenAs ids lines (before_all ids) lines) (sym (all_set_seen bare (new_world (declared_devices bare) (applications_of bare))))
+    (record { channel = refl; channels = refl; last = tt; marks = first_marks bare; acts = refl; idle = refl; rises = rise })
+
 pub does_as_said : (lines : List NumberedLine) (starves : Key → Bool) (most : Most) (w : WorldState)
     → let ids = map (λ (e : ℕ × Declared). e.0) (declared_devices (map (λ (x : NumberedLine). x.line) lines)) in
     AreOrdered ids lines → OpensWhole lines starves → run_of most starves lines ≡ Some w → DoAsSaid ids lines w
 does_as_said lines starves most w ordered opens is =
-    let bare : List Line = map (λ (x : NumberedLine). x.line) lines in
-    let ids : List ℕ = map (λ (e : ℕ × Declared). e.0) (declared_devices bare) in
+    let ids : List ℕ = map (λ (e : ℕ × Declared). e.0) (declared_devices (map (λ (x : NumberedLine). x.line) lines)) in
     let rise : Rise (numbers lines) = sorted_from_strictly_increasing (numbers lines) ordered.rise in
-    let first : Control = before_all ids in
-    let sees : SeenAs ids lines first lines (seen (world_of lines)) =
-    subst (SeenAs ids lines first lines) (sym (all_set_seen bare (new_world (declared_devices bare) (applications_of bare))))
-    (record { channel = refl; channels = refl; last = tt; marks = first_marks bare; acts = refl; idle = refl; rises = rise }) in
-    let over = subst (λ (o : Option WorldState). IfSome o (IsOver lines starves most ids rise opens (control_of ids lines))) is (run_over lines starves most ids rise opens ordered.known sees) in
+    let over = subst (λ (o : Option WorldState). IfSome o (IsOver lines starves most ids rise opens (control_of ids lines))) is
+    (run_over lines starves most ids rise opens ordered.known (first_sees lines rise)) in
     record {
       left = over.left;
       was_open = over.was_open;
@@ -479,3 +582,12 @@ does_as_said lines starves most w ordered opens is =
       idle_lines = over.sees.idle;
       idle_rise = IsStrictlyIncreasing-from_sorted w.idle (subst Rise (append-nil w.idle) over.sees.rises);
     }
+
+pub rests_where_settled : (lines : List NumberedLine) (starves : Key → Bool) (most : Most) (w : WorldState)
+    → let ids = map (λ (e : ℕ × Declared). e.0) (declared_devices (map (λ (x : NumberedLine). x.line) lines)) in
+    AreOrdered ids lines → OpensWhole lines starves → run_of most starves lines ≡ Some w → RestWhereSettled ids lines starves w.deeds
+rests_where_settled lines starves most w ordered opens is =
+    let bare : List Line = map (λ (x : NumberedLine). x.line) lines in
+    let ids : List ℕ = map (λ (e : ℕ × Declared). e.0) (declared_devices bare) in
+    let rise : Rise (numbers lines) = sorted_from_strictly_increasing (numbers lines) ordered.rise in
+    subst (λ (o : Option WorldState). IfSome o (AllRest lines starves most ids rise opens)) is (run_rests lines starves most ids rise opens ordered.known (first_sees lines rise))

@@ -1,5 +1,5 @@
 -- What control lines do in a run, and what that takes of its lines and of the opening of a channel.
-use Rattle.std.specs.Prelude.{◌≡◌, ℕ, Bool, true, not, List, filter, filter_map, map, reverse, Option, IfSome, Some}
+use Rattle.std.specs.Prelude.{◌≡◌, ℕ, Bool, true, not, List, filter, filter_map, map, reverse, Option, IfSome, Some, []}
 use Rattle.std.specs.List.{AllByRecursion}
 use Rattle.std.specs.List.Sorted.{IsStrictlyIncreasing}
 use Rattle.std.specs.Option.{option_map_or}
@@ -11,9 +11,11 @@ use Rattle.rd_script.specs.declared.line.Line.{Line}
 use Rattle.rd_script.specs.declared.line.Line.TheVariants as line
 use Rattle.rd_script.specs.declared.line.NumberedLine.{NumberedLine}
 use Rattle.rd_world.specs.Acts.{act_by, is_errand_at}
-use Rattle.rd_world.specs.Control.{Control, control_of, dropped_at, is_among}
+use Rattle.rd_world.specs.Control.{Control, control_of, dropped_at, first_control, is_among}
 use Rattle.rd_world.specs.Events.{is_channel_open}
-use Rattle.rd_world.specs.Run.{is_quiet}
+use Rattle.rd_world.specs.Run.{choices, is_quiet}
+use Rattle.rd_world.specs.Session.{at_settles}
+use Rattle.rd_world.specs.Talk.{Deed, EndsWith}
 use Rattle.rd_world.specs.World.{WorldState}
 
 -- the devices that a line removes and adds are among these
@@ -47,3 +49,16 @@ pub record DoAsSaid (ids : List ℕ) (lines : List NumberedLine) (w : WorldState
   pub acts : filter_map act_by (reverse w.deeds) ≡ (control_with left (control_of ids lines)).acts
   pub idle_lines : filter (λ number. not (is_errand_at lines number)) w.idle ≡ (control_with left (control_of ids lines)).idle
   pub idle_rise : IsStrictlyIncreasing w.idle
+
+-- There was a point of the run, which these deeds go on from, where nothing could happen by itself, and the control lines had done this.
+pub record RestsAt (lines : List NumberedLine) (starves : Key → Bool) (deeds : List Deed) (control : Control) : Type 0 where
+  pub world : WorldState
+  pub reached : Reached lines starves world
+  pub rests : choices world ≡ []
+  pub grown : EndsWith deeds world.deeds
+  pub acts : filter_map act_by (reverse world.deeds) ≡ control.acts
+  pub channel : ((world.side).table).channel ≡ control.current
+
+-- So it was where each `settle` line ended.
+abbrev pub RestWhereSettled : List ℕ → List NumberedLine → (Key → Bool) → List Deed → Type 0
+RestWhereSettled ids lines starves deeds = AllByRecursion (RestsAt lines starves deeds) (at_settles (first_control ids) lines)

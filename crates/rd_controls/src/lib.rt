@@ -6,4 +6,6 @@
 
 mod laws;
 
-pub use laws::{control_lines_do_as_said, scripts_are_ordered, sessions_do_as_said};
+pub use laws::{
+    control_lines_do_as_said, scripts_are_ordered, sessions_do_as_said, settle_lines_rest,
+};
