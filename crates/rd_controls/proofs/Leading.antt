@@ -11,8 +11,8 @@ use Rattle.rd_controls.proofs.Acting.{SeenAs, added_as, added_unseen, begun_as, 
 use Rattle.rd_controls.proofs.Marks.{first_marks, gone_marks, known_marks}
 use Rattle.rd_controls.proofs.Numbers.{Rise, an_errand, no_errand, numbers, picked_reverse}
 use Rattle.rd_controls.proofs.Unseen.{client_ready, event_unseen, host_ready, seen}
-use Rattle.rd_controls.proofs.Walking.{does_keeps, rounds_keep, settled_keeps}
-use Rattle.rd_controls.specs.Controls.{AreOrdered, AreReady, DoAsSaid, NamesKnown, OpensWhole, RestWhereSettled, RestsAt, control_with}
+use Rattle.rd_controls.proofs.Walking.{does_keeps, rounds_keep, settled_keeps, settled_rests}
+use Rattle.rd_controls.specs.Controls.{EndsAs, AreOrdered, AreReady, DoAsSaid, NamesKnown, OpensWhole, RestWhereSettled, RestsAt, control_with}
 use Rattle.rd_printer.specs.declared.notice.Notice.{Notice}
 use Rattle.rd_runs.specs.Moves.{IsOfLines, MayPass, Move, ReachedWithin, draws, event_weight, happens, idle, moved, queues, weight, Reached}
 use Rattle.rd_script.specs.declared.line.Errand.{Errand}
@@ -28,7 +28,7 @@ use Rattle.rd_world.specs.Events.{Event, act, is_channel_open, is_enabled}
 use Rattle.rd_world.specs.Run.{Most, applications_of, asked_by, by_event, choices, connects_on, controls, declared_devices, does, drawing, ends_session, event_of, idles, is_quiet, new_world, notice_of, plays, plays_line, queueing, run_of, setting, settled, some_left, world_of}
 use Rattle.rd_world.specs.Talk.{Deed, EndsWith, Has}
 use Rattle.rd_world.specs.Session.{at_settles}
-use Rattle.rd_controls.proofs.Resting.{later_end, later_line, later_settled, settle_rests, then_more}
+use Rattle.rd_controls.proofs.Resting.{event_grows, later_end, later_line, later_settled, settle_rests, then_more}
 use Rattle.rd_world.specs.World.{Asked, WorldState}
 
 both_true : (a b : Bool) → a ≡ true → b ≡ true → (a && b) ≡ true
@@ -403,31 +403,68 @@ module _ (lines : List NumberedLine) (starves : Key → Bool) (most : Most) (ids
   -- after everything a channel that was left open ends, or none does
   record IsOver (c : Control) (w : WorldState) : Type 0 where
     left : Option ℕ
-    was_open : IfSome left (λ channel. c.current ≡ Some channel)
+    ends : EndsAs lines starves c left w
     sees : SeenAs ids lines (control_with left c) [] (seen w)
 
   over_free : (c : Control) (w : WorldState) (e : Event) → event_weight e ≡ 0 → is_enabled w e ≡ true → IsOver c w → IsOver c (act starves w e)
-  over_free c w e free can o =
-      record { left = o.left; was_open = o.was_open; sees = subst (SeenAs ids lines (control_with o.left c) []) (sym (event_unseen starves w e free).same) o.sees }
+  over_free c w e free can o = record {
+    left = o.left;
+    ends = record {
+      last = o.ends.last;
+      reached = o.ends.reached;
+      rests = o.ends.rests;
+      grown = then_more o.ends.last.deeds w.deeds (act starves w e).deeds (event_grows ids lines starves w e) o.ends.grown;
+      channel = o.ends.channel;
+      left_is = o.ends.left_is;
+    };
+    sees = subst (SeenAs ids lines (control_with o.left c) []) (sym (event_unseen starves w e free).same) o.sees;
+  }
 
-  ends_over : (c : Control) (w : WorldState) → Led c [] w → IfSome (ends_session starves most w) (IsOver c)
-  ends_over c w l = go (is_channel_open w) refl (some_left w)
+  over_drawn : (c : Control) (w : WorldState) → IsOver c w → IsOver c (drawing w)
+  over_drawn c w o = record {
+    left = o.left;
+    ends = record { last = o.ends.last; reached = o.ends.reached; rests = o.ends.rests; grown = o.ends.grown; channel = o.ends.channel; left_is = o.ends.left_is };
+    sees = o.sees;
+  }
+
+  -- a world at rest after the last line
+  abbrev AtEnd : Control → WorldState → Type 0
+  AtEnd c w = Led c [] w × (choices w ≡ [])
+
+  ends_over : (c : Control) (w : WorldState) → AtEnd c w → IfSome (ends_session starves most w) (IsOver c)
+  ends_over c w (l, rests) = go (is_channel_open w) refl (some_left w) refl
     where
-      still : IsOver c w
-      still = record { left = None; was_open = tt; sees = l.base.sees }
+      ended : (left : Option ℕ) (v : WorldState) → EndsWith v.deeds w.deeds → left ≡ (if is_channel_open w && some_left w then c.current else None) → EndsAs lines starves c left v
+      ended left v grown is = record {
+        last = w;
+        reached = (let few : l.base.count ≤ length lines + 2 = omega (arith, l.base.few) in within_more l.base.count (length lines + 2) w few l.base.reached);
+        rests = rests;
+        grown = grown;
+        channel = l.base.sees.channel;
+        left_is = is;
+      }
 
-      closes : (o : Option ℕ) → c.current ≡ o → is_channel_open w ≡ true → IsOver c (act starves w event.drop_channel)
-      closes None shut is_open = absurd (no_channel (l.base.sees.channel ∙ shut) is_open)
-        where
-          no_channel : ((w.side).table).channel ≡ None → is_some ((w.side).table).channel ≡ true → ⊥
-          no_channel none some = let off : is_some ((w.side).table).channel ≡ false = ap is_some none in cc
-      closes (Some k) open_is is_open = record { left = Some k; was_open = open_is; sees = dropped_as ids lines c [] w k open_is l.base.sees }
+      still : (is_channel_open w && some_left w) ≡ false → IsOver c w
+      still none = record { left = None; ends = ended None w ([], refl) (sym (ap (λ (b : Bool). if b then c.current else None) none)); sees = l.base.sees }
 
-      go : (a : Bool) → is_channel_open w ≡ a → (b : Bool) → IfSome (if a && b then settled starves most.draws (act starves w event.drop_channel) else Some w) (IsOver c)
-      go true is_open true =
-          settled_keeps starves (IsOver c) (over_free c) (λ v o. record { left = o.left; was_open = o.was_open; sees = o.sees }) most.draws (act starves w event.drop_channel) (closes c.current refl is_open)
-      go true is_open false = still
-      go false is_open b = still
+      no_channel : ((w.side).table).channel ≡ None → is_some ((w.side).table).channel ≡ true → ⊥
+      no_channel none some = let off : is_some ((w.side).table).channel ≡ false = ap is_some none in cc
+
+      closes : (o : Option ℕ) → c.current ≡ o → is_channel_open w ≡ true → some_left w ≡ true → IsOver c (act starves w event.drop_channel)
+      closes None shut is_open waits = absurd (no_channel (l.base.sees.channel ∙ shut) is_open)
+      closes (Some k) open_is is_open waits =
+          let both : (is_channel_open w && some_left w) ≡ true = both_true (is_channel_open w) (some_left w) is_open waits in
+          record {
+            left = Some k;
+            ends = ended (Some k) (act starves w event.drop_channel) (event_grows ids lines starves w event.drop_channel)
+                (sym open_is ∙ sym (ap (λ (b : Bool). if b then c.current else None) both));
+            sees = dropped_as ids lines c [] w k open_is l.base.sees;
+          }
+
+      go : (a : Bool) → is_channel_open w ≡ a → (b : Bool) → some_left w ≡ b → IfSome (if a && b then settled starves most.draws (act starves w event.drop_channel) else Some w) (IsOver c)
+      go true is_open true waits = settled_keeps starves (IsOver c) (over_free c) (over_drawn c) most.draws (act starves w event.drop_channel) (closes c.current refl is_open waits)
+      go true is_open false waits = still (second_false (is_channel_open w) (some_left w) waits)
+      go false is_open b waits = still (first_false (is_channel_open w) (some_left w) is_open)
 
   -- ---- the beginning
 
@@ -442,9 +479,9 @@ module _ (lines : List NumberedLine) (starves : Key → Bool) (most : Most) (ids
       let first : Control = before_all ids in
       let begun : Option WorldState = connects_on starves most (world_of lines) in
       let played : Option WorldState = option_and_then (plays starves most lines) begun in
-      then_on (Led (control_of ids lines) []) (IsOver (control_of ids lines)) (ends_session starves most) (option_and_then (settled starves most.draws) played) (ends_over (control_of ids lines))
-      (then_on (Led (control_of ids lines) []) (Led (control_of ids lines) []) (settled starves most.draws) played
-      (settled_keeps starves (Led (control_of ids lines) []) (led_free (control_of ids lines) []) (led_drawn (control_of ids lines) []) most.draws)
+      then_on (AtEnd (control_of ids lines)) (IsOver (control_of ids lines)) (ends_session starves most) (option_and_then (settled starves most.draws) played) (ends_over (control_of ids lines))
+      (then_on (Led (control_of ids lines) []) (AtEnd (control_of ids lines)) (settled starves most.draws) played
+      (settled_rests starves (Led (control_of ids lines) []) (led_free (control_of ids lines) []) (led_drawn (control_of ids lines) []) most.draws)
       (then_on (Led (connected first) lines) (Led (control_of ids lines) []) (plays starves most lines) begun (plays_led lines (λ x has. has) known (connected first))
       (begins_led first lines (world_of lines) 0 start (omega arith) sees (may_connect lines) sees.channel)))
 
@@ -569,7 +606,7 @@ first_sees lines rise =
 
 pub does_as_said : (lines : List NumberedLine) (starves : Key → Bool) (most : Most) (w : WorldState)
     → let ids = map (λ (e : ℕ × Declared). e.0) (declared_devices (map (λ (x : NumberedLine). x.line) lines)) in
-    AreOrdered ids lines → OpensWhole lines starves → run_of most starves lines ≡ Some w → DoAsSaid ids lines w
+    AreOrdered ids lines → OpensWhole lines starves → run_of most starves lines ≡ Some w → DoAsSaid ids lines starves w
 does_as_said lines starves most w ordered opens is =
     let ids : List ℕ = map (λ (e : ℕ × Declared). e.0) (declared_devices (map (λ (x : NumberedLine). x.line) lines)) in
     let rise : Rise (numbers lines) = sorted_from_strictly_increasing (numbers lines) ordered.rise in
@@ -577,7 +614,7 @@ does_as_said lines starves most w ordered opens is =
     (run_over lines starves most ids rise opens ordered.known (first_sees lines rise)) in
     record {
       left = over.left;
-      was_open = over.was_open;
+      ends = over.ends;
       acts = picked_reverse act_by w.deeds ∙ over.sees.acts;
       idle_lines = over.sees.idle;
       idle_rise = IsStrictlyIncreasing-from_sorted w.idle (subst Rise (append-nil w.idle) over.sees.rises);

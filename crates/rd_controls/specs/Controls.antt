@@ -1,5 +1,5 @@
 -- What control lines do in a run, and what that takes of its lines and of the opening of a channel.
-use Rattle.std.specs.Prelude.{◌≡◌, ℕ, Bool, true, not, List, filter, filter_map, map, reverse, Option, IfSome, Some, []}
+use Rattle.std.specs.Prelude.{◌≡◌, ℕ, Bool, true, not, List, filter, filter_map, map, reverse, Option, [], None, ◌&&◌, if◌then◌else◌}
 use Rattle.std.specs.List.{AllByRecursion}
 use Rattle.std.specs.List.Sorted.{IsStrictlyIncreasing}
 use Rattle.std.specs.Option.{option_map_or}
@@ -13,7 +13,7 @@ use Rattle.rd_script.specs.declared.line.NumberedLine.{NumberedLine}
 use Rattle.rd_world.specs.Acts.{act_by, is_errand_at}
 use Rattle.rd_world.specs.Control.{Control, control_of, dropped_at, first_control, is_among}
 use Rattle.rd_world.specs.Events.{is_channel_open}
-use Rattle.rd_world.specs.Run.{choices, is_quiet}
+use Rattle.rd_world.specs.Run.{choices, is_quiet, some_left}
 use Rattle.rd_world.specs.Session.{at_settles}
 use Rattle.rd_world.specs.Talk.{Deed, EndsWith}
 use Rattle.rd_world.specs.World.{WorldState}
@@ -42,10 +42,20 @@ OpensWhole lines starves = (w : WorldState) → Reached lines starves w → is_c
 abbrev pub control_with : Option ℕ → Control → Control
 control_with left control = option_map_or (dropped_at control) left control
 
--- The control lines did what follows from the lines alone, but for the channel that ended after everything: that one was open after the last line.
-pub record DoAsSaid (ids : List ℕ) (lines : List NumberedLine) (w : WorldState) : Type 0 where
+-- After the last line nothing could happen by itself at a point of the run, which its deeds go on from. The channel that was open then is left where a request
+-- of it waits.
+pub record EndsAs (lines : List NumberedLine) (starves : Key → Bool) (said : Control) (left : Option ℕ) (w : WorldState) : Type 0 where
+  pub last : WorldState
+  pub reached : Reached lines starves last
+  pub rests : choices last ≡ []
+  pub grown : EndsWith w.deeds last.deeds
+  pub channel : ((last.side).table).channel ≡ said.current
+  pub left_is : left ≡ (if is_channel_open last && some_left last then said.current else None)
+
+-- The control lines did what follows from the lines alone, but for the channel that ended after everything.
+pub record DoAsSaid (ids : List ℕ) (lines : List NumberedLine) (starves : Key → Bool) (w : WorldState) : Type 0 where
   pub left : Option ℕ
-  pub was_open : IfSome left (λ channel. (control_of ids lines).current ≡ Some channel)
+  pub ends : EndsAs lines starves (control_of ids lines) left w
   pub acts : filter_map act_by (reverse w.deeds) ≡ (control_with left (control_of ids lines)).acts
   pub idle_lines : filter (λ number. not (is_errand_at lines number)) w.idle ≡ (control_with left (control_of ids lines)).idle
   pub idle_rise : IsStrictlyIncreasing w.idle

@@ -13,12 +13,12 @@ ghost use Rattle.rd_world.specs.World.{WorldState, marks_of};
 
 /// In every run of lines whose numbers rise, and which remove and add devices of theirs, channels begin and end, devices are removed and added and printers
 /// are told of by the control lines alone, in their order and as follows from the lines alone, whatever is drawn; and the lines that did nothing are those that
-/// then do nothing, beside `do` lines, each once. It takes that a channel opens wherever the bytes under way run out; a channel that is open
-/// after everything may end last.
+/// then do nothing, beside `do` lines, each once. It takes that a channel opens wherever the bytes under way run out. The channel that is open
+/// after everything ends last where a request of it waits.
 pub fn control_lines_do_as_said()
     ensures { (lines : List NumberedLine) (starves : Key → Bool) (most : Most) (w : WorldState)
         → let ids = map (λ (e : ℕ × Declared). e.0) (declared_devices (map (λ (x : NumberedLine). x.line) lines)) in
-        AreOrdered ids lines → OpensWhole lines starves → run_of most starves lines ≡ Some w → DoAsSaid ids lines w }
+        AreOrdered ids lines → OpensWhole lines starves → run_of most starves lines ≡ Some w → DoAsSaid ids lines starves w }
 {}
 
 /// Where a `settle` line of theirs ends nothing can happen by itself, and its control lines so far have done what follows from these; what was done by then
@@ -38,7 +38,7 @@ pub fn scripts_are_ordered()
 /// So in every session of a script the control lines do what follows from its lines, and its `settle` lines rest, where channels open.
 pub fn sessions_do_as_said()
     ensures said { (text : List ℕ) (script : Script) (w : WorldState) → script_of Mode.Both text ≡ Ok script → WorldRun script.lines w → OpensWhole script.lines (marks_of w)
-        → DoAsSaid (map (λ (e : ℕ × Declared). e.0) (declared_devices (map (λ (l : NumberedLine). l.line) script.lines))) script.lines w }
+        → DoAsSaid (map (λ (e : ℕ × Declared). e.0) (declared_devices (map (λ (l : NumberedLine). l.line) script.lines))) script.lines (marks_of w) w }
     ensures settled { (text : List ℕ) (script : Script) (w : WorldState) → script_of Mode.Both text ≡ Ok script → WorldRun script.lines w → OpensWhole script.lines (marks_of w)
         → RestWhereSettled (map (λ (e : ℕ × Declared). e.0) (declared_devices (map (λ (l : NumberedLine). l.line) script.lines))) script.lines (marks_of w) w.deeds }
 {}
