@@ -24,11 +24,11 @@ use Rattle.rd_script.specs.declared.outcome.Outcome.{Outcome}
 use Rattle.rd_station.specs.Station.{StationState}
 use Rattle.rd_world.specs.declared.device.SessionDevice.{SessionDevice}
 use Rattle.rd_runs.specs.Moves.{Reached}
-use Rattle.rd_runs.specs.Premises.{HostPremises, IsFitting, IsHandleInRange}
+use Rattle.rd_runs.specs.Premises.{AreFitting, IsFitting, IsHandleInRange}
 use Rattle.rd_runs.proofs.BeginningLemmas.{Unset, begins_as}
 use Rattle.rd_runs.proofs.Insides.{IsInside, Outside, added_inside, all_dropped_inside, all_refreshed_inside, applied_inside, hears_inside, put_inside, removed_inside}
 use Rattle.rd_runs.proofs.Parts.{Part, accepts, adds_one, applies_one, begins, by_parts, client_gets, client_hears_one, client_keeps_part, client_sends_one, collects_one, done, draws_one, ends, hands_out, host_gets, host_hears_one, host_keeps_part, host_sends_one, idle_one, queues_one, reached_behind, refuses, removes_one, takes_one, tells_one, tries_one}
-use Rattle.rd_runs.proofs.Standing.{FitLines}
+use Rattle.rd_runs.proofs.Standing.{AreTellable, MayTake}
 use Rattle.rd_world.proofs.NotingLemmas.{add_tellable, delete_tellable, rename_tellable, update_tellable}
 use Rattle.rd_world.specs.Devices.{PrinterNames, dos_name, zero_text}
 use Rattle.rd_world.specs.Events.{target_of}
@@ -215,11 +215,12 @@ one_notable [] l all has = absurd has
 one_notable (x ∷ ls) l all (inl same) = subst (λ (y : NumberedLine). IsNotable y.line) (sym same) all.0
 one_notable (x ∷ ls) l all (inr has) = one_notable ls l all.1 has
 
--- what statements about a host take of lines
-pub fit_lines : (lines : List NumberedLine) (starves : Key → Bool) → HostPremises lines starves → FitLines lines starves
-fit_lines lines starves premises = record {
-  asked = λ w r a asked named next names.
-      let (l, n, has, is) = next_of_line lines starves w r a asked next in
-      named_fits (application_at w a) asked named (premises.fitting l n asked has is) (subst OpensNamed is (each_opens l.line)) (premises.handles w r a) names;
-  told = λ l n has said. subst (λ (o : Option Notice). IfSome o IsTellable) said (notable_told l.line (one_notable lines l premises.notable has));
-}
+-- So a host may take what an application's line names, where handles have room in a request.
+pub may_take : (lines : List NumberedLine) (starves : Key → Bool) → AreFitting lines → (w : WorldState)
+    → ((a : ℕ) (name : List ℕ) (h : Handle) → handle_named (application_at w a) name ≡ Some h → IsHandleInRange h) → MayTake lines starves w
+may_take lines starves fitting w handles r a asked named next names =
+    let (l, n, has, is) = next_of_line lines starves w r a asked next in
+    named_fits (application_at w a) asked named (fitting l n asked has is) (subst OpensNamed is (each_opens l.line)) (handles a) names
+
+pub tellable_lines : (lines : List NumberedLine) → AreNotable lines → AreTellable lines
+tellable_lines lines notable l n has said = subst (λ (o : Option Notice). IfSome o IsTellable) said (notable_told l.line (one_notable lines l notable has))

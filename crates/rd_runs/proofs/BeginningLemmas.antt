@@ -9,7 +9,7 @@ use Rattle.rd_script.specs.declared.line.Line.TheVariants as line
 use Rattle.rd_script.specs.declared.line.NumberedLine.{NumberedLine}
 use Rattle.rd_station.specs.Station.{StationState}
 use Rattle.rd_world.specs.declared.device.SessionDevice.{SessionDevice}
-use Rattle.rd_world.specs.Devices.{Declared}
+use Rattle.rd_world.specs.Devices.{Declared, PrinterNames}
 use Rattle.rd_world.specs.Host.{HostSide}
 use Rattle.rd_world.specs.Run.{applications_of, declared_devices, new_world, setting, station_of, world_of}
 use Rattle.rd_world.specs.Talk.{Deed}
@@ -21,6 +21,7 @@ pub record Unset : Type 0 where
   pub client : ClientCoreState
   pub side : HostSide
   pub stations : List (ℕ × StationState SessionDevice)
+  pub printers : List (ℕ × PrinterNames)
   pub applications : List (ℕ × ApplicationState)
   pub to_client : WayState
   pub to_host : WayState
@@ -33,6 +34,7 @@ unset w = record {
   client = w.client;
   side = w.side;
   stations = w.stations;
+  printers = w.printers;
   applications = w.applications;
   to_client = w.to_client;
   to_host = w.to_host;

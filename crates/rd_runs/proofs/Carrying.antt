@@ -9,10 +9,10 @@ use Rattle.rd_script.specs.declared.line.NumberedLine.{NumberedLine}
 use Rattle.rd_station.specs.Station.{StationState}
 use Rattle.rd_runs.proofs.BeginningLemmas.{Unset, begins_as}
 use Rattle.rd_runs.proofs.Insides.{AreOwn, IsInside, Outside, added_inside, all_dropped_inside, all_refreshed_inside, applied_inside, hears_inside, put_inside, removed_inside, stationed}
-use Rattle.rd_runs.proofs.KeysOn.{AnswersOn, on_now, sent_on}
+use Rattle.rd_runs.proofs.KeysOn.{OnNow, sent_on}
 use Rattle.rd_runs.proofs.KeysOnLemmas.{collected_on}
-use Rattle.rd_runs.proofs.Parts.{IsBehind, MayBe, Part, accepts, adds_one, applies_one, begins, by_parts, client_gets, client_hears_one, client_keeps_part, client_sends_one, collects_one, done, draws_one, ends, hands_out, host_gets, host_hears_one, host_keeps_part, host_sends_one, idle_one, queues_one, refuses, removes_one, takes_one, tells_one, tries_one}
-use Rattle.rd_runs.proofs.Standing.{FitLines, NeedsOpen, needs_open, open_inside, stands}
+use Rattle.rd_runs.proofs.Parts.{MayBe, Part, accepts, adds_one, applies_one, begins, client_gets, client_hears_one, client_keeps_part, client_sends_one, collects_one, done, draws_one, ends, hands_out, host_gets, host_hears_one, host_keeps_part, host_sends_one, idle_one, queues_one, refuses, removes_one, takes_one, tells_one, tries_one}
+use Rattle.rd_runs.proofs.Standing.{Stands, needs_open, open_inside}
 use Rattle.rd_runs.proofs.TrafficLemmas.{AreMoving, AreSilent, Carries, Traffic, all_silent, client_reads_else, client_reads_here, client_writes_else, client_writes_here, completes_else, completes_here, host_reads_else, host_reads_here, host_writes_else, host_writes_here, one_begun, one_ended, one_loud, one_silent, ways_moved}
 use Rattle.rd_runs.proofs.WayLemmas.{IsUnderWay, one_read, one_written, part_kept, some_got}
 use Rattle.rd_world.specs.declared.device.SessionDevice.{SessionDevice}
@@ -98,7 +98,7 @@ module _ (w : WorldState) (is : open_channel w.deeds ≡ Some w.channels) (k : C
       (subst (λ (t : Traffic). AreMoving t w.to_client (carrying w.to_host m)) (sym (completes_here w.channels w.deeds m key on))
       (down, one_written (client_wrote w.channels w.deeds) (host_read w.channels w.deeds) w.to_host up m fits))
 
-  sent_one : (o : Outgoing) → AnswersOn w.channels o → IsFit (deed_on w.channels o) → Carries w.channels w.to_client (carrying w.to_host o.message) (deed_on w.channels o ∷ w.deeds)
+  sent_one : (o : Outgoing) → IfSome o.answers (λ (key : Key). key.channel ≡ w.channels) → IsFit (deed_on w.channels o) → Carries w.channels w.to_client (carrying w.to_host o.message) (deed_on w.channels o ∷ w.deeds)
   sent_one o answers fits = by o.answers answers fits
     where
       by : (a : Option Key) → IfSome a (λ (key : Key). key.channel ≡ w.channels) → IsFit (option_map_or (λ key. completes key o.message) a (client_writes w.channels o.message))
@@ -106,71 +106,64 @@ module _ (w : WorldState) (is : open_channel w.deeds ≡ Some w.channels) (k : C
       by None on fits = client_wrote_one o.message fits
       by (Some key) on fits = completed_one key on o.message fits
 
-module _ (lines : List NumberedLine) (starves : Key → Bool) (fit : FitLines lines starves) where
-  first : CarriesFit (world_of lines)
-  first = begins_as lines (λ (u : Unset). AreFit u.deeds → Carries u.channels u.to_client u.to_host u.deeds)
+module _ (lines : List NumberedLine) (starves : Key → Bool) where
+  pub carries_first : CarriesFit (world_of lines)
+  carries_first = begins_as lines (λ (u : Unset). AreFit u.deeds → Carries u.channels u.to_client u.to_host u.deeds)
       (λ fits. record { each = record { to_client = λ c. ([], refl); to_host = λ c. ([], refl) }; on_open = tt; later = λ x above. refl; moving = λ is. absurd (cc is) })
 
-  opened : (w : WorldState) (p : Part) → IsBehind lines starves w → MayBe lines starves w p → NeedsOpen p → open_channel w.deeds ≡ Some w.channels
-  opened w p b may needs = needs_open lines starves w p may needs (stands lines starves fit w b)
-
-  step : (w : WorldState) (p : Part) → IsBehind lines starves w → MayBe lines starves w p → CarriesFit w → CarriesFit (done starves w p)
-  step w (accepts a asked named t number) b may k fits = one_silent w.channels w.to_client w.to_host w.deeds (k fits.1) (submits a named asked.op) tt
-  step w (refuses a asked cause) b may k fits = k fits
-  step w (hands_out a number t taken None) b may k fits = one_silent w.channels w.to_client w.to_host w.deeds (k fits.1) (takes number) tt
-  step w (hands_out a number t taken (Some asked)) b may k fits = one_silent w.channels w.to_client w.to_host w.deeds (k fits.1) (takes number) tt
-  step w (host_sends_one message) b may k fits = host_wrote_one w (opened w (host_sends_one message) b may tt) (k fits.1) message fits.0
-  step w (host_gets n) b may k fits =
+  pub carries_step : (w : WorldState) (p : Part) → Stands w → OnNow w → MayBe lines starves w p → CarriesFit w → CarriesFit (done starves w p)
+  carries_step w (accepts a asked named t number) s on may k fits = one_silent w.channels w.to_client w.to_host w.deeds (k fits.1) (submits a named asked.op) tt
+  carries_step w (refuses a asked cause) s on may k fits = k fits
+  carries_step w (hands_out a number t taken None) s on may k fits = one_silent w.channels w.to_client w.to_host w.deeds (k fits.1) (takes number) tt
+  carries_step w (hands_out a number t taken (Some asked)) s on may k fits = one_silent w.channels w.to_client w.to_host w.deeds (k fits.1) (takes number) tt
+  carries_step w (host_sends_one message) s on may k fits = host_wrote_one w (needs_open lines starves w (host_sends_one message) may tt s) (k fits.1) message fits.0
+  carries_step w (host_gets n) s on may k fits =
       ways_moved w.channels w.to_client w.to_host w.deeds (k fits) w.to_client ((done starves w (host_gets n)).to_host)
       (λ (down, up). (down, some_got (client_wrote w.channels w.deeds) (host_read w.channels w.deeds) w.to_host up n))
-  step w host_keeps_part b may k fits =
+  carries_step w host_keeps_part s on may k fits =
       ways_moved w.channels w.to_client w.to_host w.deeds (k fits) w.to_client ((done starves w host_keeps_part).to_host)
       (λ (down, up). (down, part_kept (client_wrote w.channels w.deeds) (host_read w.channels w.deeds) w.to_host up))
-  step w (host_hears_one message rest) b may k fits =
-      host_read_one w (opened w (host_hears_one message rest) b may tt) (k fits.1) message ((done starves w (host_hears_one message rest)).to_host)
+  carries_step w (host_hears_one message rest) s on may k fits =
+      host_read_one w (needs_open lines starves w (host_hears_one message rest) may tt s) (k fits.1) message ((done starves w (host_hears_one message rest)).to_host)
       (λ up. one_read (client_wrote w.channels w.deeds) (host_read w.channels w.deeds) w.to_host up message rest may)
-  step w (tells_one n) b may k fits = one_silent w.channels w.to_client w.to_host w.deeds (k fits.1) (tells n) tt
-  step w begins b may k fits =
+  carries_step w (tells_one n) s on may k fits = one_silent w.channels w.to_client w.to_host w.deeds (k fits.1) (tells n) tt
+  carries_step w begins s on may k fits =
       let fresh : WorldState = fold refreshing w (map (λ (e : ℕ × PrinterNames). e.0) w.printers) in
       let i = all_refreshed_inside (map (λ (e : ℕ × PrinterNames). e.0) w.printers) w in
       let same : fresh.channels ≡ w.channels = ap (λ (o : Outside). o.channels) i.same in
       one_begun w.channels fresh.to_client fresh.to_host fresh.deeds (subst (λ (n : ℕ). Carries n fresh.to_client fresh.to_host fresh.deeds) same (inside_now w fresh i k fits.1))
-  step w ends b may k fits =
+  carries_step w ends s on may k fits =
       let devices : List ℕ = map (λ (e : ℕ × StationState SessionDevice). e.0) w.stations in
       let cut : WorldState = fold dropping w devices in
       one_ended cut.channels cut.to_client cut.to_host cut.deeds (inside_now w cut (all_dropped_inside devices w) k fits.1) _ _
-  step w (client_sends_one after o) b made k fits =
-      sent_one w (opened w (client_sends_one after o) b made tt) (k fits.1) o (sent_on w.channels w.client after o (on_now lines starves fit w b).outbox made).0 fits.0
-  step w (client_gets n) b may k fits =
+  carries_step w (client_sends_one after o) s on made k fits =
+      sent_one w (needs_open lines starves w (client_sends_one after o) made tt s) (k fits.1) o ((sent_on w.channels w.client after o on.outbox made).0).0 fits.0
+  carries_step w (client_gets n) s on may k fits =
       ways_moved w.channels w.to_client w.to_host w.deeds (k fits) ((done starves w (client_gets n)).to_client) w.to_host
       (λ (down, up). (some_got (host_wrote w.channels w.deeds) (client_read w.channels w.deeds) w.to_client down n, up))
-  step w client_keeps_part b may k fits =
+  carries_step w client_keeps_part s on may k fits =
       ways_moved w.channels w.to_client w.to_host w.deeds (k fits) ((done starves w client_keeps_part).to_client) w.to_host
       (λ (down, up). (part_kept (host_wrote w.channels w.deeds) (client_read w.channels w.deeds) w.to_client down, up))
-  step w (client_hears_one message rest) b (kept, is) k fits =
+  carries_step w (client_hears_one message rest) s on (kept, is) k fits =
       let x : WorldState = record w { to_client = record w.to_client { part = []; taken = _; unhandled = rest } } in
       let read : WorldState = with_deed x (client_reads w.channels message) in
       inside_now read (done starves w (client_hears_one message rest)) (hears_inside x message)
-      (λ fits. client_read_one w (opened w (client_hears_one message rest) b (kept, is) tt) (k fits.1) message x.to_client
+      (λ fits. client_read_one w (needs_open lines starves w (client_hears_one message rest) (kept, is) tt s) (k fits.1) message x.to_client
       (λ down. one_read (host_wrote w.channels w.deeds) (client_read w.channels w.deeds) w.to_client down message rest is)) fits
-  step w (tries_one kept) b may k fits =
+  carries_step w (tries_one kept) s on may k fits =
       let x : WorldState = record w { kept = None } in
       inside_now x (done starves w (tries_one kept)) (put_inside x kept.device kept.job) k fits
-  step w (collects_one device s after c) b (quiet, there, made) k fits =
+  carries_step w (collects_one device st after c) s on (reached, quiet, there, made) k fits =
       let y : WorldState = with_station w device after in
       let i = stationed w device after in
-      let is = opened w (collects_one device s after c) b (quiet, there, made) tt in
-      completed_one y (open_inside w y i ∙ is) (inside_now w y i k fits.1) c.key (collected_on w.channels s ((on_now lines starves fit w b).held device s there) after c made).0 (completion_message device c) fits.0
-  step w (takes_one device hand s after job) b may k fits = inside_now w (with_station w device after) (stationed w device after) k fits
-  step w (applies_one hand device job None) b may k fits = k fits
-  step w (applies_one hand device job (Some s)) b may k fits =
-      inside_now w (done starves w (applies_one hand device job (Some s))) (applied_inside starves w hand device job (Some s)) k fits
-  step w (removes_one device o) b may k fits = inside_now w (done starves w (removes_one device o)) (removed_inside w device o) k fits
-  step w (adds_one device names o) b may k fits = inside_now w (done starves w (adds_one device names o)) (added_inside w device names o) k fits
-  step w (queues_one a) b may k fits = k fits
-  step w (idle_one number) b may k fits = k fits
-  step w draws_one b may k fits = k fits
-
-  -- every world that lines come to, and each in between
-  pub carries : (w : WorldState) → IsBehind lines starves w → CarriesFit w
-  carries = by_parts lines starves CarriesFit first (λ w p before after may k. step w p before may k)
+      let is = needs_open lines starves w (collects_one device st after c) (reached, quiet, there, made) tt s in
+      completed_one y (open_inside w y i ∙ is) (inside_now w y i k fits.1) c.key (collected_on w.channels st (on.held device st there) after c made).0 (completion_message device c) fits.0
+  carries_step w (takes_one device hand st after job) s on may k fits = inside_now w (with_station w device after) (stationed w device after) k fits
+  carries_step w (applies_one hand device job None) s on may k fits = k fits
+  carries_step w (applies_one hand device job (Some st)) s on may k fits =
+      inside_now w (done starves w (applies_one hand device job (Some st))) (applied_inside starves w hand device job (Some st)) k fits
+  carries_step w (removes_one device o) s on may k fits = inside_now w (done starves w (removes_one device o)) (removed_inside w device o) k fits
+  carries_step w (adds_one device names o) s on may k fits = inside_now w (done starves w (adds_one device names o)) (added_inside w device names o) k fits
+  carries_step w (queues_one a) s on may k fits = k fits
+  carries_step w (idle_one number) s on may k fits = k fits
+  carries_step w draws_one s on may k fits = k fits

@@ -57,9 +57,10 @@ pub record Outside : Type 0 where
   pub to_client : WayState
   pub to_host : WayState
   pub applications : List (ℕ × ApplicationState)
+  pub printers : List (ℕ × PrinterNames)
 
 abbrev pub outside : WorldState → Outside
-outside w = record { side = w.side; channels = w.channels; to_client = w.to_client; to_host = w.to_host; applications = w.applications }
+outside w = record { side = w.side; channels = w.channels; to_client = w.to_client; to_host = w.to_host; applications = w.applications; printers = w.printers }
 
 -- The second world is what is left of the first by what a client did by itself.
 pub record IsInside (w v : WorldState) : Type 0 where

@@ -1,11 +1,11 @@
 -- In each world that lines come to, what a client holds, keeps back or answers itself came on the channel that began last.
-use Rattle.std.proofs.Common.{◌≡◌, ◌∙◌, refl, sym, ap, subst, inl, inr, ℕ, ◌+◌, Bool, true, false, List, [], ◌∷◌, map, fold, Some, None, Option, Result, Ok, Err}
+use Rattle.std.proofs.Common.{◌≡◌, ◌∙◌, refl, sym, ap, subst, inl, inr, ℕ, ◌+◌, Bool, true, false, List, [], ◌∷◌, ◌++◌, map, fold, Some, None, Option, Result, Ok, Err}
 use Rattle.std.specs.Prelude.{if◌then◌else◌}
 use Rattle.std.specs.List.{AllByRecursion}
 use Rattle.std.specs.Map.{lookup}
 use Rattle.std.specs.Ordering.{nat_cmp}
 use Rattle.std.specs.BTreeMap.{insert_entry, is_at}
-use Rattle.std.specs.Option.{IfSome, option_map_or}
+use Rattle.std.specs.Option.{IfSome, option_map_or, option_to_list}
 use Rattle.std.proofs.lemmas.Bool.{cases_eq}
 use Rattle.rd_base.specs.declared.journal.Key.{Key}
 use Rattle.rd_base.specs.declared.status.Status.{Status}
@@ -23,6 +23,10 @@ use Rattle.rd_devices.specs.DeviceList.{list_bytes}
 use Rattle.rd_drive.proofs.AllLemmas.{all_append}
 use Rattle.rd_drive.specs.declared.plan.Job.{Job}
 use Rattle.rd_hello.specs.declared.client.ClientState.{ClientState}
+use Rattle.rd_hello.specs.declared.hello.Hello.{Hello}
+use Rattle.rd_hello.specs.Hello.{hello_bytes}
+use Rattle.rd_irp.specs.declared.completion.Body.TheVariants.{Fault}
+use Rattle.rd_irp.specs.Fits.{kind_of}
 use Rattle.rd_hello.specs.declared.end_fault.EndFault.{EndFault}
 use Rattle.rd_pending.proofs.MapLemmas.{beside, inserted}
 use Rattle.rd_script.specs.declared.line.NumberedLine.{NumberedLine}
@@ -31,11 +35,12 @@ use Rattle.rd_station.specs.declared.refusals.PutWhy.TheVariants as why
 use Rattle.rd_station.specs.Station as station
 use Rattle.rd_station.specs.Station.{StationState, put_refusal, put_unless}
 use Rattle.rd_runs.proofs.BeginningLemmas.{Unset, begins_as, first_idle}
+use Rattle.rd_runs.proofs.FileNumbers.{IsSafe, completion_safe, hello_safe, list_safe, removal_safe}
 use Rattle.rd_runs.proofs.IdleLemmas.{cut_idle}
 use Rattle.rd_runs.proofs.Insides.{IsInside, Outside, added_inside, all_dropped_inside, hears_inside, put_inside, removed_inside}
 use Rattle.rd_runs.proofs.KeysOnLemmas.{HeldOn, all_mapped, announced_on, applied_on, collected_on, idle_on, put_on, removed_on, took_on}
-use Rattle.rd_runs.proofs.Parts.{IsBehind, MayBe, Part, accepts, adds_one, announced_by, applies_one, begins, by_parts, client_gets, client_hears_one, client_keeps_part, client_sends_one, collects_one, cut_by, done, draws_one, ends, hands_out, host_gets, host_hears_one, host_keeps_part, host_sends_one, idle_one, queues_one, refreshed_by, refuses, removes_one, takes_one, tells_one, told_added, told_removed, tries_one}
-use Rattle.rd_runs.proofs.Standing.{FitLines, is_off, shut_now, stands}
+use Rattle.rd_runs.proofs.Parts.{MayBe, Part, accepts, adds_one, announced_by, applies_one, begins, client_gets, client_hears_one, client_keeps_part, client_sends_one, collects_one, cut_by, done, draws_one, ends, hands_out, host_gets, host_hears_one, host_keeps_part, host_sends_one, idle_one, queues_one, refreshed_by, refuses, removes_one, takes_one, tells_one, told_added, told_removed, tries_one}
+use Rattle.rd_runs.proofs.Standing.{Stands, is_off, shut_now}
 use Rattle.rd_world.specs.declared.device.SessionDevice.{SessionDevice}
 use Rattle.rd_world.specs.Devices.{PrinterNames, device_cut}
 use Rattle.rd_world.specs.Events.{came_of, dropping, is_channel_open, refreshing}
@@ -44,9 +49,9 @@ use Rattle.rd_world.specs.Run.{declared_devices, world_of}
 use Rattle.rd_world.specs.Talk.{client_reads}
 use Rattle.rd_world.specs.World.{Kept, WorldState, station_at, with_deed, with_station}
 
--- a message of the client answers a request of the channel, if it answers one
+-- A message of the client answers a request of the channel, if it answers one; and where it is a completion, its body begins in bytes.
 abbrev pub AnswersOn : ℕ → Outgoing → Type 0
-AnswersOn c o = IfSome o.answers (λ (key : Key). key.channel ≡ c)
+AnswersOn c o = IfSome o.answers (λ (key : Key). key.channel ≡ c) × IsSafe o.message
 
 pub record AreOn (c : ℕ) (clt : ClientCoreState) (kept : Option Kept) (stations : List (ℕ × StationState SessionDevice)) : Type 0 where
   pub channel : clt.channel ≡ c
@@ -64,11 +69,11 @@ module _ (c : ℕ) where
       by (hearing.wrong fault) = all
       by hearing.nothing = all
       by (hearing.opens row) =
-          all_append (AnswersOn c) e.outbox (map plain (messages_of row)) all (all_mapped (AnswersOn c) plain (λ (m : List ℕ). Unit {0}) (λ m own. tt) (messages_of row) (each (messages_of row)))
+          all_append (AnswersOn c) e.outbox (map plain (messages_of row)) all (all_mapped (AnswersOn c) plain IsSafe (λ m safe. (tt, safe)) (messages_of row) (each (option_to_list row.first ++ option_to_list row.second)))
         where
-          each : (ms : List (List ℕ)) → AllByRecursion (λ (m : List ℕ). Unit {0}) ms
+          each : (hs : List Hello) → AllByRecursion IsSafe (map hello_bytes hs)
           each [] = tt
-          each (m ∷ ms) = (tt, each ms)
+          each (h ∷ hs) = (hello_safe h, each hs)
       by (hearing.says a) = all
 
       unless : (o : Option EndFault) → AllByRecursion (AnswersOn c) ((hearing.hear_unless client_side e bytes o).0).outbox
@@ -87,7 +92,7 @@ module _ (c : ℕ) where
     where
       by : (b : Bool) → let now : ClientCoreState = (if b then client.with_outgoing (record clt { core = after }) (plain (list_bytes (listed clt))) else record clt { core = after }) in
           (now.channel ≡ c) × AllByRecursion (AnswersOn c) (now.core).outbox × Unit {0}
-      by true = (on, all_append (AnswersOn c) after.outbox (plain (list_bytes (listed clt)) ∷ []) all (tt, tt), tt)
+      by true = (on, all_append (AnswersOn c) after.outbox (plain (list_bytes (listed clt)) ∷ []) all ((tt, list_safe (listed clt)), tt), tt)
       by false = (on, all, tt)
   made_on clt on (after, Ok (Some (requests r))) all = (on, all, on)
   made_on clt on (after, Ok (Some (replies r))) all = (on, all, tt)
@@ -127,7 +132,7 @@ module _ (c : ℕ) where
   direct_on : (w : WorldState) (d : ℕ) (job : Job) (st : Status) → (job.key).channel ≡ c → On w → On (answers_directly w d job st)
   direct_on w d job st own on = record {
     channel = on.channel;
-    outbox = all_append (AnswersOn c) ((w.client).core).outbox (_ ∷ []) on.outbox (own, tt);
+    outbox = all_append (AnswersOn c) ((w.client).core).outbox (_ ∷ []) on.outbox ((own, completion_safe (kind_of job.op) (record { device = d; completion = job.completion; status = st }) Fault), tt);
     back = on.back;
     held = on.held;
   }
@@ -176,11 +181,11 @@ module _ (c : ℕ) where
 
 -- ---- what leaves some of it alone
 
-refreshed_kept : (w : WorldState) (d : ℕ) (o : Option PrinterNames) → ((refreshed_by w d o).kept ≡ w.kept) × ((refreshed_by w d o).stations ≡ w.stations)
+pub refreshed_kept : (w : WorldState) (d : ℕ) (o : Option PrinterNames) → ((refreshed_by w d o).kept ≡ w.kept) × ((refreshed_by w d o).stations ≡ w.stations)
 refreshed_kept w d None = (refl, refl)
 refreshed_kept w d (Some names) = (refl, refl)
 
-all_refreshed_kept : (devices : List ℕ) (w : WorldState) → ((fold refreshing w devices).kept ≡ w.kept) × ((fold refreshing w devices).stations ≡ w.stations)
+pub all_refreshed_kept : (devices : List ℕ) (w : WorldState) → ((fold refreshing w devices).kept ≡ w.kept) × ((fold refreshing w devices).stations ≡ w.stations)
 all_refreshed_kept [] w = (refl, refl)
 all_refreshed_kept (d ∷ devices) w =
     let one = refreshed_kept w d (lookup (is_at (nat_cmp d)) w.printers) in
@@ -222,28 +227,27 @@ sent_on c clt after o all made = by (clt.core).outbox refl
           subst (λ (x : ClientCoreState). AllByRecursion (AnswersOn c) (x.core).outbox) left both.1,
         )
 
-module _ (lines : List NumberedLine) (starves : Key → Bool) (fit : FitLines lines starves) where
-  first : OnNow (world_of lines)
-  first = begins_as lines (λ (u : Unset). AreOn u.channels u.client u.kept u.stations) (record {
+module _ (lines : List NumberedLine) (starves : Key → Bool) where
+  pub on_first : OnNow (world_of lines)
+  on_first = begins_as lines (λ (u : Unset). AreOn u.channels u.client u.kept u.stations) (record {
     channel = refl;
     outbox = tt;
     back = tt;
     held = λ d s there. idle_on 0 s (first_idle (declared_devices (map (λ (l : NumberedLine). l.line) lines)) d s there);
   })
 
-  step : (w : WorldState) (p : Part) → IsBehind lines starves w → MayBe lines starves w p → OnNow w → OnNow (done starves w p)
-  step w (accepts a asked named t number) b may on = on
-  step w (refuses a asked cause) b may on = on
-  step w (hands_out a number t taken None) b may on = on
-  step w (hands_out a number t taken (Some asked)) b may on = on
-  step w (host_sends_one message) b may on = on
-  step w (host_gets n) b may on = on
-  step w host_keeps_part b may on = on
-  step w (host_hears_one message rest) b may on = on
-  step w (tells_one n) b may on = on
-  step w begins b can on =
-      let s = stands lines starves fit w b in
-      let shut = s.shut (shut_now w s (is_off (is_channel_open w) can)) in
+  pub on_step : (w : WorldState) (p : Part) → Stands w → MayBe lines starves w p → OnNow w → OnNow (done starves w p)
+  on_step w (accepts a asked named t number) stand may on = on
+  on_step w (refuses a asked cause) stand may on = on
+  on_step w (hands_out a number t taken None) stand may on = on
+  on_step w (hands_out a number t taken (Some asked)) stand may on = on
+  on_step w (host_sends_one message) stand may on = on
+  on_step w (host_gets n) stand may on = on
+  on_step w host_keeps_part stand may on = on
+  on_step w (host_hears_one message rest) stand may on = on
+  on_step w (tells_one n) stand may on = on
+  on_step w begins stand can on =
+      let shut = stand.shut (shut_now w stand (is_off (is_channel_open w) can)) in
       let same = all_refreshed_kept (map (λ (e : ℕ × PrinterNames). e.0) w.printers) w in
       let fresh : WorldState = fold refreshing w (map (λ (e : ℕ × PrinterNames). e.0) w.printers) in
       record {
@@ -252,7 +256,7 @@ module _ (lines : List NumberedLine) (starves : Key → Bool) (fit : FitLines li
         back = subst (λ (o : Option Kept). IfSome o (λ (k : Kept). ((k.job).key).channel ≡ w.channels + 1)) (sym (same.0 ∙ shut.kept_none)) tt;
         held = λ d s there. idle_on (w.channels + 1) s (shut.idle d s (ap (λ (es : List (ℕ × StationState SessionDevice)). lookup (is_at (nat_cmp d)) es) (sym same.1) ∙ there));
       }
-  step w ends b is on =
+  on_step w ends stand is on =
       let devices : List ℕ = map (λ (e : ℕ × StationState SessionDevice). e.0) w.stations in
       let cut : WorldState = fold dropping w devices in
       let i = all_dropped_inside devices w in
@@ -263,42 +267,38 @@ module _ (lines : List NumberedLine) (starves : Key → Bool) (fit : FitLines li
         back = tt;
         held = λ d s there. idle_on cut.channels s (cut_idle w d s there);
       }
-  step w (client_sends_one after o) b made on =
+  on_step w (client_sends_one after o) stand made on =
       let sent = sent_on w.channels w.client after o on.outbox made in
       record { channel = sent.1 ∙ on.channel; outbox = sent.2; back = on.back; held = on.held }
-  step w (client_gets n) b may on = on
-  step w client_keeps_part b may on = on
-  step w (client_hears_one message rest) b may on =
+  on_step w (client_gets n) stand may on = on
+  on_step w client_keeps_part stand may on = on
+  on_step w (client_hears_one message rest) stand may on =
       let x : WorldState = record w { to_client = record w.to_client { part = []; taken = _; unhandled = rest } } in
       still_on (with_deed x (client_reads w.channels message)) (done starves w (client_hears_one message rest)) (hears_inside x message) (hears_on w.channels x message on)
-  step w (tries_one k) b kept on =
+  on_step w (tries_one k) stand kept on =
       let x : WorldState = record w { kept = None } in
       let own : ((k.job).key).channel ≡ w.channels = subst (λ (o : Option Kept). IfSome o (λ (k : Kept). ((k.job).key).channel ≡ w.channels)) kept on.back in
       still_on x (done starves w (tries_one k)) (put_inside x k.device k.job)
       (putting_on w.channels x k.device k.job own (record { channel = on.channel; outbox = on.outbox; back = tt; held = on.held }))
-  step w (collects_one device s after x) b (quiet, there, made) on =
+  on_step w (collects_one device s after x) stand (reached, quiet, there, made) on =
       stationed_on w.channels w device after (collected_on w.channels s (on.held device s there) after x made).1 on
-  step w (takes_one device hand s after job) b (free, there, made) on =
+  on_step w (takes_one device hand s after job) stand (free, there, made) on =
       stationed_on w.channels w device after (took_on w.channels s (on.held device s there) after job made) on
-  step w (applies_one hand device job None) b may on = on
-  step w (applies_one hand device job (Some s)) b (holds, there) on =
+  on_step w (applies_one hand device job None) stand may on = on
+  on_step w (applies_one hand device job (Some s)) stand (holds, there) on =
       let came = came_of starves w job s.device in
       stationed_on w.channels w device (station.apply s job w.moment came).0 (applied_on w.channels s (on.held device s there) job w.moment came) on
-  step w (removes_one device o) b (can, there) on =
+  on_step w (removes_one device o) stand (can, there) on =
       still_on w (done starves w (removes_one device o)) (removed_inside w device o)
       (cut_by_on w.channels (told_removed w device) device o there
-      (record { channel = on.channel; outbox = all_append (AnswersOn w.channels) ((w.client).core).outbox (_ ∷ []) on.outbox (tt, tt); back = on.back; held = on.held }))
-  step w (adds_one device names o) b (can, printer, there) on =
+      (record { channel = on.channel; outbox = all_append (AnswersOn w.channels) ((w.client).core).outbox (_ ∷ []) on.outbox ((tt, removal_safe (device ∷ [])), tt); back = on.back; held = on.held }))
+  on_step w (adds_one device names o) stand (can, printer, there) on =
       let fresh : WorldState = refreshed_by w device names in
       let now = refreshed_on w.channels w device names on in
       let same = refreshed_kept w device names in
       still_on w (done starves w (adds_one device names o)) (added_inside w device names o)
       (announced_by_on w.channels (told_added fresh device) device o (ap (λ (es : List (ℕ × StationState SessionDevice)). lookup (is_at (nat_cmp device)) es) same.1 ∙ there)
-      (record { channel = now.channel; outbox = all_append (AnswersOn w.channels) ((fresh.client).core).outbox (_ ∷ []) now.outbox (tt, tt); back = now.back; held = now.held }))
-  step w (queues_one a) b may on = on
-  step w (idle_one number) b may on = on
-  step w draws_one b may on = on
-
-  -- every world that lines come to, and each in between
-  pub on_now : (w : WorldState) → IsBehind lines starves w → OnNow w
-  on_now = by_parts lines starves OnNow first (λ w p before after may on. step w p before may on)
+      (record { channel = now.channel; outbox = all_append (AnswersOn w.channels) ((fresh.client).core).outbox (_ ∷ []) now.outbox ((tt, list_safe (client.listed_one fresh.client device)), tt); back = now.back; held = now.held }))
+  on_step w (queues_one a) stand may on = on
+  on_step w (idle_one number) stand may on = on
+  on_step w draws_one stand may on = on

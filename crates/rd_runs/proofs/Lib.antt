@@ -12,3 +12,14 @@ pub mod KeysOn
 pub mod WayLemmas
 pub mod TrafficLemmas
 pub mod Carrying
+pub mod SizeLemmas
+pub mod Sizes
+pub mod FileNumbers
+pub mod RoomLemmas
+pub mod Together
+pub mod Handled
+pub mod Resting
+pub mod FittingLines
+pub mod SendingLemmas
+pub mod Sending
+pub mod BoundLemmas

@@ -125,7 +125,7 @@ IsRefused w a asked cause None = cause ≡ refusal.NoHandle
 IsRefused w a asked cause (Some named) =
     (t : TableState) × (why : SubmitNo) × (table.submit (w.side).table a named asked.op ≡ (t, Err why)) × (cause ≡ refusal_of why)
 
--- A request is accepted in a world between two moves.
+-- A request is accepted, and a completion collected, in a world between two moves.
 abbrev pub MayBe : List NumberedLine → (Key → Bool) → WorldState → Part → Type 0
 MayBe lines starves w (accepts a asked named t number) =
     Reached lines starves w × (may_issue (application_at w a) ≡ true) × (next_asked (application_at w a) ≡ Some asked) × (target_of (application_at w a) asked ≡ Some named)
@@ -146,7 +146,8 @@ MayBe lines starves w (client_gets n) = (is_read (w.to_client).pipe n ≡ true) 
 MayBe lines starves w client_keeps_part = (w.kept ≡ None) × (first_message ((w.to_client).part ++ (w.to_client).unhandled) ≡ None)
 MayBe lines starves w (client_hears_one message rest) = (w.kept ≡ None) × (first_message ((w.to_client).part ++ (w.to_client).unhandled) ≡ Some (message, rest))
 MayBe lines starves w (tries_one k) = w.kept ≡ Some k
-MayBe lines starves w (collects_one device s after c) = (client_has_message w ≡ false) × (station_at w device ≡ Some s) × (station.collect s ≡ (after, Some c))
+MayBe lines starves w (collects_one device s after c) =
+    Reached lines starves w × (client_has_message w ≡ false) × (station_at w device ≡ Some s) × (station.collect s ≡ (after, Some c))
 MayBe lines starves w (takes_one device hand s after job) = (is_hand_free w hand ≡ true) × (station_at w device ≡ Some s) × (station.take s ≡ (after, given.Job job))
 MayBe lines starves w (applies_one hand device job o) = (hand_at w hand ≡ Some (Some (device, job))) × (station_at w device ≡ o)
 MayBe lines starves w (removes_one device o) = (is_enabled w (event.remove device) ≡ true) × (station_at w device ≡ o)
@@ -253,8 +254,8 @@ module _ (lines : List NumberedLine) (starves : Key → Bool) (P : WorldState �
 
   -- ---- events
 
-  collect_keeps : (w : WorldState) (device : ℕ) → is_enabled w (event.collect device) ≡ true → P w → P (event.collects w device)
-  collect_keeps w device can p = by (station_at w device) refl
+  collect_keeps : (w : WorldState) (device : ℕ) → Reached lines starves w → is_enabled w (event.collect device) ≡ true → P w → P (event.collects w device)
+  collect_keeps w device reached can p = by (station_at w device) refl
     where
       idle : client_has_message w ≡ false
       idle = is_off (client_has_message w) (both (not (client_has_message w)) (has_completion w device) can).0
@@ -263,7 +264,7 @@ module _ (lines : List NumberedLine) (starves : Key → Bool) (P : WorldState �
           → P (collects_from w device r)
       from s there (after, None) made = p
       from s there (after, Some c) made =
-          tries_keeps (done starves w (collects_one device s after c)) device (keep w (collects_one device s after c) (idle, there, made) p)
+          tries_keeps (done starves w (collects_one device s after c)) device (keep w (collects_one device s after c) (reached, idle, there, made) p)
 
       by : (o : Option (StationState SessionDevice)) → station_at w device ≡ o → P (option_map_or (λ (s : StationState SessionDevice). collects_from w device (station.collect s)) o w)
       by None there = p
@@ -316,7 +317,7 @@ module _ (lines : List NumberedLine) (starves : Key → Bool) (P : WorldState �
       no_kept None e = refl
       no_kept (Some k) e = absurd (cc)
   event_keeps w event.client_send reached said can p = client_send_keeps w p
-  event_keeps w (event.collect device) reached said can p = collect_keeps w device can p
+  event_keeps w (event.collect device) reached said can p = collect_keeps w device reached can p
   event_keeps w (event.host_read n) reached said can p =
       let x : WorldState = done starves w (host_gets n) in
       all_take_keeps (host_handles (most_messages x.to_host) x) (host_handling_keeps (most_messages x.to_host) x (keep w (host_gets n) can p))

@@ -24,7 +24,7 @@ use Rattle.rd_runs.proofs.BeginningLemmas.{Unset, begins_as, first_idle, unset}
 use Rattle.rd_runs.proofs.HostLemmas.{AreOfClient, IsHostOf, IsOfClient, all_of_client, host_begun, host_channel, host_ended, host_heard, host_moved, host_submitted, host_told, host_took, host_write, opens, same_open, sending_opens}
 use Rattle.rd_runs.proofs.IdleLemmas.{AreIdle, applied_all_idle, cut_idle, none_collected, none_taken}
 use Rattle.rd_runs.proofs.Insides.{AreOwn, IsInside, Outside, added_inside, all_dropped_inside, all_refreshed_inside, applied_inside, hears_inside, put_inside, removed_inside, stationed}
-use Rattle.rd_runs.proofs.Parts.{IsBehind, MayBe, Part, accepts, adds_one, applies_one, begins, by_parts, client_gets, client_hears_one, client_keeps_part, client_sends_one, collects_one, done, draws_one, ends, hands_out, host_gets, host_hears_one, host_keeps_part, host_sends_one, idle_one, queues_one, refuses, removes_one, takes_one, tells_one, tries_one}
+use Rattle.rd_runs.proofs.Parts.{MayBe, Part, accepts, adds_one, applies_one, begins, client_gets, client_hears_one, client_keeps_part, client_sends_one, collects_one, done, draws_one, ends, hands_out, host_gets, host_hears_one, host_keeps_part, host_sends_one, idle_one, queues_one, refuses, removes_one, takes_one, tells_one, tries_one}
 use Rattle.rd_runs.proofs.Reaching.{both}
 use Rattle.rd_world.specs.declared.device.SessionDevice.{SessionDevice}
 use Rattle.rd_world.specs.Devices.{PrinterNames}
@@ -165,7 +165,7 @@ needs_open lines starves w (client_sends_one c o) made needs s = opened_by w s (
 needs_open lines starves w (client_gets n) (can, kept) needs s = opened_by w s (λ shut. no_read (w.to_client).pipe n shut.down_pipe can)
 needs_open lines starves w (client_hears_one message rest) (kept, is) needs s = opened_by w s (λ shut. no_message w.to_client message rest s.client_part shut.down_unhandled is)
 needs_open lines starves w (tries_one k) kept needs s = opened_by w s (λ shut. cc (kept, shut.kept_none))
-needs_open lines starves w (collects_one device x after c) (quiet, there, made) needs s = opened_by w s (λ shut. none_collected x after c (shut.idle device x there) made)
+needs_open lines starves w (collects_one device x after c) (reached, quiet, there, made) needs s = opened_by w s (λ shut. none_collected x after c (shut.idle device x there) made)
 needs_open lines starves w (takes_one device hand x after job) (free, there, made) needs s = opened_by w s (λ shut. none_taken x after job (shut.idle device x there) made)
 needs_open lines starves w (removes_one device o) (can, there) needs s = open_now w s (both (is_channel_open w) _ (both (is_ready w) _ can).0).0
 needs_open lines starves w (adds_one device names o) (can, printer, there) needs s = open_now w s (both (is_channel_open w) _ (both (is_ready w) _ can).0).0
@@ -185,15 +185,19 @@ ready_host : (shake : HostState) → is_host_ready shake ≡ true → shake ≡ 
 ready_host host_state.Ready e = refl
 ready_host shake e = absurd (cc)
 
--- what lines ask for fits where an application's line names something, and their notices can be told
-pub record FitLines (lines : List NumberedLine) (starves : Key → Bool) : Type 0 where
-  pub asked : (w : WorldState) → Reached lines starves w → (a : ℕ) (asked : Asked) (named : Target) → next_asked (application_at w a) ≡ Some asked
-      → target_of (application_at w a) asked ≡ Some named → MaySubmit named asked.op × IsInRange named asked.op
-  pub told : (l : NumberedLine) (n : Notice) → Has l lines → notice_of l.line ≡ Some n → IsTellable n
+-- In a world between two moves a host may take what an application's line names.
+abbrev pub MayTake : List NumberedLine → (Key → Bool) → WorldState → Type 0
+MayTake lines starves w =
+    Reached lines starves w → (a : ℕ) (asked : Asked) (named : Target) → next_asked (application_at w a) ≡ Some asked → target_of (application_at w a) asked ≡ Some named
+    → MaySubmit named asked.op × IsInRange named asked.op
 
-module _ (lines : List NumberedLine) (starves : Key → Bool) (fit : FitLines lines starves) where
-  first : Stands (world_of lines)
-  first = begins_as lines StandsAs (record {
+-- notices of lines can be told
+abbrev pub AreTellable : List NumberedLine → Type 0
+AreTellable lines = (l : NumberedLine) (n : Notice) → Has l lines → notice_of l.line ≡ Some n → IsTellable n
+
+module _ (lines : List NumberedLine) (starves : Key → Bool) (told : AreTellable lines) where
+  pub stands_first : Stands (world_of lines)
+  stands_first = begins_as lines StandsAs (record {
     host = record { is = refl; may = tt; last = inl refl; below = omega arith; quiet = λ shut. refl };
     client_part = refl;
     host_part = refl;
@@ -215,9 +219,9 @@ module _ (lines : List NumberedLine) (starves : Key → Bool) (fit : FitLines li
       subst (λ (u : TableState). IsHostOf (record w.side { table = u }) w.channels (takes number ∷ w.deeds)) (ap (λ (r : TableState × Result Taken TakeNo). r.0) made)
       (host_took w.side w.channels w.deeds s.host number ok)
 
-  step : (w : WorldState) (p : Part) → IsBehind lines starves w → MayBe lines starves w p → Stands w → Stands (done starves w p)
-  step w (accepts a asked named t number) b (reached, may, next, target, made) s =
-      let (fits, range) = fit.asked w reached a asked named next target in
+  pub stands_step : (w : WorldState) (p : Part) → MayTake lines starves w → MayBe lines starves w p → Stands w → Stands (done starves w p)
+  stands_step w (accepts a asked named t number) take (reached, may, next, target, made) s =
+      let (fits, range) = take reached a asked named next target in
       let free : submit_refusal (w.side).table named ≡ None = accepted_free (w.side).table t a number named asked.op made in
       record {
         host = subst (λ (u : TableState). IsHostOf (record w.side { table = u }) w.channels (submits a named asked.op ∷ w.deeds)) (ap (λ (r : TableState × Result ℕ SubmitNo). r.0) made)
@@ -226,24 +230,24 @@ module _ (lines : List NumberedLine) (starves : Key → Bool) (fit : FitLines li
         host_part = s.host_part;
         shut = s.shut;
       }
-  step w (refuses a asked cause) b may s = record { host = s.host; client_part = s.client_part; host_part = s.host_part; shut = s.shut }
-  step w (hands_out a number t taken None) b (waits, next, made) s =
+  stands_step w (refuses a asked cause) take may s = record { host = s.host; client_part = s.client_part; host_part = s.host_part; shut = s.shut }
+  stands_step w (hands_out a number t taken None) take (waits, next, made) s =
       record { host = took w a number t taken made s; client_part = s.client_part; host_part = s.host_part; shut = s.shut }
-  step w (hands_out a number t taken (Some asked)) b (waits, next, made) s =
+  stands_step w (hands_out a number t taken (Some asked)) take (waits, next, made) s =
       record { host = took w a number t taken made s; client_part = s.client_part; host_part = s.host_part; shut = s.shut }
-  step w (host_sends_one message) b next s = record {
+  stands_step w (host_sends_one message) take next s = record {
     host = host_write w.side w.channels w.deeds s.host message next;
     client_part = s.client_part;
     host_part = s.host_part;
     shut = never w.deeds (needs_open lines starves w (host_sends_one message) next tt s);
   }
-  step w (host_gets n) b can s = record {
+  stands_step w (host_gets n) take can s = record {
     host = s.host;
     client_part = s.client_part;
     host_part = s.host_part;
     shut = never w.deeds (needs_open lines starves w (host_gets n) can tt s);
   }
-  step w host_keeps_part b is s = record {
+  stands_step w host_keeps_part take is s = record {
     host = s.host;
     client_part = s.client_part;
     host_part = is;
@@ -257,13 +261,13 @@ module _ (lines : List NumberedLine) (starves : Key → Bool) (fit : FitLines li
       idle = shut.idle;
     };
   }
-  step w (host_hears_one message rest) b is s =
+  stands_step w (host_hears_one message rest) take is s =
       let opened = needs_open lines starves w (host_hears_one message rest) is tt s in
       record { host = host_heard w.side w.channels w.deeds s.host message opened; client_part = s.client_part; host_part = refl; shut = never w.deeds opened }
-  step w (tells_one n) b ((l, has, said), can) s =
+  stands_step w (tells_one n) take ((l, has, says), can) s =
       let (is, ready) = both (is_channel_open w) (is_host_ready (((w.side).core).core).shake) can in
       let opened = open_now w s is in
-      let tellable = fit.told l n has said in
+      let tellable = told l n has says in
       record {
         host = host_told w.side w.channels w.deeds s.host n opened is
             (record { ready = ready_host (((w.side).core).core).shake ready; writable = tellable.writable; port = tellable.port; fit = tellable.fit });
@@ -271,7 +275,7 @@ module _ (lines : List NumberedLine) (starves : Key → Bool) (fit : FitLines li
         host_part = s.host_part;
         shut = never w.deeds opened;
       }
-  step w begins b can s =
+  stands_step w begins take can s =
       let off = shut_now w s (is_off (is_channel_open w) can) in
       let fresh : WorldState = fold refreshing w (map (λ (e : ℕ × PrinterNames). e.0) w.printers) in
       let i = all_refreshed_inside (map (λ (e : ℕ × PrinterNames). e.0) w.printers) w in
@@ -283,7 +287,7 @@ module _ (lines : List NumberedLine) (starves : Key → Bool) (fit : FitLines li
         host_part = refl;
         shut = λ none. absurd (cc none);
       }
-  step w ends b is s =
+  stands_step w ends take is s =
       let opened = open_now w s is in
       let devices : List ℕ = map (λ (e : ℕ × StationState SessionDevice). e.0) w.stations in
       let cut : WorldState = fold dropping w devices in
@@ -302,7 +306,7 @@ module _ (lines : List NumberedLine) (starves : Key → Bool) (fit : FitLines li
           idle = cut_idle w;
         };
       }
-  step w (client_sends_one c o) b made s =
+  stands_step w (client_sends_one c o) take made s =
       let one : AreOfClient (deed_on w.channels o ∷ []) = (of_client_on w.channels o, tt) in
       let opened = needs_open lines starves w (client_sends_one c o) made tt s in
       record {
@@ -311,13 +315,13 @@ module _ (lines : List NumberedLine) (starves : Key → Bool) (fit : FitLines li
         host_part = s.host_part;
         shut = λ none. never w.deeds opened (sym (same_open (deed_on w.channels o ∷ []) w.deeds one) ∙ none);
       }
-  step w (client_gets n) b (can, kept) s = record {
+  stands_step w (client_gets n) take (can, kept) s = record {
     host = s.host;
     client_part = s.client_part;
     host_part = s.host_part;
     shut = never w.deeds (needs_open lines starves w (client_gets n) (can, kept) tt s);
   }
-  step w client_keeps_part b (kept, is) s = record {
+  stands_step w client_keeps_part take (kept, is) s = record {
     host = s.host;
     client_part = is;
     host_part = s.host_part;
@@ -331,7 +335,7 @@ module _ (lines : List NumberedLine) (starves : Key → Bool) (fit : FitLines li
       idle = shut.idle;
     };
   }
-  step w (client_hears_one message rest) b (kept, is) s =
+  stands_step w (client_hears_one message rest) take (kept, is) s =
       let opened = needs_open lines starves w (client_hears_one message rest) (kept, is) tt s in
       let x : WorldState = record w { to_client = record w.to_client { part = []; taken = _; unhandled = rest } } in
       let read : WorldState = with_deed x (client_reads w.channels message) in
@@ -341,13 +345,13 @@ module _ (lines : List NumberedLine) (starves : Key → Bool) (fit : FitLines li
         host_part = s.host_part;
         shut = never w.deeds opened;
       }) opened
-  step w (tries_one k) b kept s =
+  stands_step w (tries_one k) take kept s =
       let opened = needs_open lines starves w (tries_one k) kept tt s in
       let x : WorldState = record w { kept = None } in
       inside_open x (done starves w (tries_one k)) (put_inside x k.device k.job)
       (record { host = s.host; client_part = s.client_part; host_part = s.host_part; shut = never w.deeds opened }) opened
-  step w (collects_one device x after c) b (quiet, there, made) s =
-      let opened = needs_open lines starves w (collects_one device x after c) (quiet, there, made) tt s in
+  stands_step w (collects_one device x after c) take (reached, quiet, there, made) s =
+      let opened = needs_open lines starves w (collects_one device x after c) (reached, quiet, there, made) tt s in
       let y : WorldState = with_station w device after in
       let i = stationed w device after in
       record {
@@ -356,13 +360,13 @@ module _ (lines : List NumberedLine) (starves : Key → Bool) (fit : FitLines li
         host_part = s.host_part;
         shut = never y.deeds (open_inside w y i ∙ opened);
       }
-  step w (takes_one device hand x after job) b (free, there, made) s =
+  stands_step w (takes_one device hand x after job) take (free, there, made) s =
       let opened = needs_open lines starves w (takes_one device hand x after job) (free, there, made) tt s in
       let y : WorldState = with_station w device after in
       let i = stationed w device after in
       record { host = host_inside w y i s.host; client_part = s.client_part; host_part = s.host_part; shut = never y.deeds (open_inside w y i ∙ opened) }
-  step w (applies_one hand device job None) b (holds, there) s = record { host = s.host; client_part = s.client_part; host_part = s.host_part; shut = s.shut }
-  step w (applies_one hand device job (Some x)) b (holds, there) s =
+  stands_step w (applies_one hand device job None) take (holds, there) s = record { host = s.host; client_part = s.client_part; host_part = s.host_part; shut = s.shut }
+  stands_step w (applies_one hand device job (Some x)) take (holds, there) s =
       inside_stands w (done starves w (applies_one hand device job (Some x))) (applied_inside starves w hand device job (Some x)) s
       (λ none. let shut = s.shut none in record {
         down_unhandled = shut.down_unhandled;
@@ -373,14 +377,10 @@ module _ (lines : List NumberedLine) (starves : Key → Bool) (fit : FitLines li
         outbox_none = shut.outbox_none;
         idle = applied_all_idle starves w hand device job (Some x) there shut.idle;
       })
-  step w (removes_one device o) b (can, there) s =
+  stands_step w (removes_one device o) take (can, there) s =
       inside_open w (done starves w (removes_one device o)) (removed_inside w device o) s (needs_open lines starves w (removes_one device o) (can, there) tt s)
-  step w (adds_one device names o) b (can, printer, there) s =
+  stands_step w (adds_one device names o) take (can, printer, there) s =
       inside_open w (done starves w (adds_one device names o)) (added_inside w device names o) s (needs_open lines starves w (adds_one device names o) (can, printer, there) tt s)
-  step w (queues_one a) b may s = record { host = s.host; client_part = s.client_part; host_part = s.host_part; shut = s.shut }
-  step w (idle_one number) b may s = record { host = s.host; client_part = s.client_part; host_part = s.host_part; shut = s.shut }
-  step w draws_one b may s = record { host = s.host; client_part = s.client_part; host_part = s.host_part; shut = s.shut }
-
-  -- every world that lines come to, and each in between
-  pub stands : (w : WorldState) → IsBehind lines starves w → Stands w
-  stands = by_parts lines starves Stands first (λ w p before after may s. step w p before may s)
+  stands_step w (queues_one a) take may s = record { host = s.host; client_part = s.client_part; host_part = s.host_part; shut = s.shut }
+  stands_step w (idle_one number) take may s = record { host = s.host; client_part = s.client_part; host_part = s.host_part; shut = s.shut }
+  stands_step w draws_one take may s = record { host = s.host; client_part = s.client_part; host_part = s.host_part; shut = s.shut }
