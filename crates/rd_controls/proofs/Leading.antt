@@ -602,7 +602,7 @@ first_sees lines rise =
     let bare : List Line = map (λ (x : NumberedLine). x.line) lines in
     let ids : List ℕ = map (λ (e : ℕ × Declared). e.0) (declared_devices bare) in
     subst (SeenAs ids lines (before_all ids) lines) (sym (all_set_seen bare (new_world (declared_devices bare) (applications_of bare))))
-    (record { channel = refl; channels = refl; last = tt; marks = first_marks bare; acts = refl; idle = refl; rises = rise })
+    (record { number = refl; channel = refl; channels = refl; last = tt; marks = first_marks bare; acts = refl; idle = refl; rises = rise })
 
 pub does_as_said : (lines : List NumberedLine) (starves : Key → Bool) (most : Most) (w : WorldState)
     → let ids = map (λ (e : ℕ × Declared). e.0) (declared_devices (map (λ (x : NumberedLine). x.line) lines)) in

@@ -17,9 +17,21 @@ use Rattle.rd_hello.specs.declared.client.ClientState.TheVariants as client_stat
 use Rattle.rd_hello.specs.declared.hello.Hello.TheVariants as greeting
 use Rattle.rd_hello.specs.declared.host.HostState.{HostState}
 use Rattle.rd_hello.specs.declared.host.HostState.TheVariants as host_state
+use Rattle.rd_chunk.specs.Carrier.{carrier_of}
+use Rattle.rd_client.specs.Core.{client_hear}
+use Rattle.rd_controls.proofs.Unseen.{client_handles_unseen, client_ready, event_unseen, heard_unseen, host_ready}
+use Rattle.rd_pending.specs.Table as table
+use Rattle.rd_pending.specs.Table.{Fate, TableState, Untaken, awaited, known, untaken_at}
+use Rattle.rd_pending.specs.declared.calls.Handle.{Handle}
+use Rattle.rd_pending.specs.declared.calls.TakeNo.{TakeNo}
+use Rattle.rd_pending.specs.declared.calls.Taken.{Taken}
+use Rattle.rd_script.specs.declared.outcome.Outcome.{Outcome}
+use Rattle.rd_world.specs.Events as event
+use Rattle.rd_world.specs.Events.{act, is_enabled}
+use Rattle.rd_world.specs.Talk.{client_reads, takes}
 use Rattle.rd_world.specs.Run.{all_client_sends, all_host_sends, client_reads_all, host_reads_all, is_quiet, rounds}
-use Rattle.rd_world.specs.Hearing.{host_handles}
-use Rattle.rd_world.specs.World.{having_read, most_messages, Kept, WayState, WorldState}
+use Rattle.rd_world.specs.Hearing.{all_take, client_hears, ends_line, host_handles, next_asked, takes_awaited, takes_from, takes_outcome, with_client, with_outcome}
+use Rattle.rd_world.specs.World.{ApplicationState, Asked, Kept, WayState, WorldState, application_at, handling, having_read, most_messages, with_application, with_deed, with_table}
 
 -- what the opening of a channel goes by
 record Opening : Type 0 where
@@ -124,3 +136,131 @@ module _ (starves : Key → Bool) where
       opening (host_handled v) ≡ stage host_state.Ready (logged_on ∷ []) client_state.Waiting [] ((host_handled v).to_client).taken ((host_handled v).to_host).taken
   unfolding carrier_frame size_of length_of flags_of header_among component_field header hello version name sets capability body_of special general other count_to counted counted_bytes
   accepted_round w n m = refl
+
+  -- ---- what applications take
+
+  take_outbox : (t : TableState) (number : ℕ) → ((table.take t number).0).outbox ≡ t.outbox
+  take_outbox t number = by (untaken_at t number) refl
+    where
+      from : (u : Untaken) → untaken_at t number ≡ Some u → (f : Fate) → u.fate ≡ f → ((table.take t number).0).outbox ≡ t.outbox
+      from u there awaited is = rw (there, is) refl
+      from u there (known outcome) is = rw (there, is) refl
+
+      by : (o : Option Untaken) → untaken_at t number ≡ o → ((table.take t number).0).outbox ≡ t.outbox
+      by None there = rw there refl
+      by (Some u) there = from u there u.fate refl
+
+  outcome_opening : (w : WorldState) (a : ℕ) → opening (takes_outcome w a) ≡ opening w
+  outcome_opening w a = by (application_at w a).awaits
+    where
+      ends : (v : WorldState) (o : Outcome) (holds : Option Handle) → opening (ends_line v a o holds) ≡ opening v
+      ends v o holds = on (next_asked (application_at v a))
+        where
+          on : (x : Option Asked) → opening (option_map_or (λ asked. with_application v a (with_outcome (application_at v a) o holds asked)) x v) ≡ opening v
+          on None = refl
+          on (Some asked) = refl
+
+      from : (number : ℕ) (r : TableState × Result Taken TakeNo) → (r.0).outbox ≡ ((w.side).table).outbox → opening (takes_from w a number r) ≡ opening w
+      from number (t, Err cause) same = refl
+      from number (t, Ok taken) same = ends (with_deed (with_table w t) (takes number)) _ _ ∙ ap (λ (l : List (List ℕ)). record (opening w) { requests = l }) same
+
+      by : (o : Option ℕ) → opening (takes_awaited w a o) ≡ opening w
+      by None = refl
+      by (Some number) = from number (table.take (w.side).table number) (take_outbox (w.side).table number)
+
+  all_opening : (applications : List ℕ) (w : WorldState) → opening (fold takes_outcome w applications) ≡ opening w
+  all_opening [] w = refl
+  all_opening (a ∷ applications) w = all_opening applications (takes_outcome w a) ∙ outcome_opening w a
+
+  take_opening : (w : WorldState) → opening (all_take w) ≡ opening w
+  take_opening w = all_opening (map (λ (e : ℕ × ApplicationState). e.0) w.applications) w
+
+  -- ---- round by round
+
+  -- a world stands so
+  abbrev IsAt : HostState → List (List ℕ) → ClientState → List (List ℕ) → WorldState → Type 0
+  IsAt h sends c answers w = (n m : ℕ) × (opening w ≡ stage h sends c answers n m)
+
+  first_round : (w : WorldState) → IsAt host_state.Start (announces ∷ []) client_state.Start [] w → IsAt host_state.Start [] client_state.Named (confirms ∷ names ∷ []) (round w)
+  first_round w (n, m, is) = formed (λ v. IsAt host_state.Start [] client_state.Named (confirms ∷ names ∷ []) (round v)) w (stage host_state.Start (announces ∷ []) client_state.Start [] n m) is (_, _, begun_round w n m)
+
+  second_round : (w : WorldState) → IsAt host_state.Start [] client_state.Named (confirms ∷ names ∷ []) w → IsAt host_state.Offered (offers ∷ confirms ∷ []) client_state.Named [] (round w)
+  unfolding carrier_frame size_of length_of flags_of header_among component_field header hello version name sets capability body_of special general other count_to counted counted_bytes
+  second_round w (n, m, is) =
+      formed (λ v. IsAt host_state.Offered (offers ∷ confirms ∷ []) client_state.Named [] (round v)) w (stage host_state.Start [] client_state.Named (confirms ∷ names ∷ []) n m) is
+      (let v : WorldState = put w (stage host_state.Start [] client_state.Named (confirms ∷ names ∷ []) n m) in
+      let all : opening (round v) ≡ opening (host_handled v) = take_opening (host_handled v) in (_, _, all ∙ named_round w n m))
+
+  third_round : (w : WorldState) → IsAt host_state.Offered (offers ∷ confirms ∷ []) client_state.Named [] w → IsAt host_state.Offered [] client_state.Waiting (accepts ∷ []) (round w)
+  third_round w (n, m, is) = formed (λ v. IsAt host_state.Offered [] client_state.Waiting (accepts ∷ []) (round v)) w (stage host_state.Offered (offers ∷ confirms ∷ []) client_state.Named [] n m) is (_, _, offered_round w n m)
+
+  fourth_round : (w : WorldState) → IsAt host_state.Offered [] client_state.Waiting (accepts ∷ []) w → IsAt host_state.Ready (logged_on ∷ []) client_state.Waiting [] (round w)
+  unfolding carrier_frame size_of length_of flags_of header_among component_field header hello version name sets capability body_of special general other count_to counted counted_bytes
+  fourth_round w (n, m, is) =
+      formed (λ v. IsAt host_state.Ready (logged_on ∷ []) client_state.Waiting [] (round v)) w (stage host_state.Offered [] client_state.Waiting (accepts ∷ []) n m) is
+      (let v : WorldState = put w (stage host_state.Offered [] client_state.Waiting (accepts ∷ []) n m) in
+      let all : opening (round v) ≡ opening (host_handled v) = take_opening (host_handled v) in (_, _, all ∙ accepted_round w n m))
+
+  -- ---- the client is ready
+
+  -- the client hears that the user logged on
+  last_round : (w : WorldState) → IsAt host_state.Ready (logged_on ∷ []) client_state.Waiting [] w → (client_ready (round w) ≡ true) × (host_ready (round w) ≡ true)
+  unfolding carrier_frame size_of length_of flags_of header_among component_field header hello version name sets capability body_of special general other count_to counted counted_bytes
+  last_round w (n, m, is) =
+      formed (λ v. (client_ready (round v) ≡ true) × (host_ready (round v) ≡ true)) w (stage host_state.Ready (logged_on ∷ []) client_state.Waiting [] n m) is
+      (let v : WorldState = put w (stage host_state.Ready (logged_on ∷ []) client_state.Waiting [] n m) in
+      let s : WorldState = sent v in
+      let y : WorldState = record s { to_client = (handling (having_read (length (s.to_client).pipe) s.to_client)).0 } in
+      let heard = client_hear y.client logged_on in
+      let z : WorldState = with_deed (with_client y heard.0) (client_reads y.channels logged_on) in
+      let u = heard_unseen ((y.client).core).shake z heard.1 in
+      let rest = client_handles_unseen (length (carrier_of logged_on)) (client_hears y logged_on) in
+      let read : WorldState = client_reads_all starves s in
+      let client_is : client_ready read ≡ true = rest.client (u.client refl) in
+      let host_is : host_ready read ≡ true = rest.host (u.host refl) in
+      last read client_is host_is)
+    where
+      last : (x : WorldState) → client_ready x ≡ true → host_ready x ≡ true → (client_ready (host_reads_all starves x) ≡ true) × (host_ready (host_reads_all starves x) ≡ true)
+      last x c h = by (is_enabled x (event.host_read (length (x.to_host).pipe)))
+        where
+          by : (b : Bool) → (client_ready (if b then act starves x (event.host_read (length (x.to_host).pipe)) else x) ≡ true)
+              × (host_ready (if b then act starves x (event.host_read (length (x.to_host).pipe)) else x) ≡ true)
+          by true = let u = event_unseen starves x (event.host_read (length (x.to_host).pipe)) refl in (u.client c, u.host h)
+          by false = (c, h)
+
+  -- ---- all of it
+
+  not_quiet : (h : HostState) (sends : List (List ℕ)) (c : ClientState) (answers : List (List ℕ)) → ((n m : ℕ) (w : WorldState) → is_quiet (put w (stage h sends c answers n m)) ≡ false)
+      → (w : WorldState) → IsAt h sends c answers w → is_quiet w ≡ false
+  not_quiet h sends c answers by w (n, m, is) = formed (λ v. is_quiet v ≡ false) w (stage h sends c answers n m) is (by n m w)
+
+  next_round : (Q : WorldState → Type 0) (k : ℕ) (w : WorldState) → is_quiet w ≡ false → IfSome (rounds starves k (round w)) Q → IfSome (rounds starves (suc k) w) Q
+  next_round Q k w off own = subst (λ (b : Bool). IfSome (if b then Some w else rounds starves k (round w)) Q) (sym off) own
+
+  -- what is so of each world in which both ends are ready is so of what rounds come to, where a channel begins
+  pub opened : (P Q : WorldState → Type 0) → ((w : WorldState) → P w → P (round w)) → ((k : ℕ) (w : WorldState) → P w → client_ready w ≡ true → host_ready w ≡ true → IfSome (rounds starves k w) Q)
+      → (k : ℕ) (w : WorldState) → P w → opening w ≡ stage host_state.Start (announces ∷ []) client_state.Start [] 0 0 → IfSome (rounds starves k w) Q
+  opened P Q keeps ready k w p is = stage_0 k w p (0, 0, is)
+    where
+      stage_5 : (k : ℕ) (w : WorldState) → P w → (client_ready w ≡ true) × (host_ready w ≡ true) → IfSome (rounds starves k w) Q
+      stage_5 k w p both = ready k w p both.0 both.1
+
+      stage_4 : (k : ℕ) (w : WorldState) → P w → IsAt host_state.Ready (logged_on ∷ []) client_state.Waiting [] w → IfSome (rounds starves k w) Q
+      stage_4 zero w p at = tt
+      stage_4 (suc k) w p at = next_round Q k w (not_quiet host_state.Ready (logged_on ∷ []) client_state.Waiting [] (λ n m v. refl) w at) (stage_5 k (round w) (keeps w p) (last_round w at))
+
+      stage_3 : (k : ℕ) (w : WorldState) → P w → IsAt host_state.Offered [] client_state.Waiting (accepts ∷ []) w → IfSome (rounds starves k w) Q
+      stage_3 zero w p at = tt
+      stage_3 (suc k) w p at = next_round Q k w (not_quiet host_state.Offered [] client_state.Waiting (accepts ∷ []) (λ n m v. refl) w at) (stage_4 k (round w) (keeps w p) (fourth_round w at))
+
+      stage_2 : (k : ℕ) (w : WorldState) → P w → IsAt host_state.Offered (offers ∷ confirms ∷ []) client_state.Named [] w → IfSome (rounds starves k w) Q
+      stage_2 zero w p at = tt
+      stage_2 (suc k) w p at = next_round Q k w (not_quiet host_state.Offered (offers ∷ confirms ∷ []) client_state.Named [] (λ n m v. refl) w at) (stage_3 k (round w) (keeps w p) (third_round w at))
+
+      stage_1 : (k : ℕ) (w : WorldState) → P w → IsAt host_state.Start [] client_state.Named (confirms ∷ names ∷ []) w → IfSome (rounds starves k w) Q
+      stage_1 zero w p at = tt
+      stage_1 (suc k) w p at = next_round Q k w (not_quiet host_state.Start [] client_state.Named (confirms ∷ names ∷ []) (λ n m v. refl) w at) (stage_2 k (round w) (keeps w p) (second_round w at))
+
+      stage_0 : (k : ℕ) (w : WorldState) → P w → IsAt host_state.Start (announces ∷ []) client_state.Start [] w → IfSome (rounds starves k w) Q
+      stage_0 zero w p at = tt
+      stage_0 (suc k) w p at = next_round Q k w (not_quiet host_state.Start (announces ∷ []) client_state.Start [] (λ n m v. refl) w at) (stage_1 k (round w) (keeps w p) (first_round w at))
