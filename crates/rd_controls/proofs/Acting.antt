@@ -161,7 +161,7 @@ module _ (ids : List ℕ) (lines : List NumberedLine) where
       let channel = w.channels + 1 in
       let all : seen (connects w) ≡ record (seen w) { channel = Some channel; channels = channel; acts = control.begun channel ∷ filter_map act_by w.deeds } =
       λ i. record {
-            number = ((w.side).core).client;
+        number = ((w.side).core).client;
         channel = begun_channel (w.side).table channel none i;
         channels = channel;
         idle = (u.same i).idle;

@@ -11,8 +11,8 @@ use Rattle.rd_controls.proofs.Acting.{SeenAs, added_as, added_unseen, begun_as, 
 use Rattle.rd_controls.proofs.Marks.{first_marks, gone_marks, known_marks}
 use Rattle.rd_controls.proofs.Numbers.{Rise, an_errand, no_errand, numbers, picked_reverse}
 use Rattle.rd_controls.proofs.Unseen.{client_ready, event_unseen, host_ready, seen}
-use Rattle.rd_controls.proofs.Walking.{does_keeps, rounds_keep, settled_keeps, settled_rests}
-use Rattle.rd_controls.specs.Controls.{EndsAs, AreOrdered, AreReady, DoAsSaid, NamesKnown, OpensWhole, RestWhereSettled, RestsAt, control_with}
+use Rattle.rd_controls.proofs.Walking.{round_keeps, does_keeps, rounds_keep, settled_keeps, settled_rests}
+use Rattle.rd_controls.specs.Controls.{EndsAs, AreOrdered, DoAsSaid, NamesKnown, RestWhereSettled, RestsAt, control_with}
 use Rattle.rd_printer.specs.declared.notice.Notice.{Notice}
 use Rattle.rd_runs.specs.Moves.{IsOfLines, MayPass, Move, ReachedWithin, draws, event_weight, happens, idle, moved, queues, weight, Reached}
 use Rattle.rd_script.specs.declared.line.Errand.{Errand}
@@ -25,9 +25,11 @@ use Rattle.rd_world.specs.Control.{Control, added_at, connected, control_of, con
 use Rattle.rd_world.specs.Devices.{Declared}
 use Rattle.rd_world.specs.Events as event
 use Rattle.rd_world.specs.Events.{Event, act, is_channel_open, is_enabled}
-use Rattle.rd_world.specs.Run.{Most, applications_of, asked_by, by_event, choices, connects_on, controls, declared_devices, does, drawing, ends_session, event_of, idles, is_quiet, new_world, notice_of, plays, plays_line, queueing, run_of, setting, settled, some_left, world_of}
+use Rattle.rd_world.specs.Run.{Most, applications_of, asked_by, by_event, choices, connects_on, controls, declared_devices, does, drawing, ends_session, event_of, idles, is_quiet, new_world, notice_of, plays, plays_line, queueing, run_of, setting, settled, some_left, world_of, rounds}
 use Rattle.rd_world.specs.Talk.{Deed, EndsWith, Has}
 use Rattle.rd_world.specs.Session.{at_settles}
+use Rattle.rd_controls.proofs.Opening.{begins_at, opened}
+use Rattle.rd_runs.specs.Premises.{RunPremises}
 use Rattle.rd_controls.proofs.Resting.{event_grows, later_end, later_line, later_settled, settle_rests, then_more}
 use Rattle.rd_world.specs.World.{Asked, WorldState}
 
@@ -72,7 +74,7 @@ no_errand_told l n told = refl
 abbrev before_all : List ℕ → Control
 before_all ids = record { devices = ids; current = None; channels = 0; absent = []; acts = []; told = []; notices = []; cuts = []; idle = [] }
 
-module _ (lines : List NumberedLine) (starves : Key → Bool) (most : Most) (ids : List ℕ) (rise : Rise (numbers lines)) (opens : OpensWhole lines starves) where
+module _ (lines : List NumberedLine) (starves : Key → Bool) (most : Most) (ids : List ℕ) (rise : Rise (numbers lines)) (premises : RunPremises lines) where
   -- What is seen of a world is what the control lines did, and it is reached behind the lines that are not still to come.
   record Base (c : Control) (ls : List NumberedLine) (w : WorldState) : Type 0 where
     count : ℕ
@@ -173,16 +175,14 @@ module _ (lines : List NumberedLine) (starves : Key → Bool) (most : Most) (ids
         few = few;
         sees = begun_as ids lines c ls w sees none;
       } in
-      go (connects_on starves most w) (rounds_keep starves (Base (connected c) ls) (base_free (connected c) ls) (base_drawn (connected c) ls) most.rounds x b)
+      let reached : Reached lines starves w = within_more n (length lines + 2) w (omega (arith, few)) r in
+      opened starves (Base (connected c) ls) (Led (connected c) ls) (round_keeps starves (Base (connected c) ls) (base_free (connected c) ls) (base_drawn (connected c) ls))
+      (λ k v own client_is host_is. go (rounds starves k v) (rounds_keep starves (Led (connected c) ls) (led_free (connected c) ls) (led_drawn (connected c) ls) k v
+      (record { base = own; client = λ open_is. client_is; host = λ open_is. host_is }))) most.rounds x b (begins_at lines starves premises w reached none sees.number)
     where
-      ready : (v : WorldState) → Base (connected c) ls v → is_quiet v ≡ true → AreReady v
-      ready v b quiet =
-          let few : b.count ≤ length lines + 2 = omega (arith, b.few) in
-          opens v (within_more b.count (length lines + 2) v few b.reached) (ap is_some b.sees.channel) quiet
-
-      go : (o : Option WorldState) → IfSome o (λ v. Base (connected c) ls v × (is_quiet v ≡ true)) → IfSome o (Led (connected c) ls)
+      go : (o : Option WorldState) → IfSome o (λ v. Led (connected c) ls v × (is_quiet v ≡ true)) → IfSome o (Led (connected c) ls)
       go None own = tt
-      go (Some v) own = record { base = own.0; client = λ open_is. (ready v own.0 own.1).client; host = λ open_is. (ready v own.0 own.1).host }
+      go (Some v) own = own.0
 
   -- ---- events of lines
 
@@ -492,9 +492,9 @@ unfolding is_settle controlled notice_of
 settle_controls_none c number line.Settle is = refl
 settle_controls_none c number l is = absurd cc
 
-module _ (lines : List NumberedLine) (starves : Key → Bool) (most : Most) (ids : List ℕ) (rise : Rise (numbers lines)) (opens : OpensWhole lines starves) where
+module _ (lines : List NumberedLine) (starves : Key → Bool) (most : Most) (ids : List ℕ) (rise : Rise (numbers lines)) (premises : RunPremises lines) where
   abbrev Follows : Control → List NumberedLine → WorldState → Type 0
-  Follows c ls w = Led lines starves most ids rise opens c ls w
+  Follows c ls w = Led lines starves most ids rise premises c ls w
 
   -- what playing lines leaves, and where it came to rest
   record Played (c : Control) (ls : List NumberedLine) (w v : WorldState) : Type 0 where
@@ -532,7 +532,7 @@ module _ (lines : List NumberedLine) (starves : Key → Bool) (most : Most) (ids
       → (c : Control) (w : WorldState) → Follows c ls w → IfSome (plays starves most ls w) (Played c ls w)
   plays_rest [] among known c w l = record { grows = ([], refl); rests = tt }
   plays_rest (x ∷ ls) among known c w l =
-      go (plays_line starves most w x) (line_led lines starves most ids rise opens c x ls w (among x (inl refl)) l known.0) (later_line ids lines starves most w.deeds w x ([], refl))
+      go (plays_line starves most w x) (line_led lines starves most ids rise premises c x ls w (among x (inl refl)) l known.0) (later_line ids lines starves most w.deeds w x ([], refl))
       (λ is. settle_rests starves most w x is) (plays_rest ls (λ y has. among y (inr has)) known.1 (controlled c x.number x.line))
     where
       on : (y : WorldState) → Follows (controlled c x.number x.line) ls y → EndsWith y.deeds w.deeds → (is_settle x.line ≡ true → choices y ≡ []) → (v : WorldState)
@@ -569,13 +569,13 @@ module _ (lines : List NumberedLine) (starves : Key → Bool) (most : Most) (ids
       let first : Control = before_all ids in
       let begun : Option WorldState = connects_on starves most (world_of lines) in
       let played : Option WorldState = option_and_then (plays starves most lines) begun in
-      then_on lines starves most ids rise opens AllRest AllRest (ends_session starves most) (option_and_then (settled starves most.draws) played)
+      then_on lines starves most ids rise premises AllRest AllRest (ends_session starves most) (option_and_then (settled starves most.draws) played)
       (λ v all. on_rests (ends_session starves most v) v all (later_end ids lines starves most v.deeds v ([], refl)))
-      (then_on lines starves most ids rise opens AllRest AllRest (settled starves most.draws) played
+      (then_on lines starves most ids rise premises AllRest AllRest (settled starves most.draws) played
       (λ v all. on_rests (settled starves most.draws v) v all (later_settled ids lines starves most v.deeds v ([], refl)))
-      (then_on lines starves most ids rise opens (Follows (connected first) lines) AllRest (plays starves most lines) begun
+      (then_on lines starves most ids rise premises (Follows (connected first) lines) AllRest (plays starves most lines) begun
       (λ w l. played_rests (plays starves most lines w) w (plays_rest lines (λ x has. has) known (connected first) w l))
-      (begins_led lines starves most ids rise opens first lines (world_of lines) 0 start (omega arith) sees (may_connect lines) sees.channel)))
+      (begins_led lines starves most ids rise premises first lines (world_of lines) 0 start (omega arith) sees (may_connect lines) sees.channel)))
     where
       played_rests : (o : Option WorldState) (w : WorldState) → IfSome o (Played (connected (before_all ids)) lines w) → IfSome o AllRest
       played_rests None w own = tt
@@ -606,12 +606,12 @@ first_sees lines rise =
 
 pub does_as_said : (lines : List NumberedLine) (starves : Key → Bool) (most : Most) (w : WorldState)
     → let ids = map (λ (e : ℕ × Declared). e.0) (declared_devices (map (λ (x : NumberedLine). x.line) lines)) in
-    AreOrdered ids lines → OpensWhole lines starves → run_of most starves lines ≡ Some w → DoAsSaid ids lines starves w
-does_as_said lines starves most w ordered opens is =
+    AreOrdered ids lines → RunPremises lines → run_of most starves lines ≡ Some w → DoAsSaid ids lines starves w
+does_as_said lines starves most w ordered premises is =
     let ids : List ℕ = map (λ (e : ℕ × Declared). e.0) (declared_devices (map (λ (x : NumberedLine). x.line) lines)) in
     let rise : Rise (numbers lines) = sorted_from_strictly_increasing (numbers lines) ordered.rise in
-    let over = subst (λ (o : Option WorldState). IfSome o (IsOver lines starves most ids rise opens (control_of ids lines))) is
-    (run_over lines starves most ids rise opens ordered.known (first_sees lines rise)) in
+    let over = subst (λ (o : Option WorldState). IfSome o (IsOver lines starves most ids rise premises (control_of ids lines))) is
+    (run_over lines starves most ids rise premises ordered.known (first_sees lines rise)) in
     record {
       left = over.left;
       ends = over.ends;
@@ -622,9 +622,9 @@ does_as_said lines starves most w ordered opens is =
 
 pub rests_where_settled : (lines : List NumberedLine) (starves : Key → Bool) (most : Most) (w : WorldState)
     → let ids = map (λ (e : ℕ × Declared). e.0) (declared_devices (map (λ (x : NumberedLine). x.line) lines)) in
-    AreOrdered ids lines → OpensWhole lines starves → run_of most starves lines ≡ Some w → RestWhereSettled ids lines starves w.deeds
-rests_where_settled lines starves most w ordered opens is =
+    AreOrdered ids lines → RunPremises lines → run_of most starves lines ≡ Some w → RestWhereSettled ids lines starves w.deeds
+rests_where_settled lines starves most w ordered premises is =
     let bare : List Line = map (λ (x : NumberedLine). x.line) lines in
     let ids : List ℕ = map (λ (e : ℕ × Declared). e.0) (declared_devices bare) in
     let rise : Rise (numbers lines) = sorted_from_strictly_increasing (numbers lines) ordered.rise in
-    subst (λ (o : Option WorldState). IfSome o (AllRest lines starves most ids rise opens)) is (run_rests lines starves most ids rise opens ordered.known (first_sees lines rise))
+    subst (λ (o : Option WorldState). IfSome o (AllRest lines starves most ids rise premises)) is (run_rests lines starves most ids rise premises ordered.known (first_sees lines rise))

@@ -1,9 +1,10 @@
 -- A channel opens: of what passes in the rounds of its begin each message follows from those before it.
-use Rattle.std.proofs.Common.{◌≡◌, ◌∙◌, refl, sym, ap, subst, ℕ, zero, suc, ◌+◌, Bool, true, false, List, [], ◌∷◌, ◌++◌, length, map, fold, Some, None, Option, Result, Ok, Err, arith}
-use Rattle.std.specs.Prelude.{if◌then◌else◌}
+use Rattle.std.proofs.Common.{◌≡◌, ◌∙◌, refl, sym, ap, subst, ℕ, zero, suc, ◌+◌, Bool, true, false, List, [], ◌∷◌, length, map, fold, Some, None, Option, Result, Ok, Err}
+use Rattle.std.specs.Prelude.{if◌then◌else◌, is_some}
+use Rattle.rd_world.specs.Host.{first_waiting}
 use Rattle.std.specs.Option.{IfSome, option_map_or}
 use Rattle.rd_base.specs.declared.journal.Key.{Key}
-use Rattle.rd_client.specs.Core.{ClientCoreState, Outgoing, plain}
+use Rattle.rd_client.specs.Core.{Outgoing, plain, refresh}
 use Rattle.rd_core.specs.Core.{CoreState}
 use Rattle.rd_base.specs.Counted.{count_to, counted, counted_bytes}
 use Rattle.rd_base.specs.Header.{component_field, header, header_among}
@@ -27,8 +28,17 @@ use Rattle.rd_pending.specs.declared.calls.TakeNo.{TakeNo}
 use Rattle.rd_pending.specs.declared.calls.Taken.{Taken}
 use Rattle.rd_script.specs.declared.outcome.Outcome.{Outcome}
 use Rattle.rd_world.specs.Events as event
-use Rattle.rd_world.specs.Events.{act, is_enabled}
-use Rattle.rd_world.specs.Talk.{client_reads, takes}
+use Rattle.rd_world.specs.Events.{act, connects, is_enabled, refreshing}
+use Rattle.rd_world.specs.Talk.{client_reads, open_channel, takes}
+use Rattle.std.specs.BTreeMap.{is_at}
+use Rattle.std.specs.Map.{lookup}
+use Rattle.std.specs.Ordering.{nat_cmp}
+use Rattle.rd_runs.proofs.HostLemmas.{host_channel, shut_sends}
+use Rattle.rd_runs.proofs.Together as together
+use Rattle.rd_runs.specs.Moves.{Reached}
+use Rattle.rd_runs.specs.Premises.{RunPremises}
+use Rattle.rd_script.specs.declared.line.NumberedLine.{NumberedLine}
+use Rattle.rd_world.specs.Devices.{PrinterNames, printer_data}
 use Rattle.rd_world.specs.Run.{all_client_sends, all_host_sends, client_reads_all, host_reads_all, is_quiet, rounds}
 use Rattle.rd_world.specs.Hearing.{all_take, client_hears, ends_line, host_handles, next_asked, takes_awaited, takes_from, takes_outcome, with_client, with_outcome}
 use Rattle.rd_world.specs.World.{ApplicationState, Asked, Kept, WayState, WorldState, application_at, handling, having_read, most_messages, with_application, with_deed, with_table}
@@ -264,3 +274,45 @@ module _ (starves : Key → Bool) where
       stage_0 : (k : ℕ) (w : WorldState) → P w → IsAt host_state.Start (announces ∷ []) client_state.Start [] w → IfSome (rounds starves k w) Q
       stage_0 zero w p at = tt
       stage_0 (suc k) w p at = next_round Q k w (not_quiet host_state.Start (announces ∷ []) client_state.Start [] (λ n m v. refl) w at) (stage_1 k (round w) (keeps w p) (first_round w at))
+
+-- ---- where it begins
+
+module _ (lines : List NumberedLine) (starves : Key → Bool) (premises : RunPremises lines) where
+  no_requests : (a b : List (List ℕ)) → first_waiting a b ≡ None → b ≡ []
+  no_requests (m ∷ ms) b none = absurd cc
+  no_requests [] (m ∷ ms) none = absurd cc
+  no_requests [] [] none = refl
+
+  all_refreshed_kept : (devices : List ℕ) (w : WorldState) → (fold refreshing w devices).kept ≡ w.kept
+  all_refreshed_kept [] w = refl
+  all_refreshed_kept (device ∷ devices) w = all_refreshed_kept devices (refreshing w device) ∙ by (lookup (is_at (nat_cmp device)) w.printers)
+    where
+      by : (o : Option PrinterNames) → (option_map_or (λ (names : PrinterNames). with_client w (refresh w.client device (printer_data w.cache names))) o w).kept ≡ w.kept
+      by None = refl
+      by (Some own) = refl
+
+  begun_outbox : (t : TableState) (channel : ℕ) → ((table.begin t channel).0).outbox ≡ t.outbox
+  begun_outbox t channel = by (is_some t.channel)
+    where
+      by : (b : Bool) → ((if◌then◌else◌ {A = TableState × Bool} b (t, false) (record t { channel = Some channel; below = channel + 1; asked = 0; begun = 0 }, true)).0).outbox ≡ t.outbox
+      by true = refl
+      by false = refl
+
+  -- a channel begins: the host has its announcement to send, and nothing is under way
+  pub begins_at : (w : WorldState) → Reached lines starves w → ((w.side).table).channel ≡ None → ((w.side).core).client ≡ 1
+      → opening (connects w) ≡ stage host_state.Start (announces ∷ []) client_state.Start [] 0 0
+  begins_at w r none number =
+      let stands = (together.known lines starves premises w r).stands in
+      let shut : open_channel w.deeds ≡ None = sym (host_channel w.side w.channels w.deeds stands.host) ∙ none in
+      let requests : ((w.side).table).outbox ≡ [] = no_requests (((w.side).core).core).outbox ((w.side).table).outbox (shut_sends w.side w.channels w.deeds stands.host shut) in
+      let kept : (fold refreshing w (map (λ (e : ℕ × PrinterNames). e.0) w.printers)).kept ≡ None = all_refreshed_kept (map (λ (e : ℕ × PrinterNames). e.0) w.printers) w ∙ (stands.shut shut).kept_none in
+      let outbox : ((table.begin (w.side).table (w.channels + 1)).0).outbox ≡ [] = begun_outbox (w.side).table (w.channels + 1) ∙ requests in
+      λ i. record {
+        host = record { shake = host_state.Start; fault = None; outbox = hello_bytes (host_announce (number i)) ∷ [] };
+        number = number i;
+        requests = outbox i;
+        client = record { shake = client_state.Start; fault = None; outbox = [] };
+        down = still 0;
+        up = still 0;
+        kept = kept i;
+      }

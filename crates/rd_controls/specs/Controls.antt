@@ -4,8 +4,6 @@ use Rattle.std.specs.List.{AllByRecursion}
 use Rattle.std.specs.List.Sorted.{IsStrictlyIncreasing}
 use Rattle.std.specs.Option.{option_map_or}
 use Rattle.rd_base.specs.declared.journal.Key.{Key}
-use Rattle.rd_client.specs.Order.{is_client_ready}
-use Rattle.rd_host.specs.Order.{is_host_ready}
 use Rattle.rd_runs.specs.Moves.{Reached}
 use Rattle.rd_script.specs.declared.line.Line.{Line}
 use Rattle.rd_script.specs.declared.line.Line.TheVariants as line
@@ -13,7 +11,7 @@ use Rattle.rd_script.specs.declared.line.NumberedLine.{NumberedLine}
 use Rattle.rd_world.specs.Acts.{act_by, is_errand_at}
 use Rattle.rd_world.specs.Control.{Control, control_of, dropped_at, first_control, is_among}
 use Rattle.rd_world.specs.Events.{is_channel_open}
-use Rattle.rd_world.specs.Run.{choices, is_quiet, some_left}
+use Rattle.rd_world.specs.Run.{choices, some_left}
 use Rattle.rd_world.specs.Session.{at_settles}
 use Rattle.rd_world.specs.Talk.{Deed, EndsWith}
 use Rattle.rd_world.specs.World.{WorldState}
@@ -28,15 +26,6 @@ NamesKnown ids _ = Unit {0}
 pub record AreOrdered (ids : List ℕ) (lines : List NumberedLine) : Type 0 where
   pub rise : IsStrictlyIncreasing (map (λ (l : NumberedLine). l.number) lines)
   pub known : AllByRecursion (λ (l : NumberedLine). NamesKnown ids l.line) lines
-
--- both ends are ready
-pub record AreReady (w : WorldState) : Type 0 where
-  pub client : is_client_ready ((w.client).core).shake ≡ true
-  pub host : is_host_ready (((w.side).core).core).shake ≡ true
-
--- Where a channel is open, and nothing is under way or to be sent, both ends are ready.
-abbrev pub OpensWhole : List NumberedLine → (Key → Bool) → Type 0
-OpensWhole lines starves = (w : WorldState) → Reached lines starves w → is_channel_open w ≡ true → is_quiet w ≡ true → AreReady w
 
 -- What follows from the lines, and from the channel that was left open after them, if one was.
 abbrev pub control_with : Option ℕ → Control → Control
