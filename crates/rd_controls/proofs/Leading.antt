@@ -12,7 +12,7 @@ use Rattle.rd_controls.proofs.Marks.{first_marks, gone_marks, known_marks}
 use Rattle.rd_controls.proofs.Numbers.{Rise, an_errand, no_errand, numbers, picked_reverse}
 use Rattle.rd_controls.proofs.Unseen.{client_ready, event_unseen, host_ready, seen}
 use Rattle.rd_controls.proofs.Walking.{round_keeps, does_keeps, rounds_keep, settled_keeps, settled_rests}
-use Rattle.rd_controls.specs.Controls.{EndsAs, AreOrdered, DoAsSaid, NamesKnown, RestWhereSettled, RestsAt, control_with}
+use Rattle.rd_controls.specs.Controls.{AreReady, EndsAs, AreOrdered, DoAsSaid, NamesKnown, RestWhereSettled, RestsAt, control_with}
 use Rattle.rd_printer.specs.declared.notice.Notice.{Notice}
 use Rattle.rd_runs.specs.Moves.{IsOfLines, MayPass, Move, ReachedWithin, draws, event_weight, happens, idle, moved, queues, weight, Reached}
 use Rattle.rd_script.specs.declared.line.Errand.{Errand}
@@ -415,6 +415,7 @@ module _ (lines : List NumberedLine) (starves : Key → Bool) (most : Most) (ids
       rests = o.ends.rests;
       grown = then_more o.ends.last.deeds w.deeds (act starves w e).deeds (event_grows ids lines starves w e) o.ends.grown;
       channel = o.ends.channel;
+      ready = o.ends.ready;
       left_is = o.ends.left_is;
     };
     sees = subst (SeenAs ids lines (control_with o.left c) []) (sym (event_unseen starves w e free).same) o.sees;
@@ -423,7 +424,7 @@ module _ (lines : List NumberedLine) (starves : Key → Bool) (most : Most) (ids
   over_drawn : (c : Control) (w : WorldState) → IsOver c w → IsOver c (drawing w)
   over_drawn c w o = record {
     left = o.left;
-    ends = record { last = o.ends.last; reached = o.ends.reached; rests = o.ends.rests; grown = o.ends.grown; channel = o.ends.channel; left_is = o.ends.left_is };
+    ends = record { last = o.ends.last; reached = o.ends.reached; rests = o.ends.rests; grown = o.ends.grown; channel = o.ends.channel; ready = o.ends.ready; left_is = o.ends.left_is };
     sees = o.sees;
   }
 
@@ -441,6 +442,7 @@ module _ (lines : List NumberedLine) (starves : Key → Bool) (most : Most) (ids
         rests = rests;
         grown = grown;
         channel = l.base.sees.channel;
+        ready = λ open_is. record { client = l.client open_is; host = l.host open_is };
         left_is = is;
       }
 
@@ -511,6 +513,7 @@ module _ (lines : List NumberedLine) (starves : Key → Bool) (most : Most) (ids
       grown = then_more (all.0).world.deeds d e more (all.0).grown;
       acts = (all.0).acts;
       channel = (all.0).channel;
+      ready = (all.0).ready;
     },
     rest_later d e more cs all.1,
   )
@@ -523,8 +526,12 @@ module _ (lines : List NumberedLine) (starves : Key → Bool) (most : Most) (ids
     grown = grows;
     acts = picked_reverse act_by w.deeds ∙ l.base.sees.acts ∙ ap (λ (k : Control). k.acts) same;
     channel = l.base.sees.channel ∙ ap (λ (k : Control). k.current) same;
+    ready = λ open_is. ready_of (subst (λ (k : Control). is_some k.current ≡ true) (sym same) open_is);
   }
     where
+      ready_of : is_some d.current ≡ true → AreReady w
+      ready_of open_is = record { client = l.client open_is; host = l.host open_is }
+
       reached_of : (n : ℕ) → n + length ls ≤ length lines + 1 → ReachedWithin n lines starves w → Reached lines starves w
       reached_of n few r = record { moves = r.moves; pass = r.pass; few = omega (arith, few, r.few); leads = r.leads }
 

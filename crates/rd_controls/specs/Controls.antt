@@ -1,9 +1,11 @@
 -- What control lines do in a run, and what that takes of its lines and of the opening of a channel.
-use Rattle.std.specs.Prelude.{◌≡◌, ℕ, Bool, true, not, List, filter, filter_map, map, reverse, Option, [], None, ◌&&◌, if◌then◌else◌}
+use Rattle.std.specs.Prelude.{◌≡◌, ℕ, Bool, true, not, List, filter, filter_map, map, reverse, Option, [], None, ◌&&◌, if◌then◌else◌, is_some}
 use Rattle.std.specs.List.{AllByRecursion}
 use Rattle.std.specs.List.Sorted.{IsStrictlyIncreasing}
 use Rattle.std.specs.Option.{option_map_or}
 use Rattle.rd_base.specs.declared.journal.Key.{Key}
+use Rattle.rd_client.specs.Order.{is_client_ready}
+use Rattle.rd_host.specs.Order.{is_host_ready}
 use Rattle.rd_runs.specs.Moves.{Reached}
 use Rattle.rd_script.specs.declared.line.Line.{Line}
 use Rattle.rd_script.specs.declared.line.Line.TheVariants as line
@@ -31,6 +33,11 @@ pub record AreOrdered (ids : List ℕ) (lines : List NumberedLine) : Type 0 wher
 abbrev pub control_with : Option ℕ → Control → Control
 control_with left control = option_map_or (dropped_at control) left control
 
+-- both ends are ready
+pub record AreReady (w : WorldState) : Type 0 where
+  pub client : is_client_ready ((w.client).core).shake ≡ true
+  pub host : is_host_ready (((w.side).core).core).shake ≡ true
+
 -- After the last line nothing could happen by itself at a point of the run, which its deeds go on from. The channel that was open then is left where a request
 -- of it waits.
 pub record EndsAs (lines : List NumberedLine) (starves : Key → Bool) (said : Control) (left : Option ℕ) (w : WorldState) : Type 0 where
@@ -39,6 +46,7 @@ pub record EndsAs (lines : List NumberedLine) (starves : Key → Bool) (said : C
   pub rests : choices last ≡ []
   pub grown : EndsWith w.deeds last.deeds
   pub channel : ((last.side).table).channel ≡ said.current
+  pub ready : is_some said.current ≡ true → AreReady last
   pub left_is : left ≡ (if is_channel_open last && some_left last then said.current else None)
 
 -- The control lines did what follows from the lines alone, but for the channel that ended after everything.
@@ -57,6 +65,7 @@ pub record RestsAt (lines : List NumberedLine) (starves : Key → Bool) (deeds :
   pub grown : EndsWith deeds world.deeds
   pub acts : filter_map act_by (reverse world.deeds) ≡ control.acts
   pub channel : ((world.side).table).channel ≡ control.current
+  pub ready : is_some control.current ≡ true → AreReady world
 
 -- So it was where each `settle` line ended.
 abbrev pub RestWhereSettled : List ℕ → List NumberedLine → (Key → Bool) → List Deed → Type 0
