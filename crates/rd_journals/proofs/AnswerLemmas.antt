@@ -253,7 +253,7 @@ adds_spelled w d (Some names) o is =
 
 -- ---- each part, and every run
 
-module _ (lines : List NumberedLine) (starves : Key → Bool) (fit : AreFit (declared_devices (bare_lines lines))) (premises : RunPremises lines starves) where
+module _ (lines : List NumberedLine) (starves : Key → Bool) (fit : AreFit (declared_devices (bare_lines lines))) (premises : RunPremises lines) where
   pub fines : (w : WorldState) → IsBehind lines starves w → AreFine HasRoom w.deeds
   fines w behind = let k = knows lines starves premises w behind in read_roomy client_id w.deeds k.stands.host.may (carried_now w.deeds k.carries.each)
 

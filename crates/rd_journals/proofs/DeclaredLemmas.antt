@@ -54,15 +54,17 @@ furnished : (first : Names × Option (List ℕ)) (d : Declared) → Within first
 furnished first d within fit = by d.state fit
   where
     by : (s : SessionDevice) → IsFit s × (device_parked s ≡ []) → IsFitDevice (with_first first (record d { state = s }))
-    by (session.Drive s) fit =
-        (record {
-          fitting = record {
-            label = (fit.0).fitting.label;
-            paths = all_add s.naming (λ (node : Node). is_within_limits node.path ≡ true) (new_node (made_path s first.0) first.1 (opening_attributes first.1) 0) s.nodes
-                (made_within s first.0 within) (fit.0).fitting.paths;
-          };
-          few = (fit.0).few;
-        }, fit.1)
+    by (session.Drive s) fit = (
+      record {
+        fitting = record {
+          label = (fit.0).fitting.label;
+          paths = all_add s.naming (λ (node : Node). is_within_limits node.path ≡ true) (new_node (made_path s first.0) first.1 (opening_attributes first.1) 0) s.nodes
+              (made_within s first.0 within) (fit.0).fitting.paths;
+        };
+        few = (fit.0).few;
+      },
+      fit.1,
+    )
     by (session.Printer s) fit = fit
 
 all_furnished : (devices : List (ℕ × Declared)) (device : ℕ) (first : Names × Option (List ℕ)) → Within first.0 → AreFit devices → AreFit (holding_at devices device first)

@@ -33,6 +33,7 @@ use Rattle.rd_script.specs.Rows.{act_row, add_row, application_row, at_add, at_r
 use Rattle.rd_script.specs.Said.{Said, is_free}
 use Rattle.rd_script.proofs.RowLemmas.{ok_same}
 use Rattle.rd_world.proofs.RowFacts.{AreShort, Gives, gives_after, gives_done, gives_given, gives_then}
+
 -- a path within the limits
 abbrev pub Within : Names → Type 0
 Within path = is_within_limits path ≡ true
