@@ -1,0 +1,10 @@
+//! Both sides of every session of a script are joined.
+//!
+//! It stands on `rd_journals`, and has no code: each statement is the contract of a function that does nothing.
+#![tactic(auto)]
+
+mod laws;
+
+pub use laws::{
+    cuts_are_few,
+};
