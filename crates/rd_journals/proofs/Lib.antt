@@ -21,3 +21,4 @@ pub mod DeclaredLemmas
 pub mod RoomLemmas
 pub mod AnswerLemmas
 pub mod InOrderLemmas
+pub mod CameLemmas

@@ -74,9 +74,11 @@ pub fn completions_are_of_requests()
         → (x : Completion) → Has x s.ready → IsCompletionOf w.deeds device x }
 {}
 
-/// Each completion that a client wrote completes, with some reply, the request of its key, which it had read: it has that one's device, completion id and layout.
+/// Each completion that a client wrote completes the request of its key, which it had read: it has that one's device, completion id and layout. Its reply is the
+/// one that the device's journal gives to the key by what it says before the key was sent; or CANCELLED, where the journal says so; or, where the key never came,
+/// that there is no such device or no room.
 pub fn completions_answer()
-    ensures { (lines : List NumberedLine) (starves : Key → Bool) (w : WorldState) → AreFit (declared_devices (bare_lines lines)) → RunPremises lines starves → Reached lines starves w → EachAfter AnswersRead w.deeds }
+    ensures { (lines : List NumberedLine) (starves : Key → Bool) (w : WorldState) → AreFit (declared_devices (bare_lines lines)) → RunPremises lines starves → Reached lines starves w → EachAfter (AnswersRead (declared_devices (bare_lines lines))) w.deeds }
 {}
 
 /// Of each device on each channel the completions of the keys that came are those that its journal sent, in its order.
