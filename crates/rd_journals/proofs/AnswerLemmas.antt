@@ -322,7 +322,7 @@ module _ (devices : List (ℕ × Declared)) where
 
 -- ---- each part, and every run
 
-module _ (lines : List NumberedLine) (starves : Key → Bool) (fit : AreFit (declared_devices (bare_lines lines))) (premises : RunPremises lines starves) where
+module _ (lines : List NumberedLine) (starves : Key → Bool) (fit : AreFit (declared_devices (bare_lines lines))) (premises : RunPremises lines) where
   abbrev devs : List (ℕ × Declared)
   devs = declared_devices (bare_lines lines)
 

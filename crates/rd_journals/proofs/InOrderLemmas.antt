@@ -383,7 +383,7 @@ collects_order w d s after x there made ordered of is =
 
 -- ---- each part, and every run
 
-module _ (lines : List NumberedLine) (starves : Key → Bool) (fit : AreFit (declared_devices (bare_lines lines))) (premises : RunPremises lines starves) where
+module _ (lines : List NumberedLine) (starves : Key → Bool) (fit : AreFit (declared_devices (bare_lines lines))) (premises : RunPremises lines) where
   part_order : (w : WorldState) (p : Part) → MayBe lines starves w p → IsBehind lines starves w → IsBehind lines starves (done starves w p) → Orderly w → InOrder w.deeds → InOrder (done starves w p).deeds
   part_order w (accepts a asked named t number) may before after ordered is = is
   part_order w (refuses a asked cause) may before after ordered is = is

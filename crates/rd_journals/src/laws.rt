@@ -16,7 +16,7 @@ ghost use Rattle.rd_script.specs.Script.{script_of};
 ghost use Rattle.rd_station.specs.declared.answers.Completion.{Completion};
 ghost use Rattle.rd_station.specs.Station.{StationState};
 ghost use Rattle.rd_runs.specs.Moves.{Reached};
-ghost use Rattle.rd_runs.specs.Premises.{AreCompletionsFit, RunPremises};
+ghost use Rattle.rd_runs.specs.Premises.{RunPremises};
 ghost use Rattle.rd_world.specs.Devices.{Declared};
 ghost use Rattle.rd_world.specs.Joining.{Stands};
 ghost use Rattle.rd_world.specs.Opening.{bare_lines};
@@ -69,8 +69,8 @@ pub fn stations_are_tied()
 /// The numbers of each request that was read have room in its completion; and what is ready at a station completes, in bytes, the request of its key with its
 /// reply, and that request names the station's device.
 pub fn completions_are_of_requests()
-    ensures room { (lines : List NumberedLine) (starves : Key → Bool) (w : WorldState) → RunPremises lines starves → Reached lines starves w → AreFine HasRoom w.deeds }
-    ensures completes { (lines : List NumberedLine) (starves : Key → Bool) (w : WorldState) → AreFit (declared_devices (bare_lines lines)) → RunPremises lines starves → Reached lines starves w → (device : ℕ) (s : StationState SessionDevice) → station_at w device ≡ Some s
+    ensures room { (lines : List NumberedLine) (starves : Key → Bool) (w : WorldState) → RunPremises lines → Reached lines starves w → AreFine HasRoom w.deeds }
+    ensures completes { (lines : List NumberedLine) (starves : Key → Bool) (w : WorldState) → AreFit (declared_devices (bare_lines lines)) → RunPremises lines → Reached lines starves w → (device : ℕ) (s : StationState SessionDevice) → station_at w device ≡ Some s
         → (x : Completion) → Has x s.ready → IsCompletionOf w.deeds device x }
 {}
 
@@ -78,21 +78,15 @@ pub fn completions_are_of_requests()
 /// one that the device's journal gives to the key by what it says before the key was sent; or CANCELLED, where the journal says so; or, where the key never came,
 /// that there is no such device or no room.
 pub fn completions_answer()
-    ensures { (lines : List NumberedLine) (starves : Key → Bool) (w : WorldState) → AreFit (declared_devices (bare_lines lines)) → RunPremises lines starves → Reached lines starves w → EachAfter (AnswersRead (declared_devices (bare_lines lines))) w.deeds }
+    ensures { (lines : List NumberedLine) (starves : Key → Bool) (w : WorldState) → AreFit (declared_devices (bare_lines lines)) → RunPremises lines → Reached lines starves w → EachAfter (AnswersRead (declared_devices (bare_lines lines))) w.deeds }
 {}
 
 /// Of each device on each channel the completions of the keys that came are those that its journal sent, in its order.
 pub fn completions_are_in_order()
-    ensures { (lines : List NumberedLine) (starves : Key → Bool) (w : WorldState) → AreFit (declared_devices (bare_lines lines)) → RunPremises lines starves → Reached lines starves w → InOrder w.deeds }
+    ensures { (lines : List NumberedLine) (starves : Key → Bool) (w : WorldState) → AreFit (declared_devices (bare_lines lines)) → RunPremises lines → Reached lines starves w → InOrder w.deeds }
 {}
 
-/// What devices complete is of a message's size, in every run of lines that declare fit devices.
-pub fn completions_are_fit()
-    ensures { (lines : List NumberedLine) (starves : Key → Bool) → AreFit (declared_devices (bare_lines lines)) → AreCompletionsFit lines starves }
-{}
-
-/// The lines of every script are as the statements here and about a host take them.
+/// What the lines of every script declare is fit.
 pub fn scripts_are_fit()
-    ensures devices { (m : Mode) (text : List ℕ) (script : Script) → script_of m text ≡ Ok script → AreFit (declared_devices (bare_lines script.lines)) }
-    ensures premises { (m : Mode) (text : List ℕ) (script : Script) (starves : Key → Bool) → script_of m text ≡ Ok script → RunPremises script.lines starves }
+    ensures { (m : Mode) (text : List ℕ) (script : Script) → script_of m text ≡ Ok script → AreFit (declared_devices (bare_lines script.lines)) }
 {}
