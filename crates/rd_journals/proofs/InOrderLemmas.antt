@@ -1,5 +1,5 @@
 -- The completions of what came are told as the journals sent them.
-use Rattle.std.proofs.Common.{◌==◌, eq-eqb, eqb-true, cond, append-nil, Bool, List, [], ap, arith, false, inl, inr, map, refl, reverse, subst, sym, true, ℕ, ◌&&◌, ◌++◌, ◌∙◌, ◌∷◌, ◌≡◌}
+use Rattle.std.proofs.Common.{◌==◌, eqb-true, cond, append-nil, Bool, List, [], ap, arith, false, inl, inr, map, refl, reverse, subst, sym, true, ℕ, ◌&&◌, ◌++◌, ◌∙◌, ◌∷◌, ◌≡◌}
 use Rattle.std.specs.Prelude.{◌||◌, find, not, Contains, Err, None, Ok, Option, Result, Some, filter, fold, if◌then◌else◌}
 use Rattle.std.specs.Option.{option_map_or}
 use Rattle.rd_client.specs.Core as client
@@ -53,10 +53,10 @@ use Rattle.rd_station.specs.declared.held.InHand.{InHand}
 use Rattle.rd_station.specs.Station.{is_key}
 use Rattle.rd_runs.specs.Premises.{RunPremises}
 use Rattle.rd_world.proofs.Messages.{head_read}
-use Rattle.rd_world.specs.Told.{came, came_as, is_of_device, sent, told}
+use Rattle.rd_world.specs.Told.{came, is_of_device, sent, told}
 use Rattle.rd_journals.specs.Jobs.{HasRoom, IsCompletionOf}
 use Rattle.rd_journals.specs.Told.{InOrder}
-use Rattle.rd_journals.proofs.AnswerLemmas.{fines, was_ready}
+use Rattle.rd_journals.proofs.CameLemmas.{came_true, fines, never_came, was_ready}
 use Rattle.rd_journals.proofs.CompletionLemmas.{lost_ranged, ready_completes, runs_good}
 use Rattle.rd_journals.proofs.HeldLemmas.{stored_deeds, turned_has}
 use Rattle.rd_journals.proofs.ServingLemmas.{behind_standing, came_is_named}
@@ -186,42 +186,6 @@ order_direct k m deeds never is c d = by (k.channel == c) refl (is_of_device d m
     by true f true = gone (came c (journal d deeds) k.index) (subst (λ (x : ℕ). came x (journal d deeds) k.index ≡ false) (eqb-true k.channel c f) (never d))
     by true f false = is c d
     by false f x = is c d
-
-came_true : (k : Key) (j : List Item) → Has (Came k) j → came k.channel j k.index ≡ true
-came_true k [] has = absurd has
-came_true k (x ∷ j) (inl same) = by (came_as k.channel k.index x) (subst (λ (y : Item). came_as k.channel k.index y ≡ true) same own)
-  where
-    own : (k.channel == k.channel && k.index == k.index) ≡ true
-    own = rw (eq-eqb k.channel k.channel refl, eq-eqb k.index k.index refl) refl
-
-    by : (b : Bool) → b ≡ true → (b || came k.channel j k.index) ≡ true
-    by true e = refl
-    by false e = absurd (cc e)
-came_true k (x ∷ j) (inr has) = by (came_as k.channel k.index x) (came_true k j has)
-  where
-    by : (b : Bool) → came k.channel j k.index ≡ true → (b || came k.channel j k.index) ≡ true
-    by true e = refl
-    by false e = e
-
-came_has : (k : Key) (j : List Item) → came k.channel j k.index ≡ true → Has (Came k) j
-came_has k [] e = absurd (cc e)
-came_has k (Came l ∷ j) e = by (l.channel == k.channel) refl (l.index == k.index) refl e (came_has k j)
-  where
-    by : (a : Bool) → (l.channel == k.channel) ≡ a → (b : Bool) → (l.index == k.index) ≡ b → ((a && b) || came k.channel j k.index) ≡ true → (came k.channel j k.index ≡ true → Has (Came k) j) → Has (Came k) (Came l ∷ j)
-    by true f true g e later = inl (λ i. Came (record { channel = sym (eqb-true l.channel k.channel f) i; index = sym (eqb-true l.index k.index g) i }))
-    by true f false g e later = inr (later e)
-    by false f b g e later = inr (later e)
-came_has k (Ran l m s p ∷ j) e = inr (came_has k j e)
-came_has k (Cancelled l ∷ j) e = inr (came_has k j e)
-came_has k (Sent l ∷ j) e = inr (came_has k j e)
-came_has k (Cut cause ∷ j) e = inr (came_has k j e)
-
-never_came : (k : Key) (j : List Item) → (Has (Came k) j → ⊥) → came k.channel j k.index ≡ false
-never_came k j none = by (came k.channel j k.index) refl
-  where
-    by : (b : Bool) → came k.channel j k.index ≡ b → b ≡ false
-    by true e = absurd (none (came_has k j e))
-    by false e = refl
 
 -- ---- stations
 
@@ -441,7 +405,7 @@ module _ (lines : List NumberedLine) (starves : Key → Bool) (fit : AreFit (dec
   part_order w (tries_one k) some before after ordered is = putting_order (record w { kept = None }) k.device k.job (behind_standing lines starves (done starves w (tries_one k)) fit after).stand is
   part_order w (collects_one d s after_it x) (reached, idle, there, made) before after ordered is =
       collects_order w d s after_it x there made ordered
-      (ready_completes (declared_devices (bare_lines lines)) w ordered (behind_working HasRoom IsReplyInRange lost_ranged runs_good lines starves w fit before (fines lines starves fit premises w before)) d s there x (was_ready s after_it x made)) is
+      (ready_completes (declared_devices (bare_lines lines)) w ordered (behind_working HasRoom IsReplyInRange lost_ranged runs_good lines starves w fit before (fines lines starves premises w before)) d s there x (was_ready s after_it x made)) is
   part_order w (takes_one d hand s after_it job) (free, there, made) before after ordered is =
       with_quiet w d s after_it there (subst (λ (r : Of × Given). Quietly s r.0) made (takes_quietly s)) is
   part_order w (applies_one hand d job None) may before after ordered is = is

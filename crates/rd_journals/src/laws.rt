@@ -3,16 +3,13 @@
 ghost use Rattle.std.specs.Map.{lookup};
 ghost use Rattle.std.specs.Ordering.{nat_cmp};
 ghost use Rattle.std.specs.BTreeMap.{is_at};
-ghost use Rattle.std.specs.Prelude.{◌≡◌, ℕ, ◌+◌, ◌*◌, ◌≤◌, Bool, List, Ok, Some, ◌++◌, length, reverse, Contains};
+ghost use Rattle.std.specs.Prelude.{◌≡◌, ℕ, ◌+◌, ◌*◌, ◌≤◌, Bool, List, Some, ◌++◌, length, reverse, Contains};
 ghost use Rattle.rd_base.specs.declared.journal.Item.{Item};
 ghost use Rattle.rd_base.specs.declared.journal.Key.{Key};
 ghost use Rattle.rd_base.specs.Lawful.{IsLawful};
 ghost use Rattle.rd_drive.specs.Once.{HaveOneReplyEach};
 ghost use Rattle.rd_drive.specs.Replies.{KeyedReply};
-ghost use Rattle.rd_script.specs.declared.keyword.Mode.{Mode};
 ghost use Rattle.rd_script.specs.declared.line.NumberedLine.{NumberedLine};
-ghost use Rattle.rd_script.specs.declared.script.Script.{Script};
-ghost use Rattle.rd_script.specs.Script.{script_of};
 ghost use Rattle.rd_station.specs.declared.answers.Completion.{Completion};
 ghost use Rattle.rd_station.specs.Station.{StationState};
 ghost use Rattle.rd_runs.specs.Moves.{Reached};
@@ -74,9 +71,11 @@ pub fn completions_are_of_requests()
         → (x : Completion) → Has x s.ready → IsCompletionOf w.deeds device x }
 {}
 
-/// Each completion that a client wrote completes, with some reply, the request of its key, which it had read: it has that one's device, completion id and layout.
+/// Each completion that a client wrote completes the request of its key, which it had read: it has that one's device, completion id and layout. Its reply is the
+/// one that the device's journal gives to the key by what it says before the key was sent; or CANCELLED, where the journal says so; or, where the key never came,
+/// that there is no such device or no room.
 pub fn completions_answer()
-    ensures { (lines : List NumberedLine) (starves : Key → Bool) (w : WorldState) → AreFit (declared_devices (bare_lines lines)) → RunPremises lines → Reached lines starves w → EachAfter AnswersRead w.deeds }
+    ensures { (lines : List NumberedLine) (starves : Key → Bool) (w : WorldState) → AreFit (declared_devices (bare_lines lines)) → RunPremises lines → Reached lines starves w → EachAfter (AnswersRead (declared_devices (bare_lines lines))) w.deeds }
 {}
 
 /// Of each device on each channel the completions of the keys that came are those that its journal sent, in its order.
@@ -84,8 +83,7 @@ pub fn completions_are_in_order()
     ensures { (lines : List NumberedLine) (starves : Key → Bool) (w : WorldState) → AreFit (declared_devices (bare_lines lines)) → RunPremises lines → Reached lines starves w → InOrder w.deeds }
 {}
 
-/// The lines of every script are as the statements here and about a host take them.
+/// What lines declare is fit where it is within its bounds, as every script's is.
 pub fn scripts_are_fit()
-    ensures devices { (m : Mode) (text : List ℕ) (script : Script) → script_of m text ≡ Ok script → AreFit (declared_devices (bare_lines script.lines)) }
-    ensures premises { (m : Mode) (text : List ℕ) (script : Script) → script_of m text ≡ Ok script → RunPremises script.lines }
+    ensures { (lines : List NumberedLine) → RunPremises lines → AreFit (declared_devices (bare_lines lines)) }
 {}
