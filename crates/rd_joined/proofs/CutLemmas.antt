@@ -1,7 +1,6 @@
 -- A device is cut off by lines alone, and by each one once at most.
 use Rattle.std.proofs.Common.{◌≡◌, ◌∙◌, refl, sym, ap, subst, ℕ, ◌+◌, ◌≤◌, Bool, true, false, arith, List, [], ◌∷◌, ◌++◌, map, fold, length, reverse, Some, None, Option, Result, Ok, Err}
 use Rattle.std.specs.Prelude.{if◌then◌else◌, nat_le, not}
-use Rattle.std.specs.List.{AllByRecursion}
 use Rattle.std.specs.Map.{lookup}
 use Rattle.std.specs.Ordering.{nat_cmp}
 use Rattle.std.specs.BTreeMap.{is_at}
@@ -26,13 +25,11 @@ use Rattle.rd_journals.specs.Stations.{AreFit}
 use Rattle.rd_journals.proofs.RunLemmas.{reached_orderly}
 use Rattle.rd_runs.specs.Moves.{Reached}
 use Rattle.rd_runs.proofs.BeginningLemmas.{Unset, begins_as}
-use Rattle.rd_runs.proofs.Parts.{MayBe, Part, accepts, adds_one, announced_by, applies_one, begins, by_counted_parts, client_gets, client_hears_one, client_keeps_part, client_sends_one, collects_one, cut_by, done, draws_one, ends, hands_out, host_gets, host_hears_one, host_keeps_part, host_sends_one, idle_one, part_weight, parts_weight, queues_one, reached_behind, refreshed_by, refuses, removes_one, takes_one, tells_one, told_added, told_removed, tries_one}
+use Rattle.rd_runs.proofs.Parts.{MayBe, Part, accepts, adds_one, applies_one, begins, by_counted_parts, client_gets, client_hears_one, client_keeps_part, client_sends_one, collects_one, cut_by, done, draws_one, ends, hands_out, host_gets, host_hears_one, host_keeps_part, host_sends_one, idle_one, part_weight, parts_weight, queues_one, reached_behind, refreshed_by, refuses, removes_one, takes_one, tells_one, told_added, told_removed, tries_one}
 use Rattle.rd_runs.proofs.RoomLemmas.{OfAll, all_inserted, found_in}
 use Rattle.rd_pending.specs.declared.calls.Taken.{Taken}
 use Rattle.rd_pending.specs.Table.{TableState}
 use Rattle.rd_script.specs.declared.line.NumberedLine.{NumberedLine}
-use Rattle.rd_station.specs.declared.answers.Applied.{Applied}
-use Rattle.rd_station.specs.declared.answers.Applied.TheVariants as applied
 use Rattle.rd_station.specs.declared.answers.Completion.{Completion}
 use Rattle.rd_station.specs.declared.answers.Given.{Given}
 use Rattle.rd_station.specs.declared.answers.Given.TheVariants as given
@@ -44,9 +41,9 @@ use Rattle.rd_station.specs.Station.{StationState}
 use Rattle.rd_station.specs.declared.refusals.AnnounceNo.{AnnounceNo}
 use Rattle.rd_station.specs.declared.refusals.AnnounceNo.TheVariants as no
 use Rattle.rd_world.specs.declared.device.SessionDevice.{SessionDevice}
-use Rattle.rd_world.specs.Devices.{Declared, PrinterNames, device_cut, printer_data}
+use Rattle.rd_world.specs.Devices.{Declared, PrinterNames, device_cut}
 use Rattle.rd_world.specs.Events.{came_of, dropping, refreshing}
-use Rattle.rd_world.specs.Hearing.{after_opening, announcing, client_hears, heard_by_client, put_at, put_by, putting, refused_put, with_client}
+use Rattle.rd_world.specs.Hearing.{announcing, heard_by_client, put_at, put_by, putting, refused_put, with_client}
 use Rattle.rd_world.specs.Opening.{bare_lines}
 use Rattle.rd_world.specs.Run.{declared_devices, station_of, world_of}
 use Rattle.rd_world.specs.Talk.{client_reads, journal}
@@ -154,7 +151,7 @@ dropped_few n s cut few = by s.live refl
     by true e =
         let own : cuts s.journal + 1 ≤ n = subst (λ (b : Bool). cuts s.journal + may_cut b ≤ n) e few in
         rw e (omega (arith, own, cuts_append s.journal (Cut Dropped ∷ [])))
-    by false e = 
+    by false e =
         let own : cuts s.journal + 0 ≤ n = subst (λ (b : Bool). cuts s.journal + may_cut b ≤ n) e few in
         rw e own
 
@@ -259,8 +256,8 @@ module _ (lines : List NumberedLine) (starves : Key → Bool) where
   step n w ends may few =
       let devices : List ℕ = map (λ (e : ℕ × Of). e.0) w.stations in
       let all : AllOf (MayCutFew (1 + n)) (fold dropping w devices) =
-          all_called (MayCutFew (1 + n)) (λ s. station.drop_channel s (device_cut s.device).state) (λ s own. dropped_few (1 + n) s (device_cut s.device).state own)
-          devices w (weaken (CutsFew n) (MayCutFew (1 + n)) w.stations (may_cut_few n) few) in
+      all_called (MayCutFew (1 + n)) (λ s. station.drop_channel s (device_cut s.device).state) (λ s own. dropped_few (1 + n) s (device_cut s.device).state own)
+      devices w (weaken (CutsFew n) (MayCutFew (1 + n)) w.stations (may_cut_few n) few) in
       weaken (MayCutFew (1 + n)) (CutsFew (1 + n)) (fold dropping w devices).stations (cut_few (1 + n)) all
   step n w (client_sends_one after o) may few = more 0 n w few
   step n w (client_gets k) may few = more 0 n w few

@@ -1,1 +1,5 @@
 pub mod CutLemmas
+pub mod ReadLemmas
+pub mod RoomLemmas
+pub mod ScriptLemmas
+pub mod TiedLemmas

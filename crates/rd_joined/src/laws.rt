@@ -10,13 +10,34 @@ ghost use Rattle.rd_script.specs.declared.keyword.Mode.{Mode};
 ghost use Rattle.rd_script.specs.declared.line.NumberedLine.{NumberedLine};
 ghost use Rattle.rd_script.specs.declared.script.Script.{Script};
 ghost use Rattle.rd_script.specs.Script.{script_of};
+ghost use Rattle.rd_joined.specs.Joined.{AreTied};
+ghost use Rattle.rd_world.specs.Joining.{AreJoined};
 ghost use Rattle.rd_world.specs.Opening.{bare_lines};
+ghost use Rattle.rd_world.specs.Recording.{client_id};
 ghost use Rattle.rd_world.specs.Run.{declared_devices};
-ghost use Rattle.rd_world.specs.Talk.{journal};
-ghost use Rattle.rd_world.specs.Told.{worn_entries};
+ghost use Rattle.rd_world.specs.Session.{replies_in};
+ghost use Rattle.rd_world.specs.Talk.{Deed, journal};
+ghost use Rattle.rd_world.specs.Told.{AreAnswered, Replies, worn_entries};
 ghost use Rattle.rd_world.specs.World.{WorldState};
 
 /// A device is cut off no more often than there are lines and two.
 pub fn cuts_are_few()
     ensures { (lines : List NumberedLine) (starves : Key → Bool) (w : WorldState) → AreFit (declared_devices (bare_lines lines)) → Reached lines starves w → (device : ℕ) → cuts (journal device w.deeds) ≤ length lines + 2 }
+{}
+
+/// A client reads no more requests than there are lines and two.
+pub fn reads_are_few()
+    ensures { (lines : List NumberedLine) (starves : Key → Bool) (w : WorldState) → RunPremises lines → Reached lines starves w → reads w.deeds ≤ length lines + 2 }
+{}
+
+/// So in no run of a script a device's journal is worn.
+pub fn journals_have_room()
+    ensures { (m : Mode) (text : List ℕ) (script : Script) (starves : Key → Bool) (w : WorldState) → script_of m text ≡ Ok script → Reached script.lines starves w → (device : ℕ) → length (journal device w.deeds) < worn_entries }
+{}
+
+/// In every session of a script messages are carried, the host keeps its table, and the client its journals; so both sides are joined where the client tells what its
+/// journals say.
+pub fn sessions_are_tied()
+    ensures tied { (m : Mode) (text : List ℕ) (script : Script) (starves : Key → Bool) (w : WorldState) → script_of m text ≡ Ok script → Reached script.lines starves w → AreTied client_id (replies_in (declared_devices (bare_lines script.lines)) w.deeds) w.deeds }
+    ensures joined { (client : ℕ) (replies : Replies) (deeds : List Deed) → AreTied client replies deeds → AreAnswered replies deeds → AreJoined client replies deeds }
 {}

@@ -5,6 +5,4 @@
 
 mod laws;
 
-pub use laws::{
-    cuts_are_few,
-};
+pub use laws::{cuts_are_few, journals_have_room, reads_are_few, sessions_are_tied};
