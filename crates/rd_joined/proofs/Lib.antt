@@ -3,3 +3,4 @@ pub mod ReadLemmas
 pub mod RoomLemmas
 pub mod ScriptLemmas
 pub mod TiedLemmas
+pub mod JournalLemmas
