@@ -49,7 +49,7 @@ use Rattle.rd_world.specs.Run.{declared_devices, station_of, world_of}
 use Rattle.rd_world.specs.Talk.{client_reads, journal}
 use Rattle.rd_world.specs.World.{Asked, WorldState, station_at, with_deed, with_station}
 
-abbrev Of : Type 0
+abbrev pub Of : Type 0
 Of = StationState SessionDevice
 
 -- ---- entries
@@ -157,17 +157,17 @@ dropped_few n s cut few = by s.live refl
 
 -- ---- all stations
 
-abbrev AllOf : (Of → Type 0) → WorldState → Type 0
+abbrev pub AllOf : (Of → Type 0) → WorldState → Type 0
 AllOf P w = OfAll {K = ℕ} P w.stations
 
 weaken : (P Q : Of → Type 0) (es : List (ℕ × Of)) → ((s : Of) → P s → Q s) → OfAll P es → OfAll Q es
 weaken P Q [] f all = tt
 weaken P Q (e ∷ es) f all = (f e.1 all.0, weaken P Q es f all.1)
 
-put_station : (P : Of → Type 0) (w : WorldState) (device : ℕ) (s : Of) → P s → AllOf P w → AllOf P (with_station w device s)
+pub put_station : (P : Of → Type 0) (w : WorldState) (device : ℕ) (s : Of) → P s → AllOf P w → AllOf P (with_station w device s)
 put_station P w device s own all = all_inserted P nat_cmp w.stations device s own all
 
-found : (P : Of → Type 0) (w : WorldState) (device : ℕ) → AllOf P w → IfSome (station_at w device) P
+pub found : (P : Of → Type 0) (w : WorldState) (device : ℕ) → AllOf P w → IfSome (station_at w device) P
 found P w device all = found_in P (is_at (nat_cmp device)) w.stations all
 
 -- a call of the device's station, if it has one
@@ -181,7 +181,7 @@ all_called : (P : Of → Type 0) (f : Of → Of) → ((s : Of) → P s → P (f 
 all_called P f keeps [] w all = all
 all_called P f keeps (device ∷ devices) w all = all_called P f keeps devices _ (called P w device f keeps all (station_at w device) (found P w device all))
 
-refreshed_same : (w : WorldState) (device : ℕ) (o : Option PrinterNames) → (refreshed_by w device o).stations ≡ w.stations
+pub refreshed_same : (w : WorldState) (device : ℕ) (o : Option PrinterNames) → (refreshed_by w device o).stations ≡ w.stations
 refreshed_same w device None = refl
 refreshed_same w device (Some names) = refl
 

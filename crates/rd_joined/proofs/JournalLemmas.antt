@@ -1,5 +1,5 @@
 -- What the journals of a session's devices name and say, by its requests and its moment.
-use Rattle.std.proofs.Common.{◌≡◌, ◌≢◌, ◌∙◌, refl, sym, ap, subst, inl, inr, ℕ, ◌<◌, Bool, true, false, arith, lit<, List, [], ◌∷◌, ◌++◌, map, reverse, Some, None, Option}
+use Rattle.std.proofs.Common.{◌≡◌, ◌∙◌, refl, sym, ap, subst, inl, inr, ℕ, ◌<◌, Bool, arith, List, [], ◌∷◌, reverse, Some, Option}
 use Rattle.std.specs.Prelude.{◌⊎◌, All, Contains}
 use Rattle.std.specs.List.{AllByRecursion}
 use Rattle.std.specs.List.Sorted.{IsStrictlySortedBy}
@@ -17,9 +17,8 @@ use Rattle.rd_drive.specs.Replies.{AreToldBy, IsToldBy, state_after}
 use Rattle.rd_irp.specs.declared.request.Request.{Request}
 use Rattle.rd_journals.specs.Reads.{ComesRead, IsRead}
 use Rattle.rd_journals.proofs.ShortLemmas.{came_read}
-use Rattle.rd_station.specs.Station.{StationState}
 use Rattle.rd_world.specs.declared.device.SessionDevice.{SessionDevice}
-use Rattle.rd_world.specs.Devices.{Declared, device_cut, device_step}
+use Rattle.rd_world.specs.Devices.{device_cut, device_step}
 use Rattle.rd_world.specs.Joining.{IsCarried}
 use Rattle.rd_world.specs.Recording.{no_request, request_of}
 use Rattle.rd_world.specs.Session.{IsOfDevice, RanRead, request_read}
@@ -74,7 +73,7 @@ named_written deeds device carried reads plain =
 
 each_contained : {A : Type 0} (P : A → Type 0) (xs : List A) → ((x : A) → Contains xs x → P x) → AllByRecursion P xs
 each_contained P [] all = tt
-each_contained P (x ∷ xs) all = (all x (0, lit< tt, refl), each_contained P xs (λ y has. all y (Contains-append_right (x ∷ []) xs y has)))
+each_contained P (x ∷ xs) all = (all x (0, omega arith, refl), each_contained P xs (λ y has. all y (Contains-append_right (x ∷ []) xs y has)))
 
 ran_read : (deeds : List Deed) (device : ℕ) → EachAfter ComesRead deeds → EachAfter IsPlain (journal device deeds) → AllByRecursion (RanRead deeds) (reverse (journal device deeds))
 ran_read deeds device reads plain = each_contained (RanRead deeds) (reverse (journal device deeds)) (λ x has. by x (contains_has x (journal device deeds) has))

@@ -4,3 +4,5 @@ pub mod RoomLemmas
 pub mod ScriptLemmas
 pub mod TiedLemmas
 pub mod JournalLemmas
+pub mod BookLemmas
+pub mod ClockLemmas

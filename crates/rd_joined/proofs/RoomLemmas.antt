@@ -20,7 +20,7 @@ use Rattle.rd_world.specs.World.{WorldState}
 use Rattle.rd_joined.proofs.CutLemmas.{cuts_few}
 use Rattle.rd_joined.proofs.ReadLemmas.{reads_few}
 
-carried_now : (deeds : List Deed) → AtEachPoint IsCarried deeds → IsCarried deeds
+pub carried_now : (deeds : List Deed) → AtEachPoint IsCarried deeds → IsCarried deeds
 carried_now [] each = each
 carried_now (x ∷ before) each = each.0
 

@@ -1,7 +1,11 @@
 //! How both sides of every session of a script are joined, as contracts of functions that do nothing.
 
-ghost use Rattle.std.specs.Prelude.{◌≡◌, ℕ, ◌+◌, ◌<◌, ◌≤◌, Bool, List, Ok, length};
+ghost use Rattle.std.specs.Prelude.{◌≡◌, ℕ, ◌+◌, ◌<◌, ◌≤◌, All, Bool, List, Ok, length, map, reverse};
 ghost use Rattle.rd_base.specs.declared.journal.Key.{Key};
+ghost use Rattle.rd_base.specs.declared.journal.Item.{Item};
+ghost use Rattle.rd_base.specs.History.{History};
+ghost use Rattle.rd_base.specs.Lawful.{RunsAt};
+ghost use Rattle.rd_drive.specs.Replies.{AreToldBy};
 ghost use Rattle.rd_journals.specs.Reads.{cuts, reads};
 ghost use Rattle.rd_journals.specs.Stations.{AreFit};
 ghost use Rattle.rd_runs.specs.Moves.{Reached};
@@ -11,14 +15,15 @@ ghost use Rattle.rd_script.specs.declared.line.NumberedLine.{NumberedLine};
 ghost use Rattle.rd_script.specs.declared.script.Script.{Script};
 ghost use Rattle.rd_script.specs.Script.{script_of};
 ghost use Rattle.rd_joined.specs.Joined.{AreTied};
+ghost use Rattle.rd_world.specs.Devices.{Declared, device_cut, device_step};
 ghost use Rattle.rd_world.specs.Joining.{AreJoined};
 ghost use Rattle.rd_world.specs.Opening.{bare_lines};
-ghost use Rattle.rd_world.specs.Recording.{client_id};
+ghost use Rattle.rd_world.specs.Recording.{client_id, request_of};
 ghost use Rattle.rd_world.specs.Run.{declared_devices};
-ghost use Rattle.rd_world.specs.Session.{replies_in};
+ghost use Rattle.rd_world.specs.Session.{IsOfDevice, journals_of, replies_in, world_moment};
 ghost use Rattle.rd_world.specs.Talk.{Deed, journal};
 ghost use Rattle.rd_world.specs.Told.{AreAnswered, Replies, worn_entries};
-ghost use Rattle.rd_world.specs.World.{WorldState};
+ghost use Rattle.rd_world.specs.World.{WorldState, journals_in};
 
 /// A device is cut off no more often than there are lines and two.
 pub fn cuts_are_few()
@@ -40,4 +45,15 @@ pub fn journals_have_room()
 pub fn sessions_are_tied()
     ensures tied { (m : Mode) (text : List ℕ) (script : Script) (starves : Key → Bool) (w : WorldState) → script_of m text ≡ Ok script → Reached script.lines starves w → AreTied client_id (replies_in (declared_devices (bare_lines script.lines)) w.deeds) w.deeds }
     ensures joined { (client : ℕ) (replies : Replies) (deeds : List Deed) → AreTied client replies deeds → AreAnswered replies deeds → AreJoined client replies deeds }
+{}
+
+/// In every session of a script, between any two events: the books hold one journal of each device, in the order of their ids; what it names are requests of that device that the
+/// host wrote; its runs are at the session's moment; and its marks are those of the device's runs.
+pub fn sessions_keep_journals()
+    ensures each { (m : Mode) (text : List ℕ) (script : Script) (starves : Key → Bool) (w : WorldState) → script_of m text ≡ Ok script → Reached script.lines starves w → (books : List (ℕ × History)) → journals_of books ≡ journals_in w
+        → journals_of books ≡ map {B = ℕ × List Item} (λ (d : ℕ × Declared). (d.0, reverse (journal d.0 w.deeds))) (declared_devices (bare_lines script.lines)) }
+    ensures named { (m : Mode) (text : List ℕ) (script : Script) (starves : Key → Bool) (w : WorldState) → script_of m text ≡ Ok script → Reached script.lines starves w → (device : ℕ) → All (IsOfDevice w.deeds device) (journal device w.deeds) }
+    ensures still_clock { (m : Mode) (text : List ℕ) (script : Script) (starves : Key → Bool) (w : WorldState) → script_of m text ≡ Ok script → Reached script.lines starves w → (device : ℕ) → All (RunsAt (world_moment script.lines)) (journal device w.deeds) }
+    ensures marked { (m : Mode) (text : List ℕ) (script : Script) (starves : Key → Bool) (w : WorldState) → script_of m text ≡ Ok script → Reached script.lines starves w
+        → All (λ (d : ℕ × Declared). AreToldBy device_step device_cut (request_of w.deeds) (d.1).state (reverse (journal d.0 w.deeds))) (declared_devices (bare_lines script.lines)) }
 {}
