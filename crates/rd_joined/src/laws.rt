@@ -1,27 +1,30 @@
 //! How both sides of every session of a script are joined, as contracts of functions that do nothing.
 
-ghost use Rattle.std.specs.Prelude.{◌≡◌, ℕ, ◌+◌, ◌<◌, ◌≤◌, All, Bool, List, Ok, length, map, reverse};
+ghost use Rattle.std.specs.Prelude.{◌≡◌, ℕ, ◌+◌, ◌<◌, ◌≤◌, All, Bool, IfSome, List, Ok, Some, ◌++◌, ◌∷◌, length, map, reverse};
 ghost use Rattle.rd_base.specs.declared.journal.Key.{Key};
 ghost use Rattle.rd_base.specs.declared.journal.Item.{Item};
 ghost use Rattle.rd_base.specs.History.{History};
 ghost use Rattle.rd_base.specs.Lawful.{RunsAt};
+ghost use Rattle.rd_chunk.specs.Carrier.{IsMessage};
 ghost use Rattle.rd_drive.specs.Replies.{AreToldBy};
 ghost use Rattle.rd_journals.specs.Reads.{cuts, reads};
 ghost use Rattle.rd_journals.specs.Stations.{AreFit};
 ghost use Rattle.rd_runs.specs.Moves.{Reached};
 ghost use Rattle.rd_runs.specs.Premises.{RunPremises};
+ghost use Rattle.rd_pending.specs.History.{AreOutcomes, Call, HandsOut};
 ghost use Rattle.rd_script.specs.declared.keyword.Mode.{Mode};
 ghost use Rattle.rd_script.specs.declared.line.NumberedLine.{NumberedLine};
 ghost use Rattle.rd_script.specs.declared.script.Script.{Script};
 ghost use Rattle.rd_script.specs.Script.{script_of};
 ghost use Rattle.rd_joined.specs.Joined.{AreTied};
 ghost use Rattle.rd_world.specs.Devices.{Declared, device_cut, device_step};
-ghost use Rattle.rd_world.specs.Joining.{AreJoined};
+ghost use Rattle.rd_world.specs.HostDeeds.{calls_of};
+ghost use Rattle.rd_world.specs.Joining.{AreJoined, Joins, RunsInOrder};
 ghost use Rattle.rd_world.specs.Opening.{bare_lines};
-ghost use Rattle.rd_world.specs.Recording.{client_id, request_of};
+ghost use Rattle.rd_world.specs.Recording.{client_channel, client_id, request_of, written_by};
 ghost use Rattle.rd_world.specs.Run.{declared_devices};
 ghost use Rattle.rd_world.specs.Session.{IsOfDevice, journals_of, replies_in, world_moment};
-ghost use Rattle.rd_world.specs.Talk.{Deed, journal};
+ghost use Rattle.rd_world.specs.Talk.{Deed, EachAfter, journal, open_channel};
 ghost use Rattle.rd_world.specs.Told.{AreAnswered, Replies, worn_entries};
 ghost use Rattle.rd_world.specs.World.{WorldState, journals_in};
 
@@ -56,4 +59,22 @@ pub fn sessions_keep_journals()
     ensures still_clock { (m : Mode) (text : List ℕ) (script : Script) (starves : Key → Bool) (w : WorldState) → script_of m text ≡ Ok script → Reached script.lines starves w → (device : ℕ) → All (RunsAt (world_moment script.lines)) (journal device w.deeds) }
     ensures marked { (m : Mode) (text : List ℕ) (script : Script) (starves : Key → Bool) (w : WorldState) → script_of m text ≡ Ok script → Reached script.lines starves w
         → All (λ (d : ℕ × Declared). AreToldBy device_step device_cut (request_of w.deeds) (d.1).state (reverse (journal d.0 w.deeds))) (declared_devices (bare_lines script.lines)) }
+{}
+
+/// So in every session of a script, whatever the client tells: what was completed before a request was written ran before it, each outcome that the host holds is what came of its request
+/// by what was heard, and the host hands out what came of it. With what the client tells, all that the joining law says holds.
+pub fn sessions_run_in_order()
+    ensures in_order { (m : Mode) (text : List ℕ) (script : Script) (starves : Key → Bool) (w : WorldState) → script_of m text ≡ Ok script → Reached script.lines starves w → RunsInOrder w.deeds }
+    ensures outcomes { (m : Mode) (text : List ℕ) (script : Script) (starves : Key → Bool) (w : WorldState) → script_of m text ≡ Ok script → Reached script.lines starves w → AreOutcomes (calls_of client_id w.deeds) }
+    ensures handed_out { (m : Mode) (text : List ℕ) (script : Script) (starves : Key → Bool) (w : WorldState) → script_of m text ≡ Ok script → Reached script.lines starves w
+        → (later before : List Call) (call : Call) → calls_of client_id w.deeds ≡ later ++ call ∷ before → HandsOut (calls_of client_id w.deeds) before call }
+    ensures joins { (m : Mode) (text : List ℕ) (script : Script) (starves : Key → Bool) (w : WorldState) → script_of m text ≡ Ok script → Reached script.lines starves w
+        → let replies = replies_in (declared_devices (bare_lines script.lines)) w.deeds in
+        AreAnswered replies w.deeds → Joins client_id replies w.deeds }
+{}
+
+/// What is written in every session of a script is of a message's size, and the client reads and writes on the channel that is open: two fields of what a recording holds.
+pub fn sessions_are_recorded()
+    ensures fit { (m : Mode) (text : List ℕ) (script : Script) (starves : Key → Bool) (w : WorldState) → script_of m text ≡ Ok script → Reached script.lines starves w → All (λ deed. IfSome (written_by deed) IsMessage) w.deeds }
+    ensures on_open { (m : Mode) (text : List ℕ) (script : Script) (starves : Key → Bool) (w : WorldState) → script_of m text ≡ Ok script → Reached script.lines starves w → EachAfter (λ before deed. IfSome (client_channel deed) (λ c. open_channel before ≡ Some c)) w.deeds }
 {}

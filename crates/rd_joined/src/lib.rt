@@ -5,4 +5,7 @@
 
 mod laws;
 
-pub use laws::{cuts_are_few, journals_have_room, reads_are_few, sessions_are_tied};
+pub use laws::{
+    cuts_are_few, journals_have_room, reads_are_few, sessions_are_recorded, sessions_are_tied,
+    sessions_keep_journals, sessions_run_in_order,
+};
