@@ -24,7 +24,7 @@ use Rattle.rd_script.specs.declared.outcome.Outcome.{Outcome}
 use Rattle.rd_station.specs.Station.{StationState}
 use Rattle.rd_world.specs.declared.device.SessionDevice.{SessionDevice}
 use Rattle.rd_runs.specs.Moves.{Reached}
-use Rattle.rd_runs.specs.Premises.{AreFitting, IsFitting, IsHandleInRange}
+use Rattle.rd_runs.specs.Premises.{AreSubmittable, IsHandleInRange, IsSubmittable}
 use Rattle.rd_runs.proofs.BeginningLemmas.{Unset, begins_as}
 use Rattle.rd_runs.proofs.Insides.{IsInside, Outside, added_inside, all_dropped_inside, all_refreshed_inside, applied_inside, hears_inside, put_inside, removed_inside}
 use Rattle.rd_runs.proofs.Parts.{Part, accepts, adds_one, applies_one, begins, by_parts, client_gets, client_hears_one, client_keeps_part, client_sends_one, collects_one, done, draws_one, ends, hands_out, host_gets, host_hears_one, host_keeps_part, host_sends_one, idle_one, queues_one, reached_behind, refuses, removes_one, takes_one, tells_one, tries_one}
@@ -172,7 +172,7 @@ each_opens (line.Control a handle code output bytes) = refl
 each_opens (line.Notify a handle tree filters) = refl
 each_opens l = tt
 
-named_fits : (x : ApplicationState) (asked : Asked) (named : Target) → IsFitting asked → opens asked.op ≡ is_some asked.device
+named_fits : (x : ApplicationState) (asked : Asked) (named : Target) → IsSubmittable asked → opens asked.op ≡ is_some asked.device
     → ((name : List ℕ) (h : Handle) → handle_named x name ≡ Some h → IsHandleInRange h) → target_of x asked ≡ Some named → MaySubmit named asked.op × IsInRange named asked.op
 named_fits x asked named fit names handles e = by asked.device refl (handle_named x asked.handle) refl e
   where
@@ -216,7 +216,7 @@ one_notable (x ∷ ls) l all (inl same) = subst (λ (y : NumberedLine). IsNotabl
 one_notable (x ∷ ls) l all (inr has) = one_notable ls l all.1 has
 
 -- So a host may take what an application's line names, where handles have room in a request.
-pub may_take : (lines : List NumberedLine) (starves : Key → Bool) → AreFitting lines → (w : WorldState)
+pub may_take : (lines : List NumberedLine) (starves : Key → Bool) → AreSubmittable lines → (w : WorldState)
     → ((a : ℕ) (name : List ℕ) (h : Handle) → handle_named (application_at w a) name ≡ Some h → IsHandleInRange h) → MayTake lines starves w
 may_take lines starves fitting w handles r a asked named next names =
     let (l, n, has, is) = next_of_line lines starves w r a asked next in

@@ -16,7 +16,7 @@ use Rattle.rd_script.specs.Numbers.{below_base, digit_of, digits_from, digits_in
 use Rattle.rd_script.specs.Row.{given, met_words, test, word, words_of}
 use Rattle.rd_script.specs.Script.{BadLine, Reading, TextLine, bad_line, fits, go_on, is_application, is_skipped, line_of, lines_of, read_all, reading, reading_at_start, script_of, script_read, skipping, step, taken}
 use Rattle.rd_script.specs.Texts.{all_ranges, escaped, few_bytes, few_ranges, few_units, handle_word, hex_word, is_dash, is_visible, name_word, place_word, prepended, range_from, range_of, ranges_of, some_units, unit_before, units_after, units_of, units_word}
-use Rattle.rd_runs.specs.Premises.{AreFitting, IsFitting}
+use Rattle.rd_runs.specs.Premises.{AreSubmittable, IsSubmittable}
 use Rattle.rd_world.proofs.RowFacts.{AreShort, Gives, gives_after, gives_between, gives_done, gives_few_bytes, gives_given, gives_test, gives_then, gives_weaker}
 use Rattle.rd_world.specs.Run.{asked_by}
 use Rattle.rd_world.specs.Talk.{Has}
@@ -39,6 +39,8 @@ use Rattle.rd_script.specs.declared.why.LineWhy.TheVariants as why
 use Rattle.rd_script.specs.Keywords.{acts, notice_words}
 use Rattle.rd_script.specs.Rows.{act_row, add_row, application_row, at_add, at_remove, at_row, buffer_word, cache_add_row, cache_delete_row, cache_rename_row, cache_row, cache_update_row, channels_row, clock_row, control_line_row, control_row, create_numbers, create_row, devices_row, dir_row, do_row, drive_id, drive_row, drivefold_row, end_row, entry_word, errand_row, file_row, fill_length, fill_row, folder_row, form_row, id_word, keyword_row, keyword_word, known_device, line_row, lock_row, max_applications, max_cached, moment_row, new_device, new_path, notice_row, notify_row, open_row, path_word, piece_row, printer_name, printer_row, query_row, read_row, real_row, remove_row, seed_row, set_row, setvolume_row, verb_row, verb_word, volume_row, workers_row, write_row}
 use Rattle.rd_script.specs.Said.{Said}
+use Rattle.rd_dirinfo.specs.Paths.{Names, is_within_limits, names_of, parsed_path, path_fault}
+use Rattle.rd_dirinfo.proofs.PathLemmas.{path_is_within}
 use Rattle.rd_drive.proofs.AllLemmas.{all_append}
 use Rattle.rd_script.proofs.RowLemmas.{ok_same}
 
@@ -215,9 +217,31 @@ module _ (n : ℕ) where
       (gives_weaker n _ _ (given (ranges_of w) why.Number) (λ rs is. ranges_few (slice_split (λ c. c == 0x2c) w) rs is) (gives_given n (ranges_of w) why.Number))
       (λ rs all. gives_then n _ _ (test (nat_le (length rs) max_ranges) why.Many) _ (gives_test n _ _) (λ u few. gives_done n _ rs (leb-true (length rs) max_ranges few, All-from_recursion IsRangeInRange rs all))))
 
--- what a line asks for fits, if it asks for something
+-- the path at which a line makes a folder or a file is within the limits of paths
+abbrev pub MakesWithin : Line → Type 0
+MakesWithin (line.Folder device path) = is_within_limits path ≡ true
+MakesWithin (line.File device path bytes) = is_within_limits path ≡ true
+MakesWithin (line.Fill device path len byte) = is_within_limits path ≡ true
+MakesWithin _ = Unit {0}
+
+-- what a line asks for fits, if it asks for something, and what it makes is within limits
 abbrev pub LineFits : Line → Type 0
-LineFits l = IfSome (asked_by l) (λ (x : ℕ × Asked). IsFitting x.1)
+LineFits l = IfSome (asked_by l) (λ (x : ℕ × Asked). IsSubmittable x.1) × MakesWithin l
+
+-- a path of a drive at which a node can be made
+gives_made : (n : ℕ) (said : Said) (device : ℕ) → Gives n (λ (path : Names). is_within_limits path ≡ true) (new_path said device)
+unfolding new_path
+gives_made n said device =
+    gives_after n _ (units_word why.Path) _ (λ units. gives_then n (λ (path : Names). is_within_limits path ≡ true) _ (given (parsed_path units) why.Path) _
+    (gives_weaker n _ _ (given (parsed_path units) why.Path) (λ path is. spelled units path is) (gives_given n (parsed_path units) why.Path))
+    (λ path within. gives_after n _ (test _ why.Path) _ (λ u. gives_done n (λ (path : Names). is_within_limits path ≡ true) path within)))
+  where
+    spelled : (units : List ℕ) (path : Names) → parsed_path units ≡ Some path → is_within_limits path ≡ true
+    spelled units path e = by (path_fault units) refl e
+      where
+        by : (o : Option ℕ) → path_fault units ≡ o → elim o [ Some at ↦ None | None ↦ Some (names_of units) ] ≡ Some path → is_within_limits path ≡ true
+        by None sound h = let same : names_of units ≡ path = cc in subst (λ (p : Names). is_within_limits p ≡ true) same (and_parts _ (is_within_limits (names_of units)) (path_is_within units sound)).1
+        by (Some at) sound h = absurd cc
 
 module _ (n : ℕ) (said : Said) where
   abbrev P : Line → Type 0
@@ -228,86 +252,86 @@ module _ (n : ℕ) (said : Said) where
   seed_row_fits : Gives n P seed_row
   unfolding seed_row asked_by
   seed_row_fits =
-      gives_after n P number64_word _ (λ number. gives_done n P (line.Seed number) tt)
+      gives_after n P number64_word _ (λ number. gives_done n P (line.Seed number) (tt, tt))
 
   clock_row_fits : Gives n P clock_row
   unfolding clock_row asked_by
   clock_row_fits =
-      gives_after n P number64_word _ (λ moment. gives_done n P (line.Clock moment) tt)
+      gives_after n P number64_word _ (λ moment. gives_done n P (line.Clock moment) (tt, tt))
 
   piece_row_fits : Gives n P piece_row
   unfolding piece_row asked_by
   piece_row_fits =
-      gives_after n P (number_word 1 65536) _ (λ most. gives_done n P (line.Piece most) tt)
+      gives_after n P (number_word 1 65536) _ (λ most. gives_done n P (line.Piece most) (tt, tt))
 
   workers_row_fits : Gives n P workers_row
   unfolding workers_row asked_by
   workers_row_fits =
-      gives_after n P (number_word 1 16) _ (λ count. gives_done n P (line.Workers count) tt)
+      gives_after n P (number_word 1 16) _ (λ count. gives_done n P (line.Workers count) (tt, tt))
 
   channels_row_fits : Gives n P channels_row
   unfolding channels_row asked_by
   channels_row_fits =
-      gives_after n P (number_word 1 64) _ (λ count. gives_done n P (line.Channels count) tt)
+      gives_after n P (number_word 1 64) _ (λ count. gives_done n P (line.Channels count) (tt, tt))
 
   devices_row_fits : Gives n P devices_row
   unfolding devices_row asked_by
   devices_row_fits =
-      gives_after n P (number_word 0 256) _ (λ count. gives_done n P (line.Devices count) tt)
+      gives_after n P (number_word 0 256) _ (λ count. gives_done n P (line.Devices count) (tt, tt))
 
   -- ---- devices
   drive_row_fits : Gives n P (drive_row said)
   unfolding drive_row asked_by
   drive_row_fits =
-      gives_after n P (new_device said) _ (λ device. gives_after n P name_word _ (λ name. gives_done n P (line.Drive device name) tt))
+      gives_after n P (new_device said) _ (λ device. gives_after n P name_word _ (λ name. gives_done n P (line.Drive device name) (tt, tt)))
 
   drivefold_row_fits : Gives n P (drivefold_row said)
   unfolding drivefold_row asked_by
   drivefold_row_fits =
-      gives_after n P (new_device said) _ (λ device. gives_after n P name_word _ (λ name. gives_done n P (line.DriveFold device name) tt))
+      gives_after n P (new_device said) _ (λ device. gives_after n P name_word _ (λ name. gives_done n P (line.DriveFold device name) (tt, tt)))
 
   real_row_fits : Gives n P (real_row said)
   unfolding real_row asked_by
   real_row_fits =
-      gives_after n P (new_device said) _ (λ device. gives_after n P name_word _ (λ name. gives_after n P place_word _ (λ place. gives_done n P (line.Real device name place) tt)))
+      gives_after n P (new_device said) _ (λ device. gives_after n P name_word _ (λ name. gives_after n P place_word _ (λ place. gives_done n P (line.Real device name place) (tt, tt))))
 
   folder_row_fits : Gives n P (folder_row said)
   unfolding folder_row asked_by
   folder_row_fits =
-      gives_after n P (drive_id said) _ (λ device. gives_after n P (new_path said device) _ (λ path. gives_done n P (line.Folder device path) tt))
+      gives_after n P (drive_id said) _ (λ device. gives_then n _ P (new_path said device) _ (gives_made n said device) (λ path within. gives_done n P (line.Folder device path) (tt, within)))
 
   file_row_fits : Gives n P (file_row said)
   unfolding file_row asked_by
   file_row_fits =
-      gives_after n P (drive_id said) _ (λ device. gives_after n P (new_path said device) _ (λ path. gives_after n P hex_word _ (λ bytes. gives_done n P (line.File device path bytes) tt)))
+      gives_after n P (drive_id said) _ (λ device. gives_then n _ P (new_path said device) _ (gives_made n said device) (λ path within. gives_after n P hex_word _ (λ bytes. gives_done n P (line.File device path bytes) (tt, within))))
 
   fill_row_fits : Gives n P (fill_row said)
   unfolding fill_row asked_by
   fill_row_fits =
-      gives_after n P (drive_id said) _ (λ device. gives_after n P (new_path said device) _ (λ path. gives_after n P fill_length _ (λ len. gives_after n P (number_word 0 255) _ (λ byte. gives_done n P (line.Fill device path len byte) tt))))
+      gives_after n P (drive_id said) _ (λ device. gives_then n _ P (new_path said device) _ (gives_made n said device) (λ path within. gives_after n P fill_length _ (λ len. gives_after n P (number_word 0 255) _ (λ byte. gives_done n P (line.Fill device path len byte) (tt, within)))))
 
   printer_row_fits : Gives n P (printer_row said)
   unfolding printer_row asked_by
   printer_row_fits =
-      gives_after n P (new_device said) _ (λ device. gives_after n P name_word _ (λ name. gives_after n P printer_name _ (λ driver. gives_after n P printer_name _ (λ printer. gives_done n P (line.Printer device name driver printer) tt))))
+      gives_after n P (new_device said) _ (λ device. gives_after n P name_word _ (λ name. gives_after n P printer_name _ (λ driver. gives_after n P printer_name _ (λ printer. gives_done n P (line.Printer device name driver printer) (tt, tt)))))
 
   -- ---- control lines
 
   at_remove_fits : (channel requests : ℕ) → Gives n P (at_remove said channel requests)
   unfolding at_remove asked_by
   at_remove_fits channel requests =
-      gives_after n P (known_device said) _ (λ device. gives_done n P (line.AtRemove channel requests device) tt)
+      gives_after n P (known_device said) _ (λ device. gives_done n P (line.AtRemove channel requests device) (tt, tt))
 
   at_add_fits : (channel requests : ℕ) → Gives n P (at_add said channel requests)
   unfolding at_add asked_by
   at_add_fits channel requests =
-      gives_after n P (known_device said) _ (λ device. gives_done n P (line.AtAdd channel requests device) tt)
+      gives_after n P (known_device said) _ (λ device. gives_done n P (line.AtAdd channel requests device) (tt, tt))
 
   act_row_fits : (channel requests : ℕ) (a : Act) → Gives n P (act_row said channel requests a)
   unfolding act_row asked_by
   act_row_fits channel requests act.Remove = at_remove_fits channel requests
   act_row_fits channel requests act.Add = at_add_fits channel requests
-  act_row_fits channel requests act.Drop = gives_done n P (line.AtDrop channel requests) tt
+  act_row_fits channel requests act.Drop = gives_done n P (line.AtDrop channel requests) (tt, tt)
 
   at_row_fits : Gives n P (at_row said)
   unfolding at_row
@@ -316,37 +340,37 @@ module _ (n : ℕ) (said : Said) where
   remove_row_fits : Gives n P (remove_row said)
   unfolding remove_row asked_by
   remove_row_fits =
-      gives_after n P (known_device said) _ (λ device. gives_done n P (line.Remove device) tt)
+      gives_after n P (known_device said) _ (λ device. gives_done n P (line.Remove device) (tt, tt))
 
   add_row_fits : Gives n P (add_row said)
   unfolding add_row asked_by
   add_row_fits =
-      gives_after n P (known_device said) _ (λ device. gives_done n P (line.Add device) tt)
+      gives_after n P (known_device said) _ (λ device. gives_done n P (line.Add device) (tt, tt))
 
   do_row_fits : Gives n P (do_row said)
   unfolding do_row asked_by
   do_row_fits =
-      gives_after n P (errand_row said) _ (λ e. gives_done n P (line.Do e) tt)
+      gives_after n P (errand_row said) _ (λ e. gives_done n P (line.Do e) (tt, tt))
 
   cache_add_row_fits : Gives n P cache_add_row
   unfolding cache_add_row asked_by
   cache_add_row_fits =
-      gives_after n P name_word _ (λ port. gives_after n P printer_name _ (λ driver. gives_after n P printer_name _ (λ printer. gives_after n P (few_bytes max_cached) _ (λ bytes. gives_done n P (line.CacheAdd port driver printer bytes) tt))))
+      gives_after n P name_word _ (λ port. gives_after n P printer_name _ (λ driver. gives_after n P printer_name _ (λ printer. gives_after n P (few_bytes max_cached) _ (λ bytes. gives_done n P (line.CacheAdd port driver printer bytes) (tt, tt)))))
 
   cache_update_row_fits : Gives n P cache_update_row
   unfolding cache_update_row asked_by
   cache_update_row_fits =
-      gives_after n P printer_name _ (λ printer. gives_after n P (few_bytes max_cached) _ (λ bytes. gives_done n P (line.CacheUpdate printer bytes) tt))
+      gives_after n P printer_name _ (λ printer. gives_after n P (few_bytes max_cached) _ (λ bytes. gives_done n P (line.CacheUpdate printer bytes) (tt, tt)))
 
   cache_delete_row_fits : Gives n P cache_delete_row
   unfolding cache_delete_row asked_by
   cache_delete_row_fits =
-      gives_after n P printer_name _ (λ printer. gives_done n P (line.CacheDelete printer) tt)
+      gives_after n P printer_name _ (λ printer. gives_done n P (line.CacheDelete printer) (tt, tt))
 
   cache_rename_row_fits : Gives n P cache_rename_row
   unfolding cache_rename_row asked_by
   cache_rename_row_fits =
-      gives_after n P printer_name _ (λ old. gives_after n P printer_name _ (λ new. gives_done n P (line.CacheRename old new) tt))
+      gives_after n P printer_name _ (λ old. gives_after n P printer_name _ (λ new. gives_done n P (line.CacheRename old new) (tt, tt)))
 
   notice_row_fits : (w : NoticeWord) → Gives n P (notice_row w)
   unfolding notice_row
@@ -365,7 +389,7 @@ module _ (n : ℕ) (said : Said) where
   unfolding open_row asked_by
   open_row_fits application handle =
       gives_then n _ P (known_device said) _ (gives_known n said) (λ device own. gives_then n _ P path_word _ (gives_path n)
-      (λ path is. gives_done n P (line.Open application handle device path) (record { fits = is.0; range = (lit< tt, lit< tt, lit< tt, lit< tt, lit< tt, lit< tt, is.1); device = own })))
+      (λ path is. gives_done n P (line.Open application handle device path) (record { fits = is.0; range = (lit< tt, lit< tt, lit< tt, lit< tt, lit< tt, lit< tt, is.1); device = own }, tt)))
 
   create_numbers_fits : (application : ℕ) (handle : List ℕ) (device : ℕ) (path : List ℕ) → device < 2 ^ 32 → IsWritablePath path × All (λ unit. unit < 2 ^ 16) path
       → Gives n P (create_numbers application handle device path)
@@ -373,7 +397,7 @@ module _ (n : ℕ) (said : Said) where
   create_numbers_fits application handle device path own is =
       gives_then n _ P number32_word _ (gives_number32 n) (λ disposition a. gives_then n _ P number32_word _ (gives_number32 n) (λ access b. gives_then n _ P number32_word _ (gives_number32 n) (λ share c.
       gives_then n _ P number32_word _ (gives_number32 n) (λ options d. gives_then n _ P number32_word _ (gives_number32 n)
-      (λ attributes e. gives_done n P (line.Create application handle device path disposition access share options attributes) (record { fits = is.0; range = (b, lit< tt, e, c, a, d, is.1); device = own }))))))
+      (λ attributes e. gives_done n P (line.Create application handle device path disposition access share options attributes) (record { fits = is.0; range = (b, lit< tt, e, c, a, d, is.1); device = own }, tt))))))
 
   create_row_fits : (application : ℕ) (handle : List ℕ) → Gives n P (create_row said application handle)
   unfolding create_row
@@ -384,65 +408,65 @@ module _ (n : ℕ) (said : Said) where
   unfolding read_row asked_by
   read_row_fits application handle =
       gives_then n _ P number64_word _ (gives_number64 n) (λ offset a. gives_then n _ P number32_word _ (gives_number32 n)
-      (λ len b. gives_done n P (line.Read application handle offset len) (record { fits = tt; range = (a, b); device = tt })))
+      (λ len b. gives_done n P (line.Read application handle offset len) (record { fits = tt; range = (a, b); device = tt }, tt)))
 
   write_row_fits : (application : ℕ) (handle : List ℕ) → Gives n P (write_row application handle)
   unfolding write_row asked_by
   write_row_fits application handle =
       gives_then n _ P number64_word _ (gives_number64 n) (λ offset a. gives_then n _ P buffer_word _ (gives_few_bytes n max_buffer)
-      (λ bytes few. gives_done n P (line.Write application handle offset bytes) (record { fits = few; range = a; device = tt })))
+      (λ bytes few. gives_done n P (line.Write application handle offset bytes) (record { fits = few; range = a; device = tt }, tt)))
 
   query_row_fits : (application : ℕ) (handle : List ℕ) → Gives n P (query_row application handle)
   unfolding query_row asked_by
   query_row_fits application handle =
-      gives_then n _ P number32_word _ (gives_number32 n) (λ class a. gives_done n P (line.Query application handle class) (record { fits = tt; range = a; device = tt }))
+      gives_then n _ P number32_word _ (gives_number32 n) (λ class a. gives_done n P (line.Query application handle class) (record { fits = tt; range = a; device = tt }, tt))
 
   volume_row_fits : (application : ℕ) (handle : List ℕ) → Gives n P (volume_row application handle)
   unfolding volume_row asked_by
   volume_row_fits application handle =
-      gives_then n _ P number32_word _ (gives_number32 n) (λ class a. gives_done n P (line.Volume application handle class) (record { fits = tt; range = a; device = tt }))
+      gives_then n _ P number32_word _ (gives_number32 n) (λ class a. gives_done n P (line.Volume application handle class) (record { fits = tt; range = a; device = tt }, tt))
 
   set_row_fits : (application : ℕ) (handle : List ℕ) → Gives n P (set_row application handle)
   unfolding set_row asked_by
   set_row_fits application handle =
       gives_then n _ P number32_word _ (gives_number32 n) (λ class a. gives_then n _ P buffer_word _ (gives_few_bytes n max_buffer)
-      (λ bytes few. gives_done n P (line.Set application handle class bytes) (record { fits = few; range = a; device = tt })))
+      (λ bytes few. gives_done n P (line.Set application handle class bytes) (record { fits = few; range = a; device = tt }, tt)))
 
   setvolume_row_fits : (application : ℕ) (handle : List ℕ) → Gives n P (setvolume_row application handle)
   unfolding setvolume_row asked_by
   setvolume_row_fits application handle =
       gives_then n _ P number32_word _ (gives_number32 n) (λ class a. gives_then n _ P buffer_word _ (gives_few_bytes n max_buffer)
-      (λ bytes few. gives_done n P (line.SetVolume application handle class bytes) (record { fits = few; range = a; device = tt })))
+      (λ bytes few. gives_done n P (line.SetVolume application handle class bytes) (record { fits = few; range = a; device = tt }, tt)))
 
   dir_row_fits : (application : ℕ) (handle : List ℕ) → Gives n P (dir_row application handle)
   unfolding dir_row asked_by
   dir_row_fits application handle =
       gives_then n _ P number32_word _ (gives_number32 n) (λ class a. gives_after n P flag_word _ (λ initial. gives_then n _ P path_word _ (gives_path n)
-      (λ path is. gives_done n P (line.Dir application handle class initial path) (record { fits = is.0; range = (a, is.1); device = tt }))))
+      (λ path is. gives_done n P (line.Dir application handle class initial path) (record { fits = is.0; range = (a, is.1); device = tt }, tt))))
 
   lock_row_fits : (application : ℕ) (handle : List ℕ) → Gives n P (lock_row application handle)
   unfolding lock_row asked_by
   lock_row_fits application handle =
       gives_then n _ P number32_word _ (gives_number32 n) (λ operation a. gives_after n P flag_word _ (λ wait. gives_then n _ P (few_ranges max_ranges) _ (gives_ranges n)
-      (λ ranges is. gives_done n P (line.Lock application handle operation wait ranges) (record { fits = is.0; range = (a, is.1); device = tt }))))
+      (λ ranges is. gives_done n P (line.Lock application handle operation wait ranges) (record { fits = is.0; range = (a, is.1); device = tt }, tt))))
 
   control_row_fits : (application : ℕ) (handle : List ℕ) → Gives n P (control_row application handle)
   unfolding control_row asked_by
   control_row_fits application handle =
       gives_then n _ P number32_word _ (gives_number32 n) (λ code a. gives_then n _ P number32_word _ (gives_number32 n) (λ output b. gives_then n _ P buffer_word _ (gives_few_bytes n max_buffer)
-      (λ bytes few. gives_done n P (line.Control application handle code output bytes) (record { fits = few; range = (b, a); device = tt }))))
+      (λ bytes few. gives_done n P (line.Control application handle code output bytes) (record { fits = few; range = (b, a); device = tt }, tt))))
 
   notify_row_fits : (application : ℕ) (handle : List ℕ) → Gives n P (notify_row application handle)
   unfolding notify_row asked_by
   notify_row_fits application handle =
       gives_after n P flag_word _ (λ tree. gives_then n _ P number32_word _ (gives_number32 n)
-      (λ filters a. gives_done n P (line.Notify application handle tree filters) (record { fits = tt; range = a; device = tt })))
+      (λ filters a. gives_done n P (line.Notify application handle tree filters) (record { fits = tt; range = a; device = tt }, tt)))
 
   verb_row_fits : (application : ℕ) (handle : List ℕ) (v : Verb) → Gives n P (verb_row said application handle v)
   unfolding verb_row asked_by
   verb_row_fits application handle verb.Open = open_row_fits application handle
   verb_row_fits application handle verb.Create = create_row_fits application handle
-  verb_row_fits application handle verb.Close = gives_done n P (line.Close application handle) (record { fits = tt; range = tt; device = tt })
+  verb_row_fits application handle verb.Close = gives_done n P (line.Close application handle) (record { fits = tt; range = tt; device = tt }, tt)
   verb_row_fits application handle verb.Read = read_row_fits application handle
   verb_row_fits application handle verb.Write = write_row_fits application handle
   verb_row_fits application handle verb.Query = query_row_fits application handle
@@ -475,13 +499,13 @@ module _ (n : ℕ) (said : Said) where
   keyword_row_fits keyword.Fill = fill_row_fits
   keyword_row_fits keyword.Printer = printer_row_fits
   keyword_row_fits keyword.At = at_row_fits
-  keyword_row_fits keyword.Settle = gives_done n P line.Settle tt
+  keyword_row_fits keyword.Settle = gives_done n P line.Settle (tt, tt)
   keyword_row_fits keyword.Remove = remove_row_fits
   keyword_row_fits keyword.Add = add_row_fits
   keyword_row_fits keyword.Do = do_row_fits
   keyword_row_fits keyword.Cache = cache_row_fits
-  keyword_row_fits keyword.Drop = gives_done n P line.Drop tt
-  keyword_row_fits keyword.Connect = gives_done n P line.Connect tt
+  keyword_row_fits keyword.Drop = gives_done n P line.Drop (tt, tt)
+  keyword_row_fits keyword.Connect = gives_done n P line.Connect (tt, tt)
 
   control_line_row_fits : Gives n P (control_line_row said)
   unfolding control_line_row
@@ -549,12 +573,17 @@ one_of [] l all has = absurd has
 one_of (x ∷ ls) l all (inl same) = subst (λ (y : NumberedLine). LineFits y.line) (sym same) all.0
 one_of (x ∷ ls) l all (inr has) = one_of ls l all.1 has
 
--- what the lines of a script ask for fits a request
-pub scripts_are_fitting : (m : Mode) (text : List ℕ) (script : Script) → script_of m text ≡ Ok script → AreFitting script.lines
-scripts_are_fitting m text script is l a asked has names = subst (λ (o : Option (ℕ × Asked)). IfSome o (λ (x : ℕ × Asked). IsFitting x.1)) names (one_of script.lines l (by (read_all (lines_of text) (reading_at_start m)) refl is) has)
+-- so it is with each line of a script
+pub read_lines : (m : Mode) (text : List ℕ) (script : Script) → script_of m text ≡ Ok script → AllByRecursion (λ (l : NumberedLine). LineFits l.line) script.lines
+read_lines m text script is = by (read_all (lines_of text) (reading_at_start m)) refl is
   where
     by : (r : Result Reading BadLine) → read_all (lines_of text) (reading_at_start m) ≡ r → script_read m r ≡ Ok script → AllByRecursion (λ (l : NumberedLine). LineFits l.line) script.lines
     by (Ok last) at is =
         let same : last.lines ≡ script.lines = ap (λ (r : Result Script BadLine). (result_unwrap_or r script).lines) is in
         subst (AllByRecursion (λ (l : NumberedLine). LineFits l.line)) same (all_lines (lines_of text) (reading_at_start m) last tt at)
     by (Err bad) at is = absurd (cc is)
+
+-- what the lines of a script ask for fits a request
+pub scripts_are_fitting : (m : Mode) (text : List ℕ) (script : Script) → script_of m text ≡ Ok script → AreSubmittable script.lines
+scripts_are_fitting m text script is l a asked has names =
+    subst (λ (o : Option (ℕ × Asked)). IfSome o (λ (x : ℕ × Asked). IsSubmittable x.1)) names (one_of script.lines l (read_lines m text script is) has).0

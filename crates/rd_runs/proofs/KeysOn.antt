@@ -181,11 +181,11 @@ module _ (c : ℕ) where
 
 -- ---- what leaves some of it alone
 
-refreshed_kept : (w : WorldState) (d : ℕ) (o : Option PrinterNames) → ((refreshed_by w d o).kept ≡ w.kept) × ((refreshed_by w d o).stations ≡ w.stations)
+pub refreshed_kept : (w : WorldState) (d : ℕ) (o : Option PrinterNames) → ((refreshed_by w d o).kept ≡ w.kept) × ((refreshed_by w d o).stations ≡ w.stations)
 refreshed_kept w d None = (refl, refl)
 refreshed_kept w d (Some names) = (refl, refl)
 
-all_refreshed_kept : (devices : List ℕ) (w : WorldState) → ((fold refreshing w devices).kept ≡ w.kept) × ((fold refreshing w devices).stations ≡ w.stations)
+pub all_refreshed_kept : (devices : List ℕ) (w : WorldState) → ((fold refreshing w devices).kept ≡ w.kept) × ((fold refreshing w devices).stations ≡ w.stations)
 all_refreshed_kept [] w = (refl, refl)
 all_refreshed_kept (d ∷ devices) w =
     let one = refreshed_kept w d (lookup (is_at (nat_cmp d)) w.printers) in

@@ -20,3 +20,7 @@ pub mod Together
 pub mod Handled
 pub mod Resting
 pub mod FittingLines
+pub mod SendingLemmas
+pub mod Sending
+pub mod BoundLemmas
+pub mod Counting

@@ -1,5 +1,5 @@
 -- What passes in a session, part by part: each move is a list of parts, and what comes of a part computes from what it carries.
-use Rattle.std.proofs.Common.{◌≡◌, refl, sym, ap, subst, ℕ, zero, suc, ◌==◌, Bool, true, false, not, List, [], ◌∷◌, ◌++◌, map, fold, Some, None, Option, Result, Ok, Err}
+use Rattle.std.proofs.Common.{◌≡◌, refl, sym, ap, subst, ℕ, zero, suc, ◌+◌, ◌≤◌, ◌==◌, Bool, true, false, not, List, [], ◌∷◌, ◌++◌, length, map, fold, arith, Some, None, Option, Result, Ok, Err}
 use Rattle.std.specs.Prelude.{if◌then◌else◌, is_none, is_some}
 use Rattle.std.specs.Map.{lookup}
 use Rattle.std.specs.Ordering.{nat_cmp}
@@ -25,8 +25,8 @@ use Rattle.rd_station.specs.declared.answers.Given.{Given}
 use Rattle.rd_station.specs.declared.answers.Given.TheVariants as given
 use Rattle.rd_station.specs.Station as station
 use Rattle.rd_station.specs.Station.{StationState}
-use Rattle.rd_runs.specs.Moves.{IsOfLines, MayPass, Move, Reached, draws, happens, idle, moved, queues}
-use Rattle.rd_runs.proofs.Reaching.{both, by_moves}
+use Rattle.rd_runs.specs.Moves.{IsOfLines, MayPass, Move, Reached, draws, event_weight, happens, idle, moved, queues, weight}
+use Rattle.rd_runs.proofs.Reaching.{both, by_counted_moves}
 use Rattle.rd_world.specs.declared.device.SessionDevice.{SessionDevice}
 use Rattle.rd_world.specs.Devices.{PrinterNames, device_cut, printer_data}
 use Rattle.rd_world.specs.Events as event
@@ -159,6 +159,21 @@ MayBe lines starves w draws_one = Unit {0}
 
 -- ---- moves by parts
 
+-- how many of a script's lines it stands for, at most: what is no line's happens by itself
+abbrev pub part_weight : Part → ℕ
+part_weight (tells_one n) = 1
+part_weight begins = 1
+part_weight ends = 1
+part_weight (removes_one device o) = 1
+part_weight (adds_one device names o) = 1
+part_weight (queues_one a) = 1
+part_weight (idle_one number) = 1
+part_weight p = 0
+
+abbrev pub parts_weight : List Part → ℕ
+parts_weight [] = 0
+parts_weight (p ∷ before) = part_weight p + parts_weight before
+
 none_of : (o : Option Kept) → is_some o ≡ false → o ≡ None
 none_of None e = refl
 none_of (Some k) e = absurd (cc)
@@ -167,16 +182,16 @@ is_off : (b : Bool) → not b ≡ true → b ≡ false
 is_off false e = refl
 is_off true e = absurd (cc)
 
--- what is kept by each part is kept by each move
+-- what is kept by each part that happens by itself
 module _ (lines : List NumberedLine) (starves : Key → Bool) (P : WorldState → Type 0)
-    (keep : (w : WorldState) (p : Part) → MayBe lines starves w p → P w → P (done starves w p)) where
+    (keep : (w : WorldState) (p : Part) → part_weight p ≡ 0 → MayBe lines starves w p → P w → P (done starves w p)) where
   -- ---- applications
 
   refused_keeps : (w : WorldState) (a : ℕ) (asked : Asked) (cause : Refusal) → may_issue (application_at w a) ≡ true → next_asked (application_at w a) ≡ Some asked
       → IsRefused w a asked cause (target_of (application_at w a) asked) → P w → P (ends_line w a (outcome.Refused cause) None)
   refused_keeps w a asked cause may next refused p =
       subst (λ (o : Option Asked). P (option_map_or (λ asked. with_application w a (with_outcome (application_at w a) (outcome.Refused cause) None asked)) o w)) (sym next)
-      (keep w (refuses a asked cause) (may, next, refused) p)
+      (keep w (refuses a asked cause) refl (may, next, refused) p)
 
   asked_keeps : (w : WorldState) (a : ℕ) (asked : Asked) → Reached lines starves w → may_issue (application_at w a) ≡ true → next_asked (application_at w a) ≡ Some asked → P w
       → (o : Option Target) → target_of (application_at w a) asked ≡ o → P (asks w a asked.op o)
@@ -184,7 +199,7 @@ module _ (lines : List NumberedLine) (starves : Key → Bool) (P : WorldState �
   asked_keeps w a asked reached may next p (Some named) target = by (table.submit (w.side).table a named asked.op) refl
     where
       by : (r : TableState × Result ℕ SubmitNo) → table.submit (w.side).table a named asked.op ≡ r → P (comes_of_asking w a asked.op named r)
-      by (t, Ok number) made = keep w (accepts a asked named t number) (reached, may, next, target, made) p
+      by (t, Ok number) made = keep w (accepts a asked named t number) refl (reached, may, next, target, made) p
       by (t, Err cause) made = refused_keeps w a asked (refusal_of cause) may next (subst (IsRefused w a asked (refusal_of cause)) (sym target) (t, cause, made, refl)) p
 
   issue_keeps : (w : WorldState) (a : ℕ) → Reached lines starves w → may_issue (application_at w a) ≡ true → P w → P (issues w a)
@@ -199,7 +214,7 @@ module _ (lines : List NumberedLine) (starves : Key → Bool) (P : WorldState �
     where
       from : (number : ℕ) → (application_at w a).awaits ≡ Some number → (r : TableState × Result Taken TakeNo) → table.take (w.side).table number ≡ r → P (takes_from w a number r)
       from number waits (t, Err cause) made = p
-      from number waits (t, Ok taken) made = keep w (hands_out a number t taken (next_asked (application_at w a))) (waits, refl, made) p
+      from number waits (t, Ok taken) made = keep w (hands_out a number t taken (next_asked (application_at w a))) refl (waits, refl, made) p
 
       by : (o : Option ℕ) → (application_at w a).awaits ≡ o → P (takes_awaited w a o)
       by None waits = p
@@ -220,9 +235,9 @@ module _ (lines : List NumberedLine) (starves : Key → Bool) (P : WorldState �
     where
       first : w.kept ≡ None → ((x : WorldState) → P x → P (client_handles most x)) → (o : Option (List ℕ × List ℕ))
           → first_message ((w.to_client).part ++ (w.to_client).unhandled) ≡ o → P (client_handles_first w (handling_by w.to_client o) (client_handles most))
-      first kept next None is = keep w client_keeps_part (kept, is) p
+      first kept next None is = keep w client_keeps_part refl (kept, is) p
       first kept next (Some (message, rest)) is =
-          next (done starves w (client_hears_one message rest)) (keep w (client_hears_one message rest) (kept, is) p)
+          next (done starves w (client_hears_one message rest)) (keep w (client_hears_one message rest) refl (kept, is) p)
 
       by : (b : Bool) → is_some w.kept ≡ b → ((x : WorldState) → P x → P (client_handles most x))
           → P (if b then w else client_handles_first w (handling_by w.to_client (first_message ((w.to_client).part ++ (w.to_client).unhandled))) (client_handles most))
@@ -240,7 +255,7 @@ module _ (lines : List NumberedLine) (starves : Key → Bool) (P : WorldState �
       by (Some k) kept = when (k.device == device)
         where
           when : (b : Bool) → P (if b then client_handles_all (putting (record w { kept = None }) k.device k.job) else w)
-          when true = client_all_keeps (done starves w (tries_one k)) (keep w (tries_one k) kept p)
+          when true = client_all_keeps (done starves w (tries_one k)) (keep w (tries_one k) refl kept p)
           when false = p
 
   host_handling_keeps : (most : ℕ) (w : WorldState) → P w → P (host_handles most w)
@@ -249,8 +264,8 @@ module _ (lines : List NumberedLine) (starves : Key → Bool) (P : WorldState �
     where
       by : (o : Option (List ℕ × List ℕ)) → first_message ((w.to_host).part ++ (w.to_host).unhandled) ≡ o → ((x : WorldState) → P x → P (host_handles most x))
           → P (host_handles_first w (handling_by w.to_host o) (host_handles most))
-      by None is next = keep w host_keeps_part is p
-      by (Some (message, rest)) is next = next (done starves w (host_hears_one message rest)) (keep w (host_hears_one message rest) is p)
+      by None is next = keep w host_keeps_part refl is p
+      by (Some (message, rest)) is next = next (done starves w (host_hears_one message rest)) (keep w (host_hears_one message rest) refl is p)
 
   -- ---- events
 
@@ -264,7 +279,7 @@ module _ (lines : List NumberedLine) (starves : Key → Bool) (P : WorldState �
           → P (collects_from w device r)
       from s there (after, None) made = p
       from s there (after, Some c) made =
-          tries_keeps (done starves w (collects_one device s after c)) device (keep w (collects_one device s after c) (reached, idle, there, made) p)
+          tries_keeps (done starves w (collects_one device s after c)) device (keep w (collects_one device s after c) refl (reached, idle, there, made) p)
 
       by : (o : Option (StationState SessionDevice)) → station_at w device ≡ o → P (option_map_or (λ (s : StationState SessionDevice). collects_from w device (station.collect s)) o w)
       by None there = p
@@ -275,7 +290,7 @@ module _ (lines : List NumberedLine) (starves : Key → Bool) (P : WorldState �
     where
       from : (s : StationState SessionDevice) → station_at w device ≡ Some s → (r : StationState SessionDevice × Given) → station.take s ≡ r
           → P (takes_job_from w device hand r)
-      from s there (after, given.Job job) made = keep w (takes_one device hand s after job) (free, there, made) p
+      from s there (after, given.Job job) made = keep w (takes_one device hand s after job) refl (free, there, made) p
       from s there (after, given.Nothing) made = p
       from s there (after, given.Over) made = p
 
@@ -290,56 +305,74 @@ module _ (lines : List NumberedLine) (starves : Key → Bool) (P : WorldState �
       by : (o : Option (Option (ℕ × Job))) → hand_at w hand ≡ o → P (event.applies_held starves w hand (option_and_then (λ held. held) o))
       by None holds = p
       by (Some None) holds = p
-      by (Some (Some (device, job))) holds = keep w (applies_one hand device job (station_at w device)) (holds, refl) p
+      by (Some (Some (device, job))) holds = keep w (applies_one hand device job (station_at w device)) refl (holds, refl) p
 
   host_send_keeps : (w : WorldState) → P w → P (event.host_sends_next w)
   host_send_keeps w p = by (next_message w.side) refl
     where
       by : (o : Option (List ℕ)) → next_message w.side ≡ o → P (option_map_or (host_sends (record w { side = side_sends w.side })) o w)
       by None next = p
-      by (Some message) next = keep w (host_sends_one message) next p
+      by (Some message) next = keep w (host_sends_one message) refl next p
 
   client_send_keeps : (w : WorldState) → P w → P (event.client_sends_next w)
   client_send_keeps w p = by (client.client_send w.client) refl
     where
       by : (r : ClientCoreState × Option Outgoing) → client.client_send w.client ≡ r → P (event.client_sends_first w r)
       by (c, None) made = p
-      by (c, Some o) made = keep w (client_sends_one c o) made p
+      by (c, Some o) made = keep w (client_sends_one c o) refl made p
 
-  pub event_keeps : (w : WorldState) (e : Event) → Reached lines starves w → IsOfLines lines e → is_enabled w e ≡ true → P w → P (act starves w e)
-  event_keeps w (event.issue a) reached said can p = issue_keeps w a reached can p
-  event_keeps w event.host_send reached said can p = host_send_keeps w p
-  event_keeps w (event.client_read n) reached said can p =
-      let (some, kept) = both (is_read (w.to_client).pipe n) (is_none w.kept) can in
-      client_all_keeps (done starves w (client_gets n)) (keep w (client_gets n) (some, no_kept w.kept kept) p)
+-- what each part keeps, counting the lines, each move keeps
+module _ (lines : List NumberedLine) (starves : Key → Bool) (P : ℕ → WorldState → Type 0)
+    (keep : (n : ℕ) (w : WorldState) (p : Part) → MayBe lines starves w p → P n w → P (part_weight p + n) (done starves w p)) where
+  keep_free : (n : ℕ) (w : WorldState) (p : Part) → part_weight p ≡ 0 → MayBe lines starves w p → P n w → P n (done starves w p)
+  keep_free n w p free may holds =
+      let same : part_weight p + n ≡ n = omega (arith, free) in
+      subst (λ (k : ℕ). P k (done starves w p)) same (keep n w p may holds)
+
+  -- no line more
+  none_more : (n : ℕ) (w : WorldState) → P n w → P (0 + n) w
+  none_more n w p =
+      let same : n ≡ 0 + n = omega arith in
+      subst (λ (k : ℕ). P k w) same p
+
+  event_keeps : (n : ℕ) (w : WorldState) (e : Event) → Reached lines starves w → IsOfLines lines e → is_enabled w e ≡ true → P n w → P (event_weight e + n) (act starves w e)
+  event_keeps n w (event.issue a) reached said can p = none_more n _ (issue_keeps lines starves (P n) (keep_free n) w a reached can p)
+  event_keeps n w event.host_send reached said can p = none_more n _ (host_send_keeps lines starves (P n) (keep_free n) w p)
+  event_keeps n w (event.client_read k) reached said can p =
+      let (some, kept) = both (is_read (w.to_client).pipe k) (is_none w.kept) can in
+      none_more n _ (client_all_keeps lines starves (P n) (keep_free n) (done starves w (client_gets k)) (keep_free n w (client_gets k) refl (some, no_kept w.kept kept) p))
     where
       no_kept : (o : Option Kept) → is_none o ≡ true → o ≡ None
       no_kept None e = refl
       no_kept (Some k) e = absurd (cc)
-  event_keeps w event.client_send reached said can p = client_send_keeps w p
-  event_keeps w (event.collect device) reached said can p = collect_keeps w device reached can p
-  event_keeps w (event.host_read n) reached said can p =
-      let x : WorldState = done starves w (host_gets n) in
-      all_take_keeps (host_handles (most_messages x.to_host) x) (host_handling_keeps (most_messages x.to_host) x (keep w (host_gets n) can p))
-  event_keeps w (event.take_job device hand) reached said can p = take_keeps w device hand (both (is_hand_free w hand) (job_waits w device) can).0 p
-  event_keeps w (event.apply_job hand) reached said can p = apply_keeps w hand p
-  event_keeps w (event.remove device) reached said can p =
-      let part : Part = removes_one device (station_at w device) in tries_keeps (done starves w part) device (keep w part (can, refl) p)
-  event_keeps w (event.add device) reached said can p = adding (lookup (is_at (nat_cmp device)) w.printers) refl
+  event_keeps n w event.client_send reached said can p = none_more n _ (client_send_keeps lines starves (P n) (keep_free n) w p)
+  event_keeps n w (event.collect device) reached said can p = none_more n _ (collect_keeps lines starves (P n) (keep_free n) w device reached can p)
+  event_keeps n w (event.host_read k) reached said can p =
+      let x : WorldState = done starves w (host_gets k) in
+      none_more n _
+      (all_take_keeps lines starves (P n) (keep_free n) (host_handles (most_messages x.to_host) x)
+      (host_handling_keeps lines starves (P n) (keep_free n) (most_messages x.to_host) x (keep_free n w (host_gets k) refl can p)))
+  event_keeps n w (event.take_job device hand) reached said can p =
+      none_more n _ (take_keeps lines starves (P n) (keep_free n) w device hand (both (is_hand_free w hand) (job_waits w device) can).0 p)
+  event_keeps n w (event.apply_job hand) reached said can p = none_more n _ (apply_keeps lines starves (P n) (keep_free n) w hand p)
+  event_keeps n w (event.remove device) reached said can p =
+      let part : Part = removes_one device (station_at w device) in
+      tries_keeps lines starves (P (1 + n)) (keep_free (1 + n)) (done starves w part) device (keep n w part (can, refl) p)
+  event_keeps n w (event.add device) reached said can p = adding (lookup (is_at (nat_cmp device)) w.printers) refl
     where
       adding : (names : Option PrinterNames) → lookup (is_at (nat_cmp device)) w.printers ≡ names
-          → P (announced_by (told_added (refreshed_by w device names) device) device (station_at (refreshed_by w device names) device))
-      adding None is = keep w (adds_one device None (station_at w device)) (can, is, refl) p
-      adding (Some names) is = keep w (adds_one device (Some names) (station_at w device)) (can, is, refl) p
-  event_keeps w event.drop_channel reached said can p = all_take_keeps (cutting w) (keep w ends can p)
-  event_keeps w event.connect reached said can p = keep w begins can p
-  event_keeps w (event.tell n) reached said can p = keep w (tells_one n) (said, can) p
+          → P (1 + n) (announced_by (told_added (refreshed_by w device names) device) device (station_at (refreshed_by w device names) device))
+      adding None is = keep n w (adds_one device None (station_at w device)) (can, is, refl) p
+      adding (Some names) is = keep n w (adds_one device (Some names) (station_at w device)) (can, is, refl) p
+  event_keeps n w event.drop_channel reached said can p = all_take_keeps lines starves (P (1 + n)) (keep_free (1 + n)) (cutting w) (keep n w ends can p)
+  event_keeps n w event.connect reached said can p = keep n w begins can p
+  event_keeps n w (event.tell notice) reached said can p = keep n w (tells_one notice) (said, can) p
 
-  pub move_keeps : (w : WorldState) (m : Move) → Reached lines starves w → MayPass lines w m → P w → P (moved starves w m)
-  move_keeps w (happens e) reached (said, can) p = event_keeps w e reached said can p
-  move_keeps w (queues a) reached may p = keep w (queues_one a) may p
-  move_keeps w (idle number) reached may p = keep w (idle_one number) tt p
-  move_keeps w draws reached may p = keep w draws_one tt p
+  move_keeps : (n : ℕ) (w : WorldState) (m : Move) → Reached lines starves w → MayPass lines w m → P n w → P (weight m + n) (moved starves w m)
+  move_keeps n w (happens e) reached (said, can) p = event_keeps n w e reached said can p
+  move_keeps n w (queues a) reached may p = keep n w (queues_one a) may p
+  move_keeps n w (idle number) reached may p = keep n w (idle_one number) tt p
+  move_keeps n w draws reached may p = keep n w draws_one tt p
 
 -- ---- worlds that are reached by parts
 
@@ -348,31 +381,47 @@ module _ (lines : List NumberedLine) (starves : Key → Bool) where
   after_parts [] = world_of lines
   after_parts (p ∷ before) = done starves (after_parts before) p
 
-  -- a world that is behind parts
-  pub record IsBehind (w : WorldState) : Type 0 where
+  -- a world that is behind parts, of which so many at most are lines'
+  pub record IsBehindWithin (most : ℕ) (w : WorldState) : Type 0 where
     pub parts : List Part
     pub may : EachAfter (λ before p. MayBe lines starves (after_parts before) p) parts
+    pub few : parts_weight parts ≤ most
     pub leads : w ≡ after_parts parts
 
-  one_part : (w : WorldState) (p : Part) → MayBe lines starves w p → IsBehind w → IsBehind (done starves w p)
-  one_part w p may b = record {
+  abbrev pub IsBehind : WorldState → Type 0
+  IsBehind = IsBehindWithin (length lines + 2)
+
+  one_part : (n : ℕ) (w : WorldState) (p : Part) → MayBe lines starves w p → IsBehindWithin n w → IsBehindWithin (part_weight p + n) (done starves w p)
+  one_part n w p may b = record {
     parts = p ∷ b.parts;
     may = (subst (λ (x : WorldState). MayBe lines starves x p) b.leads may, b.may);
+    few = omega (arith, b.few);
     leads = ap (λ (x : WorldState). done starves x p) b.leads;
   }
 
   -- each world that is reached is behind parts
   pub reached_behind : (w : WorldState) → Reached lines starves w → IsBehind w
-  reached_behind =
-      by_moves lines starves IsBehind (record { parts = []; may = tt; leads = refl }) (λ w m steps b. move_keeps lines starves IsBehind one_part w m steps.0 steps.2 b)
+  reached_behind w r =
+      let b = by_counted_moves lines starves IsBehindWithin (record { parts = []; may = tt; few = omega arith; leads = refl })
+      (λ n w m steps b. move_keeps lines starves IsBehindWithin one_part n w m steps.0 steps.2 b) w r in
+      record { parts = b.parts; may = b.may; few = omega (arith, b.few, r.few); leads = b.leads }
 
-  -- What holds at the beginning and is kept by each part holds of each world that is behind parts. What was proved before of these may be used of the world
-  -- before a part and of the one after it.
+  -- What holds at the beginning, behind no line, and is kept by each part, of which a line's adds one, holds of each world that is behind parts. What was proved
+  -- before of these may be used of the world before a part and of the one after it.
+  pub by_counted_parts : (P : ℕ → WorldState → Type 0) → P 0 (world_of lines)
+      → ((n : ℕ) (w : WorldState) (p : Part) → IsBehind w → IsBehind (done starves w p) → MayBe lines starves w p → P n w → P (part_weight p + n) (done starves w p))
+      → (w : WorldState) (b : IsBehind w) → P (parts_weight b.parts) w
+  by_counted_parts P first step w b = subst (P (parts_weight b.parts)) (sym b.leads) (go b.parts b.may b.few)
+    where
+      go : (parts : List Part) → EachAfter (λ before p. MayBe lines starves (after_parts before) p) parts → parts_weight parts ≤ length lines + 2
+          → P (parts_weight parts) (after_parts parts)
+      go [] may few = first
+      go (p ∷ before) may few =
+          let less : parts_weight before ≤ length lines + 2 = omega (arith, few) in
+          step (parts_weight before) (after_parts before) p (record { parts = before; may = may.1; few = less; leads = refl })
+          (record { parts = p ∷ before; may = may; few = few; leads = refl }) may.0 (go before may.1 less)
+
+  -- the same of what counts no lines
   pub by_parts : (P : WorldState → Type 0) → P (world_of lines)
       → ((w : WorldState) (p : Part) → IsBehind w → IsBehind (done starves w p) → MayBe lines starves w p → P w → P (done starves w p)) → (w : WorldState) → IsBehind w → P w
-  by_parts P first step w b = subst P (sym b.leads) (go b.parts b.may)
-    where
-      go : (parts : List Part) → EachAfter (λ before p. MayBe lines starves (after_parts before) p) parts → P (after_parts parts)
-      go [] may = first
-      go (p ∷ before) may =
-          step (after_parts before) p (record { parts = before; may = may.1; leads = refl }) (record { parts = p ∷ before; may = may; leads = refl }) may.0 (go before may.1)
+  by_parts P first step w b = by_counted_parts (λ n. P) first (λ n. step) w b

@@ -88,7 +88,7 @@ all_read wrote read y u unhandled pipe part = by u.waiting u.fit u.told (sym who
         let some : first_message y.part ≡ Some (x, carrier_stream later) = ap first_message bytes ∙ first_of_one x (carrier_of x) (carrier_stream later) (carrier_one x fit.0.0 fit.0.1) in
         absurd (cc (part, some))
 
-module _ (lines : List NumberedLine) (starves : Key → Bool) (premises : RunPremises lines starves) (w : WorldState) (r : Reached lines starves w) (none : choices w ≡ [])
+module _ (lines : List NumberedLine) (starves : Key → Bool) (premises : RunPremises lines) (w : WorldState) (r : Reached lines starves w) (none : choices w ≡ [])
     (is : open_channel w.deeds ≡ Some w.channels) where
   pub host_heard_all : talk.host_read w.channels w.deeds ≡ client_wrote w.channels w.deeds
   host_heard_all =

@@ -26,11 +26,12 @@ use Rattle.rd_host.specs.Core as host
 use Rattle.rd_host.specs.Core.{HostCoreState, IsHostKept, as_it_is, host_begin}
 use Rattle.rd_host.proofs.KeptLemmas.{host_kept}
 use Rattle.rd_script.specs.declared.line.NumberedLine.{NumberedLine}
+use Rattle.rd_runs.specs.Moves.{Reached}
+use Rattle.rd_station.specs.declared.answers.Completion.{Completion}
 use Rattle.rd_station.specs.declared.refusals.PutWhy.{PutWhy}
 use Rattle.rd_station.specs.declared.refusals.PutWhy.TheVariants as why
 use Rattle.rd_station.specs.Station as station
 use Rattle.rd_station.specs.Station.{StationState}
-use Rattle.rd_runs.specs.Premises.{AreCompletionsFit}
 use Rattle.rd_runs.proofs.BeginningLemmas.{Unset, begins_as, unset}
 use Rattle.rd_runs.proofs.Carrying.{AreFit, IsFit}
 use Rattle.rd_runs.proofs.HostLemmas.{IsHostOf}
@@ -45,7 +46,7 @@ use Rattle.rd_world.proofs.ShortLemmas.{announces_first}
 use Rattle.rd_world.proofs.Written.{sound_side}
 use Rattle.rd_world.specs.declared.device.SessionDevice.{SessionDevice}
 use Rattle.rd_world.specs.Devices.{Declared, PrinterNames, announce_of, printer_data}
-use Rattle.rd_world.specs.Events.{deed_on, dropping, refreshing}
+use Rattle.rd_world.specs.Events.{completion_message, deed_on, dropping, refreshing}
 use Rattle.rd_world.specs.Hearing.{after_opening, announcing, client_hears, heard_by_client, is_device_told, put_at, put_by, putting, refused_put, with_client}
 use Rattle.rd_world.specs.Host.{HostSide, next_message, sent_from, side_sends}
 use Rattle.rd_world.specs.Opening.{AreDeclared, AreOpenable, AreShort, IsOpenable, bare_lines}
@@ -206,6 +207,12 @@ first_client devices are =
       kept = record { core = kept_new (λ (o : Outgoing). o.message) client_state.Start; devices = subst client.AreDevices (sym (announces_first list)) opened.are_devices };
       short = subst AreShort (sym (announces_first list)) opened.short;
     }
+
+-- Each completion that can be collected in a world that lines come to is of a message's size.
+abbrev pub AreCompletionsFit : List NumberedLine → (Key → Bool) → Type 0
+AreCompletionsFit lines starves =
+    (w : WorldState) → Reached lines starves w → (device : ℕ) (s after : StationState SessionDevice) (c : Completion) → station_at w device ≡ Some s → station.collect s ≡ (after, Some c)
+    → IsMessage (completion_message device c)
 
 module _ (lines : List NumberedLine) (starves : Key → Bool) (told : AreTellable lines) (declared : AreDeclared lines) (completions : AreCompletionsFit lines starves) where
   pub fits_first : Fits (world_of lines)

@@ -32,6 +32,7 @@ use Rattle.rd_runs.proofs.Insides.{AreOwn, IsInside, Outside, added_inside, all_
 use Rattle.rd_runs.proofs.KeysOn.{OnNow, on_first, on_step, sent_on}
 use Rattle.rd_runs.proofs.Parts.{IsBehind, MayBe, Part, accepts, adds_one, applies_one, begins, by_parts, client_gets, client_hears_one, client_keeps_part, client_sends_one, collects_one, done, draws_one, ends, hands_out, host_gets, host_hears_one, host_keeps_part, host_sends_one, idle_one, queues_one, reached_behind, refuses, removes_one, takes_one, tells_one, tries_one}
 use Rattle.rd_runs.proofs.RoomLemmas.{ActIsSafe, OutcomeHasRoom, TableHasRoom, all_inserted, all_removed, begun_room, dropped_room, found_in, heard_room, sent_room, submitted_room, taken_room}
+use Rattle.rd_runs.proofs.Sending.{completions_fit}
 use Rattle.rd_runs.proofs.Sizes.{Fits, fits_first, fits_step}
 use Rattle.rd_runs.proofs.Standing.{AreTellable, MayTake, Stands, needs_open, stands_first, stands_step}
 use Rattle.rd_runs.proofs.WayLemmas.{one_read}
@@ -155,7 +156,7 @@ asked_rooms (x ∷ asked) es all = asked_rooms asked (asking es x) (all_inserted
     by None own = tt
     by (Some y) own = own
 
-module _ (lines : List NumberedLine) (starves : Key → Bool) (premises : RunPremises lines starves) where
+module _ (lines : List NumberedLine) (starves : Key → Bool) (premises : RunPremises lines) where
   told : AreTellable lines
   told = tellable_lines lines premises.notable
 
@@ -279,7 +280,7 @@ module _ (lines : List NumberedLine) (starves : Key → Bool) (premises : RunPre
 
   first : Knows (world_of lines)
   first =
-      let fits = fits_first lines starves told premises.declared premises.completions in
+      let fits = fits_first lines starves told premises.declared (completions_fit lines starves premises.bounded) in
       record {
         stands = stands_first lines starves told;
         on = on_first lines starves;
@@ -292,7 +293,7 @@ module _ (lines : List NumberedLine) (starves : Key → Bool) (premises : RunPre
 
   step : (w : WorldState) (p : Part) → MayBe lines starves w p → Knows w → Knows (done starves w p)
   step w p may k =
-      let fits = fits_step lines starves told premises.declared premises.completions w p k.stands may k.fits in
+      let fits = fits_step lines starves told premises.declared (completions_fit lines starves premises.bounded) w p k.stands may k.fits in
       record {
         stands = stands_step lines starves told w p (take_at w k) may k.stands;
         on = on_step lines starves w p k.stands may k.on;

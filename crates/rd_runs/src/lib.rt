@@ -7,5 +7,6 @@
 mod laws;
 
 pub use laws::{
-    runs_are_moves, runs_carry, runs_come_to_rest, runs_keep_hosts, scripts_meet_premises,
+    runs_are_moves, runs_carry, runs_come_to_rest, runs_count_lines, runs_keep_hosts,
+    scripts_meet_premises,
 };
