@@ -15,4 +15,8 @@ pub mod ServingLemmas
 pub mod WorkLemmas
 pub mod OwnLemmas
 pub mod CompletionLemmas
-pub mod FitLemmas
+pub mod DeclaredLemmas
+pub mod RoomLemmas
+pub mod AnswerLemmas
+pub mod InOrderLemmas
+pub mod CameLemmas

@@ -80,21 +80,21 @@ Of = StationState SessionDevice
 
 -- ---- more is read
 
-abbrev Grown : List Deed → List Deed → Type 0
+abbrev pub Grown : List Deed → List Deed → Type 0
 Grown deeds deeds' = (c k : ℕ) (r : Request) → request_at (client_read c deeds) k ≡ Some r → request_at (client_read c deeds') k ≡ Some r
 
-grown_deed : (y : Deed) (deeds : List Deed) → Grown deeds (y ∷ deeds)
+pub grown_deed : (y : Deed) (deeds : List Deed) → Grown deeds (y ∷ deeds)
 grown_deed (client_reads c m) deeds x k r read = request_later (c == x) m r (client_read x deeds) k read
 grown_deed y deeds x k r read = read
 
 grown_not : (deeds : List Deed) → Grown deeds deeds
 grown_not deeds x k r read = read
 
-grown_more : (more deeds : List Deed) → Grown deeds (more ++ deeds)
+pub grown_more : (more deeds : List Deed) → Grown deeds (more ++ deeds)
 grown_more [] deeds x k r read = read
 grown_more (y ∷ more) deeds x k r read = grown_deed y (more ++ deeds) x k r (grown_more more deeds x k r read)
 
-grown_inside : (w v : WorldState) → IsInside w v → Grown w.deeds v.deeds
+pub grown_inside : (w v : WorldState) → IsInside w v → Grown w.deeds v.deeds
 grown_inside w v inside x k r read = subst (λ (ds : List Deed). request_at (client_read x ds) k ≡ Some r) (sym inside.deeds) (grown_more inside.more w.deeds x k r read)
 
 grown_station : (w : WorldState) (d : ℕ) (old new : Of) → station_at w d ≡ Some old → (more : List Item) → new.journal ≡ old.journal ++ more → Grown w.deeds (with_station w d new).deeds

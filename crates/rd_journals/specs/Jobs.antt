@@ -1,11 +1,16 @@
 -- Which jobs the stations and the hands of a session have, and what the devices did by them.
-use Rattle.std.specs.Prelude.{◌≡◌, ℕ, ◌<◌, ◌^◌, List, Option, Some}
+use Rattle.std.specs.Prelude.{◌≡◌, ◌⊎◌, ℕ, ◌<◌, ◌^◌, false, List, ◌∷◌, ◌++◌, reverse, Contains, Option, Some}
+use Rattle.rd_base.specs.Statuses.{insufficient_resources, no_such_device}
+use Rattle.rd_base.specs.declared.journal.Item.{Item}
+use Rattle.rd_base.specs.declared.journal.Item.TheVariants.{Cancelled, Sent}
+use Rattle.rd_drive.specs.Outcome.{fault}
+use Rattle.rd_drive.specs.Replies.{cancellation}
 use Rattle.std.specs.List.{AllByRecursion}
 use Rattle.std.specs.Map.{lookup}
 use Rattle.std.specs.Ordering.{nat_cmp}
 use Rattle.std.specs.BTreeMap.{is_at}
 use Rattle.rd_base.specs.declared.journal.Key.{Key}
-use Rattle.rd_client.specs.Core.{job_of}
+use Rattle.rd_client.specs.Core.{Outgoing, job_of}
 use Rattle.rd_drive.specs.Ranged.{SetsFew}
 use Rattle.rd_drive.specs.declared.plan.Job.{Job}
 use Rattle.rd_irp.specs.Fits.{kind_of}
@@ -19,9 +24,10 @@ use Rattle.rd_station.specs.declared.held.ParkedJob.{ParkedJob}
 use Rattle.rd_station.specs.Tied.{IsTied}
 use Rattle.rd_world.specs.Devices.{Declared, device_cut, device_cuts, device_parked, device_runs, device_step}
 use Rattle.rd_world.specs.Events.{completion_message}
-use Rattle.rd_world.specs.Session.{request_read}
-use Rattle.rd_world.specs.Talk.{Deed, Has, client_read, request_at}
-use Rattle.rd_world.specs.Told.{CompletesWith}
+use Rattle.rd_world.specs.Session.{replies_read, request_read}
+use Rattle.rd_world.specs.Talk.{Deed, EachAfter, Has, client_read, completes, journal, request_at}
+use Rattle.rd_world.specs.Told.{CompletesWith, came}
+use Rattle.rd_world.specs.World.{WorldState}
 use Rattle.rd_world.specs.declared.device.SessionDevice.{SessionDevice}
 use Rattle.rd_journals.specs.Orderly.{HasStation}
 
@@ -89,3 +95,41 @@ pub record IsCompletionOf (deeds : List Deed) (d : ℕ) (x : Completion) : Type 
   pub read : request_at (client_read x.key.channel deeds) x.key.index ≡ Some request
   pub device : request.device ≡ d
   pub completes : CompletesWith request x.reply (completion_message d x)
+
+-- The message completes the request of the key, which was read, with a reply of which this holds.
+pub record IsAnswerOf (Given : Request → Reply → Type 0) (deeds : List Deed) (key : Key) (message : List ℕ) : Type 0 where
+  pub request : Request
+  pub reply : Reply
+  pub read : request_at (client_read key.channel deeds) key.index ≡ Some request
+  pub completes : CompletesWith request reply message
+  pub given : Given request reply
+
+-- a client's own answer: there is no such device, or no room
+abbrev pub IsRefusal : Request → Reply → Type 0
+IsRefusal r reply = (reply ≡ fault no_such_device) ⊎ (reply ≡ fault insufficient_resources)
+
+-- The reply is given by what the device's journal says before the key was sent.
+pub record IsSent (devices : List (ℕ × Declared)) (device : ℕ) (key : Key) (reply : Reply) (before : List Deed) : Type 0 where
+  pub earlier : List Item
+  pub later : List Item
+  pub stands : reverse (journal device before) ≡ earlier ++ Sent key ∷ later
+  pub given : Contains (replies_read devices before device earlier) (key, reply)
+
+-- It is given so, or the request was cancelled, or it never came and was refused.
+abbrev pub IsSource : List (ℕ × Declared) → List Deed → Key → Request → Reply → Type 0
+IsSource devices before key r reply =
+    IsSent devices r.device key reply before
+    ⊎ ((Has (Cancelled key) (journal r.device before) × (reply ≡ cancellation)) ⊎ ((came key.channel (journal r.device before) key.index ≡ false) × IsRefusal r reply))
+
+-- a completion is written after the read of the request that it completes, with a reply that is given so
+abbrev pub AnswersRead : List (ℕ × Declared) → List Deed → Deed → Type 0
+AnswersRead devices before (completes key message) = IsAnswerOf (IsSource devices before key) before key message
+AnswersRead devices before _ = Unit {0}
+
+-- What was written answers what was read, and what is to be written will.
+pub record AreSpelled (devices : List (ℕ × Declared)) (outbox : List Outgoing) (deeds : List Deed) : Type 0 where
+  pub out : (o : Outgoing) → Has o outbox → (key : Key) → o.answers ≡ Some key → IsAnswerOf IsRefusal deeds key o.message
+  pub each : EachAfter (AnswersRead devices) deeds
+
+abbrev pub IsSpelled : List (ℕ × Declared) → WorldState → Type 0
+IsSpelled devices w = AreSpelled devices ((w.client).core).outbox w.deeds

@@ -3,3 +3,4 @@ pub mod Reads
 pub mod Orderly
 pub mod Standing
 pub mod Jobs
+pub mod Told

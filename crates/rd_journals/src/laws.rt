@@ -3,20 +3,17 @@
 ghost use Rattle.std.specs.Map.{lookup};
 ghost use Rattle.std.specs.Ordering.{nat_cmp};
 ghost use Rattle.std.specs.BTreeMap.{is_at};
-ghost use Rattle.std.specs.Prelude.{◌≡◌, ℕ, ◌+◌, ◌*◌, ◌≤◌, Bool, List, Ok, Some, ◌++◌, length, reverse, Contains};
+ghost use Rattle.std.specs.Prelude.{◌≡◌, ℕ, ◌+◌, ◌*◌, ◌≤◌, Bool, List, Some, ◌++◌, length, reverse, Contains};
 ghost use Rattle.rd_base.specs.declared.journal.Item.{Item};
 ghost use Rattle.rd_base.specs.declared.journal.Key.{Key};
 ghost use Rattle.rd_base.specs.Lawful.{IsLawful};
 ghost use Rattle.rd_drive.specs.Once.{HaveOneReplyEach};
 ghost use Rattle.rd_drive.specs.Replies.{KeyedReply};
-ghost use Rattle.rd_script.specs.declared.keyword.Mode.{Mode};
 ghost use Rattle.rd_script.specs.declared.line.NumberedLine.{NumberedLine};
-ghost use Rattle.rd_script.specs.declared.script.Script.{Script};
-ghost use Rattle.rd_script.specs.Script.{script_of};
 ghost use Rattle.rd_station.specs.declared.answers.Completion.{Completion};
 ghost use Rattle.rd_station.specs.Station.{StationState};
 ghost use Rattle.rd_runs.specs.Moves.{Reached};
-ghost use Rattle.rd_runs.specs.Premises.{AreCompletionsFit, RunPremises};
+ghost use Rattle.rd_runs.specs.Premises.{RunPremises};
 ghost use Rattle.rd_world.specs.Devices.{Declared};
 ghost use Rattle.rd_world.specs.Joining.{Stands};
 ghost use Rattle.rd_world.specs.Opening.{bare_lines};
@@ -26,10 +23,11 @@ ghost use Rattle.rd_world.specs.Stations.{IsReachedBy};
 ghost use Rattle.rd_world.specs.Talk.{Deed, EachAfter, Has, journal};
 ghost use Rattle.rd_world.specs.World.{WorldState, station_at};
 ghost use Rattle.rd_world.specs.declared.device.SessionDevice.{SessionDevice};
-ghost use Rattle.rd_journals.specs.Jobs.{AreFine, HasRoom, IsCompletionOf, IsTiedTo};
+ghost use Rattle.rd_journals.specs.Jobs.{AnswersRead, AreFine, HasRoom, IsCompletionOf, IsTiedTo};
 ghost use Rattle.rd_journals.specs.Orderly.{Orderly};
 ghost use Rattle.rd_journals.specs.Reads.{ComesRead, cuts, reads};
 ghost use Rattle.rd_journals.specs.Stations.{AreFit};
+ghost use Rattle.rd_journals.specs.Told.{InOrder};
 
 /// Whatever lines that declare fit devices come to: the journal of each device, as the deeds tell it, is lawful, and is that of its station, which came to be
 /// by its calls; and each key comes after the read of its request, which names the device.
@@ -65,16 +63,27 @@ pub fn stations_are_tied()
         → (x : Declared) × (lookup (is_at (nat_cmp device)) (declared_devices (bare_lines lines)) ≡ Some x) × IsTiedTo w.deeds x s }
 {}
 
-/// Where the numbers of the requests that were read have room in their completions, what is ready at a station completes, in bytes, the request of its key with
-/// its reply, and that request names the station's device.
+/// The numbers of each request that was read have room in its completion; and what is ready at a station completes, in bytes, the request of its key with its
+/// reply, and that request names the station's device.
 pub fn completions_are_of_requests()
-    ensures { (lines : List NumberedLine) (starves : Key → Bool) (w : WorldState) → AreFit (declared_devices (bare_lines lines)) → Reached lines starves w → AreFine HasRoom w.deeds → (device : ℕ) (s : StationState SessionDevice) → station_at w device ≡ Some s
+    ensures room { (lines : List NumberedLine) (starves : Key → Bool) (w : WorldState) → RunPremises lines → Reached lines starves w → AreFine HasRoom w.deeds }
+    ensures completes { (lines : List NumberedLine) (starves : Key → Bool) (w : WorldState) → AreFit (declared_devices (bare_lines lines)) → RunPremises lines → Reached lines starves w → (device : ℕ) (s : StationState SessionDevice) → station_at w device ≡ Some s
         → (x : Completion) → Has x s.ready → IsCompletionOf w.deeds device x }
 {}
 
-/// What devices complete is of a message's size, in every run of lines that declare fit devices; so all that statements about a host take of lines is true of
-/// every script whose devices are fit.
-pub fn completions_are_fit()
-    ensures completions { (lines : List NumberedLine) (starves : Key → Bool) → AreFit (declared_devices (bare_lines lines)) → AreCompletionsFit lines starves }
-    ensures premises { (m : Mode) (text : List ℕ) (script : Script) (starves : Key → Bool) → script_of m text ≡ Ok script → AreFit (declared_devices (bare_lines script.lines)) → RunPremises script.lines starves }
+/// Each completion that a client wrote completes the request of its key, which it had read: it has that one's device, completion id and layout. Its reply is the
+/// one that the device's journal gives to the key by what it says before the key was sent; or CANCELLED, where the journal says so; or, where the key never came,
+/// that there is no such device or no room.
+pub fn completions_answer()
+    ensures { (lines : List NumberedLine) (starves : Key → Bool) (w : WorldState) → AreFit (declared_devices (bare_lines lines)) → RunPremises lines → Reached lines starves w → EachAfter (AnswersRead (declared_devices (bare_lines lines))) w.deeds }
+{}
+
+/// Of each device on each channel the completions of the keys that came are those that its journal sent, in its order.
+pub fn completions_are_in_order()
+    ensures { (lines : List NumberedLine) (starves : Key → Bool) (w : WorldState) → AreFit (declared_devices (bare_lines lines)) → RunPremises lines → Reached lines starves w → InOrder w.deeds }
+{}
+
+/// What lines declare is fit where it is within its bounds, as every script's is.
+pub fn scripts_are_fit()
+    ensures { (lines : List NumberedLine) → RunPremises lines → AreFit (declared_devices (bare_lines lines)) }
 {}
