@@ -31,6 +31,7 @@ use Rattle.rd_world.specs.declared.device.SessionDevice.{SessionDevice}
 module _ (ids : List ℕ) (lines : List NumberedLine) where
   -- What is seen of a world is what control lines did, with these lines still to come.
   pub record SeenAs (c : Control) (ls : List NumberedLine) (s : Seen) : Type 0 where
+    pub number : s.number ≡ 1
     pub channel : s.channel ≡ c.current
     pub channels : s.channels ≡ c.channels
     pub last : IfSome c.current (λ x. x ≡ c.channels)
@@ -43,6 +44,7 @@ module _ (ids : List ℕ) (lines : List NumberedLine) where
 
   pub passed : (c : Control) (l : NumberedLine) (ls : List NumberedLine) (s : Seen) → SeenAs c (l ∷ ls) s → SeenAs c ls s
   passed c l ls s sees = record {
+    number = sees.number;
     channel = sees.channel;
     channels = sees.channels;
     last = sees.last;
@@ -56,6 +58,7 @@ module _ (ids : List ℕ) (lines : List NumberedLine) where
   pub idled_as : (c : Control) (l : NumberedLine) (ls : List NumberedLine) (w : WorldState) → is_errand_at lines l.number ≡ false → SeenAs c (l ∷ ls) (seen w)
       → SeenAs (idled c l.number) ls (seen (idles w l.number))
   idled_as c l ls w off sees = record {
+    number = sees.number;
     channel = sees.channel;
     channels = sees.channels;
     last = sees.last;
@@ -70,6 +73,7 @@ module _ (ids : List ℕ) (lines : List NumberedLine) where
   pub errand_idled : (c : Control) (l : NumberedLine) (ls : List NumberedLine) (w : WorldState) → is_errand_at lines l.number ≡ true → SeenAs c (l ∷ ls) (seen w)
       → SeenAs c ls (seen (idles w l.number))
   errand_idled c l ls w on sees = record {
+    number = sees.number;
     channel = sees.channel;
     channels = sees.channels;
     last = sees.last;
@@ -87,6 +91,7 @@ module _ (ids : List ℕ) (lines : List NumberedLine) where
 
   pub told_as : (c : Control) (ls : List NumberedLine) (w : WorldState) (n : Notice) (x : ℕ) → SeenAs c ls (seen w) → SeenAs (noticed_at c n x) ls (seen (telling_of w n))
   told_as c ls w n x sees = record {
+    number = sees.number;
     channel = sees.channel;
     channels = sees.channels;
     last = sees.last;
@@ -116,6 +121,7 @@ module _ (ids : List ℕ) (lines : List NumberedLine) where
       let last : x ≡ c.channels = subst (λ (o : Option ℕ). IfSome o (λ y. y ≡ c.channels)) open_is sees.last in
       let own : control.ended w.channels ≡ control.ended x = ap control.ended (sees.channels ∙ sym last) in
       subst (SeenAs (dropped_at c x) ls) (sym (cut_seen w)) (record {
+        number = sees.number;
         channel = refl;
         channels = sees.channels;
         last = tt;
@@ -155,6 +161,7 @@ module _ (ids : List ℕ) (lines : List NumberedLine) where
       let channel = w.channels + 1 in
       let all : seen (connects w) ≡ record (seen w) { channel = Some channel; channels = channel; acts = control.begun channel ∷ filter_map act_by w.deeds } =
       λ i. record {
+        number = ((w.side).core).client;
         channel = begun_channel (w.side).table channel none i;
         channels = channel;
         idle = (u.same i).idle;
@@ -163,6 +170,7 @@ module _ (ids : List ℕ) (lines : List NumberedLine) where
       } in
       let own : channel ≡ c.channels + 1 = ap (λ (k : ℕ). k + 1) sees.channels in
       subst (SeenAs (connected c) ls) (sym all) (record {
+        number = sees.number;
         channel = ap (λ (k : ℕ). Some k) own;
         channels = own;
         last = refl;
@@ -184,6 +192,7 @@ module _ (ids : List ℕ) (lines : List NumberedLine) where
 
   pub removed_as : (c : Control) (ls : List NumberedLine) (w : WorldState) (device x : ℕ) → SeenAs c ls (seen w) → SeenAs (removed_at c device x) ls (seen (removes_device w device))
   removed_as c ls w device x sees = subst (SeenAs (removed_at c device x) ls) (sym (removed_unseen w device).same) (record {
+    number = sees.number;
     channel = sees.channel;
     channels = sees.channels;
     last = sees.last;
@@ -202,6 +211,7 @@ module _ (ids : List ℕ) (lines : List NumberedLine) where
       let fresh : WorldState = refreshing w device in
       let fresh_sees : SeenAs c ls (seen fresh) = subst (SeenAs c ls) (sym (refreshed_unseen w device).same) sees in
       subst (SeenAs (added_at c device x) ls) (sym (added_unseen w device).same) (record {
+        number = fresh_sees.number;
         channel = fresh_sees.channel;
         channels = fresh_sees.channels;
         last = fresh_sees.last;

@@ -1,5 +1,5 @@
 -- Along a run the control lines do what follows from the lines.
-use Rattle.std.proofs.Common.{◌≡◌, ◌∙◌, refl, sym, ap, subst, inl, inr, ℕ, ◌+◌, ◌≤◌, ◌&&◌, Bool, true, false, List, [], ◌∷◌, length, map, fold, Some, None, Option, arith}
+use Rattle.std.proofs.Common.{◌≡◌, ◌∙◌, refl, sym, ap, subst, inl, inr, ℕ, ◌+◌, ◌≤◌, ◌&&◌, Bool, true, false, List, [], ◌∷◌, length, map, fold, Some, None, Option, arith, ◌++◌}
 use Rattle.std.specs.Prelude.{if◌then◌else◌, is_some, not}
 use Rattle.std.specs.List.{AllByRecursion}
 use Rattle.std.specs.Option.{IfSome, option_and_then, option_map_or}
@@ -11,22 +11,26 @@ use Rattle.rd_controls.proofs.Acting.{SeenAs, added_as, added_unseen, begun_as, 
 use Rattle.rd_controls.proofs.Marks.{first_marks, gone_marks, known_marks}
 use Rattle.rd_controls.proofs.Numbers.{Rise, an_errand, no_errand, numbers, picked_reverse}
 use Rattle.rd_controls.proofs.Unseen.{client_ready, event_unseen, host_ready, seen}
-use Rattle.rd_controls.proofs.Walking.{does_keeps, rounds_keep, settled_keeps}
-use Rattle.rd_controls.specs.Controls.{AreOrdered, AreReady, DoAsSaid, NamesKnown, OpensWhole, control_with}
+use Rattle.rd_controls.proofs.Walking.{round_keeps, does_keeps, rounds_keep, settled_keeps, settled_rests}
+use Rattle.rd_controls.specs.Controls.{AreReady, EndsAs, AreOrdered, DoAsSaid, NamesKnown, RestWhereSettled, RestsAt, control_with}
 use Rattle.rd_printer.specs.declared.notice.Notice.{Notice}
-use Rattle.rd_runs.specs.Moves.{IsOfLines, MayPass, Move, ReachedWithin, draws, event_weight, happens, idle, moved, queues, weight}
+use Rattle.rd_runs.specs.Moves.{IsOfLines, MayPass, Move, ReachedWithin, draws, event_weight, happens, idle, moved, queues, weight, Reached}
 use Rattle.rd_script.specs.declared.line.Errand.{Errand}
 use Rattle.rd_script.specs.declared.line.Line.{Line}
 use Rattle.rd_script.specs.declared.line.Line.TheVariants as line
 use Rattle.rd_script.specs.declared.line.NumberedLine.{NumberedLine}
 use Rattle.rd_world.proofs.PlayingLemmas.{may_connect}
-use Rattle.rd_world.specs.Acts.{act_by, is_errand, is_errand_at}
+use Rattle.rd_world.specs.Acts.{act_by, is_errand, is_errand_at, is_settle}
 use Rattle.rd_world.specs.Control.{Control, added_at, connected, control_of, controlled, dropped_at, idled, is_among, noticed_at, removed_at, where_open}
 use Rattle.rd_world.specs.Devices.{Declared}
 use Rattle.rd_world.specs.Events as event
 use Rattle.rd_world.specs.Events.{Event, act, is_channel_open, is_enabled}
-use Rattle.rd_world.specs.Run.{Most, applications_of, asked_by, by_event, connects_on, controls, declared_devices, does, drawing, ends_session, event_of, idles, is_quiet, new_world, notice_of, plays, plays_line, queueing, run_of, setting, settled, some_left, world_of}
-use Rattle.rd_world.specs.Talk.{Has}
+use Rattle.rd_world.specs.Run.{Most, applications_of, asked_by, by_event, choices, connects_on, controls, declared_devices, does, drawing, ends_session, event_of, idles, is_quiet, new_world, notice_of, plays, plays_line, queueing, run_of, setting, settled, some_left, world_of, rounds}
+use Rattle.rd_world.specs.Talk.{Deed, EndsWith, Has}
+use Rattle.rd_world.specs.Session.{at_settles}
+use Rattle.rd_controls.proofs.Opening.{begins_at, opened}
+use Rattle.rd_runs.specs.Premises.{RunPremises}
+use Rattle.rd_controls.proofs.Resting.{event_grows, later_end, later_line, later_settled, settle_rests, then_more}
 use Rattle.rd_world.specs.World.{Asked, WorldState}
 
 both_true : (a b : Bool) → a ≡ true → b ≡ true → (a && b) ≡ true
@@ -70,7 +74,7 @@ no_errand_told l n told = refl
 abbrev before_all : List ℕ → Control
 before_all ids = record { devices = ids; current = None; channels = 0; absent = []; acts = []; told = []; notices = []; cuts = []; idle = [] }
 
-module _ (lines : List NumberedLine) (starves : Key → Bool) (most : Most) (ids : List ℕ) (rise : Rise (numbers lines)) (opens : OpensWhole lines starves) where
+module _ (lines : List NumberedLine) (starves : Key → Bool) (most : Most) (ids : List ℕ) (rise : Rise (numbers lines)) (premises : RunPremises lines) where
   -- What is seen of a world is what the control lines did, and it is reached behind the lines that are not still to come.
   record Base (c : Control) (ls : List NumberedLine) (w : WorldState) : Type 0 where
     count : ℕ
@@ -171,16 +175,14 @@ module _ (lines : List NumberedLine) (starves : Key → Bool) (most : Most) (ids
         few = few;
         sees = begun_as ids lines c ls w sees none;
       } in
-      go (connects_on starves most w) (rounds_keep starves (Base (connected c) ls) (base_free (connected c) ls) (base_drawn (connected c) ls) most.rounds x b)
+      let reached : Reached lines starves w = within_more n (length lines + 2) w (omega (arith, few)) r in
+      opened starves (Base (connected c) ls) (Led (connected c) ls) (round_keeps starves (Base (connected c) ls) (base_free (connected c) ls) (base_drawn (connected c) ls))
+      (λ k v own client_is host_is. go (rounds starves k v) (rounds_keep starves (Led (connected c) ls) (led_free (connected c) ls) (led_drawn (connected c) ls) k v
+      (record { base = own; client = λ open_is. client_is; host = λ open_is. host_is }))) most.rounds x b (begins_at lines starves premises w reached none sees.number)
     where
-      ready : (v : WorldState) → Base (connected c) ls v → is_quiet v ≡ true → AreReady v
-      ready v b quiet =
-          let few : b.count ≤ length lines + 2 = omega (arith, b.few) in
-          opens v (within_more b.count (length lines + 2) v few b.reached) (ap is_some b.sees.channel) quiet
-
-      go : (o : Option WorldState) → IfSome o (λ v. Base (connected c) ls v × (is_quiet v ≡ true)) → IfSome o (Led (connected c) ls)
+      go : (o : Option WorldState) → IfSome o (λ v. Led (connected c) ls v × (is_quiet v ≡ true)) → IfSome o (Led (connected c) ls)
       go None own = tt
-      go (Some v) own = record { base = own.0; client = λ open_is. (ready v own.0 own.1).client; host = λ open_is. (ready v own.0 own.1).host }
+      go (Some v) own = own.0
 
   -- ---- events of lines
 
@@ -401,31 +403,70 @@ module _ (lines : List NumberedLine) (starves : Key → Bool) (most : Most) (ids
   -- after everything a channel that was left open ends, or none does
   record IsOver (c : Control) (w : WorldState) : Type 0 where
     left : Option ℕ
-    was_open : IfSome left (λ channel. c.current ≡ Some channel)
+    ends : EndsAs lines starves c left w
     sees : SeenAs ids lines (control_with left c) [] (seen w)
 
   over_free : (c : Control) (w : WorldState) (e : Event) → event_weight e ≡ 0 → is_enabled w e ≡ true → IsOver c w → IsOver c (act starves w e)
-  over_free c w e free can o =
-      record { left = o.left; was_open = o.was_open; sees = subst (SeenAs ids lines (control_with o.left c) []) (sym (event_unseen starves w e free).same) o.sees }
+  over_free c w e free can o = record {
+    left = o.left;
+    ends = record {
+      last = o.ends.last;
+      reached = o.ends.reached;
+      rests = o.ends.rests;
+      grown = then_more o.ends.last.deeds w.deeds (act starves w e).deeds (event_grows ids lines starves w e) o.ends.grown;
+      channel = o.ends.channel;
+      ready = o.ends.ready;
+      left_is = o.ends.left_is;
+    };
+    sees = subst (SeenAs ids lines (control_with o.left c) []) (sym (event_unseen starves w e free).same) o.sees;
+  }
 
-  ends_over : (c : Control) (w : WorldState) → Led c [] w → IfSome (ends_session starves most w) (IsOver c)
-  ends_over c w l = go (is_channel_open w) refl (some_left w)
+  over_drawn : (c : Control) (w : WorldState) → IsOver c w → IsOver c (drawing w)
+  over_drawn c w o = record {
+    left = o.left;
+    ends = record { last = o.ends.last; reached = o.ends.reached; rests = o.ends.rests; grown = o.ends.grown; channel = o.ends.channel; ready = o.ends.ready; left_is = o.ends.left_is };
+    sees = o.sees;
+  }
+
+  -- a world at rest after the last line
+  abbrev AtEnd : Control → WorldState → Type 0
+  AtEnd c w = Led c [] w × (choices w ≡ [])
+
+  ends_over : (c : Control) (w : WorldState) → AtEnd c w → IfSome (ends_session starves most w) (IsOver c)
+  ends_over c w (l, rests) = go (is_channel_open w) refl (some_left w) refl
     where
-      still : IsOver c w
-      still = record { left = None; was_open = tt; sees = l.base.sees }
+      ended : (left : Option ℕ) (v : WorldState) → EndsWith v.deeds w.deeds → left ≡ (if is_channel_open w && some_left w then c.current else None) → EndsAs lines starves c left v
+      ended left v grown is = record {
+        last = w;
+        reached = (let few : l.base.count ≤ length lines + 2 = omega (arith, l.base.few) in within_more l.base.count (length lines + 2) w few l.base.reached);
+        rests = rests;
+        grown = grown;
+        channel = l.base.sees.channel;
+        ready = λ open_is. record { client = l.client open_is; host = l.host open_is };
+        left_is = is;
+      }
 
-      closes : (o : Option ℕ) → c.current ≡ o → is_channel_open w ≡ true → IsOver c (act starves w event.drop_channel)
-      closes None shut is_open = absurd (no_channel (l.base.sees.channel ∙ shut) is_open)
-        where
-          no_channel : ((w.side).table).channel ≡ None → is_some ((w.side).table).channel ≡ true → ⊥
-          no_channel none some = let off : is_some ((w.side).table).channel ≡ false = ap is_some none in cc
-      closes (Some k) open_is is_open = record { left = Some k; was_open = open_is; sees = dropped_as ids lines c [] w k open_is l.base.sees }
+      still : (is_channel_open w && some_left w) ≡ false → IsOver c w
+      still none = record { left = None; ends = ended None w ([], refl) (sym (ap (λ (b : Bool). if b then c.current else None) none)); sees = l.base.sees }
 
-      go : (a : Bool) → is_channel_open w ≡ a → (b : Bool) → IfSome (if a && b then settled starves most.draws (act starves w event.drop_channel) else Some w) (IsOver c)
-      go true is_open true =
-          settled_keeps starves (IsOver c) (over_free c) (λ v o. record { left = o.left; was_open = o.was_open; sees = o.sees }) most.draws (act starves w event.drop_channel) (closes c.current refl is_open)
-      go true is_open false = still
-      go false is_open b = still
+      no_channel : ((w.side).table).channel ≡ None → is_some ((w.side).table).channel ≡ true → ⊥
+      no_channel none some = let off : is_some ((w.side).table).channel ≡ false = ap is_some none in cc
+
+      closes : (o : Option ℕ) → c.current ≡ o → is_channel_open w ≡ true → some_left w ≡ true → IsOver c (act starves w event.drop_channel)
+      closes None shut is_open waits = absurd (no_channel (l.base.sees.channel ∙ shut) is_open)
+      closes (Some k) open_is is_open waits =
+          let both : (is_channel_open w && some_left w) ≡ true = both_true (is_channel_open w) (some_left w) is_open waits in
+          record {
+            left = Some k;
+            ends = ended (Some k) (act starves w event.drop_channel) (event_grows ids lines starves w event.drop_channel)
+                (sym open_is ∙ sym (ap (λ (b : Bool). if b then c.current else None) both));
+            sees = dropped_as ids lines c [] w k open_is l.base.sees;
+          }
+
+      go : (a : Bool) → is_channel_open w ≡ a → (b : Bool) → some_left w ≡ b → IfSome (if a && b then settled starves most.draws (act starves w event.drop_channel) else Some w) (IsOver c)
+      go true is_open true waits = settled_keeps starves (IsOver c) (over_free c) (over_drawn c) most.draws (act starves w event.drop_channel) (closes c.current refl is_open waits)
+      go true is_open false waits = still (second_false (is_channel_open w) (some_left w) waits)
+      go false is_open b waits = still (first_false (is_channel_open w) (some_left w) is_open)
 
   -- ---- the beginning
 
@@ -440,11 +481,112 @@ module _ (lines : List NumberedLine) (starves : Key → Bool) (most : Most) (ids
       let first : Control = before_all ids in
       let begun : Option WorldState = connects_on starves most (world_of lines) in
       let played : Option WorldState = option_and_then (plays starves most lines) begun in
-      then_on (Led (control_of ids lines) []) (IsOver (control_of ids lines)) (ends_session starves most) (option_and_then (settled starves most.draws) played) (ends_over (control_of ids lines))
-      (then_on (Led (control_of ids lines) []) (Led (control_of ids lines) []) (settled starves most.draws) played
-      (settled_keeps starves (Led (control_of ids lines) []) (led_free (control_of ids lines) []) (led_drawn (control_of ids lines) []) most.draws)
+      then_on (AtEnd (control_of ids lines)) (IsOver (control_of ids lines)) (ends_session starves most) (option_and_then (settled starves most.draws) played) (ends_over (control_of ids lines))
+      (then_on (Led (control_of ids lines) []) (AtEnd (control_of ids lines)) (settled starves most.draws) played
+      (settled_rests starves (Led (control_of ids lines) []) (led_free (control_of ids lines) []) (led_drawn (control_of ids lines) []) most.draws)
       (then_on (Led (connected first) lines) (Led (control_of ids lines) []) (plays starves most lines) begun (plays_led lines (λ x has. has) known (connected first))
       (begins_led first lines (world_of lines) 0 start (omega arith) sees (may_connect lines) sees.channel)))
+
+-- ---- where lines settle
+
+settle_controls_none : (c : Control) (number : ℕ) (l : Line) → is_settle l ≡ true → controlled c number l ≡ c
+unfolding is_settle controlled notice_of
+settle_controls_none c number line.Settle is = refl
+settle_controls_none c number l is = absurd cc
+
+module _ (lines : List NumberedLine) (starves : Key → Bool) (most : Most) (ids : List ℕ) (rise : Rise (numbers lines)) (premises : RunPremises lines) where
+  abbrev Follows : Control → List NumberedLine → WorldState → Type 0
+  Follows c ls w = Led lines starves most ids rise premises c ls w
+
+  -- what playing lines leaves, and where it came to rest
+  record Played (c : Control) (ls : List NumberedLine) (w v : WorldState) : Type 0 where
+    grows : EndsWith v.deeds w.deeds
+    rests : AllByRecursion (RestsAt lines starves v.deeds) (at_settles c ls)
+
+  rest_later : (d e : List Deed) → EndsWith e d → (cs : List Control) → AllByRecursion (RestsAt lines starves d) cs → AllByRecursion (RestsAt lines starves e) cs
+  rest_later d e more [] all = tt
+  rest_later d e more (c ∷ cs) all = (
+    record {
+      world = (all.0).world;
+      reached = (all.0).reached;
+      rests = (all.0).rests;
+      grown = then_more (all.0).world.deeds d e more (all.0).grown;
+      acts = (all.0).acts;
+      channel = (all.0).channel;
+      ready = (all.0).ready;
+    },
+    rest_later d e more cs all.1,
+  )
+
+  rest_here : (c d : Control) (ls : List NumberedLine) (w v : WorldState) → d ≡ c → Follows d ls w → choices w ≡ [] → EndsWith v.deeds w.deeds → RestsAt lines starves v.deeds c
+  rest_here c d ls w v same l rests grows = record {
+    world = w;
+    reached = reached_of l.base.count l.base.few l.base.reached;
+    rests = rests;
+    grown = grows;
+    acts = picked_reverse act_by w.deeds ∙ l.base.sees.acts ∙ ap (λ (k : Control). k.acts) same;
+    channel = l.base.sees.channel ∙ ap (λ (k : Control). k.current) same;
+    ready = λ open_is. ready_of (subst (λ (k : Control). is_some k.current ≡ true) (sym same) open_is);
+  }
+    where
+      ready_of : is_some d.current ≡ true → AreReady w
+      ready_of open_is = record { client = l.client open_is; host = l.host open_is }
+
+      reached_of : (n : ℕ) → n + length ls ≤ length lines + 1 → ReachedWithin n lines starves w → Reached lines starves w
+      reached_of n few r = record { moves = r.moves; pass = r.pass; few = omega (arith, few, r.few); leads = r.leads }
+
+  plays_rest : (ls : List NumberedLine) → ((x : NumberedLine) → Has x ls → Has x lines) → AllByRecursion (λ (x : NumberedLine). NamesKnown ids x.line) ls
+      → (c : Control) (w : WorldState) → Follows c ls w → IfSome (plays starves most ls w) (Played c ls w)
+  plays_rest [] among known c w l = record { grows = ([], refl); rests = tt }
+  plays_rest (x ∷ ls) among known c w l =
+      go (plays_line starves most w x) (line_led lines starves most ids rise premises c x ls w (among x (inl refl)) l known.0) (later_line ids lines starves most w.deeds w x ([], refl))
+      (λ is. settle_rests starves most w x is) (plays_rest ls (λ y has. among y (inr has)) known.1 (controlled c x.number x.line))
+    where
+      on : (y : WorldState) → Follows (controlled c x.number x.line) ls y → EndsWith y.deeds w.deeds → (is_settle x.line ≡ true → choices y ≡ []) → (v : WorldState)
+          → Played (controlled c x.number x.line) ls y v → (b : Bool) → is_settle x.line ≡ b
+          → AllByRecursion (RestsAt lines starves v.deeds) ((if b then c ∷ [] else []) ++ at_settles (controlled c x.number x.line) ls)
+      on y follows grows rests v played true is =
+          (rest_here c (controlled c x.number x.line) ls y v (settle_controls_none c x.number x.line is) follows (rests is) played.grows, played.rests)
+      on y follows grows rests v played false is = played.rests
+
+      all : (y : WorldState) → Follows (controlled c x.number x.line) ls y → EndsWith y.deeds w.deeds → (is_settle x.line ≡ true → choices y ≡ []) → (o : Option WorldState)
+          → IfSome o (Played (controlled c x.number x.line) ls y) → IfSome o (Played c (x ∷ ls) w)
+      all y follows grows rests None own = tt
+      all y follows grows rests (Some v) own =
+          record { grows = then_more w.deeds y.deeds v.deeds own.grows grows; rests = on y follows grows rests v own (is_settle x.line) refl }
+
+      go : (o : Option WorldState) → IfSome o (Follows (controlled c x.number x.line) ls) → IfSome o (λ v. EndsWith v.deeds w.deeds)
+          → (is_settle x.line ≡ true → IfSome o (λ v. choices v ≡ []))
+          → ((y : WorldState) → Follows (controlled c x.number x.line) ls y → IfSome (plays starves most ls y) (Played (controlled c x.number x.line) ls y))
+          → IfSome (option_and_then (plays starves most ls) o) (Played c (x ∷ ls) w)
+      go None follows grows rests next = tt
+      go (Some y) follows grows rests next = all y follows grows rests (plays starves most ls y) (next y follows)
+
+  -- of a whole run
+  abbrev AllRest : WorldState → Type 0
+  AllRest w = AllByRecursion (RestsAt lines starves w.deeds) (at_settles (connected (before_all ids)) lines)
+
+  on_rests : (o : Option WorldState) (w : WorldState) → AllRest w → IfSome o (λ v. EndsWith v.deeds w.deeds) → IfSome o AllRest
+  on_rests None w all grows = tt
+  on_rests (Some v) w all grows = rest_later w.deeds v.deeds grows (at_settles (connected (before_all ids)) lines) all
+
+  run_rests : AllByRecursion (λ (x : NumberedLine). NamesKnown ids x.line) lines → SeenAs ids lines (before_all ids) lines (seen (world_of lines)) → IfSome (run_of most starves lines) AllRest
+  run_rests known sees =
+      let start : ReachedWithin 0 lines starves (world_of lines) = record { moves = []; pass = tt; few = omega arith; leads = refl } in
+      let first : Control = before_all ids in
+      let begun : Option WorldState = connects_on starves most (world_of lines) in
+      let played : Option WorldState = option_and_then (plays starves most lines) begun in
+      then_on lines starves most ids rise premises AllRest AllRest (ends_session starves most) (option_and_then (settled starves most.draws) played)
+      (λ v all. on_rests (ends_session starves most v) v all (later_end ids lines starves most v.deeds v ([], refl)))
+      (then_on lines starves most ids rise premises AllRest AllRest (settled starves most.draws) played
+      (λ v all. on_rests (settled starves most.draws v) v all (later_settled ids lines starves most v.deeds v ([], refl)))
+      (then_on lines starves most ids rise premises (Follows (connected first) lines) AllRest (plays starves most lines) begun
+      (λ w l. played_rests (plays starves most lines w) w (plays_rest lines (λ x has. has) known (connected first) w l))
+      (begins_led lines starves most ids rise premises first lines (world_of lines) 0 start (omega arith) sees (may_connect lines) sees.channel)))
+    where
+      played_rests : (o : Option WorldState) (w : WorldState) → IfSome o (Played (connected (before_all ids)) lines w) → IfSome o AllRest
+      played_rests None w own = tt
+      played_rests (Some v) w own = own.rests
 
 -- ---- a run
 
@@ -460,22 +602,36 @@ all_set_seen : (ls : List Line) (w : WorldState) → seen (fold setting w ls) �
 all_set_seen [] w = refl
 all_set_seen (l ∷ ls) w = all_set_seen ls (setting w l) ∙ one_set_seen w l
 
-pub does_as_said : (lines : List NumberedLine) (starves : Key → Bool) (most : Most) (w : WorldState)
-    → let ids = map (λ (e : ℕ × Declared). e.0) (declared_devices (map (λ (x : NumberedLine). x.line) lines)) in
-    AreOrdered ids lines → OpensWhole lines starves → run_of most starves lines ≡ Some w → DoAsSaid ids lines w
-does_as_said lines starves most w ordered opens is =
+-- what is seen at first
+first_sees : (lines : List NumberedLine) → Rise (numbers lines)
+    → let ids = map (λ (e : ℕ × Declared). e.0) (declared_devices (map (λ (x : NumberedLine). x.line) lines)) in SeenAs ids lines (before_all ids) lines (seen (world_of lines))
+first_sees lines rise =
     let bare : List Line = map (λ (x : NumberedLine). x.line) lines in
     let ids : List ℕ = map (λ (e : ℕ × Declared). e.0) (declared_devices bare) in
+    subst (SeenAs ids lines (before_all ids) lines) (sym (all_set_seen bare (new_world (declared_devices bare) (applications_of bare))))
+    (record { number = refl; channel = refl; channels = refl; last = tt; marks = first_marks bare; acts = refl; idle = refl; rises = rise })
+
+pub does_as_said : (lines : List NumberedLine) (starves : Key → Bool) (most : Most) (w : WorldState)
+    → let ids = map (λ (e : ℕ × Declared). e.0) (declared_devices (map (λ (x : NumberedLine). x.line) lines)) in
+    AreOrdered ids lines → RunPremises lines → run_of most starves lines ≡ Some w → DoAsSaid ids lines starves w
+does_as_said lines starves most w ordered premises is =
+    let ids : List ℕ = map (λ (e : ℕ × Declared). e.0) (declared_devices (map (λ (x : NumberedLine). x.line) lines)) in
     let rise : Rise (numbers lines) = sorted_from_strictly_increasing (numbers lines) ordered.rise in
-    let first : Control = before_all ids in
-    let sees : SeenAs ids lines first lines (seen (world_of lines)) =
-    subst (SeenAs ids lines first lines) (sym (all_set_seen bare (new_world (declared_devices bare) (applications_of bare))))
-    (record { channel = refl; channels = refl; last = tt; marks = first_marks bare; acts = refl; idle = refl; rises = rise }) in
-    let over = subst (λ (o : Option WorldState). IfSome o (IsOver lines starves most ids rise opens (control_of ids lines))) is (run_over lines starves most ids rise opens ordered.known sees) in
+    let over = subst (λ (o : Option WorldState). IfSome o (IsOver lines starves most ids rise premises (control_of ids lines))) is
+    (run_over lines starves most ids rise premises ordered.known (first_sees lines rise)) in
     record {
       left = over.left;
-      was_open = over.was_open;
+      ends = over.ends;
       acts = picked_reverse act_by w.deeds ∙ over.sees.acts;
       idle_lines = over.sees.idle;
       idle_rise = IsStrictlyIncreasing-from_sorted w.idle (subst Rise (append-nil w.idle) over.sees.rises);
     }
+
+pub rests_where_settled : (lines : List NumberedLine) (starves : Key → Bool) (most : Most) (w : WorldState)
+    → let ids = map (λ (e : ℕ × Declared). e.0) (declared_devices (map (λ (x : NumberedLine). x.line) lines)) in
+    AreOrdered ids lines → RunPremises lines → run_of most starves lines ≡ Some w → RestWhereSettled ids lines starves w.deeds
+rests_where_settled lines starves most w ordered premises is =
+    let bare : List Line = map (λ (x : NumberedLine). x.line) lines in
+    let ids : List ℕ = map (λ (e : ℕ × Declared). e.0) (declared_devices bare) in
+    let rise : Rise (numbers lines) = sorted_from_strictly_increasing (numbers lines) ordered.rise in
+    subst (λ (o : Option WorldState). IfSome o (AllRest lines starves most ids rise premises)) is (run_rests lines starves most ids rise premises ordered.known (first_sees lines rise))

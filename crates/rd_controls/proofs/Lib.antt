@@ -7,3 +7,4 @@ pub mod Acting
 pub mod Leading
 pub mod ScriptLemmas
 pub mod Resting
+pub mod Opening

@@ -1,15 +1,13 @@
 -- What is done stays done along a run, and where a `settle` line ends nothing can happen by itself.
-use Rattle.std.proofs.Common.{◌≡◌, ◌∙◌, refl, sym, ap, subst, inl, inr, ℕ, ◌&&◌, Bool, true, false, List, [], ◌∷◌, ◌++◌, append_assoc, map, fold, Some, None, Option, arith}
-use Rattle.std.specs.Prelude.{if◌then◌else◌, is_some}
-use Rattle.std.specs.Option.{IfSome, option_and_then, option_map_or}
+use Rattle.std.proofs.Common.{◌≡◌, ◌∙◌, refl, sym, ap, ℕ, ◌&&◌, Bool, true, false, List, [], ◌∷◌, ◌++◌, append_assoc, map, fold, Some, None, Option}
+use Rattle.std.specs.Prelude.{if◌then◌else◌}
+use Rattle.std.specs.Option.{IfSome, option_map_or}
 use Rattle.rd_base.specs.declared.journal.Key.{Key}
-use Rattle.rd_client.specs.Core as client
 use Rattle.rd_controls.proofs.Acting.{added_unseen, all_dropped, all_refreshed, refreshed_unseen, removed_unseen}
-use Rattle.rd_controls.proofs.Unseen.{Unseen, all_take_unseen, event_unseen}
+use Rattle.rd_controls.proofs.Unseen.{all_take_unseen, event_unseen}
 use Rattle.rd_controls.proofs.Walking.{does_keeps, rounds_keep, settled_keeps, settled_rests}
 use Rattle.rd_printer.specs.declared.notice.Notice.{Notice}
 use Rattle.rd_runs.specs.Moves.{event_weight}
-use Rattle.rd_script.specs.declared.line.Errand.{Errand}
 use Rattle.rd_script.specs.declared.line.Line.{Line}
 use Rattle.rd_script.specs.declared.line.Line.TheVariants as line
 use Rattle.rd_script.specs.declared.line.NumberedLine.{NumberedLine}
@@ -18,14 +16,14 @@ use Rattle.rd_world.specs.Acts.{is_settle}
 use Rattle.rd_world.specs.Devices.{PrinterNames}
 use Rattle.rd_world.specs.Events as event
 use Rattle.rd_world.specs.Events.{Event, act, cutting, dropping, is_channel_open, is_enabled, refreshing}
-use Rattle.rd_world.specs.Run.{Most, asked_by, by_event, choices, connects_on, controls, does, drawing, ends_session, event_of, idles, is_quiet, notice_of, plays_line, queueing, rounds, settled, some_left}
+use Rattle.rd_world.specs.Run.{Most, asked_by, by_event, choices, connects_on, controls, does, drawing, ends_session, event_of, idles, is_quiet, notice_of, plays_line, queueing, settled, some_left}
 use Rattle.rd_world.specs.Talk.{Deed, EndsWith, adds, host_begins, host_ends, removes, tells}
 use Rattle.rd_world.specs.World.{Asked, WorldState}
 use Rattle.rd_world.specs.declared.device.SessionDevice.{SessionDevice}
 
 -- ---- what is done
 
-then_more : (a b c : List Deed) → EndsWith c b → EndsWith b a → EndsWith c a
+pub then_more : (a b c : List Deed) → EndsWith c b → EndsWith b a → EndsWith c a
 then_more a b c (more, is) (first, same) = (more ++ first, is ∙ ap (λ (ds : List Deed). more ++ ds) same ∙ sym (append_assoc more first a))
 
 one_deed : (d : Deed) (deeds new : List Deed) → EndsWith new (d ∷ deeds) → EndsWith new deeds

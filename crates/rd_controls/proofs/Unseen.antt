@@ -18,7 +18,9 @@ use Rattle.rd_drive.specs.declared.plan.Job.{Job}
 use Rattle.rd_hello.specs.declared.client.ClientState.{ClientState}
 use Rattle.rd_hello.specs.declared.end_fault.EndFault.{EndFault}
 use Rattle.rd_host.specs.Core as host
-use Rattle.rd_host.specs.Core.{host_hear}
+use Rattle.rd_core.specs.Hearing.{hear}
+use Rattle.rd_hello.specs.declared.host.HostState.{HostState}
+use Rattle.rd_host.specs.Core.{HostCoreState, host_hear, host_hear_made, host_side}
 use Rattle.rd_host.specs.Order.{is_host_ready}
 use Rattle.rd_host.specs.Served.{is_served_type}
 use Rattle.rd_host.specs.declared.act.Act.{Act}
@@ -58,9 +60,10 @@ use Rattle.rd_pending.specs.declared.calls.Handle.{Handle}
 abbrev pub mark : ClientDevice → ℕ × Bool
 mark d = ((d.announce).id, d.removed)
 
--- what control lines are seen by: the channel that is open, how many began, the lines that did nothing, the client's devices by their ids with
+-- what control lines are seen by: the id that the host announces, the channel that is open, how many began, the lines that did nothing, the client's devices by their ids with
 -- whether they are gone, and what was done by lines, the newest first
 pub record Seen : Type 0 where
+  pub number : ℕ
   pub channel : Option ℕ
   pub channels : ℕ
   pub idle : List ℕ
@@ -68,7 +71,7 @@ pub record Seen : Type 0 where
   pub acts : List control.Act
 
 abbrev pub seen : WorldState → Seen
-seen w = record { channel = ((w.side).table).channel; channels = w.channels; idle = w.idle; marks = map mark (w.client).devices; acts = filter_map act_by w.deeds }
+seen w = record { number = ((w.side).core).client; channel = ((w.side).table).channel; channels = w.channels; idle = w.idle; marks = map mark (w.client).devices; acts = filter_map act_by w.deeds }
 
 abbrev pub client_ready : WorldState → Bool
 client_ready w = is_client_ready ((w.client).core).shake
@@ -150,7 +153,7 @@ opening_unseen shake w = by (client.becomes_ready shake ((w.client).core).shake)
     by true = all_announced (listed w.client) w
     by false = unseen_none w
 
-heard_unseen : (shake : ClientState) (w : WorldState) (r : Result Heard EndFault) → Unseen w (heard_by_client shake w r)
+pub heard_unseen : (shake : ClientState) (w : WorldState) (r : Result Heard EndFault) → Unseen w (heard_by_client shake w r)
 heard_unseen shake w (Err fault) = unseen_none w
 heard_unseen shake w (Ok Nothing) = opening_unseen shake w
 heard_unseen shake w (Ok (Ask device job)) = put_unseen w device job
@@ -165,7 +168,7 @@ client_hears_unseen w message =
     (record { same = ap (λ (ds : List ClientDevice). record (seen w) { marks = map mark ds }) kept.devices; grows = (client_reads w.channels message ∷ [], refl); client = kept.ready; host = λ is. is })
     (heard_unseen ((w.client).core).shake x heard.1)
 
-client_handles_unseen : (most : ℕ) (w : WorldState) → Unseen w (client_handles most w)
+pub client_handles_unseen : (most : ℕ) (w : WorldState) → Unseen w (client_handles most w)
 client_handles_unseen zero w = unseen_none w
 client_handles_unseen (suc most) w = by (is_some w.kept) (client_handles_unseen most)
   where
@@ -269,50 +272,56 @@ module _ (starves : Key → Bool) where
 
 -- a side of which nothing is seen
 record Beside (s t : HostSide) : Type 0 where
+  number : (t.core).client ≡ (s.core).client
   channel : (t.table).channel ≡ (s.table).channel
   ready : is_host_ready ((s.core).core).shake ≡ true → is_host_ready ((t.core).core).shake ≡ true
 
 beside_by : (s t u : HostSide) → Beside s t → Beside t u → Beside s u
-beside_by s t u first second = record { channel = second.channel ∙ first.channel; ready = λ is. second.ready (first.ready is) }
+beside_by s t u first second = record { number = second.number ∙ first.number; channel = second.channel ∙ first.channel; ready = λ is. second.ready (first.ready is) }
 
 sided : (w : WorldState) (t : HostSide) → Beside w.side t → Unseen w (record w { side = t })
-sided w t b = record { same = ap (λ (c : Option ℕ). record (seen w) { channel = c }) b.channel; grows = ([], refl); client = λ is. is; host = b.ready }
+sided w t b = record { same = (λ i. record (seen w) { number = b.number i; channel = b.channel i }); grows = ([], refl); client = λ is. is; host = b.ready }
 
 admits_beside : (s : HostSide) (a : Announce) → Beside s (admits s a)
 admits_beside s a = by (is_served_type a.kind)
   where
     from : (r : TableState × Result ℕ LiveNo) → (r.0).channel ≡ (s.table).channel → Beside s (lived s a.id r)
-    from (after, life) same = record { channel = same; ready = λ is. is }
+    from (after, life) same = record { number = refl; channel = same; ready = λ is. is }
 
     by : (b : Bool) → Beside s (if b then lived s a.id (table.live s.table a.id) else record s { core = host.reply s.core a.id not_supported })
     by true = from (table.live s.table a.id) (channel_kept (call.lives a.id) tt s.table)
-    by false = record { channel = refl; ready = λ is. is }
+    by false = record { number = refl; channel = refl; ready = λ is. is }
 
 all_admitted : (devices : List Announce) (s : HostSide) → Beside s (fold admits s devices)
-all_admitted [] s = record { channel = refl; ready = λ is. is }
+all_admitted [] s = record { number = refl; channel = refl; ready = λ is. is }
 all_admitted (a ∷ devices) s = beside_by s (admits s a) _ (admits_beside s a) (all_admitted devices (admits s a))
 
 all_forgotten : (ids : List ℕ) (s : HostSide) → Beside s (fold forgets s ids)
-all_forgotten [] s = record { channel = refl; ready = λ is. is }
+all_forgotten [] s = record { number = refl; channel = refl; ready = λ is. is }
 all_forgotten (id ∷ ids) s =
-    beside_by s (forgets s id) _ (record { channel = channel_kept (call.removes id) tt s.table; ready = λ is. is }) (all_forgotten ids (forgets s id))
+    beside_by s (forgets s id) _ (record { number = refl; channel = channel_kept (call.removes id) tt s.table; ready = λ is. is }) (all_forgotten ids (forgets s id))
 
 host_heard_beside : (s : HostSide) (r : Result Act EndFault) → Beside s (host_heard s r)
-host_heard_beside s (Err fault) = record { channel = refl; ready = λ is. is }
-host_heard_beside s (Ok host_act.Nothing) = record { channel = refl; ready = λ is. is }
+host_heard_beside s (Err fault) = record { number = refl; channel = refl; ready = λ is. is }
+host_heard_beside s (Ok host_act.Nothing) = record { number = refl; channel = refl; ready = λ is. is }
 host_heard_beside s (Ok (host_act.Announced devices)) = all_admitted devices s
 host_heard_beside s (Ok (host_act.Removed ids)) = all_forgotten ids s
-host_heard_beside s (Ok (host_act.Complete head bytes)) = record { channel = channel_kept (call.completes head bytes) tt s.table; ready = λ is. is }
+host_heard_beside s (Ok (host_act.Complete head bytes)) = record { number = refl; channel = channel_kept (call.completes head bytes) tt s.table; ready = λ is. is }
+
+heard_number : (h : HostCoreState) (r : CoreState HostState (List ℕ) × Result (Option Act) EndFault) → ((host_hear_made h r).0).client ≡ h.client
+heard_number h (after, Err fault) = refl
+heard_number h (after, Ok None) = refl
+heard_number h (after, Ok (Some says)) = refl
 
 hears_beside : (s : HostSide) (message : List ℕ) → Beside s (hears s message)
 hears_beside s message =
     let made = host_hear s.core message in
-    beside_by s (record s { core = made.0 }) _ (record { channel = refl; ready = host_kept s.core message }) (host_heard_beside (record s { core = made.0 }) made.1)
+    beside_by s (record s { core = made.0 }) _ (record { number = heard_number s.core (hear host_side s.core.core message); channel = refl; ready = host_kept s.core message }) (host_heard_beside (record s { core = made.0 }) made.1)
 
 host_hears_unseen : (w : WorldState) (message : List ℕ) → Unseen w (host_hears w message)
 host_hears_unseen w message = let b = sided w (hears w.side message) (hears_beside w.side message) in record { same = b.same; grows = (host_reads w.channels message ∷ [], refl); client = b.client; host = b.host }
 
-host_handles_unseen : (most : ℕ) (w : WorldState) → Unseen w (host_handles most w)
+pub host_handles_unseen : (most : ℕ) (w : WorldState) → Unseen w (host_handles most w)
 host_handles_unseen zero w = unseen_none w
 host_handles_unseen (suc most) w = by (host_handles_unseen most) (handling w.to_host)
   where
@@ -327,9 +336,9 @@ sends_beside : (s : HostSide) → Beside s (side_sends s)
 sends_beside s = by ((s.core).core).outbox refl
   where
     by : (l : List (List ℕ)) → ((s.core).core).outbox ≡ l → Beside s (sent_from s l)
-    by [] is = record { channel = channel_kept call.sends tt s.table; ready = λ own. own }
+    by [] is = record { number = refl; channel = channel_kept call.sends tt s.table; ready = λ own. own }
     by (message ∷ others) is =
-        record { channel = refl; ready = λ own. subst (λ (l : List (List ℕ)). is_host_ready ((core.send_from (s.core).core l).0).shake ≡ true) (sym is) own }
+        record { number = refl; channel = refl; ready = λ own. subst (λ (l : List (List ℕ)). is_host_ready ((core.send_from (s.core).core l).0).shake ≡ true) (sym is) own }
 
 host_send_unseen : (w : WorldState) → Unseen w (event.host_sends_next w)
 host_send_unseen w =
@@ -343,7 +352,7 @@ line_unseen w a o holds =
     option_unseen w (λ asked. with_application w a (with_outcome (application_at w a) o holds asked)) (next_asked (application_at w a)) (λ asked. record { same = refl; grows = ([], refl); client = λ is. is; host = λ is. is })
 
 tabled : (w : WorldState) (t : TableState) → t.channel ≡ ((w.side).table).channel → Unseen w (with_table w t)
-tabled w t same = sided w (record w.side { table = t }) (record { channel = same; ready = λ is. is })
+tabled w t same = sided w (record w.side { table = t }) (record { number = refl; channel = same; ready = λ is. is })
 
 outcome_unseen : (w : WorldState) (a : ℕ) → Unseen w (takes_outcome w a)
 outcome_unseen w a = by (application_at w a).awaits

@@ -140,6 +140,13 @@ module _ (starves : Key → Bool) (P : WorldState → Type 0) (free : (w : World
   client_sends_keep : (w : WorldState) → P w → P (all_client_sends starves w)
   client_sends_keep w p = while_keeps (length ((w.client).core).outbox) client_send refl w p
 
+  pub round_keeps : (w : WorldState) → P w → P (host_reads_all starves (client_reads_all starves (all_client_sends starves (all_host_sends starves w))))
+  round_keeps w p =
+      let answered : WorldState = all_client_sends starves (all_host_sends starves w) in
+      let read : WorldState = client_reads_all starves answered in
+      when_keeps (host_read (length (read.to_host).pipe)) refl read
+      (when_keeps (client_read (length (answered.to_client).pipe)) refl answered (client_sends_keep (all_host_sends starves w) (host_sends_keep w p)))
+
   -- rounds end where nothing is to be sent or read
   pub rounds_keep : (most : ℕ) (w : WorldState) → P w → IfSome (rounds starves most w) (λ x. P x × (is_quiet x ≡ true))
   rounds_keep zero w p = tt
