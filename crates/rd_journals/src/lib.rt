@@ -6,12 +6,6 @@
 mod laws;
 
 pub use laws::{
-<<<<<<< HEAD
-    completions_are_fit, completions_are_of_requests, completions_stand, journals_are_short,
-    replies_stay, runs_keep_journals, stations_are_tied,
-=======
-    completions_answer, completions_are_in_order, completions_are_of_requests,
-    completions_stand, journals_are_short, replies_stay, runs_keep_journals, scripts_are_fit,
-    stations_are_tied,
->>>>>>> db79bada3f4831ca6d239274b5967050a958efd2
+    completions_answer, completions_are_in_order, completions_are_of_requests, completions_stand,
+    journals_are_short, replies_stay, runs_keep_journals, scripts_are_fit, stations_are_tied,
 };
