@@ -296,9 +296,9 @@ module _ (devices : List (ℕ × Declared)) where
           → IsSent devices d x.key x.reply left.deeds ⊎ ((Has (Cancelled x.key) (journal d left.deeds) × (x.reply ≡ cancellation)) ⊎ ((came (x.key).channel (journal d left.deeds) (x.key).index ≡ false) × IsRefusal of.request x.reply))
       by (inl given) = inl (record { earlier = s.journal; later = []; stands = all; given = subst (λ (rs : List KeyedReply). Contains rs (x.key, x.reply)) (sym gives) given })
       by (inr (cancelled, same)) = inr (inl (
-          subst (λ (js : List Item). Has (Cancelled x.key) js) (sym own) (inr (contains_has (Cancelled x.key) (journal d w.deeds) (subst (λ (js : List Item). Contains js (Cancelled x.key)) (sym told) cancelled))),
-          same,
-        ))
+        subst (λ (js : List Item). Has (Cancelled x.key) js) (sym own) (inr (contains_has (Cancelled x.key) (journal d w.deeds) (subst (λ (js : List Item). Contains js (Cancelled x.key)) (sym told) cancelled))),
+        same,
+      ))
 
   -- ---- devices go and come
 

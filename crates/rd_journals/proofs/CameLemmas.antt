@@ -16,11 +16,9 @@ use Rattle.rd_station.specs.Station.{is_key}
 use Rattle.rd_runs.proofs.Together.{knows}
 use Rattle.rd_runs.specs.Premises.{RunPremises}
 use Rattle.rd_world.specs.Told.{came, came_as}
-
 use Rattle.rd_world.proofs.Joined.{carried_now}
 use Rattle.rd_world.specs.Recording.{client_id}
 use Rattle.rd_journals.proofs.RoomLemmas.{read_roomy}
-
 use Rattle.rd_journals.specs.Jobs.{AreFine, HasRoom}
 
 abbrev Of : Type 0

@@ -6,7 +6,6 @@
 mod laws;
 
 pub use laws::{
-    completions_answer, completions_are_in_order, completions_are_of_requests,
-    completions_stand, journals_are_short, replies_stay, runs_keep_journals, scripts_are_fit,
-    stations_are_tied,
+    completions_answer, completions_are_in_order, completions_are_of_requests, completions_stand,
+    journals_are_short, replies_stay, runs_keep_journals, scripts_are_fit, stations_are_tied,
 };
