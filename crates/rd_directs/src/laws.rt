@@ -1,0 +1,25 @@
+//! What holds of a client's direct answers in every run, as contracts of functions that do nothing.
+
+ghost use Rattle.std.specs.Prelude.{ℕ, ◌<◌, Bool, List, length, reverse};
+ghost use Rattle.rd_base.specs.declared.journal.Key.{Key};
+ghost use Rattle.rd_base.specs.Lawful.{IsLawful};
+ghost use Rattle.rd_script.specs.declared.line.NumberedLine.{NumberedLine};
+ghost use Rattle.rd_runs.specs.Moves.{Reached};
+ghost use Rattle.rd_runs.specs.Premises.{RunPremises};
+ghost use Rattle.rd_world.specs.Talk.{Deed, EachAfter, EndsWith, client_read, journal};
+ghost use Rattle.rd_world.specs.Told.{Answers, ComesUnworn, Replies, requests_to, told, unserved, worn_entries};
+ghost use Rattle.rd_world.specs.World.{WorldState};
+ghost use Rattle.rd_directs.specs.Turns.{MeetNone};
+
+/// Where no request meets a job at its station that is held with its completion id: of each device on each channel the answers to requests that never came
+/// are in the order of reading, up to some.
+pub fn direct_answers_are_in_order()
+    ensures { (lines : List NumberedLine) (starves : Key → Bool) (w : WorldState) → RunPremises lines → MeetNone lines starves → Reached lines starves w → (c device : ℕ)
+        → EndsWith (unserved c device w.deeds (requests_to device (client_read c w.deeds))) (unserved c device w.deeds (told c device w.deeds)) }
+{}
+
+/// Whatever deeds answer each request as its journal says, where no journal is worn: none is refused for a worn journal, so each request comes behind none that was.
+pub fn requests_come_unworn()
+    ensures { (replies : Replies) (deeds : List Deed) → EachAfter (Answers replies) deeds → ((device : ℕ) → IsLawful (reverse (journal device deeds))) → ((device : ℕ) → length (journal device deeds) < worn_entries)
+        → EachAfter ComesUnworn deeds }
+{}
