@@ -1,0 +1,19 @@
+//! Whose replies completions tell in every run, as contracts of functions that do nothing.
+
+ghost use Rattle.std.specs.Prelude.{◌≡◌, Bool, List};
+ghost use Rattle.rd_base.specs.declared.journal.Key.{Key};
+ghost use Rattle.rd_script.specs.declared.line.NumberedLine.{NumberedLine};
+ghost use Rattle.rd_runs.specs.Moves.{Reached};
+ghost use Rattle.rd_runs.specs.Premises.{RunPremises};
+ghost use Rattle.rd_world.specs.Opening.{bare_lines};
+ghost use Rattle.rd_world.specs.Run.{declared_devices};
+ghost use Rattle.rd_world.specs.Session.{replies_in};
+ghost use Rattle.rd_world.specs.Talk.{EachAfter};
+ghost use Rattle.rd_world.specs.World.{WorldState};
+ghost use Rattle.rd_replied.specs.Replied.{AnswersBy};
+
+/// Each completion that a client wrote tells the reply that the device's journal gives to its key by what it says before the key was sent, with the requests that the
+/// host wrote until now; or CANCELLED, or a refusal.
+pub fn completions_are_replied()
+    ensures { (lines : List NumberedLine) (starves : Key → Bool) (w : WorldState) → RunPremises lines → Reached lines starves w → EachAfter (AnswersBy (replies_in (declared_devices (bare_lines lines)) w.deeds)) w.deeds }
+{}
