@@ -11,9 +11,16 @@ ghost use Rattle.rd_world.specs.Session.{replies_in};
 ghost use Rattle.rd_world.specs.Talk.{EachAfter};
 ghost use Rattle.rd_world.specs.World.{WorldState};
 ghost use Rattle.rd_replied.specs.Replied.{AnswersBy};
+ghost use Rattle.rd_replied.specs.Removals.{TellsGone};
 
 /// Each completion that a client wrote tells the reply that the device's journal gives to its key by what it says before the key was sent, with the requests that the
 /// host wrote until now; or CANCELLED, or a refusal.
 pub fn completions_are_replied()
     ensures { (lines : List NumberedLine) (starves : Key → Bool) (w : WorldState) → RunPremises lines → Reached lines starves w → EachAfter (AnswersBy (replies_in (declared_devices (bare_lines lines)) w.deeds)) w.deeds }
+{}
+
+/// Where a device was cut off, since it was removed, after a key came, the key's completion is written after that was told: the removal is written on the key's channel
+/// after the read of its request.
+pub fn removals_are_told()
+    ensures { (lines : List NumberedLine) (starves : Key → Bool) (w : WorldState) → RunPremises lines → Reached lines starves w → EachAfter TellsGone w.deeds }
 {}
