@@ -12,6 +12,7 @@ ghost use Rattle.rd_world.specs.Talk.{EachAfter};
 ghost use Rattle.rd_world.specs.World.{WorldState};
 ghost use Rattle.rd_replied.specs.Replied.{AnswersBy};
 ghost use Rattle.rd_replied.specs.Removals.{TellsGone};
+ghost use Rattle.rd_replied.specs.Since.{AnswersSince};
 
 /// Each completion that a client wrote tells the reply that the device's journal gives to its key by what it says before the key was sent, with the requests that the
 /// host wrote until now; or CANCELLED, or a refusal.
@@ -23,4 +24,10 @@ pub fn completions_are_replied()
 /// after the read of its request.
 pub fn removals_are_told()
     ensures { (lines : List NumberedLine) (starves : Key → Bool) (w : WorldState) → RunPremises lines → Reached lines starves w → EachAfter TellsGone w.deeds }
+{}
+
+/// Each completion that a client wrote tells the reply that the device's journal gives to its key, and where a cut alone gives it the device was removed since, as is told;
+/// or CANCELLED, where it was, too; or it never came, and is refused.
+pub fn completions_are_answered()
+    ensures { (lines : List NumberedLine) (starves : Key → Bool) (w : WorldState) → RunPremises lines → Reached lines starves w → EachAfter (AnswersSince (replies_in (declared_devices (bare_lines lines)) w.deeds)) w.deeds }
 {}

@@ -5,4 +5,4 @@
 
 mod laws;
 
-pub use laws::{completions_are_replied, removals_are_told};
+pub use laws::{completions_are_answered, completions_are_replied, removals_are_told};
