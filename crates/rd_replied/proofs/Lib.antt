@@ -1,0 +1,4 @@
+pub mod MatchLemmas
+pub mod GoneLemmas
+pub mod CutLemmas
+pub mod SinceLemmas

@@ -1,0 +1,3 @@
+pub mod Replied
+pub mod Removals
+pub mod Since
