@@ -12,9 +12,9 @@ use Rattle.rd_controls.proofs.Marks.{first_marks, gone_marks, known_marks}
 use Rattle.rd_controls.proofs.Numbers.{Rise, an_errand, no_errand, numbers, picked_reverse}
 use Rattle.rd_controls.proofs.Unseen.{client_ready, event_unseen, host_ready, seen}
 use Rattle.rd_controls.proofs.Walking.{round_keeps, does_keeps, rounds_keep, settled_keeps, settled_rests}
-use Rattle.rd_controls.specs.Controls.{AreReady, EndsAs, AreOrdered, DoAsSaid, NamesKnown, RestWhereSettled, RestsAt, control_with}
+use Rattle.rd_controls.specs.Controls.{AreReady, EndsAs, AreOrderedLines, DoAsSaid, NamesKnown, RestWhereSettled, RestsAt, control_with}
 use Rattle.rd_printer.specs.declared.notice.Notice.{Notice}
-use Rattle.rd_runs.specs.Moves.{IsOfLines, MayPass, Move, ReachedWithin, draws, event_weight, happens, idle, moved, queues, weight, Reached}
+use Rattle.rd_runs.specs.Moves.{IsOfLines, MayPass, RunMove, ReachedWithin, draws, event_weight, happens, idle, after_move, queues, weight, Reached}
 use Rattle.rd_script.specs.declared.line.Errand.{Errand}
 use Rattle.rd_script.specs.declared.line.Line.{Line}
 use Rattle.rd_script.specs.declared.line.Line.TheVariants as line
@@ -90,12 +90,12 @@ module _ (lines : List NumberedLine) (starves : Key → Bool) (most : Most) (ids
 
   -- ---- what happens by itself
 
-  moves_on : (n k : ℕ) (w : WorldState) (m : Move) → weight m + n ≤ k → MayPass lines w m → ReachedWithin n lines starves w → ReachedWithin k lines starves (moved starves w m)
+  moves_on : (n k : ℕ) (w : WorldState) (m : RunMove) → weight m + n ≤ k → MayPass lines w m → ReachedWithin n lines starves w → ReachedWithin k lines starves (after_move starves w m)
   moves_on n k w m few may r = record {
     moves = m ∷ r.moves;
     pass = (subst (λ (x : WorldState). MayPass lines x m) r.leads may, r.pass);
     few = omega (arith, few, r.few);
-    leads = ap (λ (x : WorldState). moved starves x m) r.leads;
+    leads = ap (λ (x : WorldState). after_move starves x m) r.leads;
   }
 
   within_more : (n k : ℕ) (w : WorldState) → n ≤ k → ReachedWithin n lines starves w → ReachedWithin k lines starves w
@@ -135,8 +135,8 @@ module _ (lines : List NumberedLine) (starves : Key → Bool) (most : Most) (ids
   }
 
   -- by a move that stands for it
-  base_by : (c d : Control) (x : NumberedLine) (ls : List NumberedLine) (w : WorldState) (m : Move) → weight m ≤ 1 → MayPass lines w m → Base c (x ∷ ls) w
-      → SeenAs ids lines d ls (seen (moved starves w m)) → Base d ls (moved starves w m)
+  base_by : (c d : Control) (x : NumberedLine) (ls : List NumberedLine) (w : WorldState) (m : RunMove) → weight m ≤ 1 → MayPass lines w m → Base c (x ∷ ls) w
+      → SeenAs ids lines d ls (seen (after_move starves w m)) → Base d ls (after_move starves w m)
   base_by c d x ls w m one may b sees =
       record { count = b.count + 1; reached = moves_on b.count (b.count + 1) w m (omega (arith, one)) may b.reached; few = omega (arith, b.few); sees = sees }
 
@@ -613,7 +613,7 @@ first_sees lines rise =
 
 pub does_as_said : (lines : List NumberedLine) (starves : Key → Bool) (most : Most) (w : WorldState)
     → let ids = map (λ (e : ℕ × Declared). e.0) (declared_devices (map (λ (x : NumberedLine). x.line) lines)) in
-    AreOrdered ids lines → RunPremises lines → run_of most starves lines ≡ Some w → DoAsSaid ids lines starves w
+    AreOrderedLines ids lines → RunPremises lines → run_of most starves lines ≡ Some w → DoAsSaid ids lines starves w
 does_as_said lines starves most w ordered premises is =
     let ids : List ℕ = map (λ (e : ℕ × Declared). e.0) (declared_devices (map (λ (x : NumberedLine). x.line) lines)) in
     let rise : Rise (numbers lines) = sorted_from_strictly_increasing (numbers lines) ordered.rise in
@@ -629,7 +629,7 @@ does_as_said lines starves most w ordered premises is =
 
 pub rests_where_settled : (lines : List NumberedLine) (starves : Key → Bool) (most : Most) (w : WorldState)
     → let ids = map (λ (e : ℕ × Declared). e.0) (declared_devices (map (λ (x : NumberedLine). x.line) lines)) in
-    AreOrdered ids lines → RunPremises lines → run_of most starves lines ≡ Some w → RestWhereSettled ids lines starves w.deeds
+    AreOrderedLines ids lines → RunPremises lines → run_of most starves lines ≡ Some w → RestWhereSettled ids lines starves w.deeds
 rests_where_settled lines starves most w ordered premises is =
     let bare : List Line = map (λ (x : NumberedLine). x.line) lines in
     let ids : List ℕ = map (λ (e : ℕ × Declared). e.0) (declared_devices bare) in

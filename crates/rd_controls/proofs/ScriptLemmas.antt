@@ -11,7 +11,7 @@ use Rattle.std.specs.declared.cmp.Ordering.TheVariants.{Equal, Greater, Less}
 use Rattle.std.proofs.lemmas.Bool.Decides.{nat_tests}
 use Rattle.std.proofs.lemmas.Map.Keys.{IsStrictlyIncreasing-from_sorted}
 use Rattle.rd_controls.proofs.Numbers.{Rise, numbers}
-use Rattle.rd_controls.specs.Controls.{AreOrdered, NamesKnown}
+use Rattle.rd_controls.specs.Controls.{AreOrderedLines, NamesKnown}
 use Rattle.rd_dirinfo.specs.Paths.{Names, seen_path}
 use Rattle.rd_dirinfo.specs.declared.naming.Naming.{Naming}
 use Rattle.rd_ranges.proofs.RowLemmas.{IsPlaced}
@@ -272,13 +272,13 @@ unfolding IsStrictlySortedBy
 start_rises = tt
 
 pub scripts_ordered : (text : List ℕ) (script : Script) → script_of mode.Both text ≡ Ok script
-    → AreOrdered (map (λ (e : ℕ × Declared). e.0) (declared_devices (map (λ (l : NumberedLine). l.line) script.lines))) script.lines
+    → AreOrderedLines (map (λ (e : ℕ × Declared). e.0) (declared_devices (map (λ (l : NumberedLine). l.line) script.lines))) script.lines
 scripts_ordered text script is =
     let start : IsRead (reading_at_start mode.Both) = record { both = refl; said = λ id (own : false ≡ true). absurd cc; known = tt; rise = start_rises; below = tt } in
     let read = script_keeps IsRead skipped_read line_read mode.Both text script start is in
     let lines : List NumberedLine = read.0.lines in
     let same : ids_of (declared_devices (map (λ (l : NumberedLine). l.line) lines)) ≡ ids_of (declared_by lines) = all_furnished (map (λ (l : NumberedLine). l.line) lines) (declared_by lines) in
-    subst (λ (ls : List NumberedLine). AreOrdered (map (λ (e : ℕ × Declared). e.0) (declared_devices (map (λ (l : NumberedLine). l.line) ls))) ls) read.2
+    subst (λ (ls : List NumberedLine). AreOrderedLines (map (λ (e : ℕ × Declared). e.0) (declared_devices (map (λ (l : NumberedLine). l.line) ls))) ls) read.2
     (record {
       rise = IsStrictlyIncreasing-from_sorted (numbers lines) read.1.rise;
       known = subst (λ (ids : List ℕ). AllByRecursion (λ (l : NumberedLine). NamesKnown ids l.line) lines) (sym same) read.1.known;

@@ -25,7 +25,7 @@ NamesKnown ids (line.Add device) = is_among ids device ≡ true
 NamesKnown ids _ = Unit {0}
 
 -- The numbers of lines rise, and they remove and add known devices.
-pub record AreOrdered (ids : List ℕ) (lines : List NumberedLine) : Type 0 where
+pub record AreOrderedLines (ids : List ℕ) (lines : List NumberedLine) : Type 0 where
   pub rise : IsStrictlyIncreasing (map (λ (l : NumberedLine). l.number) lines)
   pub known : AllByRecursion (λ (l : NumberedLine). NamesKnown ids l.line) lines
 

@@ -2,7 +2,7 @@
 
 ghost use Rattle.std.specs.Prelude.{◌≡◌, ℕ, Bool, List, Ok, Some, map};
 ghost use Rattle.rd_base.specs.declared.journal.Key.{Key};
-ghost use Rattle.rd_controls.specs.Controls.{AreOrdered, DoAsSaid, RestWhereSettled};
+ghost use Rattle.rd_controls.specs.Controls.{AreOrderedLines, DoAsSaid, RestWhereSettled};
 ghost use Rattle.rd_runs.specs.Premises.{RunPremises};
 ghost use Rattle.rd_script.specs.Script.{script_of};
 ghost use Rattle.rd_script.specs.declared.keyword.Mode.TheVariants as Mode;
@@ -19,7 +19,7 @@ ghost use Rattle.rd_world.specs.World.{WorldState, marks_of};
 pub fn control_lines_do_as_said()
     ensures { (lines : List NumberedLine) (starves : Key → Bool) (most : Most) (w : WorldState)
         → let ids = map (λ (e : ℕ × Declared). e.0) (declared_devices (map (λ (x : NumberedLine). x.line) lines)) in
-        AreOrdered ids lines → RunPremises lines → run_of most starves lines ≡ Some w → DoAsSaid ids lines starves w }
+        AreOrderedLines ids lines → RunPremises lines → run_of most starves lines ≡ Some w → DoAsSaid ids lines starves w }
 {}
 
 /// Where a `settle` line of theirs ends nothing can happen by itself, and its control lines so far have done what follows from these; what was done by then
@@ -27,13 +27,13 @@ pub fn control_lines_do_as_said()
 pub fn settle_lines_rest()
     ensures { (lines : List NumberedLine) (starves : Key → Bool) (most : Most) (w : WorldState)
         → let ids = map (λ (e : ℕ × Declared). e.0) (declared_devices (map (λ (x : NumberedLine). x.line) lines)) in
-        AreOrdered ids lines → RunPremises lines → run_of most starves lines ≡ Some w → RestWhereSettled ids lines starves w.deeds }
+        AreOrderedLines ids lines → RunPremises lines → run_of most starves lines ≡ Some w → RestWhereSettled ids lines starves w.deeds }
 {}
 
 /// The lines of a script that was read for both sides are such lines.
 pub fn scripts_are_ordered()
     ensures { (text : List ℕ) (script : Script) → script_of Mode.Both text ≡ Ok script
-        → AreOrdered (map (λ (e : ℕ × Declared). e.0) (declared_devices (map (λ (l : NumberedLine). l.line) script.lines))) script.lines }
+        → AreOrderedLines (map (λ (e : ℕ × Declared). e.0) (declared_devices (map (λ (l : NumberedLine). l.line) script.lines))) script.lines }
 {}
 
 /// So in every session of a script the control lines do what follows from its lines, and its `settle` lines rest.

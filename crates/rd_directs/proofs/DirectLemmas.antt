@@ -36,7 +36,7 @@ use Rattle.rd_journals.proofs.OrderlyLemmas.{ready_came}
 use Rattle.rd_journals.proofs.RunLemmas.{IsHandledIn, behind_orderly, hears_open, not_opened}
 use Rattle.rd_journals.proofs.WorkLemmas.{behind_working, grown_more}
 use Rattle.rd_journals.proofs.WritingLemmas.{AddsOwn, adds_own, hear_adds, list_own, removal_own}
-use Rattle.rd_journals.specs.Jobs.{AreFine, HasRoom, IsCompletionOf}
+use Rattle.rd_journals.specs.Jobs.{AreFine, FitsCompletion, IsCompletionOf}
 use Rattle.rd_journals.specs.Orderly.{IsNext, Orderly}
 use Rattle.rd_journals.specs.Stations.{AreFit}
 use Rattle.rd_pending.proofs.Neutral.{channel_kept}
@@ -113,11 +113,11 @@ direct_device r reply m done q =
     let is_head : head_in m ≡ Some h = rw read.1 refl in
     ap (λ (o : Option Head). option_map_or (λ (h : Head). h.device == q) o false) is_head
 
-directly : (r : Request) (st : Status) → HasRoom r → st.0 < 2 ^ 32 → BodyFits (kind_of r.op) st (fault st).body → (d : ℕ) (job : Job) (c index : ℕ) → d ≡ r.device → job ≡ job_of r c index → CompletesWith r (fault st) (client.direct_bytes job d st)
+directly : (r : Request) (st : Status) → FitsCompletion r → st.0 < 2 ^ 32 → BodyFits (kind_of r.op) st (fault st).body → (d : ℕ) (job : Job) (c index : ℕ) → d ≡ r.device → job ≡ job_of r c index → CompletesWith r (fault st) (client.direct_bytes job d st)
 directly r st room small fits d job c index device is =
     subst (λ (x : ℕ × Job). CompletesWith r (fault st) (client.direct_bytes x.1 x.0 st)) (λ i. (sym device i, sym is i)) (completes_with r (fault st) room (small, tt) fits)
 
-putting_turns : (w : WorldState) (d : ℕ) (job : Job) → w.kept ≡ None → AreFine HasRoom w.deeds → IsNext w.stations w.channels (w.client).asked w.deeds d job → NoneHeld w d job.completion
+putting_turns : (w : WorldState) (d : ℕ) (job : Job) → w.kept ≡ None → AreFine FitsCompletion w.deeds → IsNext w.stations w.channels (w.client).asked w.deeds d job → NoneHeld w d job.completion
     → Turns (Some (record { device = d; job = job })) ((w.client).core).outbox w.deeds ((w.client).core).fault (now w) → InTurn (putting w d job)
 putting_turns w d job free fines next none is = at (station_at w d) refl
   where
@@ -167,7 +167,7 @@ all_announced : (list : List Announce) (w : WorldState) → InTurn w → InTurn 
 all_announced [] w is = is
 all_announced (a ∷ list) w is = all_announced list (announcing w a.id) (announced_turns w a.id (station_at w a.id) is)
 
-hears_turns : (c : ℕ) (w : WorldState) (m : List ℕ) → Orderly w → now w ≡ Some c → w.kept ≡ None → AreFine HasRoom (client_reads w.channels m ∷ w.deeds) → ((r : Request) → request_in m ≡ Some r → NoneHeld w r.device r.completion)
+hears_turns : (c : ℕ) (w : WorldState) (m : List ℕ) → Orderly w → now w ≡ Some c → w.kept ≡ None → AreFine FitsCompletion (client_reads w.channels m ∷ w.deeds) → ((r : Request) → request_in m ≡ Some r → NoneHeld w r.device r.completion)
     → InTurn w → InTurn (client_hears w m)
 hears_turns c w m ordered opened free fines none is = by (client_hear w.client m) (hears w.client m) (hear_adds w.client m)
   where
@@ -388,7 +388,7 @@ module _ (lines : List NumberedLine) (starves : Key → Bool) (fit : AreFit (dec
       (subst (λ (x : Option Kept). Turns x ((w.client).core).outbox w.deeds ((w.client).core).fault (now w)) some is)
   part_turns w (collects_one d s after_it x) (reached, idle, there, made) before after ordered handled none is =
       collects_turns w d s after_it x there made idle ordered
-      (ready_completes (declared_devices (bare_lines lines)) w ordered (behind_working HasRoom IsReplyInRange lost_ranged runs_good lines starves w fit before (fines lines starves premises w before)) d s there x (was_ready s after_it x made)) is
+      (ready_completes (declared_devices (bare_lines lines)) w ordered (behind_working FitsCompletion IsReplyInRange lost_ranged runs_good lines starves w fit before (fines lines starves premises w before)) d s there x (was_ready s after_it x made)) is
   part_turns w (takes_one d hand s after_it job) may before after ordered handled none is = turns_inside w (with_station w d after_it) (stationed w d after_it) is
   part_turns w (applies_one hand d job None) may before after ordered handled none is = is
   part_turns w (applies_one hand d job (Some s)) may before after ordered handled none is =

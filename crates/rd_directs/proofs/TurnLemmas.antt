@@ -25,7 +25,7 @@ use Rattle.rd_irp.specs.Fits.{BodyFits, kind_of}
 use Rattle.rd_irp.specs.declared.completion.Head.{Head}
 use Rattle.rd_irp.specs.declared.request.Request.{Request}
 use Rattle.rd_journals.proofs.AskingLemmas.{HeardAs, hears}
-use Rattle.rd_journals.specs.Jobs.{AreFine, HasRoom}
+use Rattle.rd_journals.specs.Jobs.{AreFine, FitsCompletion}
 use Rattle.rd_journals.specs.Orderly.{IsNext, Orderly}
 use Rattle.rd_world.proofs.Messages.{head_read}
 use Rattle.rd_world.specs.Events.{deed_on}

@@ -19,7 +19,7 @@ use Rattle.rd_journals.proofs.RunLemmas.{orderly_lawful, reached_orderly}
 use Rattle.rd_journals.proofs.WorkLemmas.{behind_working, station_tied}
 use Rattle.rd_irp.specs.declared.completion.Reply.{Reply}
 use Rattle.rd_irp.specs.declared.request.Request.{Request}
-use Rattle.rd_runs.specs.Moves.{Move, Reached, draws, happens, idle, moved, queues}
+use Rattle.rd_runs.specs.Moves.{RunMove, Reached, draws, happens, idle, after_move, queues}
 use Rattle.rd_runs.specs.Premises.{RunPremises}
 use Rattle.rd_runs.proofs.BeginningLemmas.{Unset, begins_as}
 use Rattle.rd_runs.proofs.Parts.{reached_behind}
@@ -85,7 +85,7 @@ module _ (lines : List NumberedLine) (starves : Key → Bool) (premises : RunPre
   rising : IsStrictlySortedBy nat_cmp (keys_of devices)
   rising = (declared_openable lines premises.declared).rise
 
-  move_keyed : (w : WorldState) (m : Move) → keys_of w.stations ≡ keys_of devices → keys_of (moved starves w m).stations ≡ keys_of devices
+  move_keyed : (w : WorldState) (m : RunMove) → keys_of w.stations ≡ keys_of devices → keys_of (after_move starves w m).stations ≡ keys_of devices
   move_keyed w (happens e) same = acted_keys starves w e (subst (λ (ks : List ℕ). IsStrictlySortedBy nat_cmp ks) (sym same) rising) ∙ same
   move_keyed w (queues a) same = same
   move_keyed w (idle number) same = same

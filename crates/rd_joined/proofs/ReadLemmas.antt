@@ -1,10 +1,10 @@
--- A client reads no more requests than were accepted.
+-- A client reads_count no more requests than were accepted.
 use Rattle.std.proofs.Common.{◌≡◌, ◌∙◌, refl, sym, ap, subst, ℕ, zero, suc, ◌+◌, ◌<◌, ◌≤◌, ◌==◌, Bool, true, false, cond, arith, eq-eqb, eqb-true, inl, inr, List, [], ◌∷◌, ◌++◌, length, length-append, Some, None}
 use Rattle.std.specs.Prelude.{filter, if◌then◌else◌}
 use Rattle.std.specs.List.{cons_option}
 use Rattle.std.proofs.lemmas.Bool.{cases_order}
 use Rattle.std.proofs.lemmas.List.Elements.{filter-append}
-use Rattle.rd_journals.specs.Reads.{reads}
+use Rattle.rd_journals.specs.Reads.{reads_count}
 use Rattle.rd_pending.specs.History.{accepted_of, after}
 use Rattle.rd_pending.specs.Outcomes.{Accepted}
 use Rattle.rd_pending.proofs.Tame.{newest}
@@ -78,12 +78,12 @@ length_cons true m ms = by (is_request m)
 length_one : (m : List ℕ) (ms : List (List ℕ)) (c : ℕ) → is_request m ≡ true → length (filter is_request ms) + 1 ≤ length (filter is_request (cons_option (cond (c == c) (Some m) None) ms))
 length_one m ms c is = rw (eq-eqb c c refl, is) (omega arith)
 
-reads_summed : (deeds : List Deed) (n : ℕ) → top deeds ≤ n → reads deeds ≤ sum_to (read_on deeds) n
+reads_summed : (deeds : List Deed) (n : ℕ) → top deeds ≤ n → reads_count deeds ≤ sum_to (read_on deeds) n
 unfolding sum_to read_on top
 reads_summed [] n high = omega arith
 reads_summed (client_reads c message ∷ before) n high = by (is_request message) refl (reads_summed before n (omega (arith, high)))
   where
-    by : (b : Bool) → is_request message ≡ b → reads before ≤ sum_to (read_on before) n → (if b then suc (reads before) else reads before) ≤ sum_to (read_on (client_reads c message ∷ before)) n
+    by : (b : Bool) → is_request message ≡ b → reads_count before ≤ sum_to (read_on before) n → (if b then suc (reads_count before) else reads_count before) ≤ sum_to (read_on (client_reads c message ∷ before)) n
     by false is less = omega (arith, less, sum_least (read_on before) (read_on (client_reads c message ∷ before)) n (λ d. length_cons (c == d) message (client_read d before)))
     by true is less =
         omega (
@@ -178,7 +178,7 @@ read_few client deeds may carried c =
       length-append w.unsent (requests_on c deeds),
     )
 
-pub reads_few : (client : ℕ) (deeds : List Deed) → Does client deeds → IsCarried deeds → reads deeds ≤ count.accepted deeds
+pub reads_few : (client : ℕ) (deeds : List Deed) → Does client deeds → IsCarried deeds → reads_count deeds ≤ count.accepted deeds
 reads_few client deeds may carried =
     let n : ℕ = top deeds in
     omega (

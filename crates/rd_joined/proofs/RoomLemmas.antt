@@ -1,7 +1,7 @@
 -- The journals of a script's devices have room.
 use Rattle.std.proofs.Common.{ℕ, ◌+◌, ◌<◌, ◌≤◌, Bool, arith, length, List, [], ◌∷◌}
 use Rattle.rd_base.specs.declared.journal.Key.{Key}
-use Rattle.rd_journals.specs.Reads.{reads}
+use Rattle.rd_journals.specs.Reads.{reads_count}
 use Rattle.rd_journals.specs.Stations.{AreFit}
 use Rattle.rd_journals.proofs.RunLemmas.{reached_orderly}
 use Rattle.rd_journals.proofs.ShortLemmas.{orderly_short}
@@ -25,7 +25,7 @@ carried_now [] each = each
 carried_now (x ∷ before) each = each.0
 
 module _ (lines : List NumberedLine) (starves : Key → Bool) (premises : RunPremises lines) (w : WorldState) (r : Reached lines starves w) where
-  pub read_few : reads w.deeds ≤ length lines + 2
+  pub read_few : reads_count w.deeds ≤ length lines + 2
   read_few =
       let k = known lines starves premises w r in
       omega (arith, reads_few client_id w.deeds k.stands.host.may (carried_now w.deeds k.carries.each), accepted_few lines starves w r)

@@ -7,7 +7,7 @@ ghost use Rattle.rd_base.specs.History.{History};
 ghost use Rattle.rd_base.specs.Lawful.{RunsAt};
 ghost use Rattle.rd_chunk.specs.Carrier.{IsMessage};
 ghost use Rattle.rd_drive.specs.Replies.{AreToldBy};
-ghost use Rattle.rd_journals.specs.Reads.{cuts, reads};
+ghost use Rattle.rd_journals.specs.Reads.{cuts, reads_count};
 ghost use Rattle.rd_journals.specs.Stations.{AreFit};
 ghost use Rattle.rd_runs.specs.Moves.{Reached};
 ghost use Rattle.rd_runs.specs.Premises.{RunPremises};
@@ -33,9 +33,9 @@ pub fn cuts_are_few()
     ensures { (lines : List NumberedLine) (starves : Key → Bool) (w : WorldState) → AreFit (declared_devices (bare_lines lines)) → Reached lines starves w → (device : ℕ) → cuts (journal device w.deeds) ≤ length lines + 2 }
 {}
 
-/// A client reads no more requests than there are lines and two.
+/// A client reads_count no more requests than there are lines and two.
 pub fn reads_are_few()
-    ensures { (lines : List NumberedLine) (starves : Key → Bool) (w : WorldState) → RunPremises lines → Reached lines starves w → reads w.deeds ≤ length lines + 2 }
+    ensures { (lines : List NumberedLine) (starves : Key → Bool) (w : WorldState) → RunPremises lines → Reached lines starves w → reads_count w.deeds ≤ length lines + 2 }
 {}
 
 /// So in no run of a script a device's journal is worn.
@@ -73,7 +73,7 @@ pub fn sessions_run_in_order()
         AreAnswered replies w.deeds → Joins client_id replies w.deeds }
 {}
 
-/// What is written in every session of a script is of a message's size, and the client reads and writes on the channel that is open: two fields of what a recording holds.
+/// What is written in every session of a script is of a message's size, and the client reads_count and writes on the channel that is open: two fields of what a recording holds.
 pub fn sessions_are_recorded()
     ensures fit { (m : Mode) (text : List ℕ) (script : Script) (starves : Key → Bool) (w : WorldState) → script_of m text ≡ Ok script → Reached script.lines starves w → All (λ deed. IfSome (written_by deed) IsMessage) w.deeds }
     ensures on_open { (m : Mode) (text : List ℕ) (script : Script) (starves : Key → Bool) (w : WorldState) → script_of m text ≡ Ok script → Reached script.lines starves w → EachAfter (λ before deed. IfSome (client_channel deed) (λ c. open_channel before ≡ Some c)) w.deeds }

@@ -55,7 +55,7 @@ use Rattle.rd_station.specs.Station.{is_key}
 use Rattle.rd_runs.specs.Premises.{RunPremises}
 use Rattle.rd_world.specs.Told.{came}
 use Rattle.rd_journals.proofs.HeldLemmas.{stored_deeds}
-use Rattle.rd_journals.specs.Jobs.{AreFine, HasRoom}
+use Rattle.rd_journals.specs.Jobs.{AreFine, FitsCompletion}
 use Rattle.rd_drive.specs.Outcome.{fault}
 use Rattle.std.proofs.Common.{lit<, ◌^◌}
 use Rattle.std.proofs.lemmas.List.{reverse-append}
@@ -72,7 +72,7 @@ use Rattle.rd_world.specs.Devices.{device_step}
 use Rattle.rd_world.specs.Recording.{no_request}
 use Rattle.rd_world.specs.Session.{replies_read, request_read}
 use Rattle.rd_world.specs.Told.{CompletesWith}
-use Rattle.rd_journals.specs.Jobs.{AnswersRead, AreSpelled, IsAnswerOf, IsCompletionOf, IsRefusal, IsSent, IsSource, IsSpelled, IsTiedTo}
+use Rattle.rd_journals.specs.Jobs.{AnswersRead, AreSpelled, IsAnswerOf, IsCompletionOf, IsRefusalOf, IsSent, IsSource, IsSpelledOut, IsTiedTo}
 use Rattle.rd_journals.proofs.CameLemmas.{fines, never_came, was_ready}
 use Rattle.rd_journals.proofs.CompletionLemmas.{completes as completes_with, lost_ranged, ready_completes, runs_good}
 use Rattle.rd_journals.proofs.ServingLemmas.{behind_standing, came_is_named}
@@ -88,13 +88,13 @@ answer_grown Given deeds deeds' grown key m is = record { request = is.request; 
 
 module _ {devices : List (ℕ × Declared)} {outbox : List Outgoing} {deeds : List Deed} (is : AreSpelled devices outbox deeds) where
   spelled_deed : (y : Deed) → AnswersRead devices deeds y → AreSpelled devices outbox (y ∷ deeds)
-  spelled_deed y own = record { out = λ o has key e. answer_grown IsRefusal deeds (y ∷ deeds) (grown_deed y deeds) key o.message (is.out o has key e); each = (own, is.each) }
+  spelled_deed y own = record { out = λ o has key e. answer_grown IsRefusalOf deeds (y ∷ deeds) (grown_deed y deeds) key o.message (is.out o has key e); each = (own, is.each) }
 
-  spelled_more : (o : Outgoing) → ((key : Key) → o.answers ≡ Some key → IsAnswerOf IsRefusal deeds key o.message) → AreSpelled devices (outbox ++ o ∷ []) deeds
+  spelled_more : (o : Outgoing) → ((key : Key) → o.answers ≡ Some key → IsAnswerOf IsRefusalOf deeds key o.message) → AreSpelled devices (outbox ++ o ∷ []) deeds
   spelled_more o own = record {
     out = λ x has key e. elim (has_append x outbox (o ∷ []) has) [
       | inl before ↦ is.out x before key e
-      | inr last ↦ elim last [ inl same ↦ subst (λ (y : Outgoing). IsAnswerOf IsRefusal deeds key y.message) (sym same) (own key (ap (λ (y : Outgoing). y.answers) (sym same) ∙ e)) | inr none ↦ absurd none ]
+      | inr last ↦ elim last [ inl same ↦ subst (λ (y : Outgoing). IsAnswerOf IsRefusalOf deeds key y.message) (sym same) (own key (ap (λ (y : Outgoing). y.answers) (sym same) ∙ e)) | inr none ↦ absurd none ]
     ];
     each = is.each;
   }
@@ -133,14 +133,14 @@ spelled_inside {devices = devices} {outbox = out} w v inside is = subst (AreSpel
 module _ (devices : List (ℕ × Declared)) where
   -- ---- a job comes
 
-  directly : (r : Request) (st : Status) → HasRoom r → st.0 < 2 ^ 32 → BodyFits (kind_of r.op) st (fault st).body → (d : ℕ) (job : Job) (c index : ℕ) → d ≡ r.device → job ≡ job_of r c index → CompletesWith r (fault st) (client.direct_bytes job d st)
+  directly : (r : Request) (st : Status) → FitsCompletion r → st.0 < 2 ^ 32 → BodyFits (kind_of r.op) st (fault st).body → (d : ℕ) (job : Job) (c index : ℕ) → d ≡ r.device → job ≡ job_of r c index → CompletesWith r (fault st) (client.direct_bytes job d st)
   directly r st room small fits d job c index device is =
       subst (λ (x : ℕ × Job). CompletesWith r (fault st) (client.direct_bytes x.1 x.0 st)) (λ i. (sym device i, sym is i)) (completes_with r (fault st) room (small, tt) fits)
 
-  direct_spelled : (w : WorldState) (d : ℕ) (job : Job) (st : Status) → st.0 < 2 ^ 32 → ((r : Request) → BodyFits (kind_of r.op) st (fault st).body) → ((r : Request) → IsRefusal r (fault st)) → AreFine HasRoom w.deeds → IsNext w.stations w.channels (w.client).asked w.deeds d job → IsSpelled devices w
-      → IsSpelled devices (answers_directly w d job st)
+  direct_spelled : (w : WorldState) (d : ℕ) (job : Job) (st : Status) → st.0 < 2 ^ 32 → ((r : Request) → BodyFits (kind_of r.op) st (fault st).body) → ((r : Request) → IsRefusalOf r (fault st)) → AreFine FitsCompletion w.deeds → IsNext w.stations w.channels (w.client).asked w.deeds d job → IsSpelledOut devices w
+      → IsSpelledOut devices (answers_directly w d job st)
   direct_spelled w d job st small fits refusal fines next is =
-      spelled_more is (record { message = client.direct_bytes job d st; answers = Some job.key }) (λ key e. let same : job.key ≡ key = cc in subst (λ (k : Key). IsAnswerOf IsRefusal w.deeds k (client.direct_bytes job d st)) same (record {
+      spelled_more is (record { message = client.direct_bytes job d st; answers = Some job.key }) (λ key e. let same : job.key ≡ key = cc in subst (λ (k : Key). IsAnswerOf IsRefusalOf w.deeds k (client.direct_bytes job d st)) same (record {
         request = next.request;
         reply = fault st;
         read = ap (λ (n : ℕ). request_at (client_read n w.deeds) job.key.index) next.channel ∙ next.read;
@@ -148,20 +148,20 @@ module _ (devices : List (ℕ × Declared)) where
         given = refusal next.request;
       }))
 
-  putting_spelled : (w : WorldState) (d : ℕ) (job : Job) → AreFine HasRoom w.deeds → IsNext w.stations w.channels (w.client).asked w.deeds d job → IsSpelled devices w → IsSpelled devices (putting w d job)
+  putting_spelled : (w : WorldState) (d : ℕ) (job : Job) → AreFine FitsCompletion w.deeds → IsNext w.stations w.channels (w.client).asked w.deeds d job → IsSpelledOut devices w → IsSpelledOut devices (putting w d job)
   putting_spelled w d job fines next is = at (station_at w d)
     where
-      gone : IsSpelled devices (answers_directly w d job no_such_device)
+      gone : IsSpelledOut devices (answers_directly w d job no_such_device)
       gone = direct_spelled w d job no_such_device (lit< tt) (λ r. (refl, tt)) (λ r. inl refl) fines next is
 
-      short : IsSpelled devices (answers_directly w d job insufficient_resources)
+      short : IsSpelledOut devices (answers_directly w d job insufficient_resources)
       short = direct_spelled w d job insufficient_resources (lit< tt) (λ r. (refl, tt)) (λ r. inr refl) fines next is
 
-      told : (b : Bool) → IsSpelled devices (answers_directly w d job (if b then insufficient_resources else no_such_device))
+      told : (b : Bool) → IsSpelledOut devices (answers_directly w d job (if b then insufficient_resources else no_such_device))
       told true = short
       told false = gone
 
-      here : (s : Of) (refusal : Option PutWhy) → IsSpelled devices (put_by w d job (put_unless s job refusal))
+      here : (s : Of) (refusal : Option PutWhy) → IsSpelledOut devices (put_by w d job (put_unless s job refusal))
       here s None = spelled_inside w (with_station w d (put_unless s job None).0) (stationed w d (put_unless s job None).0) is
       here s (Some why.Gone) = told (is_device_told w d)
       here s (Some (why.Full count)) = is
@@ -169,34 +169,34 @@ module _ (devices : List (ℕ × Declared)) where
       here s (Some (why.Duplicate key)) = is
       here s (Some why.Memory) = is
 
-      at : (o : Option Of) → IsSpelled devices (put_at w d job o)
+      at : (o : Option Of) → IsSpelledOut devices (put_at w d job o)
       at None = gone
       at (Some s) = here s (put_refusal s job)
 
   -- ---- a message is heard
 
-  announced_spelled : (w : WorldState) (d : ℕ) (o : Option Of) → IsSpelled devices w → IsSpelled devices (announced_by w d o)
+  announced_spelled : (w : WorldState) (d : ℕ) (o : Option Of) → IsSpelledOut devices w → IsSpelledOut devices (announced_by w d o)
   announced_spelled w d None is = is
   announced_spelled w d (Some s) is = spelled_inside w (with_station w d (station.announce s).0) (stationed w d (station.announce s).0) is
 
-  all_announced : (list : List Announce) (w : WorldState) → IsSpelled devices w → IsSpelled devices (fold (λ x (a : Announce). announcing x a.id) w list)
+  all_announced : (list : List Announce) (w : WorldState) → IsSpelledOut devices w → IsSpelledOut devices (fold (λ x (a : Announce). announcing x a.id) w list)
   all_announced [] w is = is
   all_announced (a ∷ list) w is = all_announced list (announcing w a.id) (announced_spelled w a.id (station_at w a.id) is)
 
-  hears_spelled : (c : ℕ) (w : WorldState) (m : List ℕ) → Orderly w → ((w.side).table).channel ≡ Some c → w.kept ≡ None → AreFine HasRoom (client_reads w.channels m ∷ w.deeds) → IsSpelled devices w → IsSpelled devices (client_hears w m)
+  hears_spelled : (c : ℕ) (w : WorldState) (m : List ℕ) → Orderly w → ((w.side).table).channel ≡ Some c → w.kept ≡ None → AreFine FitsCompletion (client_reads w.channels m ∷ w.deeds) → IsSpelledOut devices w → IsSpelledOut devices (client_hears w m)
   hears_spelled c w m ordered opened free fines is = by (client_hear w.client m) (hears w.client m) (hear_adds w.client m)
     where
-      read : (x : ClientCoreState) → AddsOwn ((w.client).core).outbox (x.core).outbox → IsSpelled devices (read_by c w m ordered opened free x)
+      read : (x : ClientCoreState) → AddsOwn ((w.client).core).outbox (x.core).outbox → IsSpelledOut devices (read_by c w m ordered opened free x)
       read x grew = spelled_own (spelled_deed is (client_reads w.channels m) tt) grew
 
-      opening : (shake : ClientState) (x : WorldState) → IsSpelled devices x → IsSpelled devices (after_opening shake x)
+      opening : (shake : ClientState) (x : WorldState) → IsSpelledOut devices x → IsSpelledOut devices (after_opening shake x)
       opening shake x spelled = go (client.becomes_ready shake ((x.client).core).shake)
         where
-          go : (b : Bool) → IsSpelled devices (if b then fold (λ y (a : Announce). announcing y a.id) x (listed x.client) else x)
+          go : (b : Bool) → IsSpelledOut devices (if b then fold (λ y (a : Announce). announcing y a.id) x (listed x.client) else x)
           go true = all_announced (listed x.client) x spelled
           go false = spelled
 
-      by : (r : ClientCoreState × Result Heard EndFault) → HeardAs w.client m r → AddsOwn ((w.client).core).outbox ((r.0).core).outbox → IsSpelled devices (heard_by_client ((w.client).core).shake (read_by c w m ordered opened free r.0) r.1)
+      by : (r : ClientCoreState × Result Heard EndFault) → HeardAs w.client m r → AddsOwn ((w.client).core).outbox ((r.0).core).outbox → IsSpelledOut devices (heard_by_client ((w.client).core).shake (read_by c w m ordered opened free r.0) r.1)
       by (x, Err wrong) heard grew = read x grew
       by (x, Ok (heard.Print n)) heard grew = read x grew
       by (x, Ok heard.Nothing) heard grew = opening ((w.client).core).shake (read_by c w m ordered opened free x) (read x grew)
@@ -207,20 +207,20 @@ module _ (devices : List (ℕ × Declared)) where
 
   -- ---- channels
 
-  connects_spelled : (w : WorldState) → IsSpelled devices w → IsSpelled devices (connects w)
-  connects_spelled w is = subst (λ (x : WorldState). IsSpelled devices (begun_on w x)) (sym (all_refreshed (map (λ (e : ℕ × PrinterNames). e.0) w.printers) w)) so
+  connects_spelled : (w : WorldState) → IsSpelledOut devices w → IsSpelledOut devices (connects w)
+  connects_spelled w is = subst (λ (x : WorldState). IsSpelledOut devices (begun_on w x)) (sym (all_refreshed (map (λ (e : ℕ × PrinterNames). e.0) w.printers) w)) so
     where
       so : AreSpelled devices [] (deed.host_begins (w.channels + 1) ∷ w.deeds)
       so = spelled_deed (spelled_fewer is [] (λ o has. absurd has)) (deed.host_begins (w.channels + 1)) tt
 
-  cutting_spelled : (w : WorldState) → IsSpelled devices w → IsSpelled devices (cutting w)
+  cutting_spelled : (w : WorldState) → IsSpelledOut devices w → IsSpelledOut devices (cutting w)
   cutting_spelled w is =
       let cut : WorldState = fold dropping w (map (λ (e : ℕ × Of). e.0) w.stations) in
       spelled_deed (spelled_inside w cut (all_dropped_inside (map (λ (e : ℕ × Of). e.0) w.stations) w) (spelled_fewer is [] (λ o has. absurd has))) (deed.host_ends cut.channels) tt
 
   -- ---- a client sends
 
-  client_sends_spelled : (w : WorldState) → Orderly w → IsStanding w → IsSpelled devices w → IsSpelled devices (client_sends_next w)
+  client_sends_spelled : (w : WorldState) → Orderly w → IsStanding w → IsSpelledOut devices w → IsSpelledOut devices (client_sends_next w)
   client_sends_spelled w ordered stands is = by ((w.client).core).outbox refl
     where
       sent : (o : Outgoing) (others : List Outgoing) → ((w.client).core).outbox ≡ o ∷ others → (answers : Option Key) → o.answers ≡ answers
@@ -230,7 +230,7 @@ module _ (devices : List (ℕ × Declared)) where
           less : AreSpelled devices others w.deeds
           less = spelled_fewer is others (λ x has. subst (Has x) (sym e) (inr has))
 
-          unserved : (key : Key) → IsUnserved w.channels (w.client).asked w.stations (pending_of w.kept) key → IsAnswerOf IsRefusal w.deeds key o.message → IsAnswerOf (IsSource devices w.deeds key) w.deeds key o.message
+          unserved : (key : Key) → IsUnserved w.channels (w.client).asked w.stations (pending_of w.kept) key → IsAnswerOf IsRefusalOf w.deeds key o.message → IsAnswerOf (IsSource devices w.deeds key) w.deeds key o.message
           unserved key u own = record {
             request = own.request;
             reply = own.reply;
@@ -243,20 +243,20 @@ module _ (devices : List (ℕ × Declared)) where
           by None same = spelled_deed less (deed.client_writes w.channels o.message) tt
           by (Some key) same = spelled_deed less (deed.completes key o.message) (unserved key (subst (λ (y : Option Key). IsOut (IsUnserved w.channels (w.client).asked w.stations (pending_of w.kept)) y o.message) same (stands.out o (subst (Has o) (sym e) (inl refl)))) (is.out o (subst (Has o) (sym e) (inl refl)) key same))
 
-      by : (messages : List Outgoing) → ((w.client).core).outbox ≡ messages → let r = core.send_from (w.client).core messages in IsSpelled devices (client_sends_first w (record w.client { core = r.0 }, r.1))
+      by : (messages : List Outgoing) → ((w.client).core).outbox ≡ messages → let r = core.send_from (w.client).core messages in IsSpelledOut devices (client_sends_first w (record w.client { core = r.0 }, r.1))
       by [] e = is
       by (o ∷ others) e = sent o others e o.answers refl
 
   collects_spelled : (w : WorldState) (d : ℕ) (s after : Of) (x : Completion) → station_at w d ≡ Some s → station.collect s ≡ (after, Some x) → Orderly w → IsCompletionOf w.deeds d x
-      → (y : Declared) × (lookup (is_at (nat_cmp d)) devices ≡ Some y) × IsTiedTo w.deeds y s → IsSpelled devices w
-      → IsSpelled devices (client_sends (with_station w d after) (completes x.key (completion_message d x)) (completion_message d x))
+      → (y : Declared) × (lookup (is_at (nat_cmp d)) devices ≡ Some y) × IsTiedTo w.deeds y s → IsSpelledOut devices w
+      → IsSpelledOut devices (client_sends (with_station w d after) (completes x.key (completion_message d x)) (completion_message d x))
   collects_spelled w d s after x there made ordered of (y, at, tied) is =
       spelled_deed (spelled_inside w left (stationed w d after) is) (completes x.key (completion_message d x)) (record {
         request = of.request;
         reply = x.reply;
         read = grown_inside w left (stationed w d after) (x.key).channel (x.key).index of.request of.read;
         completes = of.completes;
-        given = subst (λ (n : ℕ). IsSent devices n x.key x.reply left.deeds ⊎ ((Has (Cancelled x.key) (journal n left.deeds) × (x.reply ≡ cancellation)) ⊎ ((came (x.key).channel (journal n left.deeds) (x.key).index ≡ false) × IsRefusal of.request x.reply)))
+        given = subst (λ (n : ℕ). IsSent devices n x.key x.reply left.deeds ⊎ ((Has (Cancelled x.key) (journal n left.deeds) × (x.reply ≡ cancellation)) ⊎ ((came (x.key).channel (journal n left.deeds) (x.key).index ≡ false) × IsRefusalOf of.request x.reply)))
             (sym of.device) (by (All-contains (λ (c : Completion). IsAnswer (replies_by device_step device_cut (request_read w.deeds) y.state s.journal) s.journal c.key c.reply) s.ready x tied.ready (to_contains s.ready x (was_ready s after x made))));
       })
     where
@@ -293,7 +293,7 @@ module _ (devices : List (ℕ × Declared)) where
           ∙ ap (λ (f : Key → Request). replies_by device_step device_cut f y.state s.journal) requests
 
       by : IsAnswer (replies_by device_step device_cut (request_read w.deeds) y.state s.journal) s.journal x.key x.reply
-          → IsSent devices d x.key x.reply left.deeds ⊎ ((Has (Cancelled x.key) (journal d left.deeds) × (x.reply ≡ cancellation)) ⊎ ((came (x.key).channel (journal d left.deeds) (x.key).index ≡ false) × IsRefusal of.request x.reply))
+          → IsSent devices d x.key x.reply left.deeds ⊎ ((Has (Cancelled x.key) (journal d left.deeds) × (x.reply ≡ cancellation)) ⊎ ((came (x.key).channel (journal d left.deeds) (x.key).index ≡ false) × IsRefusalOf of.request x.reply))
       by (inl given) = inl (record { earlier = s.journal; later = []; stands = all; given = subst (λ (rs : List KeyedReply). Contains rs (x.key, x.reply)) (sym gives) given })
       by (inr (cancelled, same)) = inr (inl (
         subst (λ (js : List Item). Has (Cancelled x.key) js) (sym own) (inr (contains_has (Cancelled x.key) (journal d w.deeds) (subst (λ (js : List Item). Contains js (Cancelled x.key)) (sym told) cancelled))),
@@ -302,17 +302,17 @@ module _ (devices : List (ℕ × Declared)) where
 
   -- ---- devices go and come
 
-  removes_spelled : (w : WorldState) (d : ℕ) (o : Option Of) → IsSpelled devices w → IsSpelled devices (cut_by (told_removed w d) d o)
+  removes_spelled : (w : WorldState) (d : ℕ) (o : Option Of) → IsSpelledOut devices w → IsSpelledOut devices (cut_by (told_removed w d) d o)
   removes_spelled w d o is = by o
     where
-      told : IsSpelled devices (told_removed w d)
+      told : IsSpelledOut devices (told_removed w d)
       told = spelled_own (spelled_deed is (deed.removes d) tt) (adds_own ((w.client).core).outbox (removal_bytes (d ∷ [])) (removal_own (d ∷ [])))
 
-      by : (o : Option Of) → IsSpelled devices (cut_by (told_removed w d) d o)
+      by : (o : Option Of) → IsSpelledOut devices (cut_by (told_removed w d) d o)
       by None = told
       by (Some s) = let new : Of = (station.remove s (device_cut s.device).state).0 in spelled_inside (told_removed w d) (with_station (told_removed w d) d new) (stationed (told_removed w d) d new) told
 
-  adds_spelled : (w : WorldState) (d : ℕ) (names : Option PrinterNames) (o : Option Of) → IsSpelled devices w → IsSpelled devices (announced_by (told_added (refreshed_by w d names) d) d o)
+  adds_spelled : (w : WorldState) (d : ℕ) (names : Option PrinterNames) (o : Option Of) → IsSpelledOut devices w → IsSpelledOut devices (announced_by (told_added (refreshed_by w d names) d) d o)
   adds_spelled w d None o is =
       announced_spelled (told_added w d) d o (spelled_own (spelled_deed is (deed.adds d) tt) (adds_own ((w.client).core).outbox (list_bytes (listed_one w.client d)) (list_own (listed_one w.client d))))
   adds_spelled w d (Some names) o is =
@@ -326,7 +326,7 @@ module _ (lines : List NumberedLine) (starves : Key → Bool) (fit : AreFit (dec
   abbrev devs : List (ℕ × Declared)
   devs = declared_devices (bare_lines lines)
 
-  part_spelled : (w : WorldState) (p : Part) → MayBe lines starves w p → IsBehind lines starves w → IsBehind lines starves (done starves w p) → Orderly w → IsHandledIn w → IsSpelled (declared_devices (bare_lines lines)) w → IsSpelled (declared_devices (bare_lines lines)) (done starves w p)
+  part_spelled : (w : WorldState) (p : Part) → MayBe lines starves w p → IsBehind lines starves w → IsBehind lines starves (done starves w p) → Orderly w → IsHandledIn w → IsSpelledOut (declared_devices (bare_lines lines)) w → IsSpelledOut (declared_devices (bare_lines lines)) (done starves w p)
   part_spelled w (accepts a asked named t number) may before after ordered handled is = spelled_deed is (deed.submits a named asked.op) tt
   part_spelled w (refuses a asked cause) may before after ordered handled is = is
   part_spelled w (hands_out a number t had None) may before after ordered handled is = spelled_deed is (deed.takes number) tt
@@ -338,7 +338,7 @@ module _ (lines : List NumberedLine) (starves : Key → Bool) (fit : AreFit (dec
   part_spelled w (tells_one n) may before after ordered handled is = spelled_deed is (deed.tells n) tt
   part_spelled w begins may before after ordered handled is = connects_spelled devs w is
   part_spelled w ends may before after ordered handled is = cutting_spelled devs w is
-  part_spelled w (client_sends_one x o) made before after ordered handled is = subst (λ (r : ClientCoreState × Option Outgoing). IsSpelled (declared_devices (bare_lines lines)) (client_sends_first w r)) made (client_sends_spelled devs w ordered (behind_standing lines starves w fit before) is)
+  part_spelled w (client_sends_one x o) made before after ordered handled is = subst (λ (r : ClientCoreState × Option Outgoing). IsSpelledOut (declared_devices (bare_lines lines)) (client_sends_first w r)) made (client_sends_spelled devs w ordered (behind_standing lines starves w fit before) is)
   part_spelled w (client_gets n) may before after ordered handled is = is
   part_spelled w client_keeps_part may before after ordered handled is = is
   part_spelled w (client_hears_one m rest) (kept, some) before after ordered handled is =
@@ -350,8 +350,8 @@ module _ (lines : List NumberedLine) (starves : Key → Bool) (fit : AreFit (dec
       (subst (λ (ds : List Deed). request_at (client_read n ds) k ≡ Some r) (sym inside.deeds) (grown_more inside.more read n k r e))) is
   part_spelled w (tries_one k) some before after ordered handled is = putting_spelled devs (record w { kept = None }) k.device k.job (fines lines starves premises w before) (ordered.kept_next k some) is
   part_spelled w (collects_one d s after_it x) (reached, idle, there, made) before after ordered handled is =
-      collects_spelled devs w d s after_it x there made ordered (ready_completes (declared_devices (bare_lines lines)) w ordered (behind_working HasRoom IsReplyInRange lost_ranged runs_good lines starves w fit before (fines lines starves premises w before)) d s there x (was_ready s after_it x made))
-      (station_tied HasRoom IsReplyInRange devs w fit (behind_working HasRoom IsReplyInRange lost_ranged runs_good lines starves w fit before (fines lines starves premises w before)) d s there) is
+      collects_spelled devs w d s after_it x there made ordered (ready_completes (declared_devices (bare_lines lines)) w ordered (behind_working FitsCompletion IsReplyInRange lost_ranged runs_good lines starves w fit before (fines lines starves premises w before)) d s there x (was_ready s after_it x made))
+      (station_tied FitsCompletion IsReplyInRange devs w fit (behind_working FitsCompletion IsReplyInRange lost_ranged runs_good lines starves w fit before (fines lines starves premises w before)) d s there) is
   part_spelled w (takes_one d hand s after_it job) may before after ordered handled is = spelled_inside w (with_station w d after_it) (stationed w d after_it) is
   part_spelled w (applies_one hand d job None) may before after ordered handled is = is
   part_spelled w (applies_one hand d job (Some s)) may before after ordered handled is =
@@ -362,13 +362,13 @@ module _ (lines : List NumberedLine) (starves : Key → Bool) (fit : AreFit (dec
   part_spelled w (idle_one number) may before after ordered handled is = is
   part_spelled w draws_one may before after ordered handled is = is
 
-  begins_spelled : IsSpelled (declared_devices (bare_lines lines)) (world_of lines)
-  begins_spelled = subst (IsSpelled devs) (sym (begun_by lines _ (lines_begin lines))) (first (declared_devices (bare_lines lines)) (applications_of (bare_lines lines)))
+  begins_spelled : IsSpelledOut (declared_devices (bare_lines lines)) (world_of lines)
+  begins_spelled = subst (IsSpelledOut devs) (sym (begun_by lines _ (lines_begin lines))) (first (declared_devices (bare_lines lines)) (applications_of (bare_lines lines)))
     where
-      first : (es : List (ℕ × Declared)) (applications : List (ℕ × ApplicationState)) → IsSpelled (declared_devices (bare_lines lines)) (new_world es applications)
+      first : (es : List (ℕ × Declared)) (applications : List (ℕ × ApplicationState)) → IsSpelledOut (declared_devices (bare_lines lines)) (new_world es applications)
       first es applications = record { out = λ o has. absurd has; each = tt }
 
-  pub reached_spelled : (w : WorldState) → Reached lines starves w → IsSpelled (declared_devices (bare_lines lines)) w
+  pub reached_spelled : (w : WorldState) → Reached lines starves w → IsSpelledOut (declared_devices (bare_lines lines)) w
   reached_spelled w reached =
-      by_parts lines starves (IsSpelled devs) begins_spelled
+      by_parts lines starves (IsSpelledOut devs) begins_spelled
       (λ x p before after may is. let both = behind_orderly lines starves x fit before in part_spelled x p may before after both.0 both.1 is) w (reached_behind lines starves w reached)

@@ -19,7 +19,7 @@ use Rattle.rd_world.specs.Told.{came, came_as}
 use Rattle.rd_world.proofs.Joined.{carried_now}
 use Rattle.rd_world.specs.Recording.{client_id}
 use Rattle.rd_journals.proofs.RoomLemmas.{read_roomy}
-use Rattle.rd_journals.specs.Jobs.{AreFine, HasRoom}
+use Rattle.rd_journals.specs.Jobs.{AreFine, FitsCompletion}
 
 abbrev Of : Type 0
 Of = StationState SessionDevice
@@ -67,5 +67,5 @@ was_ready s after x = by s.ready
     by [] same = let nothing : None ≡ Some x = ap (λ (r : Of × Option Completion). r.1) same in absurd (cc (nothing))
     by (y ∷ ys) same = let one : Some y ≡ Some x = ap (λ (r : Of × Option Completion). r.1) same in let equal : y ≡ x = cc in inl (sym equal)
 
-pub fines : (lines : List NumberedLine) (starves : Key → Bool) (premises : RunPremises lines) (w : WorldState) → IsBehind lines starves w → AreFine HasRoom w.deeds
+pub fines : (lines : List NumberedLine) (starves : Key → Bool) (premises : RunPremises lines) (w : WorldState) → IsBehind lines starves w → AreFine FitsCompletion w.deeds
 fines lines starves premises w behind = let k = knows lines starves premises w behind in read_roomy client_id w.deeds k.stands.host.may (carried_now w.deeds k.carries.each)

@@ -31,7 +31,7 @@ use Rattle.rd_world.specs.Told.{CompletesWith}
 use Rattle.rd_world.specs.World.{WorldState, station_at}
 use Rattle.rd_world.specs.declared.device.SessionDevice.{SessionDevice}
 use Rattle.rd_world.specs.declared.device.SessionDevice.TheVariants as session
-use Rattle.rd_journals.specs.Jobs.{AreWorking, HasRoom, IsCompletionOf}
+use Rattle.rd_journals.specs.Jobs.{AreWorking, FitsCompletion, IsCompletionOf}
 use Rattle.rd_journals.specs.Orderly.{Orderly}
 use Rattle.rd_journals.proofs.OwnLemmas.{IsGood}
 
@@ -53,7 +53,7 @@ each_end [] all e none = absurd none
 each_end (x ∷ es) all e (inl same) = subst (λ (y : End). IsReplyInRange y.reply) (sym same) all.0
 each_end (x ∷ es) all e (inr there) = each_end es all.1 e there
 
-pub runs_good : (r : Request) (s : SessionDevice) (planned : Planned) (moment : ℕ) (came : Stepped SessionDevice) → HasRoom r → planned.job.op ≡ r.op → device_runs s planned moment came.answer came.ends came.state → IsGood IsReplyInRange came
+pub runs_good : (r : Request) (s : SessionDevice) (planned : Planned) (moment : ℕ) (came : Stepped SessionDevice) → FitsCompletion r → planned.job.op ≡ r.op → device_runs s planned moment came.answer came.ends came.state → IsGood IsReplyInRange came
 runs_good r s planned moment came room same runs =
     let few : SetsFew planned.job.op = subst SetsFew (sym same) room.2 in
     let ranged : IsSteppedInRange came = subst IsSteppedInRange runs (ran_ranged s planned.job.key planned.job.file planned.job.op moment (is_starved came.answer) few) in
@@ -61,7 +61,7 @@ runs_good r s planned moment came room same runs =
 
 -- ---- bytes
 
-pub completes : (r : Request) (reply : Reply) → HasRoom r → IsReplyInRange reply → BodyFits (kind_of r.op) reply.status reply.body
+pub completes : (r : Request) (reply : Reply) → FitsCompletion r → IsReplyInRange reply → BodyFits (kind_of r.op) reply.status reply.body
     → CompletesWith r reply (completion_bytes (kind_of r.op) (record { device = r.device; completion = r.completion; status = reply.status }) reply.body)
 completes r reply room range fits = record {
   head = head_spelled head body (length (drop 16 (head_bytes head ++ body))) (ap length (sym (body_after_head head body))) room.0 room.1 range.0;
@@ -75,7 +75,7 @@ completes r reply room range fits = record {
     body : List ℕ
     body = body_bytes (kind_of r.op) reply.body
 
-pub ready_completes : (devices : List (ℕ × Declared)) (w : WorldState) → Orderly w → AreWorking HasRoom IsReplyInRange devices w.stations w.hands w.deeds → (d : ℕ) (s : StationState SessionDevice) → station_at w d ≡ Some s
+pub ready_completes : (devices : List (ℕ × Declared)) (w : WorldState) → Orderly w → AreWorking FitsCompletion IsReplyInRange devices w.stations w.hands w.deeds → (d : ℕ) (s : StationState SessionDevice) → station_at w d ≡ Some s
     → (x : Completion) → Has x s.ready → IsCompletionOf w.deeds d x
 ready_completes devices w ordered is d s there x has =
     let (k, range) = (is.owned d s there).ready x has in

@@ -54,7 +54,7 @@ use Rattle.rd_station.specs.Station.{is_key}
 use Rattle.rd_runs.specs.Premises.{RunPremises}
 use Rattle.rd_world.proofs.Messages.{head_read}
 use Rattle.rd_world.specs.Told.{came, is_of_device, sent, told}
-use Rattle.rd_journals.specs.Jobs.{HasRoom, IsCompletionOf}
+use Rattle.rd_journals.specs.Jobs.{FitsCompletion, IsCompletionOf}
 use Rattle.rd_journals.specs.Told.{InOrder}
 use Rattle.rd_journals.proofs.CameLemmas.{came_true, fines, never_came, was_ready}
 use Rattle.rd_journals.proofs.CompletionLemmas.{lost_ranged, ready_completes, runs_good}
@@ -405,7 +405,7 @@ module _ (lines : List NumberedLine) (starves : Key → Bool) (fit : AreFit (dec
   part_order w (tries_one k) some before after ordered is = putting_order (record w { kept = None }) k.device k.job (behind_standing lines starves (done starves w (tries_one k)) fit after).stand is
   part_order w (collects_one d s after_it x) (reached, idle, there, made) before after ordered is =
       collects_order w d s after_it x there made ordered
-      (ready_completes (declared_devices (bare_lines lines)) w ordered (behind_working HasRoom IsReplyInRange lost_ranged runs_good lines starves w fit before (fines lines starves premises w before)) d s there x (was_ready s after_it x made)) is
+      (ready_completes (declared_devices (bare_lines lines)) w ordered (behind_working FitsCompletion IsReplyInRange lost_ranged runs_good lines starves w fit before (fines lines starves premises w before)) d s there x (was_ready s after_it x made)) is
   part_order w (takes_one d hand s after_it job) (free, there, made) before after ordered is =
       with_quiet w d s after_it there (subst (λ (r : Of × Given). Quietly s r.0) made (takes_quietly s)) is
   part_order w (applies_one hand d job None) may before after ordered is = is

@@ -19,12 +19,12 @@ use Rattle.rd_world.proofs.Calls.{Does, read_tame, sent_same, table_of}
 use Rattle.rd_world.proofs.Lists.{has_later}
 use Rattle.rd_world.proofs.Messages.{request_is}
 use Rattle.rd_world.proofs.Written.{Matches, Spells, requests_on, written}
-use Rattle.rd_journals.specs.Jobs.{AreFine, HasRoom}
+use Rattle.rd_journals.specs.Jobs.{AreFine, FitsCompletion}
 
 -- ---- what was accepted has room
 
 abbrev AreRoomy : List Accepted → Type 0
-AreRoomy xs = (a : Accepted) → Has a xs → HasRoom (request_of_accepted a)
+AreRoomy xs = (a : Accepted) → Has a xs → FitsCompletion (request_of_accepted a)
 
 either_of : {X : Type 0} (x : X) (xs ys : List X) → Has x (xs ++ ys) → (Has x xs) ⊎ (Has x ys)
 either_of x [] ys has = inr has
@@ -49,11 +49,11 @@ accepted_roomy client (submits x named o ∷ before) may a has =
     let own : accepted client (submits x named o ∷ before) ≡ accepted client before ++ accepted_of t x named o ∷ [] =
     ap (λ (y : TableState). accepted client before ++ accepted_of y x named o ∷ []) (table_of client before) in
     let small : next_id t < 2 ^ 32 = omega (arith, free_within 0 t.slots, effect.few) in
-    let room : HasRoom (request_of_accepted (accepted_of t x named o)) = (may.0.1.device, small, sets_few o may.0.0.fits) in
+    let room : FitsCompletion (request_of_accepted (accepted_of t x named o)) = (may.0.1.device, small, sets_few o may.0.0.fits) in
     elim (either_of a (accepted client before) (accepted_of t x named o ∷ []) (subst (Has a) own has)) [
       | inl old ↦ accepted_roomy client before may.1 a old
       | inr new ↦ elim new [
-        | inl same ↦ subst (λ (y : Accepted). HasRoom (request_of_accepted y)) (sym same) room
+        | inl same ↦ subst (λ (y : Accepted). FitsCompletion (request_of_accepted y)) (sym same) room
         | inr none ↦ absurd none
       ]
     ]
@@ -110,7 +110,7 @@ has_filtered m (x ∷ ms) asks (inr has) = by (is_request x) (has_filtered m ms 
     by true old = inr old
     by false old = old
 
-pub read_roomy : (client : ℕ) (deeds : List Deed) → Does client deeds → IsCarried deeds → AreFine HasRoom deeds
+pub read_roomy : (client : ℕ) (deeds : List Deed) → Does client deeds → IsCarried deeds → AreFine FitsCompletion deeds
 read_roomy client deeds may carried c k r e =
     let (m, has, spells) = message_at (client_read c deeds) k r e in
     let prefix = carried.to_client c in
@@ -119,4 +119,4 @@ read_roomy client deeds may carried c k r e =
     let asked : Has m (w.unsent ++ requests_on c deeds) = has_later m w.unsent (requests_on c deeds) (has_filtered m (host_wrote c deeds) (request_is m r spells) wrote) in
     let (a, own, own_spells) = matched (newest c (accepted client deeds)) (w.unsent ++ requests_on c deeds) m w.matches asked in
     let same : request_of_accepted a ≡ r = cc (own_spells, spells) in
-    subst HasRoom same (accepted_roomy client deeds may a (of_newest c a (accepted client deeds) own))
+    subst FitsCompletion same (accepted_roomy client deeds may a (of_newest c a (accepted client deeds) own))

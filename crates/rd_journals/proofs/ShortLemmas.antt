@@ -19,7 +19,7 @@ use Rattle.rd_world.specs.World.{WorldState}
 use Rattle.rd_world.proofs.Journals.{HasRun, IsPlain, has_contains, plain_of}
 use Rattle.rd_world.proofs.Telling.{request_later}
 use Rattle.rd_journals.specs.Orderly.{Orderly}
-use Rattle.rd_journals.specs.Reads.{ComesRead, IsRead, cuts, reads}
+use Rattle.rd_journals.specs.Reads.{ComesRead, IsRead, cuts, reads_count}
 use Rattle.rd_journals.proofs.RunLemmas.{orderly_lawful}
 
 -- ---- of an entry that ends a key, one for each key that came
@@ -203,12 +203,12 @@ reads_where p [] = 0
 reads_where p (client_reads c m ∷ before) = cond (is_request m && p (key_at c (length (filter is_request (client_read c before))))) (suc (reads_where p before)) (reads_where p before)
 reads_where p (deed ∷ before) = reads_where p before
 
-all_pass : (deeds : List Deed) → reads_where (λ k. true) deeds ≡ reads deeds
+all_pass : (deeds : List Deed) → reads_where (λ k. true) deeds ≡ reads_count deeds
 unfolding reads_where
 all_pass [] = refl
 all_pass (client_reads c m ∷ before) = by (is_request m) (all_pass before)
   where
-    by : (b : Bool) → reads_where (λ k. true) before ≡ reads before → cond (b && true) (suc (reads_where (λ k. true) before)) (reads_where (λ k. true) before) ≡ cond b (suc (reads before)) (reads before)
+    by : (b : Bool) → reads_where (λ k. true) before ≡ reads_count before → cond (b && true) (suc (reads_where (λ k. true) before)) (reads_where (λ k. true) before) ≡ cond b (suc (reads_count before)) (reads_count before)
     by true later = ap suc later
     by false later = later
 all_pass (_ ∷ before) = all_pass before
@@ -310,7 +310,7 @@ module _ (deeds : List Deed) where
   under_less k key below (r, read) =
       where_one (under k) (under key) (λ j e. below_is j key (below_trans j k key (below_true j k e) below)) k (not_itself k) (below_is k key below) deeds r read
 
-  under_all : (k : Key) → WasRead k → reads_where (under k) deeds + 1 ≤ reads deeds
+  under_all : (k : Key) → WasRead k → reads_where (under k) deeds + 1 ≤ reads_count deeds
   unfolding under
   under_all k (r, read) = subst (λ (n : ℕ). reads_where (under k) deeds + 1 ≤ n) (all_pass deeds) (where_one (under k) (λ j. true) (λ j e. refl) k (not_itself k) refl deeds r read)
 
@@ -324,7 +324,7 @@ module _ (deeds : List Deed) where
   comes_under (Sent k ∷ items) each read key above = omega (arith, comes_under items each.1 (λ j has. read j (inr has)) key (λ j has. above j (inr has)))
   comes_under (Cut cause ∷ items) each read key above = omega (arith, comes_under items each.1 (λ j has. read j (inr has)) key (λ j has. above j (inr has)))
 
-  comes_few : (items : List Item) → EachAfter Rises items → ((k : Key) → Has (Came k) items → WasRead k) → comes items ≤ reads deeds
+  comes_few : (items : List Item) → EachAfter Rises items → ((k : Key) → Has (Came k) items → WasRead k) → comes items ≤ reads_count deeds
   unfolding comes came_count
   comes_few [] each read = omega arith
   comes_few (Came k ∷ items) each read = omega (arith, comes_under items each.1 (λ j has. read j (inr has)) k (λ j has. each.0 k refl j has), under_all k (read k (inl refl)))
@@ -349,7 +349,7 @@ came_read d key (stores q item ∷ before) each has = by (q == d) refl has (came
 came_read d key (y ∷ before) each has = read_later d key y before (came_read d key before each.1 has)
 
 -- ---- so a journal is short
-pub orderly_short : (w : WorldState) → Orderly w → (d : ℕ) → length (journal d w.deeds) ≤ 3 * reads w.deeds + cuts (journal d w.deeds)
+pub orderly_short : (w : WorldState) → Orderly w → (d : ℕ) → length (journal d w.deeds) ≤ 3 * reads_count w.deeds + cuts (journal d w.deeds)
 orderly_short w is d =
     let items : List Item = journal d w.deeds in
     let lawful : IsLawful (reverse items) = orderly_lawful w is d in

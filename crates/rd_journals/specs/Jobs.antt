@@ -86,8 +86,8 @@ abbrev pub IsTiedTo : List Deed → Declared → StationState SessionDevice → 
 IsTiedTo deeds x s = IsTied device_step device_cut (request_read deeds) x.state s
 
 -- the numbers of a request, and of what it sets, have room in the fields of its completion
-abbrev pub HasRoom : Request → Type 0
-HasRoom r = (r.device < 2 ^ 32) × (r.completion < 2 ^ 32) × SetsFew r.op
+abbrev pub FitsCompletion : Request → Type 0
+FitsCompletion r = (r.device < 2 ^ 32) × (r.completion < 2 ^ 32) × SetsFew r.op
 
 -- What is ready at a device's station completes the request of its key, which was read and names the device, with its reply.
 pub record IsCompletionOf (deeds : List Deed) (d : ℕ) (x : Completion) : Type 0 where
@@ -105,8 +105,8 @@ pub record IsAnswerOf (Given : Request → Reply → Type 0) (deeds : List Deed)
   pub given : Given request reply
 
 -- a client's own answer: there is no such device, or no room
-abbrev pub IsRefusal : Request → Reply → Type 0
-IsRefusal r reply = (reply ≡ fault no_such_device) ⊎ (reply ≡ fault insufficient_resources)
+abbrev pub IsRefusalOf : Request → Reply → Type 0
+IsRefusalOf r reply = (reply ≡ fault no_such_device) ⊎ (reply ≡ fault insufficient_resources)
 
 -- The reply is given by what the device's journal says before the key was sent.
 pub record IsSent (devices : List (ℕ × Declared)) (device : ℕ) (key : Key) (reply : Reply) (before : List Deed) : Type 0 where
@@ -119,7 +119,7 @@ pub record IsSent (devices : List (ℕ × Declared)) (device : ℕ) (key : Key) 
 abbrev pub IsSource : List (ℕ × Declared) → List Deed → Key → Request → Reply → Type 0
 IsSource devices before key r reply =
     IsSent devices r.device key reply before
-    ⊎ ((Has (Cancelled key) (journal r.device before) × (reply ≡ cancellation)) ⊎ ((came key.channel (journal r.device before) key.index ≡ false) × IsRefusal r reply))
+    ⊎ ((Has (Cancelled key) (journal r.device before) × (reply ≡ cancellation)) ⊎ ((came key.channel (journal r.device before) key.index ≡ false) × IsRefusalOf r reply))
 
 -- a completion is written after the read of the request that it completes, with a reply that is given so
 abbrev pub AnswersRead : List (ℕ × Declared) → List Deed → Deed → Type 0
@@ -128,8 +128,8 @@ AnswersRead devices before _ = Unit {0}
 
 -- What was written answers what was read, and what is to be written will.
 pub record AreSpelled (devices : List (ℕ × Declared)) (outbox : List Outgoing) (deeds : List Deed) : Type 0 where
-  pub out : (o : Outgoing) → Has o outbox → (key : Key) → o.answers ≡ Some key → IsAnswerOf IsRefusal deeds key o.message
+  pub out : (o : Outgoing) → Has o outbox → (key : Key) → o.answers ≡ Some key → IsAnswerOf IsRefusalOf deeds key o.message
   pub each : EachAfter (AnswersRead devices) deeds
 
-abbrev pub IsSpelled : List (ℕ × Declared) → WorldState → Type 0
-IsSpelled devices w = AreSpelled devices ((w.client).core).outbox w.deeds
+abbrev pub IsSpelledOut : List (ℕ × Declared) → WorldState → Type 0
+IsSpelledOut devices w = AreSpelled devices ((w.client).core).outbox w.deeds

@@ -16,10 +16,10 @@ ComesRead before (stores device (Came key)) = IsRead device key before
 ComesRead before _ = Unit {0}
 
 -- how many requests were read, on all channels
-abbrev pub reads : List Deed → ℕ
-reads [] = 0
-reads (client_reads channel message ∷ before) = if is_request message then suc (reads before) else reads before
-reads (deed ∷ before) = reads before
+abbrev pub reads_count : List Deed → ℕ
+reads_count [] = 0
+reads_count (client_reads channel message ∷ before) = if is_request message then suc (reads_count before) else reads_count before
+reads_count (deed ∷ before) = reads_count before
 
 -- Of so many channels that began and so many requests that were read on the last one: the key is of one that was read.
 abbrev pub IsGiven : ℕ → ℕ → Key → Type 0

@@ -23,9 +23,9 @@ ghost use Rattle.rd_world.specs.Stations.{IsReachedBy};
 ghost use Rattle.rd_world.specs.Talk.{Deed, EachAfter, Has, journal};
 ghost use Rattle.rd_world.specs.World.{WorldState, station_at};
 ghost use Rattle.rd_world.specs.declared.device.SessionDevice.{SessionDevice};
-ghost use Rattle.rd_journals.specs.Jobs.{AnswersRead, AreFine, HasRoom, IsCompletionOf, IsTiedTo};
+ghost use Rattle.rd_journals.specs.Jobs.{AnswersRead, AreFine, FitsCompletion, IsCompletionOf, IsTiedTo};
 ghost use Rattle.rd_journals.specs.Orderly.{Orderly};
-ghost use Rattle.rd_journals.specs.Reads.{ComesRead, cuts, reads};
+ghost use Rattle.rd_journals.specs.Reads.{ComesRead, cuts, reads_count};
 ghost use Rattle.rd_journals.specs.Stations.{AreFit};
 ghost use Rattle.rd_journals.specs.Told.{InOrder};
 
@@ -47,7 +47,7 @@ pub fn replies_stay()
 
 /// A device's journal has at most three entries for each request that was read, and its cuts.
 pub fn journals_are_short()
-    ensures { (lines : List NumberedLine) (starves : Key → Bool) (w : WorldState) → AreFit (declared_devices (bare_lines lines)) → Reached lines starves w → (device : ℕ) → length (journal device w.deeds) ≤ 3 * reads w.deeds + cuts (journal device w.deeds) }
+    ensures { (lines : List NumberedLine) (starves : Key → Bool) (w : WorldState) → AreFit (declared_devices (bare_lines lines)) → Reached lines starves w → (device : ℕ) → length (journal device w.deeds) ≤ 3 * reads_count w.deeds + cuts (journal device w.deeds) }
 {}
 
 /// Each key comes after the read of its request and before its completion; a completion is written after its key was sent, where the key came at all; and
@@ -66,7 +66,7 @@ pub fn stations_are_tied()
 /// The numbers of each request that was read have room in its completion; and what is ready at a station completes, in bytes, the request of its key with its
 /// reply, and that request names the station's device.
 pub fn completions_are_of_requests()
-    ensures room { (lines : List NumberedLine) (starves : Key → Bool) (w : WorldState) → RunPremises lines → Reached lines starves w → AreFine HasRoom w.deeds }
+    ensures room { (lines : List NumberedLine) (starves : Key → Bool) (w : WorldState) → RunPremises lines → Reached lines starves w → AreFine FitsCompletion w.deeds }
     ensures completes { (lines : List NumberedLine) (starves : Key → Bool) (w : WorldState) → AreFit (declared_devices (bare_lines lines)) → RunPremises lines → Reached lines starves w → (device : ℕ) (s : StationState SessionDevice) → station_at w device ≡ Some s
         → (x : Completion) → Has x s.ready → IsCompletionOf w.deeds device x }
 {}

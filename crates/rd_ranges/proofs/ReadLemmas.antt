@@ -21,7 +21,7 @@ use Rattle.rd_irp.specs.declared.op.Op.{Op}
 use Rattle.rd_irp.specs.declared.op.Op.TheVariants.{Close, Control, Create, Lock, Notify, QueryDir, QueryFile, QueryVolume, Read, Unknown, Write}
 use Rattle.rd_irp.specs.declared.request.Request.{Request}
 use Rattle.rd_irp.specs.declared.request.RequestHead.{RequestHead}
-use Rattle.rd_ranges.specs.Ranges.{HasRoom}
+use Rattle.rd_ranges.specs.Ranges.{FitsReply}
 use Rattle.rd_world.specs.Talk.{request_in}
 
 -- ---- what each value of a layout has
@@ -107,22 +107,22 @@ head_low : (h : RequestHead) (field after : List ℕ) → IsSpelled request_head
 unfolding request_head
 head_low h field after s = subst IsLow (sym s.5.5.5.5.5.5.0) (s.5.4.1, s.5.5.4.1, s.5.5.5.4.1)
 
-pub request_room : (bytes : List ℕ) (r : Request) → AreBytes bytes → request_in bytes ≡ Some r → HasRoom r
+pub request_room : (bytes : List ℕ) (r : Request) → AreBytes bytes → request_in bytes ≡ Some r → FitsReply r
 request_room bytes r are e = first (met request_head (at_start bytes)) refl e
   where
-    second : (h : RequestHead) (p : Position) → IsBytes p.left → IsLow h → (x : Result (Op × Position) Bad) → met (body_after h) p ≡ x → HasRoom (request_with_head h (op_read h x))
+    second : (h : RequestHead) (p : Position) → IsBytes p.left → IsLow h → (x : Result (Op × Position) Bad) → met (body_after h) p ≡ x → FitsReply (request_with_head h (op_read h x))
     second h p are low (Ok (o, q)) is =
         let took = found (body_after h) p o q are is in
         record { device = low.0; file = low.1; completion = low.2; few = (op_few h.major h.minor).each o took.field q.left took.spelled }
     second h p are low (Err bad) is = record { device = low.0; file = low.1; completion = low.2; few = tt }
 
     first : (x : Result (RequestHead × Position) Bad) → met request_head (at_start bytes) ≡ x
-        → request_from x ≡ Some r → HasRoom r
+        → request_from x ≡ Some r → FitsReply r
     first (Err bad) is e = absurd cc
     first (Ok (h, p)) is e =
         let took = found request_head (at_start bytes) h p (record { below = are }) is in
-        let own : HasRoom (request_with_head h (op_read h (met (body_after h) p))) = second h p took.rest_fits (head_low h took.field p.left took.spelled) (met (body_after h) p) refl in
-        subst HasRoom (some_one _ r e) own
+        let own : FitsReply (request_with_head h (op_read h (met (body_after h) p))) = second h p took.rest_fits (head_low h took.field p.left took.spelled) (met (body_after h) p) refl in
+        subst FitsReply (some_one _ r e) own
 
 -- ---- completions
 

@@ -79,7 +79,7 @@ pub record RunsAs (s : SessionDevice) (job : Job) (moment : ℕ) (starved : Bool
   pub fit : IsFitDevice (came_by s job moment starved).state
 
 -- the numbers of a request have room in their fields, and the bytes that it sets can be counted
-pub record HasRoom (r : Request) : Type 0 where
+pub record FitsReply (r : Request) : Type 0 where
   pub device : r.device < 2 ^ 32
   pub file : r.file < 2 ^ 32
   pub completion : r.completion < 2 ^ 32

@@ -28,7 +28,7 @@ ghost use Rattle.rd_irp.specs.declared.completion.Reply.{Reply};
 ghost use Rattle.rd_irp.specs.declared.request.Request.{Request};
 ghost use Rattle.rd_pending.specs.Outcomes.{Accepted};
 ghost use Rattle.rd_pending.specs.declared.calls.Outcome.TheVariants.{Done};
-ghost use Rattle.rd_ranges.specs.Ranges.{AreFreshDevices, AreFullReplies, HasRoom, IsFitDevice, IsFullReply, NamesShort, RunsAs, RunsFew, completion_with};
+ghost use Rattle.rd_ranges.specs.Ranges.{AreFreshDevices, AreFullReplies, FitsReply, IsFitDevice, IsFullReply, NamesShort, RunsAs, RunsFew, completion_with};
 ghost use Rattle.rd_world.specs.Devices.{Declared, device_cut, device_cuts, device_parked, device_step};
 ghost use Rattle.rd_world.specs.Events.{is_close};
 ghost use Rattle.rd_world.specs.Joining.{ClientCameTo, Joins};
@@ -75,7 +75,7 @@ pub fn completions_complete()
 
 /// What is read of bytes has numbers with room in their fields: a request, and the body of a completion, with the file id that it gives.
 pub fn what_is_read_has_room()
-    ensures requests { (bytes : List ℕ) (r : Request) → AreBytes bytes → request_in bytes ≡ Some r → HasRoom r }
+    ensures requests { (bytes : List ℕ) (r : Request) → AreBytes bytes → request_in bytes ≡ Some r → FitsReply r }
     ensures bodies { (kind : Kind) (status : Status) (bytes : List ℕ) (body : Body) (q : Position) → AreBytes bytes → met (completion_body kind status) (at_start bytes) ≡ Ok (body, q) → IsBodyInRange body }
 {}
 

@@ -31,7 +31,7 @@ use Rattle.rd_hello.specs.declared.client.ClientState.{ClientState}
 use Rattle.rd_hello.specs.declared.end_fault.EndFault.{EndFault}
 use Rattle.rd_irp.specs.Fits.{kind_of}
 use Rattle.rd_irp.specs.declared.request.Request.{Request}
-use Rattle.rd_journals.specs.Jobs.{AreFine, HasRoom}
+use Rattle.rd_journals.specs.Jobs.{AreFine, FitsCompletion}
 use Rattle.rd_journals.specs.Orderly.{Orderly}
 use Rattle.rd_journals.specs.Standing.{IsOut, IsStanding, IsUnserved, pending_of}
 use Rattle.rd_journals.specs.Stations.{AreFit}
@@ -334,7 +334,7 @@ cutting_gone w is = record {
 
 -- ---- a client sends
 
-client_sends_gone : (w : WorldState) → Orderly w → IsStanding w → AreFine HasRoom w.deeds → open_channel w.deeds ≡ Some w.channels → Gone w → Gone (client_sends_next w)
+client_sends_gone : (w : WorldState) → Orderly w → IsStanding w → AreFine FitsCompletion w.deeds → open_channel w.deeds ≡ Some w.channels → Gone w → Gone (client_sends_next w)
 client_sends_gone w ordered stands fine opened is = by ((w.client).core).outbox refl
   where
     still : (o : Outgoing) (others : List Outgoing) (k : Key) → o.answers ≡ Some k → (d : ℕ) → IsGoneSoon d (o ∷ others) → IsGoneSoon d others

@@ -6,7 +6,7 @@ use Rattle.rd_base.specs.declared.journal.Key.{Key}
 use Rattle.rd_drive.specs.Replies.{cancellation}
 use Rattle.rd_irp.specs.declared.completion.Reply.{Reply}
 use Rattle.rd_irp.specs.declared.request.Request.{Request}
-use Rattle.rd_journals.specs.Jobs.{IsAnswerOf, IsRefusal}
+use Rattle.rd_journals.specs.Jobs.{IsAnswerOf, IsRefusalOf}
 use Rattle.rd_world.specs.Talk.{Deed, Has, completes, journal}
 use Rattle.rd_world.specs.Told.{Replies, came}
 
@@ -21,7 +21,7 @@ pub record IsGivenBy (replies : Replies) (device : ℕ) (key : Key) (reply : Rep
 abbrev pub ComesFrom : Replies → List Deed → Key → Request → Reply → Type 0
 ComesFrom replies before key r reply =
     IsGivenBy replies r.device key reply before
-    ⊎ ((Has (Cancelled key) (journal r.device before) × (reply ≡ cancellation)) ⊎ ((came key.channel (journal r.device before) key.index ≡ false) × IsRefusal r reply))
+    ⊎ ((Has (Cancelled key) (journal r.device before) × (reply ≡ cancellation)) ⊎ ((came key.channel (journal r.device before) key.index ≡ false) × IsRefusalOf r reply))
 
 -- a completion is written after the read of the request that it completes, with a reply that comes so
 abbrev pub AnswersBy : Replies → List Deed → Deed → Type 0

@@ -5,7 +5,7 @@ use Rattle.rd_base.specs.declared.journal.Key.{Key}
 use Rattle.rd_drive.specs.Replies.{cancellation}
 use Rattle.rd_irp.specs.declared.completion.Reply.{Reply}
 use Rattle.rd_irp.specs.declared.request.Request.{Request}
-use Rattle.rd_journals.specs.Jobs.{IsAnswerOf, IsRefusal}
+use Rattle.rd_journals.specs.Jobs.{IsAnswerOf, IsRefusalOf}
 use Rattle.rd_world.specs.Talk.{Deed, Has, completes, journal}
 use Rattle.rd_world.specs.Told.{IsReplied, RemovedSince, Replies, came}
 
@@ -14,7 +14,7 @@ abbrev pub IsAnsweredBy : Replies → List Deed → Key → Request → Reply �
 IsAnsweredBy replies before key r reply =
     IsReplied replies r.device key r reply before
     ⊎ ((Has (Cancelled key) (journal r.device before) × (reply ≡ cancellation) × RemovedSince r.device key r before)
-    ⊎ ((came key.channel (journal r.device before) key.index ≡ false) × IsRefusal r reply))
+    ⊎ ((came key.channel (journal r.device before) key.index ≡ false) × IsRefusalOf r reply))
 
 -- a completion is written after the read of the request that it completes, and answers it so
 abbrev pub AnswersSince : Replies → List Deed → Deed → Type 0

@@ -1,4 +1,4 @@
--- Each request that is accepted, and each channel, is owed to a line of its own.
+-- Each request that is accepted_count, and each channel, is owed to a line of its own.
 use Rattle.std.proofs.Common.{◌≡◌, ◌≢◌, ◌∙◌, refl, sym, ap, subst, inl, inr, ℕ, suc, ◌+◌, ◌<◌, ◌≤◌, Bool, true, false, List, [], ◌∷◌, ◌++◌, length, map, fold, Some, None, Option, arith, is_some, length-append}
 use Rattle.std.specs.Prelude.{filter_map, if◌then◌else◌, is_none, nat_lt}
 use Rattle.std.specs.List.{AllByRecursion}
@@ -18,7 +18,7 @@ use Rattle.rd_script.specs.declared.line.NumberedLine.{NumberedLine}
 use Rattle.rd_script.specs.declared.outcome.Outcome.{Outcome}
 use Rattle.rd_script.specs.declared.outcome.Outcome.TheVariants as outcome
 use Rattle.rd_station.specs.Station.{StationState}
-use Rattle.rd_runs.specs.Counts.{accepted}
+use Rattle.rd_runs.specs.Counts.{accepted_count}
 use Rattle.rd_runs.specs.Moves.{Reached}
 use Rattle.rd_runs.proofs.BeginningLemmas.{Unset, begins_as}
 use Rattle.rd_runs.proofs.Insides.{AreOwn, IsInside, Outside, added_inside, all_dropped_inside, all_refreshed_inside, applied_inside, hears_inside, put_inside, removed_inside, stationed}
@@ -84,7 +84,7 @@ spent x = length x.outcomes + waits x.awaits
 abbrev lined : ApplicationState → ℕ
 lined x = x.queued
 
--- Behind so many lines: an application issued no more than were queued, and each request that was accepted is of one that was issued.
+-- Behind so many lines: an application issued no more than were queued, and each request that was accepted_count is of one that was issued.
 record Counted (n : ℕ) (es : Applications) (channels count : ℕ) : Type 0 where
   rise : IsStrictlySortedBy nat_cmp (keys_of es)
   each : AllByRecursion (λ (e : ℕ × ApplicationState). spent e.1 ≤ (e.1).queued) es
@@ -93,7 +93,7 @@ record Counted (n : ℕ) (es : Applications) (channels count : ℕ) : Type 0 whe
   begun : channels ≤ n
 
 abbrev CountedNow : ℕ → WorldState → Type 0
-CountedNow n w = Counted n w.applications w.channels (accepted w.deeds)
+CountedNow n w = Counted n w.applications w.channels (accepted_count w.deeds)
 
 more : (n : ℕ) (w : WorldState) (p : Part) → CountedNow n w → CountedNow (part_weight p + n) w
 more n w p c = record {
@@ -111,7 +111,7 @@ spent_within (e ∷ es) each =
     let later = spent_within es each.1 in
     omega (arith, each.0, later)
 
-own_accepts : (more deeds : List Deed) → AreOwn more → accepted (more ++ deeds) ≡ accepted deeds
+own_accepts : (more deeds : List Deed) → AreOwn more → accepted_count (more ++ deeds) ≡ accepted_count deeds
 own_accepts [] deeds own = refl
 own_accepts (stores device item ∷ more) deeds own = own_accepts more deeds own.1
 own_accepts (removes device ∷ more) deeds own = own_accepts more deeds own.1
@@ -120,9 +120,9 @@ own_accepts (deed ∷ more) deeds own = absurd own.0
 
 inside_counted : (n : ℕ) (w v : WorldState) → IsInside w v → CountedNow n w → CountedNow n v
 inside_counted n w v i c =
-    let count : accepted v.deeds ≡ accepted w.deeds = ap accepted i.deeds ∙ own_accepts i.more w.deeds i.own in
+    let count : accepted_count v.deeds ≡ accepted_count w.deeds = ap accepted_count i.deeds ∙ own_accepts i.more w.deeds i.own in
     subst (λ (k : ℕ). Counted n v.applications v.channels k) (sym count)
-    (subst (λ (o : Outside). Counted n o.applications o.channels (accepted w.deeds)) (sym i.same) c)
+    (subst (λ (o : Outside). Counted n o.applications o.channels (accepted_count w.deeds)) (sym i.same) c)
 
 -- ---- one application
 
@@ -144,7 +144,7 @@ module _ (n : ℕ) (w : WorldState) (a : ℕ) (c : CountedNow n w) where
       by (Some x) own = own
 
   put : (k : ℕ) (x : ApplicationState) (count : ℕ) → n ≤ k → spent x ≤ x.queued → x.queued + n ≤ (application_at w a).queued + k
-      → count + spent (application_at w a) ≤ accepted w.deeds + spent x → Counted k (insert_entry nat_cmp w.applications a x) w.channels count
+      → count + spent (application_at w a) ≤ accepted_count w.deeds + spent x → Counted k (insert_entry nat_cmp w.applications a x) w.channels count
   put k x count few within lines issued =
       let q = total_put lined w.applications a x c.rise in
       let s = total_put spent w.applications a x c.rise in
@@ -222,10 +222,10 @@ none_asked = record { rise = tt; each = tt; queued = omega arith; issued = omega
 -- ---- each part
 
 module _ (lines : List NumberedLine) (starves : Key → Bool) where
-  sent_accepts : (c : ℕ) (o : Outgoing) (deeds : List Deed) → accepted (deed_on c o ∷ deeds) ≡ accepted deeds
+  sent_accepts : (c : ℕ) (o : Outgoing) (deeds : List Deed) → accepted_count (deed_on c o ∷ deeds) ≡ accepted_count deeds
   sent_accepts c o deeds = by o.answers
     where
-      by : (answers : Option Key) → accepted (option_map_or (λ key. completes key o.message) answers (client_writes c o.message) ∷ deeds) ≡ accepted deeds
+      by : (answers : Option Key) → accepted_count (option_map_or (λ key. completes key o.message) answers (client_writes c o.message) ∷ deeds) ≡ accepted_count deeds
       by None = refl
       by (Some key) = refl
 
@@ -233,19 +233,19 @@ module _ (lines : List NumberedLine) (starves : Key → Bool) where
   step n w (accepts a asked named t number) (reached, may, next, target, made) c =
       let x : ApplicationState = application_at w a in
       let (left, none) = may_issue_one x may in
-      put n w a c (0 + n) (record x { awaits = Some number }) (suc (accepted w.deeds)) (omega arith) (omega (arith, left)) (omega arith) (omega (arith, none))
+      put n w a c (0 + n) (record x { awaits = Some number }) (suc (accepted_count w.deeds)) (omega arith) (omega (arith, left)) (omega arith) (omega (arith, none))
   step n w (refuses a asked cause) (may, next, refused) c =
       let x : ApplicationState = application_at w a in
       let (left, none) = may_issue_one x may in
       let (one, same) = with_spent x (outcome.Refused cause) None asked in
-      put n w a c (0 + n) (with_outcome x (outcome.Refused cause) None asked) (accepted w.deeds) (omega arith) (omega (arith, left, one, same)) (omega (arith, same)) (omega (arith, none, one))
+      put n w a c (0 + n) (with_outcome x (outcome.Refused cause) None asked) (accepted_count w.deeds) (omega arith) (omega (arith, left, one, same)) (omega (arith, same)) (omega (arith, none, one))
   step n w (hands_out a number t taken None) may c = more n w draws_one c
   step n w (hands_out a number t taken (Some asked)) (awaits, next, made) c =
       let x : ApplicationState = application_at w a in
       let one : waits x.awaits ≡ 1 = ap waits awaits in
       let (spends, same) = with_spent x (reported_outcome taken.outcome) (given_handle taken) asked in
       let within = old_within n w a c in
-      put n w a c (0 + n) (with_outcome x (reported_outcome taken.outcome) (given_handle taken) asked) (accepted w.deeds) (omega arith)
+      put n w a c (0 + n) (with_outcome x (reported_outcome taken.outcome) (given_handle taken) asked) (accepted_count w.deeds) (omega arith)
       (omega (arith, one, spends, same, within)) (omega (arith, same)) (omega (arith, one, spends))
   step n w (host_sends_one message) may c = more n w draws_one c
   step n w (host_gets k) may c = more n w draws_one c
@@ -281,14 +281,14 @@ module _ (lines : List NumberedLine) (starves : Key → Bool) where
   step n w (queues_one a) may c =
       let x : ApplicationState = application_at w a in
       let within = old_within n w a c in
-      put n w a c (1 + n) (record x { queued = x.queued + 1 }) (accepted w.deeds) (omega arith) (omega (arith, within)) (omega arith) (omega arith)
+      put n w a c (1 + n) (record x { queued = x.queued + 1 }) (accepted_count w.deeds) (omega arith) (omega (arith, within)) (omega arith) (omega arith)
   step n w (idle_one number) may c = more n w begins c
   step n w draws_one may c = more n w draws_one c
 
   first : CountedNow 0 (world_of lines)
-  first = begins_as lines (λ (u : Unset). Counted 0 u.applications u.channels (accepted u.deeds)) (asked_counted (filter_map asked_by (map (λ (l : NumberedLine). l.line) lines)) [] none_asked)
+  first = begins_as lines (λ (u : Unset). Counted 0 u.applications u.channels (accepted_count u.deeds)) (asked_counted (filter_map asked_by (map (λ (l : NumberedLine). l.line) lines)) [] none_asked)
 
-  counted : (w : WorldState) (b : IsBehind lines starves w) → Counted (parts_weight b.parts) w.applications w.channels (accepted w.deeds)
+  counted : (w : WorldState) (b : IsBehind lines starves w) → Counted (parts_weight b.parts) w.applications w.channels (accepted_count w.deeds)
   counted w b = by_counted_parts lines starves CountedNow first (λ n w p before after may c. step n w p may c) w b
 
   -- so there are no more than lines, and the first channel's begin and the last one's end
@@ -298,7 +298,7 @@ module _ (lines : List NumberedLine) (starves : Key → Bool) where
       let c = counted w b in
       omega (arith, c.begun, b.few)
 
-  pub accepted_few : (w : WorldState) → Reached lines starves w → accepted w.deeds ≤ length lines + 2
+  pub accepted_few : (w : WorldState) → Reached lines starves w → accepted_count w.deeds ≤ length lines + 2
   accepted_few w r =
       let b = reached_behind lines starves w r in
       let c = counted w b in

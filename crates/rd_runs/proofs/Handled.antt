@@ -26,7 +26,7 @@ use Rattle.rd_station.specs.declared.answers.Given.{Given}
 use Rattle.rd_station.specs.declared.answers.Given.TheVariants as given
 use Rattle.rd_station.specs.Station as station
 use Rattle.rd_station.specs.Station.{StationState}
-use Rattle.rd_runs.specs.Moves.{Move, Reached, draws, happens, idle, moved, queues}
+use Rattle.rd_runs.specs.Moves.{RunMove, Reached, draws, happens, idle, after_move, queues}
 use Rattle.rd_runs.proofs.BeginningLemmas.{Unset, begins_as}
 use Rattle.rd_runs.proofs.Insides.{Outside, hears_inside, put_inside}
 use Rattle.rd_runs.proofs.Parts.{announced_by, cut_by, refreshed_by, told_added, told_removed}
@@ -252,7 +252,7 @@ event_handled starves w (event.tell n) h = h
 pub handled : (lines : List NumberedLine) (starves : Key → Bool) (w : WorldState) → Reached lines starves w → Handled w
 handled lines starves = by_moves lines starves Handled (begins_as lines (λ (u : Unset). IsHandled (record { down = u.to_client; up = u.to_host; back = u.kept })) (refl, λ none. refl)) step
   where
-    step : (w : WorldState) (m : Move) → Steps lines starves w m → Handled w → Handled (moved starves w m)
+    step : (w : WorldState) (m : RunMove) → Steps lines starves w m → Handled w → Handled (after_move starves w m)
     step w (happens e) steps h = event_handled starves w e h
     step w (queues a) steps h = h
     step w (idle number) steps h = h

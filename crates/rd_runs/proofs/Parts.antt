@@ -25,7 +25,7 @@ use Rattle.rd_station.specs.declared.answers.Given.{Given}
 use Rattle.rd_station.specs.declared.answers.Given.TheVariants as given
 use Rattle.rd_station.specs.Station as station
 use Rattle.rd_station.specs.Station.{StationState}
-use Rattle.rd_runs.specs.Moves.{IsOfLines, MayPass, Move, Reached, draws, event_weight, happens, idle, moved, queues, weight}
+use Rattle.rd_runs.specs.Moves.{IsOfLines, MayPass, RunMove, Reached, draws, event_weight, happens, idle, after_move, queues, weight}
 use Rattle.rd_runs.proofs.Reaching.{both, by_counted_moves}
 use Rattle.rd_world.specs.declared.device.SessionDevice.{SessionDevice}
 use Rattle.rd_world.specs.Devices.{PrinterNames, device_cut, printer_data}
@@ -368,7 +368,7 @@ module _ (lines : List NumberedLine) (starves : Key → Bool) (P : ℕ → World
   event_keeps n w event.connect reached said can p = keep n w begins can p
   event_keeps n w (event.tell notice) reached said can p = keep n w (tells_one notice) (said, can) p
 
-  move_keeps : (n : ℕ) (w : WorldState) (m : Move) → Reached lines starves w → MayPass lines w m → P n w → P (weight m + n) (moved starves w m)
+  move_keeps : (n : ℕ) (w : WorldState) (m : RunMove) → Reached lines starves w → MayPass lines w m → P n w → P (weight m + n) (after_move starves w m)
   move_keeps n w (happens e) reached (said, can) p = event_keeps n w e reached said can p
   move_keeps n w (queues a) reached may p = keep n w (queues_one a) may p
   move_keeps n w (idle number) reached may p = keep n w (idle_one number) tt p

@@ -13,7 +13,7 @@ use Rattle.rd_script.specs.declared.line.Errand.TheVariants as errand
 use Rattle.rd_script.specs.declared.line.Line.{Line}
 use Rattle.rd_script.specs.declared.line.Line.TheVariants as line
 use Rattle.rd_script.specs.declared.line.NumberedLine.{NumberedLine}
-use Rattle.rd_runs.specs.Moves.{IsOfLines, MayPass, Move, Reached, ReachedWithin, after_moves, draws, event_weight, happens, idle, moved, queues, total_weight, weight}
+use Rattle.rd_runs.specs.Moves.{IsOfLines, MayPass, RunMove, Reached, ReachedWithin, after_moves, draws, event_weight, happens, idle, after_move, queues, total_weight, weight}
 use Rattle.rd_world.proofs.PlayingLemmas.{may_connect}
 use Rattle.rd_world.specs.Events.{Event, act, add, apply_job, client_read, client_send, collect, connect, drop_channel, host_has_message, host_read, host_send, client_has_message, is_channel_open, is_enabled, is_read, issue, remove, take_job, tell}
 use Rattle.rd_world.specs.Run.{Most, NextStep, all_client_sends, all_host_sends, application_ids, asked_by, by_event, choices, chosen, client_reads_all, connects_on, controls, device_ids, does, drawing, drawn_count, ends_session, event, event_of, hand_numbers, host_count, host_reads_all, idles, is_quiet, notice_of, picked, plays, plays_line, queueing, reads_client, reads_host, rounds, run_of, settled, settles_by, some_left, takes_of, when_enabled, where_true, while_enabled, world_of}
@@ -23,17 +23,17 @@ use Rattle.rd_world.specs.World.{Asked, WorldState}
 -- ---- induction
 
 -- what a world's step may take: that it was reached, and that what comes of it is
-abbrev pub Steps : List NumberedLine → (Key → Bool) → WorldState → Move → Type 0
-Steps lines starves w m = Reached lines starves w × Reached lines starves (moved starves w m) × MayPass lines w m
+abbrev pub Steps : List NumberedLine → (Key → Bool) → WorldState → RunMove → Type 0
+Steps lines starves w m = Reached lines starves w × Reached lines starves (after_move starves w m) × MayPass lines w m
 
 module _ (lines : List NumberedLine) (starves : Key → Bool) where
   -- What holds at the beginning, behind no line, and is kept by each move, of which a line's adds one, holds of each world that is reached.
   pub by_counted_moves : (P : ℕ → WorldState → Type 0) → P 0 (world_of lines)
-      → ((n : ℕ) (w : WorldState) (m : Move) → Steps lines starves w m → P n w → P (weight m + n) (moved starves w m))
+      → ((n : ℕ) (w : WorldState) (m : RunMove) → Steps lines starves w m → P n w → P (weight m + n) (after_move starves w m))
       → (w : WorldState) (r : Reached lines starves w) → P (total_weight r.moves) w
   by_counted_moves P first step w r = subst (P (total_weight r.moves)) (sym r.leads) (go r.moves r.pass r.few)
     where
-      go : (moves : List Move) → EachAfter (λ before m. MayPass lines (after_moves starves (world_of lines) before) m) moves → total_weight moves ≤ length lines + 2
+      go : (moves : List RunMove) → EachAfter (λ before m. MayPass lines (after_moves starves (world_of lines) before) m) moves → total_weight moves ≤ length lines + 2
           → P (total_weight moves) (after_moves starves (world_of lines) moves)
       go [] pass few = first
       go (m ∷ before) pass few =
@@ -45,7 +45,7 @@ module _ (lines : List NumberedLine) (starves : Key → Bool) where
 
   -- What holds at the beginning and is kept by each move holds of each world that is reached. What was proved before of worlds that are reached may be used of
   -- the world before the move and of the one after it.
-  pub by_moves : (P : WorldState → Type 0) → P (world_of lines) → ((w : WorldState) (m : Move) → Steps lines starves w m → P w → P (moved starves w m))
+  pub by_moves : (P : WorldState → Type 0) → P (world_of lines) → ((w : WorldState) (m : RunMove) → Steps lines starves w m → P w → P (after_move starves w m))
       → (w : WorldState) → Reached lines starves w → P w
   by_moves P first step w r = by_counted_moves (λ n. P) first (λ n. step) w r
 
@@ -84,12 +84,12 @@ module _ (lines : List NumberedLine) (starves : Key → Bool) where
 
   -- ---- one move
 
-  one_more : (n k : ℕ) (w : WorldState) (m : Move) → weight m + n ≤ k → MayPass lines w m → Within n w → Within k (moved starves w m)
+  one_more : (n k : ℕ) (w : WorldState) (m : RunMove) → weight m + n ≤ k → MayPass lines w m → Within n w → Within k (after_move starves w m)
   one_more n k w m few may r = record {
     moves = m ∷ r.moves;
     pass = (subst (λ (x : WorldState). MayPass lines x m) r.leads may, r.pass);
     few = omega (arith, few, r.few);
-    leads = ap (λ (x : WorldState). moved starves x m) r.leads;
+    leads = ap (λ (x : WorldState). after_move starves x m) r.leads;
   }
 
   within_more : (n k : ℕ) (w : WorldState) → n ≤ k → Within n w → Within k w

@@ -3,8 +3,8 @@ use Rattle.std.specs.Prelude.{ℕ, List, [], ◌∷◌}
 use Rattle.std.proofs.Common.{suc}
 use Rattle.rd_world.specs.Talk.{Deed, submits}
 
--- how many requests were accepted, on all channels
-abbrev pub accepted : List Deed → ℕ
-accepted [] = 0
-accepted (submits a named op ∷ before) = suc (accepted before)
-accepted (deed ∷ before) = accepted before
+-- how many requests were accepted_count, on all channels
+abbrev pub accepted_count : List Deed → ℕ
+accepted_count [] = 0
+accepted_count (submits a named op ∷ before) = suc (accepted_count before)
+accepted_count (deed ∷ before) = accepted_count before

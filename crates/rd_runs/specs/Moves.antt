@@ -8,33 +8,33 @@ use Rattle.rd_world.specs.Talk.{EachAfter, Has}
 use Rattle.rd_world.specs.World.{Asked, WorldState}
 
 -- What passes: an event, one more line of an application that is queued, a line by its number that did nothing, or a draw.
-pub data Move : Type 0 where
-  happens : Event → Move
-  queues idle : ℕ → Move
-  draws : Move
+pub data RunMove : Type 0 where
+  happens : Event → RunMove
+  queues idle : ℕ → RunMove
+  draws : RunMove
 
 -- what comes of it, where these runs find no memory
-abbrev pub moved : (Key → Bool) → WorldState → Move → WorldState
-moved starves w (happens e) = act starves w e
-moved starves w (queues a) = queueing w a
-moved starves w (idle number) = idles w number
-moved starves w draws = drawing w
+abbrev pub after_move : (Key → Bool) → WorldState → RunMove → WorldState
+after_move starves w (happens e) = act starves w e
+after_move starves w (queues a) = queueing w a
+after_move starves w (idle number) = idles w number
+after_move starves w draws = drawing w
 
 -- What lines it may stand for: a notice is that of a line, and an application's line asks for something.
 abbrev pub IsOfLines : List NumberedLine → Event → Type 0
 IsOfLines lines (tell n) = (l : NumberedLine) × Has l lines × (notice_of l.line ≡ Some n)
 IsOfLines lines _ = Unit {0}
 
-abbrev pub MayPass : List NumberedLine → WorldState → Move → Type 0
+abbrev pub MayPass : List NumberedLine → WorldState → RunMove → Type 0
 MayPass lines w (happens e) = IsOfLines lines e × (is_enabled w e ≡ true)
 MayPass lines w (queues a) = (l : NumberedLine) × (asked : Asked) × Has l lines × (asked_by l.line ≡ Some (a, asked))
 MayPass lines w (idle number) = Unit {0}
 MayPass lines w draws = Unit {0}
 
 -- the world after moves, the newest first
-abbrev pub after_moves : (Key → Bool) → WorldState → List Move → WorldState
+abbrev pub after_moves : (Key → Bool) → WorldState → List RunMove → WorldState
 after_moves starves w [] = w
-after_moves starves w (m ∷ before) = moved starves (after_moves starves w before) m
+after_moves starves w (m ∷ before) = after_move starves (after_moves starves w before) m
 
 -- how many of these are no draws and don't happen by themselves: a line is one at most
 abbrev pub event_weight : Event → ℕ
@@ -48,19 +48,19 @@ event_weight (take_job device hand) = 0
 event_weight (apply_job hand) = 0
 event_weight e = 1
 
-abbrev pub weight : Move → ℕ
+abbrev pub weight : RunMove → ℕ
 weight (happens e) = event_weight e
 weight (queues a) = 1
 weight (idle number) = 1
 weight draws = 0
 
-abbrev pub total_weight : List Move → ℕ
+abbrev pub total_weight : List RunMove → ℕ
 total_weight [] = 0
 total_weight (m ∷ before) = weight m + total_weight before
 
 -- A world that is behind moves that may pass, of which so many at most are lines'.
 pub record ReachedWithin (most : ℕ) (lines : List NumberedLine) (starves : Key → Bool) (w : WorldState) : Type 0 where
-  pub moves : List Move
+  pub moves : List RunMove
   pub pass : EachAfter (λ before m. MayPass lines (after_moves starves (world_of lines) before) m) moves
   pub few : total_weight moves ≤ most
   pub leads : w ≡ after_moves starves (world_of lines) moves

@@ -8,7 +8,7 @@ ghost use Rattle.rd_script.specs.declared.keyword.Mode.{Mode};
 ghost use Rattle.rd_script.specs.declared.line.NumberedLine.{NumberedLine};
 ghost use Rattle.rd_script.specs.declared.script.Script.{Script};
 ghost use Rattle.rd_script.specs.Script.{script_of};
-ghost use Rattle.rd_runs.specs.Counts.{accepted};
+ghost use Rattle.rd_runs.specs.Counts.{accepted_count};
 ghost use Rattle.rd_runs.specs.Moves.{Reached};
 ghost use Rattle.rd_runs.specs.Premises.{IsHandleInRange, RunPremises};
 ghost use Rattle.rd_world.specs.Host.{next_message};
@@ -56,7 +56,7 @@ pub fn runs_come_to_rest()
 /// A run has no more channels, and its host accepts no more requests, than there are lines and two.
 pub fn runs_count_lines()
     ensures channels { (lines : List NumberedLine) (starves : Key → Bool) (w : WorldState) → Reached lines starves w → w.channels ≤ length lines + 2 }
-    ensures requests { (lines : List NumberedLine) (starves : Key → Bool) (w : WorldState) → Reached lines starves w → accepted w.deeds ≤ length lines + 2 }
+    ensures requests { (lines : List NumberedLine) (starves : Key → Bool) (w : WorldState) → Reached lines starves w → accepted_count w.deeds ≤ length lines + 2 }
 {}
 
 /// The lines of every script are as the statements above take them, so these hold of each session of a script.

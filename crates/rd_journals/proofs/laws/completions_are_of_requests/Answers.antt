@@ -5,7 +5,7 @@ use Rattle.rd_world.proofs.Joined.{carried_now}
 use Rattle.rd_world.specs.Opening.{bare_lines}
 use Rattle.rd_world.specs.Recording.{client_id}
 use Rattle.rd_world.specs.Run.{declared_devices}
-use Rattle.rd_journals.specs.Jobs.{HasRoom}
+use Rattle.rd_journals.specs.Jobs.{FitsCompletion}
 use Rattle.rd_journals.proofs.CompletionLemmas.{lost_ranged, ready_completes, runs_good}
 use Rattle.rd_journals.proofs.RoomLemmas.{read_roomy}
 use Rattle.rd_journals.proofs.RunLemmas.{reached_orderly}
@@ -20,4 +20,4 @@ returns-clause-room c lines starves w premises reached =
 pub returns-clause-completes : goal.returns-clause-completes
 returns-clause-completes c lines starves w fit premises reached device s there x has =
     ready_completes (declared_devices (bare_lines lines)) w (reached_orderly lines starves w fit reached)
-    (behind_working HasRoom IsReplyInRange lost_ranged runs_good lines starves w fit (reached_behind lines starves w reached) (returns-clause-room c lines starves w premises reached)) device s there x has
+    (behind_working FitsCompletion IsReplyInRange lost_ranged runs_good lines starves w fit (reached_behind lines starves w reached) (returns-clause-room c lines starves w premises reached)) device s there x has
