@@ -1,3 +1,4 @@
 pub mod TurnLemmas
 pub mod DirectLemmas
 pub mod WornLemmas
+pub mod AloneLemmas

@@ -1,15 +1,18 @@
 //! What holds of a client's direct answers in every run, as contracts of functions that do nothing.
 
-ghost use Rattle.std.specs.Prelude.{ℕ, ◌<◌, Bool, List, length, reverse};
+ghost use Rattle.std.specs.Prelude.{◌≡◌, ℕ, ◌<◌, Bool, List, ◌∷◌, Some, length, reverse};
 ghost use Rattle.rd_base.specs.declared.journal.Key.{Key};
 ghost use Rattle.rd_base.specs.Lawful.{IsLawful};
 ghost use Rattle.rd_script.specs.declared.line.NumberedLine.{NumberedLine};
+ghost use Rattle.rd_irp.specs.declared.request.Request.{Request};
+ghost use Rattle.rd_runs.proofs.Parts.{IsBehind};
 ghost use Rattle.rd_runs.specs.Moves.{Reached};
 ghost use Rattle.rd_runs.specs.Premises.{RunPremises};
-ghost use Rattle.rd_world.specs.Talk.{Deed, EachAfter, EndsWith, client_read, journal};
+ghost use Rattle.rd_world.specs.Joining.{IsAlone};
+ghost use Rattle.rd_world.specs.Talk.{Deed, EachAfter, EndsWith, client_read, client_reads, journal, request_in};
 ghost use Rattle.rd_world.specs.Told.{Answers, ComesUnworn, Replies, requests_to, told, unserved, worn_entries};
 ghost use Rattle.rd_world.specs.World.{WorldState};
-ghost use Rattle.rd_directs.specs.Turns.{MeetNone};
+ghost use Rattle.rd_directs.specs.Turns.{MeetNone, NoneHeld};
 
 /// Where no request meets a job at its station that is held with its completion id: of each device on each channel the answers to requests that never came
 /// are in the order of reading, up to some.
@@ -22,4 +25,10 @@ pub fn direct_answers_are_in_order()
 pub fn requests_come_unworn()
     ensures { (replies : Replies) (deeds : List Deed) → EachAfter (Answers replies) deeds → ((device : ℕ) → IsLawful (reverse (journal device deeds))) → ((device : ℕ) → length (journal device deeds) < worn_entries)
         → EachAfter ComesUnworn deeds }
+{}
+
+/// A request that is alone when it is read, as those of joined sides are, meets no job that is held with its completion id.
+pub fn alone_requests_meet_none()
+    ensures { (lines : List NumberedLine) (starves : Key → Bool) (w : WorldState) (channel : ℕ) (m : List ℕ) → RunPremises lines → IsBehind lines starves w → ((w.side).table).channel ≡ Some channel
+        → IsAlone (client_reads w.channels m ∷ w.deeds) w.deeds (client_reads w.channels m) → (r : Request) → request_in m ≡ Some r → NoneHeld w r.device r.completion }
 {}
