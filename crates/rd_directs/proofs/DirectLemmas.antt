@@ -70,7 +70,7 @@ use Rattle.rd_world.specs.Told.{CompletesWith, came, is_of_device, requests_to, 
 use Rattle.rd_world.specs.World.{Kept, WorldState, client_sends, handling_by, station_at, with_station}
 use Rattle.rd_world.specs.declared.device.SessionDevice.{SessionDevice}
 use Rattle.rd_directs.proofs.TurnLemmas.{none_before, said_ends, turn_left, turns_asks, turns_came, turns_direct, turns_inside, turns_other, turns_own, turns_said, turns_wrong}
-use Rattle.rd_directs.specs.Turns.{InTurn, MeetNone, MeetsNone, NoneHeld, Turn, TurnIn, Turns, kept_at, never, said}
+use Rattle.rd_directs.specs.Turns.{InTurn, MeetNone, MeetsNone, NoneHeld, DirectTurn, TurnIn, Turns, kept_at, never, said}
 
 abbrev Of : Type 0
 Of = StationState SessionDevice
@@ -250,7 +250,7 @@ cutting_turns w is = record { at = so }
 -- ---- a client sends
 
 sent_one : {k : Option Kept} {os : List Outgoing} {deeds : List Deed} {f : Option EndFault} {o : Option ℕ} (channel : ℕ) (m : List ℕ) (answers : Option Key)
-    → ((c d : ℕ) → Turn c (journal d deeds) (requests_to d (client_read c deeds)) (cons_option (kept_at c d k) (said c d os (cons_option (told_at c d (option_map_or (λ key. completes key m) answers (client_writes c m))) (told c d deeds)))) f o)
+    → ((c d : ℕ) → DirectTurn c (journal d deeds) (requests_to d (client_read c deeds)) (cons_option (kept_at c d k) (said c d os (cons_option (told_at c d (option_map_or (λ key. completes key m) answers (client_writes c m))) (told c d deeds)))) f o)
     → Turns k os (option_map_or (λ key. completes key m) answers (client_writes channel m) ∷ deeds) f o
 sent_one channel m None is = record { at = is }
 sent_one channel m (Some key) is = record { at = is }
@@ -320,7 +320,7 @@ collects_turns w d s after x there made idle ordered of is =
         there_now f g = subst (λ (y : ℕ). came y (journal q left.deeds) (x.key).index ≡ true) (eqb-true (x.key).channel c f) (subst (λ (y : ℕ). came (x.key).channel (journal y left.deeds) (x.key).index ≡ true) (eqb-true d q g) came_left)
 
         by : (a : Bool) → ((x.key).channel == c) ≡ a → (b : Bool) → b ≡ (d == q)
-            → Turn c (journal q left.deeds) (requests_to q (client_read c left.deeds)) (cons_option (kept_at c q w.kept) (cons_option (cond (a && b) (Some (x.key).index) None) (told c q left.deeds))) ((w.client).core).fault (now w)
+            → DirectTurn c (journal q left.deeds) (requests_to q (client_read c left.deeds)) (cons_option (kept_at c q w.kept) (cons_option (cond (a && b) (Some (x.key).index) None) (told c q left.deeds))) ((w.client).core).fault (now w)
         by true f true g =
             let t = before.at c q in
             record { others = t.others; stands = t.stands ∙ ap (λ (zs : List ℕ). t.others ++ zs) (sym (dropped c (journal q left.deeds) (kept_at c q w.kept) (x.key).index (told c q left.deeds) (there_now f (sym g)))); all = t.all }
@@ -406,7 +406,7 @@ begins_turns lines = subst InTurn (sym (begun_by lines _ (lines_begin lines))) (
 pub turns_end : (w : WorldState) → InTurn w → (c d : ℕ) → EndsWith (unserved c d w.deeds (requests_to d (client_read c w.deeds))) (unserved c d w.deeds (told c d w.deeds))
 turns_end w is c d =
     let (first, same) = left_over c d (kept_at c d w.kept) ((w.client).core).outbox (told c d w.deeds) in
-    let shut : Turn c (journal d w.deeds) (requests_to d (client_read c w.deeds)) (told c d w.deeds) None None = turn_left first (told c d w.deeds) same (λ fine opens. cc opens) (is.at c d) in
+    let shut : DirectTurn c (journal d w.deeds) (requests_to d (client_read c w.deeds)) (told c d w.deeds) None None = turn_left first (told c d w.deeds) same (λ fine opens. cc opens) (is.at c d) in
     (shut.others, shut.stands)
 
 pub reached_ends : (lines : List NumberedLine) (starves : Key → Bool) → AreFit (declared_devices (bare_lines lines)) → RunPremises lines → MeetNone lines starves → (w : WorldState) → Reached lines starves w

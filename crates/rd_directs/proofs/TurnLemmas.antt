@@ -33,7 +33,7 @@ use Rattle.rd_world.specs.Talk.{Deed, EndsWith, Has, client_read, client_reads, 
 use Rattle.rd_world.specs.Told.{CompletesWith, came, came_as, is_of_device, requests_to, told, told_at}
 use Rattle.rd_world.specs.World.{Kept, WorldState}
 use Rattle.rd_runs.proofs.Insides.{AreOwn, IsInside, IsOwn}
-use Rattle.rd_directs.specs.Turns.{InTurn, Turn, TurnIn, Turns, kept_at, never, said}
+use Rattle.rd_directs.specs.Turns.{InTurn, DirectTurn, TurnIn, Turns, kept_at, never, said}
 
 -- ---- lists
 
@@ -67,7 +67,7 @@ none_before (x ∷ xs) ys e = absurd (cc e)
 
 -- ---- a turn
 
-turn_stored : {c : ℕ} {j : List Item} {reqs line : List ℕ} {f : Option EndFault} {o : Option ℕ} (x : Item) → Turn c j reqs line f o → Turn c (x ∷ j) reqs line f o
+turn_stored : {c : ℕ} {j : List Item} {reqs line : List ℕ} {f : Option EndFault} {o : Option ℕ} (x : Item) → DirectTurn c j reqs line f o → DirectTurn c (x ∷ j) reqs line f o
 turn_stored (Ran k m s p) t = record { others = t.others; stands = t.stands; all = t.all }
 turn_stored (Cancelled k) t = record { others = t.others; stands = t.stands; all = t.all }
 turn_stored (Sent k) t = record { others = t.others; stands = t.stands; all = t.all }
@@ -85,7 +85,7 @@ turn_stored {c = c} {j = j} {reqs = reqs} {line = line} (Came k) t = record {
     g i = came c j i
 
 -- a shorter line, whose first ones are left
-pub turn_left : {c : ℕ} {j : List Item} {reqs line : List ℕ} {f f' : Option EndFault} {o o' : Option ℕ} (first rest : List ℕ) → line ≡ first ++ rest → (f' ≡ None → o' ≡ Some c → ⊥) → Turn c j reqs line f o → Turn c j reqs rest f' o'
+pub turn_left : {c : ℕ} {j : List Item} {reqs line : List ℕ} {f f' : Option EndFault} {o o' : Option ℕ} (first rest : List ℕ) → line ≡ first ++ rest → (f' ≡ None → o' ≡ Some c → ⊥) → DirectTurn c j reqs line f o → DirectTurn c j reqs rest f' o'
 turn_left {c = c} {j = j} {reqs = reqs} {line = line} first rest same shut t = record {
   others = t.others ++ never c j first;
   stands = t.stands ∙ ap (λ (zs : List ℕ). t.others ++ never c j zs) same ∙ ap (λ (zs : List ℕ). t.others ++ zs) (kept_parts (λ i. not (came c j i)) first rest) ∙ sym (assoc t.others (never c j first) (never c j rest));
@@ -126,7 +126,7 @@ said_ends c d (o ∷ os) line = by (told_at c d (deed_on c o)) (λ l. said_ends 
 pub turns_own : {k : Option Kept} {os : List Outgoing} {f : Option EndFault} {o : Option ℕ} (deeds : List Deed) (y : Deed) → IsOwn y → Turns k os deeds f o → Turns k os (y ∷ deeds) f o
 turns_own {k = k} {os = os} {f = f} {o = o} deeds (stores e x) own is = record { at = λ c d. by c d (e == d) }
   where
-    by : (c d : ℕ) (b : Bool) → Turn c (cons_option (cond b (Some x) None) (journal d deeds)) (requests_to d (client_read c deeds)) (cons_option (kept_at c d k) (said c d os (told c d deeds))) f o
+    by : (c d : ℕ) (b : Bool) → DirectTurn c (cons_option (cond b (Some x) None) (journal d deeds)) (requests_to d (client_read c deeds)) (cons_option (kept_at c d k) (said c d os (told c d deeds))) f o
     by c d true = turn_stored x (is.at c d)
     by c d false = is.at c d
 turns_own deeds (removes d) own is = record { at = is.at }
@@ -152,7 +152,7 @@ turns_inside {k = k} {os = os} {f = f} {o = o} w v inside is = subst (λ (ds : L
 pub turns_said : {k : Option Kept} {os : List Outgoing} {deeds : List Deed} {f : Option EndFault} {o : Option ℕ} (grown more : List Outgoing) → grown ≡ os ++ more → ((x : Outgoing) → Has x more → x.answers ≡ None) → Turns k os deeds f o → Turns k grown deeds f o
 turns_said {k = k} {os = os} {deeds = deeds} {f = f} {o = o} grown more same none is = record {
   at = λ c d.
-      subst (λ (line : List ℕ). Turn c (journal d deeds) (requests_to d (client_read c deeds)) (cons_option (kept_at c d k) line) f o)
+      subst (λ (line : List ℕ). DirectTurn c (journal d deeds) (requests_to d (client_read c deeds)) (cons_option (kept_at c d k) line) f o)
       (sym (said_same c d os more (told c d deeds) none) ∙ ap (λ (xs : List Outgoing). said c d xs (told c d deeds)) (sym same)) (is.at c d);
 }
 
@@ -161,7 +161,7 @@ pub turns_direct : {os : List Outgoing} {deeds : List Deed} {f : Option EndFault
     → Turns None (os ++ record { message = m; answers = Some k.job.key } ∷ []) deeds f o
 turns_direct {os = os} {deeds = deeds} {f = f} {o = o} k m of is = record {
   at = λ c d.
-      subst (λ (line : List ℕ). Turn c (journal d deeds) (requests_to d (client_read c deeds)) line f o)
+      subst (λ (line : List ℕ). DirectTurn c (journal d deeds) (requests_to d (client_read c deeds)) line f o)
       (ap (λ (b : Bool). cons_option (cond (k.job.key.channel == c && b) (Some k.job.key.index) None) (said c d os (told c d deeds))) (sym (of d))
       ∙ sym (said_last c d os (record { message = m; answers = Some k.job.key }) (told c d deeds))) (is.at c d);
 }
@@ -181,8 +181,8 @@ came_at {os = os} {deeds = deeds} {f = f} {o = o} k is c d = by (k.job.key.chann
     here e = rw (e, eq-eqb k.job.key.index k.job.key.index refl) refl
 
     by : (a : Bool) → (k.job.key.channel == c) ≡ a → (x : Bool) → (k.device == d) ≡ x → (y : Bool) → (k.device == d) ≡ y
-        → Turn c (journal d deeds) (requests_to d (client_read c deeds)) (cons_option (cond (a && x) (Some k.job.key.index) None) line) f o
-        → Turn c (cons_option (cond y (Some (Came k.job.key)) None) (journal d deeds)) (requests_to d (client_read c deeds)) line f o
+        → DirectTurn c (journal d deeds) (requests_to d (client_read c deeds)) (cons_option (cond (a && x) (Some k.job.key.index) None) line) f o
+        → DirectTurn c (cons_option (cond y (Some (Came k.job.key)) None) (journal d deeds)) (requests_to d (client_read c deeds)) line f o
     by true e true g true h t = let u = turn_stored (Came k.job.key) t in record { others = u.others; stands = u.stands ∙ ap (λ (zs : List ℕ). u.others ++ zs) (gone (came c (Came k.job.key ∷ journal d deeds) k.job.key.index) (here e)); all = u.all }
     by true e true g false h t = absurd (let no : ⊥ = grind (arith, nat_tests, g, h) in no)
     by true e false g true h t = turn_stored (Came k.job.key) t
@@ -194,14 +194,14 @@ pub turns_came : {os : List Outgoing} {deeds : List Deed} {f : Option EndFault} 
 turns_came k is = record { at = came_at k is }
 
 -- a message is read that is no request; or after something went wrong
-turn_fault : {c : ℕ} {j : List Item} {reqs line : List ℕ} {f f' : Option EndFault} {o : Option ℕ} (n : ℕ) → (f' ≡ None → ⊥) → Turn c j reqs line f o → Turn c j (n ∷ reqs) line f' o
+turn_fault : {c : ℕ} {j : List Item} {reqs line : List ℕ} {f f' : Option EndFault} {o : Option ℕ} (n : ℕ) → (f' ≡ None → ⊥) → DirectTurn c j reqs line f o → DirectTurn c j (n ∷ reqs) line f' o
 turn_fault {c = c} {j = j} {reqs = reqs} {line = line} {f' = f'} {o = o} n wrong t = by (came c j n) refl
   where
-    by : (b : Bool) → came c j n ≡ b → Turn c j (n ∷ reqs) line f' o
+    by : (b : Bool) → came c j n ≡ b → DirectTurn c j (n ∷ reqs) line f' o
     by true e = record { others = t.others; stands = ap (λ (b : Bool). cond (not b) (n ∷ never c j reqs) (never c j reqs)) e ∙ t.stands; all = λ fine. absurd (wrong fine) }
     by false e = record { others = n ∷ t.others; stands = ap (λ (b : Bool). cond (not b) (n ∷ never c j reqs) (never c j reqs)) e ∙ ap (λ (zs : List ℕ). n ∷ zs) t.stands; all = λ fine. absurd (wrong fine) }
 
-turn_asks : {c : ℕ} {j : List Item} {reqs line : List ℕ} {f f' : Option EndFault} {o : Option ℕ} (n m : ℕ) → m ≡ n → f ≡ None → o ≡ Some c → Turn c j reqs line f o → Turn c j (m ∷ reqs) (n ∷ line) f' o
+turn_asks : {c : ℕ} {j : List Item} {reqs line : List ℕ} {f f' : Option EndFault} {o : Option ℕ} (n m : ℕ) → m ≡ n → f ≡ None → o ≡ Some c → DirectTurn c j reqs line f o → DirectTurn c j (m ∷ reqs) (n ∷ line) f' o
 turn_asks {c = c} {j = j} {reqs = reqs} {line = line} n m same fine opens t = record {
   others = [];
   stands = ap (λ (x : ℕ). never c j (x ∷ reqs)) same ∙ ap (λ (zs : List ℕ). cond (not (came c j n)) (n ∷ zs) zs) (t.stands ∙ ap (λ (zs : List ℕ). zs ++ never c j line) (t.all fine opens));
@@ -215,9 +215,9 @@ module _ {os : List Outgoing} {deeds : List Deed} {f : Option EndFault} {o : Opt
       same : requests_to d (m ∷ client_read c deeds) ≡ requests_to d (client_read c deeds)
       same = ap (λ (b : Bool). if b && option_map_or (λ (r : Request). r.device == d) (request_in m) false then length (filter is_request (client_read c deeds)) ∷ requests_to d (client_read c deeds) else requests_to d (client_read c deeds)) other
 
-      by : (b : Bool) → Turn c (journal d deeds) (requests_to d (cons_option (cond b (Some m) None) (client_read c deeds))) (said c d os (told c d deeds)) f o
+      by : (b : Bool) → DirectTurn c (journal d deeds) (requests_to d (cons_option (cond b (Some m) None) (client_read c deeds))) (said c d os (told c d deeds)) f o
       by false = is.at c d
-      by true = subst (λ (xs : List ℕ). Turn c (journal d deeds) xs (said c d os (told c d deeds)) f o) (sym same) (is.at c d)
+      by true = subst (λ (xs : List ℕ). DirectTurn c (journal d deeds) xs (said c d os (told c d deeds)) f o) (sym same) (is.at c d)
 
   pub turns_other : is_request m ≡ false → Turns None os (client_reads ch m ∷ deeds) f o
   turns_other other = record { at = other_at other }
@@ -225,14 +225,14 @@ module _ {os : List Outgoing} {deeds : List Deed} {f : Option EndFault} {o : Opt
   wrong_at : (f' : Option EndFault) → (f' ≡ None → ⊥) → (c d : ℕ) → TurnIn None os (client_reads ch m ∷ deeds) f' o c d
   wrong_at f' wrong c d = by (ch == c)
     where
-      plainly : Turn c (journal d deeds) (requests_to d (client_read c deeds)) (said c d os (told c d deeds)) f' o
+      plainly : DirectTurn c (journal d deeds) (requests_to d (client_read c deeds)) (said c d os (told c d deeds)) f' o
       plainly = let t = is.at c d in record { others = t.others; stands = t.stands; all = λ fine. absurd (wrong fine) }
 
-      asks : (b : Bool) → Turn c (journal d deeds) (if b then length (filter is_request (client_read c deeds)) ∷ requests_to d (client_read c deeds) else requests_to d (client_read c deeds)) (said c d os (told c d deeds)) f' o
+      asks : (b : Bool) → DirectTurn c (journal d deeds) (if b then length (filter is_request (client_read c deeds)) ∷ requests_to d (client_read c deeds) else requests_to d (client_read c deeds)) (said c d os (told c d deeds)) f' o
       asks true = turn_fault (length (filter is_request (client_read c deeds))) wrong (is.at c d)
       asks false = plainly
 
-      by : (b : Bool) → Turn c (journal d deeds) (requests_to d (cons_option (cond b (Some m) None) (client_read c deeds))) (said c d os (told c d deeds)) f' o
+      by : (b : Bool) → DirectTurn c (journal d deeds) (requests_to d (cons_option (cond b (Some m) None) (client_read c deeds))) (said c d os (told c d deeds)) f' o
       by false = plainly
       by true = asks (is_request m && option_map_or (λ (r : Request). r.device == d) (request_in m) false)
 
@@ -242,7 +242,7 @@ module _ {os : List Outgoing} {deeds : List Deed} {f : Option EndFault} {o : Opt
   asks_at : (k : Kept) (r : Request) → f ≡ None → o ≡ Some ch → is_request m ≡ true → request_in m ≡ Some r → k.device ≡ r.device → k.job.key.channel ≡ ch → length (filter is_request (client_read ch deeds)) ≡ k.job.key.index
       → (c d : ℕ) → TurnIn (Some k) os (client_reads ch m ∷ deeds) f o c d
   asks_at k r fine opens one spelled device channel counted c d =
-      subst (λ (n : ℕ). Turn c (journal d deeds) (requests_to d (cons_option (cond (ch == c) (Some m) None) (client_read c deeds))) (cons_option (cond (n == c && k.device == d) (Some k.job.key.index) None) line) f o) (sym channel)
+      subst (λ (n : ℕ). DirectTurn c (journal d deeds) (requests_to d (cons_option (cond (ch == c) (Some m) None) (client_read c deeds))) (cons_option (cond (n == c && k.device == d) (Some k.job.key.index) None) line) f o) (sym channel)
       (by (ch == c) refl)
     where
       line : List ℕ
@@ -260,15 +260,15 @@ module _ {os : List Outgoing} {deeds : List Deed} {f : Option EndFault} {o : Opt
       same : requests_to d (m ∷ client_read c deeds) ≡ cond (r.device == d) (n ∷ reqs) reqs
       same = ap (λ (b : Bool). cond b (n ∷ reqs) reqs) both
 
-      at : (ch == c) ≡ true → (x : Bool) → (r.device == d) ≡ x → (y : Bool) → (k.device == d) ≡ y → Turn c (journal d deeds) (cond x (n ∷ reqs) reqs) (cons_option (cond y (Some k.job.key.index) None) line) f o
+      at : (ch == c) ≡ true → (x : Bool) → (r.device == d) ≡ x → (y : Bool) → (k.device == d) ≡ y → DirectTurn c (journal d deeds) (cond x (n ∷ reqs) reqs) (cons_option (cond y (Some k.job.key.index) None) line) f o
       at e true g true h = turn_asks k.job.key.index n (ap (λ (x : ℕ). length (filter is_request (client_read x deeds))) (sym (eqb-true ch c e)) ∙ counted) fine (opens ∙ ap (λ (x : ℕ). Some x) (eqb-true ch c e)) (is.at c d)
       at e false g false h = is.at c d
       at e true g false h = absurd (let no : ⊥ = grind (arith, nat_tests, g, h, device) in no)
       at e false g true h = absurd (let no : ⊥ = grind (arith, nat_tests, g, h, device) in no)
 
-      by : (b : Bool) → (ch == c) ≡ b → Turn c (journal d deeds) (requests_to d (cons_option (cond b (Some m) None) (client_read c deeds))) (cons_option (cond (b && k.device == d) (Some k.job.key.index) None) line) f o
+      by : (b : Bool) → (ch == c) ≡ b → DirectTurn c (journal d deeds) (requests_to d (cons_option (cond b (Some m) None) (client_read c deeds))) (cons_option (cond (b && k.device == d) (Some k.job.key.index) None) line) f o
       by false e = is.at c d
-      by true e = subst (λ (xs : List ℕ). Turn c (journal d deeds) xs (cons_option (cond (k.device == d) (Some k.job.key.index) None) line) f o) (sym same) (at e (r.device == d) refl (k.device == d) refl)
+      by true e = subst (λ (xs : List ℕ). DirectTurn c (journal d deeds) xs (cons_option (cond (k.device == d) (Some k.job.key.index) None) line) f o) (sym same) (at e (r.device == d) refl (k.device == d) refl)
 
   pub turns_asks : (k : Kept) (r : Request) → f ≡ None → o ≡ Some ch → is_request m ≡ true → request_in m ≡ Some r → k.device ≡ r.device → k.job.key.channel ≡ ch → length (filter is_request (client_read ch deeds)) ≡ k.job.key.index
       → Turns (Some k) os (client_reads ch m ∷ deeds) f o

@@ -30,14 +30,14 @@ abbrev pub never : ℕ → List Item → List ℕ → List ℕ
 never c j indices = filter (λ index. not (came c j index)) indices
 
 -- Of the requests that never came some are in line, up to a last one; and all of them while the channel is open and nothing is wrong.
-pub record Turn (c : ℕ) (j : List Item) (requests line : List ℕ) (fault : Option EndFault) (opened : Option ℕ) : Type 0 where
+pub record DirectTurn (c : ℕ) (j : List Item) (requests line : List ℕ) (fault : Option EndFault) (opened : Option ℕ) : Type 0 where
   pub others : List ℕ
   pub stands : never c j requests ≡ others ++ never c j line
   pub all : fault ≡ None → opened ≡ Some c → others ≡ []
 
 -- the same of a channel and a device, and of all
 abbrev pub TurnIn : Option Kept → List Outgoing → List Deed → Option EndFault → Option ℕ → ℕ → ℕ → Type 0
-TurnIn kept outbox deeds fault opened c d = Turn c (journal d deeds) (requests_to d (client_read c deeds)) (cons_option (kept_at c d kept) (said c d outbox (told c d deeds))) fault opened
+TurnIn kept outbox deeds fault opened c d = DirectTurn c (journal d deeds) (requests_to d (client_read c deeds)) (cons_option (kept_at c d kept) (said c d outbox (told c d deeds))) fault opened
 
 pub record Turns (kept : Option Kept) (outbox : List Outgoing) (deeds : List Deed) (fault : Option EndFault) (opened : Option ℕ) : Type 0 where
   pub at : (c d : ℕ) → TurnIn kept outbox deeds fault opened c d

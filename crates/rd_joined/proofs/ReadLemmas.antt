@@ -136,7 +136,7 @@ accepted_summed (a ∷ xs) n = omega (arith, accepted_summed xs n, sum_once (acc
         by true e = absurd (apart (sym (eqb-true a.channel c e)))
         by false e = omega (arith, length-append (newest c xs) [])
 
-accepted_counted : (client : ℕ) (deeds : List Deed) → length (accepted client deeds) ≡ count.accepted deeds
+accepted_counted : (client : ℕ) (deeds : List Deed) → length (accepted client deeds) ≡ count.accepted_count deeds
 accepted_counted client [] = refl
 accepted_counted client (submits a named o ∷ before) =
     let more : length (accepted client (submits a named o ∷ before)) ≡ length (accepted client before) + 1 =
@@ -178,7 +178,7 @@ read_few client deeds may carried c =
       length-append w.unsent (requests_on c deeds),
     )
 
-pub reads_few : (client : ℕ) (deeds : List Deed) → Does client deeds → IsCarried deeds → reads_count deeds ≤ count.accepted deeds
+pub reads_few : (client : ℕ) (deeds : List Deed) → Does client deeds → IsCarried deeds → reads_count deeds ≤ count.accepted_count deeds
 reads_few client deeds may carried =
     let n : ℕ = top deeds in
     omega (

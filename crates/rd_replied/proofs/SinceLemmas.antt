@@ -28,7 +28,7 @@ use Rattle.rd_world.specs.Told.{RemovedSince}
 use Rattle.rd_world.proofs.Journals.{HasRun}
 use Rattle.rd_replied.specs.Removals.{IsCutSince, IsGoneSince, TellsGone}
 use Rattle.rd_replied.specs.Replied.{AnswersBy, ComesFrom}
-use Rattle.rd_replied.specs.Since.{AnswersSince, IsAnsweredBy}
+use Rattle.rd_replied.specs.Since.{AnswersSince, IsAnswerSince}
 use Rattle.rd_replied.proofs.CutLemmas.{gives_run, is_before, since_add, since_join, since_of, turn}
 
 -- ---- lists
@@ -133,7 +133,7 @@ module _ (devices : List (ℕ × Declared)) (deeds : List Deed) (fit : AreFit de
       (late, early, m, parts, says, was ∙ ap (λ (x : Request). Some x) same)
 
   one_since : (late before : List Deed) (key : Key) (r : Request) (reply : Reply) → deeds ≡ late ++ before → request_at (client_read key.channel before) key.index ≡ Some r
-      → ((device : ℕ) → IsCutSince (journal device before) key → IsGoneSince device key before) → ComesFrom (replies_in devices deeds) before key r reply → IsAnsweredBy (replies_in devices deeds) before key r reply
+      → ((device : ℕ) → IsCutSince (journal device before) key → IsGoneSince device key before) → ComesFrom (replies_in devices deeds) before key r reply → IsAnswerSince (replies_in devices deeds) before key r reply
   one_since late before key r reply parts read gone (inl is) = inl (record {
     earlier = is.earlier;
     later = is.later;

@@ -10,13 +10,13 @@ use Rattle.rd_world.specs.Talk.{Deed, Has, completes, journal}
 use Rattle.rd_world.specs.Told.{IsReplied, RemovedSince, Replies, came}
 
 -- The reply belongs to the key by its journal; or the request was cancelled, and its device removed since; or it never came and was refused.
-abbrev pub IsAnsweredBy : Replies → List Deed → Key → Request → Reply → Type 0
-IsAnsweredBy replies before key r reply =
+abbrev pub IsAnswerSince : Replies → List Deed → Key → Request → Reply → Type 0
+IsAnswerSince replies before key r reply =
     IsReplied replies r.device key r reply before
     ⊎ ((Has (Cancelled key) (journal r.device before) × (reply ≡ cancellation) × RemovedSince r.device key r before)
     ⊎ ((came key.channel (journal r.device before) key.index ≡ false) × IsRefusalOf r reply))
 
 -- a completion is written after the read of the request that it completes, and answers it so
 abbrev pub AnswersSince : Replies → List Deed → Deed → Type 0
-AnswersSince replies before (completes key message) = IsAnswerOf (IsAnsweredBy replies before key) before key message
+AnswersSince replies before (completes key message) = IsAnswerOf (IsAnswerSince replies before key) before key message
 AnswersSince replies before _ = Unit {0}
