@@ -11,7 +11,7 @@ ghost use Rattle.rd_runs.specs.Premises.{RunPremises};
 ghost use Rattle.rd_world.specs.Joining.{IsAlone};
 ghost use Rattle.rd_world.specs.Talk.{Deed, EachAfter, EndsWith, client_read, client_reads, journal, request_in};
 ghost use Rattle.rd_world.specs.Told.{Answers, ComesUnworn, Replies, requests_to, told, unserved, worn_entries};
-ghost use Rattle.rd_world.specs.World.{WorldState};
+ghost use Rattle.rd_world.specs.World.{Kept, WorldState};
 ghost use Rattle.rd_directs.specs.Turns.{MeetNone, NoneHeld};
 
 /// Where no request meets a job at its station that is held with its completion id: of each device on each channel the answers to requests that never came
@@ -31,4 +31,10 @@ pub fn requests_come_unworn()
 pub fn alone_requests_meet_none()
     ensures { (lines : List NumberedLine) (starves : Key → Bool) (w : WorldState) (channel : ℕ) (m : List ℕ) → RunPremises lines → IsBehind lines starves w → ((w.side).table).channel ≡ Some channel
         → IsAlone (client_reads w.channels m ∷ w.deeds) w.deeds (client_reads w.channels m) → (r : Request) → request_in m ≡ Some r → NoneHeld w r.device r.completion }
+{}
+
+/// Where each request was alone when it was read, a job that is kept back meets none that is held with its completion id.
+pub fn kept_jobs_meet_none()
+    ensures { (lines : List NumberedLine) (starves : Key → Bool) (w : WorldState) (k : Kept) → RunPremises lines → IsBehind lines starves w → w.kept ≡ Some k → EachAfter (IsAlone w.deeds) w.deeds
+        → NoneHeld w k.device k.job.completion }
 {}

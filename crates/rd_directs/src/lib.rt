@@ -5,4 +5,7 @@
 
 mod laws;
 
-pub use laws::{alone_requests_meet_none, direct_answers_are_in_order, requests_come_unworn};
+pub use laws::{
+    alone_requests_meet_none, direct_answers_are_in_order, kept_jobs_meet_none,
+    requests_come_unworn,
+};

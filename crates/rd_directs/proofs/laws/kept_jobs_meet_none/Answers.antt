@@ -1,0 +1,19 @@
+use Rattle.rd_drive.specs.Ranged.{IsReplyInRange}
+use Rattle.rd_journals.proofs.CameLemmas.{fines}
+use Rattle.rd_journals.proofs.CompletionLemmas.{lost_ranged, runs_good}
+use Rattle.rd_journals.proofs.DeclaredLemmas.{bounded_fit}
+use Rattle.rd_journals.proofs.RunLemmas.{behind_orderly}
+use Rattle.rd_journals.proofs.WorkLemmas.{behind_working}
+use Rattle.rd_journals.specs.Jobs.{FitsCompletion}
+use Rattle.rd_world.specs.Opening.{bare_lines}
+use Rattle.rd_world.specs.Run.{declared_devices}
+use Rattle.rd_directs.proofs.AloneLemmas.{kept_open, none_met}
+use Rattle.rd_directs.proofs.laws.kept_jobs_meet_none.Goals as goal
+
+pub returns : goal.returns
+returns c lines starves w k premises behind kept alone =
+    let fit = bounded_fit lines premises.bounded in
+    let ordered = (behind_orderly lines starves w fit behind).0 in
+    let (channel, opened) = kept_open w k ordered kept in
+    none_met FitsCompletion IsReplyInRange (declared_devices (bare_lines lines)) w channel ordered opened
+    (behind_working FitsCompletion IsReplyInRange lost_ranged runs_good lines starves w fit behind (fines lines starves premises w behind)) k kept alone
