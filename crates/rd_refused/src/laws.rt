@@ -19,7 +19,8 @@ ghost use Rattle.rd_world.specs.Session.{replies_in};
 ghost use Rattle.rd_world.specs.Talk.{EachAfter};
 ghost use Rattle.rd_world.specs.Told.{Answers, is_said_gone};
 ghost use Rattle.rd_world.specs.World.{WorldState};
-ghost use Rattle.rd_refused.specs.Refused.{RefusesDirectly};
+ghost use Rattle.rd_client.specs.Core.{ClientCoreState, listed_one, refresh, tell_added, tell_removed};
+ghost use Rattle.rd_refused.specs.Refused.{MarksSay, RefusesDirectly};
 
 /// Where each refusal of a request that never came is the one that its device's removal or journal calls for, each completion is the answer to its key.
 pub fn refusals_are_left()
@@ -33,4 +34,12 @@ pub fn messages_say_who_is_gone()
     ensures list { (d : ℕ) (list : List Announce) (older : List (List ℕ)) → SpellsList list 0 (list_bytes list)
         → is_said_gone d (list_bytes list ∷ older) ≡ (not (list_any (λ (a : Announce). a.id == d) list) && is_said_gone d older) }
     ensures completion { (d : ℕ) (kind : Kind) (head : Head) (body : Body) (older : List (List ℕ)) → is_said_gone d (completion_bytes kind head body ∷ older) ≡ is_said_gone d older }
+{}
+
+/// So what a client says of its devices is what its marks say, where that was so before: after a removal, after a device is there again, and after its data is another.
+pub fn marks_are_said()
+    ensures removed { (c : ClientCoreState) (device : ℕ) (older : List (List ℕ)) → device < 2 ^ 32 → MarksSay c older → MarksSay (tell_removed c device) (removal_bytes (device ∷ []) ∷ older) }
+    ensures added { (c : ClientCoreState) (device : ℕ) (older : List (List ℕ)) → SpellsList (listed_one c device) 0 (list_bytes (listed_one c device)) → MarksSay c older
+        → MarksSay (tell_added c device) (list_bytes (listed_one c device) ∷ older) }
+    ensures refreshed { (c : ClientCoreState) (device : ℕ) (body : List ℕ) (older : List (List ℕ)) → MarksSay c older → MarksSay (refresh c device body) older }
 {}

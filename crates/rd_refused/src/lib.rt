@@ -5,4 +5,4 @@
 
 mod laws;
 
-pub use laws::{messages_say_who_is_gone, refusals_are_left};
+pub use laws::{marks_are_said, messages_say_who_is_gone, refusals_are_left};
