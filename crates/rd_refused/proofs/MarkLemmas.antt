@@ -1,9 +1,9 @@
 -- What a client says of its devices is what its marks say.
 use Rattle.std.proofs.Common.{◌≡◌, ◌∙◌, refl, sym, ap, subst, ℕ, ◌==◌, ◌<◌, ◌^◌, Bool, true, false, List, [], ◌∷◌, map, eqb-true, eq-eqb, inl, inr}
-use Rattle.std.specs.Prelude.{◌||◌, ◌&&◌, not, cond, filter}
-use Rattle.std.specs.List.{list_any}
+use Rattle.std.specs.Prelude.{◌||◌, ◌&&◌, not, cond, filter, nat_eq}
+use Rattle.std.specs.List.{AllByRecursion, IsDistinct, list_any}
 use Rattle.std.proofs.lemmas.Bool.{cases_Bool}
-use Rattle.rd_client.specs.Core.{ClientCoreState, ClientDevice, announce_in, device_marked, is_device, listed_one, refresh, refreshed, tell_added, tell_removed}
+use Rattle.rd_client.specs.Core.{AreDevices, ClientCoreState, ClientDevice, announce_in, announces, device_marked, is_device, is_present, listed, listed_one, refresh, refreshed, tell_added, tell_removed}
 use Rattle.rd_devices.specs.DeviceList.{SpellsList, list_bytes}
 use Rattle.rd_devices.specs.Removal.{removal_bytes}
 use Rattle.rd_devices.specs.declared.list.Announce.{Announce}
@@ -163,3 +163,53 @@ unfolding told
 refresh_marks c e body older say d =
     say d ∙ ap (λ (z : Bool). told (Has d c.devices) z) (sym (gone_refreshed d e body c.devices))
     ∙ ap (λ (z : Bool). told z (Gone d (map (refreshed e body) c.devices))) (sym (has_refreshed d e body c.devices))
+
+-- ---- the first list
+
+Present : ℕ → List ClientDevice → Bool
+Present d ds = list_any (λ (a : Announce). a.id == d) (map announce_in (filter is_present ds))
+
+none_has : (d : ℕ) (ds : List ClientDevice) → AllByRecursion (λ y. nat_eq d y ≡ false) (map (λ (a : Announce). a.id) (map announce_in ds)) → Has d ds ≡ false
+none_has d [] differ = refl
+none_has d (x ∷ ds) differ = ap (λ (z : Bool). z || Has d ds) (turned d (id_of x) differ.0) ∙ none_has d ds differ.1
+
+left_off : (p r : Bool) → (p || r) ≡ false → (p ≡ false) × (r ≡ false)
+left_off false r is = (refl, is)
+left_off true r is = absurd (cc (is))
+
+none_gone : (d : ℕ) (ds : List ClientDevice) → Has d ds ≡ false → Gone d ds ≡ false
+none_gone d [] none = refl
+none_gone d (x ∷ ds) none = let both = left_off (is_device d x) (Has d ds) none in ap (λ (z : Bool). (z && x.removed) || Gone d ds) both.0 ∙ none_gone d ds both.1
+
+none_present : (d : ℕ) (ds : List ClientDevice) → Has d ds ≡ false → Present d ds ≡ false
+unfolding Present
+none_present d [] none = refl
+none_present d (x ∷ ds) none = let both = left_off (is_device d x) (Has d ds) none in by (not x.removed) both.0 (none_present d ds both.1)
+  where
+    by : (m : Bool) → is_device d x ≡ false → Present d ds ≡ false → list_any (λ (a : Announce). a.id == d) (map announce_in (cond m (x ∷ filter is_present ds) (filter is_present ds))) ≡ false
+    by true off rest = ap (λ (z : Bool). z || Present d ds) off ∙ rest
+    by false off rest = rest
+
+present_is : (d : ℕ) (ds : List ClientDevice) → IsDistinct nat_eq (map (λ (a : Announce). a.id) (map announce_in ds)) → Present d ds ≡ (Has d ds && not (Gone d ds))
+unfolding Present IsDistinct
+present_is d [] apart = refl
+present_is d (x ∷ ds) apart = by (is_device d x) x.removed refl (present_is d ds apart.1)
+  where
+    alone : is_device d x ≡ true → Has d ds ≡ false
+    alone is = none_has d ds (subst (λ (k : ℕ). AllByRecursion (λ y. nat_eq k y ≡ false) (map (λ (a : Announce). a.id) (map announce_in ds))) (eqb-true (id_of x) d is) apart.0)
+
+    by : (p r : Bool) → is_device d x ≡ p → Present d ds ≡ (Has d ds && not (Gone d ds))
+        → list_any (λ (a : Announce). a.id == d) (map announce_in (cond (not r) (x ∷ filter is_present ds) (filter is_present ds))) ≡ ((p || Has d ds) && not ((p && r) || Gone d ds))
+    by true true is rest = none_present d ds (alone is)
+    by true false is rest = ap (λ (z : Bool). z || Present d ds) is ∙ ap not (sym (none_gone d ds (alone is)))
+    by false true is rest = rest
+    by false false is rest = ap (λ (z : Bool). z || Present d ds) is ∙ rest
+
+pub first_marks : (c : ClientCoreState) (older : List (List ℕ)) → AreDevices (announces c) → SpellsList (listed c) 0 (list_bytes (listed c)) → ((d : ℕ) → is_said_gone d older ≡ true) → MarksSay c (list_bytes (listed c) ∷ older)
+unfolding Present
+first_marks c older are spells say d =
+    list_says d (listed c) older spells ∙ ap (λ (z : Bool). not (Present d c.devices) && z) (say d) ∙ and_true (not (Present d c.devices)) ∙ ap not (present_is d c.devices are.apart)
+  where
+    and_true : (b : Bool) → (b && true) ≡ b
+    and_true true = refl
+    and_true false = refl

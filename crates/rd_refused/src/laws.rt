@@ -1,6 +1,6 @@
 //! Which refusal is given to a request that never came, as contracts of functions that do nothing.
 
-ghost use Rattle.std.specs.Prelude.{◌≡◌, ℕ, ◌==◌, ◌<◌, ◌^◌, ◌||◌, ◌&&◌, not, Bool, List, ◌∷◌, []};
+ghost use Rattle.std.specs.Prelude.{◌≡◌, ℕ, true, ◌==◌, ◌<◌, ◌^◌, ◌||◌, ◌&&◌, not, Bool, List, ◌∷◌, []};
 ghost use Rattle.std.specs.List.{list_any};
 ghost use Rattle.rd_base.specs.declared.journal.Key.{Key};
 ghost use Rattle.rd_devices.specs.DeviceList.{SpellsList, list_bytes};
@@ -19,7 +19,7 @@ ghost use Rattle.rd_world.specs.Session.{replies_in};
 ghost use Rattle.rd_world.specs.Talk.{EachAfter};
 ghost use Rattle.rd_world.specs.Told.{Answers, is_said_gone};
 ghost use Rattle.rd_world.specs.World.{WorldState};
-ghost use Rattle.rd_client.specs.Core.{ClientCoreState, listed_one, refresh, tell_added, tell_removed};
+ghost use Rattle.rd_client.specs.Core.{AreDevices, ClientCoreState, announces, listed, listed_one, refresh, tell_added, tell_removed};
 ghost use Rattle.rd_refused.specs.Refused.{MarksSay, RefusesDirectly};
 
 /// Where each refusal of a request that never came is the one that its device's removal or journal calls for, each completion is the answer to its key.
@@ -37,9 +37,12 @@ pub fn messages_say_who_is_gone()
 {}
 
 /// So what a client says of its devices is what its marks say, where that was so before: after a removal, after a device is there again, and after its data is another.
+/// And so it is after the first list, before which nothing was said of any.
 pub fn marks_are_said()
     ensures removed { (c : ClientCoreState) (device : ℕ) (older : List (List ℕ)) → device < 2 ^ 32 → MarksSay c older → MarksSay (tell_removed c device) (removal_bytes (device ∷ []) ∷ older) }
     ensures added { (c : ClientCoreState) (device : ℕ) (older : List (List ℕ)) → SpellsList (listed_one c device) 0 (list_bytes (listed_one c device)) → MarksSay c older
         → MarksSay (tell_added c device) (list_bytes (listed_one c device) ∷ older) }
+    ensures first { (c : ClientCoreState) (older : List (List ℕ)) → AreDevices (announces c) → SpellsList (listed c) 0 (list_bytes (listed c)) → ((device : ℕ) → is_said_gone device older ≡ true)
+        → MarksSay c (list_bytes (listed c) ∷ older) }
     ensures refreshed { (c : ClientCoreState) (device : ℕ) (body : List ℕ) (older : List (List ℕ)) → MarksSay c older → MarksSay (refresh c device body) older }
 {}
