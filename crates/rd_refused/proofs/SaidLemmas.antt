@@ -8,6 +8,7 @@ use Rattle.rd_base.specs.Layout.{four_bytes, met}
 use Rattle.rd_base.specs.Limits.{max_devices}
 use Rattle.rd_base.specs.Position.{at_start}
 use Rattle.rd_base.specs.declared.packet.Packet.{Packet}
+use Rattle.rd_base.specs.declared.packet.Packet.TheVariants as packet
 use Rattle.rd_base.specs.declared.packet.Packet.TheVariants.{DeviceListAnnounce, DeviceListRemove, IoCompletion}
 use Rattle.rd_base.specs.Header.{packet_id}
 use Rattle.rd_base.proofs.CountedLemmas.{counted_spelled}
@@ -17,7 +18,10 @@ use Rattle.rd_devices.specs.DeviceList.{SpellsList, device_list, list_bytes}
 use Rattle.rd_devices.specs.Removal.{removal, removal_bytes}
 use Rattle.rd_devices.specs.declared.list.Announce.{Announce}
 use Rattle.rd_devices.proofs.RemovalLemmas.{removal_spelled}
+use Rattle.rd_hello.specs.Hello.{hello_bytes}
 use Rattle.rd_hello.specs.Moves.{packet_in}
+use Rattle.rd_hello.specs.declared.hello.Hello.{Hello}
+use Rattle.rd_hello.specs.declared.hello.Hello.TheVariants as hello
 use Rattle.rd_irp.specs.declared.completion.Body.{Body}
 use Rattle.rd_irp.specs.declared.completion.Head.{Head}
 use Rattle.rd_irp.specs.declared.completion.Kind.{Kind}
@@ -73,3 +77,12 @@ list_says d list older spells =
 -- a completion says nothing of any
 pub completion_says : (d : ℕ) (kind : Kind) (head : Head) (body : Body) (older : List (List ℕ)) → is_said_gone d (completion_bytes kind head body ∷ older) ≡ is_said_gone d older
 completion_says d kind head body older = other_says IoCompletion d (completion_bytes kind head body) older (written_packet IoCompletion _) refl refl
+
+-- nor does a message of the opening
+pub hello_says : (d : ℕ) (x : Hello) (older : List (List ℕ)) → is_said_gone d (hello_bytes x ∷ older) ≡ is_said_gone d older
+hello_says d (hello.Announce v) older = other_says packet.ServerAnnounce d _ older (written_packet packet.ServerAnnounce _) refl refl
+hello_says d (hello.Confirm v) older = other_says packet.ClientIdConfirm d _ older (written_packet packet.ClientIdConfirm _) refl refl
+hello_says d (hello.Name a b c) older = other_says packet.ClientName d _ older (written_packet packet.ClientName _) refl refl
+hello_says d (hello.ServerCaps caps) older = other_says packet.ServerCapability d _ older (written_packet packet.ServerCapability _) refl refl
+hello_says d (hello.ClientCaps caps) older = other_says packet.ClientCapability d _ older (written_packet packet.ClientCapability _) refl refl
+hello_says d hello.LoggedOn older = other_says packet.UserLoggedOn d _ older (written_packet packet.UserLoggedOn _) refl refl

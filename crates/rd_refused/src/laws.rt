@@ -6,6 +6,8 @@ ghost use Rattle.rd_base.specs.declared.journal.Key.{Key};
 ghost use Rattle.rd_devices.specs.DeviceList.{SpellsList, list_bytes};
 ghost use Rattle.rd_devices.specs.Removal.{removal_bytes};
 ghost use Rattle.rd_devices.specs.declared.list.Announce.{Announce};
+ghost use Rattle.rd_hello.specs.Hello.{hello_bytes};
+ghost use Rattle.rd_hello.specs.declared.hello.Hello.{Hello};
 ghost use Rattle.rd_irp.specs.declared.completion.Body.{Body};
 ghost use Rattle.rd_irp.specs.declared.completion.Head.{Head};
 ghost use Rattle.rd_irp.specs.declared.completion.Kind.{Kind};
@@ -28,12 +30,13 @@ pub fn refusals_are_left()
         → EachAfter (Answers (replies_in (declared_devices (bare_lines lines)) w.deeds)) w.deeds }
 {}
 
-/// What a client writes says of each device what it is meant to: a removal that its device is gone, a list that its devices are there, and a completion nothing.
+/// What a client writes says of each device what it is meant to: a removal that its device is gone, a list that its devices are there, and a completion or a message of the opening nothing.
 pub fn messages_say_who_is_gone()
     ensures removal { (d e : ℕ) (older : List (List ℕ)) → e < 2 ^ 32 → is_said_gone d (removal_bytes (e ∷ []) ∷ older) ≡ (e == d || is_said_gone d older) }
     ensures list { (d : ℕ) (list : List Announce) (older : List (List ℕ)) → SpellsList list 0 (list_bytes list)
         → is_said_gone d (list_bytes list ∷ older) ≡ (not (list_any (λ (a : Announce). a.id == d) list) && is_said_gone d older) }
     ensures completion { (d : ℕ) (kind : Kind) (head : Head) (body : Body) (older : List (List ℕ)) → is_said_gone d (completion_bytes kind head body ∷ older) ≡ is_said_gone d older }
+    ensures opening { (d : ℕ) (x : Hello) (older : List (List ℕ)) → is_said_gone d (hello_bytes x ∷ older) ≡ is_said_gone d older }
 {}
 
 /// So what a client says of its devices is what its marks say, where that was so before: after a removal, after a device is there again, and after its data is another.
