@@ -3,13 +3,21 @@
 ghost use Rattle.std.specs.Prelude.{ℕ, Bool, List};
 ghost use Rattle.rd_base.specs.declared.journal.Key.{Key};
 ghost use Rattle.rd_script.specs.declared.line.NumberedLine.{NumberedLine};
+ghost use Rattle.rd_journals.specs.Stations.{AreFit};
 ghost use Rattle.rd_runs.specs.Moves.{Reached};
 ghost use Rattle.rd_runs.specs.Premises.{RunPremises};
-ghost use Rattle.rd_world.specs.Session.{IsStoredOpen};
+ghost use Rattle.rd_world.specs.Opening.{bare_lines};
+ghost use Rattle.rd_world.specs.Run.{declared_devices};
+ghost use Rattle.rd_world.specs.Session.{IsPlain, IsStoredOpen};
 ghost use Rattle.rd_world.specs.Talk.{EachAfter};
 ghost use Rattle.rd_world.specs.World.{WorldState};
 
 /// An entry that names a key is stored while that key's channel is open.
 pub fn entries_are_stored_open()
     ensures { (lines : List NumberedLine) (starves : Key → Bool) (w : WorldState) → RunPremises lines → Reached lines starves w → EachAfter IsStoredOpen w.deeds }
+{}
+
+/// Each completion is what this project's writer makes of the reply with which it completes its request.
+pub fn completions_are_plain()
+    ensures { (lines : List NumberedLine) (starves : Key → Bool) (w : WorldState) → AreFit (declared_devices (bare_lines lines)) → RunPremises lines → Reached lines starves w → EachAfter IsPlain w.deeds }
 {}
