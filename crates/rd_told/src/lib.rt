@@ -6,4 +6,4 @@
 
 mod laws;
 
-pub use laws::{completions_are_plain, entries_are_stored_open};
+pub use laws::{completions_are_plain, devices_are_left, entries_are_stored_open};
