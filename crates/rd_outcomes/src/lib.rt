@@ -1,0 +1,8 @@
+//! What came of the lines of applications in every run.
+//!
+//! It stands on `rd_journals` and `rd_joined`, and has no code: each statement is the contract of a function that does nothing.
+#![tactic(auto)]
+
+mod laws;
+
+pub use laws::requests_are_sent;
