@@ -47,7 +47,7 @@ second_false false b e = refl
 
 -- ---- lines that control nothing
 
-asked_controls_none : (c : Control) (number : ℕ) (l : Line) (asked : ℕ × Asked) → asked_by l ≡ Some asked → controlled c number l ≡ c
+pub asked_controls_none : (c : Control) (number : ℕ) (l : Line) (asked : ℕ × Asked) → asked_by l ≡ Some asked → controlled c number l ≡ c
 unfolding asked_by controlled notice_of
 asked_controls_none c number (line.Open a handle device path) asked e = refl
 asked_controls_none c number (line.Create a handle device path disposition access share options attributes) asked e = refl
@@ -71,22 +71,22 @@ no_errand_told (line.Do e) n told = absurd cc
 no_errand_told l n told = refl
 
 -- before the first channel
-abbrev before_all : List ℕ → Control
+abbrev pub before_all : List ℕ → Control
 before_all ids = record { devices = ids; current = None; channels = 0; absent = []; acts = []; told = []; notices = []; cuts = []; idle = [] }
 
 module _ (lines : List NumberedLine) (starves : Key → Bool) (most : Most) (ids : List ℕ) (rise : Rise (numbers lines)) (premises : RunPremises lines) where
   -- What is seen of a world is what the control lines did, and it is reached behind the lines that are not still to come.
-  record Base (c : Control) (ls : List NumberedLine) (w : WorldState) : Type 0 where
-    count : ℕ
-    reached : ReachedWithin count lines starves w
-    few : count + length ls ≤ length lines + 1
-    sees : SeenAs ids lines c ls (seen w)
+  pub record Base (c : Control) (ls : List NumberedLine) (w : WorldState) : Type 0 where
+    pub count : ℕ
+    pub reached : ReachedWithin count lines starves w
+    pub few : count + length ls ≤ length lines + 1
+    pub sees : SeenAs ids lines c ls (seen w)
 
   -- And where a channel is open both ends are ready.
-  record Led (c : Control) (ls : List NumberedLine) (w : WorldState) : Type 0 where
-    base : Base c ls w
-    client : is_some c.current ≡ true → client_ready w ≡ true
-    host : is_some c.current ≡ true → host_ready w ≡ true
+  pub record Led (c : Control) (ls : List NumberedLine) (w : WorldState) : Type 0 where
+    pub base : Base c ls w
+    pub client : is_some c.current ≡ true → client_ready w ≡ true
+    pub host : is_some c.current ≡ true → host_ready w ≡ true
 
   -- ---- what happens by itself
 
@@ -116,18 +116,18 @@ module _ (lines : List NumberedLine) (starves : Key → Bool) (most : Most) (ids
   base_drawn : (c : Control) (ls : List NumberedLine) (w : WorldState) → Base c ls w → Base c ls (drawing w)
   base_drawn c ls w b = record { count = b.count; reached = moves_on b.count b.count w draws (omega arith) tt b.reached; few = b.few; sees = b.sees }
 
-  led_free : (c : Control) (ls : List NumberedLine) (w : WorldState) (e : Event) → event_weight e ≡ 0 → is_enabled w e ≡ true → Led c ls w → Led c ls (act starves w e)
+  pub led_free : (c : Control) (ls : List NumberedLine) (w : WorldState) (e : Event) → event_weight e ≡ 0 → is_enabled w e ≡ true → Led c ls w → Led c ls (act starves w e)
   led_free c ls w e free can l =
       let u = event_unseen starves w e free in
       record { base = base_free c ls w e free can l.base; client = λ open_is. u.client (l.client open_is); host = λ open_is. u.host (l.host open_is) }
 
-  led_drawn : (c : Control) (ls : List NumberedLine) (w : WorldState) → Led c ls w → Led c ls (drawing w)
+  pub led_drawn : (c : Control) (ls : List NumberedLine) (w : WorldState) → Led c ls w → Led c ls (drawing w)
   led_drawn c ls w l = record { base = base_drawn c ls w l.base; client = l.client; host = l.host }
 
   -- ---- a line passes
 
   -- it did nothing, or nothing that is seen
-  led_passed : (c : Control) (x : NumberedLine) (ls : List NumberedLine) (w : WorldState) → Led c (x ∷ ls) w → Led c ls w
+  pub led_passed : (c : Control) (x : NumberedLine) (ls : List NumberedLine) (w : WorldState) → Led c (x ∷ ls) w → Led c ls w
   led_passed c x ls w l = record {
     base = record { count = l.base.count; reached = l.base.reached; few = omega (arith, l.base.few); sees = passed ids lines c x ls (seen w) l.base.sees };
     client = l.client;
@@ -165,7 +165,7 @@ module _ (lines : List NumberedLine) (starves : Key → Bool) (most : Most) (ids
   -- ---- a channel begins
 
   -- the rounds of its beginning end where both ends are ready
-  begins_led : (c : Control) (ls : List NumberedLine) (w : WorldState) (n : ℕ) → ReachedWithin n lines starves w → n + 1 + length ls ≤ length lines + 1 → SeenAs ids lines c ls (seen w)
+  pub begins_led : (c : Control) (ls : List NumberedLine) (w : WorldState) (n : ℕ) → ReachedWithin n lines starves w → n + 1 + length ls ≤ length lines + 1 → SeenAs ids lines c ls (seen w)
       → is_enabled w event.connect ≡ true → ((w.side).table).channel ≡ None → IfSome (connects_on starves most w) (Led (connected c) ls)
   begins_led c ls w n r few sees can none =
       let x : WorldState = act starves w event.connect in
@@ -372,7 +372,7 @@ module _ (lines : List NumberedLine) (starves : Key → Bool) (most : Most) (ids
     controls_led (line.Do e) same known = errand_led e (ap is_errand same)
     controls_led y same known = told_led (notice_of y) (ap notice_of same)
 
-    line_led : NamesKnown ids x.line → IfSome (plays_line starves most w x) (Led (controlled c x.number x.line) ls)
+    pub line_led : NamesKnown ids x.line → IfSome (plays_line starves most w x) (Led (controlled c x.number x.line) ls)
     line_led known = go (asked_by x.line) refl
       where
         go : (o : Option (ℕ × Asked)) → asked_by x.line ≡ o
@@ -470,7 +470,7 @@ module _ (lines : List NumberedLine) (starves : Key → Bool) (most : Most) (ids
 
   -- ---- the beginning
 
-  then_on : (P Q : WorldState → Type 0) (on : WorldState → Option WorldState) (o : Option WorldState) → ((v : WorldState) → P v → IfSome (on v) Q) → IfSome o P → IfSome (option_and_then on o) Q
+  pub then_on : (P Q : WorldState → Type 0) (on : WorldState → Option WorldState) (o : Option WorldState) → ((v : WorldState) → P v → IfSome (on v) Q) → IfSome o P → IfSome (option_and_then on o) Q
   then_on P Q on None next own = tt
   then_on P Q on (Some v) next own = next v own
 
@@ -603,7 +603,7 @@ all_set_seen [] w = refl
 all_set_seen (l ∷ ls) w = all_set_seen ls (setting w l) ∙ one_set_seen w l
 
 -- what is seen at first
-first_sees : (lines : List NumberedLine) → Rise (numbers lines)
+pub first_sees : (lines : List NumberedLine) → Rise (numbers lines)
     → let ids = map (λ (e : ℕ × Declared). e.0) (declared_devices (map (λ (x : NumberedLine). x.line) lines)) in SeenAs ids lines (before_all ids) lines (seen (world_of lines))
 first_sees lines rise =
     let bare : List Line = map (λ (x : NumberedLine). x.line) lines in

@@ -8,3 +8,4 @@ pub mod Leading
 pub mod ScriptLemmas
 pub mod Resting
 pub mod Opening
+pub mod Along

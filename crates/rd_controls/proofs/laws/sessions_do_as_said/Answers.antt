@@ -1,3 +1,4 @@
+use Rattle.rd_controls.proofs.Along
 use Rattle.rd_controls.proofs.Leading.{does_as_said, rests_where_settled}
 use Rattle.rd_controls.proofs.ScriptLemmas.{scripts_ordered}
 use Rattle.rd_controls.proofs.laws.sessions_do_as_said.Goals as goal
