@@ -182,39 +182,46 @@ is_off : (b : Bool) → not b ≡ true → b ≡ false
 is_off false e = refl
 is_off true e = absurd (cc)
 
--- what is kept by each part that happens by itself
-module _ (lines : List NumberedLine) (starves : Key → Bool) (P : WorldState → Type 0)
-    (keep : (w : WorldState) (p : Part) → part_weight p ≡ 0 → MayBe lines starves w p → P w → P (done starves w p)) where
+-- whether an application's line is issued
+abbrev pub is_issue : Part → Bool
+is_issue (accepts a asked named t number) = true
+is_issue (refuses a asked cause) = true
+is_issue p = false
+
+-- What is kept by each part of some kind, to which all belong that happen by themselves and issue no line.
+module _ (lines : List NumberedLine) (starves : Key → Bool) (P : WorldState → Type 0) (Kind : Part → Type 0)
+    (kinds : (p : Part) → part_weight p ≡ 0 → is_issue p ≡ false → Kind p)
+    (keep : (w : WorldState) (p : Part) → Kind p → MayBe lines starves w p → P w → P (done starves w p)) where
   -- ---- applications
 
-  refused_keeps : (w : WorldState) (a : ℕ) (asked : Asked) (cause : Refusal) → may_issue (application_at w a) ≡ true → next_asked (application_at w a) ≡ Some asked
+  refused_keeps : ((p : Part) → is_issue p ≡ true → Kind p) → (w : WorldState) (a : ℕ) (asked : Asked) (cause : Refusal) → may_issue (application_at w a) ≡ true → next_asked (application_at w a) ≡ Some asked
       → IsRefused w a asked cause (target_of (application_at w a) asked) → P w → P (ends_line w a (outcome.Refused cause) None)
-  refused_keeps w a asked cause may next refused p =
+  refused_keeps issues w a asked cause may next refused p =
       subst (λ (o : Option Asked). P (option_map_or (λ asked. with_application w a (with_outcome (application_at w a) (outcome.Refused cause) None asked)) o w)) (sym next)
-      (keep w (refuses a asked cause) refl (may, next, refused) p)
+      (keep w (refuses a asked cause) (issues (refuses a asked cause) refl) (may, next, refused) p)
 
-  asked_keeps : (w : WorldState) (a : ℕ) (asked : Asked) → Reached lines starves w → may_issue (application_at w a) ≡ true → next_asked (application_at w a) ≡ Some asked → P w
+  asked_keeps : ((p : Part) → is_issue p ≡ true → Kind p) → (w : WorldState) (a : ℕ) (asked : Asked) → Reached lines starves w → may_issue (application_at w a) ≡ true → next_asked (application_at w a) ≡ Some asked → P w
       → (o : Option Target) → target_of (application_at w a) asked ≡ o → P (asks w a asked.op o)
-  asked_keeps w a asked reached may next p None target = refused_keeps w a asked refusal.NoHandle may next (subst (IsRefused w a asked refusal.NoHandle) (sym target) refl) p
-  asked_keeps w a asked reached may next p (Some named) target = by (table.submit (w.side).table a named asked.op) refl
+  asked_keeps issues w a asked reached may next p None target = refused_keeps issues w a asked refusal.NoHandle may next (subst (IsRefused w a asked refusal.NoHandle) (sym target) refl) p
+  asked_keeps issues w a asked reached may next p (Some named) target = by (table.submit (w.side).table a named asked.op) refl
     where
       by : (r : TableState × Result ℕ SubmitNo) → table.submit (w.side).table a named asked.op ≡ r → P (comes_of_asking w a asked.op named r)
-      by (t, Ok number) made = keep w (accepts a asked named t number) refl (reached, may, next, target, made) p
-      by (t, Err cause) made = refused_keeps w a asked (refusal_of cause) may next (subst (IsRefused w a asked (refusal_of cause)) (sym target) (t, cause, made, refl)) p
+      by (t, Ok number) made = keep w (accepts a asked named t number) (issues (accepts a asked named t number) refl) (reached, may, next, target, made) p
+      by (t, Err cause) made = refused_keeps issues w a asked (refusal_of cause) may next (subst (IsRefused w a asked (refusal_of cause)) (sym target) (t, cause, made, refl)) p
 
-  issue_keeps : (w : WorldState) (a : ℕ) → Reached lines starves w → may_issue (application_at w a) ≡ true → P w → P (issues w a)
-  issue_keeps w a reached may p = by (next_asked (application_at w a)) refl
+  issue_keeps : ((p : Part) → is_issue p ≡ true → Kind p) → (w : WorldState) (a : ℕ) → Reached lines starves w → may_issue (application_at w a) ≡ true → P w → P (issues w a)
+  issue_keeps issues w a reached may p = by (next_asked (application_at w a)) refl
     where
       by : (o : Option Asked) → next_asked (application_at w a) ≡ o → P (issues_next w a o)
       by None next = p
-      by (Some asked) next = asked_keeps w a asked reached may next p (target_of (application_at w a) asked) refl
+      by (Some asked) next = asked_keeps issues w a asked reached may next p (target_of (application_at w a) asked) refl
 
   outcome_keeps : (w : WorldState) (a : ℕ) → P w → P (takes_outcome w a)
   outcome_keeps w a p = by (application_at w a).awaits refl
     where
       from : (number : ℕ) → (application_at w a).awaits ≡ Some number → (r : TableState × Result Taken TakeNo) → table.take (w.side).table number ≡ r → P (takes_from w a number r)
       from number waits (t, Err cause) made = p
-      from number waits (t, Ok taken) made = keep w (hands_out a number t taken (next_asked (application_at w a))) refl (waits, refl, made) p
+      from number waits (t, Ok taken) made = keep w (hands_out a number t taken (next_asked (application_at w a))) (kinds (hands_out a number t taken (next_asked (application_at w a))) refl refl) (waits, refl, made) p
 
       by : (o : Option ℕ) → (application_at w a).awaits ≡ o → P (takes_awaited w a o)
       by None waits = p
@@ -224,7 +231,7 @@ module _ (lines : List NumberedLine) (starves : Key → Bool) (P : WorldState �
   outcomes_keep [] w p = p
   outcomes_keep (a ∷ applications) w p = outcomes_keep applications (takes_outcome w a) (outcome_keeps w a p)
 
-  all_take_keeps : (w : WorldState) → P w → P (all_take w)
+  pub all_take_keeps : (w : WorldState) → P w → P (all_take w)
   all_take_keeps w p = outcomes_keep (map (λ (e : ℕ × ApplicationState). e.0) w.applications) w p
 
   -- ---- what comes is handled
@@ -235,19 +242,19 @@ module _ (lines : List NumberedLine) (starves : Key → Bool) (P : WorldState �
     where
       first : w.kept ≡ None → ((x : WorldState) → P x → P (client_handles most x)) → (o : Option (List ℕ × List ℕ))
           → first_message ((w.to_client).part ++ (w.to_client).unhandled) ≡ o → P (client_handles_first w (handling_by w.to_client o) (client_handles most))
-      first kept next None is = keep w client_keeps_part refl (kept, is) p
+      first kept next None is = keep w client_keeps_part (kinds client_keeps_part refl refl) (kept, is) p
       first kept next (Some (message, rest)) is =
-          next (done starves w (client_hears_one message rest)) (keep w (client_hears_one message rest) refl (kept, is) p)
+          next (done starves w (client_hears_one message rest)) (keep w (client_hears_one message rest) (kinds (client_hears_one message rest) refl refl) (kept, is) p)
 
       by : (b : Bool) → is_some w.kept ≡ b → ((x : WorldState) → P x → P (client_handles most x))
           → P (if b then w else client_handles_first w (handling_by w.to_client (first_message ((w.to_client).part ++ (w.to_client).unhandled))) (client_handles most))
       by true kept next = p
       by false kept next = first (none_of w.kept kept) next (first_message ((w.to_client).part ++ (w.to_client).unhandled)) refl
 
-  client_all_keeps : (w : WorldState) → P w → P (client_handles_all w)
+  pub client_all_keeps : (w : WorldState) → P w → P (client_handles_all w)
   client_all_keeps w p = client_handling_keeps (most_messages w.to_client) w p
 
-  tries_keeps : (w : WorldState) (device : ℕ) → P w → P (tries_kept w device)
+  pub tries_keeps : (w : WorldState) (device : ℕ) → P w → P (tries_kept w device)
   tries_keeps w device p = by w.kept refl
     where
       by : (o : Option Kept) → w.kept ≡ o → P (tries w device o)
@@ -255,17 +262,17 @@ module _ (lines : List NumberedLine) (starves : Key → Bool) (P : WorldState �
       by (Some k) kept = when (k.device == device)
         where
           when : (b : Bool) → P (if b then client_handles_all (putting (record w { kept = None }) k.device k.job) else w)
-          when true = client_all_keeps (done starves w (tries_one k)) (keep w (tries_one k) refl kept p)
+          when true = client_all_keeps (done starves w (tries_one k)) (keep w (tries_one k) (kinds (tries_one k) refl refl) kept p)
           when false = p
 
-  host_handling_keeps : (most : ℕ) (w : WorldState) → P w → P (host_handles most w)
+  pub host_handling_keeps : (most : ℕ) (w : WorldState) → P w → P (host_handles most w)
   host_handling_keeps zero w p = p
   host_handling_keeps (suc most) w p = by (first_message ((w.to_host).part ++ (w.to_host).unhandled)) refl (host_handling_keeps most)
     where
       by : (o : Option (List ℕ × List ℕ)) → first_message ((w.to_host).part ++ (w.to_host).unhandled) ≡ o → ((x : WorldState) → P x → P (host_handles most x))
           → P (host_handles_first w (handling_by w.to_host o) (host_handles most))
-      by None is next = keep w host_keeps_part refl is p
-      by (Some (message, rest)) is next = next (done starves w (host_hears_one message rest)) (keep w (host_hears_one message rest) refl is p)
+      by None is next = keep w host_keeps_part (kinds host_keeps_part refl refl) is p
+      by (Some (message, rest)) is next = next (done starves w (host_hears_one message rest)) (keep w (host_hears_one message rest) (kinds (host_hears_one message rest) refl refl) is p)
 
   -- ---- events
 
@@ -279,7 +286,7 @@ module _ (lines : List NumberedLine) (starves : Key → Bool) (P : WorldState �
           → P (collects_from w device r)
       from s there (after, None) made = p
       from s there (after, Some c) made =
-          tries_keeps (done starves w (collects_one device s after c)) device (keep w (collects_one device s after c) refl (reached, idle, there, made) p)
+          tries_keeps (done starves w (collects_one device s after c)) device (keep w (collects_one device s after c) (kinds (collects_one device s after c) refl refl) (reached, idle, there, made) p)
 
       by : (o : Option (StationState SessionDevice)) → station_at w device ≡ o → P (option_map_or (λ (s : StationState SessionDevice). collects_from w device (station.collect s)) o w)
       by None there = p
@@ -290,7 +297,7 @@ module _ (lines : List NumberedLine) (starves : Key → Bool) (P : WorldState �
     where
       from : (s : StationState SessionDevice) → station_at w device ≡ Some s → (r : StationState SessionDevice × Given) → station.take s ≡ r
           → P (takes_job_from w device hand r)
-      from s there (after, given.Job job) made = keep w (takes_one device hand s after job) refl (free, there, made) p
+      from s there (after, given.Job job) made = keep w (takes_one device hand s after job) (kinds (takes_one device hand s after job) refl refl) (free, there, made) p
       from s there (after, given.Nothing) made = p
       from s there (after, given.Over) made = p
 
@@ -305,25 +312,34 @@ module _ (lines : List NumberedLine) (starves : Key → Bool) (P : WorldState �
       by : (o : Option (Option (ℕ × Job))) → hand_at w hand ≡ o → P (event.applies_held starves w hand (option_and_then (λ held. held) o))
       by None holds = p
       by (Some None) holds = p
-      by (Some (Some (device, job))) holds = keep w (applies_one hand device job (station_at w device)) refl (holds, refl) p
+      by (Some (Some (device, job))) holds = keep w (applies_one hand device job (station_at w device)) (kinds (applies_one hand device job (station_at w device)) refl refl) (holds, refl) p
 
-  host_send_keeps : (w : WorldState) → P w → P (event.host_sends_next w)
+  pub host_send_keeps : (w : WorldState) → P w → P (event.host_sends_next w)
   host_send_keeps w p = by (next_message w.side) refl
     where
       by : (o : Option (List ℕ)) → next_message w.side ≡ o → P (option_map_or (host_sends (record w { side = side_sends w.side })) o w)
       by None next = p
-      by (Some message) next = keep w (host_sends_one message) refl next p
+      by (Some message) next = keep w (host_sends_one message) (kinds (host_sends_one message) refl refl) next p
 
-  client_send_keeps : (w : WorldState) → P w → P (event.client_sends_next w)
+  pub client_send_keeps : (w : WorldState) → P w → P (event.client_sends_next w)
   client_send_keeps w p = by (client.client_send w.client) refl
     where
       by : (r : ClientCoreState × Option Outgoing) → client.client_send w.client ≡ r → P (event.client_sends_first w r)
       by (c, None) made = p
-      by (c, Some o) made = keep w (client_sends_one c o) refl made p
+      by (c, Some o) made = keep w (client_sends_one c o) (kinds (client_sends_one c o) refl refl) made p
 
 -- what each part keeps, counting the lines, each move keeps
 module _ (lines : List NumberedLine) (starves : Key → Bool) (P : ℕ → WorldState → Type 0)
     (keep : (n : ℕ) (w : WorldState) (p : Part) → MayBe lines starves w p → P n w → P (part_weight p + n) (done starves w p)) where
+  abbrev Free : Part → Type 0
+  Free p = part_weight p ≡ 0
+
+  -- a line that is issued is counted where it is queued
+  all_free : (p : Part) → is_issue p ≡ true → Free p
+  all_free (accepts a asked named t number) is = refl
+  all_free (refuses a asked cause) is = refl
+  all_free p is = absurd cc
+
   keep_free : (n : ℕ) (w : WorldState) (p : Part) → part_weight p ≡ 0 → MayBe lines starves w p → P n w → P n (done starves w p)
   keep_free n w p free may holds =
       let same : part_weight p + n ≡ n = omega (arith, free) in
@@ -336,35 +352,35 @@ module _ (lines : List NumberedLine) (starves : Key → Bool) (P : ℕ → World
       subst (λ (k : ℕ). P k w) same p
 
   event_keeps : (n : ℕ) (w : WorldState) (e : Event) → Reached lines starves w → IsOfLines lines e → is_enabled w e ≡ true → P n w → P (event_weight e + n) (act starves w e)
-  event_keeps n w (event.issue a) reached said can p = none_more n _ (issue_keeps lines starves (P n) (keep_free n) w a reached can p)
-  event_keeps n w event.host_send reached said can p = none_more n _ (host_send_keeps lines starves (P n) (keep_free n) w p)
+  event_keeps n w (event.issue a) reached said can p = none_more n _ (issue_keeps lines starves (P n) Free (λ p none no. none) (keep_free n) all_free w a reached can p)
+  event_keeps n w event.host_send reached said can p = none_more n _ (host_send_keeps lines starves (P n) Free (λ p none no. none) (keep_free n) w p)
   event_keeps n w (event.client_read k) reached said can p =
       let (some, kept) = both (is_read (w.to_client).pipe k) (is_none w.kept) can in
-      none_more n _ (client_all_keeps lines starves (P n) (keep_free n) (done starves w (client_gets k)) (keep_free n w (client_gets k) refl (some, no_kept w.kept kept) p))
+      none_more n _ (client_all_keeps lines starves (P n) Free (λ p none no. none) (keep_free n) (done starves w (client_gets k)) (keep_free n w (client_gets k) refl (some, no_kept w.kept kept) p))
     where
       no_kept : (o : Option Kept) → is_none o ≡ true → o ≡ None
       no_kept None e = refl
       no_kept (Some k) e = absurd (cc)
-  event_keeps n w event.client_send reached said can p = none_more n _ (client_send_keeps lines starves (P n) (keep_free n) w p)
-  event_keeps n w (event.collect device) reached said can p = none_more n _ (collect_keeps lines starves (P n) (keep_free n) w device reached can p)
+  event_keeps n w event.client_send reached said can p = none_more n _ (client_send_keeps lines starves (P n) Free (λ p none no. none) (keep_free n) w p)
+  event_keeps n w (event.collect device) reached said can p = none_more n _ (collect_keeps lines starves (P n) Free (λ p none no. none) (keep_free n) w device reached can p)
   event_keeps n w (event.host_read k) reached said can p =
       let x : WorldState = done starves w (host_gets k) in
       none_more n _
-      (all_take_keeps lines starves (P n) (keep_free n) (host_handles (most_messages x.to_host) x)
-      (host_handling_keeps lines starves (P n) (keep_free n) (most_messages x.to_host) x (keep_free n w (host_gets k) refl can p)))
+      (all_take_keeps lines starves (P n) Free (λ p none no. none) (keep_free n) (host_handles (most_messages x.to_host) x)
+      (host_handling_keeps lines starves (P n) Free (λ p none no. none) (keep_free n) (most_messages x.to_host) x (keep_free n w (host_gets k) refl can p)))
   event_keeps n w (event.take_job device hand) reached said can p =
-      none_more n _ (take_keeps lines starves (P n) (keep_free n) w device hand (both (is_hand_free w hand) (job_waits w device) can).0 p)
-  event_keeps n w (event.apply_job hand) reached said can p = none_more n _ (apply_keeps lines starves (P n) (keep_free n) w hand p)
+      none_more n _ (take_keeps lines starves (P n) Free (λ p none no. none) (keep_free n) w device hand (both (is_hand_free w hand) (job_waits w device) can).0 p)
+  event_keeps n w (event.apply_job hand) reached said can p = none_more n _ (apply_keeps lines starves (P n) Free (λ p none no. none) (keep_free n) w hand p)
   event_keeps n w (event.remove device) reached said can p =
       let part : Part = removes_one device (station_at w device) in
-      tries_keeps lines starves (P (1 + n)) (keep_free (1 + n)) (done starves w part) device (keep n w part (can, refl) p)
+      tries_keeps lines starves (P (1 + n)) Free (λ p none no. none) (keep_free (1 + n)) (done starves w part) device (keep n w part (can, refl) p)
   event_keeps n w (event.add device) reached said can p = adding (lookup (is_at (nat_cmp device)) w.printers) refl
     where
       adding : (names : Option PrinterNames) → lookup (is_at (nat_cmp device)) w.printers ≡ names
           → P (1 + n) (announced_by (told_added (refreshed_by w device names) device) device (station_at (refreshed_by w device names) device))
       adding None is = keep n w (adds_one device None (station_at w device)) (can, is, refl) p
       adding (Some names) is = keep n w (adds_one device (Some names) (station_at w device)) (can, is, refl) p
-  event_keeps n w event.drop_channel reached said can p = all_take_keeps lines starves (P (1 + n)) (keep_free (1 + n)) (cutting w) (keep n w ends can p)
+  event_keeps n w event.drop_channel reached said can p = all_take_keeps lines starves (P (1 + n)) Free (λ p none no. none) (keep_free (1 + n)) (cutting w) (keep n w ends can p)
   event_keeps n w event.connect reached said can p = keep n w begins can p
   event_keeps n w (event.tell notice) reached said can p = keep n w (tells_one notice) (said, can) p
 
