@@ -211,8 +211,8 @@ module _ (lines : List NumberedLine) (starves : Key → Bool) (most : Most) (ids
 
     -- a whole run
     pub run_along : AllByRecursion (λ (x : NumberedLine). NamesKnown ids x.line) lines → SeenAs ids lines (before_all ids) lines (seen (world_of lines))
-        → P (connected (before_all ids)) lines (world_of lines) → IfSome (run_of most starves lines) (P (control_of ids lines) [])
-    run_along known sees p =
+        → ((v : WorldState) → connects_on starves most (world_of lines) ≡ Some v → P (connected (before_all ids)) lines v) → IfSome (run_of most starves lines) (P (control_of ids lines) [])
+    run_along known sees begun_so =
         let start : ReachedWithin 0 lines starves (world_of lines) = record { moves = []; pass = tt; few = omega arith; leads = refl } in
         let first : Control = connected (before_all ids) in
         let said : Control = control_of ids lines in
@@ -222,12 +222,12 @@ module _ (lines : List NumberedLine) (starves : Key → Bool) (most : Most) (ids
         (then_on lines starves most ids rise premises (Both said said []) (Both said said []) (settled starves most.draws) played
         (settled_keeps starves (Both said said []) (both_free said said []) (both_drawn said said []) most.draws)
         (then_on lines starves most ids rise premises (Both first first lines) (Both said said []) (plays starves most lines) begun (plays_along lines (λ x has. has) known first)
-        (both begun refl (begins_led lines starves most ids rise premises (before_all ids) lines (world_of lines) 0 start (omega arith) sees (may_connect lines) sees.channel) start)))
+        (both begun refl (begins_led lines starves most ids rise premises (before_all ids) lines (world_of lines) 0 start (omega arith) sees (may_connect lines) sees.channel))))
       where
-        both : (o : Option WorldState) → connects_on starves most (world_of lines) ≡ o → IfSome o (Leads (connected (before_all ids)) lines) → ReachedWithin 0 lines starves (world_of lines)
+        both : (o : Option WorldState) → connects_on starves most (world_of lines) ≡ o → IfSome o (Leads (connected (before_all ids)) lines)
             → IfSome o (Both (connected (before_all ids)) (connected (before_all ids)) lines)
-        both None made led start = tt
-        both (Some v) made led start = (led, k.begins (connected (before_all ids)) lines (world_of lines) v 0 start (omega arith) (may_connect lines) made p)
+        both None made led = tt
+        both (Some v) made led = (led, begun_so v made)
 
 -- ---- the runs of lines
 
@@ -237,8 +237,8 @@ ids_of lines = map (λ (e : ℕ × Declared). e.0) (declared_devices (map (λ (x
 
 pub runs_along : (lines : List NumberedLine) (starves : Key → Bool) (most : Most) (w : WorldState) (ordered : AreOrderedLines (ids_of lines) lines) (premises : RunPremises lines)
     (P : Control → List NumberedLine → WorldState → Type 0) → Keeps lines starves most (ids_of lines) (sorted_from_strictly_increasing (numbers lines) ordered.rise) premises P
-    → P (first_control (ids_of lines)) lines (world_of lines) → run_of most starves lines ≡ Some w → P (control_of (ids_of lines) lines) [] w
-runs_along lines starves most w ordered premises P k p is =
+    → ((v : WorldState) → connects_on starves most (world_of lines) ≡ Some v → P (first_control (ids_of lines)) lines v) → run_of most starves lines ≡ Some w → P (control_of (ids_of lines) lines) [] w
+runs_along lines starves most w ordered premises P k begun is =
     let rise : Rise (numbers lines) = sorted_from_strictly_increasing (numbers lines) ordered.rise in
     subst (λ (o : Option WorldState). IfSome o (P (control_of (ids_of lines) lines) [])) is
-    (run_along lines starves most (ids_of lines) rise premises P k ordered.known (first_sees lines rise) p)
+    (run_along lines starves most (ids_of lines) rise premises P k ordered.known (first_sees lines rise) begun)

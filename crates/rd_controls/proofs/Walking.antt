@@ -83,6 +83,66 @@ pick_has Q [] i d all own = own
 pick_has Q (x ∷ xs) zero d all own = all.0
 pick_has Q (x ∷ xs) (suc i) d all own = pick_has Q xs i d all.1 own
 
+-- ---- what rounds keep
+
+-- the events of a channel's opening
+abbrev pub IsOpening : Event → Type 0
+IsOpening host_send = Unit {0}
+IsOpening client_send = Unit {0}
+IsOpening (client_read n) = Unit {0}
+IsOpening (host_read n) = Unit {0}
+IsOpening e = ⊥
+
+module _ (starves : Key → Bool) (P : WorldState → Type 0) (IsKind : Event → Type 0) (comes : (w : WorldState) (e : Event) → IsKind e → is_enabled w e ≡ true → P w → P (act starves w e))
+    (opening : (e : Event) → IsOpening e → IsKind e) where
+  while_keeps : (most : ℕ) (e : Event) → IsKind e → (w : WorldState) → P w → P (while_enabled starves most e w)
+  while_keeps zero e none w p = p
+  while_keeps (suc most) e none w p = by (is_enabled w e) refl (while_keeps most e none)
+    where
+      by : (b : Bool) → is_enabled w e ≡ b → ((x : WorldState) → P x → P (while_enabled starves most e x))
+          → P (if b then while_enabled starves most e (act starves w e) else w)
+      by true can next = next (act starves w e) (comes w e none can p)
+      by false can next = p
+
+  when_keeps : (e : Event) → IsKind e → (w : WorldState) → P w → P (when_enabled starves e w)
+  when_keeps e none w p = by (is_enabled w e) refl
+    where
+      by : (b : Bool) → is_enabled w e ≡ b → P (if b then act starves w e else w)
+      by true can = comes w e none can p
+      by false can = p
+
+  host_sends_keep : (w : WorldState) → P w → P (all_host_sends starves w)
+  host_sends_keep w p = while_keeps (host_count w) host_send (opening host_send tt) w p
+
+  client_sends_keep : (w : WorldState) → P w → P (all_client_sends starves w)
+  client_sends_keep w p = while_keeps (length ((w.client).core).outbox) client_send (opening client_send tt) w p
+
+  pub opening_round_keeps : (w : WorldState) → P w → P (host_reads_all starves (client_reads_all starves (all_client_sends starves (all_host_sends starves w))))
+  opening_round_keeps w p =
+      let answered : WorldState = all_client_sends starves (all_host_sends starves w) in
+      let read : WorldState = client_reads_all starves answered in
+      when_keeps (host_read (length (read.to_host).pipe)) (opening (host_read (length (read.to_host).pipe)) tt) read
+      (when_keeps (client_read (length (answered.to_client).pipe)) (opening (client_read (length (answered.to_client).pipe)) tt) answered (client_sends_keep (all_host_sends starves w) (host_sends_keep w p)))
+
+  -- rounds end where nothing is to be sent or read
+  pub opening_rounds_keep : (most : ℕ) (w : WorldState) → P w → IfSome (rounds starves most w) (λ x. P x × (is_quiet x ≡ true))
+  opening_rounds_keep zero w p = tt
+  opening_rounds_keep (suc most) w p = by (is_quiet w) refl (opening_rounds_keep most)
+    where
+      answered : WorldState
+      answered = all_client_sends starves (all_host_sends starves w)
+
+      read : WorldState
+      read = client_reads_all starves answered
+
+      read_keeps : P read
+      read_keeps = when_keeps (client_read (length (answered.to_client).pipe)) (opening (client_read (length (answered.to_client).pipe)) tt) answered (client_sends_keep (all_host_sends starves w) (host_sends_keep w p))
+
+      by : (b : Bool) → is_quiet w ≡ b → ((x : WorldState) → P x → IfSome (rounds starves most x) (λ y. P y × (is_quiet y ≡ true)))
+          → IfSome (if b then Some w else rounds starves most (host_reads_all starves read)) (λ y. P y × (is_quiet y ≡ true))
+      by true quiet next = (p, quiet)
+      by false quiet next = next (host_reads_all starves read) (when_keeps (host_read (length (read.to_host).pipe)) (opening (host_read (length (read.to_host).pipe)) tt) read read_keeps)
+
 -- ---- what is kept
 
 module _ (starves : Key → Bool) (P : WorldState → Type 0) (free : (w : WorldState) (e : Event) → event_weight e ≡ 0 → is_enabled w e ≡ true → P w → P (act starves w e))
@@ -118,57 +178,26 @@ module _ (starves : Key → Bool) (P : WorldState → Type 0) (free : (w : World
       by None own = tt
       by (Some x) own = own.0
 
-  while_keeps : (most : ℕ) (e : Event) → event_weight e ≡ 0 → (w : WorldState) → P w → P (while_enabled starves most e w)
-  while_keeps zero e none w p = p
-  while_keeps (suc most) e none w p = by (is_enabled w e) refl (while_keeps most e none)
-    where
-      by : (b : Bool) → is_enabled w e ≡ b → ((x : WorldState) → P x → P (while_enabled starves most e x))
-          → P (if b then while_enabled starves most e (act starves w e) else w)
-      by true can next = next (act starves w e) (free w e none can p)
-      by false can next = p
+  opening_free : (e : Event) → IsOpening e → event_weight e ≡ 0
+  opening_free host_send is = refl
+  opening_free client_send is = refl
+  opening_free (client_read n) is = refl
+  opening_free (host_read n) is = refl
+  opening_free e is = absurd is
 
-  when_keeps : (e : Event) → event_weight e ≡ 0 → (w : WorldState) → P w → P (when_enabled starves e w)
-  when_keeps e none w p = by (is_enabled w e) refl
-    where
-      by : (b : Bool) → is_enabled w e ≡ b → P (if b then act starves w e else w)
-      by true can = free w e none can p
-      by false can = p
-
-  host_sends_keep : (w : WorldState) → P w → P (all_host_sends starves w)
-  host_sends_keep w p = while_keeps (host_count w) host_send refl w p
-
-  client_sends_keep : (w : WorldState) → P w → P (all_client_sends starves w)
-  client_sends_keep w p = while_keeps (length ((w.client).core).outbox) client_send refl w p
+  abbrev IsFree : Event → Type 0
+  IsFree e = event_weight e ≡ 0
 
   pub round_keeps : (w : WorldState) → P w → P (host_reads_all starves (client_reads_all starves (all_client_sends starves (all_host_sends starves w))))
-  round_keeps w p =
-      let answered : WorldState = all_client_sends starves (all_host_sends starves w) in
-      let read : WorldState = client_reads_all starves answered in
-      when_keeps (host_read (length (read.to_host).pipe)) refl read
-      (when_keeps (client_read (length (answered.to_client).pipe)) refl answered (client_sends_keep (all_host_sends starves w) (host_sends_keep w p)))
+  round_keeps w p = opening_round_keeps starves P IsFree free opening_free w p
 
   -- rounds end where nothing is to be sent or read
   pub rounds_keep : (most : ℕ) (w : WorldState) → P w → IfSome (rounds starves most w) (λ x. P x × (is_quiet x ≡ true))
-  rounds_keep zero w p = tt
-  rounds_keep (suc most) w p = by (is_quiet w) refl (rounds_keep most)
-    where
-      answered : WorldState
-      answered = all_client_sends starves (all_host_sends starves w)
-
-      read : WorldState
-      read = client_reads_all starves answered
-
-      read_keeps : P read
-      read_keeps = when_keeps (client_read (length (answered.to_client).pipe)) refl answered (client_sends_keep (all_host_sends starves w) (host_sends_keep w p))
-
-      by : (b : Bool) → is_quiet w ≡ b → ((x : WorldState) → P x → IfSome (rounds starves most x) (λ y. P y × (is_quiet y ≡ true)))
-          → IfSome (if b then Some w else rounds starves most (host_reads_all starves read)) (λ y. P y × (is_quiet y ≡ true))
-      by true quiet next = (p, quiet)
-      by false quiet next = next (host_reads_all starves read) (when_keeps (host_read (length (read.to_host).pipe)) refl read read_keeps)
+  rounds_keep most w p = opening_rounds_keep starves P IsFree free opening_free most w p
 
   pub does_keeps : (most : Most) (w : WorldState) (e : Errand) → is_enabled w (event_of w e) ≡ true → P w → P (does starves most w e)
-  does_keeps most w errand.Send can p = host_sends_keep w p
-  does_keeps most w errand.Answer can p = client_sends_keep w p
+  does_keeps most w errand.Send can p = host_sends_keep starves P IsFree free opening_free w p
+  does_keeps most w errand.Answer can p = client_sends_keep starves P IsFree free opening_free w p
   does_keeps most w (errand.Issue a) can p = free w (issue a) refl can p
   does_keeps most w errand.Read can p = free w (client_read (length (w.to_client).pipe)) refl can p
   does_keeps most w (errand.Take device hand) can p = free w (take_job device hand) refl can p
