@@ -39,8 +39,8 @@ module _ (lines : List NumberedLine) (starves : Key → Bool) (most : Most) (ids
     pub queued : (c : Control) (x : NumberedLine) (ls : List NumberedLine) (w : WorldState) (a : ℕ) (asked : Asked) → Has x lines → asked_by x.line ≡ Some (a, asked)
         → Leads c (x ∷ ls) w → P c (x ∷ ls) w → P c ls (queueing w a)
     pub passes : (c : Control) (x : NumberedLine) (ls : List NumberedLine) (w : WorldState) → asked_by x.line ≡ None → P c (x ∷ ls) w → P (controlled c x.number x.line) ls w
-    pub moves : (c : Control) (ls : List NumberedLine) (w : WorldState) (e : Event) → Reached lines starves w → MayPass lines w (happens e) → event_weight e ≡ 1 → is_enabled w event.connect ≡ false
-        → P c ls w → P c ls (act starves w e)
+    pub moves : (c : Control) (ls : List NumberedLine) (w : WorldState) (e : Event) (n : ℕ) → ReachedWithin n lines starves w → n + 1 ≤ length lines + 2 → MayPass lines w (happens e) → event_weight e ≡ 1
+        → is_enabled w event.connect ≡ false → P c ls w → P c ls (act starves w e)
     pub idled : (c : Control) (ls : List NumberedLine) (w : WorldState) (number : ℕ) → P c ls w → P c ls (idles w number)
     pub begins : (c : Control) (ls : List NumberedLine) (w v : WorldState) (n : ℕ) → ReachedWithin n lines starves w → n + 1 ≤ length lines + 2 → is_enabled w event.connect ≡ true
         → connects_on starves most w ≡ Some v → P c ls w → P c ls v
@@ -66,12 +66,12 @@ module _ (lines : List NumberedLine) (starves : Key → Bool) (most : Most) (ids
     owned c d ls (Some w) own = own.1
 
     -- an event of a line, where it can happen
-    by_event_along : (c d : Control) (ls : List NumberedLine) (w : WorldState) (number : ℕ) (e : Event) → Reached lines starves w → event_weight e ≡ 1 → (is_enabled w e ≡ true → MayPass lines w (happens e))
+    by_event_along : (c d : Control) (ls : List NumberedLine) (w : WorldState) (number : ℕ) (e : Event) (n : ℕ) → ReachedWithin n lines starves w → n + 1 ≤ length lines + 2 → event_weight e ≡ 1 → (is_enabled w e ≡ true → MayPass lines w (happens e))
         → (is_enabled w e ≡ true → is_enabled w event.connect ≡ false) → P d ls w → P d ls (by_event starves most w number e)
-    by_event_along c d ls w number e r one may shut p = go (is_enabled w e) refl
+    by_event_along c d ls w number e n r few one may shut p = go (is_enabled w e) refl
       where
         go : (b : Bool) → is_enabled w e ≡ b → P d ls (if b then act starves w e else idles w number)
-        go true can = k.moves d ls w e r (may can) one (shut can) p
+        go true can = k.moves d ls w e n r few (may can) one (shut can) p
         go false cant = k.idled d ls w number p
 
     open_shut : (w : WorldState) → is_channel_open w ≡ true → is_enabled w event.connect ≡ false
@@ -85,12 +85,11 @@ module _ (lines : List NumberedLine) (starves : Key → Bool) (most : Most) (ids
       abbrev next : Control
       next = controlled c x.number x.line
 
-      reached : Reached lines starves w
-      reached = reached_of c (x ∷ ls) w l
-
       on_open : (e : Event) → event_weight e ≡ 1 → (is_enabled w e ≡ true → MayPass lines w (happens e)) → (is_enabled w e ≡ true → is_channel_open w ≡ true) → asked_by x.line ≡ None
           → P next ls (by_event starves most w x.number e)
-      on_open e one may is_open asks = by_event_along c next ls w x.number e reached one may (λ can. open_shut w (is_open can)) (k.passes c x ls w asks p)
+      on_open e one may is_open asks =
+          let few : l.base.count + 1 ≤ length lines + 2 = omega (arith, l.base.few) in
+          by_event_along c next ls w x.number e l.base.count l.base.reached few one may (λ can. open_shut w (is_open can)) (k.passes c x ls w asks p)
 
       begun_along : asked_by x.line ≡ None → IfSome (if is_enabled w event.connect then connects_on starves most w else Some (idles w x.number)) (P next ls)
       begun_along asks = go (is_enabled w event.connect) refl
@@ -193,6 +192,7 @@ module _ (lines : List NumberedLine) (starves : Key → Bool) (most : Most) (ids
         cut : is_channel_open w ≡ true → Past c (act starves w event.drop_channel)
         cut is_open =
             let r = l.base.reached in
+            let few : l.base.count + 1 ≤ length lines + 2 = omega (arith, l.base.few) in
             record {
               reached = record {
                 moves = happens event.drop_channel ∷ r.moves;
@@ -200,7 +200,7 @@ module _ (lines : List NumberedLine) (starves : Key → Bool) (most : Most) (ids
                 few = omega (arith, l.base.few, r.few);
                 leads = ap (λ (x : WorldState). act starves x event.drop_channel) r.leads;
               };
-              own = k.moves c [] w event.drop_channel (reached_of c [] w l) (tt, is_open) refl (open_shut w is_open) p;
+              own = k.moves c [] w event.drop_channel l.base.count r few (tt, is_open) refl (open_shut w is_open) p;
             }
 
         go : (a : Bool) → is_channel_open w ≡ a → (b : Bool) → IfSome (if a && b then settled starves most.draws (act starves w event.drop_channel) else Some w) (P c [])

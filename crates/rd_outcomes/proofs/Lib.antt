@@ -1,1 +1,2 @@
 pub mod PassedLemmas
+pub mod ChainLemmas

@@ -25,7 +25,7 @@ use Rattle.rd_station.specs.declared.answers.Given.{Given}
 use Rattle.rd_station.specs.declared.answers.Given.TheVariants as given
 use Rattle.rd_station.specs.Station as station
 use Rattle.rd_station.specs.Station.{StationState}
-use Rattle.rd_runs.specs.Moves.{IsOfLines, MayPass, RunMove, Reached, draws, event_weight, happens, idle, after_move, queues, weight}
+use Rattle.rd_runs.specs.Moves.{IsOfLines, MayPass, RunMove, Reached, ReachedWithin, draws, event_weight, happens, idle, after_move, queues, weight}
 use Rattle.rd_runs.proofs.Reaching.{both, by_counted_moves}
 use Rattle.rd_world.specs.declared.device.SessionDevice.{SessionDevice}
 use Rattle.rd_world.specs.Devices.{PrinterNames, device_cut, printer_data}
@@ -351,7 +351,7 @@ module _ (lines : List NumberedLine) (starves : Key → Bool) (P : ℕ → World
       let same : n ≡ 0 + n = omega arith in
       subst (λ (k : ℕ). P k w) same p
 
-  event_keeps : (n : ℕ) (w : WorldState) (e : Event) → Reached lines starves w → IsOfLines lines e → is_enabled w e ≡ true → P n w → P (event_weight e + n) (act starves w e)
+  pub event_keeps : (n : ℕ) (w : WorldState) (e : Event) → Reached lines starves w → IsOfLines lines e → is_enabled w e ≡ true → P n w → P (event_weight e + n) (act starves w e)
   event_keeps n w (event.issue a) reached said can p = none_more n _ (issue_keeps lines starves (P n) Free (λ p none no. none) (keep_free n) all_free w a reached can p)
   event_keeps n w event.host_send reached said can p = none_more n _ (host_send_keeps lines starves (P n) Free (λ p none no. none) (keep_free n) w p)
   event_keeps n w (event.client_read k) reached said can p =
@@ -407,7 +407,7 @@ module _ (lines : List NumberedLine) (starves : Key → Bool) where
   abbrev pub IsBehind : WorldState → Type 0
   IsBehind = IsBehindWithin (length lines + 2)
 
-  one_part : (n : ℕ) (w : WorldState) (p : Part) → MayBe lines starves w p → IsBehindWithin n w → IsBehindWithin (part_weight p + n) (done starves w p)
+  pub one_part : (n : ℕ) (w : WorldState) (p : Part) → MayBe lines starves w p → IsBehindWithin n w → IsBehindWithin (part_weight p + n) (done starves w p)
   one_part n w p may b = record {
     parts = p ∷ b.parts;
     may = (subst (λ (x : WorldState). MayBe lines starves x p) b.leads may, b.may);
@@ -415,12 +415,17 @@ module _ (lines : List NumberedLine) (starves : Key → Bool) where
     leads = ap (λ (x : WorldState). done starves x p) b.leads;
   }
 
+  -- each world that is reached behind so many lines is behind parts of as many
+  pub within_behind : (n : ℕ) (w : WorldState) → n ≤ length lines + 2 → ReachedWithin n lines starves w → IsBehindWithin n w
+  within_behind n w low r =
+      let all : Reached lines starves w = record { moves = r.moves; pass = r.pass; few = omega (arith, r.few, low); leads = r.leads } in
+      let b = by_counted_moves lines starves IsBehindWithin (record { parts = []; may = tt; few = omega arith; leads = refl })
+      (λ k x m steps c. move_keeps lines starves IsBehindWithin one_part k x m steps.0 steps.2 c) w all in
+      record { parts = b.parts; may = b.may; few = omega (arith, b.few, r.few); leads = b.leads }
+
   -- each world that is reached is behind parts
   pub reached_behind : (w : WorldState) → Reached lines starves w → IsBehind w
-  reached_behind w r =
-      let b = by_counted_moves lines starves IsBehindWithin (record { parts = []; may = tt; few = omega arith; leads = refl })
-      (λ n w m steps b. move_keeps lines starves IsBehindWithin one_part n w m steps.0 steps.2 b) w r in
-      record { parts = b.parts; may = b.may; few = omega (arith, b.few, r.few); leads = b.leads }
+  reached_behind w r = within_behind (length lines + 2) w (omega arith) r
 
   -- What holds at the beginning, behind no line, and is kept by each part, of which a line's adds one, holds of each world that is behind parts. What was proved
   -- before of these may be used of the world before a part and of the one after it.

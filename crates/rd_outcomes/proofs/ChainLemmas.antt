@@ -1,0 +1,178 @@
+-- Lines that ended, one after the other, come out as they should.
+use Rattle.std.proofs.Common.{◌≡◌, ◌∙◌, refl, sym, ap, subst, ℕ, zero, suc, Bool, true, false, List, [], ◌∷◌, ◌++◌, length, reverse, map, take, Some, None, Option, Ok, append_assoc, append-nil, arith}
+use Rattle.std.specs.Prelude.{slice_get}
+use Rattle.std.proofs.lemmas.List.{reverse-append}
+use Rattle.std.specs.Option.{option_and_then, option_map_or}
+use Rattle.rd_pending.specs.declared.calls.Handle.{Handle}
+use Rattle.rd_pending.specs.declared.calls.Outcome as table_outcome
+use Rattle.rd_pending.specs.declared.calls.SubmitNo.{SubmitNo}
+use Rattle.rd_pending.specs.declared.calls.Taken.{Taken}
+use Rattle.rd_pending.specs.declared.calls.Target.{Target}
+use Rattle.rd_pending.specs.History as call
+use Rattle.rd_pending.specs.History.{Call, CameTo, Holds, after, accepted_in, outcome_in}
+use Rattle.rd_pending.specs.Outcomes.{Accepted}
+use Rattle.rd_pending.specs.Table as table
+use Rattle.rd_pending.specs.Table.{submit_refusal}
+use Rattle.rd_pending.proofs.Handed.{handed_out}
+use Rattle.rd_script.specs.declared.outcome.Outcome.{Outcome}
+use Rattle.rd_script.specs.declared.outcome.Outcome.TheVariants as outcome
+use Rattle.rd_script.specs.declared.outcome.Refusal.TheVariants as refusal
+use Rattle.rd_world.specs.Devices.{Declared}
+use Rattle.rd_world.specs.Events.{refusal_of, target_of}
+use Rattle.rd_world.specs.Hearing.{file_given, given_handle, holding_after, reported_outcome}
+use Rattle.rd_world.specs.HostDeeds.{calls_of, side_of}
+use Rattle.rd_world.specs.Joining.{accepted}
+use Rattle.rd_world.specs.Lines.{AskedEnds, IsAccepted, IsDue, LineEnds, LinesEnd, SubmitsNothing, Waits, given_at, outcome_at}
+use Rattle.rd_world.specs.Recording.{client_id}
+use Rattle.rd_world.specs.Talk.{Deed, EndsWith, submits, takes}
+use Rattle.rd_world.specs.World.{ApplicationState, new_application}
+use Rattle.rd_world.proofs.Calls.{Does, calls_hold, calls_since, table_of}
+use Rattle.rd_outcomes.specs.Trail.{Chain, EndsAsked, EndsOf, HandedAt, IsEnded, IsKnownAt, IsPending, Stage, count_of, first_stage}
+
+-- ---- deeds grow
+
+pub grown_more : {x y z : List Deed} → EndsWith z y → EndsWith y x → EndsWith z x
+grown_more {x} (p, e) (q, f) = (p ++ q, e ∙ ap (λ (ds : List Deed). p ++ ds) f ∙ sym (append_assoc p q x))
+
+pub handed_more : (deeds more : List Deed) (number : ℕ) (given : Taken) → HandedAt deeds number given → HandedAt (more ++ deeds) number given
+handed_more deeds more number given (later, before, e, is) = (more ++ later, before, ap (λ (ds : List Deed). more ++ ds) e ∙ sym (append_assoc more later (takes number ∷ before)), is)
+
+pub known_more : (deeds more : List Deed) (k : Option (ℕ × Taken)) → IsKnownAt k deeds → IsKnownAt k (more ++ deeds)
+known_more deeds more None is = tt
+known_more deeds more (Some (number, given)) is = handed_more deeds more number given is
+
+module _ (devices : List (ℕ × Declared)) (a : ℕ) (deeds more : List Deed) where
+  ends_more : {x : List Deed} → EndsWith deeds x → EndsWith (more ++ deeds) x
+  ends_more is = grown_more (more, refl) is
+
+  asked_more : (s : Stage) (x : Waits) (o : Outcome) (t : Stage) (before : List Deed) (named : Target) (r : Option SubmitNo) → EndsAsked devices a deeds s x o t before named r → EndsAsked devices a (more ++ deeds) s x o t before named r
+  asked_more s x o t before named (Some cause) is = is
+  asked_more s x o t before named None (given, grown, handed, same, stage) = (given, ends_more grown, handed_more deeds more (suc (count_of before)) given handed, same, stage)
+
+  of_more : (s : Stage) (x : Waits) (o : Outcome) (t : Stage) (before : List Deed) (n : Option Target) → EndsOf devices a deeds s x o t before n → EndsOf devices a (more ++ deeds) s x o t before n
+  of_more s x o t before None is = is
+  of_more s x o t before (Some named) is = asked_more s x o t before named (submit_refusal (side_of client_id before).table named) is
+
+  ended_more : (s : Stage) (x : Waits) (o : Outcome) (t : Stage) → IsEnded devices a deeds s x o t → IsEnded devices a (more ++ deeds) s x o t
+  ended_more s x o t is = record {
+    before = is.before;
+    grown = ends_more is.grown;
+    nothing = is.nothing;
+    known = is.known;
+    due = is.due;
+    ends = of_more s x o t is.before (target_of s.holds x.asked) is.ends;
+  }
+
+  pub chain_more : (xs : List Waits) (os : List Outcome) (s : Stage) → Chain devices a deeds xs os s → Chain devices a (more ++ deeds) xs os s
+  chain_more [] [] s is = is
+  chain_more [] (o ∷ os) s is = is
+  chain_more (x ∷ xs) [] s is = is
+  chain_more (x ∷ xs) (o ∷ os) s (r, chain, ended) = (r, chain_more xs os r chain, ended_more r x o s ended)
+
+-- ---- what was handed out
+
+got_at : {A : Type 0} (xs : List A) (x : A) (ys : List A) → slice_get (xs ++ x ∷ ys) (length xs) ≡ Some x
+got_at [] x ys = refl
+got_at (z ∷ xs) x ys = got_at xs x ys
+
+took_at : {A : Type 0} (xs ys : List A) → take (length xs) (xs ++ ys) ≡ xs
+took_at [] ys = refl
+took_at (z ∷ xs) ys = ap (λ (zs : List _). z ∷ zs) (took_at xs ys)
+
+-- it is what came of its request, with the handle that it gives
+pub handed : (deeds : List Deed) → Does client_id deeds → (count : ℕ) (given : Taken) → HandedAt deeds (suc count) given
+    → (outcome_at deeds count ≡ Some given.outcome) × (given_at deeds count given.outcome ≡ given_handle given)
+handed deeds does count given (later, before, parts, is) =
+    let (calls, since) = calls_since client_id later (takes (suc count) ∷ before) in
+    let whole : calls_of client_id deeds ≡ calls ++ call.takes (suc count) ∷ calls_of client_id before = ap (calls_of client_id) parts ∙ since in
+    let holds : Holds (calls ++ call.takes (suc count) ∷ calls_of client_id before) = subst Holds whole (calls_hold client_id deeds does) in
+    let took : (table.take (after (calls_of client_id before)) (suc count)).1 ≡ Ok given = ap (λ (t : table.TableState). (table.take t (suc count)).1) (table_of client_id before) ∙ is in
+    let (x, came, number, device, life) = handed_out calls (calls_of client_id before) (call.takes (suc count)) holds given took in
+    let same : count ≡ length came.earlier = cc number in
+    let at : slice_get (accepted client_id deeds) count ≡ Some x =
+    (λ i. slice_get ((ap accepted_in whole ∙ came.accepted) i) (same i)) ∙ got_at came.earlier x came.later in
+    let first : take count (accepted client_id deeds) ≡ came.earlier = (λ i. take (same i) ((ap accepted_in whole ∙ came.accepted) i)) ∙ took_at came.earlier (x ∷ came.later) in
+    let out : outcome_in (calls_of client_id deeds) came.earlier x ≡ Some given.outcome = ap (λ (h : List Call). outcome_in h came.earlier x) whole ∙ came.is in
+    (
+      ap (λ (o : Option Accepted). option_and_then (λ (y : Accepted). outcome_in (calls_of client_id deeds) (take count (accepted client_id deeds)) y) o) at
+          ∙ ap (λ (xs : List Accepted). outcome_in (calls_of client_id deeds) xs x) first ∙ out,
+      ap (λ (o : Option Accepted). option_and_then (λ (y : Accepted). given_handle (record { device = y.device; life = y.life; outcome = given.outcome })) o) at
+          ∙ λ i. given_handle (record { device = sym device i; life = sym life i; outcome = given.outcome }),
+    )
+
+-- ---- lines come out
+
+-- the outcome of a line is known from here on
+abbrev pub KnownTo : Option (ℕ × Taken) → List Deed → Type 0
+KnownTo None later = Unit {0}
+KnownTo (Some (zero, given)) later = ⊥
+KnownTo (Some (suc count, given)) later = outcome_at later count ≡ Some given.outcome
+
+abbrev IsNumbered : Option (ℕ × Taken) → Type 0
+IsNumbered None = Unit {0}
+IsNumbered (Some (zero, given)) = ⊥
+IsNumbered (Some (suc count, given)) = Unit {0}
+
+known_to : (deeds : List Deed) → Does client_id deeds → (k : Option (ℕ × Taken)) → IsNumbered k → IsKnownAt k deeds → KnownTo k deeds
+known_to deeds does None numbered is = tt
+known_to deeds does (Some (zero, given)) numbered is = absurd numbered
+known_to deeds does (Some (suc count, given)) numbered is = (handed deeds does count given is).0
+
+does_before : (more deeds : List Deed) → Does client_id (more ++ deeds) → Does client_id deeds
+does_before [] deeds does = does
+does_before (d ∷ more) deeds does = does_before more deeds does.1
+
+module _ (devices : List (ℕ × Declared)) (a : ℕ) (deeds : List Deed) (does : Does client_id deeds) where
+  abbrev Ends : ApplicationState → List Waits → List Outcome → (List Deed → Type 0) → List Deed → Type 0
+  Ends holds xs os known from = LinesEnd devices deeds a holds xs os known from
+
+  does_at : (before : List Deed) → EndsWith deeds before → Does client_id before
+  does_at before (more, e) = does_before more before (subst (Does client_id) e does)
+
+  -- the number of a stage is that of a request
+  numbered_by : (s : Stage) (x : Waits) (o : Outcome) (t : Stage) (before : List Deed) (n : Option Target) → EndsOf devices a deeds s x o t before n → IsNumbered t.known
+  numbered_by s x o t before None (why, same) = subst (λ (t : Stage). IsNumbered t.known) (sym same) tt
+  numbered_by s x o t before (Some named) is = by (submit_refusal (side_of client_id before).table named) is
+    where
+      by : (r : Option SubmitNo) → EndsAsked devices a deeds s x o t before named r → IsNumbered t.known
+      by (Some cause) (why, same) = subst (λ (t : Stage). IsNumbered t.known) (sym same) tt
+      by None (given, grown, handed, said, same) = subst (λ (t : Stage). IsNumbered t.known) (sym same) tt
+
+  chain_numbered : (xs : List Waits) (os : List Outcome) (s : Stage) → Chain devices a deeds xs os s → IsNumbered s.known
+  chain_numbered [] [] s is = subst (λ (t : Stage). IsNumbered t.known) (sym is) tt
+  chain_numbered [] (o ∷ os) s is = absurd is
+  chain_numbered (x ∷ xs) [] s is = absurd is
+  chain_numbered (x ∷ xs) (o ∷ os) s (r, chain, ended) = numbered_by r x o s ended.before (target_of (r.holds) x.asked) ended.ends
+
+  -- a line goes before those after it
+  one_line : (s : Stage) (x : Waits) (o : Outcome) (t : Stage) (xs : List Waits) (os : List Outcome) → IsNumbered s.known → IsEnded devices a deeds s x o t
+      → Ends t.holds xs os (KnownTo t.known) t.from → Ends s.holds (x ∷ xs) (o ∷ os) (KnownTo s.known) s.from
+  one_line s x o t xs os numbered is after_it =
+      (is.before, is.nothing, known_to is.before (does_at is.before is.grown) s.known numbered is.known, is.due, ends (target_of s.holds x.asked) is.ends)
+    where
+
+      asked : (named : Target) (r : Option SubmitNo) → EndsAsked devices a deeds s x o t is.before named r
+          → AskedEnds devices deeds a s.holds x.asked o (λ next known after. LinesEnd devices deeds a next xs os known after) is.before named r
+      asked named (Some cause) (why, same) = (why, subst (λ (t : Stage). Ends t.holds xs os (KnownTo t.known) t.from) same after_it)
+      asked named None (given, (more, grown), out, said, same) =
+          let (came, holds) = handed deeds does (count_of is.before) given out in
+          (more, grown, given.outcome, came, said,
+          subst (λ (h : Option Handle). Ends (holding_after s.holds x.asked h) xs os (λ later. outcome_at later (count_of is.before) ≡ Some given.outcome) (submits a named (x.asked).op ∷ is.before)) (sym holds)
+          (subst (λ (t : Stage). Ends t.holds xs os (KnownTo t.known) t.from) same after_it))
+
+      ends : (n : Option Target) → EndsOf devices a deeds s x o t is.before n
+          → LineEnds devices deeds a s.holds x.asked o (λ next known after. LinesEnd devices deeds a next xs os known after) is.before n
+      ends None (why, same) = (why, subst (λ (t : Stage). Ends t.holds xs os (KnownTo t.known) t.from) same after_it)
+      ends (Some named) own = asked named (submit_refusal (side_of client_id is.before).table named) own
+
+  pub chain_ends : (xs : List Waits) (os : List Outcome) (s : Stage) → Chain devices a deeds xs os s → (ys : List Waits) (qs : List Outcome) → Ends s.holds ys qs (KnownTo s.known) s.from
+      → Ends new_application (reverse xs ++ ys) (reverse os ++ qs) (λ later. Unit {0}) []
+  chain_ends [] [] s is ys qs after_it = subst (λ (t : Stage). Ends t.holds ys qs (KnownTo t.known) t.from) is after_it
+  chain_ends [] (o ∷ os) s is ys qs after_it = absurd is
+  chain_ends (x ∷ xs) [] s is ys qs after_it = absurd is
+  chain_ends (x ∷ xs) (o ∷ os) s (r, chain, ended) ys qs after_it =
+      let all = chain_ends xs os r chain (x ∷ ys) (o ∷ qs) (one_line r x o s ys qs (chain_numbered xs os r chain) ended after_it) in
+      subst (λ (p : List Waits × List Outcome). Ends new_application p.0 p.1 (λ later. Unit {0}) []) (λ i. (sym (turned x xs ys) i, sym (turned o os qs) i)) all
+    where
+      turned : {A : Type 0} (x : A) (xs ys : List A) → reverse (x ∷ xs) ++ ys ≡ reverse xs ++ x ∷ ys
+      turned x xs ys = ap (λ (zs : List _). zs ++ ys) (reverse-append (x ∷ []) xs) ∙ append_assoc (reverse xs) (x ∷ []) ys
