@@ -1,2 +1,3 @@
 pub mod PassedLemmas
 pub mod ChainLemmas
+pub mod TrailLemmas

@@ -1,3 +1,4 @@
+use Rattle.rd_outcomes.proofs.TrailLemmas
 use Rattle.rd_outcomes.proofs.ChainLemmas
 use Rattle.rd_outcomes.proofs.PassedLemmas.{all_are_sent, are_passed}
 use Rattle.rd_outcomes.proofs.laws.requests_are_sent.Goals as goal
