@@ -1,3 +1,4 @@
 pub mod PassedLemmas
 pub mod ChainLemmas
 pub mod TrailLemmas
+pub mod ComingLemmas

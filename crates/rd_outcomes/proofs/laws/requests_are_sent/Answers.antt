@@ -1,3 +1,4 @@
+use Rattle.rd_outcomes.proofs.ComingLemmas
 use Rattle.rd_outcomes.proofs.TrailLemmas
 use Rattle.rd_outcomes.proofs.ChainLemmas
 use Rattle.rd_outcomes.proofs.PassedLemmas.{all_are_sent, are_passed}
