@@ -270,7 +270,7 @@ module _ (lines : List NumberedLine) (starves : Key → Bool) where
 
   module _ (premises : RunPremises lines) where
     -- what happens by itself, and where lines are issued these are due
-    part_going : (w : WorldState) (p : Part) → MayBe lines starves w p → IsBehind lines starves w → (is_issue p ≡ true → AreDue w) → Going w → Going (done starves w p)
+    pub part_going : (w : WorldState) (p : Part) → MayBe lines starves w p → IsBehind lines starves w → (is_issue p ≡ true → AreDue w) → Going w → Going (done starves w p)
     part_going w (accepts a asked named t number) (reached, may, next, target, made) before due g =
         let x : ApplicationState = application_at w a in
         let side = ((knows lines starves premises w before).stands).host.is in
@@ -350,7 +350,7 @@ module _ (lines : List NumberedLine) (starves : Key → Bool) where
     queued = λ a. ap (λ (x : ApplicationState). x.queued) (at_same w v s.applications a);
   }
 
-  from_put : (w : WorldState) (b : ℕ) (x : ApplicationState) (more : List Deed) (v : WorldState) → v.applications ≡ insert_entry nat_cmp w.applications b x → v.deeds ≡ more ++ w.deeds
+  pub from_put : (w : WorldState) (b : ℕ) (x : ApplicationState) (more : List Deed) (v : WorldState) → v.applications ≡ insert_entry nat_cmp w.applications b x → v.deeds ≡ more ++ w.deeds
       → last_begun (more ++ w.deeds) ≡ last_begun w.deeds → x.queued ≡ (application_at w b).queued → From w v
   from_put w b x more v same deeds begun own = record {
     due = λ acts is. subst (IsDue devices acts) (sym deeds) (due_more more w.deeds begun acts is);
@@ -370,7 +370,7 @@ module _ (lines : List NumberedLine) (starves : Key → Bool) where
       by true = refl
       by false = refl
 
-  part_from : (w : WorldState) (p : Part) → MayBe lines starves w p → part_weight p ≡ 0 → From w (done starves w p)
+  pub part_from : (w : WorldState) (p : Part) → MayBe lines starves w p → part_weight p ≡ 0 → From w (done starves w p)
   part_from w (accepts a asked named t number) may free = from_put w a (record (application_at w a) { awaits = Some number }) (submits a named asked.op ∷ []) (done starves w (accepts a asked named t number)) refl refl refl refl
   part_from w (refuses a asked cause) may free =
       from_put w a (with_outcome (application_at w a) (outcome.Refused cause) None asked) [] (done starves w (refuses a asked cause)) refl refl refl (kept_queued (application_at w a) (outcome.Refused cause) None asked)

@@ -2,3 +2,4 @@ pub mod PassedLemmas
 pub mod ChainLemmas
 pub mod TrailLemmas
 pub mod ComingLemmas
+pub mod LinesLemmas
