@@ -338,6 +338,9 @@ module _ (lines : List NumberedLine) (starves : Key → Bool) where
     pub due : (acts : ℕ) → IsDue devices acts w.deeds → IsDue devices acts v.deeds
     pub queued : (a : ℕ) → (application_at v a).queued ≡ (application_at w a).queued
 
+  acted_beside : (w v : WorldState) → StaysBeside w v → length (filter_map act_by w.deeds) ≤ length (filter_map act_by v.deeds)
+  acted_beside w v s = subst (λ (ds : List Deed). length (filter_map act_by w.deeds) ≤ length (filter_map act_by ds)) (sym s.deeds) (more_acts s.more w.deeds)
+
   pub from_itself : (w : WorldState) → From w w
   from_itself w = record { due = λ acts is. is; queued = λ a. refl }
 
@@ -381,6 +384,19 @@ module _ (lines : List NumberedLine) (starves : Key → Bool) where
   part_from w begins may free = absurd (omega (arith, free))
   part_from w (queues_one a) may free = absurd (omega (arith, free))
   part_from w p may free = from_beside w (done starves w p) (stays_beside lines starves w p may tt)
+
+  -- so many lines are queued, and no act is undone
+  pub part_queued : (w : WorldState) (p : Part) → MayBe lines starves w p → part_weight p ≡ 0 → (a : ℕ) → (application_at (done starves w p) a).queued ≡ (application_at w a).queued
+  part_queued w p may free a = (part_from w p may free).queued a
+
+  pub part_acted : (w : WorldState) (p : Part) → MayBe lines starves w p → part_weight p ≡ 0 → length (filter_map act_by w.deeds) ≤ length (filter_map act_by (done starves w p).deeds)
+  part_acted w (accepts a asked named t number) may free = omega arith
+  part_acted w (refuses a asked cause) may free = omega arith
+  part_acted w (hands_out a number t given None) may free = omega arith
+  part_acted w (hands_out a number t given (Some asked)) may free = omega arith
+  part_acted w begins may free = absurd (omega (arith, free))
+  part_acted w (queues_one a) may free = absurd (omega (arith, free))
+  part_acted w p may free = acted_beside w (done starves w p) (stays_beside lines starves w p may tt)
 
   due_from : (w v : WorldState) → From w v → AreDue w → AreDue v
   due_from w v f all a k l at low = f.due l.acts (all a k l at (subst (λ (n : ℕ). k < n) (f.queued a) low))
