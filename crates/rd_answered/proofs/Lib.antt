@@ -1,0 +1,4 @@
+pub mod GrowingLemmas
+pub mod InOrderLemmas
+pub mod MeetLemmas
+pub mod SessionLemmas
