@@ -2,3 +2,5 @@ pub mod GrowingLemmas
 pub mod InOrderLemmas
 pub mod MeetLemmas
 pub mod SessionLemmas
+pub mod ReadyLemmas
+pub mod ListedLemmas

@@ -1,6 +1,6 @@
 //! How both sides of every session are joined, as contracts of functions that do nothing.
 
-ghost use Rattle.std.specs.Prelude.{ℕ, ◌≤◌, Bool, List, length};
+ghost use Rattle.std.specs.Prelude.{◌≡◌, ℕ, ◌≤◌, Bool, List, length};
 ghost use Rattle.rd_base.specs.declared.journal.Key.{Key};
 ghost use Rattle.rd_script.specs.declared.line.NumberedLine.{NumberedLine};
 ghost use Rattle.rd_runs.specs.Moves.{Reached};
@@ -18,4 +18,9 @@ ghost use Rattle.rd_world.specs.World.{WorldState};
 pub fn joined_if_refused()
     ensures { (lines : List NumberedLine) (starves : Key → Bool) (w : WorldState) → RunPremises lines → length lines ≤ 1000000 → Reached lines starves w → EachAfter RefusesDirectly w.deeds
         → AreJoined client_id (replies_in (declared_devices (bare_lines lines)) w.deeds) w.deeds }
+{}
+
+/// Working.
+pub fn working()
+    ensures { (n : ℕ) → n ≡ n }
 {}
