@@ -4,3 +4,4 @@ pub mod MeetLemmas
 pub mod SessionLemmas
 pub mod ReadyLemmas
 pub mod ListedLemmas
+pub mod SayingLemmas
