@@ -5,3 +5,4 @@ pub mod SessionLemmas
 pub mod ReadyLemmas
 pub mod ListedLemmas
 pub mod SayingLemmas
+pub mod LiveLemmas
