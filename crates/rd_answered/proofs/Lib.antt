@@ -6,3 +6,4 @@ pub mod ReadyLemmas
 pub mod ListedLemmas
 pub mod SayingLemmas
 pub mod LiveLemmas
+pub mod RefusingLemmas
