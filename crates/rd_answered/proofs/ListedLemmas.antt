@@ -1,12 +1,13 @@
 -- The lists of a client's devices are read back.
-use Rattle.std.proofs.Common.{◌≡◌, refl, ap, subst, eqb-true, ℕ, ◌<◌, ◌≤◌, ◌^◌, ◌==◌, Bool, true, false, cond, arith, List, [], ◌∷◌, map, length}
+use Rattle.std.proofs.Common.{◌≡◌, refl, sym, ap, subst, eqb-true, eq-eqb, inl, inr, ◌∙◌, ℕ, ◌<◌, ◌≤◌, ◌^◌, ◌==◌, Bool, true, false, cond, arith, List, [], ◌∷◌, map, length}
 use Rattle.std.specs.Prelude.{filter, ◌||◌, ◌&&◌, not}
 use Rattle.std.specs.List.{AllByRecursion, list_any}
+use Rattle.std.proofs.lemmas.Bool.{cases_Bool}
 use Rattle.rd_base.specs.Limits.{max_devices}
 use Rattle.rd_base.specs.Spelling.{IsSpelling}
 use Rattle.rd_base.proofs.CountedLemmas.{counted_spelled}
 use Rattle.rd_base.proofs.SpellingLemmas.{AreSpelled, times_spelled}
-use Rattle.rd_client.specs.Core.{ClientCoreState, ClientDevice, announce_in, announces, becomes_ready, device_marked, is_device, is_present, refreshed}
+use Rattle.rd_client.specs.Core.{ClientCoreState, ClientDevice, announce_in, announces, becomes_ready, device_marked, is_device, is_present, refresh, refreshed, with_mark}
 use Rattle.rd_client.specs.Order.{is_client_ready}
 use Rattle.rd_devices.proofs.DeviceListLemmas.{announce_spelled, list_spelled}
 use Rattle.rd_devices.specs.DeviceList.{HasCountableBody, SpellsList, announce, announce_bytes, list_bytes}
@@ -15,7 +16,7 @@ use Rattle.rd_hello.specs.declared.client.ClientState.{ClientState}
 use Rattle.rd_hello.specs.declared.client.ClientState.TheVariants.{Start, Named, Confirmed, Offered, Waiting, Ready}
 use Rattle.rd_world.specs.Opening.{AreShort, IsShort}
 use Rattle.rd_world.specs.Printers.{max_printer_data}
-use Rattle.rd_answered.specs.Refusing.{HasRoomToAnnounce}
+use Rattle.rd_answered.specs.Refusing.{HasRoomToAnnounce, is_told_by}
 
 -- ---- what can be written
 
@@ -55,6 +56,17 @@ spells p c short room =
     let few : length list ≤ max_devices = omega (arith, some_few p c.devices, short.few) in
     list_spelled list (counted_spelled announce announce_bytes list max_devices (omega (arith, few)) few (times_spelled announce announce_bytes list each))
 
+-- ---- numbers
+
+other_of : (n d e : ℕ) → (n == e) ≡ true → (d == e) ≡ false → (n == d) ≡ false
+other_of n d e same other = elim (cases_Bool (n == d)) [
+  | inl is ↦ (let own : (d == e) ≡ true = subst (λ (k : ℕ). (k == e) ≡ true) (eqb-true n d is) same in absurd (cc (own, other)))
+  | inr is ↦ is
+]
+
+turned : (d e : ℕ) → (d == e) ≡ false → (e == d) ≡ false
+turned d e other = other_of e d e (eq-eqb e e refl) other
+
 -- ---- marks
 
 abbrev pub Has : ℕ → List ClientDevice → Bool
@@ -87,6 +99,50 @@ room_refreshed e body (x ∷ ds) all = by (is_device e x) (room_refreshed e body
         → HasRoomToAnnounce (announce_in (cond m (record x { announce = record x.announce { body = body } }) x)) × AllByRecursion HasRoomToAnnounce (map announce_in (map (refreshed e body) ds))
     by true rest = (all.0, rest)
     by false rest = (all.0, rest)
+
+abbrev id_of : ClientDevice → ℕ
+id_of x = (x.announce).id
+
+marked : (p b r h : Bool) → p ≡ true → r ≡ (b && h) → ((p && b) || r) ≡ (b && (p || h))
+marked true true r h is rest = refl
+marked true false r h is rest = rest
+marked false b r h is rest = absurd (cc (is))
+
+unmarked : (p q b r h : Bool) → p ≡ false → r ≡ (b && h) → ((p && q) || r) ≡ (b && (p || h))
+unmarked false q b r h is rest = rest
+unmarked true q b r h is rest = absurd (cc (is))
+
+pub gone_own : (e : ℕ) (b : Bool) (ds : List ClientDevice) → Gone e (map (device_marked e b) ds) ≡ (b && Has e ds)
+gone_own e true [] = refl
+gone_own e false [] = refl
+gone_own e b (x ∷ ds) = by (is_device e x) refl (gone_own e b ds)
+  where
+    by : (m : Bool) → is_device e x ≡ m → Gone e (map (device_marked e b) ds) ≡ (b && Has e ds)
+        → ((is_device e (cond m (record x { removed = b }) x) && (cond m (record x { removed = b }) x).removed) || Gone e (map (device_marked e b) ds)) ≡ (b && (is_device e x || Has e ds))
+    by true is rest = marked (is_device e x) b (Gone e (map (device_marked e b) ds)) (Has e ds) is rest
+    by false is rest = unmarked (is_device e x) x.removed b (Gone e (map (device_marked e b) ds)) (Has e ds) is rest
+
+off : (p q s r t : Bool) → p ≡ false → r ≡ t → ((p && q) || r) ≡ ((p && s) || t)
+off false q s r t is rest = rest
+off true q s r t is rest = absurd (cc (is))
+
+pub gone_other : (d e : ℕ) (b : Bool) (ds : List ClientDevice) → (d == e) ≡ false → Gone d (map (device_marked e b) ds) ≡ Gone d ds
+gone_other d e b [] other = refl
+gone_other d e b (x ∷ ds) other = by (is_device e x) refl (gone_other d e b ds other)
+  where
+    by : (m : Bool) → is_device e x ≡ m → Gone d (map (device_marked e b) ds) ≡ Gone d ds
+        → ((is_device d (cond m (record x { removed = b }) x) && (cond m (record x { removed = b }) x).removed) || Gone d (map (device_marked e b) ds)) ≡ ((is_device d x && x.removed) || Gone d ds)
+    by true is rest = off (is_device d x) b x.removed _ _ (other_of (id_of x) d e is other) rest
+    by false is rest = ap (λ (z : Bool). (is_device d x && x.removed) || z) rest
+
+pub gone_refreshed : (d e : ℕ) (body : List ℕ) (ds : List ClientDevice) → Gone d (map (refreshed e body) ds) ≡ Gone d ds
+gone_refreshed d e body [] = refl
+gone_refreshed d e body (x ∷ ds) = by (is_device e x) (gone_refreshed d e body ds)
+  where
+    by : (m : Bool) → Gone d (map (refreshed e body) ds) ≡ Gone d ds
+        → ((is_device d (cond m (record x { announce = record x.announce { body = body } }) x) && (cond m (record x { announce = record x.announce { body = body } }) x).removed) || Gone d (map (refreshed e body) ds)) ≡ ((is_device d x && x.removed) || Gone d ds)
+    by true rest = ap (λ (z : Bool). (is_device d x && x.removed) || z) rest
+    by false rest = ap (λ (z : Bool). (is_device d x && x.removed) || z) rest
 
 -- the device of a number has room for it
 pub room_of : (d : ℕ) (ds : List ClientDevice) → AllByRecursion HasRoomToAnnounce (map announce_in ds) → Has d ds ≡ true → d < 2 ^ 32
@@ -156,3 +212,22 @@ ready_moves Ready Confirmed = refl
 ready_moves Ready (Offered others) = refl
 ready_moves Ready Waiting = refl
 ready_moves Ready Ready = refl
+
+-- ---- what the host was told
+
+abbrev Shown : Bool → Bool → Bool → Bool
+Shown ready has gone = ready && (has && not gone)
+
+pub told_other : (c : ClientCoreState) (e d : ℕ) (b : Bool) → (d == e) ≡ false → is_told_by (with_mark c e b) d ≡ is_told_by c d
+told_other c e d b other = λ i. Shown (is_client_ready (c.core).shake) (has_marked d e b c.devices i) (gone_other d e b c.devices other i)
+
+pub told_removed_off : (c : ClientCoreState) (d : ℕ) → is_told_by (with_mark c d true) d ≡ false
+told_removed_off c d = (λ i. Shown (is_client_ready (c.core).shake) (has_marked d d true c.devices i) (gone_own d true c.devices i)) ∙ by (is_client_ready (c.core).shake) (Has d c.devices)
+  where
+    by : (r h : Bool) → Shown r h (true && h) ≡ false
+    by true true = refl
+    by true false = refl
+    by false h = refl
+
+pub told_refreshed : (c : ClientCoreState) (e d : ℕ) (body : List ℕ) → is_told_by (refresh c e body) d ≡ is_told_by c d
+told_refreshed c e d body = λ i. Shown (is_client_ready (c.core).shake) (has_refreshed d e body c.devices i) (gone_refreshed d e body c.devices i)

@@ -13,7 +13,7 @@ use Rattle.rd_base.specs.declared.journal.Key.{Key}
 use Rattle.rd_base.specs.declared.status.Status.{Status}
 use Rattle.rd_client.proofs.KeptLemmas.{same_announces}
 use Rattle.rd_client.specs.Core as client
-use Rattle.rd_client.specs.Core.{AreDevices, ClientCoreState, ClientDevice, Outgoing, announce_in, announces, client_hear, device_marked, has_device, is_device, is_gone, is_present, job_of, listed, listed_one, plain, refreshed}
+use Rattle.rd_client.specs.Core.{AreDevices, ClientCoreState, ClientDevice, Outgoing, announce_in, announces, becomes_ready, client_hear, device_marked, has_device, is_device, is_gone, is_present, job_of, listed, listed_one, plain, refreshed}
 use Rattle.rd_client.specs.Order.{is_client_ready}
 use Rattle.rd_client.specs.declared.heard.Heard.{Heard}
 use Rattle.rd_client.specs.declared.heard.Heard.TheVariants as heard
@@ -30,6 +30,9 @@ use Rattle.rd_irp.specs.declared.completion.Body.TheVariants.{Fault}
 use Rattle.rd_irp.specs.declared.completion.Head.{Head}
 use Rattle.rd_irp.specs.declared.completion.Reply.{Reply}
 use Rattle.rd_irp.specs.declared.request.Request.{Request}
+use Rattle.rd_journals.proofs.AskingLemmas.{HeardAs, hears}
+use Rattle.rd_journals.proofs.ClientLemmas.{next_job, read_by}
+use Rattle.rd_journals.proofs.WritingLemmas.{AddsOwn, hear_adds}
 use Rattle.rd_journals.proofs.CompletionLemmas.{completes as completes_with}
 use Rattle.rd_journals.proofs.HeldLemmas.{found_then, has_elsewhere, has_here}
 use Rattle.rd_journals.specs.Jobs.{AreFine, FitsCompletion}
@@ -43,15 +46,18 @@ use Rattle.rd_station.specs.Station.{StationState, put_refusal, put_unless}
 use Rattle.rd_station.specs.declared.refusals.PutWhy.{PutWhy}
 use Rattle.rd_station.specs.declared.refusals.PutWhy.TheVariants as why
 use Rattle.rd_world.proofs.Messages.{head_read}
-use Rattle.rd_world.specs.Hearing.{announcing, answers_directly, is_device_told, put_at, put_by, putting}
+use Rattle.rd_world.specs.Hearing.{after_opening, announcing, answers_directly, client_hears, heard_by_client, is_device_told, put_at, put_by, putting}
+use Rattle.rd_world.specs.Opening.{AreShort}
 use Rattle.rd_world.specs.Talk as deed
 use Rattle.rd_world.specs.Talk.{Deed, EachAfter, client_read, client_reads, client_writes, client_wrote, completes, head_in, journal, request_at, stores}
 use Rattle.rd_world.specs.Told.{CompletesWith, is_said_gone}
 use Rattle.rd_world.specs.World.{Kept, WorldState, station_at, with_station}
 use Rattle.rd_world.specs.declared.device.SessionDevice.{SessionDevice}
-use Rattle.rd_answered.proofs.LiveLemmas.{gone_off, never_worn}
-use Rattle.rd_answered.proofs.SayingLemmas.{refuse_more, then_more}
-use Rattle.rd_answered.specs.Refusing.{AllHaveRoom, AllRefuse, AreLive, AreSaying, HasRoom, IsLiveIn, IsSaying, SaysMarks, is_told_by, written_then}
+use Rattle.rd_answered.proofs.ListedLemmas.{listed_has}
+use Rattle.rd_answered.proofs.LiveLemmas.{all_live, gone_off, never_worn}
+use Rattle.rd_answered.proofs.ReadyLemmas.{client_kept}
+use Rattle.rd_answered.proofs.SayingLemmas.{HearsOn, hear_marks, hear_on, hear_refuses, refuse_more, then_more, told_before}
+use Rattle.rd_answered.specs.Refusing.{AllHaveRoom, AllRefuse, AreLive, AreSaying, HasRoom, HasRoomToAnnounce, IsLiveIn, IsSaying, SaysMarks, is_told_by, written_then}
 
 abbrev Of : Type 0
 Of = StationState SessionDevice
@@ -174,3 +180,75 @@ putting_saying w d job fines next room c opened is live = at (station_at w d) re
     at : (o : Option Of) → station_at w d ≡ o → IsSaying (put_at w d job o) × IsLiveIn (put_at w d job o)
     at None there = none there (is_told_by w.client d) refl
     at (Some s) there = here s there (put_refusal s job) refl
+
+-- ---- a message is heard
+
+announced_client : (w : WorldState) (e : ℕ) (o : Option Of) → (announced_by w e o).client ≡ w.client
+announced_client w e None = refl
+announced_client w e (Some s) = refl
+
+all_announced_client : (list : List Announce) (w : WorldState) → (fold (λ x (a : Announce). announcing x a.id) w list).client ≡ w.client
+all_announced_client [] w = refl
+all_announced_client (a ∷ list) w = all_announced_client list (announcing w a.id) ∙ announced_client w a.id (station_at w a.id)
+
+pub hears_saying : (c : ℕ) (w : WorldState) (m : List ℕ) → Orderly w → (opened : now w ≡ Some c) → w.kept ≡ None → AreFine FitsCompletion (client_reads w.channels m ∷ w.deeds) → AllHaveRoom w.stations
+    → AreDevices (announces w.client) → AreShort (announces w.client) → IsSaying w → IsLiveIn w → IsSaying (client_hears w m) × IsLiveIn (client_hears w m)
+hears_saying c w m ordered opened free fines room are short is live =
+    by (client_hear w.client m) (hears w.client m) (hear_adds w.client m) (hear_on w.client m) (client_kept w.client m).ready
+  where
+    read : ClientCoreState → WorldState
+    read x = read_by c w m ordered opened free x
+
+    wrote : List (List ℕ)
+    wrote = client_wrote w.channels w.deeds
+
+    saying : (r : ClientCoreState × Result Heard EndFault) → AddsOwn ((w.client).core).outbox ((r.0).core).outbox → HearsOn w.client r
+        → (is_client_ready ((w.client).core).shake ≡ true → is_client_ready ((r.0).core).shake ≡ true) → IsSaying (read r.0)
+    saying r (more, same, own) on stays = record {
+      room = subst (λ (ds : List ClientDevice). AllByRecursion HasRoomToAnnounce (map announce_in ds)) (sym on.devices) is.room;
+      stationed = λ d has. is.stationed d (ap (λ (ds : List ClientDevice). list_any (is_device d) ds) (sym on.devices) ∙ has);
+      marks = λ k at. hear_marks w.client r wrote on stays are short is.room (is.marks k at);
+      out = hear_refuses w.client r wrote more same own is.out;
+      each = (tt, is.each);
+    }
+
+    still : (r : ClientCoreState × Result Heard EndFault) → HearsOn w.client r → becomes_ready ((w.client).core).shake ((r.0).core).shake ≡ false → IsLiveIn (read r.0)
+    still r on never k at d s has told = live k at d s has (told_before w.client r on never d told)
+
+    -- a message that is no part of the opening
+    unready : (r : ClientCoreState × Result Heard EndFault) → HearsOn w.client r → (r.1 ≡ Ok heard.Nothing → ⊥) → becomes_ready ((w.client).core).shake ((r.0).core).shake ≡ false
+    unready r on other = go (becomes_ready ((w.client).core).shake ((r.0).core).shake) refl
+      where
+        go : (b : Bool) → becomes_ready ((w.client).core).shake ((r.0).core).shake ≡ b → b ≡ false
+        go true e = absurd (other (on.opens e))
+        go false e = refl
+
+    opening : (x : ClientCoreState) → HearsOn w.client (x, Ok heard.Nothing) → IsSaying (read x) → IsSaying (after_opening ((w.client).core).shake (read x)) × IsLiveIn (after_opening ((w.client).core).shake (read x))
+    opening x on so = go (becomes_ready ((w.client).core).shake (x.core).shake) refl
+      where
+        there : (d : ℕ) → is_told_by x d ≡ true → list_any (λ (a : Announce). a.id == d) (listed x) ≡ true
+        there d told = listed_has d x.devices (second (is_client_ready (x.core).shake) told)
+          where
+            second : (a : Bool) {b : Bool} → (a && b) ≡ true → b ≡ true
+            second true e = e
+            second false e = absurd (cc e)
+
+        go : (b : Bool) → becomes_ready ((w.client).core).shake (x.core).shake ≡ b
+            → let v : WorldState = (if b then fold (λ y (a : Announce). announcing y a.id) (read x) (listed x) else read x) in IsSaying v × IsLiveIn v
+        go true e = (all_announced (listed x) (read x) so, λ k at d s has told. all_live (listed x) (read x) room d s has (inl (there d (subst (λ (y : ClientCoreState). is_told_by y d ≡ true) (all_announced_client (listed x) (read x)) told))))
+        go false e = (so, still (x, Ok heard.Nothing) on e)
+
+    by : (r : ClientCoreState × Result Heard EndFault) → HeardAs w.client m r → AddsOwn ((w.client).core).outbox ((r.0).core).outbox → HearsOn w.client r
+        → (is_client_ready ((w.client).core).shake ≡ true → is_client_ready ((r.0).core).shake ≡ true)
+        → IsSaying (heard_by_client ((w.client).core).shake (read r.0) r.1) × IsLiveIn (heard_by_client ((w.client).core).shake (read r.0) r.1)
+    by (x, Err wrong) heard_as grew on stays = (saying (x, Err wrong) grew on stays, still (x, Err wrong) on (unready (x, Err wrong) on (λ e. cc e)))
+    by (x, Ok (heard.Print n)) heard_as grew on stays =
+        let so = saying (x, Ok (heard.Print n)) grew on stays in
+        let lives = still (x, Ok (heard.Print n)) on (unready (x, Ok (heard.Print n)) on (λ e. cc e)) in
+        (record { room = so.room; stationed = so.stationed; marks = so.marks; out = so.out; each = so.each }, lives)
+    by (x, Ok heard.Nothing) heard_as grew on stays = opening x on (saying (x, Ok heard.Nothing) grew on stays)
+    by (x, Ok (heard.Ask device job)) (same, asked, one, faulty, fine, r, spelled, named, is_job) grew on stays =
+        let next : IsNext w.stations w.channels x.asked (client_reads w.channels m ∷ w.deeds) device job =
+        subst (λ (y : ℕ × Job). IsNext w.stations w.channels x.asked (client_reads w.channels m ∷ w.deeds) y.0 y.1) (λ i. (sym named i, sym is_job i)) (next_job c w m ordered opened free x r asked spelled one fine) in
+        putting_saying (read x) device job fines next room c opened (saying (x, Ok (heard.Ask device job)) grew on stays)
+        (still (x, Ok (heard.Ask device job)) on (unready (x, Ok (heard.Ask device job)) on (λ e. cc e)))
