@@ -7,3 +7,4 @@ pub mod ListedLemmas
 pub mod SayingLemmas
 pub mod LiveLemmas
 pub mod RefusingLemmas
+pub mod PartLemmas
