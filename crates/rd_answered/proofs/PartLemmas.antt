@@ -55,17 +55,19 @@ use Rattle.rd_station.specs.declared.answers.Completion.{Completion}
 use Rattle.rd_world.proofs.Journals.{contains_has}
 use Rattle.rd_world.proofs.Messages.{head_read}
 use Rattle.rd_world.specs.Devices.{PrinterNames, device_cut, printer_data}
-use Rattle.rd_world.specs.Events.{came_of, client_has_message, client_sends_first, client_sends_next, completion_message, connects, cutting, dropping, is_channel_open, is_empty, refreshing}
+use Rattle.rd_world.specs.Events.{came_of, client_has_message, client_sends_first, client_sends_next, completion_message, connects, cutting, dropping, is_channel_open, is_empty, is_ready, refreshing}
 use Rattle.rd_world.specs.Opening.{AreShort, bare_lines}
 use Rattle.rd_world.specs.Run.{declared_devices, world_of}
 use Rattle.rd_world.specs.Talk as deed
 use Rattle.rd_world.specs.Talk.{Deed, EachAfter, client_reads, client_writes, client_wrote, completes, head_in, journal, on, request_at, client_read, stores}
 use Rattle.rd_world.specs.Told.{CompletesWith, came, is_said_gone, worn_entries}
-use Rattle.rd_world.specs.World.{WorldState, client_sends, handling_by, station_at, with_station}
+use Rattle.rd_world.specs.World.{Asked, WorldState, client_sends, handling_by, station_at, with_station}
 use Rattle.rd_world.specs.declared.device.SessionDevice.{SessionDevice}
+use Rattle.rd_directs.proofs.AloneLemmas.{kept_open}
+use Rattle.rd_answered.proofs.GrowingLemmas.{few_end, part_grows}
 use Rattle.rd_answered.proofs.ListedLemmas.{has_marked, has_refreshed, room_of, room_refreshed, spells, told_other, told_refreshed, told_removed_off}
 use Rattle.rd_answered.proofs.LiveLemmas.{announce_live, announced_found, apply_live, collect_live, orderly_room, take_live}
-use Rattle.rd_answered.proofs.RefusingLemmas.{announced_saying, hears_saying, putting_saying, station_live, station_saying}
+use Rattle.rd_answered.proofs.RefusingLemmas.{announced_client, announced_saying, hears_saying, putting_saying, station_live, station_saying}
 use Rattle.rd_answered.proofs.SayingLemmas.{refuse_more, refuses_so, then_more}
 use Rattle.rd_answered.specs.Refusing.{AllHaveRoom, AllRefuse, AreLive, AreSaying, HasRoomToAnnounce, IsLiveIn, IsSaying, RefusesGone, SaysMarks, is_told_by, written_then}
 
@@ -75,7 +77,7 @@ Of = StationState SessionDevice
 abbrev now : WorldState → Option ℕ
 now w = ((w.side).table).channel
 
-abbrev IsGood : WorldState → Type 0
+abbrev pub IsGood : WorldState → Type 0
 IsGood w = IsSaying w × IsLiveIn w
 
 abbrev IsGoodAs : ClientCoreState → List (ℕ × Of) → ℕ → Option ℕ → List Deed → Type 0
@@ -331,7 +333,7 @@ refresh_good w d body ready (is, live) =
       each = is.each;
     }, λ c at e s has told. live c at e s has (sym (told_refreshed w.client d e body) ∙ told))
 
-pub adds_good : (w : WorldState) (d : ℕ) (o : Option Of) → station_at w d ≡ o → is_client_ready ((w.client).core).shake ≡ true → AreShort (announces w.client) → AllHaveRoom w.stations → IsGood w → IsGood (announced_by (told_added w d) d o)
+adds_good : (w : WorldState) (d : ℕ) (o : Option Of) → station_at w d ≡ o → is_client_ready ((w.client).core).shake ≡ true → AreShort (announces w.client) → AllHaveRoom w.stations → IsGood w → IsGood (announced_by (told_added w d) d o)
 adds_good w d o there ready short room (is, live) = (announced_saying (told_added w d) d o told, lives)
   where
     x : ClientCoreState
@@ -369,3 +371,94 @@ adds_good w d o there ready short room (is, live) = (announced_saying (told_adde
       | inl (same, old, was, equal) ↦ subst (λ (t : Of). t.live ≡ true) (sym equal) (announce_live old (room d old was))
       | inr (other, was) ↦ live c (sym (now_as o) ∙ at) e s was (sym (told_other w.client d e false other) ∙ subst (λ (y : ClientCoreState). is_told_by y e ≡ true) (lives_as o) is_told)
     ]
+
+-- ---- each part, and every run
+
+abbrev pub AreUnworn : List Deed → Type 0
+AreUnworn deeds = (d : ℕ) → length (journal d deeds) < worn_entries
+
+module _ (lines : List NumberedLine) (starves : Key → Bool) (fit : AreFit (declared_devices (bare_lines lines))) (premises : RunPremises lines) where
+  -- a part before which no journal is worn
+  pub record Before (w : WorldState) (p : Part) : Type 0 where
+    pub behind : IsBehind lines starves w
+    pub after : IsBehind lines starves (done starves w p)
+    pub few : AreUnworn w.deeds
+
+  pub part_good : (w : WorldState) (p : Part) → Before w p → MayBe lines starves w p → IsGood w → IsGood (done starves w p)
+  part_good w (accepts a asked named t number) b (reached, may, next, target, made) is =
+      good_host (deed.submits a named asked.op) tt (sym (sym (channel_kept (call.submits a named asked.op) tt (w.side).table) ∙ ap (λ (r : TableState × Result ℕ SubmitNo). (r.0).channel) made)) is
+  part_good w (refuses a asked cause) b may is = is
+  part_good w (hands_out a number t had next) b (waits, nexts, made) is = by next
+    where
+      so : IsGoodAs w.client w.stations w.channels t.channel (deed.takes number ∷ w.deeds)
+      so = good_host (deed.takes number) tt (sym (sym (channel_kept (call.takes number) tt (w.side).table) ∙ ap (λ (r : TableState × Result Taken TakeNo). (r.0).channel) made)) is
+
+      by : (x : Option Asked) → IsGood (done starves w (hands_out a number t had x))
+      by None = so
+      by (Some asked) = so
+  part_good w (host_sends_one m) b may is = good_host (deed.host_writes w.channels m) tt (sends_same w.side) is
+  part_good w (host_gets n) b may is = is
+  part_good w host_keeps_part b may is = is
+  part_good w (host_hears_one m rest) b may is = good_host (deed.host_reads w.channels m) tt (hears_same w.side m) is
+  part_good w (tells_one n) b may is = good_host (deed.tells n) tt refl is
+  part_good w begins b can is =
+      connects_good w (ap (λ (t : Traffic). t.client_wrote) ((knows lines starves premises w b.behind).carries.later (w.channels + 1) (omega arith))) is
+  part_good w ends b may is = cutting_good w is.0
+  part_good w (client_sends_one x o) b made is =
+      subst (λ (r : ClientCoreState × Option Outgoing). IsGood (client_sends_first w r)) made (client_sends_good w (knows lines starves premises w b.behind).on.outbox is)
+  part_good w (client_gets n) b may is = is
+  part_good w client_keeps_part b may is = is
+  part_good w (client_hears_one m rest) b (kept, some) is =
+      let (ordered, handled) = behind_orderly lines starves w fit b.behind in
+      let (c, at) = hears_open w ordered handled m rest some in
+      let x : WorldState = record w { to_client = (handling_by w.to_client (Some (m, rest))).0 } in
+      let inside = hears_inside x m in
+      let read : List Deed = client_reads w.channels m ∷ w.deeds in
+      let ends = (knows lines starves premises w b.behind).fits.ends in
+      hears_saying c x m ordered at kept (λ n k r e. fines lines starves premises (done starves w (client_hears_one m rest)) b.after n k r
+      (subst (λ (ds : List Deed). request_at (client_read n ds) k ≡ Some r) (sym inside.deeds) (grown_more inside.more read n k r e))) (orderly_room w ordered b.few) ends.kept.devices ends.short is.0 is.1
+  part_good w (tries_one k) b some is =
+      let ordered = (behind_orderly lines starves w fit b.behind).0 in
+      let (c, at) = kept_open w k ordered some in
+      putting_saying (record w { kept = None }) k.device k.job (fines lines starves premises w b.behind) (ordered.kept_next k some) (orderly_room w ordered b.few) c at is.0 is.1
+  part_good w (collects_one d s next x) b (reached, idle, there, made) is =
+      let ordered = (behind_orderly lines starves w fit b.behind).0 in
+      collects_good w d s next x there made idle ordered
+      (ready_completes (declared_devices (bare_lines lines)) w ordered (behind_working FitsCompletion IsReplyInRange lost_ranged runs_good lines starves w fit b.behind (fines lines starves premises w b.behind)) d s there x (was_ready s next x made)) is
+  part_good w (takes_one d hand s next job) b (free, there, made) is = (station_saying w d next is.0, station_live w d s next there (λ on. take_live s next job made ∙ on) is.1)
+  part_good w (applies_one hand d job None) b may is = is
+  part_good w (applies_one hand d job (Some s)) b (holds, there) is =
+      let new : Of = (station.apply s job w.moment (came_of starves w job s.device)).0 in
+      (station_saying w d new is.0, station_live w d s new there (λ on. apply_live s job w.moment (came_of starves w job s.device) ∙ on) is.1)
+  part_good w (removes_one d o) b (can, there) is =
+      let open_ready = left (is_ready w) _ can in
+      removes_good w d o there (right (is_channel_open w) _ open_ready) (left (has_device w.client d) _ (right (is_ready w) _ can)) is
+  part_good w (adds_one d names o) b (can, printers, there) is =
+      by names there is_short
+    where
+      ready : is_client_ready ((w.client).core).shake ≡ true
+      ready = right (is_channel_open w) _ (left (is_ready w) _ can)
+
+      room : AllHaveRoom w.stations
+      room = orderly_room w (behind_orderly lines starves w fit b.behind).0 b.few
+
+      is_short : AreShort (announces (refreshed_by w d names).client)
+      is_short =
+          subst AreShort (same_announces d false ((refreshed_by w d names).client).devices)
+          (subst (λ (x : ClientCoreState). AreShort (announces x)) (announced_client (told_added (refreshed_by w d names) d) d o) (knows lines starves premises (done starves w (adds_one d names o)) b.after).fits.ends.short)
+
+      by : (names : Option PrinterNames) → station_at w d ≡ o → AreShort (announces (refreshed_by w d names).client) → IsGood (announced_by (told_added (refreshed_by w d names) d) d o)
+      by None there short = adds_good w d o there ready short room is
+      by (Some names) there short = adds_good (refreshed_by w d (Some names)) d o there ready short room (refresh_good w d (printer_data w.cache names) ready is)
+  part_good w (queues_one a) b may is = is
+  part_good w (idle_one number) b may is = is
+  part_good w draws_one b may is = is
+
+  -- where no journal is worn at last
+  pub behind_good : IsGood (world_of lines) → (w : WorldState) → IsBehind lines starves w → AreUnworn w.deeds → IsGood w
+  behind_good first w behind =
+      by_parts lines starves (λ x. (AreUnworn x.deeds → IsGood x)) (λ few. first)
+      (λ x p before after may is few.
+          let (more, same) = part_grows starves x p in
+          let was : AreUnworn x.deeds = λ d. few_end worn_entries d more x.deeds (subst (λ (ds : List Deed). length (journal d ds) < worn_entries) same (few d)) in
+          part_good x p (record { behind = before; after = after; few = was }) may (is was)) w behind

@@ -183,7 +183,7 @@ putting_saying w d job fines next room c opened is live = at (station_at w d) re
 
 -- ---- a message is heard
 
-announced_client : (w : WorldState) (e : ℕ) (o : Option Of) → (announced_by w e o).client ≡ w.client
+pub announced_client : (w : WorldState) (e : ℕ) (o : Option Of) → (announced_by w e o).client ≡ w.client
 announced_client w e None = refl
 announced_client w e (Some s) = refl
 
