@@ -8,3 +8,4 @@ pub mod SayingLemmas
 pub mod LiveLemmas
 pub mod RefusingLemmas
 pub mod PartLemmas
+pub mod WritableLemmas
