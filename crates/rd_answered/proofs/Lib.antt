@@ -8,4 +8,5 @@ pub mod SayingLemmas
 pub mod LiveLemmas
 pub mod RefusingLemmas
 pub mod PartLemmas
+pub mod FirstLemmas
 pub mod WritableLemmas

@@ -5,4 +5,7 @@
 
 mod laws;
 
-pub use laws::{joined_if_refused};
+pub use laws::{
+    clients_answer, clients_say_who_is_there, refusals_are_called_for, scripts_are_joined,
+    scripts_declare_writable, sessions_are_joined,
+};
