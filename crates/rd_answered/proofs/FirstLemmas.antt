@@ -1,5 +1,5 @@
 -- The world that lines begin has said nothing, and its devices have stations and numbers that can be written.
-use Rattle.std.proofs.Common.{◌≡◌, ◌∙◌, refl, sym, ap, subst, ℕ, ◌<◌, ◌^◌, ◌==◌, ◌&&◌, ◌||◌, Bool, true, false, cond, not, replicate, List, [], ◌∷◌, map, Some, None, Option, arith, eqb-true, eq-eqb, lit<}
+use Rattle.std.proofs.Common.{◌≡◌, ◌∙◌, refl, sym, ℕ, ◌<◌, ◌^◌, ◌==◌, ◌||◌, Bool, true, false, cond, replicate, List, [], ◌∷◌, map, Some, None, Option, eqb-true, lit<}
 use Rattle.std.specs.Prelude.{fold, if◌then◌else◌}
 use Rattle.std.specs.List.{AllByRecursion, list_any}
 use Rattle.std.specs.BTreeMap.{insert_entry, is_at}
@@ -7,7 +7,6 @@ use Rattle.std.specs.Map.{lookup}
 use Rattle.std.specs.Ordering.{match_ordering, nat_cmp}
 use Rattle.std.specs.declared.cmp.Ordering.{Ordering}
 use Rattle.std.specs.declared.cmp.Ordering.TheVariants.{Equal, Greater, Less}
-use Rattle.std.proofs.lemmas.Bool.Decides.{nat_tests}
 use Rattle.rd_client.specs.Core.{announce_in, is_device, present_device}
 use Rattle.rd_dirinfo.specs.Paths.{Names}
 use Rattle.rd_runs.proofs.BeginningLemmas.{Unset, begins_as}
@@ -20,7 +19,7 @@ use Rattle.rd_world.proofs.ApplicationsLemmas.{equal_is}
 use Rattle.rd_world.proofs.OpeningLemmas.{declared_openable}
 use Rattle.rd_world.specs.Devices.{Declared, announce_of, declaring, furnishing, holding_at, with_first}
 use Rattle.rd_world.specs.Opening.{IsOpenable, bare_lines}
-use Rattle.rd_world.specs.Run.{applications_of, declared_devices, station_of, world_of}
+use Rattle.rd_world.specs.Run.{declared_devices, station_of, world_of}
 use Rattle.rd_world.specs.declared.device.SessionDevice.{SessionDevice}
 use Rattle.rd_answered.proofs.PartLemmas.{IsGood}
 use Rattle.rd_answered.specs.Refusing.{AreLive, AreSaying, DeclareWritable, DeclaresWritable, HasRoomToAnnounce}

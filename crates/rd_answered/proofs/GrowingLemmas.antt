@@ -1,6 +1,5 @@
 -- What was done stays: each part of a move only adds to the deeds, and what holds of each deed, or of a journal's length, held before.
-use Rattle.std.proofs.Common.{◌≡◌, ◌∙◌, refl, sym, ap, ℕ, ◌<◌, arith, append_assoc, Bool, List, [], ◌∷◌, ◌++◌, map, Some, None, Option, length}
-use Rattle.std.specs.Prelude.{fold}
+use Rattle.std.proofs.Common.{◌∙◌, refl, sym, ap, ℕ, ◌<◌, arith, append_assoc, Bool, List, [], ◌∷◌, ◌++◌, map, Some, None, Option, length}
 use Rattle.std.specs.List.{cons_option}
 use Rattle.rd_base.specs.declared.journal.Item.{Item}
 use Rattle.rd_base.specs.declared.journal.Key.{Key}

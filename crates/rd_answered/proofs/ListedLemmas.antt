@@ -1,5 +1,5 @@
 -- The lists of a client's devices are read back.
-use Rattle.std.proofs.Common.{◌≡◌, refl, sym, ap, subst, eqb-true, eq-eqb, inl, inr, ◌∙◌, ℕ, ◌<◌, ◌≤◌, ◌^◌, ◌==◌, Bool, true, false, cond, arith, List, [], ◌∷◌, map, length}
+use Rattle.std.proofs.Common.{◌≡◌, refl, ap, subst, eqb-true, eq-eqb, inl, inr, ◌∙◌, ℕ, ◌<◌, ◌≤◌, ◌^◌, ◌==◌, Bool, true, false, cond, arith, List, [], ◌∷◌, map, length}
 use Rattle.std.specs.Prelude.{filter, ◌||◌, ◌&&◌, not}
 use Rattle.std.specs.List.{AllByRecursion, list_any}
 use Rattle.std.proofs.lemmas.Bool.{cases_Bool}
@@ -15,7 +15,6 @@ use Rattle.rd_devices.specs.declared.list.Announce.{Announce}
 use Rattle.rd_hello.specs.declared.client.ClientState.{ClientState}
 use Rattle.rd_hello.specs.declared.client.ClientState.TheVariants.{Start, Named, Confirmed, Offered, Waiting, Ready}
 use Rattle.rd_world.specs.Opening.{AreShort, IsShort}
-use Rattle.rd_world.specs.Printers.{max_printer_data}
 use Rattle.rd_answered.specs.Refusing.{HasRoomToAnnounce, is_told_by}
 
 -- ---- what can be written

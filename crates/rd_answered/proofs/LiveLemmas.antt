@@ -1,10 +1,7 @@
 -- A device that the host is told of gets a live station, where journals have room, and keeps it whatever its station does but for a cut.
-use Rattle.std.proofs.Common.{◌≡◌, ◌∙◌, ◌⊎◌, refl, sym, ap, subst, ℕ, ◌+◌, ◌-◌, ◌*◌, ◌<◌, ◌≤◌, ◌==◌, Bool, true, false, cond, arith, eqb-true, eq-eqb, List, [], ◌∷◌, ◌++◌, map, length, inl, inr, Some, None, Option, Result, Ok, Err}
+use Rattle.std.proofs.Common.{◌≡◌, ◌∙◌, ◌⊎◌, refl, sym, ap, subst, ℕ, ◌+◌, ◌-◌, ◌*◌, ◌<◌, ◌≤◌, ◌==◌, Bool, true, false, cond, arith, eqb-true, eq-eqb, List, [], ◌∷◌, length, inl, inr, Some, None, Option, Result, Ok, Err}
 use Rattle.std.specs.Prelude.{find, fold, nat_le, nat_lt, not, ◌||◌}
 use Rattle.std.specs.List.{list_any}
-use Rattle.std.specs.Map.{lookup}
-use Rattle.std.specs.Ordering.{nat_cmp}
-use Rattle.std.specs.BTreeMap.{is_at}
 use Rattle.std.specs.Option.{option_map_or}
 use Rattle.std.proofs.lemmas.Bool.Decides.{nat_tests}
 use Rattle.std.proofs.lemmas.List.{length-reverse}
@@ -14,7 +11,7 @@ use Rattle.rd_drive.specs.Device.{is_parked}
 use Rattle.rd_drive.specs.Stepped.{Stepped}
 use Rattle.rd_drive.specs.declared.plan.Job.{Job}
 use Rattle.rd_irp.specs.Fits.{kind_of}
-use Rattle.rd_journals.proofs.HeldLemmas.{found_then, has_elsewhere, has_here}
+use Rattle.rd_journals.proofs.HeldLemmas.{found_then}
 use Rattle.rd_journals.specs.Orderly.{HasStation, Orderly}
 use Rattle.rd_runs.proofs.Parts.{announced_by}
 use Rattle.rd_station.proofs.Calls.{reached_kept}
@@ -30,13 +27,12 @@ use Rattle.rd_station.specs.declared.answers.Given.TheVariants as given
 use Rattle.rd_station.specs.declared.held.InHand.{InHand}
 use Rattle.rd_station.specs.declared.refusals.AnnounceNo.{AnnounceNo}
 use Rattle.rd_station.specs.declared.refusals.AnnounceNo.TheVariants as refused
-use Rattle.rd_station.specs.declared.refusals.PutWhy.{PutWhy}
 use Rattle.rd_station.specs.declared.refusals.PutWhy.TheVariants as why
 use Rattle.rd_world.specs.Devices.{device_cuts, device_parked, device_runs}
 use Rattle.rd_world.specs.Hearing.{announcing}
 use Rattle.rd_world.specs.Talk.{journal}
 use Rattle.rd_world.specs.Told.{worn_entries}
-use Rattle.rd_world.specs.World.{WorldState, station_at, with_station}
+use Rattle.rd_world.specs.World.{WorldState, station_at}
 use Rattle.rd_world.specs.declared.device.SessionDevice.{SessionDevice}
 use Rattle.rd_answered.specs.Refusing.{AllHaveRoom, HasRoom}
 

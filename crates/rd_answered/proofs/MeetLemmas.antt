@@ -1,5 +1,5 @@
 -- No request meets a job that is held with its completion id, by one induction with the joining law: what it says of what was done so far is what the next part takes.
-use Rattle.std.proofs.Common.{◌==◌, cond, ap, refl, sym, subst, ℕ, ◌<◌, ◌∙◌, ◌≡◌, Bool, true, false, List, [], ◌∷◌, ◌++◌, reverse}
+use Rattle.std.proofs.Common.{◌==◌, cond, ap, subst, ℕ, ◌<◌, Bool, true, false, List, ◌∷◌, ◌++◌, reverse}
 use Rattle.std.specs.Prelude.{◌&&◌, Bool, None, Some, filter, length}
 use Rattle.std.specs.List.{cons_option}
 use Rattle.std.specs.Option.{option_map_or}
@@ -14,11 +14,10 @@ use Rattle.rd_journals.proofs.RunLemmas.{behind_orderly, hears_open, orderly_law
 use Rattle.rd_journals.proofs.ServingLemmas.{behind_standing}
 use Rattle.rd_journals.proofs.WorkLemmas.{behind_working}
 use Rattle.rd_journals.specs.Jobs.{FitsCompletion}
-use Rattle.rd_journals.specs.Orderly.{Orderly}
 use Rattle.rd_journals.specs.Stations.{AreFit}
-use Rattle.rd_runs.proofs.Insides.{IsInside, hears_inside}
+use Rattle.rd_runs.proofs.Insides.{hears_inside}
 use Rattle.rd_runs.proofs.Parts.{IsBehind, MayBe, Part, accepts, adds_one, applies_one, begins, by_parts, client_gets, client_hears_one, client_keeps_part, client_sends_one, collects_one, done, draws_one, ends, hands_out, host_gets, host_hears_one, host_keeps_part, host_sends_one, idle_one, queues_one, refuses, removes_one, takes_one, tells_one, tries_one}
-use Rattle.rd_runs.proofs.Together.{Knows, knows}
+use Rattle.rd_runs.proofs.Together.{knows}
 use Rattle.rd_runs.specs.Premises.{RunPremises}
 use Rattle.rd_script.specs.declared.line.NumberedLine.{NumberedLine}
 use Rattle.rd_world.proofs.Joining.{all_join}

@@ -1,7 +1,7 @@
 -- What each part of a move leaves of what a client says and refuses, and so every run.
-use Rattle.std.proofs.Common.{◌≡◌, ◌∙◌, refl, sym, ap, subst, ℕ, ◌+◌, ◌<◌, ◌^◌, ◌==◌, Bool, true, false, cond, arith, eqb-true, eq-eqb, List, [], ◌∷◌, ◌++◌, map, length, inl, inr, Some, None, Option, Result, Ok, Err}
-use Rattle.std.specs.Prelude.{fold, if◌then◌else◌, not, ◌&&◌, ◌||◌, Contains}
-use Rattle.std.specs.List.{AllByRecursion, cons_option, list_any}
+use Rattle.std.proofs.Common.{◌≡◌, ◌∙◌, refl, sym, ap, subst, ℕ, ◌+◌, ◌<◌, ◌==◌, Bool, true, false, cond, arith, eqb-true, eq-eqb, List, [], ◌∷◌, ◌++◌, map, length, inl, inr, Some, None, Option, Result}
+use Rattle.std.specs.Prelude.{fold, not, ◌&&◌, Contains}
+use Rattle.std.specs.List.{AllByRecursion, cons_option}
 use Rattle.std.specs.Map.{lookup}
 use Rattle.std.specs.Ordering.{nat_cmp}
 use Rattle.std.specs.BTreeMap.{is_at}
@@ -10,8 +10,7 @@ use Rattle.rd_base.specs.declared.journal.Item.{Item}
 use Rattle.rd_base.specs.declared.journal.Item.TheVariants.{Came, Sent}
 use Rattle.rd_base.specs.declared.journal.Key.{Key}
 use Rattle.rd_client.proofs.KeptLemmas.{same_announces}
-use Rattle.rd_client.specs.Core as client
-use Rattle.rd_client.specs.Core.{ClientCoreState, Outgoing, announces, has_device, is_device, is_gone, listed_one, plain, refresh, tell_added, tell_removed, with_mark}
+use Rattle.rd_client.specs.Core.{ClientCoreState, Outgoing, announces, has_device, is_device, is_gone, listed_one, plain, refresh, tell_added, tell_removed}
 use Rattle.rd_client.specs.Order.{is_client_ready}
 use Rattle.rd_core.specs.Core as core
 use Rattle.rd_devices.specs.DeviceList.{list_bytes}
@@ -27,7 +26,7 @@ use Rattle.rd_journals.proofs.CompletionLemmas.{lost_ranged, ready_completes, ru
 use Rattle.rd_journals.proofs.HeldLemmas.{found_then, stored_deeds}
 use Rattle.rd_journals.proofs.HostLemmas.{hears_same, sends_same}
 use Rattle.rd_journals.proofs.OrderlyLemmas.{ready_came}
-use Rattle.rd_journals.proofs.RunLemmas.{IsHandledIn, behind_orderly, hears_open, left, opened, own_open, right}
+use Rattle.rd_journals.proofs.RunLemmas.{behind_orderly, hears_open, left, opened, right}
 use Rattle.rd_journals.proofs.WorkLemmas.{behind_working, grown_more}
 use Rattle.rd_journals.specs.Jobs.{FitsCompletion, IsCompletionOf}
 use Rattle.rd_journals.specs.Orderly.{HasStation, Orderly}
@@ -42,11 +41,10 @@ use Rattle.rd_refused.proofs.MarkLemmas.{addition_marks, refresh_marks, removal_
 use Rattle.rd_refused.proofs.SaidLemmas.{completion_says}
 use Rattle.rd_refused.specs.Refused.{MarksSay, RefusesDirectly}
 use Rattle.rd_runs.proofs.Insides.{hears_inside}
-use Rattle.rd_runs.proofs.KeysOn.{AnswersOn, all_dropped_client}
-use Rattle.rd_runs.proofs.Parts.{IsBehind, MayBe, Part, accepts, adds_one, announced_by, applies_one, begins, by_parts, client_gets, client_hears_one, client_keeps_part, client_sends_one, collects_one, cut_by, done, draws_one, ends, hands_out, host_gets, host_hears_one, host_keeps_part, host_sends_one, idle_one, queues_one, reached_behind, refreshed_by, refuses, removes_one, takes_one, tells_one, told_added, told_removed, tries_one}
+use Rattle.rd_runs.proofs.KeysOn.{AnswersOn}
+use Rattle.rd_runs.proofs.Parts.{IsBehind, MayBe, Part, accepts, adds_one, announced_by, applies_one, begins, by_parts, client_gets, client_hears_one, client_keeps_part, client_sends_one, collects_one, cut_by, done, draws_one, ends, hands_out, host_gets, host_hears_one, host_keeps_part, host_sends_one, idle_one, queues_one, refreshed_by, refuses, removes_one, takes_one, tells_one, told_added, told_removed, tries_one}
 use Rattle.rd_runs.proofs.Together.{knows}
 use Rattle.rd_runs.proofs.TrafficLemmas.{Traffic}
-use Rattle.rd_runs.specs.Moves.{Reached}
 use Rattle.rd_runs.specs.Premises.{RunPremises}
 use Rattle.rd_script.specs.declared.line.NumberedLine.{NumberedLine}
 use Rattle.rd_station.specs.Station as station

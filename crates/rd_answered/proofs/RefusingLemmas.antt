@@ -1,34 +1,23 @@
 -- In every run each request that never comes is refused as the client had said of its device.
-use Rattle.std.proofs.Common.{◌≡◌, ◌∙◌, ◌⊎◌, refl, sym, ap, subst, ℕ, ◌+◌, ◌<◌, ◌^◌, ◌==◌, Bool, true, false, cond, arith, eqb-true, eq-eqb, List, [], ◌∷◌, ◌++◌, map, length, inl, inr, Some, None, Option, Result, Ok, Err, lit<}
-use Rattle.std.specs.Prelude.{fold, if◌then◌else◌, not, ◌&&◌, ◌||◌, Contains}
-use Rattle.std.specs.List.{AllByRecursion, cons_option, list_any}
-use Rattle.std.specs.Map.{lookup}
+use Rattle.std.proofs.Common.{◌≡◌, ◌∙◌, refl, sym, ap, subst, ℕ, ◌<◌, ◌^◌, ◌==◌, Bool, true, false, eqb-true, List, [], ◌∷◌, ◌++◌, map, inl, inr, Some, None, Option, Result, Ok, Err, lit<}
+use Rattle.std.specs.Prelude.{fold, if◌then◌else◌, not, ◌&&◌}
+use Rattle.std.specs.List.{AllByRecursion, list_any}
 use Rattle.std.specs.Ordering.{nat_cmp}
-use Rattle.std.specs.BTreeMap.{insert_entry, is_at}
-use Rattle.std.specs.Option.{IfSome, option_map_or}
+use Rattle.std.specs.BTreeMap.{insert_entry}
 use Rattle.rd_base.specs.Statuses.{insufficient_resources, no_such_device}
-use Rattle.rd_base.specs.declared.journal.Item.{Item}
-use Rattle.rd_base.specs.declared.journal.Item.TheVariants.{Came, Sent}
-use Rattle.rd_base.specs.declared.journal.Key.{Key}
 use Rattle.rd_base.specs.declared.status.Status.{Status}
-use Rattle.rd_client.proofs.KeptLemmas.{same_announces}
 use Rattle.rd_client.specs.Core as client
 use Rattle.rd_client.specs.Core.{AreDevices, ClientCoreState, ClientDevice, Outgoing, announce_in, announces, becomes_ready, client_hear, device_marked, has_device, is_device, is_gone, is_present, job_of, listed, listed_one, plain, refreshed}
 use Rattle.rd_client.specs.Order.{is_client_ready}
 use Rattle.rd_client.specs.declared.heard.Heard.{Heard}
 use Rattle.rd_client.specs.declared.heard.Heard.TheVariants as heard
-use Rattle.rd_core.specs.Core as core
-use Rattle.rd_devices.specs.DeviceList.{list_bytes}
-use Rattle.rd_devices.specs.Removal.{removal_bytes}
 use Rattle.rd_devices.specs.declared.list.Announce.{Announce}
 use Rattle.rd_drive.specs.Outcome.{fault}
 use Rattle.rd_drive.specs.declared.plan.Job.{Job}
-use Rattle.rd_hello.specs.declared.client.ClientState.{ClientState}
 use Rattle.rd_hello.specs.declared.end_fault.EndFault.{EndFault}
 use Rattle.rd_irp.specs.Fits.{BodyFits, kind_of}
 use Rattle.rd_irp.specs.declared.completion.Body.TheVariants.{Fault}
 use Rattle.rd_irp.specs.declared.completion.Head.{Head}
-use Rattle.rd_irp.specs.declared.completion.Reply.{Reply}
 use Rattle.rd_irp.specs.declared.request.Request.{Request}
 use Rattle.rd_journals.proofs.AskingLemmas.{HeardAs, hears}
 use Rattle.rd_journals.proofs.ClientLemmas.{next_job, read_by}
@@ -38,8 +27,7 @@ use Rattle.rd_journals.proofs.HeldLemmas.{found_then, has_elsewhere, has_here}
 use Rattle.rd_journals.specs.Jobs.{AreFine, FitsCompletion}
 use Rattle.rd_journals.specs.Orderly.{HasStation, IsNext, Orderly}
 use Rattle.rd_refused.proofs.SaidLemmas.{completion_says}
-use Rattle.rd_refused.specs.Refused.{RefusesDirectly}
-use Rattle.rd_runs.proofs.Insides.{AreOwn, IsInside, IsOwn, stationed}
+use Rattle.rd_runs.proofs.Insides.{AreOwn, IsOwn, stationed}
 use Rattle.rd_runs.proofs.Parts.{announced_by}
 use Rattle.rd_station.specs.Station as station
 use Rattle.rd_station.specs.Station.{StationState, put_refusal, put_unless}
@@ -51,13 +39,13 @@ use Rattle.rd_world.specs.Opening.{AreShort}
 use Rattle.rd_world.specs.Talk as deed
 use Rattle.rd_world.specs.Talk.{Deed, EachAfter, client_read, client_reads, client_writes, client_wrote, completes, head_in, journal, request_at, stores}
 use Rattle.rd_world.specs.Told.{CompletesWith, is_said_gone}
-use Rattle.rd_world.specs.World.{Kept, WorldState, station_at, with_station}
+use Rattle.rd_world.specs.World.{WorldState, station_at, with_station}
 use Rattle.rd_world.specs.declared.device.SessionDevice.{SessionDevice}
 use Rattle.rd_answered.proofs.ListedLemmas.{listed_has}
 use Rattle.rd_answered.proofs.LiveLemmas.{all_live, gone_off, never_worn}
 use Rattle.rd_answered.proofs.ReadyLemmas.{client_kept}
 use Rattle.rd_answered.proofs.SayingLemmas.{HearsOn, hear_marks, hear_on, hear_refuses, refuse_more, then_more, told_before}
-use Rattle.rd_answered.specs.Refusing.{AllHaveRoom, AllRefuse, AreLive, AreSaying, HasRoom, HasRoomToAnnounce, IsLiveIn, IsSaying, SaysMarks, is_told_by, written_then}
+use Rattle.rd_answered.specs.Refusing.{AllHaveRoom, AreSaying, HasRoomToAnnounce, IsLiveIn, IsSaying, is_told_by, written_then}
 
 abbrev Of : Type 0
 Of = StationState SessionDevice

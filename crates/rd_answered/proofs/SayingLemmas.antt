@@ -1,7 +1,7 @@
 -- What a client hears and writes, and what it said by it.
-use Rattle.std.proofs.Common.{◌≡◌, ◌∙◌, refl, sym, ap, subst, ℕ, ◌<◌, ◌^◌, ◌==◌, Bool, true, false, cond, append-nil, append_assoc, List, [], ◌∷◌, ◌++◌, map, inl, inr, Some, None, Option, Result, Ok, Err}
+use Rattle.std.proofs.Common.{◌≡◌, ◌∙◌, refl, sym, ap, subst, ℕ, ◌==◌, Bool, true, false, cond, append-nil, append_assoc, List, [], ◌∷◌, ◌++◌, map, inl, inr, Some, None, Option, Result, Ok, Err}
 use Rattle.std.specs.Prelude.{◌&&◌, not}
-use Rattle.std.specs.List.{list_any, cons_option}
+use Rattle.std.specs.List.{list_any}
 use Rattle.std.specs.Option.{option_to_list}
 use Rattle.std.specs.List.{AllByRecursion}
 use Rattle.rd_base.specs.Statuses.{insufficient_resources, no_such_device}
@@ -15,7 +15,7 @@ use Rattle.rd_client.specs.declared.heard.Heard.TheVariants as heard
 use Rattle.rd_core.specs.Core.{CoreState}
 use Rattle.rd_core.specs.Hearing as hearing
 use Rattle.rd_core.specs.Hearing.{Meaning, messages_of, nothing, opens, says, wrong}
-use Rattle.rd_devices.specs.DeviceList.{SpellsList, list_bytes}
+use Rattle.rd_devices.specs.DeviceList.{list_bytes}
 use Rattle.rd_drive.specs.Outcome.{fault}
 use Rattle.rd_hello.specs.Hello.{hello_bytes}
 use Rattle.rd_hello.specs.declared.client.ClientState.{ClientState}
@@ -23,16 +23,14 @@ use Rattle.rd_hello.specs.declared.end_fault.EndFault.{EndFault}
 use Rattle.rd_hello.specs.declared.hello.Hello.{Hello}
 use Rattle.rd_irp.specs.declared.completion.Head.{Head}
 use Rattle.rd_irp.specs.declared.completion.Reply.{Reply}
-use Rattle.rd_irp.specs.declared.request.Request.{Request}
 use Rattle.rd_journals.proofs.WritingLemmas.{AreOwn}
-use Rattle.rd_journals.specs.Jobs.{IsRefusalOf}
 use Rattle.rd_refused.proofs.MarkLemmas.{first_marks}
 use Rattle.rd_refused.proofs.SaidLemmas.{hello_says}
 use Rattle.rd_refused.specs.Refused.{RefusesDirectly}
 use Rattle.rd_world.proofs.Messages.{head_read}
 use Rattle.rd_world.specs.Opening.{AreShort}
-use Rattle.rd_world.specs.Talk.{Deed, Has, client_wrote, completes, head_in, journal, request_at, client_read}
-use Rattle.rd_world.specs.Told.{CompletesWith, IsDirect, came, is_said_gone}
+use Rattle.rd_world.specs.Talk.{Deed, client_wrote, completes, head_in}
+use Rattle.rd_world.specs.Told.{is_said_gone}
 use Rattle.rd_answered.proofs.ListedLemmas.{ready_moves, spells}
 use Rattle.rd_answered.specs.Refusing.{AllRefuse, HasRoomToAnnounce, RefusesGone, SaysMarks, is_told_by, written_then}
 

@@ -27,7 +27,7 @@ use Rattle.rd_world.specs.Opening.{bare_lines}
 use Rattle.rd_world.specs.Recording.{client_id}
 use Rattle.rd_world.specs.Run.{declared_devices}
 use Rattle.rd_world.specs.Session.{replies_in}
-use Rattle.rd_world.specs.Talk.{Deed, EachAfter}
+use Rattle.rd_world.specs.Talk.{EachAfter}
 use Rattle.rd_world.specs.Told.{Answers, AreAnswered}
 use Rattle.rd_world.specs.World.{WorldState}
 use Rattle.rd_answered.specs.Refusing.{DeclareWritable}

@@ -1,6 +1,6 @@
 -- A script declares devices whose numbers have room in their fields.
-use Rattle.std.proofs.Common.{◌≡◌, ap, arith, ℕ, ◌-◌, ◌^◌, ◌≤◌, ◌<◌, Bool, true, false, cond, List, [], ◌∷◌, length, Result, Ok, Err, ◌≢◌, refl, subst, ◌+◌, ◌*◌, ◌&&◌}
-use Rattle.std.specs.Prelude.{◌==◌, not, nat_le, if◌then◌else◌}
+use Rattle.std.proofs.Common.{◌≡◌, ap, arith, ℕ, ◌-◌, ◌^◌, ◌≤◌, ◌<◌, Bool, true, false, cond, List, [], ◌∷◌, length, Result, Ok, Err, refl, subst, ◌+◌}
+use Rattle.std.specs.Prelude.{not, nat_le}
 use Rattle.rd_irp.specs.Op.{max_ranges}
 use Rattle.std.specs.List.{AllByRecursion}
 use Rattle.rd_base.specs.Layout.{and_then}
@@ -30,7 +30,6 @@ use Rattle.rd_script.specs.declared.keyword.Mode.{Mode}
 use Rattle.rd_script.specs.declared.line.NumberedLine.{NumberedLine}
 use Rattle.rd_script.specs.declared.script.Script.{Script}
 use Rattle.rd_drive.proofs.AllLemmas.{all_append}
-use Rattle.rd_irp.specs.Fits.{max_buffer}
 use Rattle.rd_answered.specs.Refusing.{DeclareWritable, DeclaresWritable}
 
 module _ (n : ℕ) (said : Said) where
