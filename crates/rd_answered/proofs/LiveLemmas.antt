@@ -34,7 +34,7 @@ use Rattle.rd_world.specs.Talk.{journal}
 use Rattle.rd_world.specs.Told.{worn_entries}
 use Rattle.rd_world.specs.World.{WorldState, station_at}
 use Rattle.rd_world.specs.declared.device.SessionDevice.{SessionDevice}
-use Rattle.rd_answered.specs.Refusing.{AllHaveRoom, HasRoom}
+use Rattle.rd_answered.specs.Refusing.{AllKeepRoom, KeepsRoom}
 
 abbrev Of : Type 0
 Of = StationState SessionDevice
@@ -51,7 +51,7 @@ places s n few =
     by true = omega (arith, few, size_held s)
     by false = omega (arith, few, size_held s)
 
-pub announce_live : (s : Of) → HasRoom s → ((station.announce s).0).live ≡ true
+pub announce_live : (s : Of) → KeepsRoom s → ((station.announce s).0).live ≡ true
 announce_live s room = by s.live refl (nat_le station.max_entries (station.entry_count s)) refl
   where
     by : (a : Bool) → s.live ≡ a → (b : Bool) → nat_le station.max_entries (station.entry_count s) ≡ b
@@ -63,16 +63,16 @@ announce_live s room = by s.live refl (nat_le station.max_entries (station.entry
         let many : station.max_entries ≤ station.entry_count s = grind (arith, nat_tests, worn) in
         absurd (omega (arith, most, many, room.0))
 
-pub announce_room : (s : Of) → HasRoom s → HasRoom (station.announce s).0
+pub announce_room : (s : Of) → KeepsRoom s → KeepsRoom (station.announce s).0
 announce_room s room = by s.live (nat_le station.max_entries (station.entry_count s))
   where
-    by : (a b : Bool) → HasRoom (cond {A = Of × Result (Unit {0}) AnnounceNo} a (s, Err refused.Live) (cond b (s, Err (refused.Worn (station.entry_count s))) (record s { live = true }, Ok tt))).0
+    by : (a b : Bool) → KeepsRoom (cond {A = Of × Result (Unit {0}) AnnounceNo} a (s, Err refused.Live) (cond b (s, Err (refused.Worn (station.entry_count s))) (record s { live = true }, Ok tt))).0
     by true b = room
     by false true = room
     by false false = room
 
 -- no job is refused for a worn journal
-pub never_worn : (s : Of) (job : Job) (count : ℕ) → HasRoom s → put_refusal s job ≡ Some (why.Worn count) → ⊥
+pub never_worn : (s : Of) (job : Job) (count : ℕ) → KeepsRoom s → put_refusal s job ≡ Some (why.Worn count) → ⊥
 never_worn s job count room is = by s.live refl (find (λ (other : Key × ℕ). other.1 == job.completion) (held s)) (nat_le station.max_held (length (held s))) refl (nat_lt (station.max_entries - 3) (station.entry_count s)) refl is
   where
     by : (a : Bool) → s.live ≡ a → (o : Option (Key × ℕ)) → (b : Bool) → nat_le station.max_held (length (held s)) ≡ b → (c : Bool) → nat_lt (station.max_entries - 3) (station.entry_count s) ≡ c
@@ -139,14 +139,14 @@ announced_found w e None there d s has = by (d == e) refl
     by false is = inr (is, has)
 announced_found w e (Some old) there d s has = elim (found_then w.stations e (station.announce old).0 d s has) [ inl (same, is) ↦ inl (same, old, there, is) | inr other ↦ inr other ]
 
-announced_room : (w : WorldState) (e : ℕ) (o : Option Of) → station_at w e ≡ o → AllHaveRoom w.stations → AllHaveRoom (announced_by w e o).stations
+announced_room : (w : WorldState) (e : ℕ) (o : Option Of) → station_at w e ≡ o → AllKeepRoom w.stations → AllKeepRoom (announced_by w e o).stations
 announced_room w e o there room d s has = elim (announced_found w e o there d s has) [
-  | inl (same, old, was, is) ↦ subst HasRoom (sym is) (announce_room old (room e old was))
+  | inl (same, old, was, is) ↦ subst KeepsRoom (sym is) (announce_room old (room e old was))
   | inr (other, was) ↦ room d s was
 ]
 
 -- The station of a device is live where it was announced, or was live before.
-pub all_live : (list : List Announce) (w : WorldState) → AllHaveRoom w.stations → (d : ℕ) (s : Of) → HasStation (fold (λ x (a : Announce). announcing x a.id) w list).stations d s
+pub all_live : (list : List Announce) (w : WorldState) → AllKeepRoom w.stations → (d : ℕ) (s : Of) → HasStation (fold (λ x (a : Announce). announcing x a.id) w list).stations d s
     → (list_any (λ (a : Announce). a.id == d) list ≡ true) ⊎ ((t : Of) → HasStation w.stations d t → t.live ≡ true) → s.live ≡ true
 all_live [] w room d s has (inl none) = absurd (cc none)
 all_live [] w room d s has (inr live) = live s has
@@ -167,7 +167,7 @@ all_live (a ∷ list) w room d s has why_live =
 
 -- ---- room
 
-pub orderly_room : (w : WorldState) → Orderly w → ((d : ℕ) → length (journal d w.deeds) < worn_entries) → AllHaveRoom w.stations
+pub orderly_room : (w : WorldState) → Orderly w → ((d : ℕ) → length (journal d w.deeds) < worn_entries) → AllKeepRoom w.stations
 orderly_room w ordered few d s there =
     let kept : IsKept device_parked s = reached_kept device_runs device_parked device_cuts s (((ordered.held).on d s there).sound).reached in
     let tied = (ordered.held).tied d s there in

@@ -67,7 +67,7 @@ use Rattle.rd_answered.proofs.ListedLemmas.{has_marked, has_refreshed, room_of, 
 use Rattle.rd_answered.proofs.LiveLemmas.{announce_live, announced_found, apply_live, collect_live, orderly_room, take_live}
 use Rattle.rd_answered.proofs.RefusingLemmas.{announced_client, announced_saying, hears_saying, putting_saying, station_live, station_saying}
 use Rattle.rd_answered.proofs.SayingLemmas.{refuse_more, refuses_so, then_more}
-use Rattle.rd_answered.specs.Refusing.{AllHaveRoom, AllRefuse, AreLive, AreSaying, HasRoomToAnnounce, IsLiveIn, IsSaying, RefusesGone, SaysMarks, is_told_by, written_then}
+use Rattle.rd_answered.specs.Refusing.{AllKeepRoom, AllRefuse, AreLive, AreSaying, HasRoomToAnnounce, IsLiveIn, IsSaying, RefusesGone, SaysMarks, is_told_by, written_then}
 
 abbrev Of : Type 0
 Of = StationState SessionDevice
@@ -331,7 +331,7 @@ refresh_good w d body ready (is, live) =
       each = is.each;
     }, λ c at e s has told. live c at e s has (sym (told_refreshed w.client d e body) ∙ told))
 
-adds_good : (w : WorldState) (d : ℕ) (o : Option Of) → station_at w d ≡ o → is_client_ready ((w.client).core).shake ≡ true → AreShort (announces w.client) → AllHaveRoom w.stations → IsGood w → IsGood (announced_by (told_added w d) d o)
+adds_good : (w : WorldState) (d : ℕ) (o : Option Of) → station_at w d ≡ o → is_client_ready ((w.client).core).shake ≡ true → AreShort (announces w.client) → AllKeepRoom w.stations → IsGood w → IsGood (announced_by (told_added w d) d o)
 adds_good w d o there ready short room (is, live) = (announced_saying (told_added w d) d o told, lives)
   where
     x : ClientCoreState
@@ -437,7 +437,7 @@ module _ (lines : List NumberedLine) (starves : Key → Bool) (fit : AreFit (dec
       ready : is_client_ready ((w.client).core).shake ≡ true
       ready = right (is_channel_open w) _ (left (is_ready w) _ can)
 
-      room : AllHaveRoom w.stations
+      room : AllKeepRoom w.stations
       room = orderly_room w (behind_orderly lines starves w fit b.behind).0 b.few
 
       is_short : AreShort (announces (refreshed_by w d names).client)

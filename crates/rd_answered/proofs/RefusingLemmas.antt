@@ -45,7 +45,7 @@ use Rattle.rd_answered.proofs.ListedLemmas.{listed_has}
 use Rattle.rd_answered.proofs.LiveLemmas.{all_live, gone_off, never_worn}
 use Rattle.rd_answered.proofs.ReadyLemmas.{client_kept}
 use Rattle.rd_answered.proofs.SayingLemmas.{HearsOn, hear_marks, hear_on, hear_refuses, refuse_more, then_more, told_before}
-use Rattle.rd_answered.specs.Refusing.{AllHaveRoom, AreSaying, HasRoomToAnnounce, IsLiveIn, IsSaying, is_told_by, written_then}
+use Rattle.rd_answered.specs.Refusing.{AllKeepRoom, AreSaying, HasRoomToAnnounce, IsLiveIn, IsSaying, is_told_by, written_then}
 
 abbrev Of : Type 0
 Of = StationState SessionDevice
@@ -110,7 +110,7 @@ directly : (r : Request) (st : Status) → FitsCompletion r → st.0 < 2 ^ 32 �
 directly r st room small fits d job c index device is =
     subst (λ (x : ℕ × Job). CompletesWith r (fault st) (client.direct_bytes x.1 x.0 st)) (λ i. (sym device i, sym is i)) (completes_with r (fault st) room (small, tt) fits)
 
-pub putting_saying : (w : WorldState) (d : ℕ) (job : Job) → AreFine FitsCompletion w.deeds → IsNext w.stations w.channels (w.client).asked w.deeds d job → AllHaveRoom w.stations → (c : ℕ) → now w ≡ Some c
+pub putting_saying : (w : WorldState) (d : ℕ) (job : Job) → AreFine FitsCompletion w.deeds → IsNext w.stations w.channels (w.client).asked w.deeds d job → AllKeepRoom w.stations → (c : ℕ) → now w ≡ Some c
     → IsSaying w → IsLiveIn w → IsSaying (putting w d job) × IsLiveIn (putting w d job)
 putting_saying w d job fines next room c opened is live = at (station_at w d) refl
   where
@@ -179,7 +179,7 @@ all_announced_client : (list : List Announce) (w : WorldState) → (fold (λ x (
 all_announced_client [] w = refl
 all_announced_client (a ∷ list) w = all_announced_client list (announcing w a.id) ∙ announced_client w a.id (station_at w a.id)
 
-pub hears_saying : (c : ℕ) (w : WorldState) (m : List ℕ) → Orderly w → (opened : now w ≡ Some c) → w.kept ≡ None → AreFine FitsCompletion (client_reads w.channels m ∷ w.deeds) → AllHaveRoom w.stations
+pub hears_saying : (c : ℕ) (w : WorldState) (m : List ℕ) → Orderly w → (opened : now w ≡ Some c) → w.kept ≡ None → AreFine FitsCompletion (client_reads w.channels m ∷ w.deeds) → AllKeepRoom w.stations
     → AreDevices (announces w.client) → AreShort (announces w.client) → IsSaying w → IsLiveIn w → IsSaying (client_hears w m) × IsLiveIn (client_hears w m)
 hears_saying c w m ordered opened free fines room are short is live =
     by (client_hear w.client m) (hears w.client m) (hear_adds w.client m) (hear_on w.client m) (client_kept w.client m).ready

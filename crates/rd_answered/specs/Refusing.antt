@@ -78,8 +78,8 @@ abbrev pub IsLiveIn : WorldState → Type 0
 IsLiveIn w = AreLive w.client w.stations ((w.side).table).channel
 
 -- a station's journal has room, and it holds few jobs
-abbrev pub HasRoom : StationState SessionDevice → Type 0
-HasRoom s = (length s.journal < worn_entries) × (length (held s) ≤ 128)
+abbrev pub KeepsRoom : StationState SessionDevice → Type 0
+KeepsRoom s = (length s.journal < worn_entries) × (length (held s) ≤ 128)
 
-abbrev pub AllHaveRoom : List (ℕ × StationState SessionDevice) → Type 0
-AllHaveRoom stations = (d : ℕ) (s : StationState SessionDevice) → HasStation stations d s → HasRoom s
+abbrev pub AllKeepRoom : List (ℕ × StationState SessionDevice) → Type 0
+AllKeepRoom stations = (d : ℕ) (s : StationState SessionDevice) → HasStation stations d s → KeepsRoom s
