@@ -1,0 +1,12 @@
+pub mod GrowingLemmas
+pub mod InOrderLemmas
+pub mod MeetLemmas
+pub mod SessionLemmas
+pub mod ReadyLemmas
+pub mod ListedLemmas
+pub mod SayingLemmas
+pub mod LiveLemmas
+pub mod RefusingLemmas
+pub mod PartLemmas
+pub mod FirstLemmas
+pub mod WritableLemmas
