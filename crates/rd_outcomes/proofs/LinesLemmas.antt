@@ -200,19 +200,15 @@ module _ (lines : List NumberedLine) (starves : Key → Bool) (most : Most) (pre
   -- ---- the beginning
 
   first_going : Going lines starves (world_of lines)
+  unfolding GoingAs asks_in fresh
   first_going =
       let bare : List Line = map (λ (l : NumberedLine). l.line) lines in
       let all = begins_as lines (λ (u : Unset). GoingAs lines u.applications u.deeds)
-      (going_as lines (applications_of bare) (all_fresh (filter_map asked_by bare) [] none) (λ a. all_asks a (filter_map asked_by bare) [] ∙ sym (waits_asked a (first_control (ids_of lines)) lines))) in
+      (going_as lines (applications_of bare) (all_fresh (filter_map asked_by bare) [] (λ a. refl)) (λ a. all_asks a (filter_map asked_by bare) [] ∙ sym (waits_asked a (first_control (ids_of lines)) lines))) in
       record { trails = λ a. (told all a).0; asks = λ a. (told all a).1 }
     where
-      none : fresh []
-      unfolding fresh asks_in
-      none a = refl
-
       told : GoingAs lines (world_of lines).applications (world_of lines).deeds → (a : ℕ) → IsTrailed devices a (world_of lines).deeds (waits_of devices a lines) (application_at (world_of lines) a)
           × ((application_at (world_of lines) a).asks ≡ map (λ (l : Waits). l.asked) (waits_of devices a lines))
-      unfolding GoingAs asks_in
       told all a = all a
 
   -- ---- along the lines
