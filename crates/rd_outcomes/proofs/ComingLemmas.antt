@@ -39,7 +39,7 @@ use Rattle.rd_world.specs.HostDeeds.{side_of}
 use Rattle.rd_world.specs.Lines.{IsDue, Waits, is_submission_of, last_begun, waits_of}
 use Rattle.rd_world.specs.Opening.{bare_lines}
 use Rattle.rd_world.specs.Recording.{client_id}
-use Rattle.rd_world.specs.Run.{declared_devices}
+use Rattle.rd_world.specs.Run.{declared_devices, queueing}
 use Rattle.rd_world.specs.Talk.{Deed, EndsWith, adds, client_reads, client_writes, completes, host_begins, host_ends, host_reads, host_writes, removes, stores, submits, takes, tells}
 use Rattle.rd_world.specs.World.{ApplicationState, Asked, WorldState, application_at, new_application, station_at, with_application, with_station}
 use Rattle.rd_outcomes.specs.Trail.{IsTrailed}
@@ -268,6 +268,11 @@ module _ (lines : List NumberedLine) (starves : Key → Bool) where
   queued_trail : (a : ℕ) (deeds : List Deed) (x : ApplicationState) → IsTrailed devices a deeds (waits_of devices a lines) x → IsTrailed devices a deeds (waits_of devices a lines) (record x { queued = x.queued + 1 })
   queued_trail a deeds x is = record { ended = is.ended; rest = is.rest; whole = is.whole; stage = is.stage; chain = is.chain; handles = is.handles; stands = is.stands }
 
+  pub going_queued : (w : WorldState) (a : ℕ) → Going w → Going (queueing w a)
+  going_queued w a g =
+      let x : ApplicationState = application_at w a in
+      going_put w a (record x { queued = x.queued + 1 }) [] (queueing w a) refl refl (λ b other. refl) (queued_trail a w.deeds x (g.trails a)) refl g
+
   module _ (premises : RunPremises lines) where
     -- what happens by itself, and where lines are issued these are due
     pub part_going : (w : WorldState) (p : Part) → MayBe lines starves w p → IsBehind lines starves w → (is_issue p ≡ true → AreDue w) → Going w → Going (done starves w p)
@@ -309,9 +314,7 @@ module _ (lines : List NumberedLine) (starves : Key → Bool) where
           trails = λ a. trailed_more devices a w.deeds (host_begins (w.channels + 1) ∷ []) (waits_of devices a lines) (application_at w a) refl (g.trails a);
           asks = g.asks;
         })
-    part_going w (queues_one a) may before due g =
-        let x : ApplicationState = application_at w a in
-        going_put w a (record x { queued = x.queued + 1 }) [] (done starves w (queues_one a)) refl refl (λ b other. refl) (queued_trail a w.deeds x (g.trails a)) refl g
+    part_going w (queues_one a) may before due g = going_queued w a g
     part_going w p may before due g = going_beside w (done starves w p) (stays_beside lines starves w p may tt) g
 
   -- ---- what is due stays so

@@ -9,6 +9,7 @@ use Rattle.std.specs.Option.{IfSome, option_and_then, option_map_or, unwrap_or}
 use Rattle.std.proofs.lemmas.Bool.{cases_eq}
 use Rattle.std.proofs.lemmas.Bool.Decides.{nat_tests}
 use Rattle.std.proofs.lemmas.List.{length-reverse}
+use Rattle.std.proofs.lemmas.Map.Keys.{sorted_from_strictly_increasing}
 use Rattle.rd_base.specs.declared.journal.Key.{Key}
 use Rattle.rd_controls.proofs.Along.{Keeps, Leads, ids_of, runs_along}
 use Rattle.rd_controls.proofs.Leading.{asked_controls_none}
@@ -25,6 +26,7 @@ use Rattle.rd_runs.proofs.Parts.{IsBehind, IsBehindWithin, MayBe, Part, all_take
 use Rattle.rd_script.specs.declared.line.Line.{Line}
 use Rattle.rd_script.specs.declared.line.NumberedLine.{NumberedLine}
 use Rattle.rd_script.specs.declared.outcome.Outcome.{Outcome}
+use Rattle.rd_world.proofs.PlayingLemmas.{may_connect}
 use Rattle.rd_world.specs.Acts.{Opens, act_by}
 use Rattle.rd_world.specs.Control.{Control, control_of, controlled, first_control}
 use Rattle.rd_world.specs.Devices.{Declared, PrinterNames}
@@ -39,7 +41,7 @@ use Rattle.rd_world.specs.Hearing.{host_handles}
 use Rattle.rd_outcomes.specs.Opened.{ChannelsOpen}
 use Rattle.rd_outcomes.specs.Trail.{IsTrailed, first_stage}
 use Rattle.rd_outcomes.proofs.ChainLemmas.{chain_ends}
-use Rattle.rd_outcomes.proofs.ComingLemmas.{AreDue, From, Going, event_goes, from_itself, line_goes, part_acted, part_going, part_queued}
+use Rattle.rd_outcomes.proofs.ComingLemmas.{AreDue, From, Going, event_goes, going_queued, line_goes, part_acted, part_going, part_queued}
 
 -- ---- what applications ask for
 
@@ -88,7 +90,7 @@ all_fresh (p ∷ pairs) es is = all_fresh pairs (asking es p) (λ a. elim (cases
 -- what is going at first
 GoingAs : List NumberedLine → List (ℕ × ApplicationState) → List Deed → Type 0
 GoingAs lines es deeds = (a : ℕ) → IsTrailed (declared_devices (bare_lines lines)) a deeds (waits_of (declared_devices (bare_lines lines)) a lines) (asks_in es a)
-    × ((asks_in es a).asks ≡ map (λ (l : Waits). l.asked) (waits_of (declared_devices (bare_lines lines)) a lines))
+    × ((asks_in es a).asks ≡ map (λ (l : Waits). l.asked) (waits_of (declared_devices (bare_lines lines)) a lines)) × ((asks_in es a).queued ≡ 0)
 
 going_as : (lines : List NumberedLine) (es : List (ℕ × ApplicationState)) → fresh es
     → ((a : ℕ) → (asks_in es a).asks ≡ map (λ (l : Waits). l.asked) (waits_of (declared_devices (bare_lines lines)) a lines)) → GoingAs lines es []
@@ -104,6 +106,7 @@ going_as lines es is asks a = (
     stands = (([], refl, refl), tt);
   }),
   asks a,
+  ap (λ (x : ApplicationState). x.queued) (is a),
 )
 
 -- the lines of an application ask for these
@@ -199,28 +202,163 @@ module _ (lines : List NumberedLine) (starves : Key → Bool) (most : Most) (pre
 
   -- ---- the beginning
 
+  at_first : GoingAs lines (world_of lines).applications (world_of lines).deeds
+  unfolding GoingAs asks_in fresh
+  at_first =
+      let bare : List Line = map (λ (l : NumberedLine). l.line) lines in
+      begins_as lines (λ (u : Unset). GoingAs lines u.applications u.deeds)
+      (going_as lines (applications_of bare) (all_fresh (filter_map asked_by bare) [] (λ a. refl)) (λ a. all_asks a (filter_map asked_by bare) [] ∙ sym (waits_asked a (first_control (ids_of lines)) lines)))
+
+  none_queued : (a : ℕ) → (application_at (world_of lines) a).queued ≡ 0
+  unfolding GoingAs asks_in
+  none_queued a = (at_first a).2
+
   first_going : Going lines starves (world_of lines)
   unfolding GoingAs asks_in fresh
   first_going =
-      let bare : List Line = map (λ (l : NumberedLine). l.line) lines in
-      let all = begins_as lines (λ (u : Unset). GoingAs lines u.applications u.deeds)
-      (going_as lines (applications_of bare) (all_fresh (filter_map asked_by bare) [] (λ a. refl)) (λ a. all_asks a (filter_map asked_by bare) [] ∙ sym (waits_asked a (first_control (ids_of lines)) lines))) in
-      record { trails = λ a. (told all a).0; asks = λ a. (told all a).1 }
+      record { trails = λ a. (told at_first a).0; asks = λ a. (told at_first a).1 }
     where
       told : GoingAs lines (world_of lines).applications (world_of lines).deeds → (a : ℕ) → IsTrailed devices a (world_of lines).deeds (waits_of devices a lines) (application_at (world_of lines) a)
-          × ((application_at (world_of lines) a).asks ≡ map (λ (l : Waits). l.asked) (waits_of devices a lines))
+          × ((application_at (world_of lines) a).asks ≡ map (λ (l : Waits). l.asked) (waits_of devices a lines)) × ((application_at (world_of lines) a).queued ≡ 0)
       told all a = all a
 
   -- ---- along the lines
 
   -- Of an application the lines that were passed are queued, and due.
-  record IsQueued (a : ℕ) (c : Control) (ls : List NumberedLine) (w : WorldState) : Type 0 where
-    passed : List Waits
-    whole : waits_of devices a lines ≡ passed ++ waits_after a c ls
-    queued : (application_at w a).queued ≡ length passed
-    due : AllByRecursion (λ (l : Waits). IsDue devices l.acts w.deeds) passed
+  pub record IsQueued (a : ℕ) (c : Control) (ls : List NumberedLine) (w : WorldState) : Type 0 where
+    pub passed : List Waits
+    pub whole : waits_of devices a lines ≡ passed ++ waits_after a c ls
+    pub queued : (application_at w a).queued ≡ length passed
+    pub due : AllByRecursion (λ (l : Waits). IsDue devices l.acts w.deeds) passed
 
-  record Walked (c : Control) (ls : List NumberedLine) (w : WorldState) : Type 0 where
-    going : Going lines starves w
-    queues : (a : ℕ) → IsQueued a c ls w
-    opened : Opens devices w.deeds (last_begun w.deeds)
+  pub record Walked (c : Control) (ls : List NumberedLine) (w : WorldState) : Type 0 where
+    pub going : Going lines starves w
+    pub queues : (a : ℕ) → IsQueued a c ls w
+    pub opened : Opens devices w.deeds (last_begun w.deeds)
+
+  had_at : (P : Waits → Type 0) (xs : List Waits) (ys : List Waits) (k : ℕ) (l : Waits) → AllByRecursion P xs → slice_get (xs ++ ys) k ≡ Some l → k < length xs → P l
+  had_at P [] ys k l all at low = absurd (omega (arith, low))
+  had_at P (x ∷ xs) ys zero l all at low = let same : x ≡ l = cc at in subst P same all.0
+  had_at P (x ∷ xs) ys (suc k) l all at low = had_at P xs ys k l all.1 at (omega (arith, low))
+
+  -- what is queued is due
+  due_of : (c : Control) (ls : List NumberedLine) (w : WorldState) → ((a : ℕ) → IsQueued a c ls w) → AreDue lines starves w
+  due_of c ls w queues a k l at low =
+      let q = queues a in
+      had_at (λ (l : Waits). IsDue devices l.acts w.deeds) q.passed (waits_after a c ls) k l q.due (ap (λ (xs : List Waits). slice_get xs k) (sym q.whole) ∙ at) (subst (λ (n : ℕ). k < n) q.queued low)
+
+  all_due : (w v : WorldState) → From lines starves w v → (xs : List Waits) → AllByRecursion (λ (l : Waits). IsDue devices l.acts w.deeds) xs → AllByRecursion (λ (l : Waits). IsDue devices l.acts v.deeds) xs
+  all_due w v f [] all = tt
+  all_due w v f (x ∷ xs) all = (f.due x.acts all.0, all_due w v f xs all.1)
+
+  -- the same lines are passed
+  walked_from : (c : Control) (ls : List NumberedLine) (w v : WorldState) → From lines starves w v → Going lines starves v → Walked c ls w → Walked c ls v
+  walked_from c ls w v f going k = record {
+    going = going;
+    queues = λ a. let q = k.queues a in record { passed = q.passed; whole = q.whole; queued = f.queued a ∙ q.queued; due = all_due w v f q.passed q.due };
+    opened = (f.due 0 (record { acted = omega arith; opened = k.opened })).opened;
+  }
+
+  -- a line of an application is passed
+  last_all : (P : Waits → Type 0) (xs : List Waits) (x : Waits) → AllByRecursion P xs → P x → AllByRecursion P (xs ++ x ∷ [])
+  last_all P [] x all own = (own, tt)
+  last_all P (y ∷ xs) x all own = (all.0, last_all P xs x all.1 own)
+
+  queue_same : (a b : ℕ) (w : WorldState) → (a ≢ b) → application_at (queueing w b) a ≡ application_at w a
+  queue_same a b w other = ap (λ (o : Option ApplicationState). unwrap_or o new_application) (beside b (record (application_at w b) { queued = (application_at w b).queued + 1 }) a other w.applications)
+
+  queue_own : (b : ℕ) (w : WorldState) → application_at (queueing w b) b ≡ record (application_at w b) { queued = (application_at w b).queued + 1 }
+  queue_own b w = ap (λ (o : Option ApplicationState). unwrap_or o new_application) (inserted b (record (application_at w b) { queued = (application_at w b).queued + 1 }) w.applications)
+
+  queued_one : (c : Control) (x : NumberedLine) (ls : List NumberedLine) (w : WorldState) (b : ℕ) (asked : Asked) → asked_by x.line ≡ Some (b, asked) → length c.acts ≡ length (filter_map act_by w.deeds)
+      → Walked c (x ∷ ls) w → (a : ℕ) → IsQueued a c ls (queueing w b)
+  queued_one c x ls w b asked asks acts k a = elim (cases_eq a b) [ | inl e ↦ mine e | inr other ↦ others other ]
+    where
+      q : IsQueued a c (x ∷ ls) w
+      q = k.queues a
+
+      next : Waits
+      next = record { asked = asked; acts = length c.acts }
+
+      after_it : (e : (b == a) ≡ true) → waits_after a c (x ∷ ls) ≡ next ∷ waits_after a c ls
+      after_it e =
+          ap (λ (o : Option (ℕ × Asked)). option_map_or (λ (asked : Asked). record { asked = asked; acts = length c.acts } ∷ []) (option_and_then (λ (p : ℕ × Asked). on a p.0 p.1) o) [] ++ waits_after a (controlled c x.number x.line) ls) asks
+          ∙ ap (λ (t : Bool). option_map_or (λ (asked : Asked). record { asked = asked; acts = length c.acts } ∷ []) (cond t (Some asked) None) [] ++ waits_after a (controlled c x.number x.line) ls) e
+          ∙ ap (λ (d : Control). next ∷ waits_after a d ls) (asked_controls_none c x.number x.line (b, asked) asks)
+
+      beside_it : (e : (b == a) ≡ false) → waits_after a c (x ∷ ls) ≡ waits_after a c ls
+      beside_it e =
+          ap (λ (o : Option (ℕ × Asked)). option_map_or (λ (asked : Asked). record { asked = asked; acts = length c.acts } ∷ []) (option_and_then (λ (p : ℕ × Asked). on a p.0 p.1) o) [] ++ waits_after a (controlled c x.number x.line) ls) asks
+          ∙ ap (λ (t : Bool). option_map_or (λ (asked : Asked). record { asked = asked; acts = length c.acts } ∷ []) (cond t (Some asked) None) [] ++ waits_after a (controlled c x.number x.line) ls) e
+          ∙ ap (λ (d : Control). waits_after a d ls) (asked_controls_none c x.number x.line (b, asked) asks)
+
+      mine : a ≡ b → IsQueued a c ls (queueing w b)
+      mine e = record {
+        passed = q.passed ++ next ∷ [];
+        whole = q.whole ∙ ap (λ (xs : List Waits). q.passed ++ xs) (after_it (eq-eqb b a (sym e))) ∙ sym (append_assoc q.passed (next ∷ []) (waits_after a c ls));
+        queued = ap (λ (n : ℕ). (application_at (queueing w b) n).queued) e ∙ ap (λ (y : ApplicationState). y.queued) (queue_own b w) ∙ ap (λ (n : ℕ). (application_at w n).queued + 1) (sym e)
+            ∙ ap (λ (n : ℕ). n + 1) q.queued ∙ sym (length-append q.passed (next ∷ []));
+        due = last_all (λ (l : Waits). IsDue devices l.acts w.deeds) q.passed next q.due (record { acted = omega (arith, acts); opened = k.opened });
+      }
+
+      others : (a ≢ b) → IsQueued a c ls (queueing w b)
+      others other = record {
+        passed = q.passed;
+        whole = q.whole ∙ ap (λ (xs : List Waits). q.passed ++ xs) (beside_it (ne_eqb b a (λ (same : b ≡ a). other (sym same))));
+        queued = ap (λ (y : ApplicationState). y.queued) (queue_same a b w other) ∙ q.queued;
+        due = q.due;
+      }
+
+  -- a line of no application
+  passed_none : (c : Control) (x : NumberedLine) (ls : List NumberedLine) (w : WorldState) → asked_by x.line ≡ None → (a : ℕ) → IsQueued a c (x ∷ ls) w → IsQueued a (controlled c x.number x.line) ls w
+  passed_none c x ls w asks a q = record {
+    passed = q.passed;
+    whole = q.whole ∙ ap (λ (xs : List Waits). q.passed ++ xs)
+        (ap (λ (o : Option (ℕ × Asked)). option_map_or (λ (asked : Asked). record { asked = asked; acts = length c.acts } ∷ []) (option_and_then (λ (p : ℕ × Asked). on a p.0 p.1) o) [] ++ waits_after a (controlled c x.number x.line) ls) asks);
+    queued = q.queued;
+    due = q.due;
+  }
+
+  module _ (opens : ChannelsOpen lines starves most) where
+    begun_walked : (c : Control) (ls : List NumberedLine) (w v : WorldState) (n : ℕ) → ReachedWithin n lines starves w → n + 1 ≤ length lines + 2 → is_enabled w event.connect ≡ true → connects_on starves most w ≡ Some v
+        → Going lines starves w → ((a : ℕ) → IsQueued a c ls w) → Walked c ls v
+    begun_walked c ls w v n r few can made going queues =
+        let rolls = begun_rolls w v n r few can made going in
+        let opened : Opens devices v.deeds (last_begun v.deeds) = opens n w v few r can made in
+        record {
+          going = rolls.going;
+          queues = λ a. (let q = queues a in record { passed = q.passed; whole = q.whole; queued = rolls.queued a ∙ q.queued; due = again rolls.acted opened q.passed q.due });
+          opened = opened;
+        }
+      where
+        again : length (filter_map act_by w.deeds) ≤ length (filter_map act_by v.deeds) → Opens devices v.deeds (last_begun v.deeds) → (xs : List Waits)
+            → AllByRecursion (λ (l : Waits). IsDue devices l.acts w.deeds) xs → AllByRecursion (λ (l : Waits). IsDue devices l.acts v.deeds) xs
+        again less opened [] all = tt
+        again less opened (x ∷ xs) all = (record { acted = omega (arith, less, (all.0).acted); opened = opened }, again less opened xs all.1)
+
+    module _ (ordered : AreOrderedLines (ids_of lines) lines) where
+      rise : Rise (numbers lines)
+      rise = sorted_from_strictly_increasing (numbers lines) ordered.rise
+
+      keeps : Keeps lines starves most (ids_of lines) (sorted_from_strictly_increasing (numbers lines) ordered.rise) premises Walked
+      keeps = record {
+        free = λ c ls w e reached free can k.
+            (let both = event_goes lines starves premises w e reached free can k.going (due_of c ls w k.queues) in walked_from c ls w (act starves w e) both.1 both.0 k);
+        draw = λ c ls w k. walked_from c ls w (drawing w) (record { due = λ acts is. is; queued = λ a. refl }) (record { trails = (k.going).trails; asks = (k.going).asks }) k;
+        queued = λ c x ls w b asked has asks led k. record {
+          going = going_queued lines starves w b k.going;
+          queues = queued_one c x ls w b asked asks (ap length (sym (led.base.sees).acts) ∙ length-reverse (filter_map act_by w.deeds)) k;
+          opened = k.opened;
+        };
+        passes = λ c x ls w asks k. record { going = k.going; queues = λ a. passed_none c x ls w asks a (k.queues a); opened = k.opened };
+        moves = λ c ls w e n r few may one shut k.
+            (let both = line_goes lines starves premises n w e r few may one shut k.going (due_of c ls w k.queues) in walked_from c ls w (act starves w e) both.1 both.0 k);
+        idled = λ c ls w number k. walked_from c ls w (idles w number) (record { due = λ acts is. is; queued = λ a. refl }) (record { trails = (k.going).trails; asks = (k.going).asks }) k;
+        begins = λ c ls w v n r few can made k. begun_walked c ls w v n r few can made k.going k.queues;
+      }
+
+      pub run_walked : (w : WorldState) → run_of most starves lines ≡ Some w → Walked (control_of (ids_of lines) lines) [] w
+      run_walked w is =
+          runs_along lines starves most w ordered premises Walked keeps
+          (λ v made. begun_walked (first_control (ids_of lines)) lines (world_of lines) v 0 (record { moves = []; pass = tt; few = omega arith; leads = refl }) (omega arith) (may_connect lines) made first_going
+          (λ a. record { passed = []; whole = refl; queued = none_queued a; due = tt })) is
