@@ -133,7 +133,7 @@ sent_beside channel o = by o.answers
     by (Some key) = tt
 
 -- what isn't the applications' own, and begins no channel
-abbrev IsOther : Part → Type 0
+abbrev pub IsOther : Part → Type 0
 IsOther (accepts a asked named t number) = ⊥
 IsOther (refuses a asked cause) = ⊥
 IsOther (hands_out a number t taken next) = ⊥
@@ -190,6 +190,10 @@ module _ (lines : List NumberedLine) (starves : Key → Bool) where
   stays_beside w (adds_one d names o) may other = by_inside (added_inside w d names o)
   stays_beside w (idle_one number) may other = none_beside refl refl
   stays_beside w draws_one may other = none_beside refl refl
+
+-- the applications stay
+pub applications_stay : (lines : List NumberedLine) (starves : Key → Bool) (w : WorldState) (p : Part) → MayBe lines starves w p → IsOther p → (done starves w p).applications ≡ w.applications
+applications_stay lines starves w p may other = (stays_beside lines starves w p may other).applications
 
 -- ---- applications under their numbers
 

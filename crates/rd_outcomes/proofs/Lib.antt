@@ -3,3 +3,4 @@ pub mod ChainLemmas
 pub mod TrailLemmas
 pub mod ComingLemmas
 pub mod LinesLemmas
+pub mod NumberedLemmas

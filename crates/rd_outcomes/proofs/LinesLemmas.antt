@@ -8,7 +8,7 @@ use Rattle.std.specs.BTreeMap.{insert_entry, is_at}
 use Rattle.std.specs.Option.{IfSome, option_and_then, option_map_or, unwrap_or}
 use Rattle.std.proofs.lemmas.Bool.{cases_eq}
 use Rattle.std.proofs.lemmas.Bool.Decides.{nat_tests}
-use Rattle.std.proofs.lemmas.List.{length-reverse}
+use Rattle.std.proofs.lemmas.List.{length-reverse, reverse-reverse}
 use Rattle.std.proofs.lemmas.Map.Keys.{sorted_from_strictly_increasing}
 use Rattle.rd_base.specs.declared.journal.Key.{Key}
 use Rattle.rd_controls.proofs.Along.{Keeps, Leads, ids_of, runs_along}
@@ -34,12 +34,17 @@ use Rattle.rd_world.specs.Events as event
 use Rattle.rd_world.specs.Events.{Event, act, is_enabled, is_read, may_issue}
 use Rattle.rd_world.specs.Lines.{IsDue, LinesEnd, Waits, last_begun, waits_after, waits_of}
 use Rattle.rd_world.specs.Opening.{bare_lines}
+use Rattle.rd_world.specs.Run.{event as next_event}
 use Rattle.rd_world.specs.Run.{Most, NextStep, applications_of, asked_by, asking, choices, connects_on, declared_devices, drawing, host_reads_all, idles, is_quiet, queueing, rounds, run_of, where_true, world_of}
 use Rattle.rd_world.specs.Talk.{Deed, Has, on}
 use Rattle.rd_world.specs.World.{ApplicationState, Asked, Kept, WorldState, application_at, having_read, most_messages, new_application}
 use Rattle.rd_world.specs.Hearing.{host_handles}
 use Rattle.rd_outcomes.specs.Opened.{ChannelsOpen}
-use Rattle.rd_outcomes.specs.Trail.{IsTrailed, first_stage}
+use Rattle.rd_outcomes.specs.Trail.{IsTrailed, StandsWith, first_stage}
+use Rattle.rd_outcomes.proofs.TrailLemmas.{chain_long}
+use Rattle.rd_world.proofs.ApplicationsLemmas.{apart_at}
+use Rattle.rd_world.proofs.Calls.{Does}
+use Rattle.rd_world.specs.Recording.{client_id}
 use Rattle.rd_outcomes.proofs.ChainLemmas.{chain_ends}
 use Rattle.rd_outcomes.proofs.ComingLemmas.{AreDue, From, Going, event_goes, going_queued, line_goes, part_acted, part_going, part_queued}
 
@@ -362,3 +367,66 @@ module _ (lines : List NumberedLine) (starves : Key → Bool) (most : Most) (pre
           runs_along lines starves most w ordered premises Walked keeps
           (λ v made. begun_walked (first_control (ids_of lines)) lines (world_of lines) v 0 (record { moves = []; pass = tt; few = omega arith; leads = refl }) (omega arith) (may_connect lines) made first_going
           (λ a. record { passed = []; whole = refl; queued = none_queued a; due = tt })) is
+
+      -- ---- where a run ends
+
+      nothing_before : {A : Type 0} (xs ys : List A) → xs ++ ys ≡ [] → xs ≡ []
+      nothing_before [] ys none = refl
+      nothing_before (x ∷ xs) ys none = absurd (cc none)
+
+      none_true : (b : Bool) (n : NextStep) → where_true b n ≡ [] → b ≡ false
+      none_true true n none = absurd (cc none)
+      none_true false n none = refl
+
+      none_issued : (w : WorldState) (es : List (ℕ × ApplicationState)) → flat_map (λ (a : ℕ). where_true (is_enabled w (event.issue a)) (next_event (event.issue a))) (map (λ (e : ℕ × ApplicationState). e.0) es) ≡ []
+          → (a : ℕ) → (lookup (is_at (nat_cmp a)) es ≡ None) ⊎ (may_issue (application_at w a) ≡ false)
+      none_issued w [] none a = inl refl
+      none_issued w (e ∷ es) none a = elim (cases_eq a e.0) [
+        | inl here ↦ inr (subst (λ (n : ℕ). may_issue (application_at w n) ≡ false) (sym here) (none_true (is_enabled w (event.issue e.0)) _ (nothing_before (where_true (is_enabled w (event.issue e.0)) (next_event (event.issue e.0))) _ none)))
+        | inr other ↦ elim (none_issued w es (nothing_after (where_true (is_enabled w (event.issue e.0)) (next_event (event.issue e.0))) _ none) a) [
+          | inl gone ↦ inl (rw (apart_at a e.0 other) gone)
+          | inr not ↦ inr not
+        ]
+      ]
+        where
+          nothing_after : (xs ys : List NextStep) → xs ++ ys ≡ [] → ys ≡ []
+          nothing_after [] ys none = none
+          nothing_after (x ∷ xs) ys none = absurd (cc none)
+
+      -- at rest no application may issue a line
+      rests_idle : (w : WorldState) → choices w ≡ [] → (a : ℕ) → may_issue (application_at w a) ≡ false
+      rests_idle w none a = elim (none_issued w w.applications (nothing_before _ _ (nothing_before _ _ (nothing_before _ _ (nothing_before _ _ (nothing_before _ _ (nothing_before _ _ (nothing_before _ _ none))))))) a) [
+        | inl gone ↦ ap (λ (o : Option ApplicationState). may_issue (unwrap_or o new_application)) gone
+        | inr not ↦ not
+      ]
+
+      all_issued : (x : ApplicationState) → may_issue x ≡ false → x.awaits ≡ None → x.queued ≤ length x.outcomes
+      all_issued x may none = by (nat_lt (length x.outcomes) x.queued) refl (ap (λ (o : Option ℕ). nat_lt (length x.outcomes) x.queued && is_none o) (sym none) ∙ may)
+        where
+          by : (b : Bool) → nat_lt (length x.outcomes) x.queued ≡ b → (b && true) ≡ false → x.queued ≤ length x.outcomes
+          by true e off = absurd (cc off)
+          by false e off = grind (arith, nat_tests, e)
+
+      -- each line of an application has come out, where what it awaits was handed out
+      pub lines_end : (w : WorldState) → run_of most starves lines ≡ Some w → choices w ≡ [] → Does client_id w.deeds → (a : ℕ) → (application_at w a).awaits ≡ None
+          → LinesEnd devices w.deeds a new_application (waits_of devices a lines) (application_at w a).outcomes (λ later. Unit {0}) []
+      lines_end w is rests does a none =
+          let k = run_walked w is in
+          let x : ApplicationState = application_at w a in
+          let t = (k.going).trails a in
+          let q = k.queues a in
+          let issued = all_issued x (rests_idle w rests a) none in
+          let stands : StandsWith devices a w.deeds t.stage t.rest None = subst (StandsWith devices a w.deeds t.stage t.rest) none t.stands in
+          let long : length t.ended ≡ length x.outcomes = chain_long devices a w.deeds t.ended (reverse x.outcomes) t.stage t.chain ∙ length-reverse x.outcomes in
+          let all : waits_of devices a lines ≡ q.passed = q.whole ∙ append-nil q.passed in
+          let whole : length (waits_of devices a lines) ≡ length (reverse t.ended) + length t.rest = ap length t.whole ∙ length-append (reverse t.ended) t.rest in
+          let none_left : length t.rest ≡ 0 = omega (arith, issued, long, ap length all, whole, q.queued, length-reverse t.ended) in
+          let rest : t.rest ≡ [] = empty t.rest none_left in
+          let ended : waits_of devices a lines ≡ reverse t.ended ++ [] = t.whole ∙ ap (λ (xs : List Waits). reverse t.ended ++ xs) rest in
+          let outs : reverse (reverse x.outcomes) ++ [] ≡ x.outcomes = append-nil (reverse (reverse x.outcomes)) ∙ reverse-reverse x.outcomes in
+          subst (λ (p : List Waits × List Outcome). LinesEnd devices w.deeds a new_application p.0 p.1 (λ later. Unit {0}) []) (λ i. (sym ended i, outs i))
+          (chain_ends devices a w.deeds does t.ended (reverse x.outcomes) t.stage t.chain [] [] stands.0)
+        where
+          empty : (xs : List Waits) → length xs ≡ 0 → xs ≡ []
+          empty [] e = refl
+          empty (x ∷ xs) e = absurd (cc e)

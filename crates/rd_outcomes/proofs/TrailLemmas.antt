@@ -138,7 +138,7 @@ module _ (devices : List (ℕ × Declared)) (a : ℕ) where
 
   -- ---- the next line
 
-  chain_long : (deeds : List Deed) (xs : List Waits) (os : List Outcome) (s : Stage) → Chain devices a deeds xs os s → length xs ≡ length os
+  pub chain_long : (deeds : List Deed) (xs : List Waits) (os : List Outcome) (s : Stage) → Chain devices a deeds xs os s → length xs ≡ length os
   chain_long deeds [] [] s is = refl
   chain_long deeds [] (o ∷ os) s is = absurd is
   chain_long deeds (x ∷ xs) [] s is = absurd is
