@@ -4,3 +4,4 @@ pub mod TrailLemmas
 pub mod ComingLemmas
 pub mod LinesLemmas
 pub mod NumberedLemmas
+pub mod UntakenLemmas
