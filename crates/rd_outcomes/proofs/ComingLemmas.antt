@@ -197,10 +197,10 @@ applications_stay lines starves w p may other = (stays_beside lines starves w p 
 
 -- ---- applications under their numbers
 
-put_here : (w : WorldState) (a : ℕ) (x : ApplicationState) → application_at (with_application w a x) a ≡ x
+pub put_here : (w : WorldState) (a : ℕ) (x : ApplicationState) → application_at (with_application w a x) a ≡ x
 put_here w a x = ap (λ (o : Option ApplicationState). unwrap_or o new_application) (inserted a x w.applications)
 
-put_beside : (w : WorldState) (b : ℕ) (x : ApplicationState) (a : ℕ) → (a ≢ b) → application_at (with_application w b x) a ≡ application_at w a
+pub put_beside : (w : WorldState) (b : ℕ) (x : ApplicationState) (a : ℕ) → (a ≢ b) → application_at (with_application w b x) a ≡ application_at w a
 put_beside w b x a other = ap (λ (o : Option ApplicationState). unwrap_or o new_application) (beside b x a other w.applications)
 
 module _ (lines : List NumberedLine) (starves : Key → Bool) where

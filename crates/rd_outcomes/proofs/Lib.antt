@@ -5,3 +5,4 @@ pub mod ComingLemmas
 pub mod LinesLemmas
 pub mod NumberedLemmas
 pub mod UntakenLemmas
+pub mod AwaitedLemmas

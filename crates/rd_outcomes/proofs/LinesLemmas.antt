@@ -50,14 +50,14 @@ use Rattle.rd_outcomes.proofs.ComingLemmas.{AreDue, From, Going, event_goes, goi
 
 -- ---- what applications ask for
 
-asks_in : List (ℕ × ApplicationState) → ℕ → ApplicationState
+abbrev pub asks_in : List (ℕ × ApplicationState) → ℕ → ApplicationState
 asks_in es a = unwrap_or (lookup (is_at (nat_cmp a)) es) new_application
 
 of_pairs : ℕ → List (ℕ × Asked) → List Asked
 of_pairs a pairs = filter_map (λ (p : ℕ × Asked). on a p.0 p.1) pairs
 
 all_asks : (a : ℕ) (pairs : List (ℕ × Asked)) (es : List (ℕ × ApplicationState)) → (asks_in (fold asking es pairs) a).asks ≡ (asks_in es a).asks ++ of_pairs a pairs
-unfolding asks_in of_pairs
+unfolding of_pairs
 all_asks a [] es = sym (append-nil (asks_in es a).asks)
 all_asks a (p ∷ pairs) es = all_asks a pairs (asking es p) ∙ elim (cases_eq a p.0) [
   | inl e ↦ at e
@@ -76,11 +76,10 @@ all_asks a (p ∷ pairs) es = all_asks a pairs (asking es p) ∙ elim (cases_eq 
         ∙ ap (λ (b : Bool). (asks_in es a).asks ++ cons_option (cond b (Some p.1) None) (of_pairs a pairs)) (sym (eq-eqb p.0 a (sym e)))
 
 -- nothing else is set at first
-fresh : (es : List (ℕ × ApplicationState)) → Type 0
+abbrev pub fresh : (es : List (ℕ × ApplicationState)) → Type 0
 fresh es = (a : ℕ) → asks_in es a ≡ record new_application { asks = (asks_in es a).asks }
 
-all_fresh : (pairs : List (ℕ × Asked)) (es : List (ℕ × ApplicationState)) → fresh es → fresh (fold asking es pairs)
-unfolding asks_in fresh
+pub all_fresh : (pairs : List (ℕ × Asked)) (es : List (ℕ × ApplicationState)) → fresh es → fresh (fold asking es pairs)
 all_fresh [] es is = is
 all_fresh (p ∷ pairs) es is = all_fresh pairs (asking es p) (λ a. elim (cases_eq a p.0) [
   | inl e ↦
@@ -99,7 +98,7 @@ GoingAs lines es deeds = (a : ℕ) → IsTrailed (declared_devices (bare_lines l
 
 going_as : (lines : List NumberedLine) (es : List (ℕ × ApplicationState)) → fresh es
     → ((a : ℕ) → (asks_in es a).asks ≡ map (λ (l : Waits). l.asked) (waits_of (declared_devices (bare_lines lines)) a lines)) → GoingAs lines es []
-unfolding GoingAs asks_in fresh
+unfolding GoingAs
 going_as lines es is asks a = (
   subst (λ (x : ApplicationState). IsTrailed (declared_devices (bare_lines lines)) a [] (waits_of (declared_devices (bare_lines lines)) a lines) x) (sym (is a)) (record {
     ended = [];
@@ -208,18 +207,18 @@ module _ (lines : List NumberedLine) (starves : Key → Bool) (most : Most) (pre
   -- ---- the beginning
 
   at_first : GoingAs lines (world_of lines).applications (world_of lines).deeds
-  unfolding GoingAs asks_in fresh
+  unfolding GoingAs
   at_first =
       let bare : List Line = map (λ (l : NumberedLine). l.line) lines in
       begins_as lines (λ (u : Unset). GoingAs lines u.applications u.deeds)
       (going_as lines (applications_of bare) (all_fresh (filter_map asked_by bare) [] (λ a. refl)) (λ a. all_asks a (filter_map asked_by bare) [] ∙ sym (waits_asked a (first_control (ids_of lines)) lines)))
 
   none_queued : (a : ℕ) → (application_at (world_of lines) a).queued ≡ 0
-  unfolding GoingAs asks_in
+  unfolding GoingAs
   none_queued a = (at_first a).2
 
   first_going : Going lines starves (world_of lines)
-  unfolding GoingAs asks_in fresh
+  unfolding GoingAs
   first_going =
       record { trails = λ a. (told at_first a).0; asks = λ a. (told at_first a).1 }
     where

@@ -87,7 +87,7 @@ refused_is t u a named o why made = by (submit_refusal t named) refl
         let both : Err cause ≡ Err why = ap (λ (r : TableState × Result ℕ SubmitNo). r.1) (sym refused ∙ made) in
         let same : cause ≡ why = cc both in ap (λ (c : SubmitNo). Some c) same
 
-accepted_is : (t u : TableState) (a number : ℕ) (named : Target) (o : Op) → table.submit t a named o ≡ (u, Ok number) → (submit_refusal t named ≡ None) × (number ≡ suc t.count)
+pub accepted_is : (t u : TableState) (a number : ℕ) (named : Target) (o : Op) → table.submit t a named o ≡ (u, Ok number) → (submit_refusal t named ≡ None) × (number ≡ suc t.count)
 accepted_is t u a number named o made = by (submit_refusal t named) refl
   where
     by : (r : Option SubmitNo) → submit_refusal t named ≡ r → (r ≡ None) × (number ≡ suc t.count)

@@ -1,3 +1,4 @@
+use Rattle.rd_outcomes.proofs.AwaitedLemmas
 use Rattle.rd_outcomes.proofs.UntakenLemmas
 use Rattle.rd_outcomes.proofs.NumberedLemmas
 use Rattle.rd_outcomes.proofs.LinesLemmas
