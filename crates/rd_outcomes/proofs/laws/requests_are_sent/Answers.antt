@@ -1,10 +1,3 @@
-use Rattle.rd_outcomes.proofs.AwaitedLemmas
-use Rattle.rd_outcomes.proofs.UntakenLemmas
-use Rattle.rd_outcomes.proofs.NumberedLemmas
-use Rattle.rd_outcomes.proofs.LinesLemmas
-use Rattle.rd_outcomes.proofs.ComingLemmas
-use Rattle.rd_outcomes.proofs.TrailLemmas
-use Rattle.rd_outcomes.proofs.ChainLemmas
 use Rattle.rd_outcomes.proofs.PassedLemmas.{all_are_sent, are_passed}
 use Rattle.rd_outcomes.proofs.laws.requests_are_sent.Goals as goal
 
