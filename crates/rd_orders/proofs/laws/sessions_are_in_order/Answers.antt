@@ -1,0 +1,6 @@
+use Rattle.rd_orders.proofs.SayingLemmas.{reply_met}
+use Rattle.rd_orders.proofs.PhaseLemmas.{Phase}
+use Rattle.rd_orders.proofs.laws.sessions_are_in_order.Goals as goal
+
+pub returns : goal.returns
+returns c r = reply_met r
