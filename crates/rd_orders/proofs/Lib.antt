@@ -1,2 +1,3 @@
 pub mod SayingLemmas
 pub mod PhaseLemmas
+pub mod MeetingLemmas

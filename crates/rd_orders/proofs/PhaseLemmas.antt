@@ -26,6 +26,8 @@ use Rattle.rd_hello.specs.declared.host.HostState.TheVariants as host_state
 use Rattle.rd_host.specs.Core.{HostCoreState, host_hear, host_hear_made, host_side}
 use Rattle.rd_host.specs.declared.act.Act.{Act}
 use Rattle.rd_host.specs.declared.act.Act.TheVariants as act
+use Rattle.rd_client.specs.Order.{is_client_ready}
+use Rattle.rd_world.specs.Talk.{is_request}
 use Rattle.rd_orders.proofs.SayingLemmas.{SaysToClient, SaysToHost}
 
 -- ---- the messages
@@ -115,6 +117,18 @@ module _ where
   unfolding header_among component_field header hello version name sets capability body_of special general other count_to counted counted_bytes
   accept_said = refl
 
+  announce_plain : is_request announces ≡ false
+  unfolding header_among component_field
+  announce_plain = refl
+
+  offer_plain : is_request offers ≡ false
+  unfolding header_among component_field
+  offer_plain = refl
+
+  confirm_plain : is_request confirms ≡ false
+  unfolding header_among component_field
+  confirm_plain = refl
+
 -- ---- lists
 
 first_is : {X : Type 0} {x y : X} {xs ys : List X} → x ∷ xs ≡ y ∷ ys → x ≡ y
@@ -166,7 +180,8 @@ module _ (c : ClientCoreState) (h : HostState) (down up : List (List ℕ)) where
   AsksReady r = Unit {0}
 
   -- what comes of a message is no fault, and leaves what is on its way as it should be
-  pub record ClientCame (r : ClientCoreState × Result Heard EndFault) : Type 0 where
+  pub record ClientCame (m : List ℕ) (r : ClientCoreState × Result Heard EndFault) : Type 0 where
+    pub plain : is_client_ready ((r.0).core).shake ≡ false → is_request m ≡ false
     pub fine : ((r.0).core).fault ≡ None
     pub ok : is_ok r.1 ≡ true
     pub phase : Phase ((r.0).core).shake h down (up ++ waiting_messages r.0)
@@ -181,74 +196,75 @@ module _ (c : ClientCoreState) (h : HostState) (down up : List (List ℕ)) where
   one_waits [] m = refl
   one_waits (o ∷ os) m = ap (λ (x : List (List ℕ)). o.message ∷ x) (one_waits os m)
 
-  module _ (fault : (c.core).fault ≡ None) where
-    opened : (row : OrderRow ClientState) → becomes_ready (c.core).shake row.next ≡ false → Phase row.next h down ((up ++ waiting_messages c) ++ messages_of row) → ClientCame (made (opens row))
-    opened row becomes p =
-        subst (λ (b : Bool). ClientCame ((if b then with_outgoing (record c { core = hearing.after_row client_side c.core row }) (plain (list_bytes (listed c))) else record c { core = hearing.after_row client_side c.core row }), Ok heard.Nothing)) (sym becomes)
+  module _ (m : List ℕ) (fault : (c.core).fault ≡ None) where
+    opened : (row : OrderRow ClientState) → becomes_ready (c.core).shake row.next ≡ false → is_request m ≡ false → Phase row.next h down ((up ++ waiting_messages c) ++ messages_of row) → ClientCame m (made (opens row))
+    opened row becomes other p =
+        subst (λ (b : Bool). ClientCame m ((if b then with_outgoing (record c { core = hearing.after_row client_side c.core row }) (plain (list_bytes (listed c))) else record c { core = hearing.after_row client_side c.core row }), Ok heard.Nothing)) (sym becomes)
         (record {
+          plain = λ off. other;
           fine = fault;
           ok = refl;
           phase = subst (Phase row.next h down) (append_assoc up (waiting_messages c) (messages_of row) ∙ ap (λ (ms : List (List ℕ)). up ++ ms) (sym (more_waits (c.core).outbox (messages_of row)))) p;
           asks = tt;
         })
 
-    opened_ready : (row : OrderRow ClientState) → becomes_ready (c.core).shake row.next ≡ true → Phase row.next h down (((up ++ waiting_messages c) ++ messages_of row) ++ list_bytes (listed c) ∷ [])
-        → ClientCame (made (opens row))
-    opened_ready row becomes p =
+    opened_ready : (row : OrderRow ClientState) → becomes_ready (c.core).shake row.next ≡ true → is_client_ready row.next ≡ true → Phase row.next h down (((up ++ waiting_messages c) ++ messages_of row) ++ list_bytes (listed c) ∷ [])
+        → ClientCame m (made (opens row))
+    opened_ready row becomes ready p =
         let os : List Outgoing = (c.core).outbox ++ map plain (messages_of row) in
         let all : ((up ++ waiting_messages c) ++ messages_of row) ++ list_bytes (listed c) ∷ [] ≡ up ++ map (λ (o : Outgoing). o.message) (os ++ plain (list_bytes (listed c)) ∷ []) =
         ap (λ (ms : List (List ℕ)). ms ++ list_bytes (listed c) ∷ []) (append_assoc up (waiting_messages c) (messages_of row) ∙ ap (λ (ms : List (List ℕ)). up ++ ms) (sym (more_waits (c.core).outbox (messages_of row))))
         ∙ append_assoc up (map (λ (o : Outgoing). o.message) os) (list_bytes (listed c) ∷ []) ∙ ap (λ (ms : List (List ℕ)). up ++ ms) (sym (one_waits os (list_bytes (listed c)))) in
-        subst (λ (b : Bool). ClientCame ((if b then with_outgoing (record c { core = hearing.after_row client_side c.core row }) (plain (list_bytes (listed c))) else record c { core = hearing.after_row client_side c.core row }), Ok heard.Nothing)) (sym becomes)
-        (record { fine = fault; ok = refl; phase = subst (Phase row.next h down) all p; asks = tt })
+        subst (λ (b : Bool). ClientCame m ((if b then with_outgoing (record c { core = hearing.after_row client_side c.core row }) (plain (list_bytes (listed c))) else record c { core = hearing.after_row client_side c.core row }), Ok heard.Nothing)) (sym becomes)
+        (record { plain = λ off. absurd (cc (off, ready)); fine = fault; ok = refl; phase = subst (Phase row.next h down) all p; asks = tt })
 
-    said_ready : (a : HostSays) → (c.core).shake ≡ client_state.Ready → Phase (c.core).shake h down (up ++ waiting_messages c) → ClientCame (made (says a))
-    said_ready (requests r) ready p = record { fine = fault; ok = refl; phase = p; asks = ready }
-    said_ready (replies r) ready p = record { fine = fault; ok = refl; phase = p; asks = tt }
-    said_ready (notices n) ready p = record { fine = fault; ok = refl; phase = p; asks = tt }
+    said_ready : (a : HostSays) → (c.core).shake ≡ client_state.Ready → Phase (c.core).shake h down (up ++ waiting_messages c) → ClientCame m (made (says a))
+    said_ready (requests r) ready p = record { plain = λ off. absurd (cc (off, ready)); fine = fault; ok = refl; phase = p; asks = ready }
+    said_ready (replies r) ready p = record { plain = λ off. absurd (cc (off, ready)); fine = fault; ok = refl; phase = p; asks = tt }
+    said_ready (notices n) ready p = record { plain = λ off. absurd (cc (off, ready)); fine = fault; ok = refl; phase = p; asks = tt }
 
-    listening : (m : List ℕ) → client_hear c m ≡ made (said client_side (c.core).shake m)
-    listening m = rw fault refl
+    listening : client_hear c m ≡ made (said client_side (c.core).shake m)
+    listening = rw fault refl
 
     -- a client hears the message that comes first
-    pub client_came : (m : List ℕ) → SaysToHost (list_bytes (listed c)) → Phase (c.core).shake h (m ∷ down) (up ++ waiting_messages c) → ClientCame (client_hear c m)
-    client_came m lists p = subst ClientCame (sym (listening m)) (by (c.core).shake refl h refl p)
+    pub client_came : SaysToHost (list_bytes (listed c)) → Phase (c.core).shake h (m ∷ down) (up ++ waiting_messages c) → ClientCame m (client_hear c m)
+    client_came lists p = subst (ClientCame m) (sym listening) (by (c.core).shake refl h refl p)
       where
-        by : (s : ClientState) → (c.core).shake ≡ s → (g : HostState) → h ≡ g → Phase s g (m ∷ down) (up ++ waiting_messages c) → ClientCame (made (said client_side (c.core).shake m))
+        by : (s : ClientState) → (c.core).shake ≡ s → (g : HostState) → h ≡ g → Phase s g (m ∷ down) (up ++ waiting_messages c) → ClientCame m (made (said client_side (c.core).shake m))
         by client_state.Start e host_state.Start f (is, none) =
             let says : said client_side (c.core).shake m ≡ opens named_row =
             ap (λ (s : ClientState). said client_side s m) e ∙ ap (said client_side client_state.Start) (first_is is) ∙ announce_said in
-            subst (λ (x : Meaning ClientState HostSays). ClientCame (made x)) (sym says)
-            (opened named_row (ap (λ (s : ClientState). becomes_ready s client_state.Named) e)
+            subst (λ (x : Meaning ClientState HostSays). ClientCame m (made x)) (sym says)
+            (opened named_row (ap (λ (s : ClientState). becomes_ready s client_state.Named) e) (ap is_request (first_is is) ∙ announce_plain)
             (subst (λ (g : HostState). Phase client_state.Named g down ((up ++ waiting_messages c) ++ confirms ∷ names ∷ [])) (sym f) (rest_is is, ap (λ (ms : List (List ℕ)). ms ++ confirms ∷ names ∷ []) none)))
         by client_state.Named e host_state.Start f (is, none) = none_is is
         by client_state.Named e (host_state.Confirmed v) f (own, is, none) = none_is is
         by client_state.Named e host_state.Offered f (is, none) =
             let says : said client_side (c.core).shake m ≡ opens offered_row =
             ap (λ (s : ClientState). said client_side s m) e ∙ ap (said client_side client_state.Named) (first_is is) ∙ offer_said in
-            subst (λ (x : Meaning ClientState HostSays). ClientCame (made x)) (sym says)
-            (opened offered_row (ap (λ (s : ClientState). becomes_ready s (client_state.Offered true)) e)
+            subst (λ (x : Meaning ClientState HostSays). ClientCame m (made x)) (sym says)
+            (opened offered_row (ap (λ (s : ClientState). becomes_ready s (client_state.Offered true)) e) (ap is_request (first_is is) ∙ offer_plain)
             (subst (λ (g : HostState). Phase (client_state.Offered true) g down ((up ++ waiting_messages c) ++ [])) (sym f) (refl, rest_is is, append-nil (up ++ waiting_messages c) ∙ none)))
         by (client_state.Offered tells) e host_state.Offered f (told, is, none) =
             let stands : (c.core).shake ≡ client_state.Offered true = e ∙ ap client_state.Offered told in
             let says : said client_side (c.core).shake m ≡ opens waiting_row =
             ap (λ (s : ClientState). said client_side s m) stands ∙ ap (said client_side (client_state.Offered true)) (first_is is) ∙ confirmed_said in
-            subst (λ (x : Meaning ClientState HostSays). ClientCame (made x)) (sym says)
-            (opened waiting_row (ap (λ (s : ClientState). becomes_ready s client_state.Waiting) stands)
+            subst (λ (x : Meaning ClientState HostSays). ClientCame m (made x)) (sym says)
+            (opened waiting_row (ap (λ (s : ClientState). becomes_ready s client_state.Waiting) stands) (ap is_request (first_is is) ∙ confirm_plain)
             (subst (λ (g : HostState). Phase client_state.Waiting g down ((up ++ waiting_messages c) ++ accepts ∷ [])) (sym f) (rest_is is, ap (λ (ms : List (List ℕ)). ms ++ accepts ∷ []) none)))
         by client_state.Waiting e host_state.Offered f (is, none) = none_is is
         by client_state.Waiting e host_state.Ready f (later, is, all, none) =
             let says : said client_side (c.core).shake m ≡ opens ready_row =
             ap (λ (s : ClientState). said client_side s m) e ∙ ap (said client_side client_state.Waiting) (first_is is) ∙ logged_on_said in
             let none_up : (up ++ waiting_messages c) ++ [] ≡ [] = append-nil (up ++ waiting_messages c) ∙ none in
-            subst (λ (x : Meaning ClientState HostSays). ClientCame (made x)) (sym says)
-            (opened_ready ready_row (ap (λ (s : ClientState). becomes_ready s client_state.Ready) e)
+            subst (λ (x : Meaning ClientState HostSays). ClientCame m (made x)) (sym says)
+            (opened_ready ready_row (ap (λ (s : ClientState). becomes_ready s client_state.Ready) e) refl
             (subst (λ (g : HostState). Phase client_state.Ready g down (((up ++ waiting_messages c) ++ []) ++ list_bytes (listed c) ∷ [])) (sym f)
             (subst (AllByRecursion SaysToClient) (sym (rest_is is)) all, subst (λ (ms : List (List ℕ)). AllByRecursion SaysToHost (ms ++ list_bytes (listed c) ∷ [])) (sym none_up) (lists, tt))))
         by client_state.Ready e host_state.Ready f (all, others) =
             let (a, says_a) = all.0 in
             let says : said client_side (c.core).shake m ≡ says a = ap (λ (s : ClientState). said client_side s m) e ∙ says_a in
-            subst (λ (x : Meaning ClientState HostSays). ClientCame (made x)) (sym says)
+            subst (λ (x : Meaning ClientState HostSays). ClientCame m (made x)) (sym says)
             (said_ready a e (subst (λ (s : ClientState). Phase s h down (up ++ waiting_messages c)) (sym e)
             (subst (λ (g : HostState). Phase client_state.Ready g down (up ++ waiting_messages c)) (sym f) (all.1, others))))
         by s e g f p = absurd p
