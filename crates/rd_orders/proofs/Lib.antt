@@ -1,3 +1,4 @@
 pub mod SayingLemmas
 pub mod PhaseLemmas
 pub mod MeetingLemmas
+pub mod Meeting

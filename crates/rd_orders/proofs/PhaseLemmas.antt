@@ -170,14 +170,14 @@ phase_ready h down up p = absurd p
 
 -- ---- a client hears
 
+-- a request is heard by a ready client
+abbrev pub AsksReady : ClientCoreState × Result Heard EndFault → Type 0
+AsksReady (d, Ok (heard.Ask device job)) = (d.core).shake ≡ client_state.Ready
+AsksReady r = Unit {0}
+
 module _ (c : ClientCoreState) (h : HostState) (down up : List (List ℕ)) where
   abbrev made : Meaning ClientState HostSays → ClientCoreState × Result Heard EndFault
   made x = client_hear_made c (hearing.hear_said client_side c.core x)
-
-  -- a request is heard by a ready client
-  abbrev pub AsksReady : ClientCoreState × Result Heard EndFault → Type 0
-  AsksReady (d, Ok (heard.Ask device job)) = (d.core).shake ≡ client_state.Ready
-  AsksReady r = Unit {0}
 
   -- what comes of a message is no fault, and leaves what is on its way as it should be
   pub record ClientCame (m : List ℕ) (r : ClientCoreState × Result Heard EndFault) : Type 0 where

@@ -1,5 +1,5 @@
 use Rattle.rd_orders.proofs.SayingLemmas.{reply_met}
-use Rattle.rd_orders.proofs.MeetingLemmas.{MeetsAs}
+use Rattle.rd_orders.proofs.Meeting.{Meets}
 use Rattle.rd_orders.proofs.laws.sessions_are_in_order.Goals as goal
 
 pub returns : goal.returns
