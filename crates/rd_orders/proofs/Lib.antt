@@ -2,3 +2,5 @@ pub mod SayingLemmas
 pub mod PhaseLemmas
 pub mod MeetingLemmas
 pub mod Meeting
+pub mod Marked
+pub mod ClientOrders

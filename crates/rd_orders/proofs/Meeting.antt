@@ -50,8 +50,11 @@ use Rattle.rd_irp.specs.Completion.{completion_head}
 use Rattle.rd_irp.specs.declared.request.Request.{Request}
 use Rattle.rd_irp.specs.Fits.{kind_of}
 use Rattle.rd_irp.specs.Written.{request_bytes}
-use Rattle.rd_journals.proofs.CameLemmas.{was_ready}
-use Rattle.rd_journals.proofs.CompletionLemmas.{ready_completes}
+use Rattle.rd_journals.proofs.CameLemmas.{fines, was_ready}
+use Rattle.rd_journals.proofs.CompletionLemmas.{lost_ranged, ready_completes, runs_good}
+use Rattle.rd_journals.proofs.DeclaredLemmas.{bounded_fit}
+use Rattle.rd_journals.proofs.RunLemmas.{behind_orderly}
+use Rattle.rd_journals.proofs.WorkLemmas.{behind_working}
 use Rattle.rd_journals.specs.Jobs.{AreWorking, FitsCompletion}
 use Rattle.rd_journals.specs.Orderly.{Orderly}
 use Rattle.rd_pending.proofs.Effects as effects
@@ -73,11 +76,12 @@ use Rattle.rd_runs.proofs.AskedLemmas.{tellable_lines}
 use Rattle.rd_runs.proofs.Insides.{AreOwn, IsInside, Outside, added_inside, all_dropped_inside, all_refreshed_inside, applied_inside, hears_inside, put_inside, removed_inside, stationed}
 use Rattle.rd_runs.proofs.KeysOn.{all_dropped_client, sent_on}
 use Rattle.rd_runs.proofs.KeysOnLemmas.{collected_on}
-use Rattle.rd_runs.proofs.Parts.{MayBe, Part, accepts, adds_one, announced_by, applies_one, begins, client_gets, client_hears_one, client_keeps_part, client_sends_one, collects_one, cut_by, done, draws_one, ends, hands_out, host_gets, host_hears_one, host_keeps_part, host_sends_one, idle_one, queues_one, refreshed_by, refuses, removes_one, takes_one, tells_one, told_added, told_removed, tries_one}
+use Rattle.rd_runs.proofs.Parts.{IsBehind, MayBe, Part, by_parts, accepts, adds_one, announced_by, applies_one, begins, client_gets, client_hears_one, client_keeps_part, client_sends_one, collects_one, cut_by, done, draws_one, ends, hands_out, host_gets, host_hears_one, host_keeps_part, host_sends_one, idle_one, queues_one, refreshed_by, refuses, removes_one, takes_one, tells_one, told_added, told_removed, tries_one}
 use Rattle.rd_runs.proofs.Reaching.{both}
 use Rattle.rd_runs.proofs.SizeLemmas.{ClientFits, data_few, refreshed_fits}
 use Rattle.rd_runs.proofs.Standing.{AreTellable, needs_open, open_inside, open_now, shut_now, is_off}
-use Rattle.rd_runs.proofs.Together.{Knows}
+use Rattle.rd_runs.proofs.Together.{Knows, knows}
+use Rattle.rd_runs.proofs.BeginningLemmas.{Unset, begins_as}
 use Rattle.rd_runs.proofs.TrafficLemmas.{Traffic, client_reads_here, client_writes_here, completes_here, host_reads_here, host_writes_here, no_traffic, traffic}
 use Rattle.rd_runs.proofs.WayLemmas.{one_read}
 use Rattle.rd_runs.specs.Premises.{RunPremises}
@@ -93,7 +97,10 @@ use Rattle.rd_world.specs.Devices.{Declared, PrinterNames, device_cut, printer_d
 use Rattle.rd_world.specs.Events.{applies_at, came_of, client_has_message, completion_message, connects, deed_on, dropping, is_channel_open, is_empty, is_ready, refreshing}
 use Rattle.rd_world.specs.Hearing.{after_opening, announcing, client_hears, heard_by_client, is_device_told, put_at, put_by, putting, refused_put, with_client}
 use Rattle.rd_world.specs.Host.{HostSide, admits, forgets, hears, host_heard, lived, next_message, sent_from, side_sends}
-use Rattle.rd_world.specs.Recording.{client_id}
+use Rattle.rd_world.specs.Opening.{bare_lines}
+use Rattle.rd_world.specs.Recording.{announced_of, client_id}
+use Rattle.rd_world.specs.Run.{declared_devices, world_of}
+use Rattle.rd_world.proofs.ShortLemmas.{announces_first}
 use Rattle.rd_world.specs.Talk.{Deed, adds, client_read, client_reads, client_writes, client_wrote, completes, host_begins, host_read, host_reads, host_writes, host_wrote, is_request, open_channel, removes, request_at, request_in, stores, submits, takes, tells}
 use Rattle.rd_world.specs.World.{Asked, Kept, WayState, WorldState, station_at, with_deed, with_station}
 use Rattle.rd_orders.proofs.MeetingLemmas.{IsEarly, MeetsAs, asked_ready, client_alike, client_heard, client_reads_first, client_sent, client_sent_past, client_waits, host_heard_one, host_sent, host_told, lives_ready, one_asked, other_table, ready_is}
@@ -530,3 +537,27 @@ module _ (lines : List NumberedLine) (starves : Key → Bool) (premises : RunPre
   meets_step w (queues_one a) i k may m = m
   meets_step w (idle_one number) i k may m = m
   meets_step w draws_one i k may m = m
+
+-- ---- every world
+
+module _ (lines : List NumberedLine) (starves : Key → Bool) (premises : RunPremises lines) (writable : AreWritable (announced_of (declared_devices (bare_lines lines)))) where
+  abbrev pub declares : List (ℕ × Declared)
+  declares = declared_devices (bare_lines lines)
+
+  pub behind_known : (w : WorldState) → IsBehind lines starves w → IsKnown lines starves premises declares (announced_of declares) writable w
+  behind_known w behind =
+      let fit = bounded_fit lines premises.bounded in
+      record {
+        knows = knows lines starves premises w behind;
+        ordered = (behind_orderly lines starves w fit behind).0;
+        working = behind_working FitsCompletion IsReplyInRange lost_ranged runs_good lines starves w fit behind (fines lines starves premises w behind);
+      }
+
+  meets_first : Meets (announced_of declares) (world_of lines)
+  meets_first = begins_as lines (λ (u : Unset). MeetsFor (announced_of declares) u.client u.side (open_channel u.deeds) u.channels (traffic u.channels u.deeds))
+      (record { number = refl; same = ap (map without_data) (announces_first (announced_of declares)); now = λ is. absurd (cc is) })
+
+  -- nothing was wrong at either end, and what is on its way is what it should be
+  pub behind_meets : (w : WorldState) → IsBehind lines starves w → Meets (announced_of declares) w
+  behind_meets = by_parts lines starves (Meets (announced_of declares)) meets_first
+      (λ w p before after may m. meets_step lines starves premises declares (announced_of declares) writable w p (behind_known w before) (knows lines starves premises (done starves w p) after) may m)
