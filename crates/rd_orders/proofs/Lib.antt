@@ -4,3 +4,4 @@ pub mod MeetingLemmas
 pub mod Meeting
 pub mod Marked
 pub mod ClientOrders
+pub mod ClientOrdering

@@ -390,7 +390,7 @@ module _ (lines : List NumberedLine) (starves : Key → Bool) (premises : RunPre
   sent_same : (c after : ClientCoreState) (o : Outgoing) → client.client_send c ≡ (after, Some o) → announces after ≡ announces c
   sent_same c after o made = ap (λ (r : ClientCoreState × Option Outgoing). announces r.0) (sym made) 
 
-  none_waits : (w : WorldState) → client_has_message w ≡ false → ((w.client).core).outbox ≡ []
+  pub none_waits : (w : WorldState) → client_has_message w ≡ false → ((w.client).core).outbox ≡ []
   none_waits w quiet = by ((w.client).core).outbox quiet
     where
       by : (os : List Outgoing) → not (is_empty os) ≡ false → os ≡ []
@@ -405,7 +405,7 @@ module _ (lines : List NumberedLine) (starves : Key → Bool) (premises : RunPre
       by true = (refl, refl)
       by false = (refl, refl)
 
-  ready_now : (w : WorldState) (b : Bool) → (is_ready w && b) ≡ true → ((w.client).core).shake ≡ client_state.Ready
+  pub ready_now : (w : WorldState) (b : Bool) → (is_ready w && b) ≡ true → ((w.client).core).shake ≡ client_state.Ready
   ready_now w b can = ready_is ((w.client).core).shake (both (is_channel_open w) _ (both (is_ready w) b can).0).1
 
   served_is : (h : HostState) → is_host_ready h ≡ true → h ≡ host_state.Ready
