@@ -5,3 +5,4 @@ pub mod Meeting
 pub mod Marked
 pub mod ClientOrders
 pub mod ClientOrdering
+pub mod LifeLemmas
