@@ -6,3 +6,4 @@ pub mod Marked
 pub mod ClientOrders
 pub mod ClientOrdering
 pub mod LifeLemmas
+pub mod HostOrders

@@ -82,7 +82,7 @@ has_without e d (x ∷ xs) = by (x == d) refl (x == e) refl (has_without e d xs)
         and_none false = refl
     by true f false g later = later
     by false f true g later =
-        let other : (e == d) ≡ false = ne_eqb e d (λ same. absurd (cc (f, eq-eqb x d (eqb-true x e g ∙ same)))) in rw (g, other) refl
+        let other : (e == d) ≡ false = ne_eqb e d (λ same. absurd (cc (f, eqb-true x e g, same))) in rw (g, other) refl
     by false f false g later = rw g later
 
 apart_without : (d : ℕ) (xs : List ℕ) → Apart xs → Apart (without d xs)
