@@ -7,3 +7,4 @@ pub mod ClientOrders
 pub mod ClientOrdering
 pub mod LifeLemmas
 pub mod HostOrders
+pub mod HostOrdering

@@ -408,7 +408,7 @@ module _ (lines : List NumberedLine) (starves : Key → Bool) (premises : RunPre
   pub ready_now : (w : WorldState) (b : Bool) → (is_ready w && b) ≡ true → ((w.client).core).shake ≡ client_state.Ready
   ready_now w b can = ready_is ((w.client).core).shake (both (is_channel_open w) _ (both (is_ready w) b can).0).1
 
-  served_is : (h : HostState) → is_host_ready h ≡ true → h ≡ host_state.Ready
+  pub served_is : (h : HostState) → is_host_ready h ≡ true → h ≡ host_state.Ready
   served_is host_state.Ready e = refl
   served_is h e = absurd (cc e)
 

@@ -1,4 +1,4 @@
-use Rattle.rd_orders.proofs.HostOrders.{HostNow}
+use Rattle.rd_orders.proofs.HostOrdering.{behind_host_ordered}
 use Rattle.rd_orders.proofs.SayingLemmas.{reply_met}
 use Rattle.rd_orders.proofs.Meeting.{behind_meets}
 use Rattle.rd_orders.proofs.Marked.{behind_marked}
