@@ -5,4 +5,4 @@
 
 mod laws;
 
-pub use laws::sessions_are_in_order;
+pub use laws::{ends_stand, sessions_are_in_order};
