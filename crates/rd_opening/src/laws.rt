@@ -1,0 +1,33 @@
+//! What holds of the openings of channels in every run, as contracts of functions that do nothing.
+
+ghost use Rattle.std.specs.Prelude.{◌≡◌, ◌+◌, ℕ, Bool, List, [], Some, None, IfSome, length, true, false};
+ghost use Rattle.std.specs.Option.{option_map_or};
+ghost use Rattle.rd_base.specs.declared.journal.Key.{Key};
+ghost use Rattle.rd_client.specs.Order.{is_client_ready};
+ghost use Rattle.rd_host.specs.Order.{is_host_ready};
+ghost use Rattle.rd_runs.proofs.Resting.{IsQuiet};
+ghost use Rattle.rd_runs.specs.Moves.{Reached};
+ghost use Rattle.rd_runs.specs.Premises.{RunPremises};
+ghost use Rattle.rd_script.specs.declared.line.NumberedLine.{NumberedLine};
+ghost use Rattle.rd_world.specs.Acts.{is_settled_client, is_settled_host};
+ghost use Rattle.rd_world.specs.Opening.{bare_lines};
+ghost use Rattle.rd_world.specs.Recording.{client_stand, host_stand};
+ghost use Rattle.rd_world.specs.Run.{choices, declared_devices};
+ghost use Rattle.rd_world.specs.Talk.{client_wrote, host_read, open_channel};
+ghost use Rattle.rd_world.specs.World.{WorldState};
+ghost use Rattle.rd_orders.specs.Orders.{DeclaresWritable};
+
+/// Where neither end of the open channel has something to send or to read, both are ready, the host has read all that the client wrote, and neither owes a message: the
+/// client no list, the host no reply. So it is wherever nothing can happen by itself.
+pub fn ends_settle()
+    ensures ready { (lines : List NumberedLine) (starves : Key → Bool) (w : WorldState) → RunPremises lines → DeclaresWritable lines → Reached lines starves w → open_channel w.deeds ≡ Some w.channels → IsQuiet w
+        → (is_client_ready ((w.client).core).shake ≡ true) × (is_host_ready (((w.side).core).core).shake ≡ true) }
+    ensures heard { (lines : List NumberedLine) (starves : Key → Bool) (w : WorldState) → RunPremises lines → DeclaresWritable lines → Reached lines starves w → open_channel w.deeds ≡ Some w.channels → IsQuiet w
+        → host_read w.channels w.deeds ≡ client_wrote w.channels w.deeds }
+    ensures client { (lines : List NumberedLine) (starves : Key → Bool) (w : WorldState) → RunPremises lines → DeclaresWritable lines → Reached lines starves w → open_channel w.deeds ≡ Some w.channels → IsQuiet w
+        → option_map_or is_settled_client (client_stand (declared_devices (bare_lines lines)) w.deeds w.channels) false ≡ true }
+    ensures host { (lines : List NumberedLine) (starves : Key → Bool) (w : WorldState) → RunPremises lines → DeclaresWritable lines → Reached lines starves w → open_channel w.deeds ≡ Some w.channels → IsQuiet w
+        → option_map_or is_settled_host (host_stand w.deeds w.channels) false ≡ true }
+    ensures rests { (lines : List NumberedLine) (starves : Key → Bool) (w : WorldState) → RunPremises lines → DeclaresWritable lines → Reached lines starves w → open_channel w.deeds ≡ Some w.channels → choices w ≡ []
+        → (option_map_or is_settled_client (client_stand (declared_devices (bare_lines lines)) w.deeds w.channels) false ≡ true) × (option_map_or is_settled_host (host_stand w.deeds w.channels) false ≡ true) }
+{}
