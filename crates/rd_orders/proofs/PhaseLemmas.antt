@@ -1,6 +1,6 @@
 -- A channel opens message by message: while it does one end alone has something to say, and what each end reads is never wrong.
 use Rattle.std.proofs.Common.{◌≡◌, ◌∙◌, refl, sym, ap, subst, ℕ, Bool, true, false, List, [], ◌∷◌, ◌++◌, map, Some, None, Option, append_assoc, append-nil}
-use Rattle.std.specs.Prelude.{Result, Ok, Err, if◌then◌else◌, is_ok}
+use Rattle.std.specs.Prelude.{Result, Ok, Err, if◌then◌else◌, is_ok, is_some}
 use Rattle.std.specs.List.{AllByRecursion}
 use Rattle.rd_base.specs.Counted.{count_to, counted, counted_bytes}
 use Rattle.rd_base.specs.Header.{component_field, header, header_among}
@@ -27,7 +27,10 @@ use Rattle.rd_host.specs.Core.{HostCoreState, host_hear, host_hear_made, host_si
 use Rattle.rd_host.specs.declared.act.Act.{Act}
 use Rattle.rd_host.specs.declared.act.Act.TheVariants as act
 use Rattle.rd_client.specs.Order.{is_client_ready}
-use Rattle.rd_world.specs.Talk.{is_request}
+use Rattle.rd_world.specs.Talk.{is_request, notice_in}
+use Rattle.rd_printer.specs.Notice.{notice}
+use Rattle.rd_devices.specs.declared.reply.DeviceReply.{DeviceReply}
+use Rattle.rd_devices.specs.DeviceReply.{reply_bytes}
 use Rattle.rd_orders.proofs.SayingLemmas.{SaysToClient, SaysToHost}
 
 -- ---- the messages
@@ -128,6 +131,31 @@ module _ where
   confirm_plain : is_request confirms ≡ false
   unfolding header_among component_field
   confirm_plain = refl
+
+-- a message that is neither a request nor a notice
+abbrev pub IsGreeting : List ℕ → Type 0
+IsGreeting m = (is_request m ≡ false) × (is_some (notice_in m) ≡ false)
+
+module _ where
+  pub announces_greet : IsGreeting announces
+  unfolding header_among component_field notice
+  announces_greet = (refl, refl)
+
+  offers_greet : IsGreeting offers
+  unfolding header_among component_field notice
+  offers_greet = (refl, refl)
+
+  logged_on_greets : IsGreeting logged_on
+  unfolding header_among component_field notice
+  logged_on_greets = (refl, refl)
+
+  confirms_greet : (v : Version) → v ≡ own_version → IsGreeting (hello_bytes (greeting.Confirm v))
+  unfolding header_among component_field notice
+  confirms_greet v own = (refl, refl)
+
+  pub reply_greets : (r : DeviceReply) → IsGreeting (reply_bytes r)
+  unfolding header_among component_field notice
+  reply_greets r = (refl, refl)
 
 -- ---- lists
 
@@ -283,6 +311,10 @@ module _ (h : HostCoreState) (c : ClientState) (way asked up : List (List ℕ)) 
 
   pub record HostCame (r : HostCoreState × Result Act EndFault) : Type 0 where
     pub fine : ((r.0).core).fault ≡ None
+    -- what it has to send besides, which is neither a request nor a notice
+    pub more : List (List ℕ)
+    pub adds : ((r.0).core).outbox ≡ (h.core).outbox ++ more
+    pub plain : AllByRecursion IsGreeting more
     pub phase : Phase c ((r.0).core).shake (way ++ ((r.0).core).outbox ++ asked) up
     pub acts : ActsReady r
 
@@ -298,14 +330,14 @@ module _ (h : HostCoreState) (c : ClientState) (way asked up : List (List ℕ)) 
       rw (no_way, no_own, no_asked) (append-nil (map (λ (m : List ℕ). m) messages) ∙ as_they_are messages)
 
   module _ (fault : (h.core).fault ≡ None) where
-    host_opened : (row : OrderRow HostState) → Phase c row.next (way ++ ((h.core).outbox ++ map (λ (m : List ℕ). m) (messages_of row)) ++ asked) up → HostCame (host_made (opens row))
-    host_opened row p = record { fine = fault; phase = p; acts = tt }
+    host_opened : (row : OrderRow HostState) → AllByRecursion IsGreeting (map (λ (m : List ℕ). m) (messages_of row)) → Phase c row.next (way ++ ((h.core).outbox ++ map (λ (m : List ℕ). m) (messages_of row)) ++ asked) up → HostCame (host_made (opens row))
+    host_opened row plain p = record { fine = fault; more = map (λ (m : List ℕ). m) (messages_of row); adds = refl; plain = plain; phase = p; acts = tt }
 
     host_said : (a : Act) → c ≡ client_state.Ready → (h.core).shake ≡ host_state.Ready → Phase c (h.core).shake (way ++ (h.core).outbox ++ asked) up → HostCame (host_made (says a))
-    host_said act.Nothing ready own p = record { fine = fault; phase = p; acts = tt }
-    host_said (act.Announced devices) ready own p = record { fine = fault; phase = p; acts = (ready, own) }
-    host_said (act.Removed ids) ready own p = record { fine = fault; phase = p; acts = (ready, own) }
-    host_said (act.Complete head bytes) ready own p = record { fine = fault; phase = p; acts = (ready, own) }
+    host_said act.Nothing ready own p = record { fine = fault; more = []; adds = sym (append-nil (h.core).outbox); plain = tt; phase = p; acts = tt }
+    host_said (act.Announced devices) ready own p = record { fine = fault; more = []; adds = sym (append-nil (h.core).outbox); plain = tt; phase = p; acts = (ready, own) }
+    host_said (act.Removed ids) ready own p = record { fine = fault; more = []; adds = sym (append-nil (h.core).outbox); plain = tt; phase = p; acts = (ready, own) }
+    host_said (act.Complete head bytes) ready own p = record { fine = fault; more = []; adds = sym (append-nil (h.core).outbox); plain = tt; phase = p; acts = (ready, own) }
 
     host_listening : (m : List ℕ) → host_hear h m ≡ host_made (said host_side (h.core).shake m)
     host_listening m = rw fault refl
@@ -319,12 +351,12 @@ module _ (h : HostCoreState) (c : ClientState) (way asked up : List (List ℕ)) 
             let says : said host_side (h.core).shake m ≡ opens confirmed_row =
             ap (λ (s : HostState). said host_side s m) e ∙ ap (said host_side host_state.Start) (first_is is) ∙ confirm_said in
             subst (λ (x : Meaning HostState Act). HostCame (host_made x)) (sym says)
-            (host_opened confirmed_row (subst (λ (d : ClientState). Phase d (host_state.Confirmed own_version) (way ++ ((h.core).outbox ++ []) ++ asked) up) (sym f) (refl, row_alone [] none, rest_is is)))
+            (host_opened confirmed_row tt (subst (λ (d : ClientState). Phase d (host_state.Confirmed own_version) (way ++ ((h.core).outbox ++ []) ++ asked) up) (sym f) (refl, row_alone [] none, rest_is is)))
         by client_state.Named f (host_state.Confirmed v) e (own, none, is) =
             let says : said host_side (h.core).shake m ≡ opens (offering_row v) =
             ap (λ (s : HostState). said host_side s m) e ∙ ap (said host_side (host_state.Confirmed v)) (first_is is) ∙ name_said v in
             subst (λ (x : Meaning HostState Act). HostCame (host_made x)) (sym says)
-            (host_opened (offering_row v) (subst (λ (d : ClientState). Phase d host_state.Offered (way ++ ((h.core).outbox ++ offers ∷ hello_bytes (greeting.Confirm v) ∷ []) ++ asked) up) (sym f)
+            (host_opened (offering_row v) (offers_greet, (confirms_greet v own, tt)) (subst (λ (d : ClientState). Phase d host_state.Offered (way ++ ((h.core).outbox ++ offers ∷ hello_bytes (greeting.Confirm v) ∷ []) ++ asked) up) (sym f)
             (row_alone (offers ∷ hello_bytes (greeting.Confirm v) ∷ []) none ∙ ap (λ (x : Version). offers ∷ hello_bytes (greeting.Confirm x) ∷ []) own, rest_is is)))
         by client_state.Named f host_state.Offered e (none, is) = none_is is
         by (client_state.Offered tells) f host_state.Offered e (told, none, is) = none_is is
@@ -332,7 +364,7 @@ module _ (h : HostCoreState) (c : ClientState) (way asked up : List (List ℕ)) 
             let says : said host_side (h.core).shake m ≡ opens served_row =
             ap (λ (s : HostState). said host_side s m) e ∙ ap (said host_side host_state.Offered) (first_is is) ∙ accept_said in
             subst (λ (x : Meaning HostState Act). HostCame (host_made x)) (sym says)
-            (host_opened served_row (subst (λ (d : ClientState). Phase d host_state.Ready (way ++ ((h.core).outbox ++ logged_on ∷ []) ++ asked) up) (sym f) ([], row_alone (logged_on ∷ []) none, tt, rest_is is)))
+            (host_opened served_row (logged_on_greets, tt) (subst (λ (d : ClientState). Phase d host_state.Ready (way ++ ((h.core).outbox ++ logged_on ∷ []) ++ asked) up) (sym f) ([], row_alone (logged_on ∷ []) none, tt, rest_is is)))
         by client_state.Waiting f host_state.Ready e (later, down, all, is) = none_is is
         by client_state.Ready f host_state.Ready e (all, others) =
             let (a, says_a) = others.0 in
