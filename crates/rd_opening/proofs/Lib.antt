@@ -1,2 +1,3 @@
 pub mod QuietLemmas
 pub mod Rounds
+pub mod TellingCounts
