@@ -1,3 +1,4 @@
 pub mod QuietLemmas
 pub mod Rounds
 pub mod TellingCounts
+pub mod Greeting

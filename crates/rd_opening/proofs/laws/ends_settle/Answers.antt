@@ -1,3 +1,4 @@
+use Rattle.rd_opening.proofs.Greeting.{opening_step}
 use Rattle.rd_opening.proofs.TellingCounts.{heard_tellings}
 use Rattle.rd_opening.proofs.Rounds.{rounds_reach}
 use Rattle.std.proofs.Common.{ap}
