@@ -2,3 +2,4 @@ pub mod QuietLemmas
 pub mod Rounds
 pub mod TellingCounts
 pub mod Greeting
+pub mod Opened

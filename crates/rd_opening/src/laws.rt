@@ -6,16 +6,24 @@ ghost use Rattle.rd_base.specs.declared.journal.Key.{Key};
 ghost use Rattle.rd_client.specs.Order.{is_client_ready};
 ghost use Rattle.rd_host.specs.Order.{is_host_ready};
 ghost use Rattle.rd_runs.proofs.Resting.{IsQuiet};
-ghost use Rattle.rd_runs.specs.Moves.{Reached};
+ghost use Rattle.rd_runs.specs.Moves.{Reached, ReachedWithin};
 ghost use Rattle.rd_runs.specs.Premises.{RunPremises};
 ghost use Rattle.rd_script.specs.declared.line.NumberedLine.{NumberedLine};
-ghost use Rattle.rd_world.specs.Acts.{is_settled_client, is_settled_host};
+ghost use Rattle.rd_world.specs.Acts.{HasOpened, is_settled_client, is_settled_host};
+ghost use Rattle.rd_world.specs.Events.{connect, is_enabled};
 ghost use Rattle.rd_world.specs.Opening.{bare_lines};
 ghost use Rattle.rd_world.specs.Recording.{client_stand, host_stand};
-ghost use Rattle.rd_world.specs.Run.{choices, declared_devices};
+ghost use Rattle.rd_world.specs.Run.{Most, choices, connects_on, declared_devices};
 ghost use Rattle.rd_world.specs.Talk.{client_wrote, host_read, open_channel};
 ghost use Rattle.rd_world.specs.World.{WorldState};
 ghost use Rattle.rd_orders.specs.Orders.{DeclaresWritable};
+
+/// Each channel opens by the rounds of its begin: then both ends are ready, the client has listed its devices once, the host has heard all of that and replied, and no request and no
+/// notice stands before.
+pub fn channels_open()
+    ensures begun { (lines : List NumberedLine) (starves : Key → Bool) (most : Most) (v : WorldState) → RunPremises lines → DeclaresWritable lines → ReachedWithin (length lines + 1) lines starves v
+        → is_enabled v connect ≡ true → IfSome (connects_on starves most v) (λ w. HasOpened (declared_devices (bare_lines lines)) w.deeds w.channels) }
+{}
 
 /// Where neither end of the open channel has something to send or to read, both are ready, the host has read all that the client wrote, and neither owes a message: the
 /// client no list, the host no reply. So it is wherever nothing can happen by itself.

@@ -5,4 +5,4 @@
 
 mod laws;
 
-pub use laws::ends_settle;
+pub use laws::{channels_open, ends_settle};

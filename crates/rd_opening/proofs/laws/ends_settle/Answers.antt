@@ -1,6 +1,3 @@
-use Rattle.rd_opening.proofs.Greeting.{opening_step}
-use Rattle.rd_opening.proofs.TellingCounts.{heard_tellings}
-use Rattle.rd_opening.proofs.Rounds.{rounds_reach}
 use Rattle.std.proofs.Common.{ap}
 use Rattle.rd_client.specs.Order.{is_client_ready}
 use Rattle.rd_host.specs.Order.{is_host_ready}
