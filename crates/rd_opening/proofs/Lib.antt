@@ -3,3 +3,4 @@ pub mod Rounds
 pub mod TellingCounts
 pub mod Greeting
 pub mod Opened
+pub mod Running

@@ -1,6 +1,6 @@
 //! What holds of the openings of channels in every run, as contracts of functions that do nothing.
 
-ghost use Rattle.std.specs.Prelude.{◌≡◌, ◌+◌, ℕ, Bool, List, [], Some, None, IfSome, length, true, false};
+ghost use Rattle.std.specs.Prelude.{◌≡◌, ◌+◌, ◌≤◌, ℕ, Bool, List, [], Some, None, IfSome, length, true, false};
 ghost use Rattle.std.specs.Option.{option_map_or};
 ghost use Rattle.rd_base.specs.declared.journal.Key.{Key};
 ghost use Rattle.rd_client.specs.Order.{is_client_ready};
@@ -9,11 +9,11 @@ ghost use Rattle.rd_runs.proofs.Resting.{IsQuiet};
 ghost use Rattle.rd_runs.specs.Moves.{Reached, ReachedWithin};
 ghost use Rattle.rd_runs.specs.Premises.{RunPremises};
 ghost use Rattle.rd_script.specs.declared.line.NumberedLine.{NumberedLine};
-ghost use Rattle.rd_world.specs.Acts.{HasOpened, is_settled_client, is_settled_host};
+ghost use Rattle.rd_world.specs.Acts.{HasOpened, Opens, is_settled_client, is_settled_host};
 ghost use Rattle.rd_world.specs.Events.{connect, is_enabled};
 ghost use Rattle.rd_world.specs.Opening.{bare_lines};
 ghost use Rattle.rd_world.specs.Recording.{client_stand, host_stand};
-ghost use Rattle.rd_world.specs.Run.{Most, choices, connects_on, declared_devices};
+ghost use Rattle.rd_world.specs.Run.{Most, choices, connects_on, declared_devices, run_of};
 ghost use Rattle.rd_world.specs.Talk.{client_wrote, host_read, open_channel};
 ghost use Rattle.rd_world.specs.World.{WorldState};
 ghost use Rattle.rd_orders.specs.Orders.{DeclaresWritable};
@@ -23,6 +23,9 @@ ghost use Rattle.rd_orders.specs.Orders.{DeclaresWritable};
 pub fn channels_open()
     ensures begun { (lines : List NumberedLine) (starves : Key → Bool) (most : Most) (v : WorldState) → RunPremises lines → DeclaresWritable lines → ReachedWithin (length lines + 1) lines starves v
         → is_enabled v connect ≡ true → IfSome (connects_on starves most v) (λ w. HasOpened (declared_devices (bare_lines lines)) w.deeds w.channels) }
+    // So in every run each channel that began opened.
+    ensures runs { (lines : List NumberedLine) (starves : Key → Bool) (most : Most) (w : WorldState) → RunPremises lines → DeclaresWritable lines → run_of most starves lines ≡ Some w
+        → (c : ℕ) → 1 ≤ c → c ≤ w.channels → Opens (declared_devices (bare_lines lines)) w.deeds c }
 {}
 
 /// Where neither end of the open channel has something to send or to read, both are ready, the host has read all that the client wrote, and neither owes a message: the
