@@ -8,3 +8,4 @@ pub mod ClientOrdering
 pub mod LifeLemmas
 pub mod HostOrders
 pub mod HostOrdering
+pub mod AddressLemmas

@@ -1,13 +1,16 @@
 //! What holds of the order of messages in every run, as contracts of functions that do nothing.
 
-ghost use Rattle.std.specs.Prelude.{◌≡◌, ℕ, Bool, List, Some, reverse};
+ghost use Rattle.std.specs.Prelude.{◌≡◌, ℕ, Bool, List, Ok, Some, reverse};
 ghost use Rattle.rd_base.specs.declared.journal.Key.{Key};
 ghost use Rattle.rd_client.specs.Order.{ClientOrder};
 ghost use Rattle.rd_host.specs.Order.{HostOrder};
 ghost use Rattle.rd_pending.specs.History.{lives_before};
 ghost use Rattle.rd_runs.specs.Moves.{Reached};
 ghost use Rattle.rd_runs.specs.Premises.{RunPremises};
+ghost use Rattle.rd_script.specs.Script.{script_of};
+ghost use Rattle.rd_script.specs.declared.keyword.Mode.{Mode};
 ghost use Rattle.rd_script.specs.declared.line.NumberedLine.{NumberedLine};
+ghost use Rattle.rd_script.specs.declared.script.Script.{Script};
 ghost use Rattle.rd_world.specs.HostDeeds.{calls_of};
 ghost use Rattle.rd_world.specs.Opening.{bare_lines};
 ghost use Rattle.rd_world.specs.Recording.{announced_of, client_id, is_gone_at};
@@ -30,4 +33,9 @@ pub fn ends_stand()
     ensures client { (lines : List NumberedLine) (starves : Key → Bool) (w : WorldState) → RunPremises lines → DeclaresWritable lines → Reached lines starves w → open_channel w.deeds ≡ Some w.channels
         → ClientStandsIn (declared_devices (bare_lines lines)) w }
     ensures host { (lines : List NumberedLine) (starves : Key → Bool) (w : WorldState) → RunPremises lines → DeclaresWritable lines → Reached lines starves w → open_channel w.deeds ≡ Some w.channels → HostStandsIn w }
+{}
+
+/// What a script that was read declares can be written: so both of every session of a script.
+pub fn scripts_are_writable()
+    ensures { (m : Mode) (text : List ℕ) (script : Script) → script_of m text ≡ Ok script → DeclaresWritable script.lines }
 {}

@@ -5,4 +5,4 @@
 
 mod laws;
 
-pub use laws::{ends_stand, sessions_are_in_order};
+pub use laws::{ends_stand, scripts_are_writable, sessions_are_in_order};
