@@ -4,3 +4,4 @@ pub mod TellingCounts
 pub mod Greeting
 pub mod Opened
 pub mod Running
+pub mod ChannelLemmas
