@@ -5,3 +5,4 @@ pub mod Greeting
 pub mod Opened
 pub mod Running
 pub mod ChannelLemmas
+pub mod RunLemmas

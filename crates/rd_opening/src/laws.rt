@@ -1,6 +1,7 @@
 //! What holds of the openings of channels in every run, as contracts of functions that do nothing.
 
-ghost use Rattle.std.specs.Prelude.{◌≡◌, ◌+◌, ◌≤◌, ℕ, Bool, List, [], Some, None, IfSome, length, true, false};
+ghost use Rattle.std.specs.Prelude.{◌≡◌, ◌⊎◌, ◌+◌, ◌≤◌, ℕ, All, Bool, List, [], Some, None, IfSome, length, true, false};
+ghost use Rattle.std.specs.List.{range_with_len};
 ghost use Rattle.std.specs.Option.{option_map_or};
 ghost use Rattle.rd_base.specs.declared.journal.Key.{Key};
 ghost use Rattle.rd_client.specs.Order.{is_client_ready};
@@ -11,10 +12,11 @@ ghost use Rattle.rd_runs.specs.Premises.{RunPremises};
 ghost use Rattle.rd_script.specs.declared.line.NumberedLine.{NumberedLine};
 ghost use Rattle.rd_world.specs.Acts.{HasOpened, Opens, is_settled_client, is_settled_host};
 ghost use Rattle.rd_world.specs.Events.{connect, is_enabled};
+ghost use Rattle.rd_world.specs.Lines.{last_begun};
 ghost use Rattle.rd_world.specs.Opening.{bare_lines};
 ghost use Rattle.rd_world.specs.Recording.{client_stand, host_stand};
 ghost use Rattle.rd_world.specs.Run.{Most, choices, connects_on, declared_devices, run_of};
-ghost use Rattle.rd_world.specs.Talk.{client_wrote, host_read, open_channel};
+ghost use Rattle.rd_world.specs.Talk.{client_wrote, has_ended, host_read, open_channel};
 ghost use Rattle.rd_world.specs.World.{WorldState};
 ghost use Rattle.rd_orders.specs.Orders.{DeclaresWritable};
 
@@ -25,7 +27,17 @@ pub fn channels_open()
         → is_enabled v connect ≡ true → IfSome (connects_on starves most v) (λ w. HasOpened (declared_devices (bare_lines lines)) w.deeds w.channels) }
     // So in every run each channel that began opened.
     ensures runs { (lines : List NumberedLine) (starves : Key → Bool) (most : Most) (w : WorldState) → RunPremises lines → DeclaresWritable lines → run_of most starves lines ≡ Some w
-        → (c : ℕ) → 1 ≤ c → c ≤ w.channels → Opens (declared_devices (bare_lines lines)) w.deeds c }
+        → All (Opens (declared_devices (bare_lines lines)) w.deeds) (range_with_len 1 w.channels) }
+    // And at its end the host owes nothing on a channel that didn't end.
+    ensures settled { (lines : List NumberedLine) (starves : Key → Bool) (most : Most) (w : WorldState) → RunPremises lines → DeclaresWritable lines → run_of most starves lines ≡ Some w
+        → All (λ c. has_ended c w.deeds ≡ false → option_map_or is_settled_host (host_stand w.deeds c) false ≡ true) (range_with_len 1 w.channels) }
+{}
+
+/// The channel that began last is the one with the world's number, and all that began but the open one ended.
+pub fn channels_are_numbered()
+    ensures last { (lines : List NumberedLine) (starves : Key → Bool) (w : WorldState) → RunPremises lines → Reached lines starves w → last_begun w.deeds ≡ w.channels }
+    ensures ended { (lines : List NumberedLine) (starves : Key → Bool) (w : WorldState) → RunPremises lines → Reached lines starves w → (c : ℕ) → 1 ≤ c → c ≤ w.channels
+        → (open_channel w.deeds ≡ Some c) ⊎ (has_ended c w.deeds ≡ true) }
 {}
 
 /// Where neither end of the open channel has something to send or to read, both are ready, the host has read all that the client wrote, and neither owes a message: the
