@@ -1,5 +1,5 @@
 -- In each world that lines come to, the channel that began last is the one with the world's number, and all that began but the open one ended.
-use Rattle.std.proofs.Common.{◌≡◌, ◌≢◌, ◌⊎◌, ◌∙◌, refl, sym, ap, subst, inl, inr, ℕ, ◌+◌, ◌≤◌, ◌==◌, ◌||◌, arith, Bool, true, false, List, [], ◌∷◌, ◌++◌, map, fold, Some, None, Option}
+use Rattle.std.proofs.Common.{◌≡◌, ◌⊎◌, ◌∙◌, refl, sym, ap, inl, inr, ℕ, ◌+◌, ◌≤◌, ◌==◌, ◌||◌, arith, Bool, true, false, List, [], ◌∷◌, ◌++◌, map, fold, Some, None, Option}
 use Rattle.std.specs.Option.{option_map_or}
 use Rattle.std.proofs.lemmas.Bool.{cases_eq}
 use Rattle.rd_base.specs.declared.journal.Key.{Key}
@@ -15,11 +15,10 @@ use Rattle.rd_script.specs.declared.line.NumberedLine.{NumberedLine}
 use Rattle.rd_station.specs.Station.{StationState}
 use Rattle.rd_world.specs.declared.device.SessionDevice.{SessionDevice}
 use Rattle.rd_world.specs.Devices.{PrinterNames}
-use Rattle.rd_world.specs.Events.{completion_message, deed_on, dropping, is_channel_open, refreshing}
+use Rattle.rd_world.specs.Events.{deed_on, dropping, is_channel_open, refreshing}
 use Rattle.rd_world.specs.Lines.{last_begun}
-use Rattle.rd_world.specs.Run.{world_of}
-use Rattle.rd_world.specs.Talk.{Deed, adds, client_reads, client_writes, completes, has_ended, host_begins, host_ends, open_channel, removes, stores}
-use Rattle.rd_world.specs.World.{Asked, WayState, WorldState, with_deed, with_station}
+use Rattle.rd_world.specs.Talk.{Deed, adds, client_reads, client_writes, completes, has_ended, open_channel, removes, stores}
+use Rattle.rd_world.specs.World.{WorldState, with_deed, with_station}
 
 -- Of the deeds this takes which channel is open, which began last, and which ended.
 pub record ChannelsFor (opened : Option ℕ) (channels last : ℕ) (ended : ℕ → Bool) : Type 0 where

@@ -1,9 +1,7 @@
 -- In the rounds after a channel's begin no request and no notice is written, and one list.
-use Rattle.std.proofs.Common.{◌≡◌, ◌∙◌, refl, sym, ap, subst, ℕ, ◌+◌, ◌≤◌, ◌&&◌, arith, Bool, true, false, not, List, [], ◌∷◌, ◌++◌, length, map, reverse, fold, Some, None, Option, Result, Ok, Err, is_ok, is_some}
-use Rattle.std.specs.Prelude.{filter, if◌then◌else◌}
+use Rattle.std.proofs.Common.{◌≡◌, ◌∙◌, refl, sym, ap, subst, ℕ, ◌+◌, arith, Bool, List, [], ◌∷◌, map, Some, None, Option, Result}
 use Rattle.std.specs.List.{AllByRecursion}
 use Rattle.std.specs.Option.{IfSome, option_map_or}
-use Rattle.std.proofs.lemmas.List.{reverse-append}
 use Rattle.rd_base.specs.declared.journal.Key.{Key}
 use Rattle.rd_client.specs.Core as client
 use Rattle.rd_client.specs.Core.{ClientCoreState, Outgoing, client_hear}
@@ -11,36 +9,28 @@ use Rattle.rd_client.specs.Events.{waiting_messages}
 use Rattle.rd_client.specs.Order.{is_client_ready}
 use Rattle.rd_controls.proofs.ReadyLemmas.{client_kept}
 use Rattle.rd_drive.proofs.AllLemmas.{all_append}
-use Rattle.rd_hello.specs.declared.client.ClientState.TheVariants as client_state
-use Rattle.rd_hello.specs.declared.end_fault.EndFault.{EndFault}
-use Rattle.rd_hello.specs.Hello.{hello_bytes}
-use Rattle.rd_hello.specs.Own.{host_announce}
-use Rattle.rd_host.specs.Core.{HostCoreState, host_hear}
-use Rattle.rd_host.specs.declared.act.Act.{Act}
+use Rattle.rd_host.specs.Core.{host_hear}
 use Rattle.rd_pending.proofs.Tame.{tame_take}
 use Rattle.rd_pending.specs.declared.calls.Taken.{Taken}
 use Rattle.rd_pending.specs.declared.calls.TakeNo.{TakeNo}
-use Rattle.rd_pending.specs.Table as table
 use Rattle.rd_pending.specs.Table.{TableState}
-use Rattle.rd_runs.proofs.Insides.{IsInside, Outside, all_refreshed_inside, hears_inside}
+use Rattle.rd_runs.proofs.Insides.{IsInside, Outside, hears_inside}
 use Rattle.rd_runs.proofs.KeysOn.{sent_on}
 use Rattle.rd_runs.proofs.Parts.{IsBehind, MayBe, Part, client_gets, client_hears_one, client_keeps_part, client_sends_one, done, hands_out, host_gets, host_hears_one, host_keeps_part, host_sends_one}
-use Rattle.rd_runs.proofs.Resting.{IsQuiet}
-use Rattle.rd_runs.proofs.Standing.{needs_open, open_inside, shut_now}
+use Rattle.rd_runs.proofs.Standing.{open_inside}
 use Rattle.rd_runs.proofs.Together.{knows}
-use Rattle.rd_runs.proofs.TrafficLemmas.{Traffic, client_reads_here, client_writes_here, completes_here, host_reads_here, host_writes_here, no_traffic, traffic}
+use Rattle.rd_runs.proofs.TrafficLemmas.{Traffic, client_reads_here, client_writes_here, completes_here, host_reads_here, host_writes_here, traffic}
 use Rattle.rd_runs.proofs.WayLemmas.{one_read}
 use Rattle.rd_runs.specs.Premises.{RunPremises}
 use Rattle.rd_script.specs.declared.line.NumberedLine.{NumberedLine}
-use Rattle.rd_world.specs.Devices.{PrinterNames}
-use Rattle.rd_world.specs.Events.{deed_on, refreshing}
+use Rattle.rd_world.specs.Events.{deed_on}
 use Rattle.rd_world.specs.Hearing.{client_hears, with_client}
-use Rattle.rd_world.specs.Host.{HostSide, hears, host_heard, next_message, side_sends}
-use Rattle.rd_world.specs.Talk.{Deed, client_reads, client_writes, client_wrote, completes, host_read, host_writes, host_wrote, open_channel}
-use Rattle.rd_world.specs.World.{Asked, WayState, WorldState, with_deed}
+use Rattle.rd_world.specs.Host.{HostSide, hears, next_message, side_sends}
+use Rattle.rd_world.specs.Talk.{Deed, client_reads, client_writes, client_wrote, completes, host_read, open_channel}
+use Rattle.rd_world.specs.World.{Asked, WorldState, with_deed}
 use Rattle.rd_orders.proofs.Meeting.{behind_meets, heard_client, inside_traffic}
 use Rattle.rd_orders.proofs.MeetingLemmas.{host_reads_first}
-use Rattle.rd_orders.proofs.PhaseLemmas.{HostCame, IsGreeting}
+use Rattle.rd_orders.proofs.PhaseLemmas.{IsGreeting}
 use Rattle.rd_orders.specs.Orders.{DeclaresWritable}
 use Rattle.rd_opening.proofs.Rounds.{IsOfRound}
 use Rattle.rd_opening.proofs.TellingCounts.{counted, done_tellings, heard_greets, heard_tellings, one_telling, tellings}

@@ -1,8 +1,8 @@
 -- A channel opens by the rounds of its begin.
-use Rattle.std.proofs.Common.{◌≡◌, ◌∙◌, refl, sym, ap, subst, ℕ, ◌+◌, ◌≤◌, ◌&&◌, arith, Bool, true, false, not, List, [], ◌∷◌, ◌++◌, length, map, reverse, fold, Some, None, Option, is_some}
+use Rattle.std.proofs.Common.{◌≡◌, ◌∙◌, refl, sym, ap, subst, ℕ, ◌+◌, ◌&&◌, arith, Bool, true, false, not, List, [], ◌∷◌, length, map, reverse, fold, Some, None, Option, is_some}
 use Rattle.std.specs.Prelude.{filter, if◌then◌else◌}
 use Rattle.std.specs.List.{AllByRecursion}
-use Rattle.std.specs.Option.{IfSome, option_map_or}
+use Rattle.std.specs.Option.{IfSome}
 use Rattle.std.proofs.lemmas.List.{reverse-append}
 use Rattle.rd_base.specs.declared.journal.Key.{Key}
 use Rattle.rd_client.specs.Core.{Outgoing}
@@ -15,30 +15,29 @@ use Rattle.rd_pending.specs.Table as table
 use Rattle.rd_pending.specs.Table.{TableState}
 use Rattle.rd_runs.proofs.BelowLemmas.{channel_is}
 use Rattle.rd_runs.proofs.Insides.{all_refreshed_inside}
-use Rattle.rd_runs.proofs.Parts.{begins, done, reached_behind}
+use Rattle.rd_runs.proofs.Parts.{reached_behind}
 use Rattle.rd_runs.proofs.Resting.{IsQuiet}
 use Rattle.rd_runs.proofs.Standing.{is_off, shut_now}
 use Rattle.rd_runs.proofs.Together.{known}
 use Rattle.rd_runs.proofs.TrafficLemmas.{Traffic, no_traffic, traffic}
-use Rattle.rd_runs.specs.Moves.{Reached, ReachedWithin, after_move, happens}
+use Rattle.rd_runs.specs.Moves.{Reached, ReachedWithin, happens}
 use Rattle.rd_runs.specs.Premises.{RunPremises}
 use Rattle.rd_script.specs.declared.line.NumberedLine.{NumberedLine}
 use Rattle.rd_world.proofs.Written.{sound_side}
-use Rattle.rd_world.specs.Acts.{HasOpened, is_telling, notices_on, tellings_on}
+use Rattle.rd_world.specs.Acts.{HasOpened}
 use Rattle.rd_world.specs.Devices.{PrinterNames}
 use Rattle.rd_world.specs.Events as event
 use Rattle.rd_world.specs.Events.{act, client_has_message, host_has_message, is_channel_open, is_empty, is_enabled, refreshing}
 use Rattle.rd_world.specs.Host.{HostSide, next_message}
-use Rattle.rd_world.specs.HostDeeds.{side_of}
 use Rattle.rd_world.specs.Opening.{bare_lines}
 use Rattle.rd_world.specs.Recording.{client_id}
-use Rattle.rd_world.specs.Run.{Most, connects_on, declared_devices, is_quiet, rounds}
-use Rattle.rd_world.specs.Talk.{client_wrote, host_begins, host_wrote, is_request, notice_in, open_channel}
+use Rattle.rd_world.specs.Run.{Most, connects_on, declared_devices, is_quiet}
+use Rattle.rd_world.specs.Talk.{client_wrote, host_wrote, is_request, notice_in, open_channel}
 use Rattle.rd_world.specs.World.{WorldState}
 use Rattle.rd_orders.proofs.Meeting.{behind_meets, inside_traffic}
 use Rattle.rd_orders.proofs.PhaseLemmas.{IsGreeting, announces_greet}
 use Rattle.rd_orders.specs.Orders.{DeclaresWritable}
-use Rattle.rd_opening.proofs.Greeting.{IsOpening, OpeningFor, opening_step}
+use Rattle.rd_opening.proofs.Greeting.{IsOpening, opening_step}
 use Rattle.rd_opening.proofs.QuietLemmas.{both_ready, client_settled, heard_all, host_settled}
 use Rattle.rd_opening.proofs.Rounds.{rounds_reach}
 use Rattle.rd_opening.proofs.TellingCounts.{counted, reversed_tellings, tellings}

@@ -1,20 +1,19 @@
 -- Where neither end of the open channel has something to send or to read, both are ready, and neither owes a message.
-use Rattle.std.proofs.Common.{◌≡◌, ◌∙◌, refl, sym, ap, subst, ℕ, Bool, true, false, not, List, [], ◌∷◌, ◌++◌, map, reverse, Some, None, Option, append-nil}
-use Rattle.std.specs.Prelude.{◌&&◌}
+use Rattle.std.proofs.Common.{◌≡◌, ◌∙◌, refl, sym, ap, subst, ℕ, Bool, true, false, List, [], ◌∷◌, ◌++◌, map, reverse, Some, None, Option, append-nil}
 use Rattle.std.specs.List.{AllByRecursion}
 use Rattle.std.specs.Option.{option_map_or}
 use Rattle.std.proofs.lemmas.List.{append_cancel_right, reverse-reverse}
 use Rattle.rd_base.specs.declared.journal.Key.{Key}
 use Rattle.rd_chunk.proofs.CarrierLemmas.{carrier_one}
 use Rattle.rd_chunk.specs.Carrier.{IsMessage, carrier_of, carrier_stream}
-use Rattle.rd_client.specs.Core.{ClientCoreState, Outgoing}
+use Rattle.rd_client.specs.Core.{Outgoing}
 use Rattle.rd_client.specs.Events.{ClientStandsAt, IsTold, waiting_messages}
 use Rattle.rd_devices.specs.declared.list.Announce.{Announce}
 use Rattle.rd_hello.specs.Moves.{writes}
 use Rattle.rd_host.specs.Events.{HostStandsAt}
 use Rattle.rd_host.specs.Order as host
 use Rattle.rd_client.specs.Order.{ClientStanding, client_part, is_client_ready}
-use Rattle.rd_core.specs.Order.{IsStand, written_after}
+use Rattle.rd_core.specs.Order.{written_after}
 use Rattle.rd_hello.specs.declared.client.ClientState.{ClientState}
 use Rattle.rd_hello.specs.declared.client.ClientState.TheVariants as client_state
 use Rattle.rd_hello.specs.declared.host.HostState.{HostState}
@@ -31,7 +30,6 @@ use Rattle.rd_runs.specs.Premises.{RunPremises}
 use Rattle.rd_script.specs.declared.line.NumberedLine.{NumberedLine}
 use Rattle.rd_world.proofs.WayStreamLemmas.{first_of_one}
 use Rattle.rd_world.specs.Acts.{is_settled_client, is_settled_host}
-use Rattle.rd_world.specs.Events.{is_empty}
 use Rattle.rd_world.specs.Host.{HostSide, first_waiting, next_message}
 use Rattle.rd_world.specs.Opening.{bare_lines}
 use Rattle.rd_world.specs.Recording.{announced_of, client_stand, host_stand}

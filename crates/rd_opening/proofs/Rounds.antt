@@ -1,5 +1,5 @@
 -- What each part of a round keeps, rounds keep.
-use Rattle.std.proofs.Common.{◌≡◌, refl, sym, ap, subst, ℕ, zero, suc, ◌+◌, ◌≤◌, ◌&&◌, arith, Bool, true, false, List, [], ◌∷◌, length, map, fold, ◌++◌, Some, None, Option, Result, Ok, Err}
+use Rattle.std.proofs.Common.{◌≡◌, refl, ap, subst, ℕ, zero, suc, arith, Bool, true, false, List, [], ◌∷◌, length, map, fold, ◌++◌, Some, None, Option, Result, Ok, Err}
 use Rattle.std.specs.Prelude.{if◌then◌else◌, is_none, is_some}
 use Rattle.std.specs.Option.{IfSome, option_map_or}
 use Rattle.rd_base.specs.declared.journal.Key.{Key}
@@ -11,14 +11,14 @@ use Rattle.rd_pending.specs.Table as table
 use Rattle.rd_pending.specs.Table.{TableState}
 use Rattle.rd_runs.proofs.Parts.{IsBehind, MayBe, Part, client_gets, client_hears_one, client_keeps_part, client_sends_one, done, hands_out, host_gets, host_hears_one, host_keeps_part, host_sends_one, part_weight, reached_behind}
 use Rattle.rd_runs.proofs.Reaching.{both}
-use Rattle.rd_runs.specs.Moves.{IsOfLines, Reached, ReachedWithin, after_move, event_weight, happens, weight}
+use Rattle.rd_runs.specs.Moves.{IsOfLines, Reached, event_weight, happens}
 use Rattle.rd_script.specs.declared.line.NumberedLine.{NumberedLine}
 use Rattle.rd_world.specs.Events as event
 use Rattle.rd_world.specs.Events.{Event, act, is_enabled, is_read}
-use Rattle.rd_world.specs.Hearing.{all_take, client_handles, client_handles_all, client_handles_first, host_handles, host_handles_first, next_asked, takes_awaited, takes_from, takes_outcome}
+use Rattle.rd_world.specs.Hearing.{all_take, client_handles, client_handles_first, host_handles, host_handles_first, next_asked, takes_awaited, takes_from, takes_outcome}
 use Rattle.rd_world.specs.Host.{next_message, side_sends}
 use Rattle.rd_world.specs.Run.{all_client_sends, all_host_sends, client_reads_all, host_count, host_reads_all, is_quiet, rounds, when_enabled, while_enabled}
-use Rattle.rd_world.specs.World.{ApplicationState, Kept, WorldState, application_at, first_message, handling_by, having_read, host_sends, most_messages}
+use Rattle.rd_world.specs.World.{ApplicationState, Kept, WorldState, application_at, first_message, handling_by, host_sends, most_messages}
 
 -- what passes in a round: each end sends, gets bytes and hears messages, and applications take outcomes
 abbrev pub IsOfRound : Part → Type 0

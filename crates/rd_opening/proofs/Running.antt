@@ -1,18 +1,17 @@
 -- In every run each channel that began has opened.
-use Rattle.std.proofs.Common.{◌≡◌, ◌≢◌, ◌∙◌, refl, sym, ap, subst, inl, inr, ℕ, zero, suc, ◌+◌, ◌≤◌, ◌&&◌, arith, Bool, true, false, List, [], ◌∷◌, ◌++◌, length, map, fold, Some, None, Option, append_assoc}
+use Rattle.std.proofs.Common.{◌≡◌, ◌∙◌, refl, sym, ap, subst, inl, inr, ℕ, ◌+◌, ◌≤◌, ◌&&◌, arith, Bool, true, false, List, [], ◌∷◌, ◌++◌, length, map, Some, None, Option, append_assoc}
 use Rattle.std.specs.Prelude.{if◌then◌else◌}
 use Rattle.std.specs.Option.{IfSome, option_and_then, option_map_or}
 use Rattle.std.proofs.lemmas.Bool.{cases_eq}
 use Rattle.rd_base.specs.declared.journal.Key.{Key}
-use Rattle.rd_controls.proofs.Acting.{added_unseen, all_dropped, all_refreshed, refreshed_unseen, removed_unseen}
+use Rattle.rd_controls.proofs.Acting.{added_unseen, all_dropped, refreshed_unseen, removed_unseen}
 use Rattle.rd_controls.proofs.Resting.{event_grows, then_more}
 use Rattle.rd_controls.proofs.Unseen.{Seen, all_take_unseen, event_unseen}
 use Rattle.rd_controls.proofs.Walking.{does_keeps, rounds_keep, settled_keeps}
 use Rattle.rd_printer.specs.declared.notice.Notice.{Notice}
 use Rattle.rd_runs.proofs.BeginningLemmas.{Unset, begins_as}
-use Rattle.rd_runs.specs.Moves.{IsOfLines, MayPass, Reached, ReachedWithin, RunMove, after_move, draws, event_weight, happens, idle, queues, weight}
+use Rattle.rd_runs.specs.Moves.{IsOfLines, MayPass, ReachedWithin, RunMove, after_move, draws, event_weight, happens, idle, queues, weight}
 use Rattle.rd_runs.specs.Premises.{RunPremises}
-use Rattle.rd_script.specs.declared.line.Errand.{Errand}
 use Rattle.rd_script.specs.declared.line.Line.{Line}
 use Rattle.rd_script.specs.declared.line.Line.TheVariants as line
 use Rattle.rd_script.specs.declared.line.NumberedLine.{NumberedLine}
@@ -20,7 +19,7 @@ use Rattle.rd_station.specs.Station.{StationState}
 use Rattle.rd_world.proofs.PlayingLemmas.{may_connect}
 use Rattle.rd_world.specs.Acts.{HasOpened, Opens}
 use Rattle.rd_world.specs.declared.device.SessionDevice.{SessionDevice}
-use Rattle.rd_world.specs.Devices.{Declared, PrinterNames}
+use Rattle.rd_world.specs.Devices.{Declared}
 use Rattle.rd_world.specs.Events as event
 use Rattle.rd_world.specs.Events.{Event, act, cutting, dropping, is_channel_open, is_enabled, refreshing}
 use Rattle.rd_world.specs.Opening.{bare_lines}

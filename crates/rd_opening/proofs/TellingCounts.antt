@@ -1,5 +1,5 @@
 -- How many lists and removals a client has to send, and that a host that hears what opens a channel says neither a request nor a notice.
-use Rattle.std.proofs.Common.{◌≡◌, ◌∙◌, refl, sym, ap, subst, inl, inr, ℕ, suc, ◌+◌, ◌==◌, ◌||◌, arith, Bool, true, false, List, [], ◌∷◌, ◌++◌, length, map, reverse, fold, Some, None, Option, Result, Ok, Err, append-nil, append_assoc}
+use Rattle.std.proofs.Common.{◌≡◌, ◌∙◌, refl, ap, inl, inr, ℕ, ◌+◌, ◌==◌, ◌||◌, arith, Bool, true, false, List, [], ◌∷◌, ◌++◌, length, map, reverse, fold, Some, None, Option, Result, Ok, Err}
 use Rattle.std.specs.Prelude.{filter, if◌then◌else◌}
 use Rattle.std.specs.List.{AllByRecursion}
 use Rattle.std.specs.Option.{option_to_list}
@@ -29,7 +29,6 @@ use Rattle.rd_hello.specs.declared.hello.Hello.{Hello}
 use Rattle.rd_hello.specs.declared.hello.Hello.TheVariants as hello
 use Rattle.rd_hello.specs.Hello.{hello_bytes}
 use Rattle.rd_hello.specs.Moves.{is_of}
-use Rattle.rd_hello.specs.Rows.{OrderRow}
 use Rattle.rd_host.specs.Core as host
 use Rattle.rd_host.specs.Core.{HostCoreState}
 use Rattle.rd_host.specs.declared.act.Act.{Act}

@@ -1,5 +1,5 @@
 -- The ids of the devices that a script's lines declare have room in their fields, and so have their names.
-use Rattle.std.proofs.Common.{◌≡◌, ◌∙◌, refl, ap, subst, ℕ, ◌+◌, ◌-◌, ◌<◌, ◌≤◌, ◌^◌, ◌==◌, arith, Bool, true, false, cond, List, [], ◌∷◌, ◌++◌, length, map, replicate, Option, Some, None, Result, Ok, Err, length-append}
+use Rattle.std.proofs.Common.{◌≡◌, refl, ap, subst, ℕ, ◌+◌, ◌-◌, ◌<◌, ◌≤◌, ◌^◌, ◌==◌, arith, Bool, true, false, cond, List, [], ◌∷◌, ◌++◌, length, replicate, Option, Some, None, Result, Ok, Err, length-append}
 use Rattle.std.specs.Prelude.{fold, nat_le, not, if◌then◌else◌}
 use Rattle.std.specs.List.{AllByRecursion}
 use Rattle.std.specs.Ordering.{nat_cmp}
@@ -8,7 +8,6 @@ use Rattle.std.proofs.lemmas.Bool.{and_parts, leb-true}
 use Rattle.std.proofs.lemmas.List.{length-replicate}
 use Rattle.std.proofs.lemmas.List.Elements.{All-cons, All-nil}
 use Rattle.rd_client.specs.Events.{AreWritable, IsWritableDevice}
-use Rattle.rd_devices.specs.declared.list.Announce.{Announce}
 use Rattle.rd_dirinfo.specs.Paths.{Names}
 use Rattle.rd_runs.proofs.RoomLemmas.{all_inserted}
 use Rattle.rd_script.proofs.RowLemmas.{ok_same, then_ok}
@@ -16,7 +15,7 @@ use Rattle.rd_script.specs.Numbers.{number_word}
 use Rattle.rd_script.specs.Row.{Row, done, given, met_words, test, words_of, ◌>>=◌}
 use Rattle.rd_script.specs.Rows.{act_row, add_row, application_row, at_add, at_remove, at_row, cache_add_row, cache_delete_row, cache_rename_row, cache_row, cache_update_row, channels_row, clock_row, control_line_row, control_row, create_numbers, create_row, devices_row, dir_row, do_row, drive_row, drivefold_row, file_row, fill_row, folder_row, form_row, keyword_row, line_row, lock_row, new_device, notice_row, notify_row, open_row, piece_row, printer_row, query_row, read_row, real_row, remove_row, seed_row, set_row, setvolume_row, verb_row, volume_row, workers_row, write_row}
 use Rattle.rd_script.specs.Said.{Said}
-use Rattle.rd_script.specs.Script.{BadLine, Reading, TextLine, bad_line, fits, go_on, is_application, is_skipped, line_of, lines_of, read_all, reading, reading_at_start, script_of, script_read, skipping, step, taken}
+use Rattle.rd_script.specs.Script.{BadLine, Reading, TextLine, bad_line, fits, go_on, is_application, is_skipped, line_of, lines_of, read_all, reading_at_start, script_of, script_read, skipping, step, taken}
 use Rattle.rd_script.specs.declared.keyword.Act.{Act}
 use Rattle.rd_script.specs.declared.keyword.Act.TheVariants as act
 use Rattle.rd_script.specs.declared.keyword.Keyword.{Keyword}

@@ -1,15 +1,11 @@
 -- In each world that lines come to, what a client read and wrote on each channel is in order, and on the open one it stands there.
-use Rattle.std.proofs.Common.{◌≡◌, ◌≢◌, ◌∙◌, refl, sym, ap, subst, inl, inr, ℕ, ◌+◌, ◌<◌, ◌==◌, ◌&&◌, arith, Bool, true, false, not, List, [], ◌∷◌, ◌++◌, map, reverse, fold, Some, None, Option, is_ok}
-use Rattle.std.specs.Prelude.{if◌then◌else◌}
-use Rattle.std.specs.Map.{lookup}
-use Rattle.std.specs.Ordering.{nat_cmp}
-use Rattle.std.specs.BTreeMap.{is_at}
+use Rattle.std.proofs.Common.{◌≡◌, ◌≢◌, ◌∙◌, refl, sym, ap, subst, inl, inr, ℕ, ◌+◌, ◌<◌, ◌==◌, ◌&&◌, arith, Bool, true, false, not, List, [], ◌∷◌, ◌++◌, map, reverse, fold, Some, None, Option}
 use Rattle.std.specs.Option.{IfSome, option_map_or}
 use Rattle.std.proofs.lemmas.Bool.{cases_eq}
 use Rattle.rd_base.specs.declared.journal.Key.{Key}
 use Rattle.rd_client.specs.Core as client
 use Rattle.rd_client.specs.Core.{ClientCoreState, Outgoing, announces, client_hear, has_device, is_gone, is_present, may_be_asked, refresh}
-use Rattle.rd_client.specs.Events.{AreWritable, waiting_messages}
+use Rattle.rd_client.specs.Events.{AreWritable}
 use Rattle.rd_client.specs.Order.{ClientOrder}
 use Rattle.rd_devices.specs.declared.list.Announce.{Announce}
 use Rattle.rd_hello.specs.declared.client.ClientState.TheVariants as client_state
@@ -17,7 +13,7 @@ use Rattle.rd_hello.specs.Moves.{Move, reads, writes}
 use Rattle.rd_runs.proofs.BeginningLemmas.{Unset, begins_as}
 use Rattle.rd_runs.proofs.Insides.{AreOwn, IsInside, Outside, added_inside, all_dropped_inside, all_refreshed_inside, applied_inside, hears_inside, put_inside, removed_inside, stationed}
 use Rattle.rd_runs.proofs.KeysOn.{all_dropped_client, sent_on}
-use Rattle.rd_runs.proofs.Parts.{IsBehind, MayBe, Part, accepts, adds_one, announced_by, applies_one, begins, by_parts, client_gets, client_hears_one, client_keeps_part, client_sends_one, collects_one, cut_by, done, draws_one, ends, hands_out, host_gets, host_hears_one, host_keeps_part, host_sends_one, idle_one, queues_one, refreshed_by, refuses, removes_one, takes_one, tells_one, told_added, told_removed, tries_one}
+use Rattle.rd_runs.proofs.Parts.{IsBehind, MayBe, Part, accepts, adds_one, applies_one, begins, by_parts, client_gets, client_hears_one, client_keeps_part, client_sends_one, collects_one, done, draws_one, ends, hands_out, host_gets, host_hears_one, host_keeps_part, host_sends_one, idle_one, queues_one, refreshed_by, refuses, removes_one, takes_one, tells_one, told_added, told_removed, tries_one}
 use Rattle.rd_runs.proofs.Reaching.{both}
 use Rattle.rd_runs.proofs.SizeLemmas.{ClientFits}
 use Rattle.rd_runs.proofs.Standing.{needs_open, open_inside}
@@ -33,11 +29,11 @@ use Rattle.rd_world.specs.Events.{completion_message, deed_on, dropping, is_read
 use Rattle.rd_world.specs.Hearing.{client_hears, with_client}
 use Rattle.rd_world.specs.Opening.{bare_lines}
 use Rattle.rd_world.specs.Recording.{announced_of}
-use Rattle.rd_world.specs.Run.{declared_devices, world_of}
+use Rattle.rd_world.specs.Run.{declared_devices}
 use Rattle.rd_world.specs.Talk.{Deed, adds, client_moves, client_read, client_reads, client_writes, completes, host_begins, host_wrote, is_removed, open_channel, removes, stores, until_begin}
-use Rattle.rd_world.specs.World.{WayState, WorldState, with_deed, with_station}
+use Rattle.rd_world.specs.World.{WorldState, with_deed, with_station}
 use Rattle.rd_orders.proofs.ClientOrders.{ClientNow, adds_now, begins_now, completes_now, gone_had, heard_now, hears_now, now_ordered, put_now, refreshed_gone, refreshes_now, removes_now, sends_now}
-use Rattle.rd_orders.proofs.Marked.{behind_marked, refreshed_marked}
+use Rattle.rd_orders.proofs.Marked.{refreshed_marked}
 use Rattle.rd_orders.proofs.Meeting.{IsKnown, Meets, announced_client, applied_client, behind_known, behind_meets, collects_ready, cut_client, heard_client, kept_ready, none_waits, put_client, ready_now, refreshed_ends, some_say}
 use Rattle.rd_orders.proofs.MeetingLemmas.{client_reads_first}
 

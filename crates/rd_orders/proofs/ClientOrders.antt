@@ -1,15 +1,9 @@
 -- In each world that lines come to, what a client read and wrote on each channel is in order, and it stands somewhere on the open one.
-use Rattle.std.proofs.Common.{◌≡◌, ◌≢◌, ◌⊎◌, ◌∙◌, refl, sym, ap, subst, inl, inr, ℕ, ◌+◌, ◌<◌, ◌==◌, ◌&&◌, ◌||◌, arith, Bool, true, false, not, List, [], ◌∷◌, ◌++◌, map, reverse, fold, Some, None, Option, Result, Ok, Err, is_ok}
-use Rattle.std.specs.Prelude.{if◌then◌else◌, IsSome, IsTrue}
-use Rattle.std.specs.List.{AllByRecursion, cons_option, list_any}
-use Rattle.std.specs.Option.{IfSome, option_map_or}
-use Rattle.std.proofs.lemmas.Bool.{cases_eq}
+use Rattle.std.proofs.Common.{◌≡◌, ◌∙◌, refl, sym, ap, subst, inl, inr, ℕ, ◌&&◌, ◌||◌, arith, Bool, true, false, List, [], ◌∷◌, ◌++◌, map, reverse, Some, None, Option, Result, Ok, Err, is_ok}
+use Rattle.std.specs.Prelude.{if◌then◌else◌, IsSome}
+use Rattle.std.specs.List.{AllByRecursion, list_any}
 use Rattle.std.proofs.lemmas.List.{append-nil, reverse-append}
-use Rattle.rd_base.specs.declared.journal.Key.{Key}
-use Rattle.rd_base.specs.Layout.{met}
-use Rattle.rd_base.specs.Position.{at_start}
 use Rattle.rd_client.proofs.OrderLemmas.{event_in_order}
-use Rattle.rd_client.proofs.OwnLemmas.{completion_met}
 use Rattle.rd_client.specs.Core as client
 use Rattle.rd_client.specs.Core.{AreDevices, ClientCoreState, ClientDevice, HostSays, IsClientReady, MayTellAdded, MayTellRemoved, Outgoing, announces, becomes_ready, client_begin, client_hear, client_hear_made, client_opened, client_side, directs, hears, is_device, is_gone, has_device, listed, may_be_asked, notices, plain, refresh, refreshed, refreshes, replies, requests, sends, tells_added, tells_removed, with_outgoing}
 use Rattle.rd_client.specs.declared.heard.Heard.{Heard}
@@ -26,9 +20,6 @@ use Rattle.rd_hello.specs.declared.client.ClientState.{ClientState}
 use Rattle.rd_hello.specs.declared.client.ClientState.TheVariants as client_state
 use Rattle.rd_hello.specs.declared.end_fault.EndFault.{EndFault}
 use Rattle.rd_hello.specs.Moves.{Move, reads, writes}
-use Rattle.rd_irp.specs.Completion.{completion_head}
-use Rattle.rd_irp.specs.Fits.{kind_of}
-use Rattle.rd_orders.proofs.Marked.{MarksAre}
 use Rattle.rd_orders.proofs.Meeting.{IsHeardTo, IsPut}
 use Rattle.rd_orders.proofs.PhaseLemmas.{AsksReady}
 

@@ -1,6 +1,6 @@
 -- In each world that lines come to, what a host read and wrote on each channel is in order, and on the open one it stands there.
-use Rattle.std.proofs.Common.{◌≡◌, ◌≢◌, ◌∙◌, refl, sym, ap, subst, inl, inr, ℕ, ◌+◌, ◌<◌, ◌==◌, arith, Bool, true, false, List, [], ◌∷◌, ◌++◌, map, reverse, fold, Some, None, Option, Result, Ok, Err, is_ok, is_some, append_assoc}
-use Rattle.std.specs.Prelude.{if◌then◌else◌, filter, IsOk}
+use Rattle.std.proofs.Common.{◌≡◌, ◌≢◌, ◌∙◌, refl, sym, ap, subst, inl, inr, ℕ, ◌+◌, ◌<◌, arith, Bool, true, false, List, [], ◌∷◌, ◌++◌, map, reverse, fold, Some, None, Option, Result, Ok, Err, is_ok, is_some, append_assoc}
+use Rattle.std.specs.Prelude.{if◌then◌else◌, IsOk}
 use Rattle.std.specs.Map.{remove_entry}
 use Rattle.std.specs.Ordering.{nat_cmp}
 use Rattle.std.specs.BTreeMap.{is_at}
@@ -15,10 +15,8 @@ use Rattle.rd_client.specs.Order.{is_client_ready}
 use Rattle.rd_hello.specs.declared.client.ClientState.{ClientState}
 use Rattle.rd_hello.specs.declared.client.ClientState.TheVariants as client_state
 use Rattle.rd_hello.specs.declared.end_fault.EndFault.{EndFault}
-use Rattle.rd_hello.specs.declared.host.HostState.{HostState}
-use Rattle.rd_hello.specs.declared.host.HostState.TheVariants as host_state
 use Rattle.rd_hello.specs.Moves.{Move, reads, writes}
-use Rattle.rd_host.specs.Core.{HostCoreState, IsHostReady, host_begin, host_hear, host_send}
+use Rattle.rd_host.specs.Core.{HostCoreState, IsHostReady, host_hear, host_send}
 use Rattle.rd_host.specs.declared.act.Act.{Act}
 use Rattle.rd_host.specs.declared.act.Act.TheVariants as act
 use Rattle.rd_host.specs.Order.{HostOrder}
@@ -32,8 +30,7 @@ use Rattle.rd_pending.proofs.Tame.{newest}
 use Rattle.rd_pending.specs.declared.calls.SubmitNo.{SubmitNo}
 use Rattle.rd_pending.specs.declared.calls.Taken.{Taken}
 use Rattle.rd_pending.specs.declared.calls.TakeNo.{TakeNo}
-use Rattle.rd_pending.specs.History as call
-use Rattle.rd_pending.specs.History.{Call, after, lives_before}
+use Rattle.rd_pending.specs.History.{after, lives_before}
 use Rattle.rd_pending.specs.Outcomes.{Accepted}
 use Rattle.rd_pending.specs.Table as table
 use Rattle.rd_pending.specs.Table.{TableState, accept, submit_refusal}
@@ -52,18 +49,18 @@ use Rattle.rd_runs.specs.Premises.{RunPremises}
 use Rattle.rd_script.specs.declared.line.NumberedLine.{NumberedLine}
 use Rattle.rd_station.specs.Station.{StationState}
 use Rattle.rd_world.proofs.Calls.{neutral_reading, table_of}
-use Rattle.rd_world.proofs.Written.{Matches, Written, requests_on, sound_side, written}
+use Rattle.rd_world.proofs.Written.{Matches, requests_on, sound_side, written}
 use Rattle.rd_world.specs.Joining.{accepted}
 use Rattle.rd_world.specs.declared.device.SessionDevice.{SessionDevice}
 use Rattle.rd_world.specs.Devices.{Declared, PrinterNames}
-use Rattle.rd_world.specs.Events.{completion_message, deed_on, dropping, is_channel_open, refreshing}
-use Rattle.rd_world.specs.Host.{HostSide, hears, host_heard, next_message, sent_from, side_sends}
-use Rattle.rd_world.specs.HostDeeds.{calls_by, calls_in, calls_of, sending, side_of}
+use Rattle.rd_world.specs.Events.{deed_on, dropping, is_channel_open, refreshing}
+use Rattle.rd_world.specs.Host.{HostSide, hears, host_heard, next_message, side_sends}
+use Rattle.rd_world.specs.HostDeeds.{calls_in, calls_of, sending, side_of}
 use Rattle.rd_world.specs.Opening.{bare_lines}
 use Rattle.rd_world.specs.Recording.{announced_of, client_id}
-use Rattle.rd_world.specs.Run.{declared_devices, world_of}
-use Rattle.rd_world.specs.Talk.{Deed, adds, client_reads, client_writes, client_wrote, completes, host_begins, host_moves, host_read, host_reads, host_writes, host_wrote, is_request, open_channel, removes, request_in, stores}
-use Rattle.rd_world.specs.World.{Asked, WayState, WorldState, with_deed, with_station}
+use Rattle.rd_world.specs.Run.{declared_devices}
+use Rattle.rd_world.specs.Talk.{Deed, adds, client_reads, client_writes, client_wrote, completes, host_begins, host_moves, host_read, host_reads, host_writes, open_channel, removes, request_in, stores}
+use Rattle.rd_world.specs.World.{Asked, WorldState, with_deed, with_station}
 use Rattle.rd_orders.proofs.HostOrders.{HearsOf, HostNow, host_asks_now, host_begins_now, host_hears_now, host_now_ordered, host_sends_now, host_table_now, host_tells_now}
 use Rattle.rd_orders.proofs.Meeting.{IsKnown, Meets, behind_known, behind_meets, served_is}
 use Rattle.rd_orders.proofs.MeetingLemmas.{MeetsAs, host_reads_first, ready_is}

@@ -1,19 +1,16 @@
 -- A host stands in the order of its messages, event by event, and each reply that it gives is the next one that is due.
-use Rattle.std.proofs.Common.{◌≡◌, ◌∙◌, refl, sym, ap, subst, ℕ, ◌==◌, Bool, true, false, List, [], ◌∷◌, ◌++◌, map, reverse, fold, Some, None, Option, Result, Ok, Err, append_assoc, eq-eqb, is_some, length, ◌+◌}
-use Rattle.std.specs.Prelude.{if◌then◌else◌, IsOk, IsSome}
+use Rattle.std.proofs.Common.{◌≡◌, ◌∙◌, refl, sym, ap, subst, ℕ, ◌==◌, Bool, true, false, List, [], ◌∷◌, ◌++◌, reverse, fold, Some, Option, Ok, append_assoc, eq-eqb, is_some, length, ◌+◌}
+use Rattle.std.specs.Prelude.{if◌then◌else◌, IsSome}
 use Rattle.std.specs.Map.{keys_of, lookup}
 use Rattle.std.specs.Ordering.{nat_cmp}
 use Rattle.std.specs.BTreeMap.{is_at}
 use Rattle.std.specs.List.Sorted.{IsStrictlySortedBy}
-use Rattle.std.proofs.lemmas.List.{append-nil, reverse-append}
+use Rattle.std.proofs.lemmas.List.{reverse-append}
 use Rattle.rd_base.specs.declared.status.Status.{Status}
-use Rattle.rd_base.specs.Layout.{met}
-use Rattle.rd_base.specs.Position.{at_start}
 use Rattle.rd_base.specs.Statuses as status
 use Rattle.rd_core.proofs.OrderLemmas.{stand_onward}
 use Rattle.rd_devices.specs.declared.list.Announce.{Announce}
 use Rattle.rd_devices.specs.declared.reply.DeviceReply.{DeviceReply}
-use Rattle.rd_hello.specs.declared.end_fault.EndFault.{EndFault}
 use Rattle.rd_hello.specs.Moves.{Move, reads, writes}
 use Rattle.rd_host.proofs.OrderLemmas.{event_stands, stands_at_first}
 use Rattle.rd_host.specs.Core as host
@@ -23,7 +20,6 @@ use Rattle.rd_host.specs.declared.act.Act.TheVariants as act
 use Rattle.rd_host.specs.Events.{HostEvent, HostEventStep, HostStandsAt, MayAsk, asks, calls, due_after, due_given, host_event_moves}
 use Rattle.rd_host.specs.Order.{HostOrder, HostStanding, Replying, after_act, host_at_first, host_part, none_due, stand_after, with_device_reply, with_reply, without_device}
 use Rattle.rd_host.specs.Served.{code_for}
-use Rattle.rd_irp.specs.Request.{request_head}
 use Rattle.rd_pending.specs.Table as table
 use Rattle.rd_pending.specs.Table.{TableState}
 use Rattle.rd_printer.specs.declared.notice.Notice.{Notice}

@@ -1,6 +1,6 @@
 -- The devices that have a life in a host's table are those that its replies say have one.
-use Rattle.std.proofs.Common.{◌≡◌, ◌≢◌, ◌∙◌, refl, sym, ap, subst, inl, inr, ℕ, suc, ◌+◌, ◌==◌, ◌&&◌, ◌||◌, arith, Bool, true, false, not, cond, List, [], ◌∷◌, ◌++◌, length, Some, None, Option, Result, Ok, Err, eqb-true, ne_eqb, eq-eqb, is_some, is_ok, length-append}
-use Rattle.std.specs.Prelude.{filter, fold, if◌then◌else◌, nat_le, is_none}
+use Rattle.std.proofs.Common.{◌≡◌, ◌∙◌, refl, sym, ap, subst, inl, inr, ℕ, suc, ◌+◌, ◌==◌, ◌&&◌, ◌||◌, arith, Bool, true, false, not, cond, List, [], ◌∷◌, ◌++◌, length, Some, None, Option, Result, Ok, Err, eqb-true, ne_eqb, eq-eqb, is_some, is_ok, length-append}
+use Rattle.std.specs.Prelude.{filter, nat_le}
 use Rattle.std.specs.List.{list_any}
 use Rattle.std.specs.List.Sorted.{IsStrictlySortedBy}
 use Rattle.std.specs.Map.{keys_of, lookup, remove_entry}
@@ -9,12 +9,10 @@ use Rattle.std.specs.BTreeMap.{insert_entry, is_at}
 use Rattle.std.specs.declared.cmp.Ordering.{Ordering}
 use Rattle.std.specs.declared.cmp.Ordering.TheVariants.{Equal, Greater, Less}
 use Rattle.std.proofs.lemmas.Bool.{cases_eq}
-use Rattle.std.proofs.lemmas.Bool.Decides.{nat_tests}
 use Rattle.rd_base.specs.declared.status.Status.{Status}
 use Rattle.rd_base.specs.Limits.{max_devices}
 use Rattle.rd_base.specs.Statuses as status
 use Rattle.rd_devices.specs.declared.list.Announce.{Announce}
-use Rattle.rd_devices.specs.declared.reply.DeviceReply.{DeviceReply}
 use Rattle.rd_host.specs.Core as host
 use Rattle.rd_host.specs.Order.{Replying, with_device_reply, with_reply, without_device}
 use Rattle.rd_host.specs.Served.{code_for, is_served_type}
@@ -28,7 +26,7 @@ use Rattle.rd_pending.specs.declared.calls.LiveNo.TheVariants as live_no
 use Rattle.rd_pending.specs.declared.calls.Outcome.TheVariants.{Done}
 use Rattle.rd_pending.specs.Table as table
 use Rattle.rd_pending.specs.Table.{Fate, TableState, Untaken, freed, known, life_of, live_refusal, max_lives, untaken_at, with_fate}
-use Rattle.rd_world.specs.Host.{HostSide, admits, forgets, live_code, lived}
+use Rattle.rd_world.specs.Host.{HostSide, admits, live_code}
 
 -- ---- lists of ids
 
@@ -82,7 +80,7 @@ has_without e d (x ∷ xs) = by (x == d) refl (x == e) refl (has_without e d xs)
         and_none false = refl
     by true f false g later = later
     by false f true g later =
-        let other : (e == d) ≡ false = ne_eqb e d (λ same. absurd (cc (f, eqb-true x e g, same))) in rw (g, other) refl
+        let other : (e == d) ≡ false = ne_eqb e d (λ same. absurd (cc (f, g, same))) in rw (g, other) refl
     by false f false g later = rw g later
 
 apart_without : (d : ℕ) (xs : List ℕ) → Apart xs → Apart (without d xs)

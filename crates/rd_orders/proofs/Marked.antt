@@ -1,5 +1,5 @@
 -- In each world that lines come to, a client's marks are what was done: a device is marked that was removed and not added since.
-use Rattle.std.proofs.Common.{◌≡◌, ◌∙◌, refl, sym, ap, subst, ℕ, ◌==◌, ◌&&◌, ◌||◌, arith, Bool, true, false, not, List, [], ◌∷◌, ◌++◌, map, fold, Some, None, Option, Result, Ok, Err}
+use Rattle.std.proofs.Common.{◌≡◌, ◌∙◌, refl, sym, ap, subst, ℕ, ◌==◌, ◌&&◌, ◌||◌, arith, Bool, true, false, not, List, [], ◌∷◌, map, fold, Some, None, Option, Ok}
 use Rattle.std.specs.Prelude.{filter_map, if◌then◌else◌}
 use Rattle.std.specs.List.{AllByRecursion}
 use Rattle.std.specs.Option.{option_map_or}
@@ -14,17 +14,16 @@ use Rattle.rd_controls.proofs.ReadyLemmas.{client_kept}
 use Rattle.rd_controls.proofs.Unseen.{Seen, Unseen, heard_unseen, mark, option_unseen, seen, stationed}
 use Rattle.rd_devices.specs.declared.list.Announce.{Announce}
 use Rattle.rd_runs.proofs.BeginningLemmas.{Unset, begins_as}
-use Rattle.rd_runs.proofs.Parts.{IsBehind, MayBe, Part, accepts, adds_one, announced_by, applies_one, begins, by_parts, client_gets, client_hears_one, client_keeps_part, client_sends_one, collects_one, cut_by, done, draws_one, ends, hands_out, host_gets, host_hears_one, host_keeps_part, host_sends_one, idle_one, queues_one, refreshed_by, refuses, removes_one, takes_one, tells_one, told_added, told_removed, tries_one}
+use Rattle.rd_runs.proofs.Parts.{IsBehind, MayBe, Part, accepts, adds_one, applies_one, begins, by_parts, client_gets, client_hears_one, client_keeps_part, client_sends_one, collects_one, done, draws_one, ends, hands_out, host_gets, host_hears_one, host_keeps_part, host_sends_one, idle_one, queues_one, refreshed_by, refuses, removes_one, takes_one, tells_one, told_added, told_removed, tries_one}
 use Rattle.rd_script.specs.declared.line.NumberedLine.{NumberedLine}
 use Rattle.rd_station.specs.Station as station
 use Rattle.rd_station.specs.Station.{StationState}
 use Rattle.rd_world.specs.Acts.{act_by}
 use Rattle.rd_world.specs.Control.{Act, added, removed}
 use Rattle.rd_world.specs.declared.device.SessionDevice.{SessionDevice}
-use Rattle.rd_world.specs.Devices.{Declared, PrinterNames, device_cut, printer_data}
+use Rattle.rd_world.specs.Devices.{PrinterNames, device_cut, printer_data}
 use Rattle.rd_world.specs.Events.{came_of, deed_on, dropping, refreshing}
-use Rattle.rd_world.specs.Hearing.{heard_by_client, with_client}
-use Rattle.rd_world.specs.Run.{world_of}
+use Rattle.rd_world.specs.Hearing.{with_client}
 use Rattle.rd_world.specs.Talk.{Deed, adds, client_reads, client_writes, completes, host_begins, host_ends, host_reads, host_writes, is_removed, removes, stores, submits, takes, tells}
 use Rattle.rd_world.specs.World.{WorldState, with_deed, with_station}
 

@@ -1,5 +1,5 @@
 -- In each world that lines come to, nothing was wrong at either end of the open channel, and what is on its way there is what it should be.
-use Rattle.std.proofs.Common.{◌≡◌, ◌≢◌, ◌⊎◌, ◌∙◌, refl, sym, ap, subst, inl, inr, ℕ, ◌+◌, ◌<◌, ◌≤◌, ◌^◌, ◌&&◌, ◌==◌, arith, Bool, true, false, not, List, [], ◌∷◌, ◌++◌, length, map, reverse, fold, Some, None, Option, Result, Ok, Err, is_some, is_ok}
+use Rattle.std.proofs.Common.{◌≡◌, ◌≢◌, ◌⊎◌, ◌∙◌, refl, sym, ap, subst, inl, inr, ℕ, ◌+◌, ◌<◌, ◌≤◌, ◌^◌, ◌&&◌, ◌==◌, arith, Bool, true, false, not, List, [], ◌∷◌, ◌++◌, length, map, fold, Some, None, Option, Result, Ok, Err, is_some, is_ok}
 use Rattle.std.specs.Prelude.{filter, if◌then◌else◌, cond}
 use Rattle.std.specs.List.{AllByRecursion}
 use Rattle.std.specs.Map.{lookup, remove_entry}
@@ -12,8 +12,7 @@ use Rattle.std.proofs.lemmas.List.Elements.{recursion_from_All}
 use Rattle.rd_base.specs.declared.journal.Key.{Key}
 use Rattle.rd_base.specs.declared.status.Status.{Status}
 use Rattle.rd_base.specs.Layout.{met}
-use Rattle.rd_base.specs.Limits.{max_devices}
-use Rattle.rd_base.specs.Position.{Position, at_start}
+use Rattle.rd_base.specs.Position.{at_start}
 use Rattle.rd_base.specs.Statuses as status
 use Rattle.rd_base.specs.Statuses.{no_such_device}
 use Rattle.rd_client.proofs.KeptLemmas.{same_announces, some_list_fits}
@@ -24,8 +23,7 @@ use Rattle.rd_client.specs.Core as client
 use Rattle.rd_client.specs.Core.{ClientCoreState, ClientDevice, Outgoing, announce_in, announces, client_hear, is_device, is_present, listed, listed_one, plain, refresh}
 use Rattle.rd_client.specs.declared.heard.Heard.{Heard}
 use Rattle.rd_client.specs.declared.heard.Heard.TheVariants.{Nothing, Ask, Print}
-use Rattle.rd_client.specs.Events.{AreWritable, IsWritableDevice, waiting_messages, without_data}
-use Rattle.rd_client.specs.Order.{is_client_ready}
+use Rattle.rd_client.specs.Events.{AreWritable, IsWritableDevice, without_data}
 use Rattle.rd_controls.proofs.ReadyLemmas.{client_kept}
 use Rattle.rd_core.specs.Core.{CoreState}
 use Rattle.rd_core.specs.Hearing as hearing
@@ -62,7 +60,6 @@ use Rattle.rd_pending.proofs.MapLemmas.{free_within}
 use Rattle.rd_pending.specs.declared.calls.Taken.{Taken}
 use Rattle.rd_pending.specs.declared.calls.TakeNo.{TakeNo}
 use Rattle.rd_pending.specs.declared.calls.SubmitNo.{SubmitNo}
-use Rattle.rd_pending.specs.declared.calls.Target.{Target}
 use Rattle.rd_pending.specs.Table as table
 use Rattle.rd_pending.specs.Table.{TableState, accept, device_in, file_in, max_slots, next_id, submit_refusal}
 use Rattle.rd_printer.specs.Notice.{notice_bytes}
@@ -79,7 +76,7 @@ use Rattle.rd_runs.proofs.KeysOnLemmas.{collected_on}
 use Rattle.rd_runs.proofs.Parts.{IsBehind, MayBe, Part, by_parts, accepts, adds_one, announced_by, applies_one, begins, client_gets, client_hears_one, client_keeps_part, client_sends_one, collects_one, cut_by, done, draws_one, ends, hands_out, host_gets, host_hears_one, host_keeps_part, host_sends_one, idle_one, queues_one, refreshed_by, refuses, removes_one, takes_one, tells_one, told_added, told_removed, tries_one}
 use Rattle.rd_runs.proofs.Reaching.{both}
 use Rattle.rd_runs.proofs.SizeLemmas.{ClientFits, data_few, refreshed_fits}
-use Rattle.rd_runs.proofs.Standing.{AreTellable, needs_open, open_inside, open_now, shut_now, is_off}
+use Rattle.rd_runs.proofs.Standing.{needs_open, open_inside, shut_now, is_off}
 use Rattle.rd_runs.proofs.Together.{Knows, knows}
 use Rattle.rd_runs.proofs.BeginningLemmas.{Unset, begins_as}
 use Rattle.rd_runs.proofs.TrafficLemmas.{Traffic, client_reads_here, client_writes_here, completes_here, host_reads_here, host_writes_here, no_traffic, traffic}
@@ -90,21 +87,21 @@ use Rattle.rd_hello.specs.Hello.{hello_bytes}
 use Rattle.rd_hello.specs.Own.{host_announce}
 use Rattle.rd_world.specs.HostDeeds.{side_of}
 use Rattle.rd_world.specs.Printers.{AreShortNames}
-use Rattle.rd_world.proofs.Messages.{head_read, request_is, request_read}
+use Rattle.rd_world.proofs.Messages.{head_read, request_read}
 use Rattle.rd_world.proofs.Written.{sound_side}
 use Rattle.rd_world.specs.declared.device.SessionDevice.{SessionDevice}
-use Rattle.rd_world.specs.Devices.{Declared, PrinterNames, device_cut, printer_data}
-use Rattle.rd_world.specs.Events.{applies_at, came_of, client_has_message, completion_message, connects, deed_on, dropping, is_channel_open, is_empty, is_ready, refreshing}
+use Rattle.rd_world.specs.Devices.{Declared, PrinterNames, printer_data}
+use Rattle.rd_world.specs.Events.{applies_at, client_has_message, completion_message, deed_on, is_channel_open, is_empty, is_ready, refreshing}
 use Rattle.rd_world.specs.Hearing.{after_opening, announcing, client_hears, heard_by_client, is_device_told, put_at, put_by, putting, refused_put, with_client}
-use Rattle.rd_world.specs.Host.{HostSide, admits, forgets, hears, host_heard, lived, next_message, sent_from, side_sends}
+use Rattle.rd_world.specs.Host.{HostSide, admits, forgets, hears, host_heard, lived, sent_from, side_sends}
 use Rattle.rd_world.specs.Opening.{bare_lines}
 use Rattle.rd_world.specs.Recording.{announced_of, client_id}
 use Rattle.rd_world.specs.Run.{declared_devices, world_of}
 use Rattle.rd_world.proofs.ShortLemmas.{announces_first}
-use Rattle.rd_world.specs.Talk.{Deed, adds, client_read, client_reads, client_writes, client_wrote, completes, host_begins, host_read, host_reads, host_writes, host_wrote, is_request, open_channel, removes, request_at, request_in, stores, submits, takes, tells}
-use Rattle.rd_world.specs.World.{Asked, Kept, WayState, WorldState, station_at, with_deed, with_station}
-use Rattle.rd_orders.proofs.MeetingLemmas.{IsEarly, MeetsAs, asked_ready, client_alike, client_heard, client_reads_first, client_sent, client_sent_past, client_waits, host_heard_one, host_sent, host_told, lives_ready, one_asked, other_table, ready_is}
-use Rattle.rd_orders.proofs.PhaseLemmas.{AsksReady, ClientCame, announces as host_announces}
+use Rattle.rd_world.specs.Talk.{Deed, adds, client_read, client_reads, client_writes, client_wrote, completes, host_read, host_wrote, is_request, open_channel, removes, request_at, request_in, stores}
+use Rattle.rd_world.specs.World.{Asked, Kept, WorldState, station_at, with_deed, with_station}
+use Rattle.rd_orders.proofs.MeetingLemmas.{MeetsAs, asked_ready, client_alike, client_heard, client_reads_first, client_sent, client_sent_past, client_waits, host_heard_one, host_sent, host_told, lives_ready, one_asked, other_table, ready_is}
+use Rattle.rd_orders.proofs.PhaseLemmas.{AsksReady, announces as host_announces}
 use Rattle.rd_orders.proofs.SayingLemmas.{SaysToClient, SaysToHost, completion_says, list_says, notice_says, removal_says, request_says}
 
 -- ---- the invariant

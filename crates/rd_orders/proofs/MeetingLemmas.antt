@@ -1,8 +1,7 @@
 -- Both ends of the open channel, and what is on its way between them.
-use Rattle.std.proofs.Common.{◌≡◌, ◌∙◌, refl, sym, ap, subst, ℕ, ◌<◌, ◌≤◌, ◌^◌, arith, Bool, true, false, List, [], ◌∷◌, ◌++◌, length, map, reverse, fold, Some, None, Option, append_assoc, append-nil, inl, inr, is_ok}
-use Rattle.std.specs.Prelude.{Result, Ok, Err, filter, if◌then◌else◌, is_some, is_none, IsTrue}
+use Rattle.std.proofs.Common.{◌≡◌, ◌∙◌, refl, sym, ap, subst, ℕ, Bool, true, false, List, [], ◌∷◌, ◌++◌, map, reverse, fold, Some, None, Option, append_assoc, append-nil}
+use Rattle.std.specs.Prelude.{Result, Ok, Err, filter, if◌then◌else◌}
 use Rattle.std.specs.List.{AllByRecursion}
-use Rattle.std.specs.Option.{IfSome, option_map_or}
 use Rattle.std.proofs.lemmas.List.{append_cancel_right, reverse-append, reverse-reverse}
 use Rattle.rd_base.specs.declared.status.Status.{Status}
 use Rattle.rd_base.specs.Statuses as status
@@ -25,16 +24,12 @@ use Rattle.rd_host.specs.declared.act.Act.TheVariants as act
 use Rattle.rd_pending.proofs.Tame.{tame_complete, tame_live, tame_remove}
 use Rattle.rd_controls.proofs.ReadyLemmas.{client_kept}
 use Rattle.rd_devices.specs.DeviceList.{list_bytes}
-use Rattle.rd_pending.specs.declared.calls.CompleteNo.{CompleteNo}
-use Rattle.rd_pending.specs.declared.calls.Completed.{Completed}
-use Rattle.rd_pending.specs.declared.calls.LiveNo.{LiveNo}
 use Rattle.rd_pending.specs.Table as table
 use Rattle.rd_pending.specs.Table.{Fate, TableState, Untaken, freed, live_refusal, untaken_at, with_fate}
-use Rattle.rd_irp.specs.declared.completion.Head.{Head}
 use Rattle.rd_runs.proofs.TrafficLemmas.{Traffic}
-use Rattle.rd_world.specs.Host.{HostSide, admits, forgets, hears, host_heard, live_code, next_message, sent_from, side_sends}
+use Rattle.rd_world.specs.Host.{HostSide, admits, forgets, hears, host_heard, live_code, next_message, side_sends}
 use Rattle.rd_world.specs.Talk.{is_request}
-use Rattle.rd_orders.proofs.PhaseLemmas.{ActsReady, ClientCame, HostCame, Phase, all_first, all_last, client_came, host_came, logged_on, no_parts, phase_down, phase_ready, phase_up}
+use Rattle.rd_orders.proofs.PhaseLemmas.{ClientCame, HostCame, Phase, all_first, all_last, client_came, host_came, phase_down, phase_ready, phase_up}
 use Rattle.rd_orders.proofs.SayingLemmas.{SaysToClient, SaysToHost, reply_says}
 
 -- Before a client is ready no device has a life, and nothing was asked.

@@ -1,10 +1,10 @@
 -- A channel opens message by message: while it does one end alone has something to say, and what each end reads is never wrong.
-use Rattle.std.proofs.Common.{◌≡◌, ◌∙◌, refl, sym, ap, subst, ℕ, Bool, true, false, List, [], ◌∷◌, ◌++◌, map, Some, None, Option, append_assoc, append-nil}
+use Rattle.std.proofs.Common.{◌≡◌, ◌∙◌, refl, sym, ap, subst, ℕ, Bool, true, false, List, [], ◌∷◌, ◌++◌, map, Some, None, append_assoc, append-nil}
 use Rattle.std.specs.Prelude.{Result, Ok, Err, if◌then◌else◌, is_ok, is_some}
 use Rattle.std.specs.List.{AllByRecursion}
 use Rattle.rd_base.specs.Counted.{count_to, counted, counted_bytes}
 use Rattle.rd_base.specs.Header.{component_field, header, header_among}
-use Rattle.rd_client.specs.Core.{ClientCoreState, HostSays, Outgoing, becomes_ready, client_hear, client_hear_made, client_opened, client_side, hear_says, listed, notices, plain, replies, requests, with_outgoing}
+use Rattle.rd_client.specs.Core.{ClientCoreState, HostSays, Outgoing, becomes_ready, client_hear, client_hear_made, client_side, listed, notices, plain, replies, requests, with_outgoing}
 use Rattle.rd_client.specs.declared.heard.Heard.{Heard}
 use Rattle.rd_client.specs.declared.heard.Heard.TheVariants as heard
 use Rattle.rd_client.specs.Events.{waiting_messages}
@@ -14,7 +14,7 @@ use Rattle.rd_devices.specs.DeviceList.{list_bytes}
 use Rattle.rd_drive.proofs.AllLemmas.{all_append}
 use Rattle.rd_hello.specs.Capability.{body_of, capability, general, other, sets, special}
 use Rattle.rd_hello.specs.Hello.{hello, hello_bytes, name, version}
-use Rattle.rd_hello.specs.Own.{client_confirm, client_name, client_sets, host_announce, host_sets, own_minor}
+use Rattle.rd_hello.specs.Own.{client_name, client_sets, host_announce, host_sets, own_minor}
 use Rattle.rd_hello.specs.Rows.{OrderRow}
 use Rattle.rd_hello.specs.declared.client.ClientState.{ClientState}
 use Rattle.rd_hello.specs.declared.client.ClientState.TheVariants as client_state

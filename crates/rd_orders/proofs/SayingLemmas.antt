@@ -1,35 +1,31 @@
 -- What the messages of a ready end say to the other one: none of them is wrong.
-use Rattle.std.proofs.Common.{◌≡◌, ◌∙◌, refl, sym, ap, subst, ℕ, ◌==◌, ◌<◌, ◌≤◌, ◌^◌, Bool, true, false, List, [], ◌∷◌, ◌++◌, length, Some, None, Option, arith, inl, inr}
-use Rattle.std.specs.Prelude.{All, Result, Ok, Err, is_ok, if◌then◌else◌}
+use Rattle.std.proofs.Common.{◌≡◌, ◌∙◌, refl, ap, ℕ, ◌≤◌, true, List, [], ◌∷◌, length, Some, None, Option, arith}
+use Rattle.std.specs.Prelude.{All, Result, Ok, Err, is_ok}
 use Rattle.std.specs.List.{AllByRecursion}
-use Rattle.std.specs.Int.{to_le_bytes, w32}
 use Rattle.std.proofs.lemmas.List.Elements.{All-tail}
 use Rattle.rd_base.specs.declared.bad.Bad.{Bad}
 use Rattle.rd_base.specs.declared.packet.Packet.{Packet}
 use Rattle.rd_base.specs.declared.packet.Packet.TheVariants as packet
-use Rattle.rd_base.specs.Counted.{count_to, counted, items_and_count}
-use Rattle.rd_base.specs.Fields.{number32}
+use Rattle.rd_base.specs.Counted.{count_to, counted}
 use Rattle.rd_base.specs.Header.{any_header, component_field, header, header_among}
-use Rattle.rd_base.specs.Layout.{four_bytes, met}
+use Rattle.rd_base.specs.Layout.{met}
 use Rattle.rd_base.specs.Limits.{max_devices}
 use Rattle.rd_base.specs.Position.{Position, at_start}
 use Rattle.rd_base.specs.Spelling.{IsSpelling}
 use Rattle.rd_base.proofs.CountedLemmas.{counted_spelled}
 use Rattle.rd_base.proofs.LayoutLemmas.{meets}
 use Rattle.rd_base.proofs.ResultLemmas.{and_then_ok}
-use Rattle.rd_base.proofs.SpellingLemmas.{AreSpelled, message_spelled, number_spelled, times_spelled}
+use Rattle.rd_base.proofs.SpellingLemmas.{AreSpelled, message_spelled, times_spelled}
 use Rattle.rd_client.specs.Core.{HostSays, client_side, from_head, host_says, notices, replies}
 use Rattle.rd_client.specs.Events.{IsWritableDevice}
-use Rattle.rd_core.specs.Hearing.{Meaning, Side, from_header, from_known, from_own, read_as, said, says}
+use Rattle.rd_core.specs.Hearing.{Side, from_known, from_own, read_as, said, says}
 use Rattle.rd_devices.specs.declared.list.Announce.{Announce}
 use Rattle.rd_devices.specs.declared.reply.DeviceReply.{DeviceReply}
 use Rattle.rd_devices.specs.DeviceList.{HasCountableBody, announce, announce_bytes, device_list, list_bytes}
 use Rattle.rd_devices.specs.DeviceReply.{device_reply, reply_bytes}
 use Rattle.rd_devices.specs.Removal.{removal, removal_bytes}
 use Rattle.rd_devices.proofs.DeviceListLemmas.{announce_spelled, list_spelled}
-use Rattle.rd_hello.specs.declared.client.ClientState.{ClientState}
 use Rattle.rd_hello.specs.declared.client.ClientState.TheVariants as client_state
-use Rattle.rd_hello.specs.declared.host.HostState.{HostState}
 use Rattle.rd_hello.specs.declared.host.HostState.TheVariants as host_state
 use Rattle.rd_hello.specs.Moves.{packet_in}
 use Rattle.rd_host.specs.Core.{client_says, host_side}

@@ -2,7 +2,6 @@
 use Rattle.std.specs.Prelude.{◌≡◌, ℕ, List, [], Some, None}
 use Rattle.rd_client.specs.Events.{AreWritable, ClientStandsAt}
 use Rattle.rd_client.specs.Order.{ClientStanding}
-use Rattle.rd_devices.specs.declared.list.Announce.{Announce}
 use Rattle.rd_host.specs.Events.{HostStandsAt}
 use Rattle.rd_host.specs.Order.{HostStanding, Replying}
 use Rattle.rd_script.specs.declared.line.NumberedLine.{NumberedLine}
