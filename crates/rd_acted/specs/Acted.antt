@@ -1,0 +1,50 @@
+-- What control lines do, by what was done: it follows from the acts alone.
+use Rattle.std.specs.Prelude.{◌≡◌, ℕ, ◌==◌, not, List, [], ◌∷◌, ◌++◌, filter, fold, Option, Some, None}
+use Rattle.std.specs.Option.{option_map_or}
+use Rattle.rd_base.specs.declared.journal.Cause.TheVariants.{Removed}
+use Rattle.rd_world.specs.Acts.{act_by}
+use Rattle.rd_world.specs.Control.{Act, Control, added, addition, additions, begun, dropped_at, ended, lists, noticed, present, removal, removed}
+use Rattle.rd_world.specs.Talk.{Deed}
+
+-- before the first channel
+abbrev pub no_control : List ℕ → Control
+no_control devices = record { devices = devices; current = None; channels = 0; absent = []; acts = []; told = []; notices = []; cuts = []; idle = [] }
+
+-- this is told on the channel that is open, if one is
+abbrev pub where_current : {A : Type 0} → Control → A → List (ℕ × A)
+where_current c x = option_map_or (λ channel. (channel, x) ∷ []) c.current []
+
+-- after an act
+abbrev pub after_act : Control → Act → Control
+after_act c (begun channel) = record c {
+  current = Some channel;
+  channels = channel;
+  acts = c.acts ++ begun channel ∷ [];
+  told = c.told ++ (channel, lists (present c)) ∷ [];
+}
+after_act c (ended channel) = dropped_at c channel
+after_act c (removed device) = record c {
+  absent = c.absent ++ device ∷ [];
+  acts = c.acts ++ removed device ∷ [];
+  told = c.told ++ where_current c (removal device);
+  cuts = c.cuts ++ (device, Removed) ∷ [];
+}
+after_act c (added device) = record c {
+  absent = filter (λ id. not (id == device)) c.absent;
+  acts = c.acts ++ added device ∷ [];
+  told = c.told ++ where_current c (addition device (additions c device));
+}
+after_act c (noticed n) = record c { acts = c.acts ++ noticed n ∷ []; notices = c.notices ++ where_current c n }
+
+-- where control lines stand that did these acts, and what they did, by the ids of a session's devices
+abbrev pub control_after : List ℕ → List Act → Control
+control_after devices acts = fold after_act (no_control devices) acts
+
+-- but for the numbers of the lines that did nothing
+abbrev pub without_idle : Control → Control
+without_idle c = record c { idle = [] }
+
+-- the same by deeds, the newest first
+abbrev pub control_by_deeds : List ℕ → List Deed → Control
+control_by_deeds devices [] = no_control devices
+control_by_deeds devices (deed ∷ before) = option_map_or (after_act (control_by_deeds devices before)) (act_by deed) (control_by_deeds devices before)
