@@ -1,1 +1,3 @@
 pub mod ActLemmas
+pub mod SayingLemmas
+pub mod QuietLemmas

@@ -1,10 +1,10 @@
 -- What control lines do, by what was done: it follows from the acts alone.
-use Rattle.std.specs.Prelude.{◌≡◌, ℕ, ◌==◌, not, List, [], ◌∷◌, ◌++◌, filter, fold, Option, Some, None}
+use Rattle.std.specs.Prelude.{◌≡◌, ℕ, ◌==◌, not, if◌then◌else◌, List, [], ◌∷◌, ◌++◌, filter, fold, length, Option, Some, None}
 use Rattle.std.specs.Option.{option_map_or}
 use Rattle.rd_base.specs.declared.journal.Cause.TheVariants.{Removed}
-use Rattle.rd_world.specs.Acts.{act_by}
-use Rattle.rd_world.specs.Control.{Act, Control, added, addition, additions, begun, dropped_at, ended, lists, noticed, present, removal, removed}
-use Rattle.rd_world.specs.Talk.{Deed}
+use Rattle.rd_world.specs.Acts.{act_by, is_add}
+use Rattle.rd_world.specs.Control.{Act, Control, Telling, added, addition, additions, begun, dropped_at, ended, lists, noticed, present, removal, removed}
+use Rattle.rd_world.specs.Talk.{Deed, adds, host_begins, is_open_at, is_removed, removes}
 
 -- before the first channel
 abbrev pub no_control : List ℕ → Control
@@ -48,3 +48,23 @@ without_idle c = record c { idle = [] }
 abbrev pub control_by_deeds : List ℕ → List Deed → Control
 control_by_deeds devices [] = no_control devices
 control_by_deeds devices (deed ∷ before) = option_map_or (after_act (control_by_deeds devices before)) (act_by deed) (control_by_deeds devices before)
+
+-- ---- what is told
+
+-- the devices that are there, by their ids
+abbrev pub there_of : List ℕ → List Deed → List ℕ
+there_of ids deeds = filter (λ id. not (is_removed id deeds)) ids
+
+-- What is due to be told on a channel by what was done, the oldest first: all devices that are there once it began, and each that is removed or added while it is open.
+abbrev pub due_on : List ℕ → ℕ → List Deed → List Telling
+due_on ids c [] = []
+due_on ids c (host_begins channel ∷ before) = due_on ids c before ++ (if channel == c then lists (there_of ids before) ∷ [] else [])
+due_on ids c (removes device ∷ before) = due_on ids c before ++ (if is_open_at c before then removal device ∷ [] else [])
+due_on ids c (adds device ∷ before) = due_on ids c before ++ (if is_open_at c before then addition device (length (filter (is_add device) before)) ∷ [] else [])
+due_on ids c (deed ∷ before) = due_on ids c before
+
+-- messages say what things begin with, one each
+abbrev pub SayFirst : {A : Type 0} → (A → List ℕ → Type 0) → List (List ℕ) → List A → Type 0
+SayFirst Says [] things = Unit {0}
+SayFirst Says (message ∷ messages) [] = ⊥
+SayFirst Says (message ∷ messages) (thing ∷ things) = Says thing message × SayFirst Says messages things

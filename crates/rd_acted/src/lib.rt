@@ -5,4 +5,4 @@
 
 mod laws;
 
-pub use laws::{control_lines_are_by_acts};
+pub use laws::{control_lines_are_by_acts, placeholder};
