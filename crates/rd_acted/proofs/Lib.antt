@@ -1,3 +1,6 @@
 pub mod ActLemmas
 pub mod SayingLemmas
 pub mod QuietLemmas
+pub mod DataLemmas
+pub mod PassingLemmas
+pub mod ListLemmas
