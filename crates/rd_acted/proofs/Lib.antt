@@ -4,3 +4,5 @@ pub mod QuietLemmas
 pub mod DataLemmas
 pub mod PassingLemmas
 pub mod ListLemmas
+pub mod NoticeLemmas
+pub mod ReadLemmas

@@ -1,10 +1,14 @@
 -- What control lines do, by what was done: it follows from the acts alone.
-use Rattle.std.specs.Prelude.{◌≡◌, ℕ, ◌==◌, not, if◌then◌else◌, List, [], ◌∷◌, ◌++◌, filter, fold, length, Option, Some, None}
-use Rattle.std.specs.Option.{option_map_or}
+use Rattle.std.specs.Prelude.{◌≡◌, ℕ, ◌==◌, not, if◌then◌else◌, List, [], ◌∷◌, ◌++◌, filter, fold, length, Option, Some, None, IsSome}
+use Rattle.std.specs.Option.{option_and_then, option_map_or}
 use Rattle.rd_base.specs.declared.journal.Cause.TheVariants.{Removed}
+use Rattle.rd_client.specs.Core.{HostSays, client_side}
+use Rattle.rd_core.specs.Hearing.{Meaning, nothing, opens, said, says, wrong}
+use Rattle.rd_hello.specs.declared.client.ClientState.{ClientState}
+use Rattle.rd_hello.specs.declared.client.ClientState.TheVariants.{Start}
 use Rattle.rd_world.specs.Acts.{act_by, is_add}
 use Rattle.rd_world.specs.Control.{Act, Control, Telling, added, addition, additions, begun, dropped_at, ended, lists, noticed, present, removal, removed}
-use Rattle.rd_world.specs.Talk.{Deed, adds, host_begins, is_open_at, is_removed, removes}
+use Rattle.rd_world.specs.Talk.{Deed, adds, client_read, host_begins, is_open_at, is_removed, removes}
 
 -- before the first channel
 abbrev pub no_control : List ℕ → Control
@@ -68,3 +72,21 @@ abbrev pub SayFirst : {A : Type 0} → (A → List ℕ → Type 0) → List (Lis
 SayFirst Says [] things = Unit {0}
 SayFirst Says (message ∷ messages) [] = ⊥
 SayFirst Says (message ∷ messages) (thing ∷ things) = Says thing message × SayFirst Says messages things
+
+-- ---- what is read in order
+
+-- the state of a client after a message in a state, if it isn't wrong there
+abbrev pub state_after : ClientState → Meaning ClientState HostSays → Option ClientState
+state_after state (wrong fault) = None
+state_after state nothing = Some state
+state_after state (opens row) = Some row.next
+state_after state (says a) = Some state
+
+-- after messages, the newest first
+abbrev pub state_read : List (List ℕ) → Option ClientState
+state_read [] = Some Start
+state_read (message ∷ older) = option_and_then (λ state. state_after state (said client_side state message)) (state_read older)
+
+-- nothing that a client read was wrong
+abbrev pub AreReadWell : List Deed → Type 0
+AreReadWell deeds = (c : ℕ) → IsSome (state_read (client_read c deeds))
