@@ -95,7 +95,7 @@ turned a b false e = by (b == a) refl
     by false f = refl
 
 module _ (ids : List ℕ) (printers : List (ℕ × PrinterNames)) (deeds : List Deed) where
-  removed_shaped : (device : ℕ) (d : ℕ × Declared) (x : ClientDevice) → IsShaped ids printers deeds d x → IsShaped ids printers (removes device ∷ deeds) d (device_marked device true x)
+  pub removed_shaped : (device : ℕ) (d : ℕ × Declared) (x : ClientDevice) → IsShaped ids printers deeds d x → IsShaped ids printers (removes device ∷ deeds) d (device_marked device true x)
   removed_shaped device d x is = by ((x.announce).id == device) refl
     where
       gone : (b : Bool) → ((x.announce).id == device) ≡ b → is_removed d.0 (removes device ∷ deeds) ≡ (b || is_removed d.0 deeds)
@@ -105,7 +105,7 @@ module _ (ids : List ℕ) (printers : List (ℕ × PrinterNames)) (deeds : List 
       by true e = record { own = is.own; known = is.known; found = is.found; announce_is = is.announce_is; removed_is = sym (gone true e); bare = is.bare }
       by false e = record { own = is.own; known = is.known; found = is.found; announce_is = is.announce_is; removed_is = is.removed_is ∙ sym (gone false e); bare = is.bare }
 
-  added_shaped : (device : ℕ) (d : ℕ × Declared) (x : ClientDevice) → IsShaped ids printers deeds d x → IsShaped ids printers (adds device ∷ deeds) d (device_marked device false x)
+  pub added_shaped : (device : ℕ) (d : ℕ × Declared) (x : ClientDevice) → IsShaped ids printers deeds d x → IsShaped ids printers (adds device ∷ deeds) d (device_marked device false x)
   added_shaped device d x is = by ((x.announce).id == device) refl
     where
       gone : (b : Bool) → ((x.announce).id == device) ≡ b → is_removed d.0 (adds device ∷ deeds) ≡ (not b && is_removed d.0 deeds)

@@ -6,3 +6,4 @@ pub mod PassingLemmas
 pub mod ListLemmas
 pub mod NoticeLemmas
 pub mod ReadLemmas
+pub mod TellLemmas

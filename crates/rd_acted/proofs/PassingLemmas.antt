@@ -10,12 +10,13 @@ use Rattle.rd_station.specs.Station as station
 use Rattle.rd_station.specs.Station.{StationState}
 use Rattle.rd_world.specs.Acts.{Tells, is_add, tellings_on}
 use Rattle.rd_world.specs.Devices.{Declared, device_cut}
-use Rattle.rd_world.specs.Events.{came_of, dropping}
+use Rattle.rd_world.specs.Events.{came_of, completion_message, dropping}
 use Rattle.rd_world.specs.Talk as deed
-use Rattle.rd_world.specs.Talk.{Deed, client_reads, host_reads, host_writes, is_removed, open_channel, stores, submits, takes, tells, until_begin}
+use Rattle.rd_world.specs.Talk.{Deed, client_reads, completes, host_reads, host_writes, is_removed, open_channel, stores, submits, takes, tells, until_begin}
 use Rattle.rd_world.specs.World.{WorldState, station_at, with_station}
 use Rattle.rd_world.specs.declared.device.SessionDevice.{SessionDevice}
-use Rattle.rd_acted.proofs.QuietLemmas.{AreSilent, IsSilent, Unspoken, option_unspoken, put_unspoken, stationed_unspoken, unspoken_by, unspoken_deeds, unspoken_none}
+use Rattle.rd_acted.proofs.QuietLemmas.{AreSilent, IsSilent, Unspoken, completion_untold, option_unspoken, put_unspoken, stationed_unspoken, unspoken_by, unspoken_deeds, unspoken_none}
+use Rattle.rd_acted.proofs.SayingLemmas.{completes_tell}
 use Rattle.rd_acted.specs.Acted.{due_on}
 
 -- ---- parts
@@ -25,7 +26,6 @@ IsQuiet begins = ⊥
 IsQuiet ends = ⊥
 IsQuiet (client_sends_one c o) = ⊥
 IsQuiet (client_hears_one message rest) = ⊥
-IsQuiet (collects_one device s after c) = ⊥
 IsQuiet (removes_one device o) = ⊥
 IsQuiet (adds_one device names o) = ⊥
 IsQuiet p = Unit {0}
@@ -45,6 +45,10 @@ quiet_unspoken starves w client_keeps_part quiet = unspoken_deeds [] tt refl ref
 quiet_unspoken starves w (tries_one k) quiet =
     let x : WorldState = record w { kept = None } in
     unspoken_by w x _ (unspoken_deeds [] tt refl refl refl refl) (put_unspoken x k.device k.job)
+quiet_unspoken starves w (collects_one device s after c) quiet =
+    unspoken_by w (with_station w device after) _ (stationed_unspoken w device after)
+    (unspoken_deeds (completes c.key (completion_message device c) ∷ [])
+    (completion_untold c.kind (record { device = device; completion = c.completion; status = (c.reply).status }) (c.reply).body, tt) refl refl refl refl)
 quiet_unspoken starves w (takes_one device hand s after job) quiet = unspoken_by w (with_station w device after) _ (stationed_unspoken w device after) (unspoken_deeds [] tt refl refl refl refl)
 quiet_unspoken starves w (applies_one hand device job None) quiet = unspoken_deeds [] tt refl refl refl refl
 quiet_unspoken starves w (applies_one hand device job (Some s)) quiet =
@@ -81,6 +85,7 @@ left_one (takes number) deeds silent = record { removed = λ d. refl; begun = λ
 left_one (tells n) deeds silent = record { removed = λ d. refl; begun = λ c. refl; opened = refl; told = λ c. refl; due = λ ids c. refl }
 left_one (host_writes channel message) deeds silent = record { removed = λ d. refl; begun = λ c. refl; opened = refl; told = λ c. refl; due = λ ids c. refl }
 left_one (host_reads channel message) deeds silent = record { removed = λ d. refl; begun = λ c. refl; opened = refl; told = λ c. refl; due = λ ids c. refl }
+left_one (completes key message) deeds silent = record { removed = λ d. refl; begun = λ c. refl; opened = refl; told = λ c. completes_tell c key message deeds silent; due = λ ids c. refl }
 left_one (client_reads channel message) deeds silent = record { removed = λ d. refl; begun = λ c. refl; opened = refl; told = λ c. refl; due = λ ids c. refl }
 left_one x deeds silent = absurd silent
 

@@ -45,7 +45,7 @@ use Rattle.rd_world.proofs.Messages.{packet_is, written_packet}
 use Rattle.rd_world.specs.Acts.{is_telling}
 use Rattle.rd_world.specs.Devices.{PrinterNames}
 use Rattle.rd_world.specs.Hearing.{after_opening, announcing, client_hears, heard_by_client, put_at, put_by, putting, refused_put, with_client}
-use Rattle.rd_world.specs.Talk.{Deed, adds, client_reads, host_reads, host_writes, stores, submits, takes, tells}
+use Rattle.rd_world.specs.Talk.{Deed, adds, client_reads, completes, host_reads, host_writes, stores, submits, takes, tells}
 use Rattle.rd_world.specs.World.{WorldState, station_at, stored_beyond, with_deed, with_station}
 use Rattle.rd_world.specs.declared.device.SessionDevice.{SessionDevice}
 
@@ -59,6 +59,7 @@ IsSilent (tells n) = Unit {0}
 IsSilent (host_writes channel message) = Unit {0}
 IsSilent (host_reads channel message) = Unit {0}
 IsSilent (client_reads channel message) = Unit {0}
+IsSilent (completes key message) = is_telling message ≡ false
 IsSilent deed = ⊥
 
 abbrev pub AreSilent : List Deed → Type 0

@@ -369,7 +369,7 @@ begins_read_as w none kept =
     )
 
 -- what was read before a part
-part_well : (lines : List NumberedLine) (starves : Key → Bool) (w : WorldState) (p : Part) → MayBe lines starves w p → AreReadWell (done starves w p).deeds → AreReadWell w.deeds
+pub part_well : (lines : List NumberedLine) (starves : Key → Bool) (w : WorldState) (p : Part) → MayBe lines starves w p → AreReadWell (done starves w p).deeds → AreReadWell w.deeds
 part_well lines starves w begins may well =
     fewer (host_begins (w.channels + 1)) w.deeds
     (subst (λ (x : WorldState). AreReadWell (begun_on w x).deeds) (all_refreshed (map (λ (e : ℕ × PrinterNames). e.0) w.printers) w) well)
