@@ -162,3 +162,136 @@ unspoken_tells devices w v u t = record {
         go : (xs : List ℕ) → there_of xs v.deeds ≡ there_of xs w.deeds
         go [] = refl
         go (x ∷ xs) = rw (left.removed x, go xs) refl
+
+-- ---- a message of its own is written
+
+sent_is : (c d : ClientCoreState) (o : Outgoing) → client.client_send c ≡ (d, Some o) → (rest : List Outgoing) × ((c.core).outbox ≡ o ∷ rest) × (d ≡ record c { core = record c.core { outbox = rest } })
+sent_is c d o made = by (c.core).outbox refl
+  where
+    by : (os : List Outgoing) → (c.core).outbox ≡ os → (rest : List Outgoing) × ((c.core).outbox ≡ o ∷ rest) × (d ≡ record c { core = record c.core { outbox = rest } })
+    by [] e = let none : (client.client_send c).1 ≡ None = rw e refl in absurd (cc (none, ap (λ (r : ClientCoreState × Option Outgoing). r.1) made))
+    by (x ∷ xs) e =
+        let is : (client.client_send c).0 ≡ record c { core = record c.core { outbox = xs } } = rw e refl in
+        let one : (client.client_send c).1 ≡ Some x = rw e refl in
+        let same : Some x ≡ Some o = sym one ∙ ap (λ (r : ClientCoreState × Option Outgoing). r.1) made in
+        let equal : x ≡ o = cc in
+        (xs, e ∙ ap (λ (y : Outgoing). y ∷ xs) equal, sym (ap (λ (r : ClientCoreState × Option Outgoing). r.0) made) ∙ is)
+
+-- by a deed that writes the message, and moves it from what waits to what was told
+moved_tells : (devices : List (ℕ × Declared)) (w v : WorldState) (x : Deed) (o : Outgoing) (rest : List Outgoing) → v.deeds ≡ x ∷ w.deeds → ((w.client).core).outbox ≡ o ∷ rest → ((v.client).core).outbox ≡ rest
+    → ((v.client).core).shake ≡ ((w.client).core).shake → (v.client).devices ≡ (w.client).devices → v.printers ≡ w.printers → v.channels ≡ w.channels
+    → ((d : ℕ) → is_removed d (x ∷ w.deeds) ≡ is_removed d w.deeds) → ((c : ℕ) → until_begin c (x ∷ w.deeds) ≡ until_begin c w.deeds) → open_channel (x ∷ w.deeds) ≡ open_channel w.deeds
+    → ((ids : List ℕ) (c : ℕ) → due_on ids c (x ∷ w.deeds) ≡ due_on ids c w.deeds)
+    → ((c : ℕ) → (tellings_on c (x ∷ w.deeds) ≡ tellings_on c w.deeds) ⊎ ((c ≡ w.channels) × ((more : List (List ℕ)) × (tellings_on w.channels w.deeds ++ waiting ((w.client).core).outbox ≡ tellings_on c (x ∷ w.deeds) ++ more))))
+    → tellings_on w.channels (x ∷ w.deeds) ++ waiting rest ≡ tellings_on w.channels w.deeds ++ waiting (o ∷ rest) → TellsAs devices w → TellsAs devices v
+moved_tells devices w v x o rest deeds outbox left_over shake same_devices printers channels removed begun opened due told moved t = record {
+  shaped = subst (λ (ds : List ClientDevice). AllZip (IsShaped ids v.printers v.deeds) devices ds) (sym same_devices)
+      (zip_as (IsShaped ids w.printers w.deeds) (IsShaped ids v.printers v.deeds)
+      (λ d y own. subst (λ (ps : List (ℕ × PrinterNames)). IsShaped ids ps v.deeds d y) (sym printers) (shaped_more ids w.printers w.deeds v.deeds (λ k. ap (is_removed k) deeds ∙ removed k) d y own)) devices (w.client).devices t.shaped);
+  bodies = λ is_open unready.
+      subst (λ (ds : List ClientDevice). AllZip (HasBody (cache_after (until_begin v.channels v.deeds))) devices ds) (sym same_devices)
+      (subst (λ (ds : List Deed). AllZip (HasBody (cache_after ds)) devices (w.client).devices) (sym until_same) (t.bodies (open_same is_open) (sym ready_same ∙ unready)));
+  each = λ c. subst (λ (ds : List Deed). SayFirst (Tells devices ds c) (tellings_on c ds) (due_on ids c ds)) (sym deeds) (each_one c);
+  now = subst (λ (n : ℕ). SayFirst (Tells devices v.deeds n) (tellings_on n v.deeds ++ waiting ((v.client).core).outbox) (due_on ids n v.deeds)) (sym channels)
+      (subst (λ (ms : List (List ℕ)). SayFirst (Tells devices v.deeds w.channels) ms (due_on ids w.channels v.deeds)) (sym now_same)
+      (subst (λ (ts : List Telling). SayFirst (Tells devices v.deeds w.channels) (tellings_on w.channels w.deeds ++ waiting ((w.client).core).outbox) ts) (sym due_same)
+      (say_as (Tells devices w.deeds w.channels) (Tells devices v.deeds w.channels) (tells_later devices w.channels (x ∷ []) w.deeds v.deeds deeds (ap (until_begin w.channels) deeds ∙ begun w.channels))
+      (tellings_on w.channels w.deeds ++ waiting ((w.client).core).outbox) (due_on ids w.channels w.deeds) t.now)));
+  all = λ is_open ready. ap length now_at ∙ t.all (open_same is_open) (sym ready_same ∙ ready) ∙ ap length (sym due_at);
+  first = λ is_open unready.
+      let (none, due_first) = t.first (open_same is_open) (sym ready_same ∙ unready) in
+      (now_at ∙ none, due_at ∙ due_first ∙ ap (λ (xs : List ℕ). lists xs ∷ []) (sym there_same));
+  above = λ c over. ap (due_on ids c) deeds ∙ due ids c ∙ t.above c (subst (λ (n : ℕ). n < c) channels over);
+  answers = subst (λ (os : List Outgoing). AllByRecursion AnswersUntold os) (sym left_over) (subst (λ (os : List Outgoing). AllByRecursion AnswersUntold os) outbox t.answers).1;
+}
+  where
+    ids : List ℕ
+    ids = ids_in devices
+
+    ready_same : client_ready v ≡ client_ready w
+    ready_same = ap is_client_ready shake
+
+    until_same : until_begin v.channels v.deeds ≡ until_begin w.channels w.deeds
+    until_same = ap (λ (n : ℕ). until_begin n v.deeds) channels ∙ ap (until_begin w.channels) deeds ∙ begun w.channels
+
+    open_same : open_channel v.deeds ≡ Some v.channels → open_channel w.deeds ≡ Some w.channels
+    open_same is_open = sym (ap open_channel deeds ∙ opened) ∙ is_open ∙ ap (λ (n : ℕ). Some n) channels
+
+    now_same : tellings_on w.channels v.deeds ++ waiting ((v.client).core).outbox ≡ tellings_on w.channels w.deeds ++ waiting ((w.client).core).outbox
+    now_same =
+        ap (λ (os : List Outgoing). tellings_on w.channels v.deeds ++ waiting os) left_over ∙ ap (λ (ds : List Deed). tellings_on w.channels ds ++ waiting rest) deeds ∙ moved
+        ∙ ap (λ (os : List Outgoing). tellings_on w.channels w.deeds ++ waiting os) (sym outbox)
+
+    now_at : tellings_on v.channels v.deeds ++ waiting ((v.client).core).outbox ≡ tellings_on w.channels w.deeds ++ waiting ((w.client).core).outbox
+    now_at = ap (λ (n : ℕ). tellings_on n v.deeds ++ waiting ((v.client).core).outbox) channels ∙ now_same
+
+    due_same : due_on ids w.channels v.deeds ≡ due_on ids w.channels w.deeds
+    due_same = ap (due_on ids w.channels) deeds ∙ due ids w.channels
+
+    due_at : due_on ids v.channels v.deeds ≡ due_on ids w.channels w.deeds
+    due_at = ap (λ (n : ℕ). due_on ids n v.deeds) channels ∙ due_same
+
+    there_same : there_of ids v.deeds ≡ there_of ids w.deeds
+    there_same = go ids
+      where
+        go : (xs : List ℕ) → there_of xs v.deeds ≡ there_of xs w.deeds
+        go [] = refl
+        go (k ∷ xs) = rw (ap (is_removed k) deeds ∙ removed k, go xs) refl
+
+    each_one : (c : ℕ) → SayFirst (Tells devices (x ∷ w.deeds) c) (tellings_on c (x ∷ w.deeds)) (due_on ids c (x ∷ w.deeds))
+    each_one c =
+        say_as (Tells devices w.deeds c) (Tells devices (x ∷ w.deeds) c) (tells_later devices c (x ∷ []) w.deeds (x ∷ w.deeds) refl (begun c)) (tellings_on c (x ∷ w.deeds)) (due_on ids c (x ∷ w.deeds))
+        (subst (λ (ts : List Telling). SayFirst (Tells devices w.deeds c) (tellings_on c (x ∷ w.deeds)) ts) (sym (due ids c)) (elim (told c) [
+          | inl same ↦ subst (λ (ms : List (List ℕ)). SayFirst (Tells devices w.deeds c) ms (due_on ids c w.deeds)) (sym same) (t.each c)
+          | inr own ↦
+              let here : c ≡ w.channels = own.0 in
+              let (more, is) = own.1 in
+              say_fewer (Tells devices w.deeds c) (tellings_on c (x ∷ w.deeds)) more (due_on ids c w.deeds)
+              (subst (λ (ms : List (List ℕ)). SayFirst (Tells devices w.deeds c) ms (due_on ids c w.deeds)) is
+              (subst (λ (n : ℕ). SayFirst (Tells devices w.deeds n) (tellings_on w.channels w.deeds ++ waiting ((w.client).core).outbox) (due_on ids n w.deeds)) (sym here) t.now))
+        ]))
+
+sends_tells : (devices : List (ℕ × Declared)) (w : WorldState) (d : ClientCoreState) (o : Outgoing) → client.client_send w.client ≡ (d, Some o) → TellsAs devices w
+    → TellsAs devices (client_sends (with_client w d) (deed_on w.channels o) o.message)
+sends_tells devices w d o made t =
+    let (rest, outbox, is) = sent_is w.client d o made in
+    subst (λ (c : ClientCoreState). TellsAs devices (client_sends (with_client w c) (deed_on w.channels o) o.message)) (sym is) (by rest outbox o.answers refl)
+  where
+    by : (rest : List Outgoing) → ((w.client).core).outbox ≡ o ∷ rest → (key : Option Key) → o.answers ≡ key
+        → TellsAs devices (client_sends (with_client w (record w.client { core = record (w.client).core { outbox = rest } })) (option_map_or (λ k. completes k o.message) key (client_writes w.channels o.message)) o.message)
+    by rest outbox None e =
+        moved_tells devices w _ (client_writes w.channels o.message) o rest refl outbox refl refl refl refl refl (λ k. refl) (λ c. refl) refl (λ ids c. refl) told moved t
+      where
+        here : tellings_on w.channels (client_writes w.channels o.message ∷ w.deeds) ≡ tellings_on w.channels w.deeds ++ filter is_telling (o.message ∷ [])
+        here = writes_tell w.channels w.channels o.message w.deeds
+            ∙ ap (λ (b : Bool). tellings_on w.channels w.deeds ++ filter is_telling (cons_option (if b then Some o.message else None) [])) (eq-eqb w.channels w.channels refl)
+
+        joined : waiting (o ∷ rest) ≡ filter is_telling (o.message ∷ []) ++ waiting rest
+        joined = filter-append is_telling (o.message ∷ []) (map (λ (x : Outgoing). x.message) rest)
+
+        moved : tellings_on w.channels (client_writes w.channels o.message ∷ w.deeds) ++ waiting rest ≡ tellings_on w.channels w.deeds ++ waiting (o ∷ rest)
+        moved = ap (λ (ms : List (List ℕ)). ms ++ waiting rest) here ∙ append_assoc (tellings_on w.channels w.deeds) (filter is_telling (o.message ∷ [])) (waiting rest) ∙ ap (λ (ms : List (List ℕ)). tellings_on w.channels w.deeds ++ ms) (sym joined)
+
+        told : (c : ℕ) → (tellings_on c (client_writes w.channels o.message ∷ w.deeds) ≡ tellings_on c w.deeds)
+            ⊎ ((c ≡ w.channels) × ((more : List (List ℕ)) × (tellings_on w.channels w.deeds ++ waiting ((w.client).core).outbox ≡ tellings_on c (client_writes w.channels o.message ∷ w.deeds) ++ more)))
+        told c = at (w.channels == c) refl
+          where
+            at : (b : Bool) → (w.channels == c) ≡ b → (tellings_on c (client_writes w.channels o.message ∷ w.deeds) ≡ tellings_on c w.deeds)
+                ⊎ ((c ≡ w.channels) × ((more : List (List ℕ)) × (tellings_on w.channels w.deeds ++ waiting ((w.client).core).outbox ≡ tellings_on c (client_writes w.channels o.message ∷ w.deeds) ++ more)))
+            at true f =
+                let same : w.channels ≡ c = eqb-true w.channels c f in
+                inr (sym same, (
+                  waiting rest,
+                  ap (λ (os : List Outgoing). tellings_on w.channels w.deeds ++ waiting os) outbox ∙ sym moved
+                  ∙ ap (λ (n : ℕ). tellings_on n (client_writes w.channels o.message ∷ w.deeds) ++ waiting rest) same,
+                ))
+            at false f =
+                inl (writes_tell c w.channels o.message w.deeds ∙ ap (λ (b : Bool). tellings_on c w.deeds ++ filter is_telling (cons_option (if b then Some o.message else None) [])) f
+                ∙ append-nil (tellings_on c w.deeds))
+    by rest outbox (Some key) e =
+        moved_tells devices w _ (completes key o.message) o rest refl outbox refl refl refl refl refl (λ k. refl) (λ c. refl) refl (λ ids c. refl) (λ c. inl (completes_tell c key o.message w.deeds none))
+        (ap (λ (ms : List (List ℕ)). ms ++ waiting rest) (completes_tell w.channels key o.message w.deeds none)
+        ∙ ap (λ (b : Bool). tellings_on w.channels w.deeds ++ (if b then o.message ∷ waiting rest else waiting rest)) (sym none)) t
+      where
+        none : is_telling o.message ≡ false
+        none = subst (λ (k : Option Key). IfSome k (λ (i : Key). is_telling o.message ≡ false)) e (subst (λ (os : List Outgoing). AllByRecursion AnswersUntold os) outbox t.answers).0
