@@ -295,3 +295,156 @@ sends_tells devices w d o made t =
       where
         none : is_telling o.message ≡ false
         none = subst (λ (k : Option Key). IfSome k (λ (i : Key). is_telling o.message ≡ false)) e (subst (λ (os : List Outgoing). AllByRecursion AnswersUntold os) outbox t.answers).0
+
+-- ---- a message is heard
+
+list_tells : (m : List ℕ) → is_telling m ≡ true → (more : List (List ℕ)) → filter is_telling (m ∷ more) ≡ m ∷ filter is_telling more
+list_tells m told more = ap (λ (b : Bool). if b then m ∷ filter is_telling more else filter is_telling more) told
+
+telling_list : (list : List ℕ) → is_telling list ≡ true → (os more : List Outgoing) → AreUntold more → waiting ((os ++ more) ++ plain list ∷ []) ≡ waiting os ++ list ∷ []
+telling_list list told os more untold = waiting_told (os ++ more) list told ∙ ap (λ (ms : List (List ℕ)). ms ++ list ∷ []) (waiting_untold os more untold)
+
+pub list_is_telling : (c : ClientCoreState) → is_telling (list_bytes (listed c)) ≡ true
+list_is_telling c = rw (packet_is packet.DeviceListAnnounce packet.DeviceListAnnounce (list_bytes (listed c)) (written_packet packet.DeviceListAnnounce _)) refl
+
+one_is_telling : (c : ClientCoreState) (device : ℕ) → is_telling (list_bytes (listed_one c device)) ≡ true
+one_is_telling c device = rw (packet_is packet.DeviceListAnnounce packet.DeviceListAnnounce (list_bytes (listed_one c device)) (written_packet packet.DeviceListAnnounce _)) refl
+
+removal_is_telling : (device : ℕ) → is_telling (removal_bytes (device ∷ [])) ≡ true
+removal_is_telling device =
+    rw (packet_is packet.DeviceListRemove packet.DeviceListAnnounce (removal_bytes (device ∷ [])) (written_packet packet.DeviceListRemove _), packet_is packet.DeviceListRemove packet.DeviceListRemove (removal_bytes (device ∷ [])) (written_packet packet.DeviceListRemove _)) refl
+
+read_tells : (devices : List (ℕ × Declared)) (w : WorldState) (m : List ℕ) (d : ClientCoreState) → open_channel w.deeds ≡ Some w.channels → HearsTo w.client d → TellsAs devices w → TellsAs devices (read_by w m d)
+read_tells devices w m d opened h t = elim h.either [ inl kept ↦ quietly kept | inr becomes ↦ opening becomes ]
+  where
+    quietly : (is_client_ready (d.core).shake ≡ is_client_ready ((w.client).core).shake) × ((d.core).outbox ≡ ((w.client).core).outbox ++ h.more) → TellsAs devices (read_by w m d)
+    quietly (ready, outbox) =
+        unspoken_tells devices w (read_by w m d) (record {
+          more = client_reads w.channels m ∷ [];
+          silent = (tt, tt);
+          deeds = refl;
+          others = h.more;
+          untold = h.untold;
+          outbox = outbox;
+          ready = ready;
+          devices = h.devices;
+          channels = refl;
+          printers = refl;
+        }) t
+
+    ids : List ℕ
+    ids = ids_in devices
+
+    list : List ℕ
+    list = list_bytes (listed w.client)
+
+    opening : (is_client_ready ((w.client).core).shake ≡ false) × (is_client_ready (d.core).shake ≡ true) × ((d.core).outbox ≡ (((w.client).core).outbox ++ h.more) ++ plain (list_bytes (listed w.client)) ∷ []) → TellsAs devices (read_by w m d)
+    opening (was, is, outbox) =
+        let (none, due) = t.first opened was in
+        let now_is : tellings_on w.channels w.deeds ++ waiting (d.core).outbox ≡ list_bytes (listed w.client) ∷ [] =
+        ap (λ (os : List Outgoing). tellings_on w.channels w.deeds ++ waiting os) outbox
+        ∙ ap (λ (ms : List (List ℕ)). tellings_on w.channels w.deeds ++ ms) (telling_list (list_bytes (listed w.client)) (list_is_telling w.client) ((w.client).core).outbox h.more h.untold)
+        ∙ sym (append_assoc (tellings_on w.channels w.deeds) (waiting ((w.client).core).outbox) (list_bytes (listed w.client) ∷ []))
+        ∙ ap (λ (ms : List (List ℕ)). ms ++ list_bytes (listed w.client) ∷ []) none in
+        record {
+          shaped = subst (λ (ds : List ClientDevice). AllZip (IsShaped (ids_in devices) w.printers (client_reads w.channels m ∷ w.deeds)) devices ds) (sym h.devices)
+              (zip_as (IsShaped (ids_in devices) w.printers w.deeds) (IsShaped (ids_in devices) w.printers (client_reads w.channels m ∷ w.deeds))
+              (shaped_more (ids_in devices) w.printers w.deeds (client_reads w.channels m ∷ w.deeds) (λ k. refl)) devices (w.client).devices t.shaped);
+          bodies = λ is_open unready. absurd (cc (is, unready));
+          each = λ c.
+              say_as (Tells devices w.deeds c) (Tells devices (client_reads w.channels m ∷ w.deeds) c) (tells_later devices c (client_reads w.channels m ∷ []) w.deeds (client_reads w.channels m ∷ w.deeds) refl refl)
+              (tellings_on c w.deeds) (due_on (ids_in devices) c w.deeds) (t.each c);
+          now = subst (λ (ms : List (List ℕ)). SayFirst (Tells devices (client_reads w.channels m ∷ w.deeds) w.channels) ms (due_on (ids_in devices) w.channels w.deeds)) (sym now_is)
+              (subst (λ (ts : List Telling). SayFirst (Tells devices (client_reads w.channels m ∷ w.deeds) w.channels) (list_bytes (listed w.client) ∷ []) ts) (sym due)
+              (first_list (ids_in devices) w.printers w.deeds devices (cache_after (until_begin w.channels w.deeds)) w.client t.shaped (t.bodies opened was), tt));
+          all = λ is_open ready. ap length now_is ∙ ap length (sym due);
+          first = λ is_open unready. absurd (cc (is, unready));
+          above = t.above;
+          answers = subst (λ (os : List Outgoing). AllByRecursion AnswersUntold os) (sym outbox)
+              (all_append AnswersUntold (((w.client).core).outbox ++ h.more) (plain (list_bytes (listed w.client)) ∷ [])
+              (all_append AnswersUntold ((w.client).core).outbox h.more t.answers (answers_untold h.more h.untold)) (tt, tt));
+        }
+
+hears_tells : (devices : List (ℕ × Declared)) (w : WorldState) (m : List ℕ) → open_channel w.deeds ≡ Some w.channels → TellsAs devices w → TellsAs devices (client_hears w m)
+hears_tells devices w m opened t =
+    unspoken_tells devices (read_by w m (client_hear w.client m).0) (client_hears w m) (hears_unspoken w m) (read_tells devices w m (client_hear w.client m).0 opened (hears_to w.client m) t)
+
+-- ---- a device is removed, and added
+
+open_at : (c n : ℕ) (deeds : List Deed) → open_channel deeds ≡ Some n → is_open_at c deeds ≡ (n == c)
+open_at c n deeds opened = ap (λ (o : Option ℕ). option_map_or (λ channel. channel == c) o false) opened
+
+own_open : (n : ℕ) (deeds : List Deed) → open_channel deeds ≡ Some n → is_open_at n deeds ≡ true
+own_open n deeds opened = open_at n n deeds opened ∙ eq-eqb n n refl
+
+over_open : (c n : ℕ) (deeds : List Deed) → open_channel deeds ≡ Some n → n < c → is_open_at c deeds ≡ false
+over_open c n deeds opened over = open_at c n deeds opened ∙ by (n == c) refl
+  where
+    by : (b : Bool) → (n == c) ≡ b → b ≡ false
+    by true e = let same : n ≡ c = eqb-true n c e in absurd (omega (arith, over, same))
+    by false e = refl
+
+-- by a deed by which one thing more is due on the open channel, and a message that says it
+one_more : (devices : List (ℕ × Declared)) (w v : WorldState) (x : Deed) (m : List ℕ) (thing : Telling) → v.deeds ≡ x ∷ w.deeds → ((v.client).core).outbox ≡ ((w.client).core).outbox ++ plain m ∷ []
+    → client_ready v ≡ true → client_ready w ≡ true → v.channels ≡ w.channels → open_channel w.deeds ≡ Some w.channels
+    → AllZip (IsShaped (ids_in devices) v.printers v.deeds) devices (v.client).devices
+    → ((c : ℕ) → until_begin c (x ∷ w.deeds) ≡ until_begin c w.deeds) → ((c : ℕ) → tellings_on c (x ∷ w.deeds) ≡ tellings_on c w.deeds)
+    → ((c : ℕ) → due_on (ids_in devices) c (x ∷ w.deeds) ≡ due_on (ids_in devices) c w.deeds ++ (if is_open_at c w.deeds then thing ∷ [] else []))
+    → is_telling m ≡ true → Tells devices (x ∷ w.deeds) w.channels thing m → TellsAs devices w → TellsAs devices v
+one_more devices w v x m thing deeds outbox ready was_ready channels opened shaped begun told due telling says t = record {
+  shaped = shaped;
+  bodies = λ is_open unready. absurd (cc (ready, unready));
+  each = λ c. subst (λ (ds : List Deed). SayFirst (Tells devices ds c) (tellings_on c ds) (due_on ids c ds)) (sym deeds)
+      (subst (λ (ms : List (List ℕ)). SayFirst (Tells devices (x ∷ w.deeds) c) ms (due_on ids c (x ∷ w.deeds))) (sym (told c))
+      (subst (λ (ts : List Telling). SayFirst (Tells devices (x ∷ w.deeds) c) (tellings_on c w.deeds) ts) (sym (due c))
+      (say_more (Tells devices (x ∷ w.deeds) c) (tellings_on c w.deeds) (due_on ids c w.deeds) (if is_open_at c w.deeds then thing ∷ [] else []) (later c (tellings_on c w.deeds) (due_on ids c w.deeds) (t.each c)))));
+  now = subst (λ (n : ℕ). SayFirst (Tells devices v.deeds n) (tellings_on n v.deeds ++ waiting ((v.client).core).outbox) (due_on ids n v.deeds)) (sym channels)
+      (subst (λ (ds : List Deed). SayFirst (Tells devices ds w.channels) (tellings_on w.channels v.deeds ++ waiting ((v.client).core).outbox) (due_on ids w.channels v.deeds)) (sym deeds)
+      (subst (λ (ms : List (List ℕ)). SayFirst (Tells devices (x ∷ w.deeds) w.channels) ms (due_on ids w.channels v.deeds)) (sym now_same)
+      (subst (λ (ts : List Telling). SayFirst (Tells devices (x ∷ w.deeds) w.channels) ((tellings_on w.channels w.deeds ++ waiting ((w.client).core).outbox) ++ m ∷ []) ts) (sym due_same)
+      (say_both (Tells devices (x ∷ w.deeds) w.channels) (tellings_on w.channels w.deeds ++ waiting ((w.client).core).outbox) (due_on ids w.channels w.deeds) m thing (t.all opened was_ready) says
+      (later w.channels (tellings_on w.channels w.deeds ++ waiting ((w.client).core).outbox) (due_on ids w.channels w.deeds) t.now)))));
+  all = λ is_open is_ready.
+      let at_now = ap (λ (n : ℕ). length (tellings_on n v.deeds ++ waiting ((v.client).core).outbox)) channels ∙ ap length now_same in
+      let at_due = ap (λ (n : ℕ). length (due_on ids n v.deeds)) channels ∙ ap length due_same in
+      at_now ∙ length-append (tellings_on w.channels w.deeds ++ waiting ((w.client).core).outbox) (m ∷ []) ∙ ap (λ (k : ℕ). k + 1) (t.all opened was_ready)
+      ∙ sym (length-append (due_on ids w.channels w.deeds) (thing ∷ [])) ∙ sym at_due;
+  first = λ is_open unready. absurd (cc (ready, unready));
+  above = λ c over.
+      let higher : w.channels < c = subst (λ (n : ℕ). n < c) channels over in
+      ap (due_on ids c) deeds ∙ due c ∙ ap (λ (b : Bool). due_on ids c w.deeds ++ (if b then thing ∷ [] else [])) (over_open c w.channels w.deeds opened higher)
+      ∙ append-nil (due_on ids c w.deeds) ∙ t.above c higher;
+  answers = subst (λ (os : List Outgoing). AllByRecursion AnswersUntold os) (sym outbox) (all_append AnswersUntold ((w.client).core).outbox (plain m ∷ []) t.answers (tt, tt));
+}
+  where
+    ids : List ℕ
+    ids = ids_in devices
+
+    later : (c : ℕ) (ms : List (List ℕ)) (ts : List Telling) → SayFirst (Tells devices w.deeds c) ms ts → SayFirst (Tells devices (x ∷ w.deeds) c) ms ts
+    later c ms ts is = say_as (Tells devices w.deeds c) (Tells devices (x ∷ w.deeds) c) (tells_later devices c (x ∷ []) w.deeds (x ∷ w.deeds) refl (begun c)) ms ts is
+
+    now_same : tellings_on w.channels v.deeds ++ waiting ((v.client).core).outbox ≡ (tellings_on w.channels w.deeds ++ waiting ((w.client).core).outbox) ++ m ∷ []
+    now_same =
+        ap (λ (ds : List Deed). tellings_on w.channels ds ++ waiting ((v.client).core).outbox) deeds ∙ ap (λ (ms : List (List ℕ)). ms ++ waiting ((v.client).core).outbox) (told w.channels)
+        ∙ ap (λ (os : List Outgoing). tellings_on w.channels w.deeds ++ waiting os) outbox ∙ ap (λ (ms : List (List ℕ)). tellings_on w.channels w.deeds ++ ms) (waiting_told ((w.client).core).outbox m telling)
+        ∙ sym (append_assoc (tellings_on w.channels w.deeds) (waiting ((w.client).core).outbox) (m ∷ []))
+
+    due_same : due_on ids w.channels v.deeds ≡ due_on ids w.channels w.deeds ++ thing ∷ []
+    due_same = ap (due_on ids w.channels) deeds ∙ due w.channels ∙ ap (λ (b : Bool). due_on ids w.channels w.deeds ++ (if b then thing ∷ [] else [])) (own_open w.channels w.deeds opened)
+
+removed_tells : (devices : List (ℕ × Declared)) (w : WorldState) (device : ℕ) → open_channel w.deeds ≡ Some w.channels → client_ready w ≡ true → TellsAs devices w → TellsAs devices (told_removed w device)
+removed_tells devices w device opened ready t =
+    one_more devices w (told_removed w device) (removes device) (removal_bytes (device ∷ [])) (removal device) refl refl ready ready refl opened
+    (zip_map (IsShaped (ids_in devices) w.printers w.deeds) (IsShaped (ids_in devices) w.printers (removes device ∷ w.deeds)) (device_marked device true) (removed_shaped (ids_in devices) w.printers w.deeds device)
+    devices (w.client).devices t.shaped) (λ c. refl) (λ c. refl) (λ c. refl) (removal_is_telling device) refl t
+
+added_tells : (devices : List (ℕ × Declared)) (w : WorldState) (c : ClientCoreState) (device : ℕ) → open_channel w.deeds ≡ Some w.channels → client_ready w ≡ true → c.core ≡ (w.client).core → w.cache ≡ cache_after w.deeds
+    → AllZip (IsShaped (ids_in devices) w.printers w.deeds) devices c.devices → AllZip (λ (d : ℕ × Declared) x. (d.0 == device) ≡ true → HasBody w.cache d x) devices c.devices → TellsAs devices w
+    → TellsAs devices (told_added (with_client w c) device)
+added_tells devices w c device opened ready core kept shaped bodies t =
+    one_more devices w (told_added (with_client w c) device) (adds device) (list_bytes (listed_one c device)) (addition device (length (filter (is_add device) w.deeds))) refl
+    (ap (λ k. k.outbox ++ plain (list_bytes (listed_one c device)) ∷ []) core)
+    (ap (λ k. is_client_ready k.shake) core ∙ ready) ready refl opened
+    (zip_map (IsShaped (ids_in devices) w.printers w.deeds) (IsShaped (ids_in devices) w.printers (adds device ∷ w.deeds)) (device_marked device false) (added_shaped (ids_in devices) w.printers w.deeds device)
+    devices c.devices shaped) (λ c. refl) (λ c. refl) (λ c. refl) (one_is_telling c device)
+    ([], w.deeds, refl, refl, one_list (ids_in devices) w.printers w.deeds devices w.cache c shaped device bodies ∙ ap (λ (k : _). list_of devices k (device ∷ [])) kept) t
