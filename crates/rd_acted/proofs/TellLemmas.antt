@@ -14,10 +14,13 @@ use Rattle.rd_client.specs.Core as client
 use Rattle.rd_client.specs.Core.{ClientCoreState, ClientDevice, Outgoing, client_begin, client_hear, device_marked, listed, listed_one, plain}
 use Rattle.rd_client.specs.Order.{is_client_ready}
 use Rattle.rd_controls.proofs.Unseen.{client_ready}
+use Rattle.rd_core.specs.Core.{CoreState}
 use Rattle.rd_devices.specs.DeviceList.{list_bytes}
 use Rattle.rd_devices.specs.Removal.{removal_bytes}
 use Rattle.rd_drive.proofs.AllLemmas.{all_append}
+use Rattle.rd_hello.specs.declared.client.ClientState.{ClientState}
 use Rattle.rd_journals.proofs.ChannelLemmas.{all_refreshed, begun_on}
+use Rattle.rd_printer.specs.Cache.{CacheState}
 use Rattle.rd_runs.proofs.Parts.{IsBehind, MayBe, Part, adds_one, announced_by, begins, by_parts, client_hears_one, client_sends_one, cut_by, done, ends, refreshed_by, removes_one, told_added, told_removed}
 use Rattle.rd_runs.proofs.Reaching.{both}
 use Rattle.rd_runs.proofs.Standing.{Stands, needs_open}
@@ -298,9 +301,6 @@ sends_tells devices w d o made t =
 
 -- ---- a message is heard
 
-list_tells : (m : List ℕ) → is_telling m ≡ true → (more : List (List ℕ)) → filter is_telling (m ∷ more) ≡ m ∷ filter is_telling more
-list_tells m told more = ap (λ (b : Bool). if b then m ∷ filter is_telling more else filter is_telling more) told
-
 telling_list : (list : List ℕ) → is_telling list ≡ true → (os more : List Outgoing) → AreUntold more → waiting ((os ++ more) ++ plain list ∷ []) ≡ waiting os ++ list ∷ []
 telling_list list told os more untold = waiting_told (os ++ more) list told ∙ ap (λ (ms : List (List ℕ)). ms ++ list ∷ []) (waiting_untold os more untold)
 
@@ -331,12 +331,6 @@ read_tells devices w m d opened h t = elim h.either [ inl kept ↦ quietly kept 
           channels = refl;
           printers = refl;
         }) t
-
-    ids : List ℕ
-    ids = ids_in devices
-
-    list : List ℕ
-    list = list_bytes (listed w.client)
 
     opening : (is_client_ready ((w.client).core).shake ≡ false) × (is_client_ready (d.core).shake ≡ true) × ((d.core).outbox ≡ (((w.client).core).outbox ++ h.more) ++ plain (list_bytes (listed w.client)) ∷ []) → TellsAs devices (read_by w m d)
     opening (was, is, outbox) =
@@ -443,8 +437,156 @@ added_tells : (devices : List (ℕ × Declared)) (w : WorldState) (c : ClientCor
     → TellsAs devices (told_added (with_client w c) device)
 added_tells devices w c device opened ready core kept shaped bodies t =
     one_more devices w (told_added (with_client w c) device) (adds device) (list_bytes (listed_one c device)) (addition device (length (filter (is_add device) w.deeds))) refl
-    (ap (λ k. k.outbox ++ plain (list_bytes (listed_one c device)) ∷ []) core)
-    (ap (λ k. is_client_ready k.shake) core ∙ ready) ready refl opened
+    (ap (λ (k : CoreState ClientState Outgoing). k.outbox ++ plain (list_bytes (listed_one c device)) ∷ []) core)
+    (ap (λ (k : CoreState ClientState Outgoing). is_client_ready k.shake) core ∙ ready) ready refl opened
     (zip_map (IsShaped (ids_in devices) w.printers w.deeds) (IsShaped (ids_in devices) w.printers (adds device ∷ w.deeds)) (device_marked device false) (added_shaped (ids_in devices) w.printers w.deeds device)
     devices c.devices shaped) (λ c. refl) (λ c. refl) (λ c. refl) (one_is_telling c device)
-    ([], w.deeds, refl, refl, one_list (ids_in devices) w.printers w.deeds devices w.cache c shaped device bodies ∙ ap (λ (k : _). list_of devices k (device ∷ [])) kept) t
+    ([], w.deeds, refl, refl, one_list (ids_in devices) w.printers w.deeds devices w.cache c shaped device bodies ∙ ap (λ (k : CacheState). list_of devices k (device ∷ [])) kept) t
+
+-- ---- a channel begins, and ends
+
+begun_tells : (devices : List (ℕ × Declared)) (w : WorldState) (c : ClientCoreState) → w.cache ≡ cache_after w.deeds
+    → AllZip (IsShaped (ids_in devices) w.printers w.deeds) devices c.devices → AllZip (HasBody w.cache) devices c.devices → TellsAs devices w → TellsAs devices (begun_on w (with_client w c))
+begun_tells devices w c kept shaped bodies t = record {
+  shaped = zip_as (IsShaped ids w.printers w.deeds) (IsShaped ids w.printers (host_begins n ∷ w.deeds)) (shaped_more ids w.printers w.deeds (host_begins n ∷ w.deeds) (λ k. refl)) devices c.devices shaped;
+  bodies = λ is_open unready. subst (λ (k : CacheState). AllZip (HasBody k) devices c.devices) (kept ∙ ap cache_after (sym own_begin)) bodies;
+  each = each_one;
+  now = subst (λ (ms : List (List ℕ)). SayFirst (Tells devices (host_begins n ∷ w.deeds) n) ms (due_on ids n (host_begins n ∷ w.deeds))) (sym none_now) tt;
+  all = λ is_open ready. absurd cc;
+  first = λ is_open unready. (
+    none_now,
+    ap (λ (b : Bool). due_on ids n w.deeds ++ (if b then lists (there_of ids w.deeds) ∷ [] else [])) (eq-eqb n n refl)
+    ∙ ap (λ (ts : List Telling). ts ++ lists (there_of ids w.deeds) ∷ []) (t.above n (omega arith)),
+  );
+  above = λ k over.
+      ap (λ (b : Bool). due_on ids k w.deeds ++ (if b then lists (there_of ids w.deeds) ∷ [] else [])) (apart n k over) ∙ append-nil (due_on ids k w.deeds) ∙ t.above k (omega (arith, over));
+  answers = tt;
+}
+  where
+    ids : List ℕ
+    ids = ids_in devices
+
+    n : ℕ
+    n = w.channels + 1
+
+    own_begin : until_begin (w.channels + 1) (host_begins (w.channels + 1) ∷ w.deeds) ≡ w.deeds
+    own_begin = ap (λ (b : Bool). if b then w.deeds else until_begin (w.channels + 1) w.deeds) (eq-eqb (w.channels + 1) (w.channels + 1) refl)
+
+    apart : (a k : ℕ) → a < k → (a == k) ≡ false
+    apart a k over = by (a == k) refl
+      where
+        by : (b : Bool) → (a == k) ≡ b → b ≡ false
+        by true e = let same : a ≡ k = eqb-true a k e in absurd (omega (arith, over, same))
+        by false e = refl
+
+    untold : tellings_on (w.channels + 1) w.deeds ≡ []
+    untold =
+        say_none (Tells devices w.deeds (w.channels + 1)) (tellings_on (w.channels + 1) w.deeds)
+        (subst (λ (ts : List Telling). SayFirst (Tells devices w.deeds (w.channels + 1)) (tellings_on (w.channels + 1) w.deeds) ts) (t.above (w.channels + 1) (omega arith)) (t.each (w.channels + 1)))
+
+    none_now : tellings_on (w.channels + 1) w.deeds ++ [] ≡ []
+    none_now = append-nil (tellings_on (w.channels + 1) w.deeds) ∙ untold
+
+    each_one : (k : ℕ) → SayFirst (Tells devices (host_begins (w.channels + 1) ∷ w.deeds) k) (tellings_on k w.deeds) (due_on (ids_in devices) k w.deeds ++ (if (w.channels + 1) == k then lists (there_of (ids_in devices) w.deeds) ∷ [] else []))
+    each_one k = by (w.channels + 1 == k) refl
+      where
+        by : (b : Bool) → (w.channels + 1 == k) ≡ b
+            → SayFirst (Tells devices (host_begins (w.channels + 1) ∷ w.deeds) k) (tellings_on k w.deeds) (due_on (ids_in devices) k w.deeds ++ (if b then lists (there_of (ids_in devices) w.deeds) ∷ [] else []))
+        by true e =
+            let same : w.channels + 1 ≡ k = eqb-true (w.channels + 1) k e in
+            let none : tellings_on k w.deeds ≡ [] = subst (λ (i : ℕ). tellings_on i w.deeds ≡ []) same untold in
+            subst (λ (ms : List (List ℕ)). SayFirst (Tells devices (host_begins (w.channels + 1) ∷ w.deeds) k) ms (due_on (ids_in devices) k w.deeds ++ lists (there_of (ids_in devices) w.deeds) ∷ [])) (sym none) tt
+        by false e =
+            say_more (Tells devices (host_begins (w.channels + 1) ∷ w.deeds) k) (tellings_on k w.deeds) (due_on (ids_in devices) k w.deeds) []
+            (say_as (Tells devices w.deeds k) (Tells devices (host_begins (w.channels + 1) ∷ w.deeds) k)
+            (tells_later devices k (host_begins (w.channels + 1) ∷ []) w.deeds (host_begins (w.channels + 1) ∷ w.deeds) refl (ap (λ (b : Bool). if b then w.deeds else until_begin k w.deeds) e))
+            (tellings_on k w.deeds) (due_on (ids_in devices) k w.deeds) (t.each k))
+
+connects_tells : (devices : List (ℕ × Declared)) (w : WorldState) → w.cache ≡ cache_after w.deeds → TellsAs devices w → TellsAs devices (connects w)
+connects_tells devices w kept t =
+    let fresh : WorldState = fold refreshing w (map (λ (e : ℕ × PrinterNames). e.0) w.printers) in
+    let (shaped, bodies) = fresh_all (ids_in devices) w.printers w.deeds devices w.cache w refl refl t.shaped in
+    subst (λ (x : WorldState). TellsAs devices (begun_on w x)) (sym (all_refreshed (map (λ (e : ℕ × PrinterNames). e.0) w.printers) w))
+    (begun_tells devices w fresh.client kept shaped bodies t)
+
+ended_tells : (devices : List (ℕ × Declared)) (w : WorldState) → TellsAs devices w → TellsAs devices (cutting w)
+ended_tells devices w t = over (unspoken_tells devices w (fold dropping w stations) (all_dropped_unspoken stations w) t)
+  where
+    stations : List ℕ
+    stations = map (λ (e : ℕ × StationState SessionDevice). e.0) w.stations
+
+    over : TellsAs devices (fold dropping w (map (λ (e : ℕ × StationState SessionDevice). e.0) w.stations)) → TellsAs devices (cutting w)
+    over u =
+        let cut : WorldState = fold dropping w (map (λ (e : ℕ × StationState SessionDevice). e.0) w.stations) in
+        let ids : List ℕ = ids_in devices in
+        let later : (c : ℕ) → SayFirst (Tells devices (host_ends cut.channels ∷ cut.deeds) c) (tellings_on c cut.deeds) (due_on ids c cut.deeds) =
+        λ c.
+            say_as (Tells devices cut.deeds c) (Tells devices (host_ends cut.channels ∷ cut.deeds) c) (tells_later devices c (host_ends cut.channels ∷ []) cut.deeds (host_ends cut.channels ∷ cut.deeds) refl refl)
+            (tellings_on c cut.deeds) (due_on ids c cut.deeds) (u.each c) in
+        record {
+          shaped = zip_as (IsShaped ids cut.printers cut.deeds) (IsShaped ids cut.printers (host_ends cut.channels ∷ cut.deeds)) (shaped_more ids cut.printers cut.deeds (host_ends cut.channels ∷ cut.deeds) (λ k. refl)) devices
+              (cut.client).devices u.shaped;
+          bodies = λ is_open unready. absurd (cc is_open);
+          each = later;
+          now = subst (λ (ms : List (List ℕ)). SayFirst (Tells devices (host_ends cut.channels ∷ cut.deeds) cut.channels) ms (due_on ids cut.channels cut.deeds)) (sym (append-nil (tellings_on cut.channels cut.deeds))) (later cut.channels);
+          all = λ is_open ready. absurd (cc is_open);
+          first = λ is_open unready. absurd (cc is_open);
+          above = u.above;
+          answers = tt;
+        }
+
+-- ---- every world
+
+module _ (lines : List NumberedLine) (starves : Key → Bool) (premises : RunPremises lines) where
+  abbrev devices : List (ℕ × Declared)
+  devices = declared_devices (bare_lines lines)
+
+  first_tells : TellsAs devices (world_of lines)
+  first_tells = subst (TellsAs devices) (sym (begun_by lines _ (lines_begin lines))) (record {
+    shaped = first_shaped devices (declared_openable lines premises.declared);
+    bodies = λ is_open unready. absurd (cc is_open);
+    each = λ c. tt;
+    now = tt;
+    all = λ is_open ready. absurd (cc is_open);
+    first = λ is_open unready. absurd (cc is_open);
+    above = λ c over. refl;
+    answers = tt;
+  })
+
+  part_tells : (w : WorldState) (p : Part) → MayBe lines starves w p → Stands w → w.cache ≡ cache_after w.deeds → TellsAs devices w → TellsAs devices (done starves w p)
+  part_tells w begins may stands kept t = connects_tells devices w kept t
+  part_tells w ends may stands kept t = ended_tells devices w t
+  part_tells w (client_sends_one c o) may stands kept t = sends_tells devices w c o may t
+  part_tells w (client_hears_one message rest) may stands kept t =
+      let x : WorldState = record w { to_client = record w.to_client { part = []; taken = _; unhandled = rest } } in
+      hears_tells devices x message (needs_open lines starves w (client_hears_one message rest) may tt stands)
+      (unspoken_tells devices w x (unspoken_deeds [] tt refl refl refl refl) t)
+  part_tells w (removes_one device o) (can, there) stands kept t =
+      let opened = needs_open lines starves w (removes_one device o) (can, there) tt stands in
+      let ready = (both (is_channel_open w) (client_ready w) (both (is_ready w) _ can).0).1 in
+      let told : WorldState = told_removed w device in
+      unspoken_tells devices told _ (option_unspoken told (λ (s : StationState SessionDevice). with_station told device (station.remove s (device_cut s.device).state).0) o
+      (λ s. stationed_unspoken told device (station.remove s (device_cut s.device).state).0)) (removed_tells devices w device opened ready t)
+  part_tells w (adds_one device names o) (can, named, there) stands kept t =
+      let opened = needs_open lines starves w (adds_one device names o) (can, named, there) tt stands in
+      let ready = (both (is_channel_open w) (client_ready w) (both (is_ready w) _ can).0).1 in
+      let (shaped, bodies) = fresh_one (ids_in devices) w.printers w.deeds devices w.cache w device names named refl refl t.shaped in
+      announced (told_added (refreshed_by w device names) device) device o (adding names shaped bodies opened ready)
+    where
+      announced : (x : WorldState) (k : ℕ) (s : Option (StationState SessionDevice)) → TellsAs (declared_devices (bare_lines lines)) x → TellsAs (declared_devices (bare_lines lines)) (announced_by x k s)
+      announced x k s own = unspoken_tells (declared_devices (bare_lines lines)) x _ (option_unspoken x (λ (y : StationState SessionDevice). with_station x k (station.announce y).0) s (λ y. stationed_unspoken x k (station.announce y).0)) own
+
+      adding : (n : Option PrinterNames) → AllZip (IsShaped (ids_in devices) w.printers w.deeds) devices ((refreshed_by w device n).client).devices
+          → AllZip (λ (d : ℕ × Declared) x. (d.0 == device) ≡ true → HasBody w.cache d x) devices ((refreshed_by w device n).client).devices → open_channel w.deeds ≡ Some w.channels → client_ready w ≡ true
+          → TellsAs devices (told_added (refreshed_by w device n) device)
+      adding None shaped bodies opened ready = added_tells devices w w.client device opened ready refl kept shaped bodies t
+      adding (Some found) shaped bodies opened ready = added_tells devices w (client.refresh w.client device (printer_data w.cache found)) device opened ready refl kept shaped bodies t
+  part_tells w p may stands kept t = unspoken_tells devices w (done starves w p) (quiet_unspoken starves w p tt) t
+
+  -- Where nothing that a client read was wrong it tells what is due.
+  pub behind_tells : (w : WorldState) → IsBehind lines starves w → AreReadWell w.deeds → TellsAs devices w
+  behind_tells =
+      by_parts lines starves (λ w. AreReadWell w.deeds → TellsAs devices w) (λ well. first_tells)
+      (λ w p before after may is well.
+          let earlier = part_well lines starves w p may well in
+          part_tells w p may (knows lines starves premises w before).stands (behind_read_as lines starves premises w before earlier).2 (is earlier))
