@@ -7,3 +7,4 @@ pub mod ListLemmas
 pub mod NoticeLemmas
 pub mod ReadLemmas
 pub mod TellLemmas
+pub mod InTimeLemmas

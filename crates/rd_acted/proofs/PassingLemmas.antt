@@ -8,11 +8,11 @@ use Rattle.rd_runs.proofs.Parts.{MayBe, Part, accepts, adds_one, applies_one, be
 use Rattle.rd_script.specs.declared.line.NumberedLine.{NumberedLine}
 use Rattle.rd_station.specs.Station as station
 use Rattle.rd_station.specs.Station.{StationState}
-use Rattle.rd_world.specs.Acts.{Tells, is_add, tellings_on}
+use Rattle.rd_world.specs.Acts.{tellings_due, tellings_on}
 use Rattle.rd_world.specs.Devices.{Declared, device_cut}
 use Rattle.rd_world.specs.Events.{came_of, completion_message, dropping}
 use Rattle.rd_world.specs.Talk as deed
-use Rattle.rd_world.specs.Talk.{Deed, client_reads, completes, host_reads, host_writes, is_removed, open_channel, stores, submits, takes, tells, until_begin}
+use Rattle.rd_world.specs.Talk.{Deed, client_reads, completes, has_ended, host_reads, host_writes, is_removed, open_channel, stores, submits, takes, tells, until_begin}
 use Rattle.rd_world.specs.World.{WorldState, station_at, with_station}
 use Rattle.rd_world.specs.declared.device.SessionDevice.{SessionDevice}
 use Rattle.rd_acted.proofs.QuietLemmas.{AreSilent, IsSilent, Unspoken, completion_untold, option_unspoken, put_unspoken, stationed_unspoken, unspoken_by, unspoken_deeds, unspoken_none}
@@ -77,20 +77,22 @@ pub record Left (old new : List Deed) : Type 0 where
   pub opened : open_channel new ≡ open_channel old
   pub told : (c : ℕ) → tellings_on c new ≡ tellings_on c old
   pub due : (ids : List ℕ) (c : ℕ) → due_on ids c new ≡ due_on ids c old
+  pub count : (c : ℕ) → tellings_due c new ≡ tellings_due c old
+  pub ended : (c : ℕ) → has_ended c new ≡ has_ended c old
 
-left_one : (x : Deed) (deeds : List Deed) → IsSilent x → Left deeds (x ∷ deeds)
-left_one (stores device item) deeds silent = record { removed = λ d. refl; begun = λ c. refl; opened = refl; told = λ c. refl; due = λ ids c. refl }
-left_one (submits a named op) deeds silent = record { removed = λ d. refl; begun = λ c. refl; opened = refl; told = λ c. refl; due = λ ids c. refl }
-left_one (takes number) deeds silent = record { removed = λ d. refl; begun = λ c. refl; opened = refl; told = λ c. refl; due = λ ids c. refl }
-left_one (tells n) deeds silent = record { removed = λ d. refl; begun = λ c. refl; opened = refl; told = λ c. refl; due = λ ids c. refl }
-left_one (host_writes channel message) deeds silent = record { removed = λ d. refl; begun = λ c. refl; opened = refl; told = λ c. refl; due = λ ids c. refl }
-left_one (host_reads channel message) deeds silent = record { removed = λ d. refl; begun = λ c. refl; opened = refl; told = λ c. refl; due = λ ids c. refl }
-left_one (completes key message) deeds silent = record { removed = λ d. refl; begun = λ c. refl; opened = refl; told = λ c. completes_tell c key message deeds silent; due = λ ids c. refl }
-left_one (client_reads channel message) deeds silent = record { removed = λ d. refl; begun = λ c. refl; opened = refl; told = λ c. refl; due = λ ids c. refl }
+pub left_one : (x : Deed) (deeds : List Deed) → IsSilent x → Left deeds (x ∷ deeds)
+left_one (stores device item) deeds silent = record { removed = λ d. refl; begun = λ c. refl; opened = refl; told = λ c. refl; due = λ ids c. refl; count = λ c. refl; ended = λ c. refl }
+left_one (submits a named op) deeds silent = record { removed = λ d. refl; begun = λ c. refl; opened = refl; told = λ c. refl; due = λ ids c. refl; count = λ c. refl; ended = λ c. refl }
+left_one (takes number) deeds silent = record { removed = λ d. refl; begun = λ c. refl; opened = refl; told = λ c. refl; due = λ ids c. refl; count = λ c. refl; ended = λ c. refl }
+left_one (tells n) deeds silent = record { removed = λ d. refl; begun = λ c. refl; opened = refl; told = λ c. refl; due = λ ids c. refl; count = λ c. refl; ended = λ c. refl }
+left_one (host_writes channel message) deeds silent = record { removed = λ d. refl; begun = λ c. refl; opened = refl; told = λ c. refl; due = λ ids c. refl; count = λ c. refl; ended = λ c. refl }
+left_one (host_reads channel message) deeds silent = record { removed = λ d. refl; begun = λ c. refl; opened = refl; told = λ c. refl; due = λ ids c. refl; count = λ c. refl; ended = λ c. refl }
+left_one (completes key message) deeds silent = record { removed = λ d. refl; begun = λ c. refl; opened = refl; told = λ c. completes_tell c key message deeds silent; due = λ ids c. refl; count = λ c. refl; ended = λ c. refl }
+left_one (client_reads channel message) deeds silent = record { removed = λ d. refl; begun = λ c. refl; opened = refl; told = λ c. refl; due = λ ids c. refl; count = λ c. refl; ended = λ c. refl }
 left_one x deeds silent = absurd silent
 
 pub left_all : (more deeds : List Deed) → AreSilent more → Left deeds (more ++ deeds)
-left_all [] deeds silent = record { removed = λ d. refl; begun = λ c. refl; opened = refl; told = λ c. refl; due = λ ids c. refl }
+left_all [] deeds silent = record { removed = λ d. refl; begun = λ c. refl; opened = refl; told = λ c. refl; due = λ ids c. refl; count = λ c. refl; ended = λ c. refl }
 left_all (x ∷ more) deeds silent =
     let one = left_one x (more ++ deeds) silent.0 in
     let all = left_all more deeds silent.1 in
@@ -100,6 +102,8 @@ left_all (x ∷ more) deeds silent =
       opened = one.opened ∙ all.opened;
       told = λ c. one.told c ∙ all.told c;
       due = λ ids c. one.due ids c ∙ all.due ids c;
+      count = λ c. one.count c ∙ all.count c;
+      ended = λ c. one.ended c ∙ all.ended c;
     }
 
 pub left_unspoken : (w v : WorldState) → Unspoken w v → Left w.deeds v.deeds
