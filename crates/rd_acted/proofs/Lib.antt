@@ -8,3 +8,4 @@ pub mod NoticeLemmas
 pub mod ReadLemmas
 pub mod TellLemmas
 pub mod InTimeLemmas
+pub mod DueLemmas

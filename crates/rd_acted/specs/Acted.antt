@@ -6,9 +6,10 @@ use Rattle.rd_client.specs.Core.{HostSays, client_side}
 use Rattle.rd_core.specs.Hearing.{Meaning, nothing, opens, said, says, wrong}
 use Rattle.rd_hello.specs.declared.client.ClientState.{ClientState}
 use Rattle.rd_hello.specs.declared.client.ClientState.TheVariants.{Start}
+use Rattle.rd_printer.specs.declared.notice.Notice.{Notice}
 use Rattle.rd_world.specs.Acts.{act_by, is_add}
 use Rattle.rd_world.specs.Control.{Act, Control, Telling, added, addition, additions, begun, dropped_at, ended, lists, noticed, present, removal, removed}
-use Rattle.rd_world.specs.Talk.{Deed, adds, client_read, host_begins, is_open_at, is_removed, removes}
+use Rattle.rd_world.specs.Talk.{Deed, adds, client_read, host_begins, is_open_at, is_removed, removes, tells}
 
 -- before the first channel
 abbrev pub no_control : List ℕ → Control
@@ -90,3 +91,11 @@ state_read (message ∷ older) = option_and_then (λ state. state_after state (s
 -- nothing that a client read was wrong
 abbrev pub AreReadWell : List Deed → Type 0
 AreReadWell deeds = (c : ℕ) → IsSome (state_read (client_read c deeds))
+
+-- ---- what is told of printers
+
+-- what the host is due to tell of printers on a channel, the oldest first
+abbrev pub notices_due : ℕ → List Deed → List Notice
+notices_due c [] = []
+notices_due c (tells n ∷ before) = notices_due c before ++ (if is_open_at c before then n ∷ [] else [])
+notices_due c (deed ∷ before) = notices_due c before
