@@ -9,3 +9,4 @@ pub mod ReadLemmas
 pub mod TellLemmas
 pub mod InTimeLemmas
 pub mod DueLemmas
+pub mod CuttingLemmas

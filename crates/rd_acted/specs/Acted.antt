@@ -1,5 +1,5 @@
 -- What control lines do, by what was done: it follows from the acts alone.
-use Rattle.std.specs.Prelude.{◌≡◌, ℕ, ◌==◌, not, if◌then◌else◌, List, [], ◌∷◌, ◌++◌, filter, fold, length, Option, Some, None, IsSome}
+use Rattle.std.specs.Prelude.{◌≡◌, ◌≢◌, ℕ, ◌==◌, not, if◌then◌else◌, List, [], ◌∷◌, ◌++◌, filter, fold, length, Option, Some, None, IsSome}
 use Rattle.std.specs.Option.{option_and_then, option_map_or}
 use Rattle.rd_base.specs.declared.journal.Cause.TheVariants.{Removed}
 use Rattle.rd_client.specs.Core.{HostSays, client_side}
@@ -7,9 +7,9 @@ use Rattle.rd_core.specs.Hearing.{Meaning, nothing, opens, said, says, wrong}
 use Rattle.rd_hello.specs.declared.client.ClientState.{ClientState}
 use Rattle.rd_hello.specs.declared.client.ClientState.TheVariants.{Start}
 use Rattle.rd_printer.specs.declared.notice.Notice.{Notice}
-use Rattle.rd_world.specs.Acts.{act_by, is_add}
+use Rattle.rd_world.specs.Acts.{act_by, is_add, tellings_on}
 use Rattle.rd_world.specs.Control.{Act, Control, Telling, added, addition, additions, begun, dropped_at, ended, lists, noticed, present, removal, removed}
-use Rattle.rd_world.specs.Talk.{Deed, adds, client_read, host_begins, is_open_at, is_removed, removes, tells}
+use Rattle.rd_world.specs.Talk.{Deed, adds, client_read, host_begins, host_ends, is_open_at, is_removed, removes, tells}
 
 -- before the first channel
 abbrev pub no_control : List ℕ → Control
@@ -99,3 +99,10 @@ abbrev pub notices_due : ℕ → List Deed → List Notice
 notices_due c [] = []
 notices_due c (tells n ∷ before) = notices_due c before ++ (if is_open_at c before then n ∷ [] else [])
 notices_due c (deed ∷ before) = notices_due c before
+
+-- ---- where channels end
+
+-- a channel ends only where something was told of devices on it
+abbrev pub EndsTold : List Deed → Deed → Type 0
+EndsTold before (host_ends channel) = tellings_on channel before ≢ []
+EndsTold before deed = Unit {0}
