@@ -10,3 +10,4 @@ pub mod TellLemmas
 pub mod InTimeLemmas
 pub mod DueLemmas
 pub mod CuttingLemmas
+pub mod ThereLemmas

@@ -8,6 +8,7 @@ use Rattle.rd_base.specs.declared.journal.Item.{Item}
 use Rattle.rd_base.specs.declared.journal.Key.{Key}
 use Rattle.rd_client.specs.Core as client
 use Rattle.rd_client.specs.Core.{ClientCoreState, HostSays, Outgoing, client_begin, client_hear, client_hear_made, client_opened, client_side, listed, plain}
+use Rattle.rd_client.specs.Order.{is_client_ready}
 use Rattle.rd_client.specs.declared.heard.Heard.{Heard}
 use Rattle.rd_client.specs.declared.heard.Heard.TheVariants.{Nothing, Ask, Print}
 use Rattle.rd_controls.proofs.Numbers.{picked_reverse, reverse_cons}
@@ -404,3 +405,36 @@ module _ (lines : List NumberedLine) (starves : Key → Bool) (premises : RunPre
       step w begins ordered may well is = begins_read_as w (ordered.unread (w.channels + 1) (omega arith)) is.2
       step w (client_hears_one message rest) ordered may well is = hears_read_as (record w { to_client = record w.to_client { part = []; taken = _; unhandled = rest } }) message well is
       step w p ordered may well is = unheard_as w (done starves w p) (unheard lines starves w p may (λ (hears : Hears p). hears)) is
+
+-- ---- what is done stays done
+
+pub part_grows : (lines : List NumberedLine) (starves : Key → Bool) (w : WorldState) (p : Part) → MayBe lines starves w p → (more : List Deed) × ((done starves w p).deeds ≡ more ++ w.deeds)
+part_grows lines starves w begins may =
+    (host_begins (w.channels + 1) ∷ [], ap (λ (x : WorldState). (begun_on w x).deeds) (all_refreshed (map (λ (e : ℕ × PrinterNames). e.0) w.printers) w))
+part_grows lines starves w (client_hears_one message rest) may =
+    let x : WorldState = record w { to_client = record w.to_client { part = []; taken = _; unhandled = rest } } in
+    let g = hears_grows x message in
+    (g.0 ++ client_reads w.channels message ∷ [], g.1 ∙ sym (append_assoc g.0 (client_reads w.channels message ∷ []) w.deeds))
+part_grows lines starves w p may = let u = unheard lines starves w p may (λ (hears : Hears p). hears) in (u.more, u.deeds)
+
+-- the client became ready by a message that asks for nothing
+pub ready_by : (c : ClientCoreState) (m : List ℕ) → is_client_ready (c.core).shake ≡ false → is_client_ready (((client_hear c m).0).core).shake ≡ true → (client_hear c m).1 ≡ Ok Nothing
+ready_by c m was is = by (c.core).fault refl
+  where
+    meaning : (s : Meaning ClientState HostSays) → is_client_ready (((made c s).0).core).shake ≡ true → (made c s).1 ≡ Ok Nothing
+    meaning (wrong fault) ready = absurd (cc (was, ready))
+    meaning nothing ready = refl
+    meaning (opens row) ready = refl
+    meaning (says (client.requests r)) ready = absurd (cc (was, ready))
+    meaning (says (client.replies r)) ready = refl
+    meaning (says (client.notices n)) ready = absurd (cc (was, ready))
+
+    by : (f : Option EndFault) → (c.core).fault ≡ f → (client_hear c m).1 ≡ Ok Nothing
+    by (Some fault) e =
+        let deaf : client_hear c m ≡ (c, Err fault) = rw e refl in
+        let ready : is_client_ready (c.core).shake ≡ true = sym (ap (λ (r : ClientCoreState × Result Heard EndFault). is_client_ready ((r.0).core).shake) deaf) ∙ is in
+        absurd (cc (was, ready))
+    by None e =
+        let heard = listening c m e in
+        ap (λ (r : ClientCoreState × Result Heard EndFault). r.1) heard
+        ∙ meaning (said client_side (c.core).shake m) (sym (ap (λ (r : ClientCoreState × Result Heard EndFault). is_client_ready ((r.0).core).shake) heard) ∙ is)

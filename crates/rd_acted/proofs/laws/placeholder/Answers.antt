@@ -1,4 +1,4 @@
-use Rattle.rd_acted.proofs.CuttingLemmas.{all_dropped, none_live}
+use Rattle.rd_acted.proofs.ThereLemmas.{put_there}
 use Rattle.rd_acted.proofs.laws.placeholder.Goals as goal
 use Rattle.std.proofs.Common.{refl}
 
