@@ -11,3 +11,4 @@ pub mod InTimeLemmas
 pub mod DueLemmas
 pub mod CuttingLemmas
 pub mod ThereLemmas
+pub mod CutThereLemmas

@@ -168,7 +168,7 @@ unspoken_tells devices w v u t = record {
 
 -- ---- a message of its own is written
 
-sent_is : (c d : ClientCoreState) (o : Outgoing) → client.client_send c ≡ (d, Some o) → (rest : List Outgoing) × ((c.core).outbox ≡ o ∷ rest) × (d ≡ record c { core = record c.core { outbox = rest } })
+pub sent_is : (c d : ClientCoreState) (o : Outgoing) → client.client_send c ≡ (d, Some o) → (rest : List Outgoing) × ((c.core).outbox ≡ o ∷ rest) × (d ≡ record c { core = record c.core { outbox = rest } })
 sent_is c d o made = by (c.core).outbox refl
   where
     by : (os : List Outgoing) → (c.core).outbox ≡ os → (rest : List Outgoing) × ((c.core).outbox ≡ o ∷ rest) × (d ≡ record c { core = record c.core { outbox = rest } })

@@ -85,7 +85,7 @@ room_in w ordered short d s there =
     let less : entry_count (record s { live = false }) < 16777216 = omega (arith, tied, short d, most, size_held s) in
     grind (arith, nat_tests, less)
 
-announced_live : (s : Of) → HasRoom s → (station.announce s).0.live ≡ true
+pub announced_live : (s : Of) → HasRoom s → (station.announce s).0.live ≡ true
 announced_live s room = by s.live refl
   where
     by : (b : Bool) → s.live ≡ b → (station.announce s).0.live ≡ true
@@ -100,7 +100,7 @@ announced_room s room = by s.live (nat_le max_entries (entry_count s))
     by false true = room
     by false false = room
 
-announced_silent : (s : Of) → (station.announce s).0.journal ≡ s.journal ++ []
+pub announced_silent : (s : Of) → (station.announce s).0.journal ≡ s.journal ++ []
 announced_silent s = by s.live (nat_le max_entries (entry_count s)) ∙ sym (append-nil s.journal)
   where
     by : (a b : Bool) → (let t = (if◌then◌else◌ {A = Of × Result (Unit {0}) AnnounceNo} a (s, Err no.Live) (if b then (s, Err (no.Worn (entry_count s))) else (record s { live = true }, Ok tt))).0 in t.journal) ≡ s.journal
@@ -110,7 +110,7 @@ announced_silent s = by s.live (nat_le max_entries (entry_count s)) ∙ sym (app
 
 -- ---- what leaves stations as they are
 
-told_there_same : (w v : WorldState) → Unspoken w v → (d : ℕ) → is_told_there v d ≡ is_told_there w d
+pub told_there_same : (w v : WorldState) → Unspoken w v → (d : ℕ) → is_told_there v d ≡ is_told_there w d
 told_there_same w v u d =
     let left = left_unspoken w v u in
     ap (λ (o : Option ℕ). is_some o && (client_ready v && not (is_removed d v.deeds))) left.opened
@@ -231,14 +231,14 @@ module _ (devices : List (ℕ × Declared)) (rise : IsStrictlySortedBy nat_cmp (
 
   -- ---- stations are announced
 
-  abbrev also : (ℕ → Bool) → ℕ → ℕ → Bool
+  abbrev pub also : (ℕ → Bool) → ℕ → ℕ → Bool
   also done d q = done q || (q == d)
 
   -- the stations of some devices are live, and no others
-  record AreAnnounced (deeds : List Deed) (done : ℕ → Bool) (w : WorldState) : Type 0 where
-    keyed : map (λ (e : ℕ × Of). e.0) w.stations ≡ ids_in devices
-    live : (d : ℕ) (s : Of) → station_at w d ≡ Some s → (s.live ≡ done d) × HasRoom s
-    same : w.deeds ≡ deeds
+  pub record AreAnnounced (deeds : List Deed) (done : ℕ → Bool) (w : WorldState) : Type 0 where
+    pub keyed : map (λ (e : ℕ × Of). e.0) w.stations ≡ ids_in devices
+    pub live : (d : ℕ) (s : Of) → station_at w d ≡ Some s → (s.live ≡ done d) × HasRoom s
+    pub same : w.deeds ≡ deeds
 
   announced_one : (deeds : List Deed) (done : ℕ → Bool) (w : WorldState) (d : ℕ) → AreAnnounced deeds done w → AreAnnounced deeds (also done d) (announcing w d)
   announced_one deeds done w d is = by (station_at w d) refl
@@ -281,12 +281,12 @@ module _ (devices : List (ℕ × Declared)) (rise : IsStrictlySortedBy nat_cmp (
           on true = refl
           on false = refl
 
-  announced_all : (deeds : List Deed) (list : List Announce) (done : ℕ → Bool) (w : WorldState) → AreAnnounced deeds done w
+  pub announced_all : (deeds : List Deed) (list : List Announce) (done : ℕ → Bool) (w : WorldState) → AreAnnounced deeds done w
       → AreAnnounced deeds (fold also done (map (λ (a : Announce). a.id) list)) (fold (λ x (a : Announce). announcing x a.id) w list)
   announced_all deeds [] done w is = is
   announced_all deeds (a ∷ list) done w is = announced_all deeds list (also done a.id) (announcing w a.id) (announced_one deeds done w a.id is)
 
-  done_among : (ks : List ℕ) (done : ℕ → Bool) (q : ℕ) → fold also done ks q ≡ (done q || list_any (λ k. q == k) ks)
+  pub done_among : (ks : List ℕ) (done : ℕ → Bool) (q : ℕ) → fold also done ks q ≡ (done q || list_any (λ k. q == k) ks)
   done_among [] done q = sym (off (done q))
     where
       off : (b : Bool) → (b || false) ≡ b
@@ -300,7 +300,7 @@ module _ (devices : List (ℕ × Declared)) (rise : IsStrictlySortedBy nat_cmp (
 
 -- ---- who is listed
 
-among_listed : (ids : List ℕ) (deeds : List Deed) (printers : List (ℕ × PrinterNames)) (q : ℕ) (es : List (ℕ × Declared)) (ds : List ClientDevice) → AllZip (IsShaped ids printers deeds) es ds
+pub among_listed : (ids : List ℕ) (deeds : List Deed) (printers : List (ℕ × PrinterNames)) (q : ℕ) (es : List (ℕ × Declared)) (ds : List ClientDevice) → AllZip (IsShaped ids printers deeds) es ds
     → list_any (λ k. q == k) (map (λ (a : Announce). a.id) (map announce_in (filter is_present ds))) ≡ (list_any (λ k. k == q) (ids_in es) && not (is_removed q deeds))
 among_listed ids deeds printers q [] [] is = refl
 among_listed ids deeds printers q [] (x ∷ ds) is = absurd is
