@@ -61,7 +61,7 @@ use Rattle.rd_acted.specs.Acted.{AreReadWell, EndsTold}
 
 -- ---- keys
 
-found_key : {X : Type 0} (es : List (ℕ × X)) (k : ℕ) → list_any (λ j. j == k) (map (λ (e : ℕ × X). e.0) es) ≡ true → (x : X) × (lookup (is_at (nat_cmp k)) es ≡ Some x)
+pub found_key : {X : Type 0} (es : List (ℕ × X)) (k : ℕ) → list_any (λ j. j == k) (map (λ (e : ℕ × X). e.0) es) ≡ true → (x : X) × (lookup (is_at (nat_cmp k)) es ≡ Some x)
 found_key [] k has = absurd (cc has)
 found_key {X} (e ∷ es) k has = by (e.0 == k) refl has (found_key es k)
   where
@@ -70,7 +70,7 @@ found_key {X} (e ∷ es) k has = by (e.0 == k) refl has (found_key es k)
     by true f among later = let here : is_at (nat_cmp k) e.0 ≡ true = grind (arith, nat_tests, f) in (e.1, rw here refl)
     by false f among later = let apart : is_at (nat_cmp k) e.0 ≡ false = grind (arith, nat_tests, f) in let (x, is) = later among in (x, rw apart is)
 
-key_found : {X : Type 0} (es : List (ℕ × X)) (k : ℕ) (x : X) → lookup (is_at (nat_cmp k)) es ≡ Some x → list_any (λ j. j == k) (map (λ (e : ℕ × X). e.0) es) ≡ true
+pub key_found : {X : Type 0} (es : List (ℕ × X)) (k : ℕ) (x : X) → lookup (is_at (nat_cmp k)) es ≡ Some x → list_any (λ j. j == k) (map (λ (e : ℕ × X). e.0) es) ≡ true
 key_found [] k x has = absurd (cc has)
 key_found {X} (e ∷ es) k x has = by (e.0 == k) refl (key_found es k x)
   where
@@ -155,17 +155,17 @@ now_ready a b e f = absurd (cc f)
 -- ---- parts
 
 module _ (devices : List (ℕ × Declared)) (rise : IsStrictlySortedBy nat_cmp (ids_in devices)) where
-  off_there : (w : WorldState) (d : ℕ) → client_ready w ≡ false → is_told_there w d ≡ false
+  pub off_there : (w : WorldState) (d : ℕ) → client_ready w ≡ false → is_told_there w d ≡ false
   off_there w d unready = ap (λ (b : Bool). is_some (open_channel w.deeds) && (b && not (is_removed d w.deeds))) unready ∙ none (is_some (open_channel w.deeds))
     where
       none : (b : Bool) → (b && false) ≡ false
       none true = refl
       none false = refl
 
-  shut_there : (w : WorldState) (d : ℕ) → open_channel w.deeds ≡ None → is_told_there w d ≡ false
+  pub shut_there : (w : WorldState) (d : ℕ) → open_channel w.deeds ≡ None → is_told_there w d ≡ false
   shut_there w d shut = ap (λ (o : Option ℕ). is_some o && (client_ready w && not (is_removed d w.deeds))) shut
 
-  open_there : (w : WorldState) (d : ℕ) → open_channel w.deeds ≡ Some w.channels → client_ready w ≡ true → is_told_there w d ≡ not (is_removed d w.deeds)
+  pub open_there : (w : WorldState) (d : ℕ) → open_channel w.deeds ≡ Some w.channels → client_ready w ≡ true → is_told_there w d ≡ not (is_removed d w.deeds)
   open_there w d opened ready =
       ap (λ (o : Option ℕ). is_some o && (client_ready w && not (is_removed d w.deeds))) opened ∙ ap (λ (b : Bool). b && not (is_removed d w.deeds)) ready
 

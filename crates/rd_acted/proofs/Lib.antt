@@ -12,3 +12,4 @@ pub mod DueLemmas
 pub mod CuttingLemmas
 pub mod ThereLemmas
 pub mod CutThereLemmas
+pub mod EveryCutLemmas

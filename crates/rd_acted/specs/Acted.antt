@@ -1,5 +1,5 @@
 -- What control lines do, by what was done: it follows from the acts alone.
-use Rattle.std.specs.Prelude.{◌≡◌, ◌≢◌, ℕ, ◌==◌, not, if◌then◌else◌, List, [], ◌∷◌, ◌++◌, filter, fold, length, Option, Some, None, IsSome}
+use Rattle.std.specs.Prelude.{◌≡◌, ◌≢◌, ◌<◌, ℕ, ◌==◌, not, if◌then◌else◌, List, [], ◌∷◌, ◌++◌, filter, fold, length, Option, Some, None, IsSome}
 use Rattle.std.specs.Option.{option_and_then, option_map_or}
 use Rattle.rd_base.specs.declared.journal.Cause.TheVariants.{Removed}
 use Rattle.rd_client.specs.Core.{HostSays, client_side}
@@ -9,7 +9,8 @@ use Rattle.rd_hello.specs.declared.client.ClientState.TheVariants.{Start}
 use Rattle.rd_printer.specs.declared.notice.Notice.{Notice}
 use Rattle.rd_world.specs.Acts.{act_by, is_add, tellings_on}
 use Rattle.rd_world.specs.Control.{Act, Control, Telling, added, addition, additions, begun, dropped_at, ended, lists, noticed, present, removal, removed}
-use Rattle.rd_world.specs.Talk.{Deed, adds, client_read, host_begins, host_ends, is_open_at, is_removed, removes, tells}
+use Rattle.rd_world.specs.Talk.{Deed, EachAfter, adds, client_read, host_begins, host_ends, is_open_at, is_removed, journal, removes, tells}
+use Rattle.rd_world.specs.Told.{worn_entries}
 
 -- before the first channel
 abbrev pub no_control : List ℕ → Control
@@ -106,3 +107,11 @@ notices_due c (deed ∷ before) = notices_due c before
 abbrev pub EndsTold : List Deed → Deed → Type 0
 EndsTold before (host_ends channel) = tellings_on channel before ≢ []
 EndsTold before deed = Unit {0}
+
+-- ---- what statements take of deeds
+
+-- Nothing that a client read was wrong, channels end only where something was told of devices, and no journal is worn.
+pub record GoWell (deeds : List Deed) : Type 0 where
+  pub well : AreReadWell deeds
+  pub ends : EachAfter EndsTold deeds
+  pub short : (device : ℕ) → length (journal device deeds) < worn_entries

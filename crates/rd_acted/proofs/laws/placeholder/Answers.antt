@@ -1,4 +1,4 @@
-use Rattle.rd_acted.proofs.CutThereLemmas.{adds_there, hears_there, removes_there}
+use Rattle.rd_acted.proofs.EveryCutLemmas.{behind_there}
 use Rattle.rd_acted.proofs.laws.placeholder.Goals as goal
 use Rattle.std.proofs.Common.{refl}
 
