@@ -13,3 +13,4 @@ pub mod CuttingLemmas
 pub mod ThereLemmas
 pub mod CutThereLemmas
 pub mod EveryCutLemmas
+pub mod CauseLemmas
