@@ -14,3 +14,4 @@ pub mod ThereLemmas
 pub mod CutThereLemmas
 pub mod EveryCutLemmas
 pub mod CauseLemmas
+pub mod PrinterLemmas
