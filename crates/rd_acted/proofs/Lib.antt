@@ -15,3 +15,4 @@ pub mod CutThereLemmas
 pub mod EveryCutLemmas
 pub mod CauseLemmas
 pub mod PrinterLemmas
+pub mod RunLemmas

@@ -1,5 +1,5 @@
 -- What control lines do, by what was done: it follows from the acts alone.
-use Rattle.std.specs.Prelude.{◌≡◌, ◌≢◌, ◌<◌, ℕ, ◌==◌, not, if◌then◌else◌, List, [], ◌∷◌, ◌++◌, filter, fold, length, Option, Some, None, IsSome}
+use Rattle.std.specs.Prelude.{◌≡◌, ◌≢◌, ◌<◌, ℕ, ◌==◌, not, if◌then◌else◌, List, [], ◌∷◌, ◌++◌, filter, filter_map, fold, length, reverse, Option, Some, None, IsSome}
 use Rattle.std.specs.Option.{option_and_then, option_map_or}
 use Rattle.rd_base.specs.declared.journal.Cause.TheVariants.{Removed}
 use Rattle.rd_client.specs.Core.{HostSays, client_side}
@@ -7,9 +7,13 @@ use Rattle.rd_core.specs.Hearing.{Meaning, nothing, opens, said, says, wrong}
 use Rattle.rd_hello.specs.declared.client.ClientState.{ClientState}
 use Rattle.rd_hello.specs.declared.client.ClientState.TheVariants.{Start}
 use Rattle.rd_printer.specs.declared.notice.Notice.{Notice}
-use Rattle.rd_world.specs.Acts.{act_by, is_add, tellings_on}
+use Rattle.rd_world.specs.Acts.{AreSaid, IsCutThere, IsDone, IsToldInTime, Tells, act_by, cause_in, control_at_end, control_by, is_add, is_errand_at, notices_on, of_channel, tellings_on}
+use Rattle.rd_world.specs.Devices.{Declared}
+use Rattle.rd_script.specs.declared.line.NumberedLine.{NumberedLine}
+use Rattle.rd_printer.specs.Notice.{notice_bytes}
+use Rattle.std.specs.List.Sorted.{IsStrictlyIncreasing}
 use Rattle.rd_world.specs.Control.{Act, Control, Telling, added, addition, additions, begun, dropped_at, ended, lists, noticed, present, removal, removed}
-use Rattle.rd_world.specs.Talk.{Deed, EachAfter, adds, client_read, host_begins, host_ends, is_open_at, is_removed, journal, removes, tells}
+use Rattle.rd_world.specs.Talk.{AtEachPoint, Deed, EachAfter, adds, client_read, has_ended, host_begins, host_ends, is_open_at, is_removed, journal, removes, tells}
 use Rattle.rd_world.specs.Told.{worn_entries}
 
 -- before the first channel
@@ -115,3 +119,19 @@ pub record GoWell (deeds : List Deed) : Type 0 where
   pub well : AreReadWell deeds
   pub ends : EachAfter EndsTold deeds
   pub short : (device : ℕ) → length (journal device deeds) < worn_entries
+
+-- ---- a whole run
+
+-- The control lines did what they say, but for what a channel's opening comes to: what of `AreActed` doesn't speak of where both ends stand.
+pub record HaveActed (devices : List (ℕ × Declared)) (lines : List NumberedLine) (idle : List ℕ) (deeds : List Deed) : Type 0 where
+  pub control : Control
+  pub control_is : control ≡ control_at_end devices deeds (control_by devices lines)
+  pub acts : filter_map act_by (reverse deeds) ≡ control.acts
+  pub tells : (c : ℕ) → AreSaid (Tells devices deeds c) (of_channel c control.told) (tellings_on c deeds) (has_ended c deeds)
+  pub in_time : AtEachPoint IsToldInTime deeds
+  pub notices : (c : ℕ) → AreSaid (λ n message. message ≡ notice_bytes n) (of_channel c control.notices) (notices_on c deeds) (has_ended c deeds)
+  pub cuts : (device : ℕ) → filter_map cause_in (reverse (journal device deeds)) ≡ of_channel device control.cuts
+  pub cut_there : EachAfter (IsCutThere devices) deeds
+  pub cut_all : IsDone deeds
+  pub idle_lines : filter (λ number. not (is_errand_at lines number)) idle ≡ control.idle
+  pub idle_rise : IsStrictlyIncreasing idle

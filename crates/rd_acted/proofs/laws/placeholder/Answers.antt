@@ -1,4 +1,4 @@
-use Rattle.rd_acted.proofs.PrinterLemmas.{behind_notices}
+use Rattle.rd_acted.proofs.RunLemmas.{run_acted}
 use Rattle.rd_acted.proofs.laws.placeholder.Goals as goal
 use Rattle.std.proofs.Common.{refl}
 
