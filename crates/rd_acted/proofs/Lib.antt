@@ -16,3 +16,4 @@ pub mod EveryCutLemmas
 pub mod CauseLemmas
 pub mod PrinterLemmas
 pub mod RunLemmas
+pub mod ReachedLemmas

@@ -75,11 +75,9 @@ use Rattle.rd_world.specs.declared.device.SessionDevice.{SessionDevice}
 use Rattle.rd_acted.proofs.NoticeLemmas.{is_printing, no_notice}
 use Rattle.rd_acted.proofs.SayingLemmas.{say_both, say_fewer, say_more, say_none}
 use Rattle.rd_acted.specs.Acted.{SayFirst, notices_due}
+use Rattle.rd_acted.specs.Waiting.{is_noted, noted}
 
 -- ---- messages
-
-abbrev pub is_noted : List ℕ → Bool
-is_noted m = is_some (notice_in m)
 
 abbrev pub AreUnnotedMessages : List (List ℕ) → Type 0
 AreUnnotedMessages ms = AllByRecursion (λ (m : List ℕ). notice_in m ≡ None) ms
@@ -116,9 +114,6 @@ told_noted n writable range =
     let m = meets notice 0 (notice_bytes n) n 0 (message_spelled notice n (notice_bytes n) (notice_spelled n writable range)) in
     let is : met notice (at_start (notice_bytes n)) ≡ Ok (n, m.0) = m.1 in
     rw is refl
-
-abbrev pub noted : List (List ℕ) → List (List ℕ)
-noted ms = filter is_noted ms
 
 noted_more : (ms more : List (List ℕ)) → AreUnnotedMessages more → noted (ms ++ more) ≡ noted ms
 noted_more ms more all = filter-append is_noted ms more ∙ ap (λ (xs : List (List ℕ)). noted ms ++ xs) (none more all) ∙ append-nil (noted ms)

@@ -35,12 +35,13 @@ use Rattle.rd_acted.proofs.CuttingLemmas.{AreCut}
 use Rattle.rd_acted.proofs.DueLemmas.{current_by_deeds, notices_are_due, told_is_due}
 use Rattle.rd_acted.proofs.EveryCutLemmas.{behind_there}
 use Rattle.rd_acted.proofs.InTimeLemmas.{AreInTime, behind_in_time}
-use Rattle.rd_acted.proofs.PrinterLemmas.{NoticesAs, behind_notices, noted}
+use Rattle.rd_acted.proofs.PrinterLemmas.{NoticesAs, behind_notices}
 use Rattle.rd_acted.proofs.ReadLemmas.{fewer_read, premises_fit}
 use Rattle.rd_acted.proofs.SayingLemmas.{say_none, say_zip, wrote_more}
-use Rattle.rd_acted.proofs.TellLemmas.{TellsAs, behind_tells, ids_in, waiting}
+use Rattle.rd_acted.proofs.TellLemmas.{TellsAs, behind_tells, ids_in}
 use Rattle.rd_acted.proofs.ThereLemmas.{IsThere}
 use Rattle.rd_acted.specs.Acted.{AreReadWell, EndsTold, GoWell, HaveActed, SayFirst, control_after, control_by_deeds, due_on, notices_due, without_idle}
+use Rattle.rd_acted.specs.Waiting.{noted, waiting}
 
 -- ---- lists
 
@@ -198,7 +199,7 @@ module _ (lines : List NumberedLine) (starves : Key → Bool) (premises : RunPre
 
   -- The control lines of a run did what they say, where its deeds leave open what it left open.
   pub run_acted : (most : Most) (w : WorldState) → length lines ≤ 1000000 → AreOrderedLines ids lines → (is : run_of most starves lines ≡ Some w) → AreReadWell w.deeds → EachAfter EndsTold w.deeds
-      → let said = does_as_said lines starves most w in ((ordered : AreOrderedLines ids lines) → left_open devices w.deeds (control_by devices lines) ≡ (said ordered premises is).left) → HaveActed devices lines w.idle w.deeds
+      → ((said : DoAsSaid ids lines starves w) → left_open devices w.deeds (control_by devices lines) ≡ said.left) → HaveActed devices lines w.idle w.deeds
   run_acted most w few ordered is well told left_is =
       let said : DoAsSaid ids lines starves w = does_as_said lines starves most w ordered premises is in
       let reached : Reached lines starves w = run_reached lines starves most w is in
@@ -209,7 +210,7 @@ module _ (lines : List NumberedLine) (starves : Key → Bool) (premises : RunPre
       let there = behind_there lines starves premises w b (runs_go_well w reached few well told) in
       record {
         control = control;
-        control_is = ap (λ (o : Option ℕ). control_with o (control_of ids lines)) (sym (left_is ordered));
+        control_is = ap (λ (o : Option ℕ). control_with o (control_of ids lines)) (sym (left_is said));
         acts = said.acts;
         tells = λ c. subst (λ (ts : List Telling). AreSaid (Tells devices w.deeds c) ts (tellings_on c w.deeds) (has_ended c w.deeds)) (sym (ap (λ (k : Control). of_channel c k.told) same ∙ told_is_due ids c w.deeds))
             (all_told w well b said.left said.ends same rests c);

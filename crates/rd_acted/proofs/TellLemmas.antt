@@ -49,10 +49,7 @@ use Rattle.rd_acted.proofs.QuietLemmas.{AreUntold, HearsTo, Unspoken, announced_
 use Rattle.rd_acted.proofs.ReadLemmas.{behind_read_as, part_well}
 use Rattle.rd_acted.proofs.SayingLemmas.{completes_tell, say_as, say_both, say_fewer, say_more, say_none, writes_tell}
 use Rattle.rd_acted.specs.Acted.{AreReadWell, SayFirst, due_on, there_of}
-
--- what waits to be told
-abbrev pub waiting : List Outgoing → List (List ℕ)
-waiting os = filter is_telling (map (λ (o : Outgoing). o.message) os)
+use Rattle.rd_acted.specs.Waiting.{waiting}
 
 -- a message that answers a request tells nothing of devices
 abbrev pub AnswersUntold : Outgoing → Type 0
