@@ -17,3 +17,4 @@ pub mod CauseLemmas
 pub mod PrinterLemmas
 pub mod RunLemmas
 pub mod ReachedLemmas
+pub mod OrderLemmas

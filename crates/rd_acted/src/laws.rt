@@ -4,7 +4,7 @@ ghost use Rattle.std.specs.Prelude.{◌≡◌, ℕ, ◌≤◌, Bool, true, false
 ghost use Rattle.rd_acted.specs.Acted.{AreReadWell, EndsTold, GoWell, HaveActed, SayFirst, control_after, control_by_deeds, due_on, notices_due, there_of, without_idle};
 ghost use Rattle.rd_acted.specs.Waiting.{noted, waiting};
 ghost use Rattle.rd_base.specs.declared.journal.Key.{Key};
-ghost use Rattle.rd_client.specs.Order.{is_client_ready};
+ghost use Rattle.rd_client.specs.Order.{ClientOrder, is_client_ready};
 ghost use Rattle.rd_controls.specs.Controls.{AreOrderedLines, DoAsSaid, control_with};
 ghost use Rattle.rd_printer.specs.Notice.{notice_bytes};
 ghost use Rattle.rd_runs.specs.Moves.{Reached};
@@ -14,8 +14,9 @@ ghost use Rattle.rd_world.specs.Acts.{IsCutThere, IsDone, IsToldInTime, Tells, a
 ghost use Rattle.rd_world.specs.Control.{control_of, lists};
 ghost use Rattle.rd_world.specs.Devices.{Declared};
 ghost use Rattle.rd_world.specs.Opening.{bare_lines};
+ghost use Rattle.rd_world.specs.Recording.{announced_of, is_gone_at};
 ghost use Rattle.rd_world.specs.Run.{Most, declared_devices, run_of};
-ghost use Rattle.rd_world.specs.Talk.{AtEachPoint, Deed, EachAfter, journal, open_channel};
+ghost use Rattle.rd_world.specs.Talk.{AtEachPoint, Deed, EachAfter, client_moves, journal, open_channel};
 ghost use Rattle.rd_world.specs.World.{WorldState};
 
 /// What control lines do is a function of their acts, but for which lines do nothing: so is what a channel's end after everything adds. What is told on a channel, of devices and of
@@ -70,4 +71,9 @@ pub fn runs_act()
         let ids = map (λ (d : ℕ × Declared). d.0) devices in
         RunPremises lines → length lines ≤ 1000000 → AreOrderedLines ids lines → run_of most starves lines ≡ Some w → AreReadWell w.deeds → EachAfter EndsTold w.deeds
         → ((said : DoAsSaid ids lines starves w) → left_open devices w.deeds (control_by devices lines) ≡ said.left) → HaveActed devices lines w.idle w.deeds }
+{}
+
+/// Where a client's moves are in order on each channel, nothing that it read was wrong.
+pub fn orders_read_well()
+    ensures { (devices : List (ℕ × Declared)) (deeds : List Deed) → ((c : ℕ) → ClientOrder (announced_of devices) (is_gone_at c deeds) (reverse (client_moves c deeds))) → AreReadWell deeds }
 {}
