@@ -18,3 +18,4 @@ pub mod PrinterLemmas
 pub mod RunLemmas
 pub mod ReachedLemmas
 pub mod OrderLemmas
+pub mod EndedLemmas

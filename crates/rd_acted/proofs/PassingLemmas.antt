@@ -17,7 +17,7 @@ use Rattle.rd_world.specs.World.{WorldState, station_at, with_station}
 use Rattle.rd_world.specs.declared.device.SessionDevice.{SessionDevice}
 use Rattle.rd_acted.proofs.QuietLemmas.{AreSilent, IsSilent, Unspoken, completion_untold, option_unspoken, put_unspoken, stationed_unspoken, unspoken_by, unspoken_deeds, unspoken_none}
 use Rattle.rd_acted.proofs.SayingLemmas.{completes_tell}
-use Rattle.rd_acted.specs.Acted.{due_on}
+use Rattle.rd_acted.specs.Acted.{control_by_deeds, due_on}
 
 -- ---- parts
 
@@ -79,20 +79,21 @@ pub record Left (old new : List Deed) : Type 0 where
   pub due : (ids : List ℕ) (c : ℕ) → due_on ids c new ≡ due_on ids c old
   pub count : (c : ℕ) → tellings_due c new ≡ tellings_due c old
   pub ended : (c : ℕ) → has_ended c new ≡ has_ended c old
+  pub channels : (ids : List ℕ) → (control_by_deeds ids new).channels ≡ (control_by_deeds ids old).channels
 
 pub left_one : (x : Deed) (deeds : List Deed) → IsSilent x → Left deeds (x ∷ deeds)
-left_one (stores device item) deeds silent = record { removed = λ d. refl; begun = λ c. refl; opened = refl; told = λ c. refl; due = λ ids c. refl; count = λ c. refl; ended = λ c. refl }
-left_one (submits a named op) deeds silent = record { removed = λ d. refl; begun = λ c. refl; opened = refl; told = λ c. refl; due = λ ids c. refl; count = λ c. refl; ended = λ c. refl }
-left_one (takes number) deeds silent = record { removed = λ d. refl; begun = λ c. refl; opened = refl; told = λ c. refl; due = λ ids c. refl; count = λ c. refl; ended = λ c. refl }
-left_one (tells n) deeds silent = record { removed = λ d. refl; begun = λ c. refl; opened = refl; told = λ c. refl; due = λ ids c. refl; count = λ c. refl; ended = λ c. refl }
-left_one (host_writes channel message) deeds silent = record { removed = λ d. refl; begun = λ c. refl; opened = refl; told = λ c. refl; due = λ ids c. refl; count = λ c. refl; ended = λ c. refl }
-left_one (host_reads channel message) deeds silent = record { removed = λ d. refl; begun = λ c. refl; opened = refl; told = λ c. refl; due = λ ids c. refl; count = λ c. refl; ended = λ c. refl }
-left_one (completes key message) deeds silent = record { removed = λ d. refl; begun = λ c. refl; opened = refl; told = λ c. completes_tell c key message deeds silent; due = λ ids c. refl; count = λ c. refl; ended = λ c. refl }
-left_one (client_reads channel message) deeds silent = record { removed = λ d. refl; begun = λ c. refl; opened = refl; told = λ c. refl; due = λ ids c. refl; count = λ c. refl; ended = λ c. refl }
+left_one (stores device item) deeds silent = record { removed = λ d. refl; begun = λ c. refl; opened = refl; told = λ c. refl; due = λ ids c. refl; count = λ c. refl; ended = λ c. refl; channels = λ ids. refl }
+left_one (submits a named op) deeds silent = record { removed = λ d. refl; begun = λ c. refl; opened = refl; told = λ c. refl; due = λ ids c. refl; count = λ c. refl; ended = λ c. refl; channels = λ ids. refl }
+left_one (takes number) deeds silent = record { removed = λ d. refl; begun = λ c. refl; opened = refl; told = λ c. refl; due = λ ids c. refl; count = λ c. refl; ended = λ c. refl; channels = λ ids. refl }
+left_one (tells n) deeds silent = record { removed = λ d. refl; begun = λ c. refl; opened = refl; told = λ c. refl; due = λ ids c. refl; count = λ c. refl; ended = λ c. refl; channels = λ ids. refl }
+left_one (host_writes channel message) deeds silent = record { removed = λ d. refl; begun = λ c. refl; opened = refl; told = λ c. refl; due = λ ids c. refl; count = λ c. refl; ended = λ c. refl; channels = λ ids. refl }
+left_one (host_reads channel message) deeds silent = record { removed = λ d. refl; begun = λ c. refl; opened = refl; told = λ c. refl; due = λ ids c. refl; count = λ c. refl; ended = λ c. refl; channels = λ ids. refl }
+left_one (completes key message) deeds silent = record { removed = λ d. refl; begun = λ c. refl; opened = refl; told = λ c. completes_tell c key message deeds silent; due = λ ids c. refl; count = λ c. refl; ended = λ c. refl; channels = λ ids. refl }
+left_one (client_reads channel message) deeds silent = record { removed = λ d. refl; begun = λ c. refl; opened = refl; told = λ c. refl; due = λ ids c. refl; count = λ c. refl; ended = λ c. refl; channels = λ ids. refl }
 left_one x deeds silent = absurd silent
 
 pub left_all : (more deeds : List Deed) → AreSilent more → Left deeds (more ++ deeds)
-left_all [] deeds silent = record { removed = λ d. refl; begun = λ c. refl; opened = refl; told = λ c. refl; due = λ ids c. refl; count = λ c. refl; ended = λ c. refl }
+left_all [] deeds silent = record { removed = λ d. refl; begun = λ c. refl; opened = refl; told = λ c. refl; due = λ ids c. refl; count = λ c. refl; ended = λ c. refl; channels = λ ids. refl }
 left_all (x ∷ more) deeds silent =
     let one = left_one x (more ++ deeds) silent.0 in
     let all = left_all more deeds silent.1 in
@@ -104,6 +105,7 @@ left_all (x ∷ more) deeds silent =
       due = λ ids c. one.due ids c ∙ all.due ids c;
       count = λ c. one.count c ∙ all.count c;
       ended = λ c. one.ended c ∙ all.ended c;
+      channels = λ ids. one.channels ids ∙ all.channels ids;
     }
 
 pub left_unspoken : (w v : WorldState) → Unspoken w v → Left w.deeds v.deeds

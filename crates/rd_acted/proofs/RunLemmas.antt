@@ -50,7 +50,7 @@ nothing_first [] ys e = refl
 nothing_first (x ∷ xs) ys e = absurd (cc e)
 
 -- what was told is told still
-told_longer : (c : ℕ) (more deeds : List Deed) → length (tellings_on c deeds) ≤ length (tellings_on c (more ++ deeds))
+pub told_longer : (c : ℕ) (more deeds : List Deed) → length (tellings_on c deeds) ≤ length (tellings_on c (more ++ deeds))
 told_longer c [] deeds = omega arith
 told_longer c (x ∷ more) deeds =
     let longer : length (tellings_on c (x ∷ more ++ deeds)) ≡ length (tellings_on c (more ++ deeds)) + length (filter is_telling (cons_option (written_by_client c x) [])) =

@@ -10,7 +10,7 @@ ghost use Rattle.rd_printer.specs.Notice.{notice_bytes};
 ghost use Rattle.rd_runs.specs.Moves.{Reached};
 ghost use Rattle.rd_runs.specs.Premises.{RunPremises};
 ghost use Rattle.rd_script.specs.declared.line.NumberedLine.{NumberedLine};
-ghost use Rattle.rd_world.specs.Acts.{IsCutThere, IsDone, IsToldInTime, Tells, act_by, cache_after, cause_in, control_by, left_open, notices_on, of_channel, tellings_on};
+ghost use Rattle.rd_world.specs.Acts.{IsCutThere, IsDone, IsToldInTime, Opens, Tells, act_by, cache_after, cause_in, control_by, left_open, notices_on, of_channel, tellings_on};
 ghost use Rattle.rd_world.specs.Control.{control_of, lists};
 ghost use Rattle.rd_world.specs.Devices.{Declared};
 ghost use Rattle.rd_world.specs.Opening.{bare_lines};
@@ -76,4 +76,11 @@ pub fn runs_act()
 /// Where a client's moves are in order on each channel, nothing that it read was wrong.
 pub fn orders_read_well()
     ensures { (devices : List (ℕ × Declared)) (deeds : List Deed) → ((c : ℕ) → ClientOrder (announced_of devices) (is_gone_at c deeds) (reverse (client_moves c deeds))) → AreReadWell deeds }
+{}
+
+/// Where each channel that began opened, a channel ends only where something was told of devices on it. How many channels began follows from what was done.
+pub fn channels_end_told()
+    ensures told { (lines : List NumberedLine) (starves : Key → Bool) (w : WorldState) → RunPremises lines → Reached lines starves w → AreReadWell w.deeds
+        → ((c : ℕ) → 1 ≤ c → c ≤ w.channels → Opens (declared_devices (bare_lines lines)) w.deeds c) → EachAfter EndsTold w.deeds }
+    ensures channels { (lines : List NumberedLine) (starves : Key → Bool) (w : WorldState) → RunPremises lines → Reached lines starves w → AreReadWell w.deeds → (ids : List ℕ) → (control_by_deeds ids w.deeds).channels ≡ w.channels }
 {}
