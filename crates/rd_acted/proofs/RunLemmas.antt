@@ -1,0 +1,225 @@
+-- What the control lines of a whole run did.
+use Rattle.std.proofs.Common.{◌≡◌, ◌≢◌, ◌⊎◌, ◌∙◌, refl, sym, ap, subst, inl, inr, ℕ, ◌+◌, ◌<◌, ◌≤◌, ◌==◌, Bool, true, false, arith, eq-eqb, List, [], ◌∷◌, ◌++◌, length, map, reverse, Some, None, Option, append-nil, length-append, is_some}
+use Rattle.std.specs.Prelude.{filter, filter_map, if◌then◌else◌}
+use Rattle.std.specs.List.{cons_option}
+use Rattle.std.specs.Option.{option_map_or}
+use Rattle.rd_base.specs.declared.journal.Cause.{Cause}
+use Rattle.rd_base.specs.declared.journal.Key.{Key}
+use Rattle.rd_client.specs.Core.{Outgoing}
+use Rattle.rd_controls.proofs.Leading.{does_as_said}
+use Rattle.rd_controls.proofs.Unseen.{client_ready}
+use Rattle.rd_controls.specs.Controls.{AreOrderedLines, DoAsSaid, EndsAs, control_with}
+use Rattle.rd_joined.proofs.RoomLemmas.{unworn}
+use Rattle.rd_printer.specs.Notice.{notice_bytes}
+use Rattle.rd_printer.specs.declared.notice.Notice.{Notice}
+use Rattle.rd_runs.proofs.HostLemmas.{host_channel}
+use Rattle.rd_runs.proofs.Parts.{IsBehind, reached_behind}
+use Rattle.rd_runs.proofs.Reaching.{run_reached, run_rests}
+use Rattle.rd_runs.proofs.Resting.{IsQuiet, quiet}
+use Rattle.rd_runs.proofs.Standing.{Stands}
+use Rattle.rd_runs.proofs.Together.{knows}
+use Rattle.rd_runs.specs.Moves.{Reached}
+use Rattle.rd_runs.specs.Premises.{RunPremises}
+use Rattle.rd_script.specs.declared.line.NumberedLine.{NumberedLine}
+use Rattle.rd_world.specs.Acts.{AreSaid, IsCutThere, Tells, cause_in, control_at_end, control_by, is_telling, left_open, notices_on, of_channel, tellings_due, tellings_on}
+use Rattle.rd_world.specs.Control.{Control, Telling, control_of, dropped_at}
+use Rattle.rd_world.specs.Devices.{Declared}
+use Rattle.rd_world.specs.Host.{first_waiting, next_message}
+use Rattle.rd_world.specs.Opening.{bare_lines}
+use Rattle.rd_world.specs.Run.{Most, choices, declared_devices, run_of}
+use Rattle.rd_world.specs.Talk.{Deed, EachAfter, EndsWith, adds, client_reads, client_writes, client_wrote, completes, has_ended, host_begins, host_ends, host_reads, host_writes, is_open_at, open_channel, removes, stores, submits, takes, tells, written_by_client}
+use Rattle.rd_world.specs.World.{WorldState}
+use Rattle.rd_acted.proofs.ActLemmas.{acts_by_deeds, control_by_acts}
+use Rattle.rd_acted.proofs.CauseLemmas.{cuts_by_deeds}
+use Rattle.rd_acted.proofs.CuttingLemmas.{AreCut}
+use Rattle.rd_acted.proofs.DueLemmas.{current_by_deeds, notices_are_due, told_is_due}
+use Rattle.rd_acted.proofs.EveryCutLemmas.{behind_there}
+use Rattle.rd_acted.proofs.InTimeLemmas.{AreInTime, behind_in_time}
+use Rattle.rd_acted.proofs.PrinterLemmas.{NoticesAs, behind_notices}
+use Rattle.rd_acted.proofs.ReadLemmas.{fewer_read, premises_fit}
+use Rattle.rd_acted.proofs.SayingLemmas.{say_none, say_zip, wrote_more}
+use Rattle.rd_acted.proofs.TellLemmas.{TellsAs, behind_tells, ids_in}
+use Rattle.rd_acted.proofs.ThereLemmas.{IsThere}
+use Rattle.rd_acted.specs.Acted.{AreReadWell, EndsTold, GoWell, HaveActed, SayFirst, control_after, control_by_deeds, due_on, notices_due, without_idle}
+use Rattle.rd_acted.specs.Waiting.{noted, waiting}
+
+-- ---- lists
+
+nothing_first : {A : Type 0} (xs ys : List A) → xs ++ ys ≡ [] → xs ≡ []
+nothing_first [] ys e = refl
+nothing_first (x ∷ xs) ys e = absurd (cc e)
+
+-- what was told is told still
+pub told_longer : (c : ℕ) (more deeds : List Deed) → length (tellings_on c deeds) ≤ length (tellings_on c (more ++ deeds))
+told_longer c [] deeds = omega arith
+told_longer c (x ∷ more) deeds =
+    let longer : length (tellings_on c (x ∷ more ++ deeds)) ≡ length (tellings_on c (more ++ deeds)) + length (filter is_telling (cons_option (written_by_client c x) [])) =
+    ap length (wrote_more c (written_by_client c x) (client_wrote c (more ++ deeds))) ∙ length-append (tellings_on c (more ++ deeds)) (filter is_telling (cons_option (written_by_client c x) [])) in
+    omega (arith, longer, told_longer c more deeds)
+
+-- something is due on a channel that is open
+open_due : (deeds : List Deed) (c : ℕ) → open_channel deeds ≡ Some c → 1 ≤ tellings_due c deeds
+open_due [] c opened = absurd (cc opened)
+open_due (host_begins channel ∷ before) c opened = by (channel == c) refl
+  where
+    by : (b : Bool) → (channel == c) ≡ b → 1 ≤ (if b then 1 else tellings_due c before)
+    by true e = omega arith
+    by false e =
+        let same : channel ≡ c = cc opened in
+        absurd (cc (eq-eqb channel c same, e))
+open_due (host_ends channel ∷ before) c opened = absurd (cc opened)
+open_due (removes device ∷ before) c opened = omega (arith, open_due before c opened)
+open_due (adds device ∷ before) c opened = omega (arith, open_due before c opened)
+open_due (submits a named op ∷ before) c opened = open_due before c opened
+open_due (takes number ∷ before) c opened = open_due before c opened
+open_due (tells n ∷ before) c opened = open_due before c opened
+open_due (host_writes channel message ∷ before) c opened = open_due before c opened
+open_due (host_reads channel message ∷ before) c opened = open_due before c opened
+open_due (client_reads channel message ∷ before) c opened = open_due before c opened
+open_due (client_writes channel message ∷ before) c opened = open_due before c opened
+open_due (completes key message ∷ before) c opened = open_due before c opened
+open_due (stores device item ∷ before) c opened = open_due before c opened
+
+-- ---- a run
+
+module _ (lines : List NumberedLine) (starves : Key → Bool) (premises : RunPremises lines) where
+  abbrev devices : List (ℕ × Declared)
+  devices = declared_devices (bare_lines lines)
+
+  abbrev ids : List ℕ
+  ids = ids_in devices
+
+  -- the channel that is open, where one is
+  opened_now : (w : WorldState) (c : ℕ) → Stands w → open_channel w.deeds ≡ Some c → c ≡ w.channels
+  opened_now w c stands opened = elim stands.host.last [ inl shut ↦ absurd (cc (opened, shut)) | inr is ↦ (let same : Some c ≡ Some w.channels = sym opened ∙ is in cc) ]
+
+  module _ (w : WorldState) (well : AreReadWell w.deeds) (b : IsBehind lines starves w) (left : Option ℕ) (ends : EndsAs lines starves (control_of ids lines) left w)
+      (same : without_idle (control_with left (control_of ids lines)) ≡ control_by_deeds ids w.deeds) where
+    -- the client is ready where the channel is open
+    ready_now : (c : ℕ) → open_channel w.deeds ≡ Some c → client_ready w ≡ true
+    ready_now c opened = by left refl
+      where
+        current : (control_with left (control_of ids lines)).current ≡ Some c
+        current = ap (λ (k : Control). k.current) same ∙ current_by_deeds ids w.deeds ∙ opened
+
+        was_ready : (control_of ids lines).current ≡ Some c → client_ready w ≡ true
+        was_ready is =
+            let v : WorldState = ends.last in
+            let behind : IsBehind lines starves v = reached_behind lines starves v ends.reached in
+            let stands = (knows lines starves premises v behind).stands in
+            let v_opened : open_channel v.deeds ≡ Some c = sym (host_channel v.side v.channels v.deeds stands.host) ∙ ends.channel ∙ is in
+            let v_channel : c ≡ v.channels = opened_now v c stands v_opened in
+            let v_well : AreReadWell v.deeds = fewer_read ends.grown.0 v.deeds (subst AreReadWell ends.grown.1 well) in
+            let t = behind_tells lines starves premises v behind v_well in
+            let i = behind_in_time lines starves premises v behind v_well in
+            let all = t.all (v_opened ∙ ap (λ (n : ℕ). Some n) v_channel) (ends.ready (ap is_some is)).client in
+            let out : waiting ((v.client).core).outbox ≡ [] = ap waiting (quiet v ends.rests).client_sends in
+            let many : length (tellings_on v.channels v.deeds) ≡ length (due_on ids v.channels v.deeds) =
+            sym (ap length (ap (λ (ms : List (List ℕ)). tellings_on v.channels v.deeds ++ ms) out ∙ append-nil (tellings_on v.channels v.deeds))) ∙ all in
+            let some : 1 ≤ tellings_due v.channels v.deeds = subst (λ (n : ℕ). 1 ≤ tellings_due n v.deeds) v_channel (open_due v.deeds c v_opened) in
+            let counted : length (due_on ids v.channels v.deeds) ≡ tellings_due v.channels v.deeds = i.counted v.channels in
+            let w_stands = (knows lines starves premises w b).stands in
+            let w_channel : c ≡ w.channels = opened_now w c w_stands opened in
+            let longer : length (tellings_on v.channels v.deeds) ≤ length (tellings_on v.channels w.deeds) =
+            subst (λ (ds : List Deed). length (tellings_on v.channels v.deeds) ≤ length (tellings_on v.channels ds)) (sym ends.grown.1) (told_longer v.channels ends.grown.0 v.deeds) in
+            let there : 1 ≤ length (tellings_on w.channels w.deeds) =
+            subst (λ (n : ℕ). 1 ≤ length (tellings_on n w.deeds)) (sym v_channel ∙ w_channel) (omega (arith, many, some, counted, longer)) in
+            ready (client_ready w) refl (opened ∙ ap (λ (n : ℕ). Some n) w_channel) there
+          where
+            ready : (x : Bool) → client_ready w ≡ x → open_channel w.deeds ≡ Some w.channels → 1 ≤ length (tellings_on w.channels w.deeds) → x ≡ true
+            ready true e is_open some = refl
+            ready false e is_open some =
+                let none = ((behind_tells lines starves premises w b well).first is_open e).0 in
+                let empty : tellings_on w.channels w.deeds ≡ [] = nothing_first (tellings_on w.channels w.deeds) _ none in
+                let short : length (tellings_on w.channels w.deeds) ≡ 0 = ap length empty in
+                absurd (omega (arith, some, short))
+
+        by : (o : Option ℕ) → left ≡ o → client_ready w ≡ true
+        by None e = was_ready (ap (λ (o : Option ℕ). (control_with o (control_of ids lines)).current) (sym e) ∙ current)
+        by (Some k) e =
+            let none : (control_with left (control_of ids lines)).current ≡ None = ap (λ (o : Option ℕ). (control_with o (control_of ids lines)).current) e in
+            absurd (cc (current, none))
+
+    -- ---- all is told on a channel that didn't end
+
+    module _ (rests : choices w ≡ []) where
+      all_told : (c : ℕ) → AreSaid (Tells devices w.deeds c) (due_on ids c w.deeds) (tellings_on c w.deeds) (has_ended c w.deeds)
+      all_told c = record { each = say_zip (Tells devices w.deeds c) (tellings_on c w.deeds) (due_on ids c w.deeds) (t.each c); all = λ unended. by (i.over c) unended }
+        where
+          t : TellsAs devices w
+          t = behind_tells lines starves premises w b well
+
+          i : AreInTime ids w.deeds
+          i = behind_in_time lines starves premises w b well
+
+          by : (due_on ids c w.deeds ≡ []) ⊎ ((has_ended c w.deeds ≡ true) ⊎ (open_channel w.deeds ≡ Some c)) → has_ended c w.deeds ≡ false → length (tellings_on c w.deeds) ≡ length (due_on ids c w.deeds)
+          by (inl none) unended =
+              let untold : tellings_on c w.deeds ≡ [] =
+              say_none (Tells devices w.deeds c) (tellings_on c w.deeds) (subst (λ (ts : List Telling). SayFirst (Tells devices w.deeds c) (tellings_on c w.deeds) ts) none (t.each c)) in
+              ap length untold ∙ ap length (sym none)
+          by (inr (inl ended)) unended = absurd (cc (ended, unended))
+          by (inr (inr opened)) unended =
+              let channel : c ≡ w.channels = opened_now w c (knows lines starves premises w b).stands opened in
+              let all = t.all (opened ∙ ap (λ (n : ℕ). Some n) channel) (ready_now c opened) in
+              let out : waiting ((w.client).core).outbox ≡ [] = ap waiting (quiet w rests).client_sends in
+              ap (λ (n : ℕ). length (tellings_on n w.deeds)) channel
+              ∙ sym (ap length (ap (λ (ms : List (List ℕ)). tellings_on w.channels w.deeds ++ ms) out ∙ append-nil (tellings_on w.channels w.deeds))) ∙ all
+              ∙ ap (λ (n : ℕ). length (due_on ids n w.deeds)) (sym channel)
+
+      all_noticed : (c : ℕ) → AreSaid (λ n message. message ≡ notice_bytes n) (notices_due c w.deeds) (notices_on c w.deeds) (has_ended c w.deeds)
+      all_noticed c = record { each = say_zip (λ n message. message ≡ notice_bytes n) (notices_on c w.deeds) (notices_due c w.deeds) (n.each c); all = λ unended. by (n.over c) unended }
+        where
+          n : NoticesAs w
+          n = behind_notices lines starves premises w b
+
+          silent : (((w.side).core).core).outbox ≡ []
+          silent = go (((w.side).core).core).outbox ((w.side).table).outbox (quiet w rests).host_sends
+            where
+              go : (own requests : List (List ℕ)) → first_waiting own requests ≡ None → own ≡ []
+              go [] requests none = refl
+              go (m ∷ own) requests none = absurd (cc none)
+
+          by : (notices_due c w.deeds ≡ []) ⊎ ((has_ended c w.deeds ≡ true) ⊎ (open_channel w.deeds ≡ Some c)) → has_ended c w.deeds ≡ false → length (notices_on c w.deeds) ≡ length (notices_due c w.deeds)
+          by (inl none) unended =
+              let untold : notices_on c w.deeds ≡ [] =
+              say_none (λ k message. message ≡ notice_bytes k) (notices_on c w.deeds)
+              (subst (λ (ts : List Notice). SayFirst (λ k message. message ≡ notice_bytes k) (notices_on c w.deeds) ts) none (n.each c)) in
+              ap length untold ∙ ap length (sym none)
+          by (inr (inl ended)) unended = absurd (cc (ended, unended))
+          by (inr (inr opened)) unended =
+              let channel : c ≡ w.channels = opened_now w c (knows lines starves premises w b).stands opened in
+              let all = n.all (opened ∙ ap (λ (k : ℕ). Some k) channel) in
+              ap (λ (k : ℕ). length (notices_on k w.deeds)) channel
+              ∙ sym (ap length (ap (λ (ms : List (List ℕ)). notices_on w.channels w.deeds ++ noted ms) silent ∙ append-nil (notices_on w.channels w.deeds))) ∙ all
+              ∙ ap (λ (k : ℕ). length (notices_due k w.deeds)) (sym channel)
+
+  -- what the deeds of a run's end take is met by its lines
+  pub runs_go_well : (w : WorldState) → Reached lines starves w → length lines ≤ 1000000 → AreReadWell w.deeds → EachAfter EndsTold w.deeds → GoWell w.deeds
+  runs_go_well w r few well told = record { well = well; ends = told; short = unworn lines starves premises w r few (premises_fit lines premises) }
+
+  -- The control lines of a run did what they say, where its deeds leave open what it left open.
+  pub run_acted : (most : Most) (w : WorldState) → length lines ≤ 1000000 → AreOrderedLines ids lines → (is : run_of most starves lines ≡ Some w) → AreReadWell w.deeds → EachAfter EndsTold w.deeds
+      → ((said : DoAsSaid ids lines starves w) → left_open devices w.deeds (control_by devices lines) ≡ said.left) → HaveActed devices lines w.idle w.deeds
+  run_acted most w few ordered is well told left_is =
+      let said : DoAsSaid ids lines starves w = does_as_said lines starves most w ordered premises is in
+      let reached : Reached lines starves w = run_reached lines starves most w is in
+      let b : IsBehind lines starves w = reached_behind lines starves w reached in
+      let control : Control = control_with said.left (control_of ids lines) in
+      let same : without_idle control ≡ control_by_deeds ids w.deeds = control_by_acts ids lines said.left ∙ ap (control_after ids) (sym said.acts) ∙ acts_by_deeds ids w.deeds in
+      let rests : choices w ≡ [] = run_rests starves most lines w is in
+      let there = behind_there lines starves premises w b (runs_go_well w reached few well told) in
+      record {
+        control = control;
+        control_is = ap (λ (o : Option ℕ). control_with o (control_of ids lines)) (sym (left_is said));
+        acts = said.acts;
+        tells = λ c. subst (λ (ts : List Telling). AreSaid (Tells devices w.deeds c) ts (tellings_on c w.deeds) (has_ended c w.deeds)) (sym (ap (λ (k : Control). of_channel c k.told) same ∙ told_is_due ids c w.deeds))
+            (all_told w well b said.left said.ends same rests c);
+        in_time = (behind_in_time lines starves premises w b well).points;
+        notices = λ c. subst (λ (ts : List Notice). AreSaid (λ n message. message ≡ notice_bytes n) ts (notices_on c w.deeds) (has_ended c w.deeds)) (sym (ap (λ (k : Control). of_channel c k.notices) same ∙ notices_are_due ids c w.deeds))
+            (all_noticed w well b said.left said.ends same rests c);
+        cuts = λ d. cuts_by_deeds devices d w.deeds there.cut.there there.cut.all ∙ sym (ap (λ (k : Control). of_channel d k.cuts) same);
+        cut_there = there.cut.there;
+        cut_all = there.cut.all;
+        idle_lines = said.idle_lines;
+        idle_rise = said.idle_rise;
+      }
