@@ -1,3 +1,4 @@
+use Rattle.rd_headline.proofs.AnsweredLemmas
 use Rattle.rd_headline.proofs.HeardLemmas
 use Rattle.rd_headline.proofs.StandLemmas.{opens_in_time}
 use Rattle.rd_headline.proofs.laws.channels_open_in_time.Goals as goal
