@@ -1,0 +1,8 @@
+//! What a session has done where nothing can happen by itself.
+//!
+//! It stands on `rd_answered`, `rd_told` and `rd_controls`, and has no code: each statement is the contract of a function that does nothing.
+#![tactic(auto)]
+
+mod laws;
+
+pub use laws::{hands_hold_what_is_taken};
