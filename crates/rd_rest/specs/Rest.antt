@@ -21,3 +21,9 @@ AreInHands w = (d : ℕ) (s : StationState SessionDevice) → station_at w d ≡
 abbrev pub AreOver : WorldState → Type 0
 AreOver w = (d : ℕ) (s : StationState SessionDevice) → station_at w d ≡ Some s → (earlier : List Item) → s.journal ≡ earlier ++ Cut Dropped ∷ []
     → (key : Key) → NamesKey s.journal key → key.channel < current (open_channel w.deeds) w.channels
+
+-- what a station holds waits inside its device
+pub record IsAtRest (s : StationState SessionDevice) : Type 0 where
+  pub waiting : s.waiting ≡ []
+  pub taken : s.taken ≡ []
+  pub ready : s.ready ≡ []

@@ -1,14 +1,19 @@
 //! What a session has done where nothing can happen by itself, as contracts of functions that do nothing.
 
-ghost use Rattle.std.specs.Prelude.{◌≡◌, ℕ, ◌≤◌, Bool, List, length};
+ghost use Rattle.std.specs.Prelude.{◌≡◌, ℕ, ◌≤◌, [], Bool, List, Some, length};
 ghost use Rattle.rd_base.specs.declared.journal.Key.{Key};
 ghost use Rattle.rd_script.specs.declared.line.NumberedLine.{NumberedLine};
 ghost use Rattle.rd_runs.specs.Moves.{Reached};
 ghost use Rattle.rd_runs.specs.Premises.{RunPremises};
-ghost use Rattle.rd_world.specs.World.{WorldState};
-ghost use Rattle.rd_rest.specs.Rest.{AreInHands};
+ghost use Rattle.rd_station.specs.Station.{StationState};
+ghost use Rattle.rd_world.specs.Run.{choices};
+ghost use Rattle.rd_world.specs.World.{WorldState, station_at};
+ghost use Rattle.rd_world.specs.declared.device.SessionDevice.{SessionDevice};
+ghost use Rattle.rd_rest.specs.Rest.{AreInHands, IsAtRest};
 
-/// Each job that a station gave to a hand is in one.
+/// Each job that a station gave to a hand is in one. So where nothing can happen by itself what a station holds waits inside its device.
 pub fn hands_hold_what_is_taken()
-    ensures { (lines : List NumberedLine) (starves : Key → Bool) (w : WorldState) → RunPremises lines → Reached lines starves w → AreInHands w }
+    ensures held { (lines : List NumberedLine) (starves : Key → Bool) (w : WorldState) → Reached lines starves w → AreInHands w }
+    ensures rest { (lines : List NumberedLine) (starves : Key → Bool) (w : WorldState) → RunPremises lines → Reached lines starves w → choices w ≡ []
+        → (d : ℕ) (s : StationState SessionDevice) → station_at w d ≡ Some s → IsAtRest s }
 {}
