@@ -82,7 +82,7 @@ free_is w hand free = by (hand_at w hand) free
 
 -- ---- a station that hands do something with
 
-took : (s after : Of) (job : Job) → station.take s ≡ (after, given.Job job) → ((x : InHand) → Has x after.taken → Has x s.taken ⊎ (x.key ≡ job.key)) × (after.journal ≡ s.journal)
+pub took : (s after : Of) (job : Job) → station.take s ≡ (after, given.Job job) → ((x : InHand) → Has x after.taken → Has x s.taken ⊎ (x.key ≡ job.key)) × (after.journal ≡ s.journal)
 took s after job made = by s.ended s.waiting made
   where
     by : (b : Bool) (jobs : List Job) → cond {A = Of × Given} b (s, given.Over) (take_first s jobs) ≡ (after, given.Job job)
@@ -110,17 +110,17 @@ find_none {A} p (y ∷ xs) none x has = by (p y) refl none has (λ e later. find
     by false e none (inl here) rest = ap p here ∙ e
     by false e none (inr later) rest = rest none later
 
-record Gave (s : Of) (job : Job) (t : Of) : Type 0 where
-  others : (x : InHand) → Has x t.taken → Has x s.taken × (x.key ≢ job.key)
-  more : List Item
-  longer : t.journal ≡ s.journal ++ more
-  undropped : Has (Cut Dropped) more → ⊥
+pub record Gave (s : Of) (job : Job) (t : Of) : Type 0 where
+  pub others : (x : InHand) → Has x t.taken → Has x s.taken × (x.key ≢ job.key)
+  pub more : List Item
+  pub longer : t.journal ≡ s.journal ++ more
+  pub undropped : Has (Cut Dropped) more → ⊥
 
 one_only : (x : Item) → (Cut Dropped ≡ x → ⊥) → Has (Cut Dropped) (x ∷ []) → ⊥
 one_only x apart (inl same) = apart same
 one_only x apart (inr none) = none
 
-gave_back : (s : Of) (job : Job) (moment : ℕ) (came : Stepped SessionDevice) → Gave s job (station.apply s job moment came).0
+pub gave_back : (s : Of) (job : Job) (moment : ℕ) (came : Stepped SessionDevice) → Gave s job (station.apply s job moment came).0
 gave_back s job moment came = by (find (λ (t : InHand). is_key t.key job.key) s.taken) refl
   where
     without : (t : InHand) → t.key ≡ job.key → (x : InHand) → Has x (station.without_taken t.key s.taken) → Has x s.taken × (x.key ≢ job.key)

@@ -1,3 +1,4 @@
 pub mod CalmLemmas
 pub mod HandLemmas
+pub mod OverLemmas
 pub mod RestLemmas

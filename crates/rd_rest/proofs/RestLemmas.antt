@@ -10,13 +10,13 @@ use Rattle.std.proofs.lemmas.Bool.Decides.{nat_tests}
 use Rattle.rd_base.specs.declared.journal.Key.{Key}
 use Rattle.rd_client.specs.Core.{Outgoing}
 use Rattle.rd_drive.specs.declared.plan.Job.{Job}
+use Rattle.rd_pending.proofs.MapLemmas.{same_key}
 use Rattle.rd_rest.proofs.HandLemmas.{reached_in_hands}
-use Rattle.rd_rest.specs.Rest.{AreInHands}
-use Rattle.rd_runs.proofs.IdleLemmas.{found_has}
+use Rattle.rd_rest.proofs.OverLemmas.{reached_some}
+use Rattle.rd_rest.specs.Rest.{AreInHands, IsAtRest}
 use Rattle.rd_runs.specs.Moves.{Reached}
 use Rattle.rd_runs.specs.Premises.{RunPremises}
 use Rattle.rd_script.specs.declared.line.NumberedLine.{NumberedLine}
-use Rattle.rd_station.proofs.Members.{has_map}
 use Rattle.rd_station.specs.Station.{StationState}
 use Rattle.rd_station.specs.declared.answers.Completion.{Completion}
 use Rattle.rd_station.specs.declared.held.InHand.{InHand}
@@ -44,20 +44,36 @@ none_of f [] none x has = absurd has
 none_of f (y ∷ xs) none x (inl here) = ap f here ∙ (nothing_in (f y) (flat_map f xs) none).0
 none_of f (y ∷ xs) none x (inr later) = none_of f xs (nothing_in (f y) (flat_map f xs) none).1 x later
 
+has_each : {A B : Type 0} (f : A → B) (x : A) (xs : List A) → Has x xs → Has (f x) (map f xs)
+has_each f x [] none = absurd none
+has_each f x (y ∷ xs) (inl here) = inl (ap f here)
+has_each f x (y ∷ xs) (inr later) = inr (has_each f x xs later)
+
+found_has : (stations : List (ℕ × Of)) (d : ℕ) (x : Of) → lookup (is_at (nat_cmp d)) stations ≡ Some x → Has d (map (λ (e : ℕ × Of). e.0) stations)
+found_has [] d x there = absurd (cc there)
+found_has (e ∷ stations) d x there = by (is_at (nat_cmp d) e.0) refl there (found_has stations d x)
+  where
+    by : (b : Bool) → is_at (nat_cmp d) e.0 ≡ b → cond b (Some e.1) (lookup (is_at (nat_cmp d)) stations) ≡ Some x
+        → (lookup (is_at (nat_cmp d)) stations ≡ Some x → Has d (map (λ (e : ℕ × Of). e.0) stations)) → Has d (e.0 ∷ map (λ (e : ℕ × Of). e.0) stations)
+    by true here found later = inl (same_key d e.0 here)
+    by false here found later = inr (later found)
+
 -- ---- hands by their numbers
 
 in_range : (from n i : ℕ) → i < n → Has (from + i) (range_with_len from n)
 in_range from zero i below = absurd (omega (arith, below))
 in_range from (suc n) zero below = inl (omega arith)
 in_range from (suc n) (suc i) below =
-    let same : suc from + i ≡ from + suc i = omega arith in
-    inr (subst (λ (k : ℕ). Has k (range_with_len (suc from) n)) same (in_range (suc from) n i (omega (arith, below))))
+    let same : from + 1 + i ≡ from + suc i = omega arith in
+    inr (subst (λ (k : ℕ). Has k (range_with_len (from + 1) n)) same (in_range (from + 1) n i (omega (arith, below))))
 
 hand_there : (w : WorldState) (i : ℕ) → hand_at w (suc i) ≡ slice_get w.hands i
-hand_there w i = let e : suc i - 1 ≡ i = omega arith in ap (λ (k : ℕ). slice_get w.hands k) e
+hand_there w i = let e : suc i - 1 ≡ i = omega arith in let some : (suc i == 0) ≡ false = grind (arith, nat_tests) in rw (some, e) refl
 
 number_there : (w : WorldState) (i : ℕ) → i < length w.hands → Has (suc i) (hand_numbers w)
-number_there w i below = has_map suc i (range_with_len 0 (length w.hands)) (in_range 0 (length w.hands) i below)
+number_there w i below =
+    let same : 0 + i ≡ i = omega arith in
+    has_each suc i (range_with_len 0 (length w.hands)) (subst (λ (k : ℕ). Has k (range_with_len 0 (length w.hands))) same (in_range 0 (length w.hands) i below))
 
 -- a place of what is in a list
 place_of : {A : Type 0} (x : A) (xs : List A) → Has x xs → (i : ℕ) × (i < length xs) × (slice_get xs i ≡ Some x)
@@ -127,3 +143,15 @@ module _ (w : WorldState) (none : choices w ≡ []) where
       by : (jobs : List Job) → not (is_empty jobs) ≡ false → jobs ≡ []
       by [] off = refl
       by (job ∷ jobs) off = absurd (cc off)
+
+-- so what a station holds waits inside its device
+pub rest_at : (lines : List NumberedLine) (starves : Key → Bool) → RunPremises lines → (w : WorldState) → Reached lines starves w → choices w ≡ [] → (d : ℕ) (s : Of) → station_at w d ≡ Some s → IsAtRest s
+rest_at lines starves premises w reached none d s there = record {
+  waiting = none_waits w none (reached_some lines starves premises w reached) d s there;
+  taken = by s.taken (λ t has. let (job, held, key) = reached_in_hands lines starves w reached d s there t has in no_hand_full w none (d, job) held);
+  ready = none_ready w none d s there;
+}
+  where
+    by : (ts : List InHand) → ((t : InHand) → Has t ts → ⊥) → ts ≡ []
+    by [] none = refl
+    by (t ∷ ts) none = absurd (none t (inl refl))

@@ -9,11 +9,16 @@ ghost use Rattle.rd_station.specs.Station.{StationState};
 ghost use Rattle.rd_world.specs.Run.{choices};
 ghost use Rattle.rd_world.specs.World.{WorldState, station_at};
 ghost use Rattle.rd_world.specs.declared.device.SessionDevice.{SessionDevice};
-ghost use Rattle.rd_rest.specs.Rest.{AreInHands, IsAtRest};
+ghost use Rattle.rd_rest.specs.Rest.{AreInHands, AreOver, IsAtRest};
 
 /// Each job that a station gave to a hand is in one. So where nothing can happen by itself what a station holds waits inside its device.
 pub fn hands_hold_what_is_taken()
     ensures held { (lines : List NumberedLine) (starves : Key → Bool) (w : WorldState) → Reached lines starves w → AreInHands w }
     ensures rest { (lines : List NumberedLine) (starves : Key → Bool) (w : WorldState) → RunPremises lines → Reached lines starves w → choices w ≡ []
         → (d : ℕ) (s : StationState SessionDevice) → station_at w d ≡ Some s → IsAtRest s }
+{}
+
+/// Where a device was cut off last since a channel ended, its journal names keys of earlier channels only.
+pub fn dropped_journals_are_over()
+    ensures { (lines : List NumberedLine) (starves : Key → Bool) (w : WorldState) → RunPremises lines → Reached lines starves w → AreOver w }
 {}
