@@ -2,3 +2,4 @@ pub mod CalmLemmas
 pub mod HandLemmas
 pub mod OverLemmas
 pub mod RestLemmas
+pub mod TurnsLemmas

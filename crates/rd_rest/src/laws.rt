@@ -9,6 +9,8 @@ ghost use Rattle.rd_station.specs.Station.{StationState};
 ghost use Rattle.rd_world.specs.Run.{choices};
 ghost use Rattle.rd_world.specs.World.{WorldState, station_at};
 ghost use Rattle.rd_world.specs.declared.device.SessionDevice.{SessionDevice};
+ghost use Rattle.rd_answered.specs.Refusing.{DeclareWritable};
+ghost use Rattle.rd_directs.specs.Turns.{InTurn};
 ghost use Rattle.rd_rest.specs.Rest.{AreInHands, AreOver, IsAtRest};
 
 /// Each job that a station gave to a hand is in one. So where nothing can happen by itself what a station holds waits inside its device.
@@ -21,4 +23,9 @@ pub fn hands_hold_what_is_taken()
 /// Where a device was cut off last since a channel ended, its journal names keys of earlier channels only.
 pub fn dropped_journals_are_over()
     ensures { (lines : List NumberedLine) (starves : Key → Bool) (w : WorldState) → RunPremises lines → Reached lines starves w → AreOver w }
+{}
+
+/// Each request that never came to its station is in line to be answered directly.
+pub fn requests_are_in_turn()
+    ensures { (lines : List NumberedLine) (starves : Key → Bool) (w : WorldState) → RunPremises lines → DeclareWritable lines → length lines ≤ 1000000 → Reached lines starves w → InTurn w }
 {}
