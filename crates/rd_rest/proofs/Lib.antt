@@ -3,3 +3,4 @@ pub mod HandLemmas
 pub mod OverLemmas
 pub mod RestLemmas
 pub mod TurnsLemmas
+pub mod CompletedLemmas

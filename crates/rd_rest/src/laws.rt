@@ -1,12 +1,15 @@
 //! What a session has done where nothing can happen by itself, as contracts of functions that do nothing.
 
-ghost use Rattle.std.specs.Prelude.{◌≡◌, ℕ, ◌≤◌, [], Bool, List, Some, length};
+ghost use Rattle.std.specs.Prelude.{◌≡◌, ◌⊎◌, ℕ, ◌≤◌, [], Bool, List, None, Some, length};
 ghost use Rattle.rd_base.specs.declared.journal.Key.{Key};
 ghost use Rattle.rd_script.specs.declared.line.NumberedLine.{NumberedLine};
 ghost use Rattle.rd_runs.specs.Moves.{Reached};
 ghost use Rattle.rd_runs.specs.Premises.{RunPremises};
 ghost use Rattle.rd_station.specs.Station.{StationState};
-ghost use Rattle.rd_world.specs.Run.{choices};
+ghost use Rattle.rd_world.specs.Acts.{waiting_keys};
+ghost use Rattle.rd_world.specs.Opening.{bare_lines};
+ghost use Rattle.rd_world.specs.Run.{choices, declared_devices};
+ghost use Rattle.rd_world.specs.Talk.{Has, answered, asked, open_channel};
 ghost use Rattle.rd_world.specs.World.{WorldState, station_at};
 ghost use Rattle.rd_world.specs.declared.device.SessionDevice.{SessionDevice};
 ghost use Rattle.rd_answered.specs.Refusing.{DeclareWritable};
@@ -28,4 +31,11 @@ pub fn dropped_journals_are_over()
 /// Each request that never came to its station is in line to be answered directly.
 pub fn requests_are_in_turn()
     ensures { (lines : List NumberedLine) (starves : Key → Bool) (w : WorldState) → RunPremises lines → DeclareWritable lines → length lines ≤ 1000000 → Reached lines starves w → InTurn w }
+{}
+
+/// Where nothing can happen by itself, each request that was read on the open channel was answered, or waits in its device, unless a job is kept back.
+pub fn requests_are_completed()
+    ensures { (lines : List NumberedLine) (starves : Key → Bool) (w : WorldState) → RunPremises lines → DeclareWritable lines → length lines ≤ 1000000 → Reached lines starves w → choices w ≡ []
+        → open_channel w.deeds ≡ Some w.channels → w.kept ≡ None → w.client.core.fault ≡ None → (device id index : ℕ) → Has index (asked w.channels device id w.deeds)
+        → Has index (answered w.channels device id w.deeds) ⊎ Has (record { channel = w.channels; index = index }) (waiting_keys (declared_devices (bare_lines lines)) w.deeds) }
 {}
