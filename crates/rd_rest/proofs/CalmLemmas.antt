@@ -23,6 +23,7 @@ use Rattle.rd_station.specs.Station as station
 use Rattle.rd_station.specs.Station.{StationState, announce, cancelled_parked, cancelled_waiting, collect_first, entry_count, marked_removed, max_entries, put_unless}
 use Rattle.rd_station.specs.declared.answers.Completion.{Completion}
 use Rattle.rd_station.specs.declared.held.InHand.{InHand}
+use Rattle.rd_station.specs.declared.held.ParkedJob.{ParkedJob}
 use Rattle.rd_station.specs.declared.refusals.AnnounceNo.{AnnounceNo}
 use Rattle.rd_station.specs.declared.refusals.AnnounceNo.TheVariants as no
 use Rattle.rd_station.specs.declared.refusals.PutWhy.{PutWhy}
@@ -42,16 +43,18 @@ Of = StationState SessionDevice
 
 pub record Calm (s t : Of) : Type 0 where
   pub taken : (x : InHand) → Has x t.taken → (y : InHand) × Has y s.taken × (y.key ≡ x.key)
+  pub parked : (p : ParkedJob) → Has p t.parked → Has p s.parked
   pub more : List Item
   pub longer : t.journal ≡ s.journal ++ more
   pub undropped : Has (Cut Dropped) more → ⊥
 
 pub calm_not : (s : Of) → Calm s s
-calm_not s = record { taken = λ x has. (x, has, refl); more = []; longer = sym (append-nil s.journal); undropped = λ has. has }
+calm_not s = record { taken = λ x has. (x, has, refl); parked = λ p has. has; more = []; longer = sym (append-nil s.journal); undropped = λ has. has }
 
 calm_then : {s u : Of} (t : Of) → Calm s t → Calm t u → Calm s u
 calm_then {s} {u} t first second = record {
   taken = λ x has. let (y, among, same) = second.taken x has in let (z, there, is) = first.taken y among in (z, there, is ∙ same);
+  parked = λ p has. first.parked p (second.parked p has);
   more = first.more ++ second.more;
   longer = second.longer ∙ ap (λ (j : List Item). j ++ second.more) first.longer ∙ append_assoc s.journal first.more second.more;
   undropped = λ has. elim (has_append (Cut Dropped) first.more second.more has) [ inl one ↦ first.undropped one | inr other ↦ second.undropped other ];
@@ -63,7 +66,7 @@ announced_calm s = by s.live (nat_le max_entries (entry_count s))
     by : (a b : Bool) → Calm s (cond {A = Of × Result (Unit {0}) AnnounceNo} a (s, Err no.Live) (cond b (s, Err (no.Worn (entry_count s))) (record s { live = true }, Ok tt))).0
     by true b = calm_not s
     by false true = calm_not s
-    by false false = record { taken = λ x has. (x, has, refl); more = []; longer = sym (append-nil s.journal); undropped = λ has. has }
+    by false false = record { taken = λ x has. (x, has, refl); parked = λ p has. has; more = []; longer = sym (append-nil s.journal); undropped = λ has. has }
 
 removed_calm : (s : Of) (cut : SessionDevice) → Calm s (station.remove s cut).0
 removed_calm s cut = by s.live
@@ -92,6 +95,7 @@ removed_calm s cut = by s.live
     by false = calm_not s
     by true = record {
       taken = λ x has. let (u, there, same) = map_has marked_removed x s.taken has in (u, there, ap (λ (t : InHand). t.key) (sym same));
+      parked = λ p none. absurd none;
       more = Cut Removed ∷ map (λ (job : Job). Cancelled job.key) s.waiting;
       longer = refl;
       undropped = undropped;
@@ -106,7 +110,7 @@ collected_calm s = by s.ready
   where
     by : (cs : List Completion) → Calm s (collect_first s cs).0
     by [] = calm_not s
-    by (c ∷ cs) = record { taken = λ x has. (x, has, refl); more = Sent c.key ∷ []; longer = refl; undropped = one_more (Sent c.key) (λ e. cc (e)) }
+    by (c ∷ cs) = record { taken = λ x has. (x, has, refl); parked = λ p has. has; more = Sent c.key ∷ []; longer = refl; undropped = one_more (Sent c.key) (λ e. cc (e)) }
 
 -- ---- a world
 
@@ -172,7 +176,7 @@ put_calm w d job = at (station_at w d) refl
   where
     by : (s : Of) → station_at w d ≡ Some s → (o : Option PutWhy) → IsCalm w (put_by w d job (put_unless s job o))
     by s there None = calm_station w d s (put_unless s job None).0 there
-        (record { taken = λ x has. (x, has, refl); more = Came job.key ∷ []; longer = refl; undropped = one_more (Came job.key) (λ e. cc (e)) })
+        (record { taken = λ x has. (x, has, refl); parked = λ p has. has; more = Came job.key ∷ []; longer = refl; undropped = one_more (Came job.key) (λ e. cc (e)) })
     by s there (Some cause) = refused w d job cause
 
     at : (o : Option Of) → station_at w d ≡ o → IsCalm w (put_at w d job o)

@@ -32,13 +32,14 @@ use Rattle.rd_script.specs.declared.line.NumberedLine.{NumberedLine}
 use Rattle.rd_station.proofs.Members.{filter_has, find_has, has_append, has_left, has_right, key_self, same_key}
 use Rattle.rd_station.specs.Memory.{NamesKey}
 use Rattle.rd_station.specs.Station as station
-use Rattle.rd_station.specs.Station.{StationState, apply_from, cancelled_in_hand, is_key, ran, take_first}
+use Rattle.rd_station.specs.Station.{StationState, apply_from, cancelled_in_hand, is_ended, is_key, parked_after, ran, take_first}
 use Rattle.rd_station.specs.declared.answers.Applied.{Applied}
 use Rattle.rd_station.specs.declared.answers.Applied.TheVariants as applied
 use Rattle.rd_station.specs.declared.answers.Completion.{Completion}
 use Rattle.rd_station.specs.declared.answers.Given.{Given}
 use Rattle.rd_station.specs.declared.answers.Given.TheVariants as given
 use Rattle.rd_station.specs.declared.held.InHand.{InHand}
+use Rattle.rd_station.specs.declared.held.ParkedJob.{ParkedJob}
 use Rattle.rd_world.specs.declared.device.SessionDevice.{SessionDevice}
 use Rattle.rd_world.specs.Devices.{PrinterNames}
 use Rattle.rd_world.specs.Events.{came_of, dropping, hand_at, is_hand_free, refreshing, with_hand}
@@ -101,6 +102,14 @@ took s after job made = by s.ended s.waiting made
           ap (λ (r : Of × Given). (r.0).journal) (sym made),
         )
 
+pub took_parked : (s after : Of) (job : Job) → station.take s ≡ (after, given.Job job) → after.parked ≡ s.parked
+took_parked s after job made = by s.ended s.waiting made
+  where
+    by : (b : Bool) (jobs : List Job) → cond {A = Of × Given} b (s, given.Over) (take_first s jobs) ≡ (after, given.Job job) → after.parked ≡ s.parked
+    by true jobs made = let over : given.Over ≡ given.Job job = ap (λ (r : Of × Given). r.1) made in absurd (cc (over))
+    by false [] made = let nothing : given.Nothing ≡ given.Job job = ap (λ (r : Of × Given). r.1) made in absurd (cc (nothing))
+    by false (j ∷ jobs) made = ap (λ (r : Of × Given). (r.0).parked) (sym made)
+
 find_none : {A : Type 0} (p : A → Bool) (xs : List A) → find p xs ≡ None → (x : A) → Has x xs → p x ≡ false
 find_none p [] none x has = absurd has
 find_none {A} p (y ∷ xs) none x has = by (p y) refl none has (λ e later. find_none p xs e x later)
@@ -113,6 +122,7 @@ find_none {A} p (y ∷ xs) none x has = by (p y) refl none has (λ e later. find
 pub record Gave (s : Of) (job : Job) (t : Of) : Type 0 where
   pub others : (x : InHand) → Has x t.taken → Has x s.taken × (x.key ≢ job.key)
   pub more : List Item
+  pub parked : (p : ParkedJob) → Has p t.parked → Has p s.parked ⊎ ((m : ℕ) × (starved : Bool) × Has (Ran p.key m starved true) more)
   pub longer : t.journal ≡ s.journal ++ more
   pub undropped : Has (Cut Dropped) more → ⊥
 
@@ -128,14 +138,27 @@ gave_back s job moment came = by (find (λ (t : InHand). is_key t.key job.key) s
         let (among, apart) = filter_has (λ (v : InHand). not (is_key v.key t.key)) x s.taken has in
         (among, λ equal. let one : is_key x.key t.key ≡ true = ap (λ (k : Key). is_key k t.key) (equal ∙ sym same) ∙ key_self t.key in cc (apart, one))
 
+    after : (t : InHand) (p : ParkedJob) → Has p (parked_after s.parked t (kind_of job.op) came.answer came.ends)
+        → Has p s.parked ⊎ ((m : ℕ) × (starved : Bool) × Has (Ran p.key m starved true) (Ran t.key moment (is_starved came.answer) (is_parked came.answer) ∷ []))
+    after t p has = elim (has_append p (filter (λ q. not (is_ended came.ends q)) s.parked) (cond (is_parked came.answer) (record { key = t.key; completion = t.completion; kind = kind_of job.op } ∷ []) []) has) [
+      | inl was ↦ inl (filter_has (λ q. not (is_ended came.ends q)) p s.parked was).0
+      | inr last ↦ inr (moment, is_starved came.answer, own (is_parked came.answer) last)
+    ]
+      where
+        own : (b : Bool) → Has p (cond b (record { key = t.key; completion = t.completion; kind = kind_of job.op } ∷ []) []) → Has (Ran p.key moment (is_starved came.answer) true) (Ran t.key moment (is_starved came.answer) b ∷ [])
+        own true (inl here) = inl (ap (λ (q : ParkedJob). Ran q.key moment (is_starved came.answer) true) here)
+        own true (inr none) = absurd none
+        own false none = absurd none
+
     hand : (t : InHand) → t.key ≡ job.key → (b : Bool) → Gave s job (cond {A = Of × Applied} b (cancelled_in_hand s t (kind_of job.op), applied.Cancelled) (ran s t (kind_of job.op) moment came, cond (is_parked came.answer) applied.Parked applied.Ran)).0
-    hand t same true = record { others = without t same; more = Cancelled t.key ∷ []; longer = refl; undropped = one_only (Cancelled t.key) (λ e. cc (e)) }
-    hand t same false = record { others = without t same; more = Ran t.key moment (is_starved came.answer) (is_parked came.answer) ∷ []; longer = refl; undropped = one_only (Ran t.key moment (is_starved came.answer) (is_parked came.answer)) (λ e. cc (e)) }
+    hand t same true = record { others = without t same; parked = λ p has. inl has; more = Cancelled t.key ∷ []; longer = refl; undropped = one_only (Cancelled t.key) (λ e. cc (e)) }
+    hand t same false = record { others = without t same; parked = after t; more = Ran t.key moment (is_starved came.answer) (is_parked came.answer) ∷ []; longer = refl; undropped = one_only (Ran t.key moment (is_starved came.answer) (is_parked came.answer)) (λ e. cc (e)) }
 
     by : (o : Option InHand) → find (λ (t : InHand). is_key t.key job.key) s.taken ≡ o → Gave s job (apply_from s job moment came o).0
     by None e = record {
       others = λ x has. (has, λ equal. let no : is_key x.key job.key ≡ false = find_none (λ (t : InHand). is_key t.key job.key) s.taken e x has in
           let yes : is_key x.key job.key ≡ true = ap (λ (k : Key). is_key k job.key) equal ∙ key_self job.key in cc (no, yes));
+      parked = λ p has. inl has;
       more = [];
       longer = sym (append-nil s.journal);
       undropped = λ has. has;
@@ -232,7 +255,7 @@ module _ (lines : List NumberedLine) (starves : Key → Bool) where
   part_hands w (idle_one number) may is = is
   part_hands w draws_one may is = is
 
-  begins_idle : AreIdle (world_of lines).stations
+  pub begins_idle : AreIdle (world_of lines).stations
   begins_idle = begins_as lines (λ (u : Unset). AreIdle u.stations) (first_idle (declared_devices (bare_lines lines)))
 
   pub behind_in_hands : (w : WorldState) → IsBehind lines starves w → AreInHands w

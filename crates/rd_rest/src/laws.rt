@@ -14,7 +14,7 @@ ghost use Rattle.rd_world.specs.World.{WorldState, station_at};
 ghost use Rattle.rd_world.specs.declared.device.SessionDevice.{SessionDevice};
 ghost use Rattle.rd_answered.specs.Refusing.{DeclareWritable};
 ghost use Rattle.rd_directs.specs.Turns.{InTurn};
-ghost use Rattle.rd_rest.specs.Rest.{AreInHands, AreOver, IsAtRest};
+ghost use Rattle.rd_rest.specs.Rest.{AreInHands, AreLeftParked, AreOver, IsAtRest};
 
 /// Each job that a station gave to a hand is in one. So where nothing can happen by itself what a station holds waits inside its device.
 pub fn hands_hold_what_is_taken()
@@ -38,4 +38,9 @@ pub fn requests_are_completed()
     ensures { (lines : List NumberedLine) (starves : Key → Bool) (w : WorldState) → RunPremises lines → DeclareWritable lines → length lines ≤ 1000000 → Reached lines starves w → choices w ≡ []
         → open_channel w.deeds ≡ Some w.channels → w.kept ≡ None → w.client.core.fault ≡ None → (device id index : ℕ) → Has index (asked w.channels device id w.deeds)
         → Has index (answered w.channels device id w.deeds) ⊎ Has (record { channel = w.channels; index = index }) (waiting_keys (declared_devices (bare_lines lines)) w.deeds) }
+{}
+
+/// What waits inside a device ran, and its journal says that it was left waiting.
+pub fn waiting_requests_were_left()
+    ensures parked { (lines : List NumberedLine) (starves : Key → Bool) (w : WorldState) → Reached lines starves w → AreLeftParked w }
 {}
