@@ -5,3 +5,5 @@ pub mod RestLemmas
 pub mod ParkedLemmas
 pub mod TurnsLemmas
 pub mod CompletedLemmas
+pub mod WaitingLemmas
+pub mod LeftLemmas

@@ -6,9 +6,9 @@ ghost use Rattle.rd_script.specs.declared.line.NumberedLine.{NumberedLine};
 ghost use Rattle.rd_runs.specs.Moves.{Reached};
 ghost use Rattle.rd_runs.specs.Premises.{RunPremises};
 ghost use Rattle.rd_station.specs.Station.{StationState};
-ghost use Rattle.rd_world.specs.Acts.{waiting_keys};
+ghost use Rattle.rd_world.specs.Acts.{some_wait, waiting_keys};
 ghost use Rattle.rd_world.specs.Opening.{bare_lines};
-ghost use Rattle.rd_world.specs.Run.{choices, declared_devices};
+ghost use Rattle.rd_world.specs.Run.{choices, declared_devices, some_left};
 ghost use Rattle.rd_world.specs.Talk.{Has, answered, asked, open_channel};
 ghost use Rattle.rd_world.specs.World.{WorldState, station_at};
 ghost use Rattle.rd_world.specs.declared.device.SessionDevice.{SessionDevice};
@@ -43,4 +43,10 @@ pub fn requests_are_completed()
 /// What waits inside a device ran, and its journal says that it was left waiting.
 pub fn waiting_requests_were_left()
     ensures parked { (lines : List NumberedLine) (starves : Key → Bool) (w : WorldState) → Reached lines starves w → AreLeftParked w }
+{}
+
+/// Where nothing can happen by itself, the journals leave a request of the open channel waiting just where one waits in a device.
+pub fn what_is_left_waits()
+    ensures { (lines : List NumberedLine) (starves : Key → Bool) (w : WorldState) → RunPremises lines → Reached lines starves w → choices w ≡ [] → open_channel w.deeds ≡ Some w.channels
+        → some_left w ≡ some_wait (declared_devices (bare_lines lines)) w.deeds w.channels }
 {}
