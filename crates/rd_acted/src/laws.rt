@@ -111,3 +111,7 @@ pub fn sessions_act()
         → All (Opens devices deeds) (range_with_len 1 acted.control.channels) → All (λ c. has_ended c deeds ≡ false → option_map_or is_settled_host (host_stand deeds c) false ≡ true) (range_with_len 1 acted.control.channels)
         → AreActed devices lines idle deeds }
 {}
+
+pub fn placeholder()
+    ensures { (n : ℕ) → n ≡ n }
+{}
