@@ -6,3 +6,4 @@ pub mod Opened
 pub mod Running
 pub mod ChannelLemmas
 pub mod RunLemmas
+pub mod Submitted
