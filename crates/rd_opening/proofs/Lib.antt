@@ -7,3 +7,4 @@ pub mod Running
 pub mod ChannelLemmas
 pub mod RunLemmas
 pub mod Submitted
+pub mod SentLemmas

@@ -1,4 +1,3 @@
-use Rattle.rd_opening.proofs.Submitted.{behind_submitted}
 use Rattle.std.proofs.Common.{ap}
 use Rattle.rd_client.specs.Order.{is_client_ready}
 use Rattle.rd_host.specs.Order.{is_host_ready}
