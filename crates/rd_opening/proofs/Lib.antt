@@ -8,3 +8,5 @@ pub mod ChannelLemmas
 pub mod RunLemmas
 pub mod Submitted
 pub mod SentLemmas
+pub mod EventParts
+pub mod Issuing
