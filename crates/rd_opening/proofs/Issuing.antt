@@ -48,10 +48,10 @@ own_comes devices (removes device ∷ more) deeds own each = (tt, own_comes devi
 own_comes devices (adds device ∷ more) deeds own each = (tt, own_comes devices more deeds own.1 each)
 own_comes devices (deed ∷ more) deeds own each = absurd own.0
 
-inside_comes : (devices : List (ℕ × Declared)) (w v : WorldState) → IsInside w v → EachAfter (ComesOpened devices) w.deeds → EachAfter (ComesOpened devices) v.deeds
+pub inside_comes : (devices : List (ℕ × Declared)) (w v : WorldState) → IsInside w v → EachAfter (ComesOpened devices) w.deeds → EachAfter (ComesOpened devices) v.deeds
 inside_comes devices w v i each = subst (EachAfter (ComesOpened devices)) (sym i.deeds) (own_comes devices i.more w.deeds i.own each)
 
-opened_more : (devices : List (ℕ × Declared)) (deeds more : List Deed) (c : ℕ) → Opens devices deeds c → Opens devices (more ++ deeds) c
+pub opened_more : (devices : List (ℕ × Declared)) (deeds more : List Deed) (c : ℕ) → Opens devices deeds c → Opens devices (more ++ deeds) c
 opened_more devices deeds more c (since, before, is, has) = (more ++ since, before, ap (λ (ds : List Deed). more ++ ds) is ∙ sym (append_assoc more since before), has)
 
 inside_opened : (devices : List (ℕ × Declared)) (w v : WorldState) → IsInside w v → AreOpened devices w → AreOpened devices v

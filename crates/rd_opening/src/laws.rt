@@ -16,9 +16,10 @@ ghost use Rattle.rd_world.specs.Lines.{last_begun, submitted};
 ghost use Rattle.rd_world.specs.Opening.{bare_lines};
 ghost use Rattle.rd_world.specs.Recording.{client_stand, host_stand};
 ghost use Rattle.rd_world.specs.Run.{Most, choices, connects_on, declared_devices, run_of};
-ghost use Rattle.rd_world.specs.Talk.{EndsWith, client_wrote, has_ended, host_read, host_wrote, is_request, open_channel};
+ghost use Rattle.rd_world.specs.Talk.{EachAfter, EndsWith, client_wrote, has_ended, host_read, host_wrote, is_request, open_channel};
 ghost use Rattle.rd_world.specs.World.{WorldState};
 ghost use Rattle.rd_orders.specs.Orders.{DeclaresWritable};
+ghost use Rattle.rd_opening.specs.Issued.{ComesOpened};
 
 /// Each channel opens by the rounds of its begin: then both ends are ready, the client has listed its devices once, the host has heard all of that and replied, and no request and no
 /// notice stands before.
@@ -31,6 +32,12 @@ pub fn channels_open()
     // And at its end the host owes nothing on a channel that didn't end.
     ensures settled { (lines : List NumberedLine) (starves : Key → Bool) (most : Most) (w : WorldState) → RunPremises lines → DeclaresWritable lines → run_of most starves lines ≡ Some w
         → All (λ c. has_ended c w.deeds ≡ false → option_map_or is_settled_host (host_stand w.deeds c) false ≡ true) (range_with_len 1 w.channels) }
+{}
+
+/// In every run each request is accepted after the opening of the channel that began last.
+pub fn requests_come_opened()
+    ensures { (lines : List NumberedLine) (starves : Key → Bool) (most : Most) (w : WorldState) → RunPremises lines → DeclaresWritable lines → run_of most starves lines ≡ Some w
+        → EachAfter (ComesOpened (declared_devices (bare_lines lines))) w.deeds }
 {}
 
 /// The channel that began last is the one with the world's number, and all that began but the open one ended.

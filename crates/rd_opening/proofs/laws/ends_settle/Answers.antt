@@ -1,5 +1,3 @@
-use Rattle.rd_opening.proofs.Issuing.{round_comes}
-use Rattle.rd_opening.proofs.EventParts.{event_parts_keep}
 use Rattle.std.proofs.Common.{ap}
 use Rattle.rd_client.specs.Order.{is_client_ready}
 use Rattle.rd_host.specs.Order.{is_host_ready}
