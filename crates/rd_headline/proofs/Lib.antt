@@ -1,3 +1,4 @@
 pub mod StandLemmas
 pub mod HeardLemmas
 pub mod AnsweredLemmas
+pub mod StillLemmas

@@ -1,3 +1,4 @@
+use Rattle.rd_headline.proofs.StillLemmas
 use Rattle.rd_headline.proofs.AnsweredLemmas
 use Rattle.rd_headline.proofs.HeardLemmas
 use Rattle.rd_headline.proofs.StandLemmas.{opens_in_time}
