@@ -3,6 +3,7 @@ pub mod HandLemmas
 pub mod OverLemmas
 pub mod RestLemmas
 pub mod ParkedLemmas
+pub mod FullLemmas
 pub mod TurnsLemmas
 pub mod CompletedLemmas
 pub mod WaitingLemmas

@@ -50,3 +50,8 @@ pub fn what_is_left_waits()
     ensures { (lines : List NumberedLine) (starves : Key → Bool) (w : WorldState) → RunPremises lines → Reached lines starves w → choices w ≡ [] → open_channel w.deeds ≡ Some w.channels
         → some_left w ≡ some_wait (declared_devices (bare_lines lines)) w.deeds w.channels }
 {}
+
+/// Where nothing can happen by itself no job is kept back.
+pub fn none_is_kept_back()
+    ensures { (lines : List NumberedLine) (starves : Key → Bool) (w : WorldState) → RunPremises lines → Reached lines starves w → choices w ≡ [] → w.kept ≡ None }
+{}
