@@ -92,7 +92,7 @@ module _ (lines : List NumberedLine) (starves : Key → Bool) (premises : RunPre
   -- ---- what is open, or never began
 
   -- a channel that didn't end is open, or never began
-  open_or_none : (w : WorldState) → Reached lines starves w → (c : ℕ) → has_ended c w.deeds ≡ false → (open_channel w.deeds ≡ Some c) ⊎ ((c ≡ 0) ⊎ (w.channels < c))
+  pub open_or_none : (w : WorldState) → Reached lines starves w → (c : ℕ) → has_ended c w.deeds ≡ false → (open_channel w.deeds ≡ Some c) ⊎ ((c ≡ 0) ⊎ (w.channels < c))
   open_or_none w r c off = elim (cases_eq c 0) [
     | inl zero ↦ inr (inl zero)
     | inr some ↦ by (compares w.channels c)
@@ -112,7 +112,7 @@ module _ (lines : List NumberedLine) (starves : Key → Bool) (premises : RunPre
       ]
 
   -- what an open channel's number is
-  opened_as : (w : WorldState) → Reached lines starves w → (c : ℕ) → open_channel w.deeds ≡ Some c → (open_channel w.deeds ≡ Some w.channels) × (w.channels ≡ c)
+  pub opened_as : (w : WorldState) → Reached lines starves w → (c : ℕ) → open_channel w.deeds ≡ Some c → (open_channel w.deeds ≡ Some w.channels) × (w.channels ≡ c)
   opened_as w r c is =
       let opened : open_channel w.deeds ≡ Some w.channels = opens w.side w.channels w.deeds (known lines starves premises w r).stands.host (λ shut. cc (shut, is)) in (opened, (let same : w.channels ≡ c = cc (opened, is) in same))
 
@@ -133,7 +133,7 @@ module _ (lines : List NumberedLine) (starves : Key → Bool) (premises : RunPre
 
   -- ---- what is heard
 
-  unbegun_heard : (w : WorldState) → Reached lines starves w → (c : ℕ) → (c ≡ 0) ⊎ (w.channels < c) → traffic c w.deeds ≡ no_traffic
+  pub unbegun_heard : (w : WorldState) → Reached lines starves w → (c : ℕ) → (c ≡ 0) ⊎ (w.channels < c) → traffic c w.deeds ≡ no_traffic
   unbegun_heard w r c (inl zero) = subst (λ (x : ℕ). traffic x w.deeds ≡ no_traffic) (sym zero) (behind_none w (reached_behind lines starves w r))
   unbegun_heard w r c (inr above) = (known lines starves premises w r).carries.later c above
 
