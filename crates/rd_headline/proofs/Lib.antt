@@ -2,3 +2,4 @@ pub mod StandLemmas
 pub mod HeardLemmas
 pub mod AnsweredLemmas
 pub mod StillLemmas
+pub mod WholeLemmas
