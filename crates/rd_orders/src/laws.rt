@@ -13,8 +13,8 @@ ghost use Rattle.rd_script.specs.declared.line.NumberedLine.{NumberedLine};
 ghost use Rattle.rd_script.specs.declared.script.Script.{Script};
 ghost use Rattle.rd_world.specs.HostDeeds.{calls_of};
 ghost use Rattle.rd_world.specs.Opening.{bare_lines};
-ghost use Rattle.rd_world.specs.Recording.{announced_of, client_id, is_gone_at};
-ghost use Rattle.rd_world.specs.Run.{declared_devices};
+ghost use Rattle.rd_world.specs.Recording.{IsRecorded, announced_of, client_id, is_gone_at, recording_of_deeds};
+ghost use Rattle.rd_world.specs.Run.{WorldRun, declared_devices};
 ghost use Rattle.rd_world.specs.Talk.{client_moves, host_moves, open_channel};
 ghost use Rattle.rd_world.specs.World.{WorldState};
 ghost use Rattle.rd_orders.specs.Orders.{ClientStandsIn, DeclaresWritable, HostStandsIn, IsFine};
@@ -38,4 +38,12 @@ pub fn ends_stand()
 /// What a script that was read declares can be written: so both of every session of a script.
 pub fn scripts_are_writable()
     ensures { (m : Mode) (text : List ℕ) (script : Script) → script_of m text ≡ Ok script → DeclaresWritable script.lines }
+{}
+
+/// What was done is recorded, at every point: so is what is done in a session of a script.
+pub fn runs_are_recorded()
+    ensures points { (lines : List NumberedLine) (starves : Key → Bool) (w : WorldState) → RunPremises lines → DeclaresWritable lines → Reached lines starves w
+        → IsRecorded (declared_devices (bare_lines lines)) (recording_of_deeds w.deeds) w.deeds }
+    ensures sessions { (m : Mode) (text : List ℕ) (script : Script) (w : WorldState) → script_of m text ≡ Ok script → WorldRun script.lines w
+        → IsRecorded (declared_devices (bare_lines script.lines)) (recording_of_deeds w.deeds) w.deeds }
 {}
