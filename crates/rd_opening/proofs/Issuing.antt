@@ -1,5 +1,5 @@
 -- Between a channel's begin and the end of its rounds no request is accepted; at any other time each channel that began has opened, so it is where one is.
-use Rattle.std.proofs.Common.{◌≡◌, ◌∙◌, refl, sym, ap, subst, ℕ, ◌+◌, ◌≤◌, arith, Bool, true, false, List, [], ◌∷◌, ◌++◌, map, fold, Some, None, Option, Result, Ok, Err, append_assoc}
+use Rattle.std.proofs.Common.{◌≡◌, ◌∙◌, refl, sym, ap, subst, ℕ, ◌≤◌, arith, Bool, List, [], ◌∷◌, ◌++◌, map, fold, Some, None, Option, Result, Ok, Err, append_assoc}
 use Rattle.std.specs.Option.{option_map_or}
 use Rattle.rd_base.specs.declared.journal.Key.{Key}
 use Rattle.rd_client.specs.Core.{Outgoing}
@@ -16,7 +16,7 @@ use Rattle.rd_runs.proofs.Together.{known}
 use Rattle.rd_runs.specs.Premises.{RunPremises}
 use Rattle.rd_script.specs.declared.line.NumberedLine.{NumberedLine}
 use Rattle.rd_station.specs.Station.{StationState}
-use Rattle.rd_world.specs.Acts.{HasOpened, Opens}
+use Rattle.rd_world.specs.Acts.{Opens}
 use Rattle.rd_world.specs.declared.device.SessionDevice.{SessionDevice}
 use Rattle.rd_world.specs.Devices.{Declared}
 use Rattle.rd_world.specs.Events.{completion_message, deed_on, dropping}
@@ -24,7 +24,7 @@ use Rattle.rd_world.specs.Lines.{last_begun}
 use Rattle.rd_world.specs.Opening.{bare_lines}
 use Rattle.rd_world.specs.Run.{declared_devices}
 use Rattle.rd_world.specs.Talk.{Deed, EachAfter, adds, client_reads, client_writes, completes, host_ends, open_channel, removes, stores, submits}
-use Rattle.rd_world.specs.World.{Asked, WayState, WorldState, with_deed, with_station}
+use Rattle.rd_world.specs.World.{WorldState, with_deed, with_station}
 use Rattle.rd_orders.specs.Orders.{DeclaresWritable}
 use Rattle.rd_opening.proofs.ChannelLemmas.{behind_channels}
 use Rattle.rd_opening.proofs.EventParts.{BeginsNone}

@@ -1,5 +1,5 @@
 -- Where a run ends all that was accepted on a channel that didn't end was sent, and the host heard all that the client wrote there.
-use Rattle.std.proofs.Common.{◌≡◌, ◌≢◌, ◌⊎◌, ◌∙◌, refl, sym, ap, subst, inl, inr, ℕ, ◌+◌, ◌<◌, ◌≤◌, ◌==◌, arith, Bool, true, false, List, [], ◌∷◌, ◌++◌, map, reverse, fold, Some, None, Option}
+use Rattle.std.proofs.Common.{◌≡◌, ◌≢◌, ◌⊎◌, ◌∙◌, refl, sym, ap, subst, inl, inr, ℕ, ◌<◌, ◌≤◌, arith, Bool, false, List, [], ◌∷◌, ◌++◌, map, reverse, fold, Some, None, Option}
 use Rattle.std.specs.Prelude.{filter, nat_le}
 use Rattle.std.proofs.lemmas.Bool.Decides.{nat_tests}
 use Rattle.std.specs.Option.{IfSome, option_map_or}
@@ -8,7 +8,7 @@ use Rattle.rd_base.specs.declared.journal.Key.{Key}
 use Rattle.rd_client.specs.Core.{Outgoing}
 use Rattle.rd_runs.proofs.BeginningLemmas.{Unset, begins_as}
 use Rattle.rd_runs.proofs.HostLemmas.{opens}
-use Rattle.rd_runs.proofs.Insides.{IsInside, added_inside, all_dropped_inside, all_refreshed_inside, applied_inside, hears_inside, put_inside, removed_inside, stationed}
+use Rattle.rd_runs.proofs.Insides.{added_inside, all_dropped_inside, all_refreshed_inside, applied_inside, hears_inside, put_inside, removed_inside, stationed}
 use Rattle.rd_runs.proofs.KeysOn.{sent_on}
 use Rattle.rd_runs.proofs.KeysOnLemmas.{collected_on}
 use Rattle.rd_runs.proofs.Parts.{IsBehind, MayBe, Part, accepts, adds_one, applies_one, begins, by_parts, client_gets, client_hears_one, client_keeps_part, client_sends_one, collects_one, done, draws_one, ends, hands_out, host_gets, host_hears_one, host_keeps_part, host_sends_one, idle_one, queues_one, reached_behind, refuses, removes_one, takes_one, tells_one, tries_one}
@@ -25,9 +25,9 @@ use Rattle.rd_world.specs.declared.device.SessionDevice.{SessionDevice}
 use Rattle.rd_world.specs.Devices.{PrinterNames}
 use Rattle.rd_world.specs.Events.{completion_message, deed_on, dropping, refreshing}
 use Rattle.rd_world.specs.Lines.{submitted}
-use Rattle.rd_world.specs.Run.{Most, choices, run_of, world_of}
-use Rattle.rd_world.specs.Talk.{Deed, EndsWith, client_reads, client_writes, client_wrote, completes, has_ended, host_read, host_wrote, is_request, open_channel}
-use Rattle.rd_world.specs.World.{Asked, WayState, WorldState, with_deed, with_station}
+use Rattle.rd_world.specs.Run.{Most, choices, run_of}
+use Rattle.rd_world.specs.Talk.{Deed, client_reads, client_writes, client_wrote, completes, has_ended, host_read, host_wrote, is_request, open_channel}
+use Rattle.rd_world.specs.World.{WorldState, with_deed, with_station}
 use Rattle.rd_orders.proofs.Meeting.{inside_traffic}
 use Rattle.rd_orders.specs.Orders.{DeclaresWritable}
 use Rattle.rd_opening.proofs.ChannelLemmas.{behind_channels}

@@ -1,27 +1,22 @@
 -- In each world that lines come to, the requests that stand on a channel are those that were accepted there, in order, but for those that are still to be sent.
-use Rattle.std.proofs.Common.{◌≡◌, ◌≢◌, ◌⊎◌, ◌∙◌, refl, sym, ap, subst, inl, inr, ℕ, ◌+◌, ◌<◌, ◌≤◌, ◌^◌, ◌==◌, arith, Bool, true, false, List, [], ◌∷◌, ◌++◌, map, reverse, fold, Some, None, Option, Result, Ok, Err, append_assoc, is_ok, is_some}
+use Rattle.std.proofs.Common.{◌≡◌, ◌≢◌, ◌⊎◌, ◌∙◌, refl, sym, ap, subst, inl, inr, ℕ, ◌+◌, ◌<◌, ◌≤◌, ◌==◌, arith, Bool, true, false, List, [], ◌∷◌, ◌++◌, map, reverse, fold, Some, None, Option, Result, append_assoc, is_some}
 use Rattle.std.specs.Prelude.{filter, if◌then◌else◌}
-use Rattle.std.specs.List.{AllByRecursion}
-use Rattle.std.specs.Map.{remove_entry}
-use Rattle.std.specs.Ordering.{nat_cmp}
-use Rattle.std.specs.BTreeMap.{is_at}
 use Rattle.std.specs.Option.{option_map_or}
 use Rattle.std.proofs.lemmas.Bool.{cases_eq}
 use Rattle.std.proofs.lemmas.List.{reverse-append}
 use Rattle.rd_base.specs.declared.journal.Key.{Key}
 use Rattle.rd_client.specs.Core.{Outgoing}
 use Rattle.rd_irp.specs.declared.op.Op.{Op}
-use Rattle.rd_irp.specs.declared.request.Request.{Request}
 use Rattle.rd_irp.specs.Written.{request_bytes}
 use Rattle.rd_pending.proofs.Effects as effects
-use Rattle.rd_pending.proofs.Tame.{newest, tame_complete, tame_live, tame_remove, tame_take}
+use Rattle.rd_pending.proofs.Tame.{tame_take}
 use Rattle.rd_pending.specs.declared.calls.SubmitNo.{SubmitNo}
 use Rattle.rd_pending.specs.declared.calls.Taken.{Taken}
 use Rattle.rd_pending.specs.declared.calls.TakeNo.{TakeNo}
 use Rattle.rd_pending.specs.declared.calls.Target.{Target}
 use Rattle.rd_pending.specs.Table as table
 use Rattle.rd_pending.specs.Table.{TableState, accept, device_in, file_in, next_id, submit_refusal}
-use Rattle.rd_host.specs.Core.{HostCoreState, host_hear}
+use Rattle.rd_host.specs.Core.{host_hear}
 use Rattle.rd_runs.proofs.BeginningLemmas.{Unset, begins_as}
 use Rattle.rd_runs.proofs.BelowLemmas.{channel_is}
 use Rattle.rd_runs.proofs.HostLemmas.{host_channel, opens}
@@ -29,7 +24,7 @@ use Rattle.rd_runs.proofs.Insides.{AreOwn, IsInside, Outside, added_inside, all_
 use Rattle.rd_runs.proofs.Parts.{IsBehind, MayBe, Part, accepts, adds_one, applies_one, begins, by_parts, client_gets, client_hears_one, client_keeps_part, client_sends_one, collects_one, done, draws_one, ends, hands_out, host_gets, host_hears_one, host_keeps_part, host_sends_one, idle_one, queues_one, refuses, removes_one, takes_one, tells_one, tries_one}
 use Rattle.rd_runs.proofs.Standing.{is_off, needs_open, open_inside, shut_now}
 use Rattle.rd_runs.proofs.Together.{Knows, knows}
-use Rattle.rd_runs.proofs.TrafficLemmas.{Traffic, host_writes_else, host_writes_here, other_number, same_number, traffic}
+use Rattle.rd_runs.proofs.TrafficLemmas.{Traffic, host_writes_else, host_writes_here, other_number, same_number}
 use Rattle.rd_runs.specs.Premises.{RunPremises}
 use Rattle.rd_script.specs.declared.line.NumberedLine.{NumberedLine}
 use Rattle.rd_station.specs.Station.{StationState}
@@ -38,14 +33,12 @@ use Rattle.rd_world.proofs.Messages.{request_is}
 use Rattle.rd_world.proofs.Written.{sound_side}
 use Rattle.rd_world.specs.declared.device.SessionDevice.{SessionDevice}
 use Rattle.rd_world.specs.Devices.{PrinterNames}
-use Rattle.rd_world.specs.Events.{completion_message, deed_on, dropping, is_channel_open, refreshing}
-use Rattle.rd_world.specs.Host.{HostSide, hears, host_heard, next_message, sent_from, side_sends}
-use Rattle.rd_world.specs.HostDeeds.{side_of}
+use Rattle.rd_world.specs.Events.{deed_on, dropping, is_channel_open, refreshing}
+use Rattle.rd_world.specs.Host.{HostSide, hears, next_message, side_sends}
 use Rattle.rd_world.specs.Lines.{message_of, submitted}
 use Rattle.rd_world.specs.Recording.{client_id}
-use Rattle.rd_world.specs.Run.{world_of}
-use Rattle.rd_world.specs.Talk.{Deed, EndsWith, adds, client_reads, client_writes, completes, host_begins, host_writes, host_wrote, is_open_at, is_request, open_channel, removes, stores, submits}
-use Rattle.rd_world.specs.World.{Asked, WayState, WorldState, with_deed, with_station}
+use Rattle.rd_world.specs.Talk.{Deed, EndsWith, adds, client_reads, client_writes, completes, host_writes, host_wrote, is_request, open_channel, removes, stores, submits}
+use Rattle.rd_world.specs.World.{Asked, WorldState, with_deed, with_station}
 use Rattle.rd_orders.proofs.HostOrdering.{asked_request}
 use Rattle.rd_orders.specs.Orders.{DeclaresWritable}
 use Rattle.rd_opening.proofs.TellingCounts.{heard_greets}
