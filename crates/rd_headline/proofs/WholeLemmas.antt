@@ -1,8 +1,8 @@
 -- The end of every run, field by field of a whole session.
-use Rattle.std.proofs.Common.{◌≡◌, ◌⊎◌, ◌∙◌, refl, sym, ap, subst, inl, inr, ℕ, zero, suc, ◌+◌, ◌<◌, ◌≤◌, ◌==◌, ◌&&◌, ◌||◌, arith, eq-eqb, Bool, true, false, List, [], ◌∷◌, ◌++◌, length, map, reverse, filter_map, Some, None, Option}
+use Rattle.std.proofs.Common.{◌≡◌, ◌⊎◌, ◌∙◌, refl, sym, ap, subst, inl, inr, ℕ, zero, suc, ◌+◌, ◌<◌, ◌≤◌, ◌==◌, ◌&&◌, ◌||◌, arith, eq-eqb, Bool, true, false, List, [], ◌∷◌, ◌++◌, length, map, reverse, filter_map, fold, Some, None, Option, Result, Ok, Err}
 use Rattle.std.specs.Prelude.{All, filter, if◌then◌else◌, is_some}
 use Rattle.std.proofs.lemmas.Bool.{cases_eq}
-use Rattle.std.proofs.lemmas.List.Elements.{All-to_recursion}
+use Rattle.std.proofs.lemmas.List.Elements.{recursion_from_All}
 use Rattle.std.specs.List.{AllByRecursion, flat_map, list_any, range_with_len}
 use Rattle.std.specs.Option.{IfSome, option_and_then, option_map_or}
 use Rattle.rd_base.specs.declared.journal.Key.{Key}
@@ -46,16 +46,23 @@ use Rattle.rd_told.proofs.PrintedLemmas.{documents_told}
 use Rattle.rd_world.specs.Acts.{AreActed, Opens, control_by, is_settled_host, left_open, some_wait, waiting_keys}
 use Rattle.rd_world.specs.Control.{Control, Telling}
 use Rattle.rd_world.specs.Devices.{Declared}
-use Rattle.rd_world.specs.Events.{Event, act, drop_channel, is_channel_open, is_enabled}
+use Rattle.rd_world.specs.Events.{Event, act, cutting, drop_channel, is_channel_open, is_enabled}
 use Rattle.rd_world.specs.Lines.{HaveOutcomes}
 use Rattle.rd_world.specs.Opening.{bare_lines}
 use Rattle.rd_world.specs.Recording.{IsRecorded, client_id, host_stand, recording_of_deeds}
 use Rattle.rd_world.specs.Report.{outcomes_of}
 use Rattle.rd_world.specs.Run.{Most, choices, connects_on, declared_devices, ends_session, plays, run_of, settled, some_left, world_of}
 use Rattle.rd_world.specs.Session.{AllTold, IsLeftOver, replies_in}
-use Rattle.rd_world.specs.Talk.{Deed, EachAfter, Has, answered, asked, client_read, client_wrote, has_ended, host_read, host_wrote, indices_of, message_has_pair, open_channel}
+use Rattle.rd_world.specs.Talk.{Deed, EachAfter, Has, answered, asked, client_read, client_wrote, has_ended, host_read, host_wrote, indices_of, message_has_pair, open_channel, takes}
 use Rattle.rd_world.specs.Told.{Replies}
-use Rattle.rd_world.specs.World.{WorldState, application_at}
+use Rattle.rd_pending.specs.declared.calls.Handle.{Handle}
+use Rattle.rd_pending.specs.declared.calls.Taken.{Taken}
+use Rattle.rd_pending.specs.declared.calls.TakeNo.{TakeNo}
+use Rattle.rd_pending.specs.Table as table
+use Rattle.rd_pending.specs.Table.{TableState}
+use Rattle.rd_pending.proofs.Tame.{tame_take}
+use Rattle.rd_world.specs.Hearing.{ends_line, given_handle, next_asked, reported_outcome, takes_awaited, takes_from, takes_outcome, with_outcome}
+use Rattle.rd_world.specs.World.{ApplicationState, Asked, WorldState, application_at, with_application, with_deed, with_table}
 use Rattle.rd_world.proofs.Counting.{length-answered}
 use Rattle.rd_headline.proofs.AnsweredLemmas.{none_awaits}
 use Rattle.rd_headline.proofs.HeardLemmas.{all_answered}
@@ -70,8 +77,35 @@ in_range P from (suc n) c all low high = elim (cases_eq c from) [
   | inr other ↦ in_range P (from + 1) n c all.1 (omega (arith, low, other)) (omega (arith, high))
 ]
 
-dropped_shut : (starves : Key → Bool) (w : WorldState) → (((act starves w drop_channel).side).table).channel ≡ None
-dropped_shut starves w = ?
+-- no channel is open
+abbrev Shut : WorldState → Type 0
+Shut w = ((w.side).table).channel ≡ None
+
+-- after a channel's end
+dropped_shut : (starves : Key → Bool) (w : WorldState) → Shut (act starves w drop_channel)
+dropped_shut starves w = all_take_shut (map (λ (e : ℕ × ApplicationState). e.0) (cutting w).applications) (cutting w) refl
+  where
+    one_shut : (x : WorldState) (a : ℕ) → Shut x → Shut (takes_outcome x a)
+    one_shut x a none = by (application_at x a).awaits
+      where
+        ended : (v : WorldState) (o : Outcome) (h : Option Handle) → Shut v → Shut (ends_line v a o h)
+        ended v o h none = on (next_asked (application_at v a))
+          where
+            on : (q : Option Asked) → Shut (option_map_or (λ asked. with_application v a (with_outcome (application_at v a) o h asked)) q v)
+            on None = none
+            on (Some asked) = none
+
+        from : (n : ℕ) (r : TableState × Result Taken TakeNo) → (r.0).channel ≡ None → Shut (takes_from x a n r)
+        from n (t, Err cause) off = none
+        from n (t, Ok given) off = ended (with_deed (with_table x t) (takes n)) (reported_outcome given.outcome) (given_handle given) off
+
+        by : (o : Option ℕ) → Shut (takes_awaited x a o)
+        by None = none
+        by (Some n) = from n (table.take (x.side).table n) ((tame_take (x.side).table n).channel ∙ none)
+
+    all_take_shut : (applications : List ℕ) (x : WorldState) → Shut x → Shut (fold takes_outcome x applications)
+    all_take_shut [] x none = none
+    all_take_shut (a ∷ applications) x none = all_take_shut applications (takes_outcome x a) (one_shut x a none)
 
 module _ (lines : List NumberedLine) (starves : Key → Bool) (most : Most) (premises : MeetPremises lines) (w : WorldState) (is : run_of most starves lines ≡ Some w) where
   abbrev pub devices : List (ℕ × Declared)
@@ -94,26 +128,20 @@ module _ (lines : List NumberedLine) (starves : Key → Bool) (most : Most) (pre
   nothing_left : open_channel w.deeds ≡ Some w.channels → some_left w ≡ false
   nothing_left opened = began (connects_on starves most (world_of lines)) is
     where
-      shut : WorldState → Type 0
-      shut x = ((x.side).table).channel ≡ None
-
-      cut : (x : WorldState) → shut x → x ≡ w → some_left w ≡ false
-      unfolding shut
+      cut : (x : WorldState) → Shut x → x ≡ w → some_left w ≡ false
       cut x none same =
           let off : ((w.side).table).channel ≡ None = ap (λ (y : WorldState). ((y.side).table).channel) (sym same) ∙ none in
           absurd (cc (sym (host_channel w.side w.channels w.deeds ((known lines starves premises.run w reached).stands).host) ∙ off, opened))
 
-      drops : (o : Option WorldState) → IfSome o shut → o ≡ Some w → some_left w ≡ false
+      drops : (o : Option WorldState) → IfSome o Shut → o ≡ Some w → some_left w ≡ false
       drops None own made = absurd (cc made)
       drops (Some x) own made = cut x own (let same : x ≡ w = cc made in same)
 
-      kept_shut : (x : WorldState) (e : Event) → event_weight e ≡ 0 → is_enabled x e ≡ true → shut x → shut (act starves x e)
-      unfolding shut
+      kept_shut : (x : WorldState) (e : Event) → event_weight e ≡ 0 → is_enabled x e ≡ true → Shut x → Shut (act starves x e)
       kept_shut x e free can none = ap (λ (s : Seen). s.channel) (event_unseen starves x e free).same ∙ none
 
       over : (x : WorldState) (a b : Bool) → is_channel_open x ≡ a → some_left x ≡ b → (if a && b then settled starves most.draws (act starves x drop_channel) else Some x) ≡ Some w → some_left w ≡ false
-      unfolding shut
-      over x true true e f made = drops (settled starves most.draws (act starves x drop_channel)) (settled_keeps starves shut kept_shut (λ y none. none) most.draws (act starves x drop_channel) (dropped_shut starves x)) made
+      over x true true e f made = drops (settled starves most.draws (act starves x drop_channel)) (settled_keeps starves Shut kept_shut (λ y none. none) most.draws (act starves x drop_channel) (dropped_shut starves x)) made
       over x true false e f made = let same : x ≡ w = cc made in ap some_left (sym same) ∙ f
       over x false b e f made =
           let same : x ≡ w = cc made in
@@ -195,7 +223,7 @@ module _ (lines : List NumberedLine) (starves : Key → Bool) (most : Most) (pre
   well = read_well lines starves premises.run premises.few premises.declared premises.writable w reached rests kept
 
   ends_told : EachAfter EndsTold w.deeds
-  ends_told = channels_end_told lines starves premises.run w (reached_behind lines starves w reached) well (λ c first below. in_range (Opens devices w.deeds) 1 w.channels c (All-to_recursion (Opens devices w.deeds) (range_with_len 1 w.channels) (runs_opened lines starves premises.run premises.writable most w is)) first (omega (arith, below)))
+  ends_told = channels_end_told lines starves premises.run w (reached_behind lines starves w reached) well (λ c first below. in_range (Opens devices w.deeds) 1 w.channels c (recursion_from_All (Opens devices w.deeds) (range_with_len 1 w.channels) (runs_opened lines starves premises.run premises.writable most w is)) first (omega (arith, below)))
 
   module _ (left : (said : DoAsSaid (map (λ (d : ℕ × Declared). d.0) devices) lines starves w) → left_open devices w.deeds (control_by devices lines) ≡ said.left) where
     acted : HaveActed devices lines w.idle w.deeds
