@@ -3,3 +3,4 @@ pub mod HeardLemmas
 pub mod AnsweredLemmas
 pub mod StillLemmas
 pub mod WholeLemmas
+pub mod SessionLemmas

@@ -192,7 +192,7 @@ module _ (lines : List NumberedLine) (starves : Key → Bool) (most : Most) (pre
 
   -- ---- what was told
 
-  all_read : (c : ℕ) → has_ended c w.deeds ≡ false → client_read c w.deeds ≡ host_wrote c w.deeds
+  pub all_read : (c : ℕ) → has_ended c w.deeds ≡ false → client_read c w.deeds ≡ host_wrote c w.deeds
   all_read c off = elim (open_or_none lines starves premises.run premises.writable w reached c off) [
     | inl opened ↦
         let (last, same) = opened_as lines starves premises.run premises.writable w reached c opened in
@@ -200,7 +200,7 @@ module _ (lines : List NumberedLine) (starves : Key → Bool) (most : Most) (pre
     | inr out ↦ let none = unbegun_heard lines starves premises.run premises.writable w reached c out in ap (λ (t : Traffic). t.client_read) none ∙ sym (ap (λ (t : Traffic). t.host_wrote) none)
   ]
 
-  all_completed : (c d i : ℕ) → has_ended c w.deeds ≡ false → asked c d i w.deeds ≡ answered c d i w.deeds
+  pub all_completed : (c d i : ℕ) → has_ended c w.deeds ≡ false → asked c d i w.deeds ≡ answered c d i w.deeds
   all_completed c d i off = elim (open_or_none lines starves premises.run premises.writable w reached c off) [
     | inl opened ↦
         let (last, same) = opened_as lines starves premises.run premises.writable w reached c opened in

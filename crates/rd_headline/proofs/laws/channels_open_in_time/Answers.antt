@@ -1,3 +1,4 @@
+use Rattle.rd_headline.proofs.SessionLemmas
 use Rattle.rd_headline.proofs.WholeLemmas
 use Rattle.rd_headline.proofs.StillLemmas
 use Rattle.rd_headline.proofs.AnsweredLemmas
