@@ -99,10 +99,13 @@ first_stationed (e ∷ es) all d has = by ((e.1).id == d) refl has (is_at (nat_c
 pub begins_good : (lines : List NumberedLine) → RunPremises lines → DeclareWritable lines → IsGood (world_of lines)
 begins_good lines premises few =
     let ls : List Line = bare_lines lines in
-    begins_as lines (λ (u : Unset). AreSaying u.client u.stations u.channels ((u.side).table).channel u.deeds × AreLive u.client u.stations ((u.side).table).channel) (record {
-      room = first_room (declared_devices ls) (all_furnished ls (fold declaring [] ls) (all_declared lines [] few none_writable));
-      stationed = first_stationed (declared_devices ls) (declared_openable lines premises.declared).each;
-      marks = λ c at. absurd (cc at);
-      out = tt;
-      each = tt;
-    }, λ c at. absurd (cc at))
+    begins_as lines (λ (u : Unset). AreSaying u.client u.stations u.channels ((u.side).table).channel u.deeds × AreLive u.client u.stations ((u.side).table).channel) (
+      record {
+        room = first_room (declared_devices ls) (all_furnished ls (fold declaring [] ls) (all_declared lines [] few none_writable));
+        stationed = first_stationed (declared_devices ls) (declared_openable lines premises.declared).each;
+        marks = λ c at. absurd (cc at);
+        out = tt;
+        each = tt;
+      },
+      λ c at. absurd (cc at),
+    )

@@ -170,9 +170,9 @@ module _ (lines : List NumberedLine) (starves : Key → Bool) (fit : AreFit (dec
   behind_turns w behind =
       by_parts lines starves (λ x. (AreGood x.deeds → InTurn x)) (λ good. begins_turns lines)
       (λ x p before after may is good.
-          let both = behind_orderly lines starves x fit before in
-          let was = good_before x p good in
-          part_turns lines starves fit premises x p may before after both.0 both.1 (meets_none x p may before after (is was) was) (is was)) w behind
+      let both = behind_orderly lines starves x fit before in
+      let was = good_before x p good in
+      part_turns lines starves fit premises x p may before after both.0 both.1 (meets_none x p may before after (is was) was) (is was)) w behind
 
   -- Where each completion is its key's answer, and no journal is worn, both sides are joined.
   pub joined_behind : (w : WorldState) → IsBehind lines starves w → EachAfter (Answers replies) w.deeds → ((d : ℕ) → length (journal d w.deeds) < worn_entries) → AreJoined client_id replies w.deeds

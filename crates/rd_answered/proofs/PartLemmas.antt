@@ -129,13 +129,16 @@ all_refreshing (d ∷ ds) w =
     (λ room. others.0 (one.0 room), λ e. others.1 e ∙ one.1 e)
 
 connects_good : (w : WorldState) → client_wrote (w.channels + 1) w.deeds ≡ [] → IsGood w → IsGood (connects w)
-connects_good w unwritten (is, live) = subst (λ (x : WorldState). IsGood (begun_on w x)) (sym (all_refreshed ids w)) (record {
-  room = stays.0 is.room;
-  stationed = λ d has. is.stationed d (sym (stays.1 d) ∙ has);
-  marks = λ c at d. ap (is_said_gone d) unwritten;
-  out = tt;
-  each = (tt, is.each);
-}, λ c at d s has told. absurd (cc told))
+connects_good w unwritten (is, live) = subst (λ (x : WorldState). IsGood (begun_on w x)) (sym (all_refreshed ids w)) (
+  record {
+    room = stays.0 is.room;
+    stationed = λ d has. is.stationed d (sym (stays.1 d) ∙ has);
+    marks = λ c at d. ap (is_said_gone d) unwritten;
+    out = tt;
+    each = (tt, is.each);
+  },
+  λ c at d s has told. absurd (cc told),
+)
   where
     ids : List ℕ
     ids = map (λ (e : ℕ × PrinterNames). e.0) w.printers
@@ -215,16 +218,18 @@ same_device r q reply other m done also =
 
 collects_good : (w : WorldState) (d : ℕ) (s after : Of) (x : Completion) → station_at w d ≡ Some s → station.collect s ≡ (after, Some x) → client_has_message w ≡ false → Orderly w → IsCompletionOf w.deeds d x → IsGood w
     → IsGood (client_sends (with_station w d after) (completes x.key (completion_message d x)) (completion_message d x))
-collects_good w d s after x there made idle ordered of (is, live) =
-    (record {
-      room = was.room;
-      stationed = was.stationed;
-      marks = λ c at e. ap (λ (os : List Outgoing). is_said_gone e (written_then os (client_wrote w.channels (completes x.key m ∷ left_then.deeds)))) none
-          ∙ says e (client_wrote w.channels left_then.deeds) ((x.key).channel == w.channels)
-          ∙ ap (λ (os : List Outgoing). is_said_gone e (written_then os (client_wrote w.channels left_then.deeds))) (sym none) ∙ was.marks c at e;
-      out = subst (λ (os : List Outgoing). AllRefuse os (client_wrote w.channels (completes x.key m ∷ left_then.deeds))) (sym none) tt;
-      each = (own, was.each);
-    }, station_live w d s after there (λ lives. collect_live s after x made ∙ lives) live)
+collects_good w d s after x there made idle ordered of (is, live) = (
+  record {
+    room = was.room;
+    stationed = was.stationed;
+    marks = λ c at e. ap (λ (os : List Outgoing). is_said_gone e (written_then os (client_wrote w.channels (completes x.key m ∷ left_then.deeds)))) none
+        ∙ says e (client_wrote w.channels left_then.deeds) ((x.key).channel == w.channels)
+        ∙ ap (λ (os : List Outgoing). is_said_gone e (written_then os (client_wrote w.channels left_then.deeds))) (sym none) ∙ was.marks c at e;
+    out = subst (λ (os : List Outgoing). AllRefuse os (client_wrote w.channels (completes x.key m ∷ left_then.deeds))) (sym none) tt;
+    each = (own, was.each);
+  },
+  station_live w d s after there (λ lives. collect_live s after x made ∙ lives) live,
+)
   where
     m : List ℕ
     m = completion_message d x
@@ -322,14 +327,16 @@ removes_good w d o there ready has (is, live) = by o there
 refresh_good : (w : WorldState) (d : ℕ) (body : List ℕ) → is_client_ready ((w.client).core).shake ≡ true → IsGood w → IsGood (record w { client = refresh w.client d body })
 refresh_good w d body ready (is, live) =
     let wrote : List (List ℕ) = client_wrote w.channels w.deeds in
-    let older : List (List ℕ) = written_then ((w.client).core).outbox wrote in
-    (record {
-      room = room_refreshed d body (w.client).devices is.room;
-      stationed = λ e has. is.stationed e (sym (has_refreshed e d body (w.client).devices) ∙ has);
-      marks = λ c at. of_marks (refresh w.client d body) older ready (refresh_marks w.client d body older (to_marks w.client older ready (is.marks c at)));
-      out = is.out;
-      each = is.each;
-    }, λ c at e s has told. live c at e s has (sym (told_refreshed w.client d e body) ∙ told))
+    let older : List (List ℕ) = written_then ((w.client).core).outbox wrote in (
+      record {
+        room = room_refreshed d body (w.client).devices is.room;
+        stationed = λ e has. is.stationed e (sym (has_refreshed e d body (w.client).devices) ∙ has);
+        marks = λ c at. of_marks (refresh w.client d body) older ready (refresh_marks w.client d body older (to_marks w.client older ready (is.marks c at)));
+        out = is.out;
+        each = is.each;
+      },
+      λ c at e s has told. live c at e s has (sym (told_refreshed w.client d e body) ∙ told),
+    )
 
 adds_good : (w : WorldState) (d : ℕ) (o : Option Of) → station_at w d ≡ o → is_client_ready ((w.client).core).shake ≡ true → AreShort (announces w.client) → AllKeepRoom w.stations → IsGood w → IsGood (announced_by (told_added w d) d o)
 adds_good w d o there ready short room (is, live) = (announced_saying (told_added w d) d o told, lives)
@@ -457,6 +464,6 @@ module _ (lines : List NumberedLine) (starves : Key → Bool) (fit : AreFit (dec
   behind_good first w behind =
       by_parts lines starves (λ x. (AreUnworn x.deeds → IsGood x)) (λ few. first)
       (λ x p before after may is few.
-          let (more, same) = part_grows starves x p in
-          let was : AreUnworn x.deeds = λ d. few_end worn_entries d more x.deeds (subst (λ (ds : List Deed). length (journal d ds) < worn_entries) same (few d)) in
-          part_good x p (record { behind = before; after = after; few = was }) may (is was)) w behind
+      let (more, same) = part_grows starves x p in
+      let was : AreUnworn x.deeds = λ d. few_end worn_entries d more x.deeds (subst (λ (ds : List Deed). length (journal d ds) < worn_entries) same (few d)) in
+      part_good x p (record { behind = before; after = after; few = was }) may (is was)) w behind

@@ -132,14 +132,16 @@ putting_saying w d job fines next room c opened is live = at (station_at w d) re
         let is_head : head_in m ≡ Some h = rw (head_read h m done.head).1 refl in
         let said : is_said_gone r.device older ≡ true = subst (λ (n : ℕ). is_said_gone n older ≡ true) next.device_is (is.marks c opened d ∙ ap not off) in
         let says : (e : ℕ) → is_said_gone e (written_then (((w.client).core).outbox ++ own ∷ []) (client_wrote w.channels w.deeds)) ≡ is_said_gone e older =
-        λ e. ap (is_said_gone e) (then_more ((w.client).core).outbox (own ∷ []) (client_wrote w.channels w.deeds)) ∙ completion_says e (kind_of job.op) (record { device = d; completion = job.completion; status = no_such_device }) Fault older in
-        (record {
-          room = is.room;
-          stationed = is.stationed;
-          marks = λ k at e. says e ∙ is.marks k at e;
-          out = refuse_more ((w.client).core).outbox (own ∷ []) (client_wrote w.channels w.deeds) is.out ((h, is_head, refl, said), tt);
-          each = is.each;
-        }, live)
+        λ e. ap (is_said_gone e) (then_more ((w.client).core).outbox (own ∷ []) (client_wrote w.channels w.deeds)) ∙ completion_says e (kind_of job.op) (record { device = d; completion = job.completion; status = no_such_device }) Fault older in (
+          record {
+            room = is.room;
+            stationed = is.stationed;
+            marks = λ k at e. says e ∙ is.marks k at e;
+            out = refuse_more ((w.client).core).outbox (own ∷ []) (client_wrote w.channels w.deeds) is.out ((h, is_head, refl, said), tt);
+            each = is.each;
+          },
+          live,
+        )
 
     told : (s : Of) → station_at w d ≡ Some s → put_refusal s job ≡ Some why.Gone → (b : Bool) → is_device_told w d ≡ b
         → let x : WorldState = answers_directly w d job (if b then insufficient_resources else no_such_device) in IsSaying x × IsLiveIn x

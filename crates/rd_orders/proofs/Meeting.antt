@@ -385,7 +385,7 @@ module _ (lines : List NumberedLine) (starves : Key → Bool) (premises : RunPre
       by (Some key) on = subst (MeetsFor devices c s (open_channel deeds) channel) (sym (completes_here channel deeds o.message key on)) m
 
   sent_same : (c after : ClientCoreState) (o : Outgoing) → client.client_send c ≡ (after, Some o) → announces after ≡ announces c
-  sent_same c after o made = ap (λ (r : ClientCoreState × Option Outgoing). announces r.0) (sym made) 
+  sent_same c after o made = ap (λ (r : ClientCoreState × Option Outgoing). announces r.0) (sym made)
 
   pub none_waits : (w : WorldState) → client_has_message w ≡ false → ((w.client).core).outbox ≡ []
   none_waits w quiet = by ((w.client).core).outbox quiet

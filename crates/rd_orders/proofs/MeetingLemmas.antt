@@ -316,7 +316,7 @@ module _ (c : ClientCoreState) (s : HostSide) (t : Traffic) (m : MeetsAs c s t) 
         told_up = m.told_up;
         phase = came.phase;
         early = λ off. let before = m.early (by (is_client_ready (c.core).shake) refl off) in
-        record { lives = before.lives; outbox = before.outbox; unasked = ap (λ (b : Bool). if b then message ∷ filter is_request t.client_read else filter is_request t.client_read) (came.plain off) ∙ before.unasked };
+            record { lives = before.lives; outbox = before.outbox; unasked = ap (λ (b : Bool). if b then message ∷ filter is_request t.client_read else filter is_request t.client_read) (came.plain off) ∙ before.unasked };
       }
     where
       by : (b : Bool) → is_client_ready (c.core).shake ≡ b → is_client_ready (((client_hear c message).0).core).shake ≡ false → b ≡ false
@@ -388,9 +388,11 @@ serves_phase c down up s new ready v p =
     (subst (AllByRecursion SaysToClient) (append_assoc down own v.replies) (all_append SaysToClient (down ++ own) v.replies (all_first SaysToClient (down ++ own) asked all) v.says))
     (all_last SaysToClient (down ++ own) asked all) in
     subst (λ (k : ClientState). Phase k ((new.core).core).shake (down ++ ((new.core).core).outbox ++ (new.table).outbox) up) (sym ready)
-    (subst (λ (h : HostState). Phase client_state.Ready h (down ++ ((new.core).core).outbox ++ (new.table).outbox) up) (sym (v.shake ∙ served))
-    (subst (λ (ms : List (List ℕ)). AllByRecursion SaysToClient (down ++ ((new.core).core).outbox ++ ms)) (sym v.asked)
-    (subst (λ (ms : List (List ℕ)). AllByRecursion SaysToClient (down ++ ms ++ asked)) (sym v.outbox) more), others))
+    (subst (λ (h : HostState). Phase client_state.Ready h (down ++ ((new.core).core).outbox ++ (new.table).outbox) up) (sym (v.shake ∙ served)) (
+      subst (λ (ms : List (List ℕ)). AllByRecursion SaysToClient (down ++ ((new.core).core).outbox ++ ms)) (sym v.asked)
+          (subst (λ (ms : List (List ℕ)). AllByRecursion SaysToClient (down ++ ms ++ asked)) (sym v.outbox) more),
+      others,
+    ))
 
 module _ (c : ClientCoreState) (s : HostSide) (t : Traffic) (m : MeetsAs c s t) where
   pub host_heard_one : (message : List ℕ) (later : List (List ℕ)) → t.client_wrote ≡ reverse later ++ message ∷ t.host_read → MeetsAs c (hears s message) (record t { host_read = message ∷ t.host_read })

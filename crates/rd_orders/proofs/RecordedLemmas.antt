@@ -25,7 +25,7 @@ use Rattle.rd_orders.proofs.HostOrdering.{behind_host_ordered}
 use Rattle.rd_orders.specs.Orders.{DeclaresWritable}
 
 pub reached_recorded : (lines : List NumberedLine) (starves : Key → Bool) (w : WorldState) → RunPremises lines → DeclaresWritable lines → Reached lines starves w
-  → IsRecorded (declared_devices (bare_lines lines)) (recording_of_deeds w.deeds) w.deeds
+    → IsRecorded (declared_devices (bare_lines lines)) (recording_of_deeds w.deeds) w.deeds
 reached_recorded lines starves w premises writable reached = let behind = reached_behind lines starves w reached in record {
   bytes = refl;
   fit = All-from_recursion IsFit w.deeds (known lines starves premises w reached).fits.deeds;
@@ -39,6 +39,6 @@ pub scripts_meet : (m : Mode) (text : List ℕ) (script : Script) → script_of 
 scripts_meet m text script is = record { fitting = scripts_are_fitting m text script is; declared = scripts_are_declared m text script is; bounded = scripts_are_bounded m text script is; notable = scripts_are_notable m text script is }
 
 pub script_recorded : (m : Mode) (text : List ℕ) (script : Script) (w : WorldState) → script_of m text ≡ Ok script → WorldRun script.lines w
-  → IsRecorded (declared_devices (bare_lines script.lines)) (recording_of_deeds w.deeds) w.deeds
+    → IsRecorded (declared_devices (bare_lines script.lines)) (recording_of_deeds w.deeds) w.deeds
 script_recorded m text script w is (most, run) =
     reached_recorded script.lines (marks_of w) w (scripts_meet m text script is) (scripts_writable m text script is) (run_reached script.lines (marks_of w) most w run)

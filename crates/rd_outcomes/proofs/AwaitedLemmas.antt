@@ -344,11 +344,13 @@ module _ (lines : List NumberedLine) (starves : Key → Bool) where
 
   all_known : (w : WorldState) → Awaiting w → AllKnown (all_take w)
   all_known w is =
-      let all = take_each (map (λ (e : ℕ × ApplicationState). e.0) w.applications) w is in
-      (all.awaiting, λ a. elim (not_there w w.applications a) [
-        | inl none ↦ all.others a (λ n e. absurd (cc (ap (λ (o : Option ApplicationState). (unwrap_or o new_application).awaits) none, e)))
-        | inr has ↦ all.own a has
-      ])
+      let all = take_each (map (λ (e : ℕ × ApplicationState). e.0) w.applications) w is in (
+        all.awaiting,
+        λ a. elim (not_there w w.applications a) [
+          | inl none ↦ all.others a (λ n e. absurd (cc (ap (λ (o : Option ApplicationState). (unwrap_or o new_application).awaits) none, e)))
+          | inr has ↦ all.own a has
+        ],
+      )
 
   -- ---- events
 
@@ -446,9 +448,10 @@ module _ (lines : List NumberedLine) (starves : Key → Bool) where
 
       refused : (asked : Asked) (cause : Refusal) → next_asked x ≡ Some asked → AllKnown (done starves w (refuses a asked cause))
       refused asked cause next =
-          let y : ApplicationState = with_outcome x (outcome.Refused cause) None asked in
-          (awaiting_ended w (done starves w (refuses a asked cause)) a y refl (ended_awaits x (outcome.Refused cause) None asked) (λ b n other e. k.0.there b n e) refl k.0,
-          λ b n e. elim (put_awaits w a y b n e) [ inl p ↦ absurd (cc (ended_awaits x (outcome.Refused cause) None asked, p.1)) | inr p ↦ k.1 b n p.1 ])
+          let y : ApplicationState = with_outcome x (outcome.Refused cause) None asked in (
+            awaiting_ended w (done starves w (refuses a asked cause)) a y refl (ended_awaits x (outcome.Refused cause) None asked) (λ b n other e. k.0.there b n e) refl k.0,
+            λ b n e. elim (put_awaits w a y b n e) [ inl p ↦ absurd (cc (ended_awaits x (outcome.Refused cause) None asked, p.1)) | inr p ↦ k.1 b n p.1 ],
+          )
 
       accepted_one : (asked : Asked) (named : Target) (t : TableState) (number : ℕ) → next_asked x ≡ Some asked → target_of x asked ≡ Some named → table.submit (w.side).table a named asked.op ≡ (t, Ok number)
           → AllKnown (done starves w (accepts a asked named t number))

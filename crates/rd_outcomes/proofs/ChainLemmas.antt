@@ -92,8 +92,7 @@ handed deeds does count given (later, before, parts, is) =
     let at : slice_get (accepted client_id deeds) count ≡ Some x =
     (λ i. slice_get ((ap accepted_in whole ∙ came.accepted) i) (same i)) ∙ got_at came.earlier x came.later in
     let first : take count (accepted client_id deeds) ≡ came.earlier = (λ i. take (same i) ((ap accepted_in whole ∙ came.accepted) i)) ∙ took_at came.earlier (x ∷ came.later) in
-    let out : outcome_in (calls_of client_id deeds) came.earlier x ≡ Some given.outcome = ap (λ (h : List Call). outcome_in h came.earlier x) whole ∙ came.is in
-    (
+    let out : outcome_in (calls_of client_id deeds) came.earlier x ≡ Some given.outcome = ap (λ (h : List Call). outcome_in h came.earlier x) whole ∙ came.is in (
       ap (λ (o : Option Accepted). option_and_then (λ (y : Accepted). outcome_in (calls_of client_id deeds) (take count (accepted client_id deeds)) y) o) at
           ∙ ap (λ (xs : List Accepted). outcome_in (calls_of client_id deeds) xs x) first ∙ out,
       ap (λ (o : Option Accepted). option_and_then (λ (y : Accepted). given_handle (record { device = y.device; life = y.life; outcome = given.outcome })) o) at
@@ -150,15 +149,19 @@ module _ (devices : List (ℕ × Declared)) (a : ℕ) (deeds : List Deed) (does 
   one_line s x o t xs os numbered is after_it =
       (is.before, is.nothing, known_to is.before (does_at is.before is.grown) s.known numbered is.known, is.due, ends (target_of s.holds x.asked) is.ends)
     where
-
       asked : (named : Target) (r : Option SubmitNo) → EndsAsked devices a deeds s x o t is.before named r
           → AskedEnds devices deeds a s.holds x.asked o (λ next known after. LinesEnd devices deeds a next xs os known after) is.before named r
       asked named (Some cause) (why, same) = (why, subst (λ (t : Stage). Ends t.holds xs os (KnownTo t.known) t.from) same after_it)
       asked named None (given, (more, grown), out, said, same) =
-          let (came, holds) = handed deeds does (count_of is.before) given out in
-          (more, grown, given.outcome, came, said,
-          subst (λ (h : Option Handle). Ends (holding_after s.holds x.asked h) xs os (λ later. outcome_at later (count_of is.before) ≡ Some given.outcome) (submits a named (x.asked).op ∷ is.before)) (sym holds)
-          (subst (λ (t : Stage). Ends t.holds xs os (KnownTo t.known) t.from) same after_it))
+          let (came, holds) = handed deeds does (count_of is.before) given out in (
+            more,
+            grown,
+            given.outcome,
+            came,
+            said,
+            subst (λ (h : Option Handle). Ends (holding_after s.holds x.asked h) xs os (λ later. outcome_at later (count_of is.before) ≡ Some given.outcome) (submits a named (x.asked).op ∷ is.before)) (sym holds)
+                (subst (λ (t : Stage). Ends t.holds xs os (KnownTo t.known) t.from) same after_it),
+          )
 
       ends : (n : Option Target) → EndsOf devices a deeds s x o t is.before n
           → LineEnds devices deeds a s.holds x.asked o (λ next known after. LinesEnd devices deeds a next xs os known after) is.before n

@@ -276,7 +276,7 @@ module _ (lines : List NumberedLine) (starves : Key → Bool) (most : Most) (pre
 
   queued_one : (c : Control) (x : NumberedLine) (ls : List NumberedLine) (w : WorldState) (b : ℕ) (asked : Asked) → asked_by x.line ≡ Some (b, asked) → length c.acts ≡ length (filter_map act_by w.deeds)
       → Walked c (x ∷ ls) w → (a : ℕ) → IsQueued a c ls (queueing w b)
-  queued_one c x ls w b asked asks acts k a = elim (cases_eq a b) [ | inl e ↦ mine e | inr other ↦ others other ]
+  queued_one c x ls w b asked asks acts k a = elim (cases_eq a b) [ inl e ↦ mine e | inr other ↦ others other ]
     where
       q : IsQueued a c (x ∷ ls) w
       q = k.queues a

@@ -5,4 +5,6 @@
 
 mod laws;
 
-pub use laws::{known_outcomes_are_taken, lines_come_out, outcomes_are_numbered, requests_are_sent};
+pub use laws::{
+    known_outcomes_are_taken, lines_come_out, outcomes_are_numbered, requests_are_sent,
+};

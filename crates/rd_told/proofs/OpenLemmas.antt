@@ -299,7 +299,7 @@ module _ (lines : List NumberedLine) (starves : Key → Bool) (premises : RunPre
   part_open w (removes_one d (Some s)) (can, there) before is =
       let k = knows lines starves premises w before in
       with_open w.channels (told_removed w d) d s (station.remove s (device_cut s.device).state).0
-          (needs_open lines starves w (removes_one d (Some s)) (can, there) tt k.stands) there (removes_on w.channels s (device_cut s.device).state ((k.on).held d s there)) (tt, is)
+      (needs_open lines starves w (removes_one d (Some s)) (can, there) tt k.stands) there (removes_on w.channels s (device_cut s.device).state ((k.on).held d s there)) (tt, is)
   part_open w (adds_one d None o) (can, printers, there) before is = announced_open (told_added w d) d o there (tt, is)
   part_open w (adds_one d (Some names) o) (can, printers, there) before is = announced_open (told_added (refreshed_by w d (Some names)) d) d o there (tt, is)
   part_open w (queues_one a) may before is = is

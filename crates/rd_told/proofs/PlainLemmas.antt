@@ -151,7 +151,6 @@ module _ where
         completes = directly next.request st (fines w.channels job.key.index next.request next.read) small (fits next.request) d job w.channels job.key.index next.device_is next.job_is;
         written = made next.request d job w.channels job.key.index next.device_is next.job_is;
       }))
-
     where
       made : (r : Request) (d : ℕ) (job : Job) (c index : ℕ) → d ≡ r.device → job ≡ job_of r c index
           → client.direct_bytes job d st ≡ completion_bytes (kind_of r.op) (record { device = r.device; completion = r.completion; status = st }) (fault st).body

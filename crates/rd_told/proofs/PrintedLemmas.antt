@@ -101,7 +101,6 @@ printed_each : (f : ℕ → Declared → SessionDevice) (es : List (ℕ × Of)) 
     → IsStrictlySortedBy nat_cmp (keys_of es) → flat_map printed_in es ≡ flat_map (λ (d : ℕ × Declared). by_device d.0 (f d.0 d.1)) ds
 printed_each f es ds same all rise = go es ds same (paired es ds same (each_found es rise (λ k s. lookup (is_at (nat_cmp k)) es ≡ Some s) (λ k s there. there)) all)
   where
-
     paired : (xs : List (ℕ × Of)) (ys : List (ℕ × Declared)) → keys_of xs ≡ keys_of ys → AllByRecursion (λ (x : ℕ × Of). lookup (is_at (nat_cmp x.0)) es ≡ Some x.1) xs
         → AllByRecursion (λ (d : ℕ × Declared). (s : Of) → lookup (is_at (nat_cmp d.0)) es ≡ Some s → s.device ≡ f d.0 d.1) ys
         → map (λ (x : ℕ × Of). (let s = x.1 in s.device)) xs ≡ map (λ (d : ℕ × Declared). f d.0 d.1) ys
@@ -162,13 +161,16 @@ module _ (lines : List NumberedLine) (starves : Key → Bool) (premises : RunPre
     pub device_left : AreLeft devices w.stations w.deeds
     device_left device s there =
         let (x, at, tie) = station_tied AnyRequest AnyReply devices w fit
-            (behind_working AnyRequest AnyReply tt (λ q d planned moment came fine same runs. record { answer = λ reply e. tt; ends = λ e has. tt }) lines starves w fit
-            (reached_behind lines starves w r) (λ y k q read. tt)) device s there in
+        (behind_working AnyRequest AnyReply tt (λ q d planned moment came fine same runs. record { answer = λ reply e. tt; ends = λ e has. tt }) lines starves w fit
+        (reached_behind lines starves w r) (λ y k q read. tt)) device s there in
         let carried : IsCarried w.deeds = carried_now w.deeds (known lines starves premises w r).carries.each in
         let told : reverse (journal device w.deeds) ≡ s.journal = (orderly.held).tied device s there in
-        let plain = plain_of (journal device w.deeds) (orderly_lawful w orderly device) in
-        (x, at, tie.device ∙ ap (λ (items : List Item). last_state_by device_step device_cut (request_read w.deeds) x.state items) (sym told)
-            ∙ same_state w.deeds carried x.state (reverse (journal device w.deeds)) (ran_read w.deeds device (orderly.held).reads plain))
+        let plain = plain_of (journal device w.deeds) (orderly_lawful w orderly device) in (
+          x,
+          at,
+          tie.device ∙ ap (λ (items : List Item). last_state_by device_step device_cut (request_read w.deeds) x.state items) (sym told)
+              ∙ same_state w.deeds carried x.state (reverse (journal device w.deeds)) (ran_read w.deeds device (orderly.held).reads plain),
+        )
 
     -- so the documents of printers are those that journals leave
     pub documents_told : flat_map printed_in w.stations ≡ flat_map (documents_of w.deeds) devices
