@@ -8,3 +8,5 @@ pub mod TurnsLemmas
 pub mod CompletedLemmas
 pub mod WaitingLemmas
 pub mod LeftLemmas
+pub mod DroppedLemmas
+pub mod LastLemmas

@@ -1,19 +1,22 @@
 //! What a session has done where nothing can happen by itself, as contracts of functions that do nothing.
 
-ghost use Rattle.std.specs.Prelude.{◌≡◌, ◌⊎◌, ℕ, ◌≤◌, [], Bool, List, None, Some, length};
+ghost use Rattle.std.specs.Prelude.{◌≡◌, ◌⊎◌, ℕ, ◌≤◌, [], Bool, List, None, Some, length, map};
 ghost use Rattle.rd_base.specs.declared.journal.Key.{Key};
 ghost use Rattle.rd_script.specs.declared.line.NumberedLine.{NumberedLine};
 ghost use Rattle.rd_runs.specs.Moves.{Reached};
 ghost use Rattle.rd_runs.specs.Premises.{RunPremises};
 ghost use Rattle.rd_station.specs.Station.{StationState};
-ghost use Rattle.rd_world.specs.Acts.{some_wait, waiting_keys};
+ghost use Rattle.rd_world.specs.Acts.{control_by, some_wait, waiting_keys};
 ghost use Rattle.rd_world.specs.Opening.{bare_lines};
-ghost use Rattle.rd_world.specs.Run.{choices, declared_devices, some_left};
+ghost use Rattle.rd_world.specs.Run.{Most, choices, declared_devices, run_of, some_left};
 ghost use Rattle.rd_world.specs.Talk.{Has, answered, asked, open_channel};
 ghost use Rattle.rd_world.specs.World.{WorldState, station_at};
 ghost use Rattle.rd_world.specs.declared.device.SessionDevice.{SessionDevice};
 ghost use Rattle.rd_answered.specs.Refusing.{DeclareWritable};
 ghost use Rattle.rd_directs.specs.Turns.{InTurn};
+ghost use Rattle.rd_controls.specs.Controls.{AreOrderedLines};
+ghost use Rattle.rd_world.specs.Devices.{Declared};
+ghost use Rattle.rd_rest.specs.Ending.{EndsAtRest};
 ghost use Rattle.rd_rest.specs.Rest.{AreInHands, AreLeftParked, AreOver, IsAtRest};
 
 /// Each job that a station gave to a hand is in one. So where nothing can happen by itself what a station holds waits inside its device.
@@ -54,4 +57,10 @@ pub fn what_is_left_waits()
 /// Where nothing can happen by itself no job is kept back.
 pub fn none_is_kept_back()
     ensures { (lines : List NumberedLine) (starves : Key → Bool) (w : WorldState) → RunPremises lines → Reached lines starves w → choices w ≡ [] → w.kept ≡ None }
+{}
+
+/// After the last line of a run nothing can happen by itself at some world; and then the run ends, or a channel on which a request waits ends, and no application is given anything more.
+pub fn runs_end_at_rest()
+    ensures { (lines : List NumberedLine) (starves : Key → Bool) (most : Most) (w : WorldState) → AreOrderedLines (map (λ (e : ℕ × Declared). e.0) (declared_devices (bare_lines lines))) lines → RunPremises lines
+        → run_of most starves lines ≡ Some w → EndsAtRest lines starves (control_by (declared_devices (bare_lines lines)) lines) w }
 {}
