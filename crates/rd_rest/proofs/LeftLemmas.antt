@@ -51,7 +51,7 @@ Of = StationState SessionDevice
 
 -- ---- tests
 
-same_tests : (a b : Bool) → (a ≡ true → b ≡ true) → (b ≡ true → a ≡ true) → a ≡ b
+pub same_tests : (a b : Bool) → (a ≡ true → b ≡ true) → (b ≡ true → a ≡ true) → a ≡ b
 same_tests true b on off = sym (on refl)
 same_tests false true on off = off refl
 same_tests false false on off = refl
@@ -79,7 +79,7 @@ any_of {A} p (y ∷ xs) x (inr later) e = by (p y) (any_of p xs x later e)
     by true e = refl
     by false e = e
 
-flat_in : {A B : Type 0} (f : A → List B) (xs : List A) (y : B) → Has y (flat_map f xs) → (x : A) × Has x xs × Has y (f x)
+pub flat_in : {A B : Type 0} (f : A → List B) (xs : List A) (y : B) → Has y (flat_map f xs) → (x : A) × Has x xs × Has y (f x)
 flat_in f [] y has = absurd has
 flat_in f (x ∷ xs) y has = elim (has_append y (f x) (flat_map f xs) has) [ inl here ↦ (x, inl refl, here) | inr later ↦ let (z, among, there) = flat_in f xs y later in (z, inr among, there) ]
 
@@ -89,18 +89,18 @@ all_has P (y ∷ xs) all x (inl here) = subst P (sym here) all.0
 all_has P (y ∷ xs) all x (inr later) = all_has P xs all.1 x later
 
 -- an entry is found under its key
-found_of : {X : Type 0} (es : List (ℕ × X)) → IsStrictlySortedBy nat_cmp (keys_of es) → (e : ℕ × X) → Has e es → lookup (is_at (nat_cmp e.0)) es ≡ Some e.1
+pub found_of : {X : Type 0} (es : List (ℕ × X)) → IsStrictlySortedBy nat_cmp (keys_of es) → (e : ℕ × X) → Has e es → lookup (is_at (nat_cmp e.0)) es ≡ Some e.1
 found_of es rise e has = all_has (λ x. lookup (is_at (nat_cmp x.0)) es ≡ Some x.1) es (each_found es rise (λ k s. lookup (is_at (nat_cmp k)) es ≡ Some s) (λ k s there. there)) e has
 
-key_has : {X : Type 0} (es : List (ℕ × X)) (k : ℕ) → Has k (keys_of es) → (x : X) × Has (k, x) es
+pub key_has : {X : Type 0} (es : List (ℕ × X)) (k : ℕ) → Has k (keys_of es) → (x : X) × Has (k, x) es
 key_has es k has = let (e, among, same) = map_has (λ e. e.0) k es has in (e.1, subst (λ (n : ℕ). Has (n, e.1) es) (sym same) among)
 
 module _ (lines : List NumberedLine) (starves : Key → Bool) (premises : RunPremises lines) (w : WorldState) (reached : Reached lines starves w) (none : choices w ≡ [])
     (is : open_channel w.deeds ≡ Some w.channels) where
-  abbrev own : List (ℕ × Declared)
+  abbrev pub own : List (ℕ × Declared)
   own = declared_devices (bare_lines lines)
 
-  rising : IsStrictlySortedBy nat_cmp (keys_of own)
+  pub rising : IsStrictlySortedBy nat_cmp (keys_of own)
   rising = (declared_openable lines premises.declared).rise
 
   stations_rise : IsStrictlySortedBy nat_cmp (keys_of w.stations)
@@ -186,7 +186,7 @@ module _ (lines : List NumberedLine) (starves : Key → Bool) (premises : RunPre
       ]
 
   -- where the journal of a device ends in a drop, nothing that waited by then is of the open channel
-  over_waits : (d : ℕ) (s : Of) → station_at w d ≡ Some s → (x : Declared) → lookup (is_at (nat_cmp d)) own ≡ Some x → (earlier : List Item) → journal d w.deeds ≡ Cut Dropped ∷ earlier
+  pub over_waits : (d : ℕ) (s : Of) → station_at w d ≡ Some s → (x : Declared) → lookup (is_at (nat_cmp d)) own ≡ Some x → (earlier : List Item) → journal d w.deeds ≡ Cut Dropped ∷ earlier
       → (p : Parked) → Has p (device_parked (last_state_by device_step device_cut (request_of w.deeds) x.state (reverse earlier))) → (p.key).channel ≡ w.channels → ⊥
   over_waits d s there x at earlier e p has here =
       let names = named_of_waiting d s there x at earlier e p has in

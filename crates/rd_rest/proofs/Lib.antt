@@ -10,3 +10,4 @@ pub mod WaitingLemmas
 pub mod LeftLemmas
 pub mod DroppedLemmas
 pub mod LastLemmas
+pub mod EndLemmas

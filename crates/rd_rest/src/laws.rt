@@ -1,12 +1,12 @@
 //! What a session has done where nothing can happen by itself, as contracts of functions that do nothing.
 
-ghost use Rattle.std.specs.Prelude.{◌≡◌, ◌⊎◌, ℕ, ◌≤◌, [], Bool, List, None, Some, length, map};
+ghost use Rattle.std.specs.Prelude.{◌≡◌, ◌⊎◌, ℕ, ◌≤◌, ◌&&◌, if◌then◌else◌, [], Bool, List, None, Some, length, map};
 ghost use Rattle.rd_base.specs.declared.journal.Key.{Key};
 ghost use Rattle.rd_script.specs.declared.line.NumberedLine.{NumberedLine};
 ghost use Rattle.rd_runs.specs.Moves.{Reached};
 ghost use Rattle.rd_runs.specs.Premises.{RunPremises};
 ghost use Rattle.rd_station.specs.Station.{StationState};
-ghost use Rattle.rd_world.specs.Acts.{control_by, some_wait, waiting_keys};
+ghost use Rattle.rd_world.specs.Acts.{control_by, left_open, some_wait, waiting_keys};
 ghost use Rattle.rd_world.specs.Opening.{bare_lines};
 ghost use Rattle.rd_world.specs.Run.{Most, choices, declared_devices, run_of, some_left};
 ghost use Rattle.rd_world.specs.Talk.{Has, answered, asked, open_channel};
@@ -15,7 +15,9 @@ ghost use Rattle.rd_world.specs.declared.device.SessionDevice.{SessionDevice};
 ghost use Rattle.rd_answered.specs.Refusing.{DeclareWritable};
 ghost use Rattle.rd_directs.specs.Turns.{InTurn};
 ghost use Rattle.rd_controls.specs.Controls.{AreOrderedLines};
+ghost use Rattle.rd_world.specs.Control.{Control};
 ghost use Rattle.rd_world.specs.Devices.{Declared};
+ghost use Rattle.rd_world.specs.Events.{is_channel_open};
 ghost use Rattle.rd_rest.specs.Ending.{EndsAtRest};
 ghost use Rattle.rd_rest.specs.Rest.{AreInHands, AreLeftParked, AreOver, IsAtRest};
 
@@ -63,4 +65,10 @@ pub fn none_is_kept_back()
 pub fn runs_end_at_rest()
     ensures { (lines : List NumberedLine) (starves : Key → Bool) (most : Most) (w : WorldState) → AreOrderedLines (map (λ (e : ℕ × Declared). e.0) (declared_devices (bare_lines lines))) lines → RunPremises lines
         → run_of most starves lines ≡ Some w → EndsAtRest lines starves (control_by (declared_devices (bare_lines lines)) lines) w }
+{}
+
+/// The channel that is left open after the last line, by the deeds at a run's end, is the one on which the journals left a request waiting when nothing more could happen by itself.
+pub fn left_channel_is_open()
+    ensures { (lines : List NumberedLine) (starves : Key → Bool) (said : Control) (w : WorldState) → RunPremises lines → (ends : EndsAtRest lines starves said w)
+        → left_open (declared_devices (bare_lines lines)) w.deeds said ≡ (if is_channel_open ends.last && some_left ends.last then said.current else None) }
 {}
