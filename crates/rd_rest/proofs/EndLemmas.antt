@@ -1,6 +1,6 @@
 -- What waited on the last channel when it ended does so by the journals still, so that channel is the one that was left open; and what was still there stays so.
 use Rattle.std.proofs.Common.{◌≡◌, ◌⊎◌, ◌∙◌, refl, sym, ap, subst, inl, inr, ℕ, ◌<◌, ◌==◌, ◌&&◌, Bool, true, false, cond, arith, List, [], ◌∷◌, ◌++◌, length, map, reverse, fold, filter, Some, None, Option, eqb-true, eq-eqb, append-nil, append_assoc, is_some}
-use Rattle.std.specs.Prelude.{if◌then◌else◌}
+use Rattle.std.specs.Prelude.{IfSome, if◌then◌else◌}
 use Rattle.std.specs.List.{flat_map, list_any}
 use Rattle.std.specs.List.Sorted.{IsStrictlySortedBy}
 use Rattle.std.specs.Map.{keys_of, lookup}
@@ -437,3 +437,12 @@ module _ (lines : List NumberedLine) (starves : Key → Bool) (premises : RunPre
           is_shut : (o : Option ℕ) → is_some o ≡ false → o ≡ None
           is_shut None e = refl
           is_shut (Some k) e = absurd (cc e)
+
+  -- what was still at the last rest on that channel is so at the end
+  pub at_end : (open_channel last.deeds ≡ Some last.channels → IsStill devices said last.deeds last.channels) → IfSome (left_open devices w.deeds said) (IsStill devices said w.deeds)
+  at_end still = elim ends.comes [
+    | inl (same, none) ↦ subst (λ (o : Option ℕ). IfSome o (IsStill devices said w.deeds)) (sym (left_is_open ∙ ap left_by none)) tt
+    | inr (open_is, waits, now, closed) ↦
+        subst (λ (o : Option ℕ). IfSome o (IsStill devices said w.deeds)) (sym (left_is_open ∙ ap (λ (b : Bool). left_by (b && some_left last)) open_is ∙ ap left_by waits ∙ said_open open_is))
+        (still_then lines starves premises last w ends.reached ends.rests (open_at open_is) now closed said (still (open_at open_is)))
+  ]

@@ -11,3 +11,4 @@ pub mod LeftLemmas
 pub mod DroppedLemmas
 pub mod LastLemmas
 pub mod EndLemmas
+pub mod StillLemmas

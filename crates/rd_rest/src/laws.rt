@@ -1,6 +1,6 @@
 //! What a session has done where nothing can happen by itself, as contracts of functions that do nothing.
 
-ghost use Rattle.std.specs.Prelude.{◌≡◌, ◌⊎◌, ℕ, ◌≤◌, ◌&&◌, if◌then◌else◌, [], Bool, List, None, Some, length, map};
+ghost use Rattle.std.specs.Prelude.{◌≡◌, ◌⊎◌, ℕ, ◌≤◌, ◌&&◌, if◌then◌else◌, [], Bool, IfSome, List, None, Some, length, map};
 ghost use Rattle.rd_base.specs.declared.journal.Key.{Key};
 ghost use Rattle.rd_script.specs.declared.line.NumberedLine.{NumberedLine};
 ghost use Rattle.rd_runs.specs.Moves.{Reached};
@@ -9,6 +9,7 @@ ghost use Rattle.rd_station.specs.Station.{StationState};
 ghost use Rattle.rd_world.specs.Acts.{control_by, left_open, some_wait, waiting_keys};
 ghost use Rattle.rd_world.specs.Opening.{bare_lines};
 ghost use Rattle.rd_world.specs.Run.{Most, choices, declared_devices, run_of, some_left};
+ghost use Rattle.rd_world.specs.Session.{IsStill};
 ghost use Rattle.rd_world.specs.Talk.{Has, answered, asked, open_channel};
 ghost use Rattle.rd_world.specs.World.{WorldState, station_at};
 ghost use Rattle.rd_world.specs.declared.device.SessionDevice.{SessionDevice};
@@ -18,7 +19,7 @@ ghost use Rattle.rd_controls.specs.Controls.{AreOrderedLines};
 ghost use Rattle.rd_world.specs.Control.{Control};
 ghost use Rattle.rd_world.specs.Devices.{Declared};
 ghost use Rattle.rd_world.specs.Events.{is_channel_open};
-ghost use Rattle.rd_rest.specs.Ending.{EndsAtRest};
+ghost use Rattle.rd_rest.specs.Ending.{EndsAtRest, IsToldAll};
 ghost use Rattle.rd_rest.specs.Rest.{AreInHands, AreLeftParked, AreOver, IsAtRest};
 
 /// Each job that a station gave to a hand is in one. So where nothing can happen by itself what a station holds waits inside its device.
@@ -38,10 +39,10 @@ pub fn requests_are_in_turn()
     ensures { (lines : List NumberedLine) (starves : Key → Bool) (w : WorldState) → RunPremises lines → DeclareWritable lines → length lines ≤ 1000000 → Reached lines starves w → InTurn w }
 {}
 
-/// Where nothing can happen by itself, each request that was read on the open channel was answered, or waits in its device, unless a job is kept back.
+/// Where nothing can happen by itself, each request that was read on the open channel was answered, or waits in its device, unless something is wrong at the client.
 pub fn requests_are_completed()
     ensures { (lines : List NumberedLine) (starves : Key → Bool) (w : WorldState) → RunPremises lines → DeclareWritable lines → length lines ≤ 1000000 → Reached lines starves w → choices w ≡ []
-        → open_channel w.deeds ≡ Some w.channels → w.kept ≡ None → w.client.core.fault ≡ None → (device id index : ℕ) → Has index (asked w.channels device id w.deeds)
+        → open_channel w.deeds ≡ Some w.channels → w.client.core.fault ≡ None → (device id index : ℕ) → Has index (asked w.channels device id w.deeds)
         → Has index (answered w.channels device id w.deeds) ⊎ Has (record { channel = w.channels; index = index }) (waiting_keys (declared_devices (bare_lines lines)) w.deeds) }
 {}
 
@@ -71,4 +72,17 @@ pub fn runs_end_at_rest()
 pub fn left_channel_is_open()
     ensures { (lines : List NumberedLine) (starves : Key → Bool) (said : Control) (w : WorldState) → RunPremises lines → (ends : EndsAtRest lines starves said w)
         → left_open (declared_devices (bare_lines lines)) w.deeds said ≡ (if is_channel_open ends.last && some_left ends.last then said.current else None) }
+{}
+
+/// Where nothing can happen by itself the open channel is still, if all that was accepted was sent, and all was told and replied to.
+pub fn rests_are_still()
+    ensures { (lines : List NumberedLine) (starves : Key → Bool) (control : Control) (w : WorldState) → RunPremises lines → DeclareWritable lines → length lines ≤ 1000000 → Reached lines starves w → choices w ≡ []
+        → open_channel w.deeds ≡ Some w.channels → w.client.core.fault ≡ None → IsToldAll control w.deeds w.channels → IsStill (declared_devices (bare_lines lines)) control w.deeds w.channels }
+{}
+
+/// So it is at a run's end, of the channel that is left open after the last line and ends then.
+pub fn left_channels_are_still()
+    ensures { (lines : List NumberedLine) (starves : Key → Bool) (said : Control) (w : WorldState) → RunPremises lines → (ends : EndsAtRest lines starves said w)
+        → (open_channel ends.last.deeds ≡ Some ends.last.channels → IsStill (declared_devices (bare_lines lines)) said ends.last.deeds ends.last.channels)
+        → IfSome (left_open (declared_devices (bare_lines lines)) w.deeds said) (IsStill (declared_devices (bare_lines lines)) said w.deeds) }
 {}

@@ -2,4 +2,4 @@ use Rattle.rd_rest.proofs.CompletedLemmas.{completed}
 use Rattle.rd_rest.proofs.laws.requests_are_completed.Goals as goal
 
 pub returns : goal.returns
-returns c lines starves w premises writable few reached none is kept fine device id index has = completed lines starves premises w reached none is writable few kept fine device id index has
+returns c lines starves w premises writable few reached none is fine device id index has = completed lines starves premises w reached none is writable few fine device id index has
