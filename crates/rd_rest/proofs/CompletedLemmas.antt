@@ -28,7 +28,6 @@ use Rattle.rd_journals.proofs.RunLemmas.{reached_orderly}
 use Rattle.rd_journals.specs.Orderly.{Orderly, current}
 use Rattle.rd_journals.specs.Stations.{IsOn}
 use Rattle.rd_pending.proofs.MapLemmas.{same_key}
-use Rattle.rd_rest.proofs.FullLemmas.{none_kept_back}
 use Rattle.rd_rest.proofs.OverLemmas.{reached_over}
 use Rattle.rd_rest.proofs.RestLemmas.{rest_at}
 use Rattle.rd_rest.proofs.TurnsLemmas.{reached_in_turn}
@@ -285,12 +284,9 @@ module _ (lines : List NumberedLine) (starves : Key → Bool) (premises : RunPre
       let among : Has (as_parked p) (waiting_in w.deeds (d, x)) = subst (Has (as_parked p)) (sym waits) (has_map as_parked p s.parked has) in
       has_map (λ (q : Parked). q.key) (as_parked p) (flat_map (waiting_in w.deeds) devices) (flat_has (waiting_in w.deeds) (d, x) (as_parked p) devices (entry_has devices d x at) among)
 
-  module _ (writable : DeclareWritable lines) (few : length lines ≤ 1000000) (fine : ((w.client).core).fault ≡ None) where
+  module _ (writable : DeclareWritable lines) (few : length lines ≤ 1000000) (kept : w.kept ≡ None) (fine : ((w.client).core).fault ≡ None) where
     abbrev c : ℕ
     c = w.channels
-
-    kept : w.kept ≡ None
-    kept = none_kept_back lines starves premises w reached none
 
     answers : AreAnswered (replies_in devices w.deeds) w.deeds
     answers = reached_answered lines starves premises few w reached writable

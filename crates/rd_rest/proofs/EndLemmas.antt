@@ -1,17 +1,19 @@
 -- What waited on the last channel when it ended does so by the journals still, so that channel is the one that was left open; and what was still there stays so.
 use Rattle.std.proofs.Common.{◌≡◌, ◌⊎◌, ◌∙◌, refl, sym, ap, subst, inl, inr, ℕ, ◌<◌, ◌==◌, ◌&&◌, Bool, true, false, cond, arith, List, [], ◌∷◌, ◌++◌, length, map, reverse, fold, filter, Some, None, Option, eqb-true, eq-eqb, append-nil, append_assoc, is_some}
-use Rattle.std.specs.Prelude.{IfSome, if◌then◌else◌}
-use Rattle.std.specs.List.{flat_map, list_any}
+use Rattle.std.specs.Prelude.{IfSome, drop, filter_map, if◌then◌else◌}
+use Rattle.std.specs.List.{cons_option, flat_map, list_any}
 use Rattle.std.specs.List.Sorted.{IsStrictlySortedBy}
 use Rattle.std.specs.Map.{keys_of, lookup}
 use Rattle.std.specs.Ordering.{nat_cmp}
 use Rattle.std.specs.BTreeMap.{is_at}
 use Rattle.std.specs.Option.{option_and_then, option_map_or, unwrap_or}
-use Rattle.std.proofs.lemmas.List.{reverse-append, reverse-reverse}
+use Rattle.std.proofs.lemmas.List.{length-append, reverse-append, reverse-reverse}
 use Rattle.rd_base.specs.declared.journal.Cause.TheVariants.{Dropped}
 use Rattle.rd_base.specs.declared.journal.Item.{Item}
 use Rattle.rd_base.specs.declared.journal.Item.TheVariants.{Cut}
 use Rattle.rd_base.specs.declared.journal.Key.{Key}
+use Rattle.rd_controls.proofs.Numbers.{picked_reverse}
+use Rattle.rd_controls.specs.Controls.{DoAsSaid, control_with}
 use Rattle.rd_drive.specs.Device.{Parked}
 use Rattle.rd_drive.specs.Replies.{last_state_by}
 use Rattle.rd_host.specs.Order as host
@@ -28,7 +30,7 @@ use Rattle.rd_rest.proofs.LeftLemmas as left
 use Rattle.rd_rest.proofs.OverLemmas.{reached_over}
 use Rattle.rd_rest.specs.Ending.{AreTakes, EndsAtRest, IsClosed, IsTake}
 use Rattle.rd_runs.proofs.HostLemmas.{host_channel}
-use Rattle.rd_runs.proofs.Insides.{AreOwn, IsOwn, all_dropped_inside}
+use Rattle.rd_runs.proofs.Insides.{AreOwn, IsOwn, Outside, all_dropped_inside}
 use Rattle.rd_runs.proofs.Standing.{open_now}
 use Rattle.rd_runs.proofs.Together.{known}
 use Rattle.rd_runs.specs.Moves.{Reached}
@@ -41,8 +43,8 @@ use Rattle.rd_station.specs.Station.{StationState, emptied}
 use Rattle.rd_station.specs.Tied.{as_parked}
 use Rattle.rd_told.proofs.PrintedLemmas.{device_left, keyed}
 use Rattle.rd_world.proofs.OpeningLemmas.{declared_openable}
-use Rattle.rd_world.specs.Acts.{before_end, is_settled_host, is_telling, left_open, notices_on, of_channel, some_wait, tellings_on, waiting_in, waiting_keys}
-use Rattle.rd_world.specs.Control.{Control}
+use Rattle.rd_world.specs.Acts.{act_by, before_end, control_by, is_settled_host, is_telling, left_open, notices_on, of_channel, some_wait, tellings_on, waiting_in, waiting_keys}
+use Rattle.rd_world.specs.Control.{Act, Control, ended}
 use Rattle.rd_world.specs.Devices.{Declared, device_cut, device_parked, device_step}
 use Rattle.rd_world.specs.Events.{cutting, dropping, is_channel_open}
 use Rattle.rd_world.specs.HostDeeds.{calls_of}
@@ -446,3 +448,69 @@ module _ (lines : List NumberedLine) (starves : Key → Bool) (premises : RunPre
         subst (λ (o : Option ℕ). IfSome o (IsStill devices said w.deeds)) (sym (left_is_open ∙ ap (λ (b : Bool). left_by (b && some_left last)) open_is ∙ ap left_by waits ∙ said_open open_is))
         (still_then lines starves premises last w ends.reached ends.rests (open_at open_is) now closed said (still (open_at open_is)))
   ]
+
+-- ---- what control lines did by then
+
+acts_stored : (d : ℕ) (items : List Item) (deeds : List Deed) → filter_map act_by (map (deed.stores d) items ++ deeds) ≡ filter_map act_by deeds
+acts_stored d [] deeds = refl
+acts_stored d (x ∷ items) deeds = acts_stored d items deeds
+
+acts_dropped : (ks : List ℕ) (x : WorldState) → filter_map act_by (fold dropping x ks).deeds ≡ filter_map act_by x.deeds
+acts_dropped [] x = refl
+acts_dropped (k ∷ ks) x = acts_dropped ks (dropping x k) ∙ by (station_at x k)
+  where
+    by : (o : Option Of) → filter_map act_by (option_map_or (λ (s : Of). with_station x k (station.drop_channel s (device_cut s.device).state)) o x).deeds ≡ filter_map act_by x.deeds
+    by None = refl
+    by (Some s) =
+        let new : Of = station.drop_channel s (device_cut s.device).state in
+        acts_stored k (reverse (drop (option_map_or (λ (old : Of). length old.journal) (station_at x k) 0) new.journal)) x.deeds
+
+acts_taken : (more deeds : List Deed) → AreTakes more → filter_map act_by (more ++ deeds) ≡ filter_map act_by deeds
+acts_taken [] deeds all = refl
+acts_taken (y ∷ more) deeds all = one y all.0 (filter_map act_by (more ++ deeds)) refl ∙ acts_taken more deeds all.1
+  where
+    one : (y : Deed) → IsTake y → (acts : List Act) → filter_map act_by (more ++ deeds) ≡ acts → cons_option (act_by y) (filter_map act_by (more ++ deeds)) ≡ filter_map act_by (more ++ deeds)
+    one (deed.takes n) is acts e = refl
+    one y is acts e = absurd is
+
+acts_closed : (last w : WorldState) → IsClosed last w → filter_map act_by w.deeds ≡ ended last.channels ∷ filter_map act_by last.deeds
+acts_closed last w closed =
+    let ids : List ℕ = map (λ (e : ℕ × Of). e.0) last.stations in
+    ap (filter_map act_by) closed.deeds ∙ acts_taken closed.more (cutting last).deeds closed.all
+    ∙ (λ i. ended (ap (λ (o : Outside). o.channels) (all_dropped_inside ids last).same i) ∷ acts_dropped ids last i)
+
+not_longer : {A : Type 0} (xs : List A) (x : A) → xs ++ x ∷ [] ≡ xs → ⊥
+not_longer xs x e = let size : length (xs ++ x ∷ []) ≡ length xs = ap (λ ys. length ys) e in omega (arith, size, length-append xs (x ∷ []))
+
+same_last : {A : Type 0} (xs : List A) (x y : A) → xs ++ x ∷ [] ≡ xs ++ y ∷ [] → x ≡ y
+same_last [] x y e = cc e
+same_last (z ∷ xs) x y e = let rest : xs ++ x ∷ [] ≡ xs ++ y ∷ [] = cc e in same_last xs x y rest
+
+-- The channel that ended after everything is the one that the lines leave open, where a request waits on it.
+pub left_is_said : (lines : List NumberedLine) (starves : Key → Bool) (premises : RunPremises lines) (w : WorldState) → EndsAtRest lines starves (control_by (declared_devices (bare_lines lines)) lines) w
+    → (does : DoAsSaid (map (λ (d : ℕ × Declared). d.0) (declared_devices (bare_lines lines))) lines starves w) → left_open (declared_devices (bare_lines lines)) w.deeds (control_by (declared_devices (bare_lines lines)) lines) ≡ does.left
+left_is_said lines starves premises w ends does = elim ends.comes [
+  | inl (same, none) ↦
+      let acts : said.acts ≡ (control_with does.left said).acts = sym (ap (λ (x : WorldState). filter_map act_by (reverse x.deeds)) same ∙ ends.acts) ∙ does.acts in
+      left_is_open lines starves premises said w ends ∙ ap (λ (b : Bool). if b then said.current else None) none ∙ still does.left acts
+  | inr (open_is, waits, now, closed) ↦
+      let acts : said.acts ++ ended last.channels ∷ [] ≡ (control_with does.left said).acts =
+          sym (picked_reverse act_by w.deeds ∙ ap reverse (acts_closed last w closed) ∙ reverse-append (ended last.channels ∷ []) (filter_map act_by last.deeds)
+          ∙ ap (λ (xs : List Act). xs ++ ended last.channels ∷ []) (sym (picked_reverse act_by last.deeds) ∙ ends.acts)) ∙ does.acts in
+      left_is_open lines starves premises said w ends ∙ ap (λ (b : Bool). if b && some_left last then said.current else None) open_is ∙ ap (λ (b : Bool). if b then said.current else None) waits
+      ∙ said_open lines starves premises said w ends open_is ∙ over does.left acts
+]
+  where
+    said : Control
+    said = control_by (declared_devices (bare_lines lines)) lines
+
+    last : WorldState
+    last = ends.last
+
+    still : (o : Option ℕ) → said.acts ≡ (control_with o said).acts → None ≡ o
+    still None acts = refl
+    still (Some k) acts = absurd (not_longer said.acts (ended k) (sym acts))
+
+    over : (o : Option ℕ) → said.acts ++ ended last.channels ∷ [] ≡ (control_with o said).acts → Some last.channels ≡ o
+    over None acts = absurd (not_longer said.acts (ended last.channels) acts)
+    over (Some k) acts = let same : ended last.channels ≡ ended k = same_last said.acts (ended last.channels) (ended k) acts in cc same

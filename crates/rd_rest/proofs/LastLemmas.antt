@@ -421,7 +421,7 @@ module _ (lines : List NumberedLine) (starves : Key → Bool) (most : Most) (ids
       ready open_is = record { client = l.client open_is; host = l.host open_is }
 
       still : (is_channel_open w && some_left w) ≡ false → EndsBy c w
-      still none = record { last = w; reached = at; rests = rests; channel = l.base.sees.channel; ready = ready; comes = inl (refl, none) }
+      still none = record { last = w; reached = at; rests = rests; acts = picked_reverse act_by w.deeds ∙ l.base.sees.acts; channel = l.base.sees.channel; ready = ready; comes = inl (refl, none) }
 
       dropped : is_channel_open w ≡ true → IsDropped lines starves w (act starves w event.drop_channel)
       dropped is_open = record {
@@ -440,6 +440,7 @@ module _ (lines : List NumberedLine) (starves : Key → Bool) (most : Most) (ids
         last = w;
         reached = at;
         rests = rests;
+        acts = picked_reverse act_by w.deeds ∙ l.base.sees.acts;
         channel = l.base.sees.channel;
         ready = ready;
         comes = inr (is_open, waits, own.reached, own.closed);

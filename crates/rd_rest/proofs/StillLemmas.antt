@@ -25,5 +25,5 @@ still_at_rest lines starves control w premises writable few reached none is fine
   notices = told.notices;
   read = client_heard_all lines starves premises w reached none is (none_kept_back lines starves premises w reached none);
   heard = host_heard_all lines starves premises w reached none is;
-  completed = λ device id index has. completed lines starves premises w reached none is writable few fine device id index has;
+  completed = λ device id index has. completed lines starves premises w reached none is writable few (none_kept_back lines starves premises w reached none) fine device id index has;
 }

@@ -1,12 +1,12 @@
 -- What is left after the last channel's end.
-use Rattle.std.specs.Prelude.{◌≡◌, ◌⊎◌, ℕ, ◌&&◌, Bool, true, false, List, [], ◌∷◌, ◌++◌, Option, Some, None, filter, is_some, length}
+use Rattle.std.specs.Prelude.{◌≡◌, ◌⊎◌, ℕ, ◌&&◌, Bool, true, false, List, [], ◌∷◌, ◌++◌, Option, Some, None, filter, filter_map, is_some, length, reverse}
 use Rattle.std.specs.Option.{option_map_or}
 use Rattle.rd_drive.specs.declared.plan.Job.{Job}
 use Rattle.rd_base.specs.declared.journal.Key.{Key}
 use Rattle.rd_controls.specs.Controls.{AreReady}
 use Rattle.rd_runs.specs.Moves.{Reached}
 use Rattle.rd_script.specs.declared.line.NumberedLine.{NumberedLine}
-use Rattle.rd_world.specs.Acts.{is_settled_host, notices_on, of_channel, tellings_on}
+use Rattle.rd_world.specs.Acts.{act_by, is_settled_host, notices_on, of_channel, tellings_on}
 use Rattle.rd_world.specs.Control.{Control}
 use Rattle.rd_world.specs.Events.{cutting, is_channel_open}
 use Rattle.rd_world.specs.Lines.{submitted}
@@ -38,6 +38,7 @@ pub record EndsAtRest (lines : List NumberedLine) (starves : Key → Bool) (said
   pub last : WorldState
   pub reached : Reached lines starves last
   pub rests : choices last ≡ []
+  pub acts : filter_map act_by (reverse last.deeds) ≡ said.acts
   pub channel : ((last.side).table).channel ≡ said.current
   pub ready : is_some said.current ≡ true → AreReady last
   pub comes : ((w ≡ last) × ((is_channel_open last && some_left last) ≡ false)) ⊎ ((is_channel_open last ≡ true) × (some_left last ≡ true) × Reached lines starves w × IsClosed last w)

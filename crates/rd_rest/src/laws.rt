@@ -15,7 +15,7 @@ ghost use Rattle.rd_world.specs.World.{WorldState, station_at};
 ghost use Rattle.rd_world.specs.declared.device.SessionDevice.{SessionDevice};
 ghost use Rattle.rd_answered.specs.Refusing.{DeclareWritable};
 ghost use Rattle.rd_directs.specs.Turns.{InTurn};
-ghost use Rattle.rd_controls.specs.Controls.{AreOrderedLines};
+ghost use Rattle.rd_controls.specs.Controls.{AreOrderedLines, DoAsSaid};
 ghost use Rattle.rd_world.specs.Control.{Control};
 ghost use Rattle.rd_world.specs.Devices.{Declared};
 ghost use Rattle.rd_world.specs.Events.{is_channel_open};
@@ -85,4 +85,11 @@ pub fn left_channels_are_still()
     ensures { (lines : List NumberedLine) (starves : Key → Bool) (said : Control) (w : WorldState) → RunPremises lines → (ends : EndsAtRest lines starves said w)
         → (open_channel ends.last.deeds ≡ Some ends.last.channels → IsStill (declared_devices (bare_lines lines)) said ends.last.deeds ends.last.channels)
         → IfSome (left_open (declared_devices (bare_lines lines)) w.deeds said) (IsStill (declared_devices (bare_lines lines)) said w.deeds) }
+{}
+
+/// The channel that ended after everything is the one that the lines leave open, where by the deeds at the run's end a request waits on it.
+pub fn left_channel_is_said()
+    ensures { (lines : List NumberedLine) (starves : Key → Bool) (w : WorldState) → RunPremises lines → EndsAtRest lines starves (control_by (declared_devices (bare_lines lines)) lines) w
+        → (does : DoAsSaid (map (λ (d : ℕ × Declared). d.0) (declared_devices (bare_lines lines))) lines starves w)
+        → left_open (declared_devices (bare_lines lines)) w.deeds (control_by (declared_devices (bare_lines lines)) lines) ≡ does.left }
 {}
