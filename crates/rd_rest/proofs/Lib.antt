@@ -12,3 +12,4 @@ pub mod DroppedLemmas
 pub mod LastLemmas
 pub mod EndLemmas
 pub mod StillLemmas
+pub mod RunLemmas

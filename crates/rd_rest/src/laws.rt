@@ -1,17 +1,20 @@
 //! What a session has done where nothing can happen by itself, as contracts of functions that do nothing.
 
-ghost use Rattle.std.specs.Prelude.{◌≡◌, ◌⊎◌, ℕ, ◌≤◌, ◌&&◌, if◌then◌else◌, [], Bool, IfSome, List, None, Some, length, map};
+ghost use Rattle.std.specs.Prelude.{◌≡◌, ◌⊎◌, ℕ, ◌≤◌, ◌&&◌, if◌then◌else◌, [], Bool, IfSome, List, None, Ok, Some, length, map};
 ghost use Rattle.rd_base.specs.declared.journal.Key.{Key};
 ghost use Rattle.rd_script.specs.declared.line.NumberedLine.{NumberedLine};
+ghost use Rattle.rd_script.specs.Script.{script_of};
+ghost use Rattle.rd_script.specs.declared.keyword.Mode.TheVariants as Mode;
+ghost use Rattle.rd_script.specs.declared.script.Script.{Script};
 ghost use Rattle.rd_runs.specs.Moves.{Reached};
 ghost use Rattle.rd_runs.specs.Premises.{RunPremises};
 ghost use Rattle.rd_station.specs.Station.{StationState};
 ghost use Rattle.rd_world.specs.Acts.{control_by, left_open, some_wait, waiting_keys};
 ghost use Rattle.rd_world.specs.Opening.{bare_lines};
-ghost use Rattle.rd_world.specs.Run.{Most, choices, declared_devices, run_of, some_left};
+ghost use Rattle.rd_world.specs.Run.{Most, WorldRun, choices, declared_devices, run_of, some_left};
 ghost use Rattle.rd_world.specs.Session.{IsStill};
 ghost use Rattle.rd_world.specs.Talk.{Has, answered, asked, open_channel};
-ghost use Rattle.rd_world.specs.World.{WorldState, station_at};
+ghost use Rattle.rd_world.specs.World.{WorldState, marks_of, station_at};
 ghost use Rattle.rd_world.specs.declared.device.SessionDevice.{SessionDevice};
 ghost use Rattle.rd_answered.specs.Refusing.{DeclareWritable};
 ghost use Rattle.rd_directs.specs.Turns.{InTurn};
@@ -92,4 +95,10 @@ pub fn left_channel_is_said()
     ensures { (lines : List NumberedLine) (starves : Key → Bool) (w : WorldState) → RunPremises lines → EndsAtRest lines starves (control_by (declared_devices (bare_lines lines)) lines) w
         → (does : DoAsSaid (map (λ (d : ℕ × Declared). d.0) (declared_devices (bare_lines lines))) lines starves w)
         → left_open (declared_devices (bare_lines lines)) w.deeds (control_by (declared_devices (bare_lines lines)) lines) ≡ does.left }
+{}
+
+/// So it is in every session of a script: it comes to rest after its last line, and then ends, or its open channel ends, on which the journals leave a request waiting.
+pub fn sessions_end_at_rest()
+    ensures { (text : List ℕ) (script : Script) (w : WorldState) → script_of Mode.Both text ≡ Ok script → WorldRun script.lines w
+        → EndsAtRest script.lines (marks_of w) (control_by (declared_devices (bare_lines script.lines)) script.lines) w }
 {}
