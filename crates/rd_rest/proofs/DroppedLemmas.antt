@@ -1,9 +1,6 @@
 -- What comes after the last channel's end: applications issue what is queued, and are refused; nothing else can happen.
-use Rattle.std.proofs.Common.{◌≡◌, ◌⊎◌, ◌∙◌, refl, sym, ap, subst, inl, inr, ℕ, zero, suc, ◌+◌, ◌-◌, ◌==◌, ◌&&◌, not, Bool, true, false, cond, arith, List, [], ◌∷◌, ◌++◌, length, map, fold, Some, None, Option, Result, Ok, Err, append_assoc, is_some}
-use Rattle.std.specs.Prelude.{if◌then◌else◌, is_none, nat_le, nat_lt, slice_get}
-use Rattle.std.specs.Map.{lookup}
-use Rattle.std.specs.Ordering.{nat_cmp}
-use Rattle.std.specs.BTreeMap.{is_at}
+use Rattle.std.proofs.Common.{◌≡◌, ◌∙◌, refl, sym, ap, subst, inl, inr, ℕ, zero, suc, ◌-◌, ◌==◌, ◌&&◌, not, Bool, true, false, cond, arith, List, [], ◌∷◌, ◌++◌, map, fold, Some, None, Option, Result, Ok, Err, append_assoc, is_some}
+use Rattle.std.specs.Prelude.{is_none, nat_le, nat_lt, slice_get}
 use Rattle.std.specs.Option.{option_map_or}
 use Rattle.std.proofs.lemmas.Bool.Decides.{nat_tests}
 use Rattle.rd_base.specs.declared.journal.Key.{Key}
@@ -12,7 +9,7 @@ use Rattle.rd_drive.specs.declared.plan.Job.{Job}
 use Rattle.rd_irp.specs.declared.op.Op.{Op}
 use Rattle.rd_journals.proofs.DeclaredLemmas.{bounded_fit}
 use Rattle.rd_journals.proofs.RunLemmas.{reached_orderly, sends_open}
-use Rattle.rd_journals.proofs.ServingLemmas.{Dropped, all_dropped}
+use Rattle.rd_journals.proofs.ServingLemmas.{all_dropped}
 use Rattle.rd_journals.proofs.StandingLemmas.{still_not}
 use Rattle.rd_journals.specs.Orderly.{Orderly}
 use Rattle.rd_pending.proofs.Neutral.{channel_kept}
@@ -26,7 +23,7 @@ use Rattle.rd_pending.specs.declared.calls.Target.{Target}
 use Rattle.rd_pending.specs.Table as table
 use Rattle.rd_pending.specs.Table.{TableState}
 use Rattle.rd_rest.proofs.RestLemmas.{no_hand_full}
-use Rattle.rd_rest.specs.Ending.{AreTakes, IsClosed, IsTake}
+use Rattle.rd_rest.specs.Ending.{AreTakes, IsClosed}
 use Rattle.rd_runs.proofs.HostLemmas.{host_channel}
 use Rattle.rd_runs.proofs.Together.{known}
 use Rattle.rd_runs.specs.Moves.{IsOfLines, MayPass, Reached, draws, event_weight, happens}

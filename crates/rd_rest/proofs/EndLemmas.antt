@@ -1,7 +1,7 @@
 -- What waited on the last channel when it ended does so by the journals still, so that channel is the one that was left open; and what was still there stays so.
-use Rattle.std.proofs.Common.{◌≡◌, ◌⊎◌, ◌∙◌, refl, sym, ap, subst, inl, inr, ℕ, ◌<◌, ◌==◌, ◌&&◌, Bool, true, false, cond, arith, List, [], ◌∷◌, ◌++◌, length, map, reverse, fold, filter, Some, None, Option, eqb-true, eq-eqb, append-nil, append_assoc, is_some}
+use Rattle.std.proofs.Common.{◌≡◌, ◌⊎◌, ◌∙◌, refl, sym, ap, subst, inl, inr, ℕ, ◌==◌, ◌&&◌, Bool, true, false, cond, arith, List, [], ◌∷◌, ◌++◌, length, map, reverse, fold, filter, Some, None, Option, eqb-true, append_assoc, is_some}
 use Rattle.std.specs.Prelude.{IfSome, drop, filter_map, if◌then◌else◌}
-use Rattle.std.specs.List.{cons_option, flat_map, list_any}
+use Rattle.std.specs.List.{cons_option, flat_map}
 use Rattle.std.specs.List.Sorted.{IsStrictlySortedBy}
 use Rattle.std.specs.Map.{keys_of, lookup}
 use Rattle.std.specs.Ordering.{nat_cmp}
@@ -18,7 +18,6 @@ use Rattle.rd_drive.specs.Device.{Parked}
 use Rattle.rd_drive.specs.Replies.{last_state_by}
 use Rattle.rd_host.specs.Order as host
 use Rattle.rd_host.specs.Order.{HostStanding, host_at_first}
-use Rattle.rd_hello.specs.Moves.{Move}
 use Rattle.rd_journals.proofs.DeclaredLemmas.{bounded_fit}
 use Rattle.rd_journals.proofs.HeldLemmas.{found_then}
 use Rattle.rd_journals.proofs.RunLemmas.{reached_orderly}
@@ -43,7 +42,7 @@ use Rattle.rd_station.specs.Station.{StationState, emptied}
 use Rattle.rd_station.specs.Tied.{as_parked}
 use Rattle.rd_told.proofs.PrintedLemmas.{device_left, keyed}
 use Rattle.rd_world.proofs.OpeningLemmas.{declared_openable}
-use Rattle.rd_world.specs.Acts.{act_by, before_end, control_by, is_settled_host, is_telling, left_open, notices_on, of_channel, some_wait, tellings_on, waiting_in, waiting_keys}
+use Rattle.rd_world.specs.Acts.{act_by, before_end, control_by, is_settled_host, is_telling, left_open, some_wait, waiting_in, waiting_keys}
 use Rattle.rd_world.specs.Control.{Act, Control, ended}
 use Rattle.rd_world.specs.Devices.{Declared, device_cut, device_parked, device_step}
 use Rattle.rd_world.specs.Events.{cutting, dropping, is_channel_open}

@@ -1,5 +1,5 @@
 -- Where nothing can happen by itself, a request of the open channel is left waiting by the journals where one waits in a device.
-use Rattle.std.proofs.Common.{◌≡◌, ◌≢◌, ◌⊎◌, ◌∙◌, refl, sym, ap, subst, inl, inr, ℕ, ◌<◌, ◌==◌, ◌&&◌, ◌||◌, not, Bool, true, false, cond, arith, List, [], ◌∷◌, ◌++◌, map, reverse, Some, None, Option, eqb-true, eq-eqb}
+use Rattle.std.proofs.Common.{◌≡◌, ◌≢◌, ◌∙◌, refl, sym, ap, subst, inl, inr, ℕ, ◌==◌, ◌&&◌, ◌||◌, not, Bool, true, false, arith, List, [], ◌∷◌, ◌++◌, map, reverse, Some, Option, eqb-true, eq-eqb}
 use Rattle.std.specs.Prelude.{All, Contains}
 use Rattle.std.specs.List.{AllByRecursion, flat_map, list_any}
 use Rattle.std.specs.List.Sorted.{IsStrictlySortedBy}
@@ -20,7 +20,7 @@ use Rattle.rd_journals.proofs.DeclaredLemmas.{bounded_fit}
 use Rattle.rd_journals.proofs.HeldLemmas.{turned_has}
 use Rattle.rd_journals.proofs.ReplyLemmas.{fit_at}
 use Rattle.rd_journals.specs.Orderly.{current}
-use Rattle.rd_rest.proofs.CompletedLemmas.{end_cases, entry_has, flat_has, keeps_at, named_waits, not_over, ordered, parked_waits, waits_as}
+use Rattle.rd_rest.proofs.CompletedLemmas.{end_cases, entry_has, keeps_at, named_waits, not_over, ordered, parked_waits, waits_as}
 use Rattle.rd_rest.proofs.OverLemmas.{reached_over}
 use Rattle.rd_rest.proofs.ParkedLemmas.{reached_left_parked}
 use Rattle.rd_rest.proofs.WaitingLemmas.{waits_run}
@@ -34,15 +34,15 @@ use Rattle.rd_station.specs.Memory.{NamesKey}
 use Rattle.rd_station.specs.Station.{StationState}
 use Rattle.rd_station.specs.Tied.{as_parked}
 use Rattle.rd_station.specs.declared.held.ParkedJob.{ParkedJob}
-use Rattle.rd_told.proofs.PrintedLemmas.{device_left, keyed}
-use Rattle.rd_world.proofs.Journals.{HasRun, has_contains}
+use Rattle.rd_told.proofs.PrintedLemmas.{keyed}
+use Rattle.rd_world.proofs.Journals.{has_contains}
 use Rattle.rd_world.proofs.OpeningLemmas.{declared_openable}
 use Rattle.rd_world.specs.Acts.{before_end, some_wait, waiting_in, waiting_keys}
 use Rattle.rd_world.specs.Devices.{Declared, device_cut, device_parked, device_step}
 use Rattle.rd_world.specs.Recording.{request_of}
 use Rattle.rd_world.specs.Opening.{bare_lines}
 use Rattle.rd_world.specs.Run.{choices, declared_devices, is_left_parked, some_left}
-use Rattle.rd_world.specs.Talk.{Deed, Has, journal, open_channel}
+use Rattle.rd_world.specs.Talk.{Has, journal, open_channel}
 use Rattle.rd_world.specs.World.{WorldState, station_at}
 use Rattle.rd_world.specs.declared.device.SessionDevice.{SessionDevice}
 

@@ -1,5 +1,5 @@
 -- Of whole runs, and of every session of a script: which channel is left open, and that it is still at the end.
-use Rattle.std.proofs.Common.{◌≡◌, ℕ, Bool, List, [], map, reverse, Some, None, Ok}
+use Rattle.std.proofs.Common.{◌≡◌, ℕ, Bool, List, [], map, reverse, Some, Ok}
 use Rattle.std.specs.Prelude.{IfSome, filter_map}
 use Rattle.rd_base.specs.declared.journal.Key.{Key}
 use Rattle.rd_controls.proofs.ScriptLemmas.{scripts_ordered}

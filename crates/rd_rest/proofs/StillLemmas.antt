@@ -1,5 +1,5 @@
 -- Where nothing can happen by itself the open channel is still, if all that was accepted was sent, and all was told and replied to.
-use Rattle.std.proofs.Common.{◌≡◌, ℕ, ◌≤◌, Bool, List, [], length, Some, None}
+use Rattle.std.proofs.Common.{◌≡◌, ◌≤◌, Bool, List, [], length, Some, None}
 use Rattle.rd_answered.specs.Refusing.{DeclareWritable}
 use Rattle.rd_base.specs.declared.journal.Key.{Key}
 use Rattle.rd_rest.proofs.CompletedLemmas.{completed}

@@ -1,5 +1,5 @@
 -- What is left after the last channel's end.
-use Rattle.std.specs.Prelude.{◌≡◌, ◌⊎◌, ℕ, ◌&&◌, Bool, true, false, List, [], ◌∷◌, ◌++◌, Option, Some, None, filter, filter_map, is_some, length, reverse}
+use Rattle.std.specs.Prelude.{◌≡◌, ◌⊎◌, ℕ, ◌&&◌, Bool, true, false, List, [], ◌∷◌, ◌++◌, Some, None, filter, filter_map, is_some, length, reverse}
 use Rattle.std.specs.Option.{option_map_or}
 use Rattle.rd_drive.specs.declared.plan.Job.{Job}
 use Rattle.rd_base.specs.declared.journal.Key.{Key}
