@@ -73,7 +73,7 @@ option_more : {A : Type 0} (x : A) (o : Option A) (xs : List A) → Has x xs →
 option_more x None xs has = has
 option_more x (Some y) xs has = inr has
 
-any_true : {A : Type 0} (p : A → Bool) (xs : List A) → list_any p xs ≡ true → (x : A) × Has x xs × (p x ≡ true)
+pub any_true : {A : Type 0} (p : A → Bool) (xs : List A) → list_any p xs ≡ true → (x : A) × Has x xs × (p x ≡ true)
 any_true p [] e = absurd (cc e)
 any_true {A} p (y ∷ xs) e = by (p y) refl e (any_true p xs)
   where

@@ -23,9 +23,8 @@ use Rattle.rd_journals.proofs.HeldLemmas.{found_then}
 use Rattle.rd_journals.proofs.RunLemmas.{reached_orderly}
 use Rattle.rd_journals.specs.Orderly.{Orderly, current}
 use Rattle.rd_pending.specs.History.{lives_before}
-use Rattle.rd_rest.proofs.CompletedLemmas.{end_cases, flat_has, keeps_at}
-use Rattle.rd_rest.proofs.LeftLemmas.{flat_in, found_of, key_has, left_waits, over_waits, same_tests}
-use Rattle.rd_rest.proofs.LeftLemmas as left
+use Rattle.rd_rest.proofs.CompletedLemmas.{any_true, end_cases, flat_has, keeps_at}
+use Rattle.rd_rest.proofs.LeftLemmas.{any_of, flat_in, found_of, key_has, left_waits, over_waits, same_tests}
 use Rattle.rd_rest.proofs.OverLemmas.{reached_over}
 use Rattle.rd_rest.specs.Ending.{AreTakes, EndsAtRest, IsClosed, IsTake}
 use Rattle.rd_runs.proofs.HostLemmas.{host_channel}
@@ -369,8 +368,8 @@ module _ (lines : List NumberedLine) (starves : Key → Bool) (premises : RunPre
     where
       moved : (from to : List Deed) → ((key : Key) → key.channel ≡ c → Has key (waiting_keys own from) → Has key (waiting_keys own to)) → some_wait own from c ≡ true → some_wait own to c ≡ true
       moved from to each waits =
-          let (key, among, test) = left.any_true (λ (k : Key). k.channel == c) (waiting_keys own from) waits in
-          left.any_of (λ (k : Key). k.channel == c) (waiting_keys own to) key (each key (eqb-true key.channel c test) among) test
+          let (key, among, test) = any_true (λ (k : Key). k.channel == c) (waiting_keys own from) waits in
+          any_of (λ (k : Key). k.channel == c) (waiting_keys own to) key (each key (eqb-true key.channel c test) among) test
 
   -- what was still on the channel is so then
   pub still_then : (control : Control) → IsStill own control last.deeds c → IsStill own control w.deeds c

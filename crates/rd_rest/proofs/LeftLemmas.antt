@@ -20,7 +20,7 @@ use Rattle.rd_journals.proofs.DeclaredLemmas.{bounded_fit}
 use Rattle.rd_journals.proofs.HeldLemmas.{turned_has}
 use Rattle.rd_journals.proofs.ReplyLemmas.{fit_at}
 use Rattle.rd_journals.specs.Orderly.{current}
-use Rattle.rd_rest.proofs.CompletedLemmas.{end_cases, entry_has, keeps_at, named_waits, not_over, ordered, parked_waits, waits_as}
+use Rattle.rd_rest.proofs.CompletedLemmas.{any_true, end_cases, entry_has, keeps_at, named_waits, not_over, ordered, parked_waits, waits_as}
 use Rattle.rd_rest.proofs.OverLemmas.{reached_over}
 use Rattle.rd_rest.proofs.ParkedLemmas.{reached_left_parked}
 use Rattle.rd_rest.proofs.WaitingLemmas.{waits_run}
@@ -61,14 +61,6 @@ all_three true true true e = (refl, refl, refl)
 all_three true true false e = absurd (cc e)
 all_three true false c e = absurd (cc e)
 all_three false b c e = absurd (cc e)
-
-pub any_true : {A : Type 0} (p : A → Bool) (xs : List A) → list_any p xs ≡ true → (x : A) × Has x xs × (p x ≡ true)
-any_true p [] e = absurd (cc e)
-any_true {A} p (y ∷ xs) e = by (p y) refl e (any_true p xs)
-  where
-    by : (b : Bool) → p y ≡ b → (b || list_any p xs) ≡ true → (list_any p xs ≡ true → (x : A) × Has x xs × (p x ≡ true)) → (x : A) × Has x (y ∷ xs) × (p x ≡ true)
-    by true here e rest = (y, inl refl, here)
-    by false here e rest = let (x, has, is) = rest e in (x, inr has, is)
 
 pub any_of : {A : Type 0} (p : A → Bool) (xs : List A) (x : A) → Has x xs → p x ≡ true → list_any p xs ≡ true
 any_of p [] x has e = absurd has

@@ -38,6 +38,10 @@ not_true : (b : Bool) (c : NextStep) → where_true b c ≡ [] → b ≡ false
 not_true true c none = absurd (cc none)
 not_true false c none = refl
 
+clash : (b : Bool) → b ≡ false → b ≡ true → ⊥
+clash true off on = cc (off)
+clash false off on = cc (on)
+
 none_of : {A : Type 0} (f : A → List NextStep) (xs : List A) → flat_map f xs ≡ [] → (x : A) → Has x xs → f x ≡ []
 none_of f [] none x has = absurd has
 none_of f (y ∷ xs) none x (inl here) = ap f here ∙ (nothing_in (f y) (flat_map f xs) none).0
@@ -90,7 +94,7 @@ module _ (w : WorldState) (none : choices w ≡ []) where
           none_of (λ hand. where_true (is_enabled w (apply_job hand)) (event (apply_job hand))) (hand_numbers w) (nothing_in _ _ none).1 (suc i) (number_there w i below) in
       let off : is_hand_full w (suc i) ≡ false = not_true (is_enabled w (apply_job (suc i))) (event (apply_job (suc i))) quiet in
       let full : is_hand_full w (suc i) ≡ true = ap (λ (o : Option (Option (ℕ × Job))). option_map_or is_some o false) (hand_there w i ∙ is) in
-      cc (off, full)
+      clash (is_hand_full w (suc i)) off full
 
   no_message : client_has_message w ≡ false
   no_message =
