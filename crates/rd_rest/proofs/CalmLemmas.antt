@@ -1,14 +1,12 @@
 -- What happens but for a channel's end and what hands do: no hand changes, no station gives a job to a hand, and none stores that its device was dropped.
-use Rattle.std.proofs.Common.{◌≡◌, ◌⊎◌, ◌∙◌, refl, sym, ap, subst, inl, inr, ℕ, Bool, true, false, cond, List, [], ◌∷◌, ◌++◌, map, fold, Some, None, Option, Result, Ok, Err, append-nil, append_assoc}
+use Rattle.std.proofs.Common.{◌≡◌, ◌∙◌, refl, sym, ap, subst, inl, inr, ℕ, Bool, true, false, cond, List, [], ◌∷◌, ◌++◌, map, fold, Some, None, Option, Result, Ok, Err, append-nil, append_assoc}
 use Rattle.std.specs.Prelude.{if◌then◌else◌, nat_le, not}
 use Rattle.std.specs.Map.{lookup}
 use Rattle.std.specs.Ordering.{nat_cmp}
 use Rattle.std.specs.BTreeMap.{is_at}
-use Rattle.std.specs.Option.{option_map_or}
 use Rattle.rd_base.specs.declared.journal.Cause.TheVariants.{Dropped, Removed}
 use Rattle.rd_base.specs.declared.journal.Item.{Item}
 use Rattle.rd_base.specs.declared.journal.Item.TheVariants.{Came, Cancelled, Cut, Sent}
-use Rattle.rd_base.specs.declared.journal.Key.{Key}
 use Rattle.rd_client.specs.Core as client
 use Rattle.rd_client.specs.Core.{client_hear, listed}
 use Rattle.rd_client.specs.declared.heard.Heard.{Heard}
@@ -30,10 +28,10 @@ use Rattle.rd_station.specs.declared.refusals.PutWhy.{PutWhy}
 use Rattle.rd_station.specs.declared.refusals.PutWhy.TheVariants as why
 use Rattle.rd_station.proofs.Members.{has_append, map_has}
 use Rattle.rd_world.specs.declared.device.SessionDevice.{SessionDevice}
-use Rattle.rd_world.specs.Devices.{PrinterNames, device_cut, printer_data}
+use Rattle.rd_world.specs.Devices.{PrinterNames, device_cut}
 use Rattle.rd_world.specs.Events.{refreshing}
 use Rattle.rd_world.specs.Hearing.{after_opening, announcing, client_hears, heard_by_client, put_at, put_by, putting, refused_put, with_client}
-use Rattle.rd_world.specs.Talk.{Deed, Has, client_reads}
+use Rattle.rd_world.specs.Talk.{Has, client_reads}
 use Rattle.rd_world.specs.World.{WorldState, station_at, with_deed, with_station}
 
 abbrev Of : Type 0

@@ -1,5 +1,5 @@
 -- Each request that was read on the open channel was answered, or waits in its device, where nothing can happen by itself and no job is kept back.
-use Rattle.std.proofs.Common.{◌≡◌, ◌≢◌, ◌⊎◌, ◌∙◌, refl, sym, ap, subst, inl, inr, ℕ, ◌+◌, ◌<◌, ◌≤◌, ◌==◌, ◌&&◌, ◌||◌, not, Bool, true, false, cond, arith, List, [], ◌∷◌, ◌++◌, length, map, reverse, Some, None, Option, eqb-true, eq-eqb, append-nil}
+use Rattle.std.proofs.Common.{◌≡◌, ◌⊎◌, ◌∙◌, refl, sym, ap, subst, inl, inr, ℕ, ◌≤◌, ◌==◌, ◌&&◌, ◌||◌, not, Bool, true, false, cond, arith, List, [], ◌∷◌, ◌++◌, length, map, reverse, Some, None, Option, eqb-true, eq-eqb}
 use Rattle.std.specs.Prelude.{Contains, filter, filter_map}
 use Rattle.std.specs.List.{cons_option, flat_map, list_any}
 use Rattle.std.specs.Map.{lookup}
@@ -13,27 +13,23 @@ use Rattle.rd_base.specs.declared.journal.Cause.TheVariants.{Dropped, Removed}
 use Rattle.rd_base.specs.declared.journal.Item.{Item}
 use Rattle.rd_base.specs.declared.journal.Item.TheVariants.{Came, Cancelled, Cut, Ran, Sent}
 use Rattle.rd_base.specs.declared.journal.Key.{Key}
-use Rattle.rd_base.specs.Lawful.{IsBefore}
 use Rattle.rd_directs.specs.Turns.{kept_at, never, said}
 use Rattle.rd_drive.specs.Device.{Parked}
 use Rattle.rd_drive.specs.Replies.{last_state_by}
 use Rattle.rd_drive.specs.declared.plan.Job.{Job}
 use Rattle.rd_world.proofs.Messages.{head_read}
 use Rattle.rd_irp.specs.declared.completion.Head.{Head}
-use Rattle.rd_irp.specs.declared.completion.Reply.{Reply}
 use Rattle.rd_irp.specs.declared.request.Request.{Request}
 use Rattle.rd_journals.proofs.ClientLemmas.{channel_open}
 use Rattle.rd_journals.proofs.DeclaredLemmas.{bounded_fit}
 use Rattle.rd_journals.proofs.RunLemmas.{reached_orderly}
 use Rattle.rd_journals.specs.Orderly.{Orderly, current}
-use Rattle.rd_journals.specs.Stations.{IsOn}
 use Rattle.rd_pending.proofs.MapLemmas.{same_key}
 use Rattle.rd_rest.proofs.OverLemmas.{reached_over}
 use Rattle.rd_rest.proofs.RestLemmas.{rest_at}
 use Rattle.rd_rest.proofs.TurnsLemmas.{reached_in_turn}
-use Rattle.rd_rest.specs.Rest.{IsAtRest}
 use Rattle.rd_runs.proofs.HostLemmas.{host_channel}
-use Rattle.rd_runs.proofs.Resting.{IsQuiet, quiet}
+use Rattle.rd_runs.proofs.Resting.{quiet}
 use Rattle.rd_runs.proofs.Together.{known}
 use Rattle.rd_runs.specs.Moves.{Reached}
 use Rattle.rd_runs.specs.Premises.{RunPremises}
@@ -59,7 +55,7 @@ use Rattle.rd_world.specs.Run.{choices, declared_devices}
 use Rattle.rd_world.specs.Session.{replies_in}
 use Rattle.rd_world.specs.Talk as deed
 use Rattle.rd_world.specs.Talk.{Deed, EachAfter, Has, answered, asked, client_read, client_reads, completes, head_in, indices_of, is_request, journal, message_asks_pair, message_has_pair, open_channel, request_at, request_in}
-use Rattle.rd_world.specs.Told.{Answers, AreAnswered, CompletesWith, Replies, came, came_as, is_of_device, requests_to, sent, sent_at, told}
+use Rattle.rd_world.specs.Told.{Answers, AreAnswered, Replies, came, came_as, is_of_device, requests_to, sent, sent_at, told}
 use Rattle.rd_world.specs.World.{WorldState, station_at}
 use Rattle.rd_world.specs.declared.device.SessionDevice.{SessionDevice}
 
@@ -77,7 +73,7 @@ option_more : {A : Type 0} (x : A) (o : Option A) (xs : List A) → Has x xs →
 option_more x None xs has = has
 option_more x (Some y) xs has = inr has
 
-any_true : {A : Type 0} (p : A → Bool) (xs : List A) → list_any p xs ≡ true → (x : A) × Has x xs × (p x ≡ true)
+pub any_true : {A : Type 0} (p : A → Bool) (xs : List A) → list_any p xs ≡ true → (x : A) × Has x xs × (p x ≡ true)
 any_true p [] e = absurd (cc e)
 any_true {A} p (y ∷ xs) e = by (p y) refl e (any_true p xs)
   where

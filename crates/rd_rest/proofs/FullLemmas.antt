@@ -1,6 +1,6 @@
 -- A job is kept back only while its station is full. A device has at most 64 requests waiting in it, so where nothing can happen by itself none is kept back.
-use Rattle.std.proofs.Common.{◌≡◌, ◌∙◌, refl, sym, ap, subst, inl, inr, ℕ, zero, suc, ◌+◌, ◌-◌, ◌<◌, ◌≤◌, ◌==◌, ◌&&◌, not, Bool, true, false, cond, arith, List, [], ◌∷◌, ◌++◌, length, map, fold, Some, None, Option, Result, Ok, Err, is_some, eqb-true}
-use Rattle.std.specs.Prelude.{if◌then◌else◌, find, filter, nat_le, nat_lt}
+use Rattle.std.proofs.Common.{◌≡◌, ◌∙◌, refl, sym, ap, subst, ℕ, zero, suc, ◌-◌, ◌≤◌, ◌==◌, ◌&&◌, not, Bool, true, false, cond, arith, List, [], ◌∷◌, length, map, fold, Some, None, Option, Result, Ok, Err, is_some, eqb-true}
+use Rattle.std.specs.Prelude.{if◌then◌else◌, find, nat_le, nat_lt}
 use Rattle.std.specs.Map.{lookup}
 use Rattle.std.specs.Ordering.{nat_cmp}
 use Rattle.std.specs.BTreeMap.{is_at}
@@ -25,10 +25,10 @@ use Rattle.rd_irp.specs.declared.op.Op.{Op}
 use Rattle.rd_irp.specs.declared.op.Op.TheVariants as op
 use Rattle.rd_journals.proofs.DeclaredLemmas.{bounded_fit}
 use Rattle.rd_journals.proofs.DeviceLemmas.{comes}
-use Rattle.rd_journals.proofs.HeldLemmas.{found_then, has_elsewhere, has_here}
+use Rattle.rd_journals.proofs.HeldLemmas.{has_elsewhere, has_here}
 use Rattle.rd_journals.proofs.RunLemmas.{not_opened, reached_orderly}
 use Rattle.rd_journals.specs.Orderly.{Orderly}
-use Rattle.rd_journals.specs.Stations.{AreFit, IsFit, IsOn}
+use Rattle.rd_journals.specs.Stations.{IsFit, IsOn}
 use Rattle.rd_pending.specs.declared.calls.SubmitNo.{SubmitNo}
 use Rattle.rd_pending.specs.declared.calls.Taken.{Taken}
 use Rattle.rd_pending.specs.declared.calls.TakeNo.{TakeNo}
@@ -36,7 +36,6 @@ use Rattle.rd_pending.specs.declared.calls.Handle.{Handle}
 use Rattle.rd_pending.specs.declared.calls.Target.{Target}
 use Rattle.rd_pending.specs.Table as table
 use Rattle.rd_pending.specs.Table.{TableState}
-use Rattle.rd_printer.proofs.EntryLemmas.{lookup-inserted}
 use Rattle.rd_rest.proofs.RestLemmas.{rest_at}
 use Rattle.rd_runs.proofs.BeginningLemmas.{Unset, begins_as}
 use Rattle.rd_runs.proofs.Parts.{announced_by, cut_by, refreshed_by, told_added, told_removed}
@@ -60,7 +59,6 @@ use Rattle.rd_station.specs.declared.answers.Completion.{Completion}
 use Rattle.rd_station.specs.declared.answers.Given.{Given}
 use Rattle.rd_station.specs.declared.answers.Given.TheVariants as given
 use Rattle.rd_station.specs.declared.held.InHand.{InHand}
-use Rattle.rd_station.specs.declared.held.ParkedJob.{ParkedJob}
 use Rattle.rd_station.specs.declared.refusals.AnnounceNo.{AnnounceNo}
 use Rattle.rd_station.specs.declared.refusals.AnnounceNo.TheVariants as no
 use Rattle.rd_station.specs.declared.refusals.PutWhy.{PutWhy}
@@ -70,12 +68,11 @@ use Rattle.rd_world.specs.declared.device.SessionDevice.TheVariants as session
 use Rattle.rd_world.specs.Devices.{PrinterNames, device_cut, device_cuts, device_parked, device_runs}
 use Rattle.rd_world.specs.Events as event
 use Rattle.rd_world.specs.Events.{Event, act, asks, came_of, collects_from, comes_of_asking, completion_message, cutting, hand_at, is_close, is_enabled, issues_next, refreshing, refusal_of, takes_job_from, target_of}
-use Rattle.rd_world.specs.Hearing.{after_opening, all_take, announcing, client_handles, client_handles_all, client_handles_first, client_hears, ends_line, given_handle, heard_by_client, host_handles, host_handles_first, host_hears, next_asked, put_at, put_by, putting, refused_put, reported_outcome, takes_awaited, takes_from, takes_outcome, tries, tries_kept, with_client, with_outcome}
+use Rattle.rd_world.specs.Hearing.{all_take, announcing, client_handles, client_handles_all, client_handles_first, client_hears, ends_line, given_handle, heard_by_client, host_handles, host_handles_first, host_hears, next_asked, put_at, put_by, putting, refused_put, reported_outcome, takes_awaited, takes_from, takes_outcome, tries, tries_kept, with_client, with_outcome}
 use Rattle.rd_world.specs.Host.{next_message, side_sends}
-use Rattle.rd_world.specs.Opening.{bare_lines}
-use Rattle.rd_world.specs.Run.{choices, declared_devices, world_of}
+use Rattle.rd_world.specs.Run.{choices, world_of}
 use Rattle.rd_world.specs.Talk.{Has, client_reads, completes, takes}
-use Rattle.rd_world.specs.World.{ApplicationState, Asked, Kept, WayState, WorldState, application_at, client_sends, first_message, handling, handling_by, having_read, host_sends, most_messages, station_at, with_application, with_deed, with_station, with_table}
+use Rattle.rd_world.specs.World.{ApplicationState, Asked, Kept, WayState, WorldState, application_at, client_sends, handling, having_read, host_sends, most_messages, station_at, with_application, with_deed, with_station, with_table}
 
 abbrev Of : Type 0
 Of = StationState SessionDevice

@@ -1,36 +1,25 @@
 -- Each job that a station gave to a hand is in one; and where a device was cut off last since a channel ended, its journal names keys of earlier channels.
-use Rattle.std.proofs.Common.{◌≡◌, ◌≢◌, ◌⊎◌, ◌∙◌, refl, sym, ap, subst, inl, inr, ℕ, zero, suc, ◌+◌, ◌-◌, ◌<◌, ◌==◌, Bool, true, false, cond, arith, List, [], ◌∷◌, ◌++◌, map, reverse, fold, take, drop, Some, None, Option, append-nil, eq-eqb}
-use Rattle.std.specs.Prelude.{if◌then◌else◌, filter, find, is_none, not, slice_get}
-use Rattle.std.specs.Map.{lookup}
-use Rattle.std.specs.Ordering.{nat_cmp}
-use Rattle.std.specs.BTreeMap.{is_at}
+use Rattle.std.proofs.Common.{◌≡◌, ◌≢◌, ◌⊎◌, ◌∙◌, refl, sym, ap, subst, inl, inr, ℕ, zero, suc, ◌-◌, ◌==◌, Bool, true, false, cond, arith, List, [], ◌∷◌, ◌++◌, map, fold, take, drop, Some, None, Option, append-nil, eq-eqb}
+use Rattle.std.specs.Prelude.{filter, find, is_none, not, slice_get}
 use Rattle.std.specs.Option.{option_map_or}
 use Rattle.std.proofs.lemmas.Bool.Decides.{nat_tests}
 use Rattle.rd_base.specs.declared.journal.Cause.TheVariants.{Dropped}
 use Rattle.rd_base.specs.declared.journal.Item.{Item}
 use Rattle.rd_base.specs.declared.journal.Item.TheVariants.{Cancelled, Cut, Ran}
 use Rattle.rd_base.specs.declared.journal.Key.{Key}
-use Rattle.rd_client.specs.Core.{Outgoing}
 use Rattle.rd_drive.specs.Device.{is_parked, is_starved}
 use Rattle.rd_drive.specs.Stepped.{Stepped}
 use Rattle.rd_drive.specs.declared.plan.Job.{Job}
 use Rattle.rd_irp.specs.Fits.{kind_of}
-use Rattle.rd_journals.proofs.DeclaredLemmas.{bounded_fit}
 use Rattle.rd_journals.proofs.HeldLemmas.{found_then}
-use Rattle.rd_journals.proofs.RunLemmas.{behind_orderly}
-use Rattle.rd_journals.specs.Orderly.{Orderly, current}
-use Rattle.rd_rest.proofs.CalmLemmas.{Calm, IsCalm, added, all_refreshed_calm, calm_by, calm_not, calm_same, calm_station, collected_calm, hears_calm, put_calm, removed}
-use Rattle.rd_rest.specs.Rest.{AreInHands, AreOver}
+use Rattle.rd_rest.proofs.CalmLemmas.{Calm, IsCalm, added, all_refreshed_calm, calm_by, calm_same, calm_station, collected_calm, hears_calm, put_calm, removed}
+use Rattle.rd_rest.specs.Rest.{AreInHands}
 use Rattle.rd_runs.proofs.BeginningLemmas.{Unset, begins_as, first_idle}
 use Rattle.rd_runs.proofs.IdleLemmas.{AreIdle, cut_idle}
-use Rattle.rd_runs.proofs.Insides.{IsInside, Outside, added_inside, all_dropped_inside, all_refreshed_inside, applied_inside, hears_inside, put_inside, removed_inside, stationed}
 use Rattle.rd_runs.proofs.Parts.{IsBehind, MayBe, Part, accepts, adds_one, applies_one, begins, by_parts, client_gets, client_hears_one, client_keeps_part, client_sends_one, collects_one, done, draws_one, ends, hands_out, host_gets, host_hears_one, host_keeps_part, host_sends_one, idle_one, queues_one, reached_behind, refuses, removes_one, takes_one, tells_one, tries_one}
-use Rattle.rd_runs.proofs.Standing.{open_inside}
 use Rattle.rd_runs.specs.Moves.{Reached}
-use Rattle.rd_runs.specs.Premises.{RunPremises}
 use Rattle.rd_script.specs.declared.line.NumberedLine.{NumberedLine}
-use Rattle.rd_station.proofs.Members.{filter_has, find_has, has_append, has_left, has_right, key_self, same_key}
-use Rattle.rd_station.specs.Memory.{NamesKey}
+use Rattle.rd_station.proofs.Members.{filter_has, find_has, has_append, has_right, key_self, same_key}
 use Rattle.rd_station.specs.Station as station
 use Rattle.rd_station.specs.Station.{StationState, apply_from, cancelled_in_hand, is_ended, is_key, parked_after, ran, take_first}
 use Rattle.rd_station.specs.declared.answers.Applied.{Applied}
@@ -42,11 +31,11 @@ use Rattle.rd_station.specs.declared.held.InHand.{InHand}
 use Rattle.rd_station.specs.declared.held.ParkedJob.{ParkedJob}
 use Rattle.rd_world.specs.declared.device.SessionDevice.{SessionDevice}
 use Rattle.rd_world.specs.Devices.{PrinterNames}
-use Rattle.rd_world.specs.Events.{came_of, dropping, hand_at, is_hand_free, refreshing, with_hand}
+use Rattle.rd_world.specs.Events.{came_of, hand_at, is_hand_free, refreshing}
 use Rattle.rd_world.specs.Opening.{bare_lines}
 use Rattle.rd_world.specs.Run.{declared_devices, world_of}
-use Rattle.rd_world.specs.Talk.{Deed, Has, client_reads, open_channel}
-use Rattle.rd_world.specs.World.{WorldState, handling_by, station_at, with_deed, with_station}
+use Rattle.rd_world.specs.Talk.{Has}
+use Rattle.rd_world.specs.World.{WorldState, handling_by, station_at, with_station}
 
 abbrev Of : Type 0
 Of = StationState SessionDevice

@@ -1,5 +1,5 @@
 -- Where nothing can happen by itself, a request of the open channel is left waiting by the journals where one waits in a device.
-use Rattle.std.proofs.Common.{◌≡◌, ◌≢◌, ◌⊎◌, ◌∙◌, refl, sym, ap, subst, inl, inr, ℕ, ◌<◌, ◌==◌, ◌&&◌, ◌||◌, not, Bool, true, false, cond, arith, List, [], ◌∷◌, ◌++◌, map, reverse, Some, None, Option, eqb-true, eq-eqb}
+use Rattle.std.proofs.Common.{◌≡◌, ◌≢◌, ◌∙◌, refl, sym, ap, subst, inl, inr, ℕ, ◌==◌, ◌&&◌, ◌||◌, not, Bool, true, false, arith, List, [], ◌∷◌, ◌++◌, map, reverse, Some, Option, eqb-true, eq-eqb}
 use Rattle.std.specs.Prelude.{All, Contains}
 use Rattle.std.specs.List.{AllByRecursion, flat_map, list_any}
 use Rattle.std.specs.List.Sorted.{IsStrictlySortedBy}
@@ -20,7 +20,7 @@ use Rattle.rd_journals.proofs.DeclaredLemmas.{bounded_fit}
 use Rattle.rd_journals.proofs.HeldLemmas.{turned_has}
 use Rattle.rd_journals.proofs.ReplyLemmas.{fit_at}
 use Rattle.rd_journals.specs.Orderly.{current}
-use Rattle.rd_rest.proofs.CompletedLemmas.{end_cases, entry_has, flat_has, keeps_at, named_waits, not_over, ordered, parked_waits, waits_as}
+use Rattle.rd_rest.proofs.CompletedLemmas.{any_true, end_cases, entry_has, keeps_at, named_waits, not_over, ordered, parked_waits, waits_as}
 use Rattle.rd_rest.proofs.OverLemmas.{reached_over}
 use Rattle.rd_rest.proofs.ParkedLemmas.{reached_left_parked}
 use Rattle.rd_rest.proofs.WaitingLemmas.{waits_run}
@@ -34,15 +34,15 @@ use Rattle.rd_station.specs.Memory.{NamesKey}
 use Rattle.rd_station.specs.Station.{StationState}
 use Rattle.rd_station.specs.Tied.{as_parked}
 use Rattle.rd_station.specs.declared.held.ParkedJob.{ParkedJob}
-use Rattle.rd_told.proofs.PrintedLemmas.{device_left, keyed}
-use Rattle.rd_world.proofs.Journals.{HasRun, has_contains}
+use Rattle.rd_told.proofs.PrintedLemmas.{keyed}
+use Rattle.rd_world.proofs.Journals.{has_contains}
 use Rattle.rd_world.proofs.OpeningLemmas.{declared_openable}
 use Rattle.rd_world.specs.Acts.{before_end, some_wait, waiting_in, waiting_keys}
 use Rattle.rd_world.specs.Devices.{Declared, device_cut, device_parked, device_step}
 use Rattle.rd_world.specs.Recording.{request_of}
 use Rattle.rd_world.specs.Opening.{bare_lines}
 use Rattle.rd_world.specs.Run.{choices, declared_devices, is_left_parked, some_left}
-use Rattle.rd_world.specs.Talk.{Deed, Has, journal, open_channel}
+use Rattle.rd_world.specs.Talk.{Has, journal, open_channel}
 use Rattle.rd_world.specs.World.{WorldState, station_at}
 use Rattle.rd_world.specs.declared.device.SessionDevice.{SessionDevice}
 
@@ -51,7 +51,7 @@ Of = StationState SessionDevice
 
 -- ---- tests
 
-same_tests : (a b : Bool) → (a ≡ true → b ≡ true) → (b ≡ true → a ≡ true) → a ≡ b
+pub same_tests : (a b : Bool) → (a ≡ true → b ≡ true) → (b ≡ true → a ≡ true) → a ≡ b
 same_tests true b on off = sym (on refl)
 same_tests false true on off = off refl
 same_tests false false on off = refl
@@ -62,14 +62,6 @@ all_three true true false e = absurd (cc e)
 all_three true false c e = absurd (cc e)
 all_three false b c e = absurd (cc e)
 
-pub any_true : {A : Type 0} (p : A → Bool) (xs : List A) → list_any p xs ≡ true → (x : A) × Has x xs × (p x ≡ true)
-any_true p [] e = absurd (cc e)
-any_true {A} p (y ∷ xs) e = by (p y) refl e (any_true p xs)
-  where
-    by : (b : Bool) → p y ≡ b → (b || list_any p xs) ≡ true → (list_any p xs ≡ true → (x : A) × Has x xs × (p x ≡ true)) → (x : A) × Has x (y ∷ xs) × (p x ≡ true)
-    by true here e rest = (y, inl refl, here)
-    by false here e rest = let (x, has, is) = rest e in (x, inr has, is)
-
 pub any_of : {A : Type 0} (p : A → Bool) (xs : List A) (x : A) → Has x xs → p x ≡ true → list_any p xs ≡ true
 any_of p [] x has e = absurd has
 any_of p (y ∷ xs) x (inl here) e = ap (λ (b : Bool). b || list_any p xs) (sym (ap p here) ∙ e)
@@ -79,7 +71,7 @@ any_of {A} p (y ∷ xs) x (inr later) e = by (p y) (any_of p xs x later e)
     by true e = refl
     by false e = e
 
-flat_in : {A B : Type 0} (f : A → List B) (xs : List A) (y : B) → Has y (flat_map f xs) → (x : A) × Has x xs × Has y (f x)
+pub flat_in : {A B : Type 0} (f : A → List B) (xs : List A) (y : B) → Has y (flat_map f xs) → (x : A) × Has x xs × Has y (f x)
 flat_in f [] y has = absurd has
 flat_in f (x ∷ xs) y has = elim (has_append y (f x) (flat_map f xs) has) [ inl here ↦ (x, inl refl, here) | inr later ↦ let (z, among, there) = flat_in f xs y later in (z, inr among, there) ]
 
@@ -89,18 +81,18 @@ all_has P (y ∷ xs) all x (inl here) = subst P (sym here) all.0
 all_has P (y ∷ xs) all x (inr later) = all_has P xs all.1 x later
 
 -- an entry is found under its key
-found_of : {X : Type 0} (es : List (ℕ × X)) → IsStrictlySortedBy nat_cmp (keys_of es) → (e : ℕ × X) → Has e es → lookup (is_at (nat_cmp e.0)) es ≡ Some e.1
+pub found_of : {X : Type 0} (es : List (ℕ × X)) → IsStrictlySortedBy nat_cmp (keys_of es) → (e : ℕ × X) → Has e es → lookup (is_at (nat_cmp e.0)) es ≡ Some e.1
 found_of es rise e has = all_has (λ x. lookup (is_at (nat_cmp x.0)) es ≡ Some x.1) es (each_found es rise (λ k s. lookup (is_at (nat_cmp k)) es ≡ Some s) (λ k s there. there)) e has
 
-key_has : {X : Type 0} (es : List (ℕ × X)) (k : ℕ) → Has k (keys_of es) → (x : X) × Has (k, x) es
+pub key_has : {X : Type 0} (es : List (ℕ × X)) (k : ℕ) → Has k (keys_of es) → (x : X) × Has (k, x) es
 key_has es k has = let (e, among, same) = map_has (λ e. e.0) k es has in (e.1, subst (λ (n : ℕ). Has (n, e.1) es) (sym same) among)
 
 module _ (lines : List NumberedLine) (starves : Key → Bool) (premises : RunPremises lines) (w : WorldState) (reached : Reached lines starves w) (none : choices w ≡ [])
     (is : open_channel w.deeds ≡ Some w.channels) where
-  abbrev own : List (ℕ × Declared)
+  abbrev pub own : List (ℕ × Declared)
   own = declared_devices (bare_lines lines)
 
-  rising : IsStrictlySortedBy nat_cmp (keys_of own)
+  pub rising : IsStrictlySortedBy nat_cmp (keys_of own)
   rising = (declared_openable lines premises.declared).rise
 
   stations_rise : IsStrictlySortedBy nat_cmp (keys_of w.stations)
@@ -186,7 +178,7 @@ module _ (lines : List NumberedLine) (starves : Key → Bool) (premises : RunPre
       ]
 
   -- where the journal of a device ends in a drop, nothing that waited by then is of the open channel
-  over_waits : (d : ℕ) (s : Of) → station_at w d ≡ Some s → (x : Declared) → lookup (is_at (nat_cmp d)) own ≡ Some x → (earlier : List Item) → journal d w.deeds ≡ Cut Dropped ∷ earlier
+  pub over_waits : (d : ℕ) (s : Of) → station_at w d ≡ Some s → (x : Declared) → lookup (is_at (nat_cmp d)) own ≡ Some x → (earlier : List Item) → journal d w.deeds ≡ Cut Dropped ∷ earlier
       → (p : Parked) → Has p (device_parked (last_state_by device_step device_cut (request_of w.deeds) x.state (reverse earlier))) → (p.key).channel ≡ w.channels → ⊥
   over_waits d s there x at earlier e p has here =
       let names = named_of_waiting d s there x at earlier e p has in

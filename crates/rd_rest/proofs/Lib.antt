@@ -8,3 +8,8 @@ pub mod TurnsLemmas
 pub mod CompletedLemmas
 pub mod WaitingLemmas
 pub mod LeftLemmas
+pub mod DroppedLemmas
+pub mod LastLemmas
+pub mod EndLemmas
+pub mod StillLemmas
+pub mod RunLemmas

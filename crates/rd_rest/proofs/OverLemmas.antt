@@ -1,13 +1,11 @@
 -- There is a hand; and where a device was cut off last since a channel ended, its journal names keys of earlier channels.
-use Rattle.std.proofs.Common.{◌≡◌, ◌⊎◌, ◌∙◌, refl, sym, ap, subst, inl, inr, ℕ, zero, suc, ◌+◌, ◌-◌, ◌<◌, ◌≤◌, Bool, true, false, arith, List, [], ◌∷◌, ◌++◌, length, map, reverse, fold, take, drop, Some, None, Option, append-nil, eq-eqb}
+use Rattle.std.proofs.Common.{◌≡◌, ◌⊎◌, ◌∙◌, refl, sym, ap, subst, inl, inr, ℕ, zero, suc, ◌+◌, ◌-◌, ◌<◌, ◌≤◌, Bool, arith, List, [], ◌∷◌, ◌++◌, length, map, reverse, fold, take, drop, Some, None, Option, append-nil}
 use Rattle.std.specs.Prelude.{replicate}
-use Rattle.std.specs.List.{AllByRecursion}
 use Rattle.std.specs.Option.{option_map_or}
 use Rattle.rd_base.specs.declared.journal.Cause.TheVariants.{Dropped}
 use Rattle.rd_base.specs.declared.journal.Item.{Item}
 use Rattle.rd_base.specs.declared.journal.Item.TheVariants.{Cut}
 use Rattle.rd_base.specs.declared.journal.Key.{Key}
-use Rattle.rd_client.specs.Core.{Outgoing}
 use Rattle.rd_drive.specs.declared.plan.Job.{Job}
 use Rattle.rd_journals.proofs.HeldLemmas.{found_then}
 use Rattle.rd_journals.proofs.RunLemmas.{behind_orderly}
@@ -15,12 +13,12 @@ use Rattle.rd_journals.proofs.ServingLemmas.{all_dropped}
 use Rattle.rd_journals.proofs.StandingLemmas.{still_not}
 use Rattle.rd_journals.specs.Orderly.{Orderly, current}
 use Rattle.rd_journals.specs.Stations.{AreFit}
-use Rattle.rd_rest.proofs.CalmLemmas.{Calm, IsCalm, added, all_refreshed_calm, calm_by, calm_same, calm_station, collected_calm, hears_calm, put_calm, removed}
+use Rattle.rd_rest.proofs.CalmLemmas.{Calm, IsCalm, added, all_refreshed_calm, collected_calm, hears_calm, put_calm, removed}
 use Rattle.rd_rest.proofs.HandLemmas.{Gave, gave_back, took}
 use Rattle.rd_rest.specs.Rest.{AreOver}
 use Rattle.rd_runs.proofs.BeginningLemmas.{Unset, begins_as}
-use Rattle.rd_runs.proofs.Insides.{IsInside, Outside, added_inside, all_refreshed_inside, hears_inside, put_inside, removed_inside, stationed}
-use Rattle.rd_runs.proofs.Parts.{IsBehind, MayBe, Part, accepts, adds_one, applies_one, begins, by_parts, client_gets, client_hears_one, client_keeps_part, client_sends_one, collects_one, done, draws_one, ends, hands_out, host_gets, host_hears_one, host_keeps_part, host_sends_one, idle_one, queues_one, reached_behind, refuses, removes_one, takes_one, tells_one, tries_one}
+use Rattle.rd_runs.proofs.Insides.{IsInside, Outside, added_inside, hears_inside, put_inside, removed_inside, stationed}
+use Rattle.rd_runs.proofs.Parts.{MayBe, Part, accepts, adds_one, applies_one, begins, by_parts, client_gets, client_hears_one, client_keeps_part, client_sends_one, collects_one, done, draws_one, ends, hands_out, host_gets, host_hears_one, host_keeps_part, host_sends_one, idle_one, queues_one, reached_behind, refuses, removes_one, takes_one, tells_one, tries_one}
 use Rattle.rd_runs.proofs.Standing.{open_inside}
 use Rattle.rd_runs.specs.Moves.{Reached}
 use Rattle.rd_runs.specs.Premises.{RunPremises}
@@ -34,7 +32,7 @@ use Rattle.rd_world.proofs.OpeningLemmas.{first_within, lines_begin, setting_wit
 use Rattle.rd_world.specs.declared.device.SessionDevice.{SessionDevice}
 use Rattle.rd_world.specs.declared.opening.Settings.{Settings}
 use Rattle.rd_world.specs.Devices.{PrinterNames}
-use Rattle.rd_world.specs.Events.{came_of, deed_on, dropping, refreshing, with_hand}
+use Rattle.rd_world.specs.Events.{came_of, refreshing}
 use Rattle.rd_world.specs.Opening.{AreDeclarable, AreSettings, bare_lines, first_settings, with_line_setting, with_setting}
 use Rattle.rd_world.specs.Run.{declared_devices, world_of}
 use Rattle.rd_world.specs.Talk as deed

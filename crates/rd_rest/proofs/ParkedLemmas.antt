@@ -1,5 +1,5 @@
 -- What waits inside a device ran, and its journal says that it was left waiting.
-use Rattle.std.proofs.Common.{◌≡◌, ◌⊎◌, ◌∙◌, refl, sym, ap, subst, inl, inr, ℕ, Bool, true, false, List, [], ◌∷◌, ◌++◌, map, fold, Some, None, Option}
+use Rattle.std.proofs.Common.{◌≡◌, ◌∙◌, refl, sym, ap, subst, inl, inr, ℕ, Bool, true, List, ◌++◌, map, fold, Some, None, Option}
 use Rattle.rd_base.specs.declared.journal.Item.{Item}
 use Rattle.rd_base.specs.declared.journal.Item.TheVariants.{Ran}
 use Rattle.rd_base.specs.declared.journal.Key.{Key}
@@ -8,7 +8,7 @@ use Rattle.rd_rest.proofs.CalmLemmas.{Calm, IsCalm, added, all_refreshed_calm, c
 use Rattle.rd_rest.proofs.HandLemmas.{Gave, begins_idle, gave_back, took, took_parked}
 use Rattle.rd_rest.specs.Rest.{AreLeftParked}
 use Rattle.rd_runs.proofs.IdleLemmas.{cut_idle}
-use Rattle.rd_runs.proofs.Parts.{IsBehind, MayBe, Part, accepts, adds_one, applies_one, begins, by_parts, client_gets, client_hears_one, client_keeps_part, client_sends_one, collects_one, done, draws_one, ends, hands_out, host_gets, host_hears_one, host_keeps_part, host_sends_one, idle_one, queues_one, reached_behind, refuses, removes_one, takes_one, tells_one, tries_one}
+use Rattle.rd_runs.proofs.Parts.{MayBe, Part, accepts, adds_one, applies_one, begins, by_parts, client_gets, client_hears_one, client_keeps_part, client_sends_one, collects_one, done, draws_one, ends, hands_out, host_gets, host_hears_one, host_keeps_part, host_sends_one, idle_one, queues_one, reached_behind, refuses, removes_one, takes_one, tells_one, tries_one}
 use Rattle.rd_runs.specs.Moves.{Reached}
 use Rattle.rd_script.specs.declared.line.NumberedLine.{NumberedLine}
 use Rattle.rd_station.proofs.Members.{has_left, has_right}
@@ -19,9 +19,8 @@ use Rattle.rd_station.specs.declared.held.ParkedJob.{ParkedJob}
 use Rattle.rd_world.specs.declared.device.SessionDevice.{SessionDevice}
 use Rattle.rd_world.specs.Devices.{PrinterNames}
 use Rattle.rd_world.specs.Events.{came_of, refreshing}
-use Rattle.rd_world.specs.Run.{world_of}
 use Rattle.rd_world.specs.Talk.{Has}
-use Rattle.rd_world.specs.World.{WorldState, handling_by, station_at, with_station}
+use Rattle.rd_world.specs.World.{WorldState, handling_by, with_station}
 
 abbrev Of : Type 0
 Of = StationState SessionDevice

@@ -1,19 +1,18 @@
 -- Where nothing can happen by itself no hand holds a job, and no station has one that waits for a hand, or is in one, or is to be collected.
-use Rattle.std.proofs.Common.{◌≡◌, ◌∙◌, refl, sym, ap, subst, inl, inr, ℕ, zero, suc, ◌+◌, ◌-◌, ◌<◌, ◌≤◌, ◌==◌, ◌&&◌, Bool, true, false, cond, arith, List, [], ◌∷◌, ◌++◌, length, map, fold, Some, None, Option}
-use Rattle.std.specs.Prelude.{if◌then◌else◌, is_none, is_some, not, replicate, slice_get}
-use Rattle.std.specs.List.{AllByRecursion, flat_map, range_with_len}
+use Rattle.std.proofs.Common.{◌≡◌, ◌∙◌, refl, sym, ap, subst, inl, inr, ℕ, zero, suc, ◌+◌, ◌-◌, ◌<◌, ◌≤◌, ◌==◌, ◌&&◌, Bool, true, false, cond, arith, List, [], ◌∷◌, ◌++◌, length, map, Some, None, Option}
+use Rattle.std.specs.Prelude.{is_none, is_some, not, slice_get}
+use Rattle.std.specs.List.{flat_map, range_with_len}
 use Rattle.std.specs.Map.{lookup}
 use Rattle.std.specs.Ordering.{nat_cmp}
 use Rattle.std.specs.BTreeMap.{is_at}
 use Rattle.std.specs.Option.{option_map_or}
 use Rattle.std.proofs.lemmas.Bool.Decides.{nat_tests}
 use Rattle.rd_base.specs.declared.journal.Key.{Key}
-use Rattle.rd_client.specs.Core.{Outgoing}
 use Rattle.rd_drive.specs.declared.plan.Job.{Job}
 use Rattle.rd_pending.proofs.MapLemmas.{same_key}
 use Rattle.rd_rest.proofs.HandLemmas.{reached_in_hands}
 use Rattle.rd_rest.proofs.OverLemmas.{reached_some}
-use Rattle.rd_rest.specs.Rest.{AreInHands, IsAtRest}
+use Rattle.rd_rest.specs.Rest.{IsAtRest}
 use Rattle.rd_runs.specs.Moves.{Reached}
 use Rattle.rd_runs.specs.Premises.{RunPremises}
 use Rattle.rd_script.specs.declared.line.NumberedLine.{NumberedLine}
@@ -38,6 +37,10 @@ nothing_in (x ∷ xs) ys none = absurd (cc none)
 not_true : (b : Bool) (c : NextStep) → where_true b c ≡ [] → b ≡ false
 not_true true c none = absurd (cc none)
 not_true false c none = refl
+
+clash : (b : Bool) → b ≡ false → b ≡ true → ⊥
+clash true off on = cc (off)
+clash false off on = cc (on)
 
 none_of : {A : Type 0} (f : A → List NextStep) (xs : List A) → flat_map f xs ≡ [] → (x : A) → Has x xs → f x ≡ []
 none_of f [] none x has = absurd has
@@ -91,7 +94,7 @@ module _ (w : WorldState) (none : choices w ≡ []) where
           none_of (λ hand. where_true (is_enabled w (apply_job hand)) (event (apply_job hand))) (hand_numbers w) (nothing_in _ _ none).1 (suc i) (number_there w i below) in
       let off : is_hand_full w (suc i) ≡ false = not_true (is_enabled w (apply_job (suc i))) (event (apply_job (suc i))) quiet in
       let full : is_hand_full w (suc i) ≡ true = ap (λ (o : Option (Option (ℕ × Job))). option_map_or is_some o false) (hand_there w i ∙ is) in
-      cc (off, full)
+      clash (is_hand_full w (suc i)) off full
 
   no_message : client_has_message w ≡ false
   no_message =

@@ -1,5 +1,5 @@
 -- In each world that lines come to the requests that never came are in line, up to a last one; and all of them while the channel is open and nothing is wrong.
-use Rattle.std.proofs.Common.{◌≡◌, ◌∙◌, refl, sym, ap, subst, inl, inr, ℕ, ◌≤◌, Bool, List, [], ◌∷◌, ◌++◌, length, Some, None, Option, append_assoc}
+use Rattle.std.proofs.Common.{◌≡◌, ◌∙◌, refl, sym, ap, subst, inr, ℕ, ◌≤◌, Bool, List, [], ◌∷◌, ◌++◌, length, Some, None, Option, append_assoc}
 use Rattle.std.specs.List.{cons_option}
 use Rattle.rd_answered.proofs.GrowingLemmas.{part_grows}
 use Rattle.rd_answered.proofs.SessionLemmas.{reached_joins}
@@ -26,7 +26,7 @@ use Rattle.rd_script.specs.declared.line.NumberedLine.{NumberedLine}
 use Rattle.rd_world.proofs.Lists.{each_end, each_weaker}
 use Rattle.rd_world.specs.Joining.{IsAlone}
 use Rattle.rd_world.specs.Opening.{bare_lines}
-use Rattle.rd_world.specs.Run.{declared_devices, world_of}
+use Rattle.rd_world.specs.Run.{declared_devices}
 use Rattle.rd_world.specs.Talk.{Deed, EachAfter, EndsWith, Has, client_reads, journal, stored_by}
 use Rattle.rd_world.specs.World.{WorldState, handling_by}
 
