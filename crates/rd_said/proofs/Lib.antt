@@ -1,0 +1,3 @@
+pub mod RestLemmas
+pub mod SameLemmas
+pub mod MeetLemmas

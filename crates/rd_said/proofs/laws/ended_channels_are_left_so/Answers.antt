@@ -1,0 +1,7 @@
+use Rattle.std.proofs.Common.{refl}
+use Rattle.rd_said.proofs.RestLemmas.{left_over}
+use Rattle.rd_said.proofs.SameLemmas.{same_all}
+use Rattle.rd_said.proofs.laws.ended_channels_are_left_so.Goals as goal
+
+pub returns : goal.returns
+returns c n = refl
