@@ -1,3 +1,5 @@
 pub mod RestLemmas
 pub mod SameLemmas
+pub mod LastLemmas
 pub mod MeetLemmas
+pub mod EndingLemmas
