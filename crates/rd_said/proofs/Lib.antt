@@ -3,3 +3,5 @@ pub mod SameLemmas
 pub mod LastLemmas
 pub mod MeetLemmas
 pub mod EndingLemmas
+pub mod PartLemmas
+pub mod LeftLemmas
