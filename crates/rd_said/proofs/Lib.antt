@@ -5,3 +5,4 @@ pub mod MeetLemmas
 pub mod EndingLemmas
 pub mod PartLemmas
 pub mod LeftLemmas
+pub mod ToldLemmas
