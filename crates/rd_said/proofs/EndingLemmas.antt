@@ -1,37 +1,35 @@
 -- What a client has to send on the channel that is open is what would be left to be said if the channel ended.
-use Rattle.std.proofs.Common.{◌≡◌, ◌∙◌, refl, sym, ap, subst, inl, inr, ℕ, ◌+◌, ◌==◌, ◌&&◌, cond, Bool, true, false, arith, eq-eqb, eqb-true, List, [], ◌∷◌, ◌++◌, length, map, fold, Some, None, Option, append-nil}
+use Rattle.std.proofs.Common.{◌≡◌, ◌∙◌, refl, sym, ap, subst, inl, inr, ℕ, ◌+◌, ◌==◌, ◌&&◌, Bool, true, false, arith, eq-eqb, eqb-true, List, [], ◌∷◌, ◌++◌, length, map, fold, Some, None, Option, append-nil}
 use Rattle.std.specs.Prelude.{filter, if◌then◌else◌, not}
 use Rattle.std.specs.List.{AllByRecursion, cons_option}
 use Rattle.std.specs.Option.{IfSome, option_map_or}
 use Rattle.std.proofs.lemmas.List.Elements.{filter-append}
 use Rattle.rd_acted.proofs.TellLemmas.{TellsAs}
-use Rattle.rd_answered.specs.Refusing.{AllRefuse, AreSaying, IsSaying}
+use Rattle.rd_answered.specs.Refusing.{IsSaying}
 use Rattle.rd_base.specs.declared.journal.Cause.TheVariants.{Dropped}
 use Rattle.rd_base.specs.declared.journal.Item.{Item}
-use Rattle.rd_base.specs.declared.journal.Item.TheVariants.{Came, Cut}
+use Rattle.rd_base.specs.declared.journal.Item.TheVariants.{Cut}
 use Rattle.rd_base.specs.declared.journal.Key.{Key}
 use Rattle.rd_base.specs.Lawful.{IsBelow}
 use Rattle.rd_client.specs.Core.{Outgoing}
 use Rattle.rd_directs.specs.Turns.{DirectTurn, InTurn, kept_at, never, said}
-use Rattle.rd_irp.specs.declared.request.Request.{Request}
 use Rattle.rd_journals.proofs.CameLemmas.{never_came}
 use Rattle.rd_journals.proofs.HeldLemmas.{stored_deeds}
 use Rattle.rd_journals.proofs.ServingLemmas.{came_is_named}
-use Rattle.rd_journals.specs.Jobs.{IsAnswerOf, IsRefusalOf, IsSpelledOut}
-use Rattle.rd_journals.specs.Orderly.{HasStation, IsNext, Orderly}
-use Rattle.rd_journals.specs.Standing.{AreStanding, IsNamed, IsOut, IsStanding, IsUnserved, pending_of}
+use Rattle.rd_journals.specs.Jobs.{IsSpelledOut}
+use Rattle.rd_journals.specs.Orderly.{IsNext, Orderly}
+use Rattle.rd_journals.specs.Standing.{IsNamed, IsOut, IsStanding, IsUnserved, pending_of}
 use Rattle.rd_runs.proofs.KeysOn.{AnswersOn}
-use Rattle.rd_station.specs.Memory.{NamesKey}
 use Rattle.rd_station.specs.Station as station
 use Rattle.rd_station.specs.Station.{StationState}
 use Rattle.rd_world.specs.Devices.{Declared, device_cut}
 use Rattle.rd_world.specs.Events.{cutting, dropping}
-use Rattle.rd_world.specs.Talk.{Deed, EndsWith, Has, client_read, host_ends, is_request, journal, open_channel, request_at, stores}
+use Rattle.rd_world.specs.Talk.{Deed, EndsWith, Has, client_read, host_ends, is_request, journal, stores}
 use Rattle.rd_world.specs.Told.{came, requests_to, told, without_last}
 use Rattle.rd_world.specs.World.{Kept, WorldState, station_at, with_station}
 use Rattle.rd_world.specs.declared.device.SessionDevice.{SessionDevice}
 use Rattle.rd_said.proofs.LastLemmas.{IsKeptLast, last_asked, requests_end}
-use Rattle.rd_said.proofs.SameLemmas.{SameOn, left_same, same_by, same_none, same_one}
+use Rattle.rd_said.proofs.SameLemmas.{SameOn, same_by, same_none, same_one}
 use Rattle.rd_said.specs.Rest.{IsAnswerOn, RefusesUnserved, WasLeft}
 
 abbrev Of : Type 0

@@ -1,6 +1,6 @@
 -- A job that is kept back is that of the last request that was read.
-use Rattle.std.proofs.Common.{◌≡◌, ◌∙◌, refl, sym, ap, subst, inl, inr, ℕ, suc, ◌+◌, ◌==◌, ◌&&◌, cond, Bool, true, false, arith, eq-eqb, eqb-true, List, [], ◌∷◌, ◌++◌, length, map, fold, Some, None, Option, Result, Ok, Err}
-use Rattle.std.specs.Prelude.{filter, if◌then◌else◌, not}
+use Rattle.std.proofs.Common.{◌≡◌, ◌∙◌, refl, sym, ap, subst, ℕ, ◌+◌, ◌==◌, ◌&&◌, Bool, true, false, arith, eq-eqb, List, [], ◌∷◌, ◌++◌, length, map, fold, Some, None, Option, Result, Ok, Err}
+use Rattle.std.specs.Prelude.{filter, if◌then◌else◌}
 use Rattle.std.specs.Option.{option_map_or}
 use Rattle.rd_base.specs.declared.journal.Key.{Key}
 use Rattle.rd_client.specs.Core as client
@@ -17,7 +17,7 @@ use Rattle.rd_journals.proofs.ChannelLemmas.{all_refreshed, begun_on}
 use Rattle.rd_journals.proofs.RunLemmas.{behind_orderly, not_opened}
 use Rattle.rd_journals.specs.Orderly.{Orderly}
 use Rattle.rd_journals.specs.Stations.{AreFit}
-use Rattle.rd_runs.proofs.Parts.{IsBehind, MayBe, Part, accepts, adds_one, announced_by, applies_one, begins, by_parts, client_gets, client_hears_one, client_keeps_part, client_sends_one, collects_one, cut_by, done, draws_one, ends, hands_out, host_gets, host_hears_one, host_keeps_part, host_sends_one, idle_one, queues_one, refreshed_by, refuses, removes_one, takes_one, tells_one, told_added, told_removed, tries_one}
+use Rattle.rd_runs.proofs.Parts.{IsBehind, MayBe, Part, accepts, adds_one, applies_one, begins, by_parts, client_gets, client_hears_one, client_keeps_part, client_sends_one, collects_one, done, draws_one, ends, hands_out, host_gets, host_hears_one, host_keeps_part, host_sends_one, idle_one, queues_one, refuses, removes_one, takes_one, tells_one, tries_one}
 use Rattle.rd_script.specs.declared.line.NumberedLine.{NumberedLine}
 use Rattle.rd_station.specs.Station as station
 use Rattle.rd_station.specs.Station.{StationState, put_refusal, put_unless}
@@ -28,10 +28,10 @@ use Rattle.rd_world.proofs.OpeningLemmas.{lines_begin}
 use Rattle.rd_world.specs.Devices.{PrinterNames}
 use Rattle.rd_world.specs.Hearing.{after_opening, announcing, client_hears, heard_by_client, put_at, put_by, putting}
 use Rattle.rd_world.specs.Opening.{bare_lines}
-use Rattle.rd_world.specs.Run.{declared_devices, world_of}
+use Rattle.rd_world.specs.Run.{declared_devices}
 use Rattle.rd_world.specs.Talk.{client_reads, is_request, request_at, request_in}
 use Rattle.rd_world.specs.Told.{requests_to, without_last}
-use Rattle.rd_world.specs.World.{Kept, WorldState, station_at, with_deed, with_station}
+use Rattle.rd_world.specs.World.{Kept, WorldState, station_at, with_station}
 use Rattle.rd_world.specs.declared.device.SessionDevice.{SessionDevice}
 
 abbrev Of : Type 0

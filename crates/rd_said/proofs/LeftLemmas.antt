@@ -1,5 +1,5 @@
 -- Of each channel that ended something was left to be said, with which it is as it should be.
-use Rattle.std.proofs.Common.{◌≡◌, ◌⊎◌, ◌∙◌, refl, sym, ap, subst, inl, inr, ℕ, ◌+◌, ◌≤◌, ◌<◌, ◌==◌, ◌||◌, Bool, true, false, arith, eq-eqb, eqb-true, List, [], ◌∷◌, ◌++◌, length, map, fold, Some, None, Option, is_none}
+use Rattle.std.proofs.Common.{◌≡◌, ◌∙◌, refl, sym, ap, subst, ℕ, ◌+◌, ◌≤◌, ◌==◌, ◌||◌, Bool, true, false, arith, eqb-true, List, [], ◌∷◌, ◌++◌, length, map, fold, Some, None, Option}
 use Rattle.std.specs.Map.{lookup}
 use Rattle.std.specs.Ordering.{nat_cmp}
 use Rattle.std.specs.BTreeMap.{is_at}
@@ -21,12 +21,12 @@ use Rattle.rd_orders.proofs.ClientOrdering.{behind_client_ordered}
 use Rattle.rd_orders.proofs.Meeting.{behind_meets}
 use Rattle.rd_orders.specs.Orders.{DeclaresWritable}
 use Rattle.rd_runs.proofs.HostLemmas.{host_channel}
-use Rattle.rd_runs.proofs.Insides.{Outside, all_dropped_inside}
-use Rattle.rd_runs.proofs.Parts.{IsBehind, MayBe, Part, accepts, adds_one, announced_by, applies_one, begins, client_gets, client_hears_one, client_keeps_part, client_sends_one, collects_one, cut_by, done, draws_one, ends, event_keeps, hands_out, host_gets, host_hears_one, host_keeps_part, host_sends_one, idle_one, is_issue, part_weight, queues_one, reached_behind, refreshed_by, refuses, removes_one, takes_one, tells_one, told_added, told_removed, tries_keeps, tries_one, all_take_keeps}
+use Rattle.rd_runs.proofs.Insides.{all_dropped_inside}
+use Rattle.rd_runs.proofs.Parts.{IsBehind, MayBe, Part, adds_one, announced_by, begins, done, draws_one, ends, event_keeps, idle_one, is_issue, part_weight, queues_one, reached_behind, refreshed_by, removes_one, tells_one, told_added, tries_keeps, all_take_keeps}
 use Rattle.rd_runs.proofs.Reaching.{Steps, by_moves}
 use Rattle.rd_runs.proofs.Standing.{open_now}
 use Rattle.rd_runs.proofs.Together.{knows}
-use Rattle.rd_runs.specs.Moves.{IsOfLines, MayPass, Reached, RunMove, after_move, draws, event_weight, happens, idle, queues}
+use Rattle.rd_runs.specs.Moves.{IsOfLines, Reached, RunMove, after_move, draws, happens, idle, queues}
 use Rattle.rd_runs.specs.Premises.{RunPremises}
 use Rattle.rd_script.specs.declared.line.NumberedLine.{NumberedLine}
 use Rattle.rd_station.specs.Station.{StationState}
@@ -41,16 +41,16 @@ use Rattle.rd_world.specs.Hearing.{with_client}
 use Rattle.std.specs.Option.{IfSome}
 use Rattle.rd_world.specs.Opening.{bare_lines}
 use Rattle.rd_world.specs.Recording.{client_channel}
-use Rattle.rd_world.specs.Run.{declared_devices, world_of}
+use Rattle.rd_world.specs.Run.{declared_devices}
 use Rattle.rd_world.specs.Session.{IsStoredOpen}
-use Rattle.rd_world.specs.Talk.{Deed, EachAfter, EndsWith, has_ended, host_begins, host_ends, open_channel}
+use Rattle.rd_world.specs.Talk.{Deed, EachAfter, has_ended, host_begins, open_channel}
 use Rattle.rd_world.specs.World.{WorldState, station_at}
 use Rattle.rd_world.specs.declared.device.SessionDevice.{SessionDevice}
 use Rattle.rd_said.proofs.EndingLemmas.{GoesOn, cutting_same, left_now}
 use Rattle.rd_said.proofs.LastLemmas.{behind_last}
 use Rattle.rd_said.proofs.MeetLemmas.{behind_turns}
 use Rattle.rd_said.proofs.PartLemmas.{IsWithin, Passes, part_passes, passes_inside}
-use Rattle.rd_said.proofs.SameLemmas.{IsOnOpen, SameOn, ended_all, left_same, open_all, same_all, same_one}
+use Rattle.rd_said.proofs.SameLemmas.{IsOnOpen, ended_all, left_same, open_all, same_all, same_one}
 use Rattle.rd_said.specs.Rest.{WasLeft}
 
 -- ---- what was left

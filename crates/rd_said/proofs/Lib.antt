@@ -6,3 +6,4 @@ pub mod EndingLemmas
 pub mod PartLemmas
 pub mod LeftLemmas
 pub mod ToldLemmas
+pub mod UnusedLemmas

@@ -1,5 +1,5 @@
 -- What each part of a move adds to what was done, where no channel begins or ends by it.
-use Rattle.std.proofs.Common.{◌≡◌, ◌∙◌, refl, sym, ap, subst, ℕ, ◌+◌, Bool, true, false, List, [], ◌∷◌, ◌++◌, map, Some, None, Option, append_assoc}
+use Rattle.std.proofs.Common.{◌≡◌, ◌∙◌, refl, sym, ap, Bool, List, [], ◌∷◌, ◌++◌, Some, None, Option, append_assoc}
 use Rattle.std.specs.Option.{option_map_or}
 use Rattle.rd_base.specs.declared.journal.Key.{Key}
 use Rattle.rd_runs.proofs.Insides.{AreOwn, IsInside, Outside, added_inside, applied_inside, hears_inside, put_inside, removed_inside, stationed}

@@ -1,26 +1,25 @@
 -- What passes after a channel ended changes nothing there: nothing is read, written, told or due on it, and no request of it comes.
 use Rattle.std.proofs.Common.{◌≡◌, ◌∙◌, refl, sym, ap, subst, inl, inr, ℕ, ◌==◌, ◌||◌, Bool, true, false, eqb-true, List, [], ◌∷◌, ◌++◌, map, reverse, Some, None, Option, append-nil, append_assoc}
 use Rattle.std.specs.Prelude.{◌&&◌, filter, if◌then◌else◌, not}
-use Rattle.std.specs.List.{AllByRecursion, cons_option, list_any}
+use Rattle.std.specs.List.{AllByRecursion, cons_option}
 use Rattle.std.specs.Option.{IfSome, option_map_or}
 use Rattle.rd_acted.proofs.SayingLemmas.{say_as}
 use Rattle.rd_acted.specs.Acted.{SayFirst, due_on, there_of}
 use Rattle.rd_acted.specs.Waiting.{waiting}
 use Rattle.rd_answered.specs.Refusing.{AllRefuse}
-use Rattle.rd_base.specs.Lawful.{named_key}
 use Rattle.rd_base.specs.declared.journal.Item.{Item}
 use Rattle.rd_base.specs.declared.journal.Item.TheVariants.{Came, Cancelled, Cut, Ran, Sent}
 use Rattle.rd_base.specs.declared.journal.Key.{Key}
 use Rattle.rd_client.specs.Core.{Outgoing}
 use Rattle.rd_directs.specs.Turns.{never, said}
-use Rattle.rd_world.specs.Acts.{Tells, cache_after, is_add, is_telling, list_of, tellings_on}
+use Rattle.rd_world.specs.Acts.{Tells, cache_after, is_telling, list_of, tellings_on}
 use Rattle.rd_world.specs.Control.{Telling, addition, lists, removal}
 use Rattle.rd_world.specs.Devices.{Declared}
 use Rattle.rd_world.specs.Recording.{client_channel}
 use Rattle.rd_world.specs.Session.{IsStoredOpen}
-use Rattle.rd_world.specs.Talk.{Deed, EachAfter, EndsWith, Has, adds, client_read, client_reads, client_writes, client_wrote, completes, has_ended, host_begins, host_ends, host_reads, host_writes, is_open_at, journal, open_channel, removes, request_at, stores, submits, takes, tells, until_begin}
+use Rattle.rd_world.specs.Talk.{Deed, EachAfter, Has, adds, client_read, client_reads, client_writes, client_wrote, completes, has_ended, host_begins, host_ends, host_reads, host_writes, is_open_at, journal, open_channel, removes, request_at, stores, submits, takes, tells, until_begin}
 use Rattle.rd_world.specs.Told.{came, came_as, requests_to, told, without_last}
-use Rattle.rd_said.specs.Rest.{IsAnswerOn, RefusesUnserved, WasLeft}
+use Rattle.rd_said.specs.Rest.{IsAnswerOn, WasLeft}
 
 -- what is said of a channel, and what came of it, is what was
 pub record SameOn (c : ℕ) (new old : List Deed) : Type 0 where

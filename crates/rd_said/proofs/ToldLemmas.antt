@@ -1,5 +1,5 @@
 -- What was left to be said on each channel that ended, and so all that a client told.
-use Rattle.std.proofs.Common.{◌≡◌, ◌∙◌, refl, sym, ap, subst, ℕ, ◌≤◌, Bool, true, false, List, [], ◌∷◌, ◌++◌, length, map, reverse, Some, None, Option, Ok}
+use Rattle.std.proofs.Common.{◌≡◌, ◌∙◌, sym, ap, subst, ℕ, ◌≤◌, Bool, true, false, List, [], length, map, reverse, Some, Ok}
 use Rattle.std.specs.Prelude.{filter_map}
 use Rattle.rd_acted.proofs.ActLemmas.{acts_by_deeds, control_by_acts}
 use Rattle.rd_acted.proofs.DueLemmas.{told_is_due}
@@ -9,7 +9,6 @@ use Rattle.rd_answered.proofs.WritableLemmas as answered
 use Rattle.rd_answered.specs.Refusing.{DeclareWritable}
 use Rattle.rd_base.specs.declared.journal.Key.{Key}
 use Rattle.rd_client.specs.Core.{Outgoing}
-use Rattle.rd_controls.specs.Controls.{control_with}
 use Rattle.rd_joined.proofs.ScriptLemmas.{script_premises}
 use Rattle.rd_journals.proofs.DeclaredLemmas.{bounded_fit}
 use Rattle.rd_orders.proofs.AddressLemmas as orders

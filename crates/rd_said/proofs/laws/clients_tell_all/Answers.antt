@@ -1,4 +1,5 @@
 use Rattle.rd_said.proofs.ToldLemmas.{all_told, told_by_acts}
+use Rattle.rd_said.proofs.UnusedLemmas.{all_answered, open_or_unused}
 use Rattle.rd_said.proofs.laws.clients_tell_all.Goals as goal
 use Rattle.rd_world.specs.Opening.{bare_lines}
 use Rattle.rd_world.specs.Run.{declared_devices}
