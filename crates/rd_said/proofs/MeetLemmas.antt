@@ -1,17 +1,14 @@
 -- No request meets a job that is held with its completion id, by one induction with the joining law: what it says of what was done so far is what the next part takes.
-use Rattle.std.proofs.Common.{◌==◌, cond, ap, subst, ℕ, ◌<◌, Bool, true, false, List, ◌∷◌, ◌++◌, reverse}
+use Rattle.std.proofs.Common.{◌==◌, cond, ap, subst, ℕ, ◌<◌, Bool, true, false, List, ◌∷◌, ◌++◌}
 use Rattle.std.specs.Prelude.{◌&&◌, Bool, None, Some, filter, length}
 use Rattle.std.specs.List.{cons_option}
 use Rattle.std.specs.Option.{option_map_or}
 use Rattle.rd_base.specs.declared.journal.Key.{Key}
-use Rattle.rd_base.specs.Lawful.{IsLawful}
 use Rattle.rd_drive.specs.Ranged.{IsReplyInRange}
 use Rattle.rd_irp.specs.declared.request.Request.{Request}
 use Rattle.rd_journals.proofs.CameLemmas.{fines}
 use Rattle.rd_journals.proofs.CompletionLemmas.{lost_ranged, runs_good}
-use Rattle.rd_journals.proofs.ReplyLemmas.{replies_grow, replies_once}
-use Rattle.rd_journals.proofs.RunLemmas.{behind_orderly, hears_open, orderly_lawful}
-use Rattle.rd_journals.proofs.ServingLemmas.{behind_standing}
+use Rattle.rd_journals.proofs.RunLemmas.{behind_orderly, hears_open}
 use Rattle.rd_journals.proofs.WorkLemmas.{behind_working}
 use Rattle.rd_journals.specs.Jobs.{FitsCompletion}
 use Rattle.rd_journals.specs.Stations.{AreFit}
@@ -21,7 +18,6 @@ use Rattle.rd_runs.proofs.Together.{knows}
 use Rattle.rd_runs.specs.Premises.{RunPremises}
 use Rattle.rd_script.specs.declared.line.NumberedLine.{NumberedLine}
 use Rattle.rd_world.proofs.Joining.{all_join}
-use Rattle.rd_world.proofs.Journals.{plain_of}
 use Rattle.rd_world.proofs.Lists.{each_end, point_end}
 use Rattle.rd_world.specs.HostDeeds.{MayDo, side_of}
 use Rattle.rd_world.specs.Joining.{AreJoined, IsCarried}
@@ -33,11 +29,10 @@ use Rattle.rd_world.specs.Talk.{AtEachPoint, Deed, EachAfter, EndsWith, client_r
 use Rattle.rd_world.specs.Told.{Answers, AreAnswered, Replies, requests_to, told, unserved, worn_entries}
 use Rattle.rd_world.specs.World.{WorldState, handling_by}
 use Rattle.rd_directs.proofs.AloneLemmas.{kept_open, none_held, none_met}
-use Rattle.rd_directs.proofs.DirectLemmas.{begins_turns, part_turns, turns_end}
-use Rattle.rd_directs.proofs.WornLemmas.{comes_unworn}
+use Rattle.rd_directs.proofs.DirectLemmas.{begins_turns, part_turns}
 use Rattle.rd_directs.specs.Turns.{InTurn, MeetsNone}
 use Rattle.rd_answered.proofs.GrowingLemmas.{few_end, part_grows}
-use Rattle.rd_answered.proofs.InOrderLemmas.{behind_order}
+use Rattle.rd_answered.proofs.MeetLemmas.{joined_behind}
 
 -- ---- requests, when one more is read
 
@@ -88,36 +83,15 @@ module _ (lines : List NumberedLine) (starves : Key → Bool) (fit : AreFit (dec
       let then : AreGood (more ++ w.deeds) = subst AreGood same good in
       (each_end (Answers replies) more w.deeds then.0, λ d. few_end worn_entries d more w.deeds (then.1 d))
 
-  answered_at : (w : WorldState) → IsBehind lines starves w → InTurn w → AreGood w.deeds → AreAnswered replies w.deeds
-  answered_at w behind is good = record {
-    sent_in_order = behind_order lines starves fit premises w behind;
-    direct_in_order = turns_end w is;
-    answers = good.0;
-    comes = comes_unworn replies w.deeds good.0 (λ d. plain_of (journal d w.deeds) (orderly_lawful w (behind_orderly lines starves w fit behind).0 d)) good.1;
-  }
+  joined_at : (w : WorldState) → IsBehind lines starves w → AreGood w.deeds → AreJoined client_id replies w.deeds
+  joined_at w behind good = joined_behind lines starves fit premises all w behind good.0 good.1
 
-  joined_at : (w : WorldState) → IsBehind lines starves w → InTurn w → AreGood w.deeds → AreJoined client_id replies w.deeds
-  joined_at w behind is good =
-      let devices = declared_devices (bare_lines lines) in
-      let lawful : (d : ℕ) → IsLawful (reverse (journal d w.deeds)) = orderly_lawful w (behind_orderly lines starves w fit behind).0 in
-      let k = knows lines starves premises w behind in
-      record {
-        carried = k.carries.each;
-        host = k.stands.host.may;
-        told = answered_at w behind is good;
-        grows = λ device earlier more later same reply has. replies_grow devices all device earlier more reply has;
-        once = λ device key reply other has has_other. replies_once devices all device (reverse (journal device w.deeds)) fit (lawful device) key other reply has_other has;
-        stands = (behind_standing lines starves w fit behind).stand;
-        lawful = lawful;
-        unworn = good.1;
-      }
-
-  -- the same with the message that is read next
+  -- so it is with the message that is read next
   joined_reading : (w : WorldState) (m rest : List ℕ) → IsBehind lines starves w → IsBehind lines starves (done starves w (client_hears_one m rest)) → InTurn w → AreGood w.deeds
       → AreJoined client_id replies (client_reads w.channels m ∷ w.deeds)
   joined_reading w m rest behind after is good =
       let read : List Deed = client_reads w.channels m ∷ w.deeds in
-      let now = joined_at w behind is good in
+      let now = joined_at w behind good in
       let i = hears_inside (record w { to_client = (handling_by w.to_client (Some (m, rest))).0 }) m in
       let k = knows lines starves premises (done starves w (client_hears_one m rest)) after in
       record {
@@ -143,7 +117,7 @@ module _ (lines : List NumberedLine) (starves : Key → Bool) (fit : AreFit (dec
       let (c, opened) = kept_open w k ordered some in
       none_met FitsCompletion IsReplyInRange (declared_devices (bare_lines lines)) w c ordered opened
       (behind_working FitsCompletion IsReplyInRange lost_ranged runs_good lines starves w fit behind (fines lines starves premises w behind)) k some
-      (all_join client_id replies w.deeds (joined_at w behind is good)).alone
+      (all_join client_id replies w.deeds (joined_at w behind good)).alone
   meets_none w (accepts a asked named t number) may behind after is good = tt
   meets_none w (refuses a asked cause) may behind after is good = tt
   meets_none w (hands_out a number t had next) may behind after is good = tt
@@ -166,6 +140,7 @@ module _ (lines : List NumberedLine) (starves : Key → Bool) (fit : AreFit (dec
   meets_none w (idle_one number) may behind after is good = tt
   meets_none w draws_one may behind after is good = tt
 
+  -- each request that never came is in line, where each completion is its key's answer and no journal is worn
   pub behind_turns : (w : WorldState) → IsBehind lines starves w → AreGood w.deeds → InTurn w
   behind_turns w behind =
       by_parts lines starves (λ x. (AreGood x.deeds → InTurn x)) (λ good. begins_turns lines)
@@ -173,7 +148,3 @@ module _ (lines : List NumberedLine) (starves : Key → Bool) (fit : AreFit (dec
           let both = behind_orderly lines starves x fit before in
           let was = good_before x p good in
           part_turns lines starves fit premises x p may before after both.0 both.1 (meets_none x p may before after (is was) was) (is was)) w behind
-
-  -- Where each completion is its key's answer, and no journal is worn, both sides are joined.
-  pub joined_behind : (w : WorldState) → IsBehind lines starves w → EachAfter (Answers replies) w.deeds → ((d : ℕ) → length (journal d w.deeds) < worn_entries) → AreJoined client_id replies w.deeds
-  joined_behind w behind answers few = joined_at w behind (behind_turns w behind (answers, few)) (answers, few)

@@ -1,9 +1,8 @@
 -- A channel that didn't end is the one that is open, or nothing was written on it; and where each request is completed, requests and completions are as many.
-use Rattle.std.proofs.Common.{◌≡◌, ◌⊎◌, ◌∙◌, refl, sym, ap, subst, inl, inr, ℕ, ◌+◌, ◌<◌, ◌==◌, ◌&&◌, ◌||◌, Bool, true, false, arith, eq-eqb, eqb-true, List, [], ◌∷◌, ◌++◌, length, Some, None, Option}
+use Rattle.std.proofs.Common.{◌≡◌, ◌⊎◌, ◌∙◌, refl, sym, ap, subst, inl, inr, ℕ, ◌<◌, ◌==◌, ◌&&◌, ◌||◌, Bool, true, false, arith, eq-eqb, eqb-true, List, [], ◌∷◌, ◌++◌, length, Some, None}
 use Rattle.std.specs.Prelude.{filter, if◌then◌else◌}
 use Rattle.std.specs.List.{cons_option}
 use Rattle.std.specs.Option.{IfSome}
-use Rattle.rd_base.specs.declared.journal.Key.{Key}
 use Rattle.rd_runs.proofs.BelowLemmas.{channel_is}
 use Rattle.rd_world.proofs.Lists.{has_later}
 use Rattle.rd_world.specs.HostDeeds.{MayDo, side_of}

@@ -1,6 +1,6 @@
 //! What was left to be said when a channel ended, as contracts of functions that do nothing.
 
-ghost use Rattle.std.specs.Prelude.{◌≡◌, ℕ, ◌≤◌, Bool, true, false, List, [], Ok, Some, filter_map, length, map, reverse};
+ghost use Rattle.std.specs.Prelude.{◌≡◌, ℕ, ◌≤◌, Bool, true, List, [], None, Ok, Some, filter_map, length, map, reverse};
 ghost use Rattle.rd_acted.specs.Acted.{control_by_deeds};
 ghost use Rattle.rd_answered.specs.Refusing.{DeclareWritable};
 ghost use Rattle.rd_base.specs.declared.journal.Key.{Key};
@@ -16,9 +16,9 @@ ghost use Rattle.rd_world.specs.Acts.{act_by, control_at_end, control_by};
 ghost use Rattle.rd_world.specs.Control.{Control};
 ghost use Rattle.rd_world.specs.Devices.{Declared};
 ghost use Rattle.rd_world.specs.Opening.{bare_lines};
-ghost use Rattle.rd_world.specs.Run.{declared_devices};
+ghost use Rattle.rd_world.specs.Run.{choices, declared_devices};
 ghost use Rattle.rd_world.specs.Session.{AllTold, IsLeftOver, replies_in};
-ghost use Rattle.rd_world.specs.Talk.{Deed, answered, asked, client_read, has_ended, host_wrote, open_channel};
+ghost use Rattle.rd_world.specs.Talk.{Deed, Has, answered, asked, client_read, has_ended, host_wrote, open_channel};
 ghost use Rattle.rd_world.specs.World.{WorldState};
 
 /// Of each channel that ended something was left to be said, maybe nothing, with which no request there was passed over but for the last, and by which no more was told of devices than is due by what was done.
@@ -35,13 +35,19 @@ pub fn what_waits_is_told()
         (c : ℕ) → open_channel w.deeds ≡ Some c → IsLeftOver devices (control_by_deeds (map (λ (d : ℕ × Declared). d.0) devices) w.deeds).told (replies_in devices w.deeds) c w.deeds (deeds_then c w.client.core.outbox []) }
 {}
 
-/// So a client told all, by what the control lines told that did these acts, where on each channel that didn't end all requests were read and completed.
+/// So a client told all, by what the control lines told that did these acts, where on the channel that is open, if one is, all was read and each request completed; of a channel that neither
+/// ended nor is open nothing was written. All was read where nothing can happen by itself and no job is kept back.
 pub fn clients_tell_all()
-    ensures { (lines : List NumberedLine) (starves : Key → Bool) (w : WorldState) → RunPremises lines → DeclareWritable lines → DeclaresWritable lines → length lines ≤ 1000000 → Reached lines starves w
+    ensures opened { (lines : List NumberedLine) (starves : Key → Bool) (w : WorldState) → RunPremises lines → DeclareWritable lines → DeclaresWritable lines → length lines ≤ 1000000 → Reached lines starves w
         → let devices = declared_devices (bare_lines lines) in
         (control : Control) → control ≡ control_at_end devices w.deeds (control_by devices lines) → filter_map act_by (reverse w.deeds) ≡ control.acts
-        → ((c : ℕ) → has_ended c w.deeds ≡ false → client_read c w.deeds ≡ host_wrote c w.deeds)
-        → ((c device id : ℕ) → has_ended c w.deeds ≡ false → asked c device id w.deeds ≡ answered c device id w.deeds)
+        → ((c : ℕ) → open_channel w.deeds ≡ Some c → client_read c w.deeds ≡ host_wrote c w.deeds)
+        → ((c : ℕ) → open_channel w.deeds ≡ Some c → (device id index : ℕ) → Has index (asked c device id w.deeds) → Has index (answered c device id w.deeds))
+        → AllTold devices control.told (replies_in devices w.deeds) w.deeds }
+    ensures rest { (lines : List NumberedLine) (starves : Key → Bool) (w : WorldState) → RunPremises lines → DeclareWritable lines → DeclaresWritable lines → length lines ≤ 1000000 → Reached lines starves w
+        → let devices = declared_devices (bare_lines lines) in
+        (control : Control) → control ≡ control_at_end devices w.deeds (control_by devices lines) → filter_map act_by (reverse w.deeds) ≡ control.acts
+        → (open_channel w.deeds ≡ Some w.channels → (choices w ≡ []) × (w.kept ≡ None) × ((device id index : ℕ) → Has index (asked w.channels device id w.deeds) → Has index (answered w.channels device id w.deeds)))
         → AllTold devices control.told (replies_in devices w.deeds) w.deeds }
 {}
 
