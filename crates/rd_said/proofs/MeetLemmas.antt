@@ -87,9 +87,9 @@ module _ (lines : List NumberedLine) (starves : Key → Bool) (fit : AreFit (dec
   joined_at w behind good = joined_behind lines starves fit premises all w behind good.0 good.1
 
   -- so it is with the message that is read next
-  joined_reading : (w : WorldState) (m rest : List ℕ) → IsBehind lines starves w → IsBehind lines starves (done starves w (client_hears_one m rest)) → InTurn w → AreGood w.deeds
+  joined_reading : (w : WorldState) (m rest : List ℕ) → IsBehind lines starves w → IsBehind lines starves (done starves w (client_hears_one m rest)) → AreGood w.deeds
       → AreJoined client_id replies (client_reads w.channels m ∷ w.deeds)
-  joined_reading w m rest behind after is good =
+  joined_reading w m rest behind after good =
       let read : List Deed = client_reads w.channels m ∷ w.deeds in
       let now = joined_at w behind good in
       let i = hears_inside (record w { to_client = (handling_by w.to_client (Some (m, rest))).0 }) m in
@@ -105,40 +105,40 @@ module _ (lines : List NumberedLine) (starves : Key → Bool) (fit : AreFit (dec
         unworn = now.unworn;
       }
 
-  meets_none : (w : WorldState) (p : Part) → MayBe lines starves w p → IsBehind lines starves w → IsBehind lines starves (done starves w p) → InTurn w → AreGood w.deeds → MeetsNone w p
-  meets_none w (client_hears_one m rest) (kept, some) behind after is good = λ r spelled.
+  meets_none : (w : WorldState) (p : Part) → MayBe lines starves w p → IsBehind lines starves w → IsBehind lines starves (done starves w p) → AreGood w.deeds → MeetsNone w p
+  meets_none w (client_hears_one m rest) (kept, some) behind after good = λ r spelled.
       let (ordered, handled) = behind_orderly lines starves w fit behind in
       let (c, opened) = hears_open w ordered handled m rest some in
       none_held FitsCompletion IsReplyInRange (declared_devices (bare_lines lines)) w c ordered opened
       (behind_working FitsCompletion IsReplyInRange lost_ranged runs_good lines starves w fit behind (fines lines starves premises w behind)) m
-      (all_join client_id replies (client_reads w.channels m ∷ w.deeds) (joined_reading w m rest behind after is good)).alone.0 r spelled
-  meets_none w (tries_one k) some behind after is good =
+      (all_join client_id replies (client_reads w.channels m ∷ w.deeds) (joined_reading w m rest behind after good)).alone.0 r spelled
+  meets_none w (tries_one k) some behind after good =
       let ordered = (behind_orderly lines starves w fit behind).0 in
       let (c, opened) = kept_open w k ordered some in
       none_met FitsCompletion IsReplyInRange (declared_devices (bare_lines lines)) w c ordered opened
       (behind_working FitsCompletion IsReplyInRange lost_ranged runs_good lines starves w fit behind (fines lines starves premises w behind)) k some
       (all_join client_id replies w.deeds (joined_at w behind good)).alone
-  meets_none w (accepts a asked named t number) may behind after is good = tt
-  meets_none w (refuses a asked cause) may behind after is good = tt
-  meets_none w (hands_out a number t had next) may behind after is good = tt
-  meets_none w (host_sends_one m) may behind after is good = tt
-  meets_none w (host_gets n) may behind after is good = tt
-  meets_none w host_keeps_part may behind after is good = tt
-  meets_none w (host_hears_one m rest) may behind after is good = tt
-  meets_none w (tells_one n) may behind after is good = tt
-  meets_none w begins may behind after is good = tt
-  meets_none w ends may behind after is good = tt
-  meets_none w (client_sends_one x o) may behind after is good = tt
-  meets_none w (client_gets n) may behind after is good = tt
-  meets_none w client_keeps_part may behind after is good = tt
-  meets_none w (collects_one d s next x) may behind after is good = tt
-  meets_none w (takes_one d hand s next job) may behind after is good = tt
-  meets_none w (applies_one hand d job o) may behind after is good = tt
-  meets_none w (removes_one d o) may behind after is good = tt
-  meets_none w (adds_one d names o) may behind after is good = tt
-  meets_none w (queues_one a) may behind after is good = tt
-  meets_none w (idle_one number) may behind after is good = tt
-  meets_none w draws_one may behind after is good = tt
+  meets_none w (accepts a asked named t number) may behind after good = tt
+  meets_none w (refuses a asked cause) may behind after good = tt
+  meets_none w (hands_out a number t had next) may behind after good = tt
+  meets_none w (host_sends_one m) may behind after good = tt
+  meets_none w (host_gets n) may behind after good = tt
+  meets_none w host_keeps_part may behind after good = tt
+  meets_none w (host_hears_one m rest) may behind after good = tt
+  meets_none w (tells_one n) may behind after good = tt
+  meets_none w begins may behind after good = tt
+  meets_none w ends may behind after good = tt
+  meets_none w (client_sends_one x o) may behind after good = tt
+  meets_none w (client_gets n) may behind after good = tt
+  meets_none w client_keeps_part may behind after good = tt
+  meets_none w (collects_one d s next x) may behind after good = tt
+  meets_none w (takes_one d hand s next job) may behind after good = tt
+  meets_none w (applies_one hand d job o) may behind after good = tt
+  meets_none w (removes_one d o) may behind after good = tt
+  meets_none w (adds_one d names o) may behind after good = tt
+  meets_none w (queues_one a) may behind after good = tt
+  meets_none w (idle_one number) may behind after good = tt
+  meets_none w draws_one may behind after good = tt
 
   -- each request that never came is in line, where each completion is its key's answer and no journal is worn
   pub behind_turns : (w : WorldState) → IsBehind lines starves w → AreGood w.deeds → InTurn w
@@ -147,4 +147,4 @@ module _ (lines : List NumberedLine) (starves : Key → Bool) (fit : AreFit (dec
       (λ x p before after may is good.
           let both = behind_orderly lines starves x fit before in
           let was = good_before x p good in
-          part_turns lines starves fit premises x p may before after both.0 both.1 (meets_none x p may before after (is was) was) (is was)) w behind
+          part_turns lines starves fit premises x p may before after both.0 both.1 (meets_none x p may before after was) (is was)) w behind
