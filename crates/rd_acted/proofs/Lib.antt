@@ -19,3 +19,4 @@ pub mod RunLemmas
 pub mod ReachedLemmas
 pub mod OrderLemmas
 pub mod EndedLemmas
+pub mod LeadingLemmas

@@ -1,7 +1,7 @@
 -- What the control lines of a whole run did.
 use Rattle.std.proofs.Common.{◌≡◌, ◌≢◌, ◌⊎◌, ◌∙◌, refl, sym, ap, subst, inl, inr, ℕ, ◌+◌, ◌<◌, ◌≤◌, ◌==◌, Bool, true, false, arith, eq-eqb, List, [], ◌∷◌, ◌++◌, length, map, reverse, Some, None, Option, append-nil, length-append, is_some}
-use Rattle.std.specs.Prelude.{filter, filter_map, if◌then◌else◌}
-use Rattle.std.specs.List.{cons_option}
+use Rattle.std.specs.Prelude.{All, filter, filter_map, if◌then◌else◌}
+use Rattle.std.specs.List.{cons_option, range_with_len}
 use Rattle.std.specs.Option.{option_map_or}
 use Rattle.rd_base.specs.declared.journal.Cause.{Cause}
 use Rattle.rd_base.specs.declared.journal.Key.{Key}
@@ -21,11 +21,12 @@ use Rattle.rd_runs.proofs.Together.{knows}
 use Rattle.rd_runs.specs.Moves.{Reached}
 use Rattle.rd_runs.specs.Premises.{RunPremises}
 use Rattle.rd_script.specs.declared.line.NumberedLine.{NumberedLine}
-use Rattle.rd_world.specs.Acts.{AreSaid, IsCutThere, Tells, cause_in, control_at_end, control_by, is_telling, left_open, notices_on, of_channel, tellings_due, tellings_on}
+use Rattle.rd_world.specs.Acts.{AreActed, AreSaid, IsCutThere, Opens, Tells, cause_in, control_at_end, control_by, is_settled_host, is_telling, left_open, notices_on, of_channel, tellings_due, tellings_on}
 use Rattle.rd_world.specs.Control.{Control, Telling, control_of, dropped_at}
 use Rattle.rd_world.specs.Devices.{Declared}
 use Rattle.rd_world.specs.Host.{first_waiting, next_message}
 use Rattle.rd_world.specs.Opening.{bare_lines}
+use Rattle.rd_world.specs.Recording.{host_stand}
 use Rattle.rd_world.specs.Run.{Most, choices, declared_devices, run_of}
 use Rattle.rd_world.specs.Talk.{Deed, EachAfter, EndsWith, adds, client_reads, client_writes, client_wrote, completes, has_ended, host_begins, host_ends, host_reads, host_writes, is_open_at, open_channel, removes, stores, submits, takes, tells, written_by_client}
 use Rattle.rd_world.specs.World.{WorldState}
@@ -140,58 +141,58 @@ module _ (lines : List NumberedLine) (starves : Key → Bool) (premises : RunPre
             let none : (control_with left (control_of ids lines)).current ≡ None = ap (λ (o : Option ℕ). (control_with o (control_of ids lines)).current) e in
             absurd (cc (current, none))
 
-    -- ---- all is told on a channel that didn't end
+  -- ---- all is told on a channel that didn't end, where nothing can happen by itself
 
-    module _ (rests : choices w ≡ []) where
-      all_told : (c : ℕ) → AreSaid (Tells devices w.deeds c) (due_on ids c w.deeds) (tellings_on c w.deeds) (has_ended c w.deeds)
-      all_told c = record { each = say_zip (Tells devices w.deeds c) (tellings_on c w.deeds) (due_on ids c w.deeds) (t.each c); all = λ unended. by (i.over c) unended }
-        where
-          t : TellsAs devices w
-          t = behind_tells lines starves premises w b well
+  module _ (w : WorldState) (b : IsBehind lines starves w) (rests : choices w ≡ []) where
+    pub all_told : AreReadWell w.deeds → ((c : ℕ) → open_channel w.deeds ≡ Some c → client_ready w ≡ true) → (c : ℕ) → AreSaid (Tells devices w.deeds c) (due_on ids c w.deeds) (tellings_on c w.deeds) (has_ended c w.deeds)
+    all_told well ready_now c = record { each = say_zip (Tells devices w.deeds c) (tellings_on c w.deeds) (due_on ids c w.deeds) (t.each c); all = λ unended. by (i.over c) unended }
+      where
+        t : TellsAs devices w
+        t = behind_tells lines starves premises w b well
 
-          i : AreInTime ids w.deeds
-          i = behind_in_time lines starves premises w b well
+        i : AreInTime ids w.deeds
+        i = behind_in_time lines starves premises w b well
 
-          by : (due_on ids c w.deeds ≡ []) ⊎ ((has_ended c w.deeds ≡ true) ⊎ (open_channel w.deeds ≡ Some c)) → has_ended c w.deeds ≡ false → length (tellings_on c w.deeds) ≡ length (due_on ids c w.deeds)
-          by (inl none) unended =
-              let untold : tellings_on c w.deeds ≡ [] =
-              say_none (Tells devices w.deeds c) (tellings_on c w.deeds) (subst (λ (ts : List Telling). SayFirst (Tells devices w.deeds c) (tellings_on c w.deeds) ts) none (t.each c)) in
-              ap length untold ∙ ap length (sym none)
-          by (inr (inl ended)) unended = absurd (cc (ended, unended))
-          by (inr (inr opened)) unended =
-              let channel : c ≡ w.channels = opened_now w c (knows lines starves premises w b).stands opened in
-              let all = t.all (opened ∙ ap (λ (n : ℕ). Some n) channel) (ready_now c opened) in
-              let out : waiting ((w.client).core).outbox ≡ [] = ap waiting (quiet w rests).client_sends in
-              ap (λ (n : ℕ). length (tellings_on n w.deeds)) channel
-              ∙ sym (ap length (ap (λ (ms : List (List ℕ)). tellings_on w.channels w.deeds ++ ms) out ∙ append-nil (tellings_on w.channels w.deeds))) ∙ all
-              ∙ ap (λ (n : ℕ). length (due_on ids n w.deeds)) (sym channel)
+        by : (due_on ids c w.deeds ≡ []) ⊎ ((has_ended c w.deeds ≡ true) ⊎ (open_channel w.deeds ≡ Some c)) → has_ended c w.deeds ≡ false → length (tellings_on c w.deeds) ≡ length (due_on ids c w.deeds)
+        by (inl none) unended =
+            let untold : tellings_on c w.deeds ≡ [] =
+            say_none (Tells devices w.deeds c) (tellings_on c w.deeds) (subst (λ (ts : List Telling). SayFirst (Tells devices w.deeds c) (tellings_on c w.deeds) ts) none (t.each c)) in
+            ap length untold ∙ ap length (sym none)
+        by (inr (inl ended)) unended = absurd (cc (ended, unended))
+        by (inr (inr opened)) unended =
+            let channel : c ≡ w.channels = opened_now w c (knows lines starves premises w b).stands opened in
+            let all = t.all (opened ∙ ap (λ (n : ℕ). Some n) channel) (ready_now c opened) in
+            let out : waiting ((w.client).core).outbox ≡ [] = ap waiting (quiet w rests).client_sends in
+            ap (λ (n : ℕ). length (tellings_on n w.deeds)) channel
+            ∙ sym (ap length (ap (λ (ms : List (List ℕ)). tellings_on w.channels w.deeds ++ ms) out ∙ append-nil (tellings_on w.channels w.deeds))) ∙ all
+            ∙ ap (λ (n : ℕ). length (due_on ids n w.deeds)) (sym channel)
 
-      all_noticed : (c : ℕ) → AreSaid (λ n message. message ≡ notice_bytes n) (notices_due c w.deeds) (notices_on c w.deeds) (has_ended c w.deeds)
-      all_noticed c = record { each = say_zip (λ n message. message ≡ notice_bytes n) (notices_on c w.deeds) (notices_due c w.deeds) (n.each c); all = λ unended. by (n.over c) unended }
-        where
-          n : NoticesAs w
-          n = behind_notices lines starves premises w b
+    pub all_noticed : (c : ℕ) → AreSaid (λ n message. message ≡ notice_bytes n) (notices_due c w.deeds) (notices_on c w.deeds) (has_ended c w.deeds)
+    all_noticed c = record { each = say_zip (λ n message. message ≡ notice_bytes n) (notices_on c w.deeds) (notices_due c w.deeds) (n.each c); all = λ unended. by (n.over c) unended }
+      where
+        n : NoticesAs w
+        n = behind_notices lines starves premises w b
 
-          silent : (((w.side).core).core).outbox ≡ []
-          silent = go (((w.side).core).core).outbox ((w.side).table).outbox (quiet w rests).host_sends
-            where
-              go : (own requests : List (List ℕ)) → first_waiting own requests ≡ None → own ≡ []
-              go [] requests none = refl
-              go (m ∷ own) requests none = absurd (cc none)
+        silent : (((w.side).core).core).outbox ≡ []
+        silent = go (((w.side).core).core).outbox ((w.side).table).outbox (quiet w rests).host_sends
+          where
+            go : (own requests : List (List ℕ)) → first_waiting own requests ≡ None → own ≡ []
+            go [] requests none = refl
+            go (m ∷ own) requests none = absurd (cc none)
 
-          by : (notices_due c w.deeds ≡ []) ⊎ ((has_ended c w.deeds ≡ true) ⊎ (open_channel w.deeds ≡ Some c)) → has_ended c w.deeds ≡ false → length (notices_on c w.deeds) ≡ length (notices_due c w.deeds)
-          by (inl none) unended =
-              let untold : notices_on c w.deeds ≡ [] =
-              say_none (λ k message. message ≡ notice_bytes k) (notices_on c w.deeds)
-              (subst (λ (ts : List Notice). SayFirst (λ k message. message ≡ notice_bytes k) (notices_on c w.deeds) ts) none (n.each c)) in
-              ap length untold ∙ ap length (sym none)
-          by (inr (inl ended)) unended = absurd (cc (ended, unended))
-          by (inr (inr opened)) unended =
-              let channel : c ≡ w.channels = opened_now w c (knows lines starves premises w b).stands opened in
-              let all = n.all (opened ∙ ap (λ (k : ℕ). Some k) channel) in
-              ap (λ (k : ℕ). length (notices_on k w.deeds)) channel
-              ∙ sym (ap length (ap (λ (ms : List (List ℕ)). notices_on w.channels w.deeds ++ noted ms) silent ∙ append-nil (notices_on w.channels w.deeds))) ∙ all
-              ∙ ap (λ (k : ℕ). length (notices_due k w.deeds)) (sym channel)
+        by : (notices_due c w.deeds ≡ []) ⊎ ((has_ended c w.deeds ≡ true) ⊎ (open_channel w.deeds ≡ Some c)) → has_ended c w.deeds ≡ false → length (notices_on c w.deeds) ≡ length (notices_due c w.deeds)
+        by (inl none) unended =
+            let untold : notices_on c w.deeds ≡ [] =
+            say_none (λ k message. message ≡ notice_bytes k) (notices_on c w.deeds)
+            (subst (λ (ts : List Notice). SayFirst (λ k message. message ≡ notice_bytes k) (notices_on c w.deeds) ts) none (n.each c)) in
+            ap length untold ∙ ap length (sym none)
+        by (inr (inl ended)) unended = absurd (cc (ended, unended))
+        by (inr (inr opened)) unended =
+            let channel : c ≡ w.channels = opened_now w c (knows lines starves premises w b).stands opened in
+            let all = n.all (opened ∙ ap (λ (k : ℕ). Some k) channel) in
+            ap (λ (k : ℕ). length (notices_on k w.deeds)) channel
+            ∙ sym (ap length (ap (λ (ms : List (List ℕ)). notices_on w.channels w.deeds ++ noted ms) silent ∙ append-nil (notices_on w.channels w.deeds))) ∙ all
+            ∙ ap (λ (k : ℕ). length (notices_due k w.deeds)) (sym channel)
 
   -- what the deeds of a run's end take is met by its lines
   pub runs_go_well : (w : WorldState) → Reached lines starves w → length lines ≤ 1000000 → AreReadWell w.deeds → EachAfter EndsTold w.deeds → GoWell w.deeds
@@ -213,13 +214,34 @@ module _ (lines : List NumberedLine) (starves : Key → Bool) (premises : RunPre
         control_is = ap (λ (o : Option ℕ). control_with o (control_of ids lines)) (sym (left_is said));
         acts = said.acts;
         tells = λ c. subst (λ (ts : List Telling). AreSaid (Tells devices w.deeds c) ts (tellings_on c w.deeds) (has_ended c w.deeds)) (sym (ap (λ (k : Control). of_channel c k.told) same ∙ told_is_due ids c w.deeds))
-            (all_told w well b said.left said.ends same rests c);
+            (all_told w b rests well (ready_now w well b said.left said.ends same) c);
         in_time = (behind_in_time lines starves premises w b well).points;
         notices = λ c. subst (λ (ts : List Notice). AreSaid (λ n message. message ≡ notice_bytes n) ts (notices_on c w.deeds) (has_ended c w.deeds)) (sym (ap (λ (k : Control). of_channel c k.notices) same ∙ notices_are_due ids c w.deeds))
-            (all_noticed w well b said.left said.ends same rests c);
+            (all_noticed w b rests c);
         cuts = λ d. cuts_by_deeds devices d w.deeds there.cut.there there.cut.all ∙ sym (ap (λ (k : Control). of_channel d k.cuts) same);
         cut_there = there.cut.there;
         cut_all = there.cut.all;
         idle_lines = said.idle_lines;
         idle_rise = said.idle_rise;
       }
+
+-- ---- all that control lines did
+
+pub acted_whole : (devices : List (ℕ × Declared)) (lines : List NumberedLine) (idle : List ℕ) (deeds : List Deed) → (acted : HaveActed devices lines idle deeds)
+    → All (Opens devices deeds) (range_with_len 1 acted.control.channels) → All (λ c. has_ended c deeds ≡ false → option_map_or is_settled_host (host_stand deeds c) false ≡ true) (range_with_len 1 acted.control.channels)
+    → AreActed devices lines idle deeds
+acted_whole ds lines idle deeds acted opened settled = record {
+  control = acted.control;
+  control_is = acted.control_is;
+  acts = acted.acts;
+  opened = opened;
+  settled = settled;
+  tells = acted.tells;
+  in_time = acted.in_time;
+  notices = acted.notices;
+  cuts = acted.cuts;
+  cut_there = acted.cut_there;
+  cut_all = acted.cut_all;
+  idle_lines = acted.idle_lines;
+  idle_rise = acted.idle_rise;
+}

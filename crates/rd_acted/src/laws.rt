@@ -1,6 +1,8 @@
 //! What the control lines of a script did, as contracts of functions that do nothing.
 
-ghost use Rattle.std.specs.Prelude.{◌≡◌, ℕ, ◌≤◌, Bool, true, false, List, Option, Some, [], ◌∷◌, ◌++◌, filter_map, length, map, reverse};
+ghost use Rattle.std.specs.Prelude.{◌≡◌, ℕ, ◌≤◌, All, Bool, true, false, List, Ok, Option, Some, [], ◌∷◌, ◌++◌, filter_map, length, map, reverse};
+ghost use Rattle.std.specs.List.{range_with_len};
+ghost use Rattle.std.specs.Option.{option_map_or};
 ghost use Rattle.rd_acted.specs.Acted.{AreReadWell, EndsTold, GoWell, HaveActed, SayFirst, control_after, control_by_deeds, due_on, notices_due, there_of, without_idle};
 ghost use Rattle.rd_acted.specs.Waiting.{noted, waiting};
 ghost use Rattle.rd_base.specs.declared.journal.Key.{Key};
@@ -9,15 +11,18 @@ ghost use Rattle.rd_controls.specs.Controls.{AreOrderedLines, DoAsSaid, control_
 ghost use Rattle.rd_printer.specs.Notice.{notice_bytes};
 ghost use Rattle.rd_runs.specs.Moves.{Reached};
 ghost use Rattle.rd_runs.specs.Premises.{RunPremises};
+ghost use Rattle.rd_script.specs.Script.{script_of};
+ghost use Rattle.rd_script.specs.declared.keyword.Mode.TheVariants as Mode;
+ghost use Rattle.rd_script.specs.declared.script.Script.{Script};
 ghost use Rattle.rd_script.specs.declared.line.NumberedLine.{NumberedLine};
-ghost use Rattle.rd_world.specs.Acts.{IsCutThere, IsDone, IsToldInTime, Opens, Tells, act_by, cache_after, cause_in, control_by, left_open, notices_on, of_channel, tellings_on};
+ghost use Rattle.rd_world.specs.Acts.{AreActed, AreSaid, IsCutThere, IsDone, IsToldInTime, Opens, Tells, act_by, cache_after, cause_in, control_by, is_settled_host, left_open, notices_on, of_channel, tellings_on};
 ghost use Rattle.rd_world.specs.Control.{control_of, lists};
 ghost use Rattle.rd_world.specs.Devices.{Declared};
 ghost use Rattle.rd_world.specs.Opening.{bare_lines};
-ghost use Rattle.rd_world.specs.Recording.{announced_of, is_gone_at};
-ghost use Rattle.rd_world.specs.Run.{Most, declared_devices, run_of};
-ghost use Rattle.rd_world.specs.Talk.{AtEachPoint, Deed, EachAfter, client_moves, journal, open_channel};
-ghost use Rattle.rd_world.specs.World.{WorldState};
+ghost use Rattle.rd_world.specs.Recording.{announced_of, host_stand, is_gone_at};
+ghost use Rattle.rd_world.specs.Run.{Most, WorldRun, choices, declared_devices, run_of};
+ghost use Rattle.rd_world.specs.Talk.{AtEachPoint, Deed, EachAfter, client_moves, has_ended, journal, open_channel};
+ghost use Rattle.rd_world.specs.World.{WorldState, marks_of};
 
 /// What control lines do is a function of their acts, but for which lines do nothing: so is what a channel's end after everything adds. What is told on a channel, of devices and of
 /// printers, is what is due there by what was done.
@@ -83,4 +88,30 @@ pub fn channels_end_told()
     ensures told { (lines : List NumberedLine) (starves : Key → Bool) (w : WorldState) → RunPremises lines → Reached lines starves w → AreReadWell w.deeds
         → ((c : ℕ) → 1 ≤ c → c ≤ w.channels → Opens (declared_devices (bare_lines lines)) w.deeds c) → EachAfter EndsTold w.deeds }
     ensures channels { (lines : List NumberedLine) (starves : Key → Bool) (w : WorldState) → RunPremises lines → Reached lines starves w → AreReadWell w.deeds → (ids : List ℕ) → (control_by_deeds ids w.deeds).channels ≡ w.channels }
+{}
+
+/// Where nothing can happen by itself, and the client is ready on the channel that is open, all that is due is told on each channel that didn't end, and on each that did a beginning.
+pub fn rests_tell_all()
+    ensures told { (lines : List NumberedLine) (starves : Key → Bool) (w : WorldState) → RunPremises lines → Reached lines starves w → choices w ≡ [] → AreReadWell w.deeds
+        → ((c : ℕ) → open_channel w.deeds ≡ Some c → is_client_ready w.client.core.shake ≡ true) → (c : ℕ)
+        → let devices = declared_devices (bare_lines lines) in
+        AreSaid (Tells devices w.deeds c) (due_on (map (λ (d : ℕ × Declared). d.0) devices) c w.deeds) (tellings_on c w.deeds) (has_ended c w.deeds) }
+    ensures notices { (lines : List NumberedLine) (starves : Key → Bool) (w : WorldState) → RunPremises lines → Reached lines starves w → choices w ≡ [] → (c : ℕ)
+        → AreSaid (λ n message. message ≡ notice_bytes n) (notices_due c w.deeds) (notices_on c w.deeds) (has_ended c w.deeds) }
+{}
+
+/// So in every session of a script. With where both ends stand as channels open and at the end this is all that the control lines did.
+pub fn sessions_act()
+    ensures acted { (text : List ℕ) (script : Script) (w : WorldState) → script_of Mode.Both text ≡ Ok script → WorldRun script.lines w
+        → let devices = declared_devices (bare_lines script.lines) in
+        let ids = map (λ (d : ℕ × Declared). d.0) devices in
+        AreReadWell w.deeds → EachAfter EndsTold w.deeds → ((said : DoAsSaid ids script.lines (marks_of w) w) → left_open devices w.deeds (control_by devices script.lines) ≡ said.left)
+        → HaveActed devices script.lines w.idle w.deeds }
+    ensures whole { (devices : List (ℕ × Declared)) (lines : List NumberedLine) (idle : List ℕ) (deeds : List Deed) → (acted : HaveActed devices lines idle deeds)
+        → All (Opens devices deeds) (range_with_len 1 acted.control.channels) → All (λ c. has_ended c deeds ≡ false → option_map_or is_settled_host (host_stand deeds c) false ≡ true) (range_with_len 1 acted.control.channels)
+        → AreActed devices lines idle deeds }
+{}
+
+pub fn placeholder()
+    ensures { (n : ℕ) → n ≡ n }
 {}

@@ -6,3 +6,7 @@ pub mod Opened
 pub mod Running
 pub mod ChannelLemmas
 pub mod RunLemmas
+pub mod Submitted
+pub mod SentLemmas
+pub mod EventParts
+pub mod Issuing

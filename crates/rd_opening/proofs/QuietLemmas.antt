@@ -65,7 +65,7 @@ none_left way wrote read told same =
 
 -- ---- nothing is to be sent
 
-no_message : (s : HostSide) → next_message s ≡ None → (((s.core).core).outbox ≡ []) × ((s.table).outbox ≡ [])
+pub no_message : (s : HostSide) → next_message s ≡ None → (((s.core).core).outbox ≡ []) × ((s.table).outbox ≡ [])
 no_message s none = by ((s.core).core).outbox (s.table).outbox none
   where
     by : (a b : List (List ℕ)) → first_waiting a b ≡ None → (a ≡ []) × (b ≡ [])

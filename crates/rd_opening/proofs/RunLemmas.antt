@@ -42,7 +42,7 @@ module _ (lines : List NumberedLine) (starves : Key → Bool) (premises : RunPre
   ]
 
   pub runs_opened : (most : Most) (w : WorldState) → run_of most starves lines ≡ Some w → All (Opens (declared_devices (bare_lines lines)) w.deeds) (range_with_len 1 w.channels)
-  runs_opened most w is = all_between (Opens (declared_devices (bare_lines lines)) w.deeds) 1 w.channels (λ x least most_is. run_opens lines starves premises writable most w is x least (omega (arith, most_is)))
+  runs_opened most w is = all_between (Opens (declared_devices (bare_lines lines)) w.deeds) 1 w.channels (λ x least most_is. (run_opens lines starves premises writable most w is).0 x least (omega (arith, most_is)))
 
   pub runs_settled : (most : Most) (w : WorldState) → run_of most starves lines ≡ Some w
       → All (λ c. has_ended c w.deeds ≡ false → option_map_or is_settled_host (host_stand w.deeds c) false ≡ true) (range_with_len 1 w.channels)

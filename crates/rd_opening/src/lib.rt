@@ -5,4 +5,6 @@
 
 mod laws;
 
-pub use laws::{channels_are_numbered, channels_open, ends_settle};
+pub use laws::{
+    channels_are_numbered, channels_open, ends_settle, requests_are_sent, requests_come_opened,
+};

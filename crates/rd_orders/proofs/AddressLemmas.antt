@@ -12,7 +12,7 @@ use Rattle.rd_dirinfo.specs.Paths.{Names}
 use Rattle.rd_runs.proofs.RoomLemmas.{all_inserted}
 use Rattle.rd_script.proofs.RowLemmas.{ok_same, then_ok}
 use Rattle.rd_script.specs.Numbers.{number_word}
-use Rattle.rd_script.specs.Row.{Row, done, given, met_words, test, words_of, ◌>>=◌}
+use Rattle.rd_script.specs.Row.{Row, done, met_words, test, words_of, ◌>>=◌}
 use Rattle.rd_script.specs.Rows.{act_row, add_row, application_row, at_add, at_remove, at_row, cache_add_row, cache_delete_row, cache_rename_row, cache_row, cache_update_row, channels_row, clock_row, control_line_row, control_row, create_numbers, create_row, devices_row, dir_row, do_row, drive_row, drivefold_row, file_row, fill_row, folder_row, form_row, keyword_row, line_row, lock_row, new_device, notice_row, notify_row, open_row, piece_row, printer_row, query_row, read_row, real_row, remove_row, seed_row, set_row, setvolume_row, verb_row, volume_row, workers_row, write_row}
 use Rattle.rd_script.specs.Said.{Said}
 use Rattle.rd_script.specs.Script.{BadLine, Reading, TextLine, bad_line, fits, go_on, is_application, is_skipped, line_of, lines_of, read_all, reading_at_start, script_of, script_read, skipping, step, taken}
@@ -65,13 +65,6 @@ row_test b cause = record { each = by b }
     by : (b : Bool) (ws : List (List ℕ)) (u : Unit {0}) (rest : List (List ℕ)) → met_words (test b cause) ws ≡ Ok (u, rest) → b ≡ true
     by true ws u rest e = refl
     by false ws u rest e = absurd cc
-
-row_given : {A : Type 0} (o : Option A) (cause : LineWhy) → EachRow (λ (a : A). o ≡ Some a) (given o cause)
-row_given {A} o cause = record { each = by o }
-  where
-    by : (o : Option A) (ws : List (List ℕ)) (a : A) (rest : List (List ℕ)) → met_words (given o cause) ws ≡ Ok (a, rest) → o ≡ Some a
-    by None ws a rest e = absurd cc
-    by (Some x) ws a rest e = ap (λ (y : A × List (List ℕ)). Some y.0) (ok_same (x, ws) (a, rest) e)
 
 -- ---- lines
 

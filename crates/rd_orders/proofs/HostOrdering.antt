@@ -198,7 +198,7 @@ module _ (lines : List NumberedLine) (starves : Key → Bool) (premises : RunPre
   Known w = IsKnown lines starves premises declared devices writable w
 
   -- a request that is to be sent is one
-  asked_request : (w : WorldState) → Knows w → open_channel w.deeds ≡ Some w.channels → (m : List ℕ) (others : List (List ℕ)) → ((w.side).table).outbox ≡ m ∷ others → (r : Request) × (request_in m ≡ Some r)
+  pub asked_request : (w : WorldState) → Knows w → open_channel w.deeds ≡ Some w.channels → (m : List ℕ) (others : List (List ℕ)) → ((w.side).table).outbox ≡ m ∷ others → (r : Request) × (request_in m ≡ Some r)
   asked_request w k is m others asked =
       let host = k.stands.host in
       let t : TableState = (side_of client_id w.deeds).table in

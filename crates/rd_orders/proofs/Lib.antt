@@ -9,3 +9,4 @@ pub mod LifeLemmas
 pub mod HostOrders
 pub mod HostOrdering
 pub mod AddressLemmas
+pub mod RecordedLemmas

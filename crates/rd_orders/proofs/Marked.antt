@@ -160,17 +160,16 @@ module _ (lines : List NumberedLine) (starves : Key → Bool) where
   none_marked [] = tt
   none_marked (a ∷ devices) = (refl, none_marked devices)
 
+  seen_marked : (w : WorldState) → IsBehind lines starves w → Marked (seen w)
+  seen_marked = by_parts lines starves (λ x. Marked (seen x)) (begins_as lines (λ (u : Unset). AreMarked (filter_map act_by u.deeds) (map mark (u.client).devices)) (none_marked _))
+      (λ w p before after may m. part_marked w p may m)
+
   pub behind_marked : (w : WorldState) → IsBehind lines starves w → MarksAre w.deeds (w.client).devices
-  behind_marked w behind =
-      marks_by w.deeds (w.client).devices
-      (by_parts lines starves (λ x. Marked (seen x)) (begins_as lines (λ (u : Unset). AreMarked (filter_map act_by u.deeds) (map mark (u.client).devices)) (none_marked _))
-      (λ w p before after may m. part_marked w p may m) w behind)
+  behind_marked w behind = marks_by w.deeds (w.client).devices (seen_marked w behind)
 
   -- the same of the world before a channel begins, with its printers' data
   pub refreshed_marked : (w : WorldState) → IsBehind lines starves w → let fresh = fold refreshing w (map (λ (e : ℕ × PrinterNames). e.0) w.printers) in MarksAre fresh.deeds (fresh.client).devices
   refreshed_marked w behind =
       let fresh : WorldState = fold refreshing w (map (λ (e : ℕ × PrinterNames). e.0) w.printers) in
       marks_by fresh.deeds (fresh.client).devices
-      (unseen_marked w fresh (all_refreshed [] lines (map (λ (e : ℕ × PrinterNames). e.0) w.printers) w)
-      (by_parts lines starves (λ x. Marked (seen x)) (begins_as lines (λ (u : Unset). AreMarked (filter_map act_by u.deeds) (map mark (u.client).devices)) (none_marked _))
-      (λ w p before after may m. part_marked w p may m) w behind))
+      (unseen_marked w fresh (all_refreshed [] lines (map (λ (e : ℕ × PrinterNames). e.0) w.printers) w) (seen_marked w behind))

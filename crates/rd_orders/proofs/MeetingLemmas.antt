@@ -61,9 +61,6 @@ next_first down later read m told =
     let both : reverse down ++ read ≡ reverse (m ∷ later) ++ read = told ∙ sym (append_assoc (reverse later) (m ∷ []) read) ∙ ap (λ (ms : List (List ℕ)). ms ++ read) (sym one) in
     sym (reverse-reverse down) ∙ ap reverse (append_cancel_right (reverse down) (reverse (m ∷ later)) read both) ∙ reverse-reverse (m ∷ later)
 
-pub one_less : (later read : List (List ℕ)) (m : List ℕ) → reverse (m ∷ later) ++ read ≡ reverse later ++ m ∷ read
-one_less later read m = ap (λ (ms : List (List ℕ)). ms ++ read) (reverse-append (m ∷ []) later) ∙ append_assoc (reverse later) (m ∷ []) read
-
 pub ready_is : (s : ClientState) → is_client_ready s ≡ true → s ≡ client_state.Ready
 ready_is client_state.Start e = absurd (cc e)
 ready_is client_state.Named e = absurd (cc e)

@@ -1,7 +1,9 @@
 //! What holds of the order of messages in every run, as contracts of functions that do nothing.
 
 ghost use Rattle.std.specs.Prelude.{◌≡◌, ℕ, Bool, List, Ok, Some, reverse};
+ghost use Rattle.std.specs.List.{AllByRecursion};
 ghost use Rattle.rd_base.specs.declared.journal.Key.{Key};
+ghost use Rattle.rd_client.specs.Core.{ClientDevice};
 ghost use Rattle.rd_client.specs.Order.{ClientOrder};
 ghost use Rattle.rd_host.specs.Order.{HostOrder};
 ghost use Rattle.rd_pending.specs.History.{lives_before};
@@ -13,9 +15,9 @@ ghost use Rattle.rd_script.specs.declared.line.NumberedLine.{NumberedLine};
 ghost use Rattle.rd_script.specs.declared.script.Script.{Script};
 ghost use Rattle.rd_world.specs.HostDeeds.{calls_of};
 ghost use Rattle.rd_world.specs.Opening.{bare_lines};
-ghost use Rattle.rd_world.specs.Recording.{announced_of, client_id, is_gone_at};
-ghost use Rattle.rd_world.specs.Run.{declared_devices};
-ghost use Rattle.rd_world.specs.Talk.{client_moves, host_moves, open_channel};
+ghost use Rattle.rd_world.specs.Recording.{IsRecorded, announced_of, client_id, is_gone_at, recording_of_deeds};
+ghost use Rattle.rd_world.specs.Run.{WorldRun, declared_devices};
+ghost use Rattle.rd_world.specs.Talk.{client_moves, host_moves, is_removed, open_channel};
 ghost use Rattle.rd_world.specs.World.{WorldState};
 ghost use Rattle.rd_orders.specs.Orders.{ClientStandsIn, DeclaresWritable, HostStandsIn, IsFine};
 
@@ -35,7 +37,20 @@ pub fn ends_stand()
     ensures host { (lines : List NumberedLine) (starves : Key → Bool) (w : WorldState) → RunPremises lines → DeclaresWritable lines → Reached lines starves w → open_channel w.deeds ≡ Some w.channels → HostStandsIn w }
 {}
 
+/// A client has its devices marked as removed where they were, and not added since.
+pub fn removals_are_marked()
+    ensures { (lines : List NumberedLine) (starves : Key → Bool) (w : WorldState) → Reached lines starves w → AllByRecursion (λ (d : ClientDevice). d.removed ≡ is_removed (d.announce).id w.deeds) (w.client).devices }
+{}
+
 /// What a script that was read declares can be written: so both of every session of a script.
 pub fn scripts_are_writable()
     ensures { (m : Mode) (text : List ℕ) (script : Script) → script_of m text ≡ Ok script → DeclaresWritable script.lines }
+{}
+
+/// What was done is recorded, at every point: so is what is done in a session of a script.
+pub fn runs_are_recorded()
+    ensures points { (lines : List NumberedLine) (starves : Key → Bool) (w : WorldState) → RunPremises lines → DeclaresWritable lines → Reached lines starves w
+        → IsRecorded (declared_devices (bare_lines lines)) (recording_of_deeds w.deeds) w.deeds }
+    ensures sessions { (m : Mode) (text : List ℕ) (script : Script) (w : WorldState) → script_of m text ≡ Ok script → WorldRun script.lines w
+        → IsRecorded (declared_devices (bare_lines script.lines)) (recording_of_deeds w.deeds) w.deeds }
 {}

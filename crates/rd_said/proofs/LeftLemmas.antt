@@ -6,11 +6,10 @@ use Rattle.std.specs.BTreeMap.{is_at}
 use Rattle.rd_acted.proofs.OrderLemmas.{orders_read}
 use Rattle.rd_acted.proofs.TellLemmas.{behind_tells}
 use Rattle.rd_acted.specs.Acted.{AreReadWell}
-use Rattle.rd_answered.proofs.SessionLemmas.{reached_answered, reached_good}
+use Rattle.rd_answered.proofs.SessionLemmas.{reached_good}
 use Rattle.rd_answered.specs.Refusing.{DeclareWritable}
 use Rattle.rd_base.specs.declared.journal.Key.{Key}
 use Rattle.rd_client.specs.Core.{Outgoing}
-use Rattle.rd_joined.proofs.RoomLemmas.{unworn}
 use Rattle.rd_journals.proofs.AnswerLemmas.{reached_spelled}
 use Rattle.rd_journals.proofs.ChannelLemmas.{all_refreshed, begun_on}
 use Rattle.rd_journals.proofs.DeclaredLemmas.{bounded_fit}
@@ -30,6 +29,7 @@ use Rattle.rd_runs.specs.Moves.{IsOfLines, Reached, RunMove, after_move, draws, 
 use Rattle.rd_runs.specs.Premises.{RunPremises}
 use Rattle.rd_script.specs.declared.line.NumberedLine.{NumberedLine}
 use Rattle.rd_station.specs.Station.{StationState}
+use Rattle.rd_rest.proofs.TurnsLemmas.{reached_in_turn}
 use Rattle.rd_told.proofs.OpenLemmas.{stored_open}
 use Rattle.rd_world.proofs.BeginningLemmas.{begun_by}
 use Rattle.rd_world.proofs.Lists.{each_end}
@@ -48,7 +48,6 @@ use Rattle.rd_world.specs.World.{WorldState, station_at}
 use Rattle.rd_world.specs.declared.device.SessionDevice.{SessionDevice}
 use Rattle.rd_said.proofs.EndingLemmas.{GoesOn, cutting_same, left_now}
 use Rattle.rd_said.proofs.LastLemmas.{behind_last}
-use Rattle.rd_said.proofs.MeetLemmas.{behind_turns}
 use Rattle.rd_said.proofs.PartLemmas.{IsWithin, Passes, part_passes, passes_inside}
 use Rattle.rd_said.proofs.SameLemmas.{IsOnOpen, ended_all, left_same, open_all, same_all, same_one}
 use Rattle.rd_said.specs.Rest.{WasLeft}
@@ -154,7 +153,7 @@ module _ (lines : List NumberedLine) (starves : Key → Bool) (premises : RunPre
         standing = behind_standing lines starves w fit behind;
         spelled = reached_spelled lines starves fit premises w reached;
         saying = (reached_good lines starves premises few w reached declare).0;
-        turns = behind_turns lines starves fit premises w.deeds w behind ((reached_answered lines starves premises few w reached declare).answers, unworn lines starves premises w reached few fit);
+        turns = reached_in_turn lines starves premises declare few w reached;
         last = behind_last lines starves fit w behind;
         answers = k.on.outbox;
         tells = behind_tells lines starves premises w behind (read_well w behind);

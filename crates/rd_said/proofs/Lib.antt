@@ -1,7 +1,6 @@
 pub mod RestLemmas
 pub mod SameLemmas
 pub mod LastLemmas
-pub mod MeetLemmas
 pub mod EndingLemmas
 pub mod PartLemmas
 pub mod LeftLemmas

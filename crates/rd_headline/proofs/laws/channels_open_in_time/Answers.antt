@@ -1,3 +1,8 @@
+use Rattle.rd_headline.proofs.SessionLemmas
+use Rattle.rd_headline.proofs.WholeLemmas
+use Rattle.rd_headline.proofs.StillLemmas
+use Rattle.rd_headline.proofs.AnsweredLemmas
+use Rattle.rd_headline.proofs.HeardLemmas
 use Rattle.rd_headline.proofs.StandLemmas.{opens_in_time}
 use Rattle.rd_headline.proofs.laws.channels_open_in_time.Goals as goal
 

@@ -1,0 +1,10 @@
+pub mod CalmLemmas
+pub mod HandLemmas
+pub mod OverLemmas
+pub mod RestLemmas
+pub mod ParkedLemmas
+pub mod FullLemmas
+pub mod TurnsLemmas
+pub mod CompletedLemmas
+pub mod WaitingLemmas
+pub mod LeftLemmas
