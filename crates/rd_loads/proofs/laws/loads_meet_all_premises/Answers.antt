@@ -1,0 +1,4 @@
+use Rattle.rd_loads.proofs.laws.loads_meet_all_premises.Goals as goal
+
+pub returns : goal.returns
+returns c count few = ?
