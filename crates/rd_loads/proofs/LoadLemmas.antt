@@ -1,5 +1,5 @@
 -- The lines of every load are as statements on every run take them.
-use Rattle.std.proofs.Common.{◌≡◌, ◌∙◌, refl, sym, ap, subst, inl, inr, ℕ, ◌+◌, ◌*◌, ◌≤◌, arith, List, [], ◌∷◌, length, Option, Some}
+use Rattle.std.proofs.Common.{◌≡◌, ◌∙◌, refl, sym, subst, inl, inr, ℕ, ◌+◌, ◌*◌, ◌≤◌, arith, List, [], ◌∷◌, length, Option}
 use Rattle.std.specs.Prelude.{IfSome, codes, map}
 use Rattle.std.specs.List.{AllByRecursion}
 use Rattle.std.proofs.lemmas.List.Elements.{All-from_recursion}
@@ -7,20 +7,20 @@ use Rattle.std.proofs.lemmas.Map.Keys.{IsStrictlyIncreasing-from_sorted}
 use Rattle.rd_answered.specs.Refusing.{DeclaresWritable}
 use Rattle.rd_client.specs.Events.{AreWritable, IsWritableDevice}
 use Rattle.rd_controls.proofs.Numbers.{numbers}
-use Rattle.rd_controls.specs.Controls.{AreOrderedLines, NamesKnown}
+use Rattle.rd_controls.specs.Controls.{NamesKnown}
 use Rattle.rd_dirinfo.specs.declared.naming.Naming.TheVariants as naming
 use Rattle.rd_drive.specs.Bounded.{IsBounded}
 use Rattle.rd_drive.specs.DriveState.{empty_drive}
 use Rattle.rd_loads.specs.AllPremises.{MeetPremises}
 use Rattle.rd_loads.proofs.LoadedLemmas.{IsWithin, drives, each_numbered, load_devices, long_load, long_numbered, numbers_rise, within_lines}
 use Rattle.rd_ranges.specs.Ranges.{AreFreshDevices}
-use Rattle.rd_runs.specs.Premises.{AreBounded, AreSubmittable, DeviceFits, IsSubmittable, RunPremises}
+use Rattle.rd_runs.specs.Premises.{AreBounded, AreSubmittable, DeviceFits, IsSubmittable}
 use Rattle.rd_script.specs.declared.line.Line.{Line}
 use Rattle.rd_script.specs.declared.line.NumberedLine.{NumberedLine}
 use Rattle.rd_script.specs.Load.{load_lines, load_script, numbered}
-use Rattle.rd_world.specs.Applications.{AreNumbered, IsNumber}
+use Rattle.rd_world.specs.Applications.{IsNumber}
 use Rattle.rd_world.specs.Devices.{Declared, declaring}
-use Rattle.rd_world.specs.Noting.{AreNotable, IsNotable}
+use Rattle.rd_world.specs.Noting.{IsNotable}
 use Rattle.rd_world.specs.Opening.{AreDeclared, IsDeclarable, bare_lines}
 use Rattle.rd_world.specs.Recording.{announced_of}
 use Rattle.rd_world.specs.Run.{asked_by, declared_devices}
