@@ -20,3 +20,4 @@ pub mod ReachedLemmas
 pub mod OrderLemmas
 pub mod EndedLemmas
 pub mod LeadingLemmas
+pub mod WaitLemmas
