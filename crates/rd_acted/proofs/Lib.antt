@@ -21,3 +21,4 @@ pub mod OrderLemmas
 pub mod EndedLemmas
 pub mod LeadingLemmas
 pub mod WaitLemmas
+pub mod LeftLemmas
