@@ -7,6 +7,7 @@ use Rattle.std.specs.Map.{lookup}
 use Rattle.std.specs.Option.{option_map_or, unwrap_or}
 use Rattle.std.specs.Ordering.{nat_cmp}
 use Rattle.std.specs.BTreeMap.{is_at}
+use Rattle.std.proofs.lemmas.Bool.Decides.{nat_tests}
 use Rattle.std.proofs.lemmas.List.{reverse-append, reverse-reverse}
 use Rattle.std.proofs.lemmas.List.Elements.{All-contains, filter_map-append}
 use Rattle.rd_base.specs.Lawful.{sends}
@@ -27,7 +28,11 @@ use Rattle.rd_journals.proofs.ShortLemmas.{came_read}
 use Rattle.rd_journals.proofs.HeldLemmas.{turned_has}
 use Rattle.rd_journals.proofs.WorkLemmas.{behind_working, station_tied}
 use Rattle.rd_journals.specs.Jobs.{IsTiedTo}
-use Rattle.rd_journals.specs.Orderly.{Orderly}
+use Rattle.rd_journals.specs.Orderly.{Orderly, current}
+use Rattle.rd_base.specs.Lawful.{Settles}
+use Rattle.rd_station.proofs.Holding.{in_held}
+use Rattle.rd_station.proofs.Remembering.{any_has, came_named}
+use Rattle.rd_station.specs.Memory.{NamesKey}
 use Rattle.rd_journals.specs.Reads.{IsRead}
 use Rattle.rd_journals.specs.Stations.{AreFit, IsFit, IsOn}
 use Rattle.rd_runs.proofs.HostLemmas.{host_channel}
@@ -37,12 +42,12 @@ use Rattle.rd_runs.specs.Moves.{Reached}
 use Rattle.rd_runs.specs.Premises.{RunPremises}
 use Rattle.rd_script.specs.declared.line.NumberedLine.{NumberedLine}
 use Rattle.rd_station.proofs.Calls.{reached_keeps}
-use Rattle.rd_station.proofs.Keeping.{Keeps}
+use Rattle.rd_station.proofs.Keeping.{IsHeld, Keeps}
 use Rattle.rd_station.specs.Station as station
 use Rattle.rd_station.specs.Station.{StationState, is_key}
 use Rattle.rd_station.specs.Tied.{as_parked}
 use Rattle.rd_station.specs.declared.held.ParkedJob.{ParkedJob}
-use Rattle.rd_station.proofs.Members.{from_contains, same_key, to_contains}
+use Rattle.rd_station.proofs.Members.{from_contains, key_self, same_key, to_contains}
 use Rattle.rd_world.proofs.Agreeing.{agree}
 use Rattle.rd_world.proofs.Journals.{IsPlain, has_contains, plain_of}
 use Rattle.rd_world.proofs.OpeningLemmas.{declared_openable}
@@ -73,18 +78,18 @@ any_none : {A : Type 0} (p : A → Bool) (xs : List A) → ((x : A) → Has x xs
 any_none p [] none = refl
 any_none p (x ∷ xs) none = rw (none x (inl refl)) (any_none p xs (λ y has. none y (inr has)))
 
-any_has : {A : Type 0} (p : A → Bool) (xs : List A) → list_any p xs ≡ true → (x : A) × Has x xs × (p x ≡ true)
-any_has p [] is = absurd (cc is)
-any_has {A} p (x ∷ xs) is = by (p x) refl is (any_has p xs)
+any_has_item : {A : Type 0} (p : A → Bool) (xs : List A) → list_any p xs ≡ true → (x : A) × Has x xs × (p x ≡ true)
+any_has_item p [] is = absurd (cc is)
+any_has_item {A} p (x ∷ xs) is = by (p x) refl is (any_has_item p xs)
   where
     by : (b : Bool) → p x ≡ b → (b || list_any p xs) ≡ true → (list_any p xs ≡ true → (y : A) × Has y xs × (p y ≡ true)) → (y : A) × Has y (x ∷ xs) × (p y ≡ true)
     by true e some later = (x, inl refl, e)
     by false e some later = let (y, has, own) = later some in (y, inr has, own)
 
-has_any : {A : Type 0} (p : A → Bool) (xs : List A) (x : A) → Has x xs → p x ≡ true → list_any p xs ≡ true
-has_any p [] x has is = absurd has
-has_any p (y ∷ xs) x (inl same) is = ap (λ (b : Bool). b || list_any p xs) (ap p (sym same) ∙ is)
-has_any p (y ∷ xs) x (inr has) is = by (p y) (has_any p xs x has is)
+has_any_item : {A : Type 0} (p : A → Bool) (xs : List A) (x : A) → Has x xs → p x ≡ true → list_any p xs ≡ true
+has_any_item p [] x has is = absurd has
+has_any_item p (y ∷ xs) x (inl same) is = ap (λ (b : Bool). b || list_any p xs) (ap p (sym same) ∙ is)
+has_any_item p (y ∷ xs) x (inr has) is = by (p y) (has_any_item p xs x has is)
   where
     by : (b : Bool) → list_any p xs ≡ true → (b || list_any p xs) ≡ true
     by true rest = refl
@@ -288,9 +293,9 @@ module _ (lines : List NumberedLine) (starves : Key → Bool) (premises : RunPre
         by false e =
             let (f, has_f, is) = station_has v.stations there in
             let own : is_left_parked s.journal v.channels (Ran k moment starved true) ≡ true = rw (channel, e) refl in
-            let here : list_any (is_left_parked s.journal v.channels) s.journal ≡ true = has_any (is_left_parked s.journal v.channels) s.journal (Ran k moment starved true) has own in
+            let here : list_any (is_left_parked s.journal v.channels) s.journal ≡ true = has_any_item (is_left_parked s.journal v.channels) s.journal (Ran k moment starved true) has own in
             let at : list_any (is_left_parked (f.1).journal v.channels) (f.1).journal ≡ true = subst (λ (t : Of). list_any (is_left_parked t.journal v.channels) t.journal ≡ true) (sym is) here in
-            let some : some_left v ≡ true = has_any (λ (g : ℕ × Of). let t = g.1 in list_any (is_left_parked t.journal v.channels) t.journal) v.stations f has_f at in
+            let some : some_left v ≡ true = has_any_item (λ (g : ℕ × Of). let t = g.1 in list_any (is_left_parked t.journal v.channels) t.journal) v.stations f has_f at in
             absurd (cc (none, some))
 
     pub none_waits : some_left v ≡ false → some_wait devices v.deeds v.channels ≡ false
@@ -348,3 +353,120 @@ module _ (lines : List NumberedLine) (starves : Key → Bool) (premises : RunPre
                 let same : p.key.channel ≡ v.channels = eqb-true p.key.channel v.channels on in
                 elim (over.over at_end.channel at_end.ended) [ inl below ↦ omega (arith, below, low, same) | inr shut ↦ cc (opened, shut.1) ])
             by j e waits = normal j e waits
+
+  -- ---- a request waits where a journal leaves one waiting
+
+  all_has : {A : Type 0} (P : A → Type 0) (xs : List A) → AllByRecursion P xs → (x : A) → Has x xs → P x
+  all_has P [] all x has = absurd has
+  all_has P (y ∷ xs) all x (inl same) = subst P (sym same) all.0
+  all_has P (y ∷ xs) all x (inr has) = all_has P xs all.1 x has
+
+  found_has : {X : Type 0} (es : List (ℕ × X)) (k : ℕ) (x : X) → lookup (is_at (nat_cmp k)) es ≡ Some x → Has (k, x) es
+  found_has [] k x at = absurd (cc at)
+  found_has {X} (e ∷ es) k x at = find (is_at (nat_cmp k) e.0) refl at (found_has es k x)
+    where
+      find : (b : Bool) → is_at (nat_cmp k) e.0 ≡ b → (if b then Some e.1 else lookup (is_at (nat_cmp k)) es) ≡ Some x → (lookup (is_at (nat_cmp k)) es ≡ Some x → Has (k, x) es) → Has (k, x) (e ∷ es)
+      find true here found later =
+          let own : k ≡ e.0 = grind (arith, nat_tests, here) in
+          let value : e.1 ≡ x = cc found in
+          inl (λ i. (own i, sym value i))
+      find false here found later = inr (later found)
+
+  parked_at : (k : Key) (ps : List ParkedJob) (q : ParkedJob) → Has q ps → Has (as_parked q) (map as_parked ps)
+  parked_at k [] q has = absurd has
+  parked_at k (p ∷ ps) q (inl same) = inl (ap as_parked same)
+  parked_at k (p ∷ ps) q (inr has) = inr (parked_at k ps q has)
+
+  module _ (goes : GoWell v.deeds) (opened : open_channel v.deeds ≡ Some v.channels) (quiet_stations : (d : ℕ) (s : Of) → station_at v d ≡ Some s → s.ready ≡ []) where
+    -- what ran and was left waiting is parked
+    is_parked_now : (d : ℕ) (s : Of) → station_at v d ≡ Some s → (k : Key) (moment : ℕ) (starved : Bool) → Has (Ran k moment starved true) s.journal → (k.channel == v.channels) ≡ true → list_any (sends k) s.journal ≡ false
+        → (q : ParkedJob) × Has q s.parked × (q.key ≡ k)
+    is_parked_now d s there k moment starved has channel unsent = elim (on.sound.remembers.known k names) [
+      | inl known_it ↦ elim known_it [
+        | inl held_it ↦ (let (x, has_x, same) = any_has (λ (other : Key × ℕ). other.0 ≡ k) (station.held s) held_it in here x has_x same)
+        | inr sent ↦ absurd (sent_not (from_contains s.journal (Sent k) sent))
+      ]
+      | inr forgotten ↦ (
+        let low : forgotten.0 < current ((v.side).table).channel v.channels = on.forgotten forgotten.0 forgotten.1 in
+        let now : current ((v.side).table).channel v.channels ≡ v.channels = ap (λ (o : Option ℕ). current o v.channels) (host_channel v.side v.channels v.deeds (known lines starves premises v r).stands.host ∙ opened) in
+        let same : k.channel ≡ v.channels = eqb-true k.channel v.channels channel in
+        let under : k.channel ≤ forgotten.0 = forgotten.2 in
+        absurd (omega (arith, low, now, same, under)))
+    ]
+      where
+        on : IsOn (current ((v.side).table).channel v.channels) s
+        on = (ordered.held).on d s there
+
+        own_tied : reverse (journal d v.deeds) ≡ s.journal
+        own_tied = (ordered.held).tied d s there
+
+        names : NamesKey s.journal k
+        names =
+            let own : Has (Ran k moment starved true) (journal d v.deeds) = turned_has (Ran k moment starved true) (journal d v.deeds) (subst (λ (js : List Item). Has (Ran k moment starved true) js) (sym own_tied) has) in
+            came_named s.journal k (subst (λ (js : List Item). Contains js (Came k)) own_tied (has_contains (Came k) (journal d v.deeds) (run_came (journal d v.deeds) (plain d) k moment starved true own)))
+
+        sent_not : Has (Sent k) s.journal → ⊥
+        sent_not sent = let some : list_any (sends k) s.journal ≡ true = has_any_item (sends k) s.journal (Sent k) sent (key_self k) in cc (some, unsent)
+
+        c : ℕ
+        c = (keeps d s there).0
+
+        own : Keeps device_parked c s
+        own = (keeps d s there).1
+
+        ran_not : (key : Key) → key ≡ k → All (λ x. ¬ (Settles key x)) s.journal → ⊥
+        ran_not key same unsettled =
+            All-contains (λ x. ¬ (Settles key x)) s.journal (Ran k moment starved true) unsettled (to_contains s.journal (Ran k moment starved true) has) (sym same)
+
+        unrun_of : (removed : Bool) (key : Key) → key ≡ k → IsHeld removed key s.journal → ⊥
+        unrun_of true key same is = ran_not key same is.unrun.unsettled
+        unrun_of false key same is = ran_not key same is.unrun.unsettled
+
+        here : (x : Key × ℕ) → Has x (station.held s) → x.0 ≡ k → (q : ParkedJob) × Has q s.parked × (q.key ≡ k)
+        here = in_held (λ (x : Key × ℕ). x.0 ≡ k → (q : ParkedJob) × Has q s.parked × (q.key ≡ k)) s
+            (λ job has_job same. absurd (ran_not job.key same (own.waiting job has_job).1.unrun.unsettled))
+            (λ t has_t same. absurd (unrun_of t.removed t.key same (own.taken t has_t).1))
+            (λ p has_p same. (p, has_p, same))
+            (λ x has_x same. absurd (subst (Has x) (quiet_stations d s there) has_x))
+
+    left_key : (d : ℕ) (s : Of) (x : Item) → Has x s.journal → is_left_parked s.journal v.channels x ≡ true
+        → (k : Key) × (moment : ℕ) × (starved : Bool) × Has (Ran k moment starved true) s.journal × ((k.channel == v.channels) ≡ true) × (list_any (sends k) s.journal ≡ false)
+    left_key d s (Ran k m st true) has is = by (k.channel == v.channels) refl (list_any (sends k) s.journal) refl is
+      where
+        by : (a : Bool) → (k.channel == v.channels) ≡ a → (b : Bool) → list_any (sends k) s.journal ≡ b → (a && not b) ≡ true
+            → (j : Key) × (moment : ℕ) × (starved : Bool) × Has (Ran j moment starved true) s.journal × ((j.channel == v.channels) ≡ true) × (list_any (sends j) s.journal ≡ false)
+        by true e false f on = (k, m, st, has, e, f)
+        by true e true f on = absurd (cc on)
+        by false e b f on = absurd (cc on)
+    left_key d s (Ran k m st false) has is = absurd (cc is)
+    left_key d s (Came k) has is = absurd (cc is)
+    left_key d s (Cancelled k) has is = absurd (cc is)
+    left_key d s (Sent k) has is = absurd (cc is)
+    left_key d s (Cut cause) has is = absurd (cc is)
+
+    pub some_waits : (later : List Deed) → IsCarried (later ++ v.deeds) → ((d : ℕ) (s : Of) → station_at v d ≡ Some s → s.live ≡ true → journal d (later ++ v.deeds) ≡ Cut Dropped ∷ journal d v.deeds)
+        → some_left v ≡ true → some_wait devices (later ++ v.deeds) v.channels ≡ true
+    some_waits later carried_then dropped some =
+        let (e, has_e, left_in) = any_has_item (λ (g : ℕ × Of). let t = g.1 in list_any (is_left_parked t.journal v.channels) t.journal) v.stations some in
+        let there : station_at v e.0 ≡ Some e.1 = all_has (λ (f : ℕ × Of). lookup (is_at (nat_cmp f.0)) v.stations ≡ Some f.1) v.stations
+        (each_found v.stations (subst (λ (ks : List ℕ). IsStrictlySortedBy nat_cmp ks) (sym (behind_there lines starves premises v behind goes).keyed) rise) (λ k x. lookup (is_at (nat_cmp k)) v.stations ≡ Some x) (λ k x at. at)) e has_e in
+        let (x, has_x, is) = any_has_item (is_left_parked (e.1).journal v.channels) (e.1).journal left_in in
+        one e.0 e.1 there (left_key e.0 e.1 x has_x is)
+      where
+        one : (d : ℕ) (s : Of) → station_at v d ≡ Some s → (k : Key) × (moment : ℕ) × (starved : Bool) × Has (Ran k moment starved true) s.journal × ((k.channel == v.channels) ≡ true) × (list_any (sends k) s.journal ≡ false)
+            → some_wait devices (later ++ v.deeds) v.channels ≡ true
+        one d s there (k, moment, starved, has, channel, unsent) =
+            let (q, has_q, names) = is_parked_now d s there k moment starved has channel unsent in
+            let (c, own) = keeps d s there in
+            let (x, at, is) = tied d s there in
+            let same : journal d (later ++ v.deeds) ≡ Cut Dropped ∷ journal d v.deeds = dropped d s there (live s.live refl own q has_q) in
+            let state : device_parked (last_state_by device_step device_cut (request_of (later ++ v.deeds)) x.state (reverse (before_end (journal d (later ++ v.deeds))))) ≡ map as_parked s.parked =
+            ap (λ (js : List Item). device_parked (last_state_by device_step device_cut (request_of (later ++ v.deeds)) x.state (reverse (before_end js)))) same
+            ∙ ap (λ (js : List Item). device_parked (last_state_by device_step device_cut (request_of (later ++ v.deeds)) x.state js)) ((ordered.held).tied d s there)
+            ∙ ap device_parked (sym (device_is later carried_then d s there x is)) ∙ sym own.parked in
+            keys_some (λ (key : Key). key.channel == v.channels) (waiting_in (later ++ v.deeds)) devices (d, x) (as_parked q) (found_has devices d x at)
+            (subst (Has (as_parked q)) (sym state) (parked_at k s.parked q has_q)) (ap (λ (key : Key). key.channel == v.channels) names ∙ channel)
+          where
+            live : (b : Bool) → s.live ≡ b → {c : ℕ} → Keeps device_parked c s → (q : ParkedJob) → Has q s.parked → s.live ≡ true
+            live true e own q has_q = e
+            live false e own q has_q = absurd (subst (Has q) (own.idle e).1 has_q)
