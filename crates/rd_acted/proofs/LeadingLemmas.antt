@@ -445,7 +445,7 @@ first_sees lines rise =
 -- What the last line of a run leaves: a world that was reached and is at rest, whose open channel is that of the control, and from which the run ends.
 pub record RestsAfter (lines : List NumberedLine) (starves : Key → Bool) (most : Most) (control : Control) (w : WorldState) : Type 0 where
   pub last : WorldState
-  pub reached : Reached lines starves last
+  pub within : ReachedWithin (length lines + 1) lines starves last
   pub rests : choices last ≡ []
   pub channel : ((last.side).table).channel ≡ control.current
   pub ends : ends_session starves most last ≡ Some w
@@ -454,7 +454,7 @@ rests_by : (lines : List NumberedLine) (starves : Key → Bool) (most : Most) (i
 rests_by lines starves most ids rise premises w None own e = absurd (cc e)
 rests_by lines starves most ids rise premises w (Some v) (led, rests) e = record {
   last = v;
-  reached = (let r = led.base.reached in let few : led.base.count ≤ length lines + 2 = omega (arith, led.base.few) in record { moves = r.moves; pass = r.pass; few = omega (arith, few, r.few); leads = r.leads });
+  within = (let r = led.base.reached in let few : led.base.count ≤ length lines + 1 = omega (arith, led.base.few) in record { moves = r.moves; pass = r.pass; few = omega (arith, few, r.few); leads = r.leads });
   rests = rests;
   channel = led.base.sees.channel;
   ends = e;

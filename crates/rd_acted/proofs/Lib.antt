@@ -22,3 +22,4 @@ pub mod EndedLemmas
 pub mod LeadingLemmas
 pub mod WaitLemmas
 pub mod LeftLemmas
+pub mod ClosedLemmas

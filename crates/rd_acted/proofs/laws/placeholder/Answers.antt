@@ -1,4 +1,4 @@
-use Rattle.rd_acted.proofs.LeftLemmas.{none_waits, some_waits}
+use Rattle.rd_acted.proofs.ClosedLemmas.{rest_ready}
 use Rattle.rd_acted.proofs.laws.placeholder.Goals as goal
 use Rattle.std.proofs.Common.{refl}
 
