@@ -1,7 +1,8 @@
 -- Where no channel is open nothing is stored by what happens by itself; so at the end of a run the channel is left open where a request of it waits.
 use Rattle.std.proofs.Common.{◌≡◌, ◌⊎◌, ◌∙◌, refl, sym, ap, subst, inl, inr, ℕ, ◌+◌, ◌≤◌, ◌==◌, ◌&&◌, ◌||◌, Bool, true, false, not, arith, eq-eqb, eqb-true, List, [], ◌∷◌, ◌++◌, length, map, reverse, fold, drop, Some, None, Option, Result, Ok, Err, append-nil, append_assoc, is_some}
 use Rattle.std.specs.Prelude.{filter, filter_map, find, if◌then◌else◌, nat_le, nat_lt, is_none}
-use Rattle.std.specs.List.{cons_option, flat_map, list_any}
+use Rattle.std.specs.List.{AllByRecursion, cons_option, flat_map, list_any}
+use Rattle.std.specs.declared.cmp.Ordering.TheVariants.{Less}
 use Rattle.std.specs.List.Sorted.{IsStrictlySortedBy}
 use Rattle.std.specs.Map.{lookup}
 use Rattle.std.specs.Option.{IfSome, option_and_then, option_map_or}
@@ -57,12 +58,16 @@ use Rattle.rd_world.specs.declared.device.SessionDevice.{SessionDevice}
 use Rattle.rd_world.specs.World.{handle_named}
 use Rattle.rd_pending.specs.declared.calls.Handle.{Handle}
 use Rattle.rd_acted.proofs.CutThereLemmas.{key_found}
-use Rattle.rd_acted.proofs.CuttingLemmas.{Of, all_dropped, is_live}
-use Rattle.rd_acted.proofs.EveryCutLemmas.{behind_there}
+use Rattle.rd_acted.proofs.CuttingLemmas.{Of, is_live, live_dropped, other_dropped}
+use Rattle.rd_acted.proofs.EveryCutLemmas.{behind_there, fewer_well}
+use Rattle.rd_acted.proofs.ActLemmas.{acts_by_deeds, control_by_acts}
+use Rattle.rd_acted.proofs.DueLemmas.{current_by_deeds}
+use Rattle.rd_acted.proofs.PassingLemmas.{all_dropped_unspoken}
+use Rattle.rd_world.proofs.OpeningLemmas.{declared_openable}
 use Rattle.rd_acted.proofs.LeadingLemmas.{RestsAfter}
 use Rattle.rd_acted.proofs.LeftLemmas.{none_waits, some_waits}
 use Rattle.rd_acted.proofs.TellLemmas.{ids_in}
-use Rattle.rd_acted.specs.Acted.{GoWell}
+use Rattle.rd_acted.specs.Acted.{GoWell, control_after, control_by_deeds, without_idle}
 
 -- ---- deeds by which nothing is stored, and no channel begins or ends
 
@@ -237,3 +242,170 @@ module _ (lines : List NumberedLine) (starves : Key → Bool) (premises : RunPre
       ready : (cs : List Completion) → not (is_empty cs) ≡ false → cs ≡ []
       ready [] is = refl
       ready (c ∷ cs) is = absurd (cc is)
+
+  -- ---- the journals where a channel ends
+
+  stored_one : (d k : ℕ) (deeds : List Deed) (b : Bool) → journal d (if b then stores k (Cut Dropped) ∷ deeds else deeds) ≡ (if b && (k == d) then Cut Dropped ∷ journal d deeds else journal d deeds)
+  stored_one d k deeds false = refl
+  stored_one d k deeds true = by (k == d)
+    where
+      by : (a : Bool) → cons_option (if a then Some (Cut Dropped) else None) (journal d deeds) ≡ (if a then Cut Dropped ∷ journal d deeds else journal d deeds)
+      by true = refl
+      by false = refl
+
+  others_dropped : (ks : List ℕ) (x : WorldState) (d : ℕ) → list_any (λ k. k == d) ks ≡ false → journal d (fold dropping x ks).deeds ≡ journal d x.deeds
+  others_dropped [] x d none = refl
+  others_dropped (k ∷ ks) x d none = by (k == d) refl none (others_dropped ks (dropping x k) d)
+    where
+      by : (b : Bool) → (k == d) ≡ b → (b || list_any (λ j. j == d) ks) ≡ false → (list_any (λ j. j == d) ks ≡ false → journal d (fold dropping (dropping x k) ks).deeds ≡ journal d (dropping x k).deeds)
+          → journal d (fold dropping (dropping x k) ks).deeds ≡ journal d x.deeds
+      by true e off later = absurd (cc off)
+      by false e off later =
+          later off ∙ ap (journal d) (live_dropped x k) ∙ stored_one d k x.deeds (is_live x k)
+          ∙ ap (λ (b : Bool). if b then Cut Dropped ∷ journal d x.deeds else journal d x.deeds) (ap (λ (b : Bool). is_live x k && b) e ∙ none_and (is_live x k))
+        where
+          none_and : (b : Bool) → (b && false) ≡ false
+          none_and true = refl
+          none_and false = refl
+
+  own_dropped : (ks : List ℕ) (x : WorldState) (d : ℕ) → IsStrictlySortedBy nat_cmp ks → list_any (λ k. k == d) ks ≡ true → is_live x d ≡ true → journal d (fold dropping x ks).deeds ≡ Cut Dropped ∷ journal d x.deeds
+  unfolding IsStrictlySortedBy
+  own_dropped [] x d rise has live = absurd (cc has)
+  own_dropped (k ∷ ks) x d rise has live = by (k == d) refl has (own_dropped ks (dropping x k) d rise.1)
+    where
+      above : (es : List ℕ) → AllByRecursion (λ (n : ℕ). nat_cmp k n ≡ Less) es → (k == d) ≡ true → list_any (λ j. j == d) es ≡ false
+      above [] all e = refl
+      above (j ∷ es) all e =
+          let less : nat_cmp k j ≡ Less = all.0 in
+          let off : (j == d) ≡ false = grind (arith, nat_tests, less, e) in
+          rw off (above es all.1 e)
+
+      by : (b : Bool) → (k == d) ≡ b → (b || list_any (λ j. j == d) ks) ≡ true
+          → (list_any (λ j. j == d) ks ≡ true → is_live (dropping x k) d ≡ true → journal d (fold dropping (dropping x k) ks).deeds ≡ Cut Dropped ∷ journal d (dropping x k).deeds)
+          → journal d (fold dropping (dropping x k) ks).deeds ≡ Cut Dropped ∷ journal d x.deeds
+      by true e on later =
+          let here : is_live x k ≡ true = ap (is_live x) (eqb-true k d e) ∙ live in
+          others_dropped ks (dropping x k) d (above ks rise.0 e) ∙ ap (journal d) (live_dropped x k) ∙ stored_one d k x.deeds (is_live x k)
+          ∙ ap (λ (b : Bool). if b && (k == d) then Cut Dropped ∷ journal d x.deeds else journal d x.deeds) here ∙ ap (λ (b : Bool). if b then Cut Dropped ∷ journal d x.deeds else journal d x.deeds) e
+      by false e on later =
+          let apart : (d == k) ≡ false = grind (arith, nat_tests, e) in
+          let still : is_live (dropping x k) d ≡ true = ap (λ (o : Option Of). option_map_or (λ (s : Of). s.live) o false) (other_dropped x k d apart) ∙ live in
+          let same : journal d (dropping x k).deeds ≡ journal d x.deeds = others_dropped (k ∷ []) x d (rw e refl) in
+          later on still ∙ ap (λ (js : List Item). Cut Dropped ∷ js) same
+
+  -- ---- what is left open
+
+  abbrev devices : List (ℕ × Declared)
+  devices = declared_devices (bare_lines lines)
+
+  abbrev said_control : Control
+  said_control = control_of (ids_in devices) lines
+
+  -- a run's end by what it came from
+  module _ (most : Most) (w : WorldState) (reached_w : Reached lines starves w) (goes : GoWell w.deeds) (ra : RestsAfter lines starves most said_control w) (said : DoAsSaid (ids_in devices) lines starves w) where
+    abbrev v : WorldState
+    v = ra.last
+
+    reached_v : Reached lines starves v
+    reached_v = let n = ra.within in record { moves = n.moves; pass = n.pass; few = (let f = n.few in omega (arith, f)); leads = n.leads }
+
+    stands_v : Stands v
+    stands_v = (known lines starves premises v reached_v).stands
+
+    same_control : without_idle (control_with said.left said_control) ≡ control_by_deeds (ids_in devices) w.deeds
+    same_control = control_by_acts (ids_in devices) lines said.left ∙ ap (control_after (ids_in devices)) (sym said.acts) ∙ acts_by_deeds (ids_in devices) w.deeds
+
+    current_w : (control_with said.left said_control).current ≡ open_channel w.deeds
+    current_w = ap (λ (k : Control). k.current) same_control ∙ current_by_deeds (ids_in devices) w.deeds
+
+    open_v : (c : ℕ) → said_control.current ≡ Some c → open_channel v.deeds ≡ Some c
+    open_v c is = sym (host_channel v.side v.channels v.deeds stands_v.host) ∙ ra.channel ∙ is
+
+    last_v : (c : ℕ) → said_control.current ≡ Some c → c ≡ v.channels
+    last_v c is = elim stands_v.host.last [ inl shut ↦ absurd (cc (open_v c is, shut)) | inr at ↦ (let same : Some c ≡ Some v.channels = sym (open_v c is) ∙ at in cc) ]
+
+    left_shape : (c : ℕ) → said_control.current ≡ Some c → (said.left ≡ None) ⊎ (said.left ≡ Some c)
+    left_shape c is = by (is_channel_open said.ends.last && some_left said.ends.last) said.ends.left_is
+      where
+        by : (b : Bool) → said.left ≡ (if b then said_control.current else None) → (said.left ≡ None) ⊎ (said.left ≡ Some c)
+        by true e = inr (e ∙ is)
+        by false e = inl e
+
+    left_by : (o : Option ℕ) → said.left ≡ o → (control_with o said_control).current ≡ open_channel w.deeds
+    left_by o e = ap (λ (x : Option ℕ). (control_with x said_control).current) (sym e) ∙ current_w
+
+    -- nothing waits, and the channel stays open
+    stays : (c : ℕ) → said_control.current ≡ Some c → some_left v ≡ false → v ≡ w → left_open devices w.deeds said_control ≡ said.left
+    stays c is none same =
+        let goes_v : GoWell v.deeds = subst (λ (x : WorldState). GoWell x.deeds) (sym same) goes in
+        let opened : open_channel v.deeds ≡ Some v.channels = open_v c is ∙ ap (λ (n : ℕ). Some n) (last_v c is) in
+        let off : some_wait devices v.deeds v.channels ≡ false = none_waits lines starves premises v reached_v goes_v opened none in
+        let off_c : some_wait devices w.deeds c ≡ false = subst (λ (x : WorldState). some_wait devices x.deeds c ≡ false) same (subst (λ (n : ℕ). some_wait devices v.deeds n ≡ false) (sym (last_v c is)) off) in
+        let open_none : left_open devices w.deeds said_control ≡ None = ap (λ (o : Option ℕ). option_and_then (λ channel. if some_wait devices w.deeds channel then Some channel else None) o) is ∙ ap (λ (b : Bool). if b then Some c else None) off_c in
+        elim (left_shape c is) [
+          | inl left ↦ open_none ∙ sym left
+          | inr left ↦ (
+            let shut : None ≡ open_channel w.deeds = left_by (Some c) left in
+            let opened_w : open_channel w.deeds ≡ Some c = subst (λ (x : WorldState). open_channel x.deeds ≡ Some c) same (open_v c is) in
+            absurd (cc (shut, opened_w)))
+        ]
+
+    -- the channel ends, since something waits
+    ended : (c : ℕ) → said_control.current ≡ Some c → some_left v ≡ true → settled starves most.draws (act starves v drop_channel) ≡ Some w → left_open devices w.deeds said_control ≡ said.left
+    ended c is some settles =
+        let open_is : is_channel_open v ≡ true = ap is_some (ra.channel ∙ is) in
+        let taken = takes_unstored (map (λ (e : ℕ × ApplicationState). e.0) (cutting v).applications) (cutting v) in
+        let start : Closed (cutting v).deeds (act starves v drop_channel) = record {
+          reached = moves_on (length lines + 1) (length lines + 2) v (happens drop_channel) (omega arith) (tt, open_is) ra.within;
+          shut = taken.opened;
+          same = taken;
+        } in
+        let all = settled_keeps starves (Closed (cutting v).deeds) (closed_free (cutting v).deeds) (closed_drawn (cutting v).deeds) most.draws (act starves v drop_channel) start in
+        let closed : Closed (cutting v).deeds w = subst (λ (o : Option WorldState). IfSome o (Closed (cutting v).deeds)) settles all in
+        let ks : List ℕ = map (λ (e : ℕ × Of). e.0) v.stations in
+        let (more, grown) = closed.same.grows in
+        let goes_cut : GoWell (host_ends v.channels ∷ (fold dropping v ks).deeds) = fewer_well more (host_ends v.channels ∷ (fold dropping v ks).deeds) (subst GoWell (grown ∙ ap (λ (n : ℕ). more ++ host_ends n ∷ (fold dropping v ks).deeds) (all_dropped_unspoken ks v).channels) goes) in
+        let u = all_dropped_unspoken ks v in
+        let later : List Deed = more ++ host_ends (fold dropping v ks).channels ∷ u.more in
+        let whole : w.deeds ≡ later ++ v.deeds =
+        grown ∙ ap (λ (ds : List Deed). more ++ host_ends (fold dropping v ks).channels ∷ ds) u.deeds ∙ sym (append_assoc more (host_ends (fold dropping v ks).channels ∷ u.more) v.deeds) in
+        let goes_v : GoWell v.deeds = fewer_well later v.deeds (subst GoWell whole goes) in
+        let carried : IsCarried (later ++ v.deeds) = subst IsCarried whole (carried_now w.deeds (known lines starves premises w reached_w).carries.each) in
+        let opened : open_channel v.deeds ≡ Some v.channels = open_v c is ∙ ap (λ (n : ℕ). Some n) (last_v c is) in
+        let there = behind_there lines starves premises v (reached_behind lines starves v reached_v) goes_v in
+        let rising : IsStrictlySortedBy nat_cmp ks = subst (λ (xs : List ℕ). IsStrictlySortedBy nat_cmp xs) (sym there.keyed) (declared_openable lines premises.declared).rise in
+        let on : some_wait devices (later ++ v.deeds) v.channels ≡ true =
+        some_waits lines starves premises v reached_v goes_v opened (rest_ready v ra.rests) later carried
+        (λ d s at live.
+            ap (journal d) (sym whole) ∙ closed.same.journals d
+            ∙ own_dropped ks v d rising (key_found v.stations d s at) (ap (λ (o : Option Of). option_map_or (λ (t : Of). t.live) o false) at ∙ live)) some in
+        let on_c : some_wait devices w.deeds c ≡ true = subst (λ (ds : List Deed). some_wait devices ds c ≡ true) (sym whole) (subst (λ (n : ℕ). some_wait devices (later ++ v.deeds) n ≡ true) (sym (last_v c is)) on) in
+        let open_some : left_open devices w.deeds said_control ≡ Some c = ap (λ (o : Option ℕ). option_and_then (λ channel. if some_wait devices w.deeds channel then Some channel else None) o) is ∙ ap (λ (b : Bool). if b then Some c else None) on_c in
+        elim (left_shape c is) [
+          | inl left ↦ (
+            let still : Some c ≡ open_channel w.deeds = sym is ∙ left_by None left in
+            absurd (cc (still, closed.shut)))
+          | inr left ↦ open_some ∙ sym left
+        ]
+
+    pub left_is_open : left_open devices w.deeds said_control ≡ said.left
+    left_is_open = by said_control.current refl
+      where
+        none_left : (b : Bool) → said_control.current ≡ None → (if b then said_control.current else None) ≡ None
+        none_left true e = e
+        none_left false e = refl
+
+        go : (c : ℕ) → said_control.current ≡ Some c → (b : Bool) → some_left v ≡ b → (if is_channel_open v && b then settled starves most.draws (act starves v drop_channel) else Some v) ≡ Some w → left_open devices w.deeds said_control ≡ said.left
+        go c is true some e =
+            let open_is : is_channel_open v ≡ true = ap is_some (ra.channel ∙ is) in
+            ended c is some (sym (ap (λ (b : Bool). if b && true then settled starves most.draws (act starves v drop_channel) else Some v) open_is) ∙ e)
+        go c is false none e =
+            let open_is : is_channel_open v ≡ true = ap is_some (ra.channel ∙ is) in
+            let same : Some v ≡ Some w = sym (ap (λ (b : Bool). if b && false then settled starves most.draws (act starves v drop_channel) else Some v) open_is) ∙ e in
+            stays c is none (cc same)
+
+        by : (o : Option ℕ) → said_control.current ≡ o → left_open devices w.deeds said_control ≡ said.left
+        by None is =
+            ap (λ (o : Option ℕ). option_and_then (λ channel. if some_wait devices w.deeds channel then Some channel else None) o) is
+            ∙ sym (said.ends.left_is ∙ none_left (is_channel_open said.ends.last && some_left said.ends.last) is)
+        by (Some c) is = go c is (some_left v) refl ra.ends

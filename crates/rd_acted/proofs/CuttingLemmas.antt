@@ -186,7 +186,7 @@ module _ {X : Type 0} where
 abbrev pub is_live : WorldState → ℕ → Bool
 is_live w d = option_map_or (λ (s : Of). s.live) (station_at w d) false
 
-live_dropped : (w : WorldState) (d : ℕ) → (dropping w d).deeds ≡ (if is_live w d then stores d (Cut Dropped) ∷ w.deeds else w.deeds)
+pub live_dropped : (w : WorldState) (d : ℕ) → (dropping w d).deeds ≡ (if is_live w d then stores d (Cut Dropped) ∷ w.deeds else w.deeds)
 live_dropped w d = by (station_at w d) refl
   where
     by : (o : Option Of) → station_at w d ≡ o
@@ -202,7 +202,7 @@ live_dropped w d = by (station_at w d) refl
             let same : (station.drop_channel s (device_cut s.device).state).journal ≡ s.journal ++ [] = rw e (sym (append-nil s.journal)) in
             stored_deeds w d s (station.drop_channel s (device_cut s.device).state) there [] same
 
-other_dropped : (w : WorldState) (d q : ℕ) → (q == d) ≡ false → station_at (dropping w d) q ≡ station_at w q
+pub other_dropped : (w : WorldState) (d q : ℕ) → (q == d) ≡ false → station_at (dropping w d) q ≡ station_at w q
 other_dropped w d q apart = by (station_at w d)
   where
     by : (o : Option Of) → station_at (option_map_or (λ (s : Of). with_station w d (station.drop_channel s (device_cut s.device).state)) o w) q ≡ station_at w q

@@ -1,4 +1,4 @@
-use Rattle.rd_acted.proofs.ClosedLemmas.{rest_ready}
+use Rattle.rd_acted.proofs.ClosedLemmas.{left_is_open}
 use Rattle.rd_acted.proofs.laws.placeholder.Goals as goal
 use Rattle.std.proofs.Common.{refl}
 
