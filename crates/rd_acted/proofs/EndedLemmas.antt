@@ -32,8 +32,7 @@ use Rattle.rd_world.specs.declared.device.SessionDevice.{SessionDevice}
 use Rattle.rd_acted.proofs.PassingLemmas.{Left, all_dropped_unspoken, left_all, left_one, left_unspoken, quiet_unspoken}
 use Rattle.rd_acted.proofs.QuietLemmas.{AreSilent, IsSilent, Unspoken, hears_unspoken, option_unspoken, stationed_unspoken}
 use Rattle.rd_acted.proofs.ReadLemmas.{part_well, premises_fit}
-use Rattle.rd_acted.proofs.RunLemmas.{told_longer}
-use Rattle.rd_acted.proofs.SayingLemmas.{completes_tell, writes_tell}
+use Rattle.rd_acted.proofs.SayingLemmas.{completes_tell, told_longer, writes_tell}
 use Rattle.rd_acted.proofs.TellLemmas.{AnswersUntold, TellsAs, behind_tells, sent_is}
 use Rattle.rd_acted.specs.Acted.{AreReadWell, EndsTold, control_by_deeds}
 

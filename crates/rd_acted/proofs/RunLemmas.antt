@@ -32,13 +32,15 @@ use Rattle.rd_world.specs.Talk.{Deed, EachAfter, EndsWith, adds, client_reads, c
 use Rattle.rd_world.specs.World.{WorldState}
 use Rattle.rd_acted.proofs.ActLemmas.{acts_by_deeds, control_by_acts}
 use Rattle.rd_acted.proofs.CauseLemmas.{cuts_by_deeds}
+use Rattle.rd_acted.proofs.ClosedLemmas.{left_is_open}
 use Rattle.rd_acted.proofs.CuttingLemmas.{AreCut}
+use Rattle.rd_acted.proofs.LeadingLemmas.{run_rests_after}
 use Rattle.rd_acted.proofs.DueLemmas.{current_by_deeds, notices_are_due, told_is_due}
 use Rattle.rd_acted.proofs.EveryCutLemmas.{behind_there}
 use Rattle.rd_acted.proofs.InTimeLemmas.{AreInTime, behind_in_time}
 use Rattle.rd_acted.proofs.PrinterLemmas.{NoticesAs, behind_notices}
 use Rattle.rd_acted.proofs.ReadLemmas.{fewer_read, premises_fit}
-use Rattle.rd_acted.proofs.SayingLemmas.{say_none, say_zip, wrote_more}
+use Rattle.rd_acted.proofs.SayingLemmas.{say_none, say_zip, told_longer}
 use Rattle.rd_acted.proofs.TellLemmas.{TellsAs, behind_tells, ids_in}
 use Rattle.rd_acted.proofs.ThereLemmas.{IsThere}
 use Rattle.rd_acted.specs.Acted.{AreReadWell, EndsTold, GoWell, HaveActed, SayFirst, control_after, control_by_deeds, due_on, notices_due, without_idle}
@@ -49,14 +51,6 @@ use Rattle.rd_acted.specs.Waiting.{noted, waiting}
 nothing_first : {A : Type 0} (xs ys : List A) → xs ++ ys ≡ [] → xs ≡ []
 nothing_first [] ys e = refl
 nothing_first (x ∷ xs) ys e = absurd (cc e)
-
--- what was told is told still
-pub told_longer : (c : ℕ) (more deeds : List Deed) → length (tellings_on c deeds) ≤ length (tellings_on c (more ++ deeds))
-told_longer c [] deeds = omega arith
-told_longer c (x ∷ more) deeds =
-    let longer : length (tellings_on c (x ∷ more ++ deeds)) ≡ length (tellings_on c (more ++ deeds)) + length (filter is_telling (cons_option (written_by_client c x) [])) =
-    ap length (wrote_more c (written_by_client c x) (client_wrote c (more ++ deeds))) ∙ length-append (tellings_on c (more ++ deeds)) (filter is_telling (cons_option (written_by_client c x) [])) in
-    omega (arith, longer, told_longer c more deeds)
 
 -- something is due on a channel that is open
 open_due : (deeds : List Deed) (c : ℕ) → open_channel deeds ≡ Some c → 1 ≤ tellings_due c deeds
@@ -198,20 +192,22 @@ module _ (lines : List NumberedLine) (starves : Key → Bool) (premises : RunPre
   pub runs_go_well : (w : WorldState) → Reached lines starves w → length lines ≤ 1000000 → AreReadWell w.deeds → EachAfter EndsTold w.deeds → GoWell w.deeds
   runs_go_well w r few well told = record { well = well; ends = told; short = unworn lines starves premises w r few (premises_fit lines premises) }
 
-  -- The control lines of a run did what they say, where its deeds leave open what it left open.
+  -- The control lines of a run did what they say.
   pub run_acted : (most : Most) (w : WorldState) → length lines ≤ 1000000 → AreOrderedLines ids lines → (is : run_of most starves lines ≡ Some w) → AreReadWell w.deeds → EachAfter EndsTold w.deeds
-      → ((said : DoAsSaid ids lines starves w) → left_open devices w.deeds (control_by devices lines) ≡ said.left) → HaveActed devices lines w.idle w.deeds
-  run_acted most w few ordered is well told left_is =
+      → HaveActed devices lines w.idle w.deeds
+  run_acted most w few ordered is well told =
       let said : DoAsSaid ids lines starves w = does_as_said lines starves most w ordered premises is in
       let reached : Reached lines starves w = run_reached lines starves most w is in
       let b : IsBehind lines starves w = reached_behind lines starves w reached in
       let control : Control = control_with said.left (control_of ids lines) in
       let same : without_idle control ≡ control_by_deeds ids w.deeds = control_by_acts ids lines said.left ∙ ap (control_after ids) (sym said.acts) ∙ acts_by_deeds ids w.deeds in
       let rests : choices w ≡ [] = run_rests starves most lines w is in
-      let there = behind_there lines starves premises w b (runs_go_well w reached few well told) in
+      let goes : GoWell w.deeds = runs_go_well w reached few well told in
+      let there = behind_there lines starves premises w b goes in
+      let left_is = left_is_open lines starves premises most w reached goes (run_rests_after lines starves most w ordered premises is) said in
       record {
         control = control;
-        control_is = ap (λ (o : Option ℕ). control_with o (control_of ids lines)) (sym (left_is said));
+        control_is = ap (λ (o : Option ℕ). control_with o (control_of ids lines)) (sym left_is);
         acts = said.acts;
         tells = λ c. subst (λ (ts : List Telling). AreSaid (Tells devices w.deeds c) ts (tellings_on c w.deeds) (has_ended c w.deeds)) (sym (ap (λ (k : Control). of_channel c k.told) same ∙ told_is_due ids c w.deeds))
             (all_told w b rests well (ready_now w well b said.left said.ends same) c);

@@ -75,3 +75,11 @@ pub tells_more : (devices : List (ℕ × Declared)) (c : ℕ) (x : Deed) (deeds 
 tells_more devices c x deeds same (lists ids) m is = is ∙ sym (ap (λ (ds : List Deed). list_of devices (cache_after ds) ids) same)
 tells_more devices c x deeds same (removal device) m is = is
 tells_more devices c x deeds same (addition device count) m (since, before, parts, many, is) = (x ∷ since, before, ap (λ (ds : List Deed). x ∷ ds) parts, many, is)
+
+-- what was told is told still
+pub told_longer : (c : ℕ) (more deeds : List Deed) → length (tellings_on c deeds) ≤ length (tellings_on c (more ++ deeds))
+told_longer c [] deeds = omega arith
+told_longer c (x ∷ more) deeds =
+    let longer : length (tellings_on c (x ∷ more ++ deeds)) ≡ length (tellings_on c (more ++ deeds)) + length (filter is_telling (cons_option (written_by_client c x) [])) =
+    ap length (wrote_more c (written_by_client c x) (client_wrote c (more ++ deeds))) ∙ length-append (tellings_on c (more ++ deeds)) (filter is_telling (cons_option (written_by_client c x) [])) in
+    omega (arith, longer, told_longer c more deeds)

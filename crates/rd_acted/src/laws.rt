@@ -22,7 +22,7 @@ ghost use Rattle.rd_world.specs.Opening.{bare_lines};
 ghost use Rattle.rd_world.specs.Recording.{announced_of, host_stand, is_gone_at};
 ghost use Rattle.rd_world.specs.Run.{Most, WorldRun, choices, declared_devices, run_of};
 ghost use Rattle.rd_world.specs.Talk.{AtEachPoint, Deed, EachAfter, client_moves, has_ended, journal, open_channel};
-ghost use Rattle.rd_world.specs.World.{WorldState, marks_of};
+ghost use Rattle.rd_world.specs.World.{WorldState};
 
 /// What control lines do is a function of their acts, but for which lines do nothing: so is what a channel's end after everything adds. What is told on a channel, of devices and of
 /// printers, is what is due there by what was done.
@@ -75,7 +75,7 @@ pub fn runs_act()
         → let devices = declared_devices (bare_lines lines) in
         let ids = map (λ (d : ℕ × Declared). d.0) devices in
         RunPremises lines → length lines ≤ 1000000 → AreOrderedLines ids lines → run_of most starves lines ≡ Some w → AreReadWell w.deeds → EachAfter EndsTold w.deeds
-        → ((said : DoAsSaid ids lines starves w) → left_open devices w.deeds (control_by devices lines) ≡ said.left) → HaveActed devices lines w.idle w.deeds }
+        → HaveActed devices lines w.idle w.deeds }
 {}
 
 /// Where a client's moves are in order on each channel, nothing that it read was wrong.
@@ -104,14 +104,17 @@ pub fn rests_tell_all()
 pub fn sessions_act()
     ensures acted { (text : List ℕ) (script : Script) (w : WorldState) → script_of Mode.Both text ≡ Ok script → WorldRun script.lines w
         → let devices = declared_devices (bare_lines script.lines) in
-        let ids = map (λ (d : ℕ × Declared). d.0) devices in
-        AreReadWell w.deeds → EachAfter EndsTold w.deeds → ((said : DoAsSaid ids script.lines (marks_of w) w) → left_open devices w.deeds (control_by devices script.lines) ≡ said.left)
-        → HaveActed devices script.lines w.idle w.deeds }
+        AreReadWell w.deeds → EachAfter EndsTold w.deeds → HaveActed devices script.lines w.idle w.deeds }
     ensures whole { (devices : List (ℕ × Declared)) (lines : List NumberedLine) (idle : List ℕ) (deeds : List Deed) → (acted : HaveActed devices lines idle deeds)
         → All (Opens devices deeds) (range_with_len 1 acted.control.channels) → All (λ c. has_ended c deeds ≡ false → option_map_or is_settled_host (host_stand deeds c) false ≡ true) (range_with_len 1 acted.control.channels)
         → AreActed devices lines idle deeds }
 {}
 
-pub fn placeholder()
-    ensures { (n : ℕ) → n ≡ n }
+/// The channel that is left open after the last line, since a request waits on it in some device, is the one that ends after everything.
+pub fn runs_leave_open()
+    ensures { (lines : List NumberedLine) (starves : Key → Bool) (most : Most) (w : WorldState)
+        → let devices = declared_devices (bare_lines lines) in
+        let ids = map (λ (d : ℕ × Declared). d.0) devices in
+        RunPremises lines → AreOrderedLines ids lines → run_of most starves lines ≡ Some w → GoWell w.deeds
+        → (said : DoAsSaid ids lines starves w) → left_open devices w.deeds (control_by devices lines) ≡ said.left }
 {}
