@@ -1,6 +1,6 @@
 -- Where the last line of a run leaves it: the control lines have done what follows from the lines, and nothing can happen by itself.
 use Rattle.std.proofs.Common.{◌≡◌, ◌∙◌, refl, sym, ap, subst, inl, inr, ℕ, ◌+◌, ◌≤◌, ◌&&◌, Bool, true, false, List, [], ◌∷◌, length, map, fold, Some, None, Option, arith, ◌++◌}
-use Rattle.std.specs.Prelude.{if◌then◌else◌, is_some, not}
+use Rattle.std.specs.Prelude.{filter_map, if◌then◌else◌, is_some, not, reverse}
 use Rattle.std.specs.List.{AllByRecursion}
 use Rattle.std.specs.Option.{IfSome, option_and_then, option_map_or}
 use Rattle.std.proofs.lemmas.Map.Keys.{IsStrictlyIncreasing-from_sorted, sorted_from_strictly_increasing}
@@ -29,6 +29,7 @@ use Rattle.rd_world.specs.Run.{Most, applications_of, asked_by, by_event, choice
 use Rattle.rd_world.specs.Talk.{Deed, EndsWith, Has}
 use Rattle.rd_world.specs.Session.{at_settles}
 use Rattle.rd_controls.proofs.Opening.{begins_at, opened}
+use Rattle.rd_controls.proofs.Resting.{later_end}
 use Rattle.rd_runs.specs.Premises.{RunPremises}
 use Rattle.rd_world.specs.World.{Asked, WorldState}
 
@@ -448,6 +449,9 @@ pub record RestsAfter (lines : List NumberedLine) (starves : Key → Bool) (most
   pub within : ReachedWithin (length lines + 1) lines starves last
   pub rests : choices last ≡ []
   pub channel : ((last.side).table).channel ≡ control.current
+  pub acts : filter_map act_by (reverse last.deeds) ≡ control.acts
+  pub ready : is_some control.current ≡ true → AreReady last
+  pub grown : EndsWith w.deeds last.deeds
   pub ends : ends_session starves most last ≡ Some w
 
 rests_by : (lines : List NumberedLine) (starves : Key → Bool) (most : Most) (ids : List ℕ) (rise : Rise (numbers lines)) (premises : RunPremises lines) (w : WorldState) (o : Option WorldState) → IfSome o (AtEnd lines starves most ids rise premises (control_of ids lines)) → option_and_then (ends_session starves most) o ≡ Some w → RestsAfter lines starves most (control_of ids lines) w
@@ -457,6 +461,9 @@ rests_by lines starves most ids rise premises w (Some v) (led, rests) e = record
   within = (let r = led.base.reached in let few : led.base.count ≤ length lines + 1 = omega (arith, led.base.few) in record { moves = r.moves; pass = r.pass; few = omega (arith, few, r.few); leads = r.leads });
   rests = rests;
   channel = led.base.sees.channel;
+  acts = picked_reverse act_by v.deeds ∙ led.base.sees.acts;
+  ready = λ open_is. record { client = led.client open_is; host = led.host open_is };
+  grown = subst (λ (x : Option WorldState). IfSome x (λ (y : WorldState). EndsWith y.deeds v.deeds)) e (later_end ids lines starves most v.deeds v ([], refl));
   ends = e;
 }
 

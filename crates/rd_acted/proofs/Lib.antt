@@ -23,3 +23,4 @@ pub mod LeftLemmas
 pub mod LeadingLemmas
 pub mod ClosedLemmas
 pub mod RunLemmas
+pub mod SettleLemmas

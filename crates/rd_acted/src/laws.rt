@@ -1,9 +1,9 @@
 //! What the control lines of a script did, as contracts of functions that do nothing.
 
 ghost use Rattle.std.specs.Prelude.{◌≡◌, ℕ, ◌≤◌, All, Bool, true, false, List, Ok, Option, Some, [], ◌∷◌, ◌++◌, filter_map, length, map, reverse};
-ghost use Rattle.std.specs.List.{range_with_len};
+ghost use Rattle.std.specs.List.{AllByRecursion, range_with_len};
 ghost use Rattle.std.specs.Option.{option_map_or};
-ghost use Rattle.rd_acted.specs.Acted.{AreReadWell, EndsTold, GoWell, HaveActed, SayFirst, control_after, control_by_deeds, due_on, notices_due, there_of, without_idle};
+ghost use Rattle.rd_acted.specs.Acted.{AreAllTold, AreReadWell, EndsTold, GoWell, HaveActed, RestsTold, SayFirst, control_after, control_by_deeds, due_on, notices_due, there_of, without_idle};
 ghost use Rattle.rd_acted.specs.Waiting.{noted, waiting};
 ghost use Rattle.rd_base.specs.declared.journal.Key.{Key};
 ghost use Rattle.rd_client.specs.Order.{ClientOrder, is_client_ready};
@@ -16,11 +16,12 @@ ghost use Rattle.rd_script.specs.declared.keyword.Mode.TheVariants as Mode;
 ghost use Rattle.rd_script.specs.declared.script.Script.{Script};
 ghost use Rattle.rd_script.specs.declared.line.NumberedLine.{NumberedLine};
 ghost use Rattle.rd_world.specs.Acts.{AreActed, AreSaid, IsCutThere, IsDone, IsToldInTime, Opens, Tells, act_by, cache_after, cause_in, control_by, is_settled_host, left_open, notices_on, of_channel, tellings_on};
-ghost use Rattle.rd_world.specs.Control.{control_of, lists};
+ghost use Rattle.rd_world.specs.Control.{control_of, first_control, lists};
 ghost use Rattle.rd_world.specs.Devices.{Declared};
 ghost use Rattle.rd_world.specs.Opening.{bare_lines};
 ghost use Rattle.rd_world.specs.Recording.{announced_of, host_stand, is_gone_at};
 ghost use Rattle.rd_world.specs.Run.{Most, WorldRun, choices, declared_devices, run_of};
+ghost use Rattle.rd_world.specs.Session.{at_settles};
 ghost use Rattle.rd_world.specs.Talk.{AtEachPoint, Deed, EachAfter, client_moves, has_ended, journal, open_channel};
 ghost use Rattle.rd_world.specs.World.{WorldState};
 
@@ -117,4 +118,15 @@ pub fn runs_leave_open()
         let ids = map (λ (d : ℕ × Declared). d.0) devices in
         RunPremises lines → AreOrderedLines ids lines → run_of most starves lines ≡ Some w → GoWell w.deeds
         → (said : DoAsSaid ids lines starves w) → left_open devices w.deeds (control_by devices lines) ≡ said.left }
+{}
+
+/// Where a `settle` line of a run ends there was a rest at which all was told, on the channel that was open, that the control lines told so far; and so it was, of all lines, on the channel that ended after everything since a
+/// request waited on it.
+pub fn settles_tell_all()
+    ensures settles { (lines : List NumberedLine) (starves : Key → Bool) (most : Most) (w : WorldState)
+        → let ids = map (λ (d : ℕ × Declared). d.0) (declared_devices (bare_lines lines)) in
+        RunPremises lines → AreOrderedLines ids lines → run_of most starves lines ≡ Some w → AreReadWell w.deeds → AllByRecursion (RestsTold lines starves w.deeds) (at_settles (first_control ids) lines) }
+    ensures at_end { (lines : List NumberedLine) (starves : Key → Bool) (most : Most) (w : WorldState)
+        → let ids = map (λ (d : ℕ × Declared). d.0) (declared_devices (bare_lines lines)) in
+        RunPremises lines → AreOrderedLines ids lines → run_of most starves lines ≡ Some w → AreReadWell w.deeds → (said : DoAsSaid ids lines starves w) → (c : ℕ) → said.left ≡ Some c → AreAllTold w.deeds (control_of ids lines) c }
 {}
