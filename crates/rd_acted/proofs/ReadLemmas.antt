@@ -50,7 +50,7 @@ use Rattle.rd_world.specs.World.{WorldState, station_at, stored_beyond, with_dee
 use Rattle.rd_world.specs.declared.device.SessionDevice.{SessionDevice}
 use Rattle.rd_acted.proofs.NoticeLemmas.{heard_notice, noticed}
 use Rattle.rd_acted.proofs.QuietLemmas.{read_by}
-use Rattle.rd_acted.specs.Acted.{AreReadWell, state_after, state_read}
+use Rattle.rd_acted.specs.Acted.{AreReadWell, state_heard, state_read}
 
 -- ---- what passes without that a client reads
 
@@ -243,7 +243,7 @@ cache_more c m deeds = cache_is (client_reads c m ∷ deeds) ∙ by (notice_in m
 fewer : (x : Deed) (deeds : List Deed) → AreReadWell (x ∷ deeds) → AreReadWell deeds
 fewer (client_reads channel message) deeds well c = by (channel == c) (well c)
   where
-    earlier : (o : Option ClientState) → IsSome (option_and_then (λ state. state_after state (said client_side state message)) o) → IsSome o
+    earlier : (o : Option ClientState) → IsSome (option_and_then (λ state. state_heard state (said client_side state message)) o) → IsSome o
     earlier None is = is
     earlier (Some state) is = refl
 
@@ -303,26 +303,26 @@ module _ (w : WorldState) (m : List ℕ) (is : IsReadAs w) where
   abbrev shake : ClientState
   shake = ((w.client).core).shake
 
-  read_state : state_read (client_read w.channels (client_reads w.channels m ∷ w.deeds)) ≡ state_after shake (said client_side shake m)
+  read_state : state_read (client_read w.channels (client_reads w.channels m ∷ w.deeds)) ≡ state_heard shake (said client_side shake m)
   read_state =
       ap (λ (b : Bool). state_read (cons_option (cond b (Some m) None) (client_read w.channels w.deeds))) (eq-eqb w.channels w.channels refl)
-      ∙ ap (λ (o : Option ClientState). option_and_then (λ state. state_after state (said client_side state m)) o) is.0
+      ∙ ap (λ (o : Option ClientState). option_and_then (λ state. state_heard state (said client_side state m)) o) is.0
 
   -- a client after the message, with what it keeps then
-  after_message : (d : ClientCoreState) (s : Meaning ClientState HostSays) (kept : CacheState) → said client_side shake m ≡ s → state_after shake s ≡ Some (d.core).shake → (d.core).fault ≡ None
+  after_message : (d : ClientCoreState) (s : Meaning ClientState HostSays) (kept : CacheState) → said client_side shake m ≡ s → state_heard shake s ≡ Some (d.core).shake → (d.core).fault ≡ None
       → kept ≡ cached w.cache (noticed s) → IsReadAs (record (read_by w m d) { cache = kept })
   after_message d s kept meant state fine held =
       let right : (fault : EndFault) → s ≡ wrong fault → ⊥ = λ fault e.
-          let none : state_after shake s ≡ None = ap (state_after shake) e in
+          let none : state_heard shake s ≡ None = ap (state_heard shake) e in
           absurd (cc (none, state)) in
       let spells : notice_in m ≡ noticed s = heard_notice shake m s meant right in
       (
-        read_state ∙ ap (state_after shake) meant ∙ state,
+        read_state ∙ ap (state_heard shake) meant ∙ state,
         fine,
         held ∙ ap (λ (k : CacheState). cached k (noticed s)) is.2 ∙ ap (λ (o : Option Notice). cached (cache_after w.deeds) o) (sym spells) ∙ sym (cache_more w.channels m w.deeds),
       )
 
-  by_meaning : (s : Meaning ClientState HostSays) → said client_side shake m ≡ s → IsSome (state_after shake s) → IsReadAs (heard_by_client shake (read_by w m (made w.client s).0) (made w.client s).1)
+  by_meaning : (s : Meaning ClientState HostSays) → said client_side shake m ≡ s → IsSome (state_heard shake s) → IsReadAs (heard_by_client shake (read_by w m (made w.client s).0) (made w.client s).1)
   by_meaning (wrong fault) meant some = absurd cc
   by_meaning nothing meant some =
       let d : ClientCoreState = client_opened w.client (w.client).core in

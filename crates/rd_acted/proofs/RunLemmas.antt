@@ -44,7 +44,7 @@ use Rattle.rd_acted.proofs.SayingLemmas.{say_none, say_zip, told_longer}
 use Rattle.rd_acted.proofs.TellLemmas.{TellsAs, behind_tells, ids_in}
 use Rattle.rd_acted.proofs.ThereLemmas.{IsThere}
 use Rattle.rd_acted.specs.Acted.{AreReadWell, EndsTold, GoWell, HaveActed, SayFirst, control_after, control_by_deeds, due_on, notices_due, without_idle}
-use Rattle.rd_acted.specs.Waiting.{noted, waiting}
+use Rattle.rd_acted.specs.Waiting.{notices_waiting, tellings_waiting}
 
 -- ---- lists
 
@@ -108,7 +108,7 @@ module _ (lines : List NumberedLine) (starves : Key → Bool) (premises : RunPre
             let t = behind_tells lines starves premises v behind v_well in
             let i = behind_in_time lines starves premises v behind v_well in
             let all = t.all (v_opened ∙ ap (λ (n : ℕ). Some n) v_channel) (ends.ready (ap is_some is)).client in
-            let out : waiting ((v.client).core).outbox ≡ [] = ap waiting (quiet v ends.rests).client_sends in
+            let out : tellings_waiting ((v.client).core).outbox ≡ [] = ap tellings_waiting (quiet v ends.rests).client_sends in
             let many : length (tellings_on v.channels v.deeds) ≡ length (due_on ids v.channels v.deeds) =
             sym (ap length (ap (λ (ms : List (List ℕ)). tellings_on v.channels v.deeds ++ ms) out ∙ append-nil (tellings_on v.channels v.deeds))) ∙ all in
             let some : 1 ≤ tellings_due v.channels v.deeds = subst (λ (n : ℕ). 1 ≤ tellings_due n v.deeds) v_channel (open_due v.deeds c v_opened) in
@@ -156,7 +156,7 @@ module _ (lines : List NumberedLine) (starves : Key → Bool) (premises : RunPre
         by (inr (inr opened)) unended =
             let channel : c ≡ w.channels = opened_now w c (knows lines starves premises w b).stands opened in
             let all = t.all (opened ∙ ap (λ (n : ℕ). Some n) channel) (ready_now c opened) in
-            let out : waiting ((w.client).core).outbox ≡ [] = ap waiting (quiet w rests).client_sends in
+            let out : tellings_waiting ((w.client).core).outbox ≡ [] = ap tellings_waiting (quiet w rests).client_sends in
             ap (λ (n : ℕ). length (tellings_on n w.deeds)) channel
             ∙ sym (ap length (ap (λ (ms : List (List ℕ)). tellings_on w.channels w.deeds ++ ms) out ∙ append-nil (tellings_on w.channels w.deeds))) ∙ all
             ∙ ap (λ (n : ℕ). length (due_on ids n w.deeds)) (sym channel)
@@ -185,7 +185,7 @@ module _ (lines : List NumberedLine) (starves : Key → Bool) (premises : RunPre
             let channel : c ≡ w.channels = opened_now w c (knows lines starves premises w b).stands opened in
             let all = n.all (opened ∙ ap (λ (k : ℕ). Some k) channel) in
             ap (λ (k : ℕ). length (notices_on k w.deeds)) channel
-            ∙ sym (ap length (ap (λ (ms : List (List ℕ)). notices_on w.channels w.deeds ++ noted ms) silent ∙ append-nil (notices_on w.channels w.deeds))) ∙ all
+            ∙ sym (ap length (ap (λ (ms : List (List ℕ)). notices_on w.channels w.deeds ++ notices_waiting ms) silent ∙ append-nil (notices_on w.channels w.deeds))) ∙ all
             ∙ ap (λ (k : ℕ). length (notices_due k w.deeds)) (sym channel)
 
   -- what the deeds of a run's end take is met by its lines

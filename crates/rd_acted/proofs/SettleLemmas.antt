@@ -37,7 +37,7 @@ use Rattle.rd_acted.proofs.ReadLemmas.{fewer_read}
 use Rattle.rd_acted.proofs.SayingLemmas.{say_few, told_longer}
 use Rattle.rd_acted.proofs.TellLemmas.{behind_tells, ids_in}
 use Rattle.rd_acted.specs.Acted.{AreAllTold, AreReadWell, RestsTold, control_after, control_by_deeds, due_on, notices_due, without_idle}
-use Rattle.rd_acted.specs.Waiting.{is_noted, noted, waiting}
+use Rattle.rd_acted.specs.Waiting.{is_noted, notices_waiting, tellings_waiting}
 
 module _ (lines : List NumberedLine) (starves : Key → Bool) (premises : RunPremises lines) where
   abbrev devices : List (ℕ × Declared)
@@ -55,11 +55,11 @@ module _ (lines : List NumberedLine) (starves : Key → Bool) (premises : RunPre
       let current : control.current ≡ Some c = sym channel ∙ host_channel v.side v.channels v.deeds (knows lines starves premises v b).stands.host ∙ opened in
       let all = (waiting_told_at lines starves premises v b well c opened (ready (ap is_some current)).client).1 in
       let noticed = (waiting_noted_at lines starves premises v b c opened).1 in
-      let out : waiting ((v.client).core).outbox ≡ [] = ap waiting (quiet v rests).client_sends in
+      let out : tellings_waiting ((v.client).core).outbox ≡ [] = ap tellings_waiting (quiet v rests).client_sends in
       let silent : (((v.side).core).core).outbox ≡ [] = none_first (((v.side).core).core).outbox ((v.side).table).outbox (quiet v rests).host_sends in
       record {
         tells = sym (ap length (ap (λ (ms : List (List ℕ)). tellings_on c v.deeds ++ ms) out ∙ append-nil (tellings_on c v.deeds))) ∙ all ∙ ap length (sym (told_is_due ids c v.deeds)) ∙ ap (λ (k : Control). length (of_channel c k.told)) (sym same);
-        notices = sym (ap length (ap (λ (ms : List (List ℕ)). notices_on c v.deeds ++ noted ms) silent ∙ append-nil (notices_on c v.deeds))) ∙ noticed ∙ ap length (sym (notices_are_due ids c v.deeds))
+        notices = sym (ap length (ap (λ (ms : List (List ℕ)). notices_on c v.deeds ++ notices_waiting ms) silent ∙ append-nil (notices_on c v.deeds))) ∙ noticed ∙ ap length (sym (notices_are_due ids c v.deeds))
             ∙ ap (λ (k : Control). length (of_channel c k.notices)) (sym same);
       }
     where

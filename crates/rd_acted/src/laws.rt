@@ -4,7 +4,7 @@ ghost use Rattle.std.specs.Prelude.{◌≡◌, ℕ, ◌≤◌, All, Bool, true, 
 ghost use Rattle.std.specs.List.{AllByRecursion, range_with_len};
 ghost use Rattle.std.specs.Option.{option_map_or};
 ghost use Rattle.rd_acted.specs.Acted.{AreAllTold, AreReadWell, EndsTold, GoWell, HaveActed, RestsTold, SayFirst, control_after, control_by_deeds, due_on, notices_due, there_of, without_idle};
-ghost use Rattle.rd_acted.specs.Waiting.{noted, waiting};
+ghost use Rattle.rd_acted.specs.Waiting.{notices_waiting, tellings_waiting};
 ghost use Rattle.rd_base.specs.declared.journal.Key.{Key};
 ghost use Rattle.rd_client.specs.Order.{ClientOrder, is_client_ready};
 ghost use Rattle.rd_controls.specs.Controls.{AreOrderedLines, DoAsSaid, control_with};
@@ -48,7 +48,7 @@ pub fn runs_tell_in_time()
     ensures waiting { (lines : List NumberedLine) (starves : Key → Bool) (w : WorldState) → RunPremises lines → Reached lines starves w → AreReadWell w.deeds → (c : ℕ) → open_channel w.deeds ≡ Some c → is_client_ready w.client.core.shake ≡ true
         → let devices = declared_devices (bare_lines lines) in
         let due = due_on (map (λ (d : ℕ × Declared). d.0) devices) c w.deeds in
-        SayFirst (Tells devices w.deeds c) (tellings_on c w.deeds ++ waiting w.client.core.outbox) due × (length (tellings_on c w.deeds ++ waiting w.client.core.outbox) ≡ length due) }
+        SayFirst (Tells devices w.deeds c) (tellings_on c w.deeds ++ tellings_waiting w.client.core.outbox) due × (length (tellings_on c w.deeds ++ tellings_waiting w.client.core.outbox) ≡ length due) }
     ensures unready { (lines : List NumberedLine) (starves : Key → Bool) (w : WorldState) → RunPremises lines → Reached lines starves w → AreReadWell w.deeds → (c : ℕ) → open_channel w.deeds ≡ Some c → is_client_ready w.client.core.shake ≡ false
         → let ids = map (λ (d : ℕ × Declared). d.0) (declared_devices (bare_lines lines)) in
         (tellings_on c w.deeds ≡ []) × (due_on ids c w.deeds ≡ lists (there_of ids w.deeds) ∷ []) }
@@ -59,7 +59,7 @@ pub fn runs_tell_in_time()
 pub fn runs_tell_of_printers()
     ensures told { (lines : List NumberedLine) (starves : Key → Bool) (w : WorldState) → RunPremises lines → Reached lines starves w → (c : ℕ) → SayFirst (λ n message. message ≡ notice_bytes n) (notices_on c w.deeds) (notices_due c w.deeds) }
     ensures waiting { (lines : List NumberedLine) (starves : Key → Bool) (w : WorldState) → RunPremises lines → Reached lines starves w → (c : ℕ) → open_channel w.deeds ≡ Some c
-        → SayFirst (λ n message. message ≡ notice_bytes n) (notices_on c w.deeds ++ noted w.side.core.core.outbox) (notices_due c w.deeds) × (length (notices_on c w.deeds ++ noted w.side.core.core.outbox) ≡ length (notices_due c w.deeds)) }
+        → SayFirst (λ n message. message ≡ notice_bytes n) (notices_on c w.deeds ++ notices_waiting w.side.core.core.outbox) (notices_due c w.deeds) × (length (notices_on c w.deeds ++ notices_waiting w.side.core.core.outbox) ≡ length (notices_due c w.deeds)) }
 {}
 
 /// A device is cut off as it is removed, and those that are there as their channel ends, where channels end only after their devices were told of; and its cuts are those that follow from what was done.
