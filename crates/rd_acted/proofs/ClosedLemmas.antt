@@ -1,13 +1,11 @@
 -- Where no channel is open nothing is stored by what happens by itself; so at the end of a run the channel is left open where a request of it waits.
-use Rattle.std.proofs.Common.{◌≡◌, ◌⊎◌, ◌∙◌, refl, sym, ap, subst, inl, inr, ℕ, ◌+◌, ◌≤◌, ◌==◌, ◌&&◌, ◌||◌, Bool, true, false, not, arith, eq-eqb, eqb-true, List, [], ◌∷◌, ◌++◌, length, map, reverse, fold, drop, Some, None, Option, Result, Ok, Err, append-nil, append_assoc, is_some}
-use Rattle.std.specs.Prelude.{filter, filter_map, find, if◌then◌else◌, nat_le, nat_lt, is_none}
+use Rattle.std.proofs.Common.{◌≡◌, ◌⊎◌, ◌∙◌, refl, sym, ap, subst, inl, inr, ℕ, ◌+◌, ◌≤◌, ◌==◌, ◌&&◌, ◌||◌, Bool, true, false, not, arith, eqb-true, List, [], ◌∷◌, ◌++◌, length, map, fold, Some, None, Option, Result, Ok, Err, append-nil, append_assoc, is_some}
+use Rattle.std.specs.Prelude.{find, if◌then◌else◌, nat_le, nat_lt, is_none}
 use Rattle.std.specs.List.{AllByRecursion, cons_option, flat_map, list_any}
 use Rattle.std.specs.declared.cmp.Ordering.TheVariants.{Less}
 use Rattle.std.specs.List.Sorted.{IsStrictlySortedBy}
-use Rattle.std.specs.Map.{lookup}
 use Rattle.std.specs.Option.{IfSome, option_and_then, option_map_or}
 use Rattle.std.specs.Ordering.{nat_cmp}
-use Rattle.std.specs.BTreeMap.{is_at}
 use Rattle.std.proofs.lemmas.Bool.Decides.{nat_tests}
 use Rattle.rd_base.specs.declared.journal.Cause.TheVariants.{Dropped}
 use Rattle.rd_base.specs.declared.journal.Item.{Item}
@@ -15,7 +13,7 @@ use Rattle.rd_base.specs.declared.journal.Item.TheVariants.{Cut}
 use Rattle.rd_base.specs.declared.journal.Key.{Key}
 use Rattle.rd_client.specs.Core.{Outgoing}
 use Rattle.rd_controls.proofs.Walking.{settled_keeps}
-use Rattle.rd_controls.specs.Controls.{AreOrderedLines, DoAsSaid, EndsAs, control_with}
+use Rattle.rd_controls.specs.Controls.{DoAsSaid, control_with}
 use Rattle.rd_drive.specs.declared.plan.Job.{Job}
 use Rattle.rd_irp.specs.declared.op.Op.{Op}
 use Rattle.rd_joined.proofs.RoomLemmas.{carried_now}
@@ -27,12 +25,11 @@ use Rattle.rd_pending.specs.declared.calls.TakeNo.{TakeNo}
 use Rattle.rd_pending.specs.declared.calls.Taken.{Taken}
 use Rattle.rd_pending.specs.declared.calls.Target.{Target}
 use Rattle.rd_runs.proofs.HostLemmas.{host_channel, shut_sends}
-use Rattle.rd_runs.proofs.IdleLemmas.{IsIdle}
-use Rattle.rd_runs.proofs.Parts.{IsBehind, reached_behind}
+use Rattle.rd_runs.proofs.Parts.{reached_behind}
 use Rattle.rd_runs.proofs.Reaching.{both}
 use Rattle.rd_runs.proofs.Resting.{quiet}
-use Rattle.rd_runs.proofs.Standing.{IsShut, Stands}
-use Rattle.rd_runs.proofs.Together.{known, knows}
+use Rattle.rd_runs.proofs.Standing.{Stands}
+use Rattle.rd_runs.proofs.Together.{known}
 use Rattle.rd_runs.specs.Moves.{IsOfLines, MayPass, Reached, ReachedWithin, RunMove, after_move, draws, event_weight, happens, weight}
 use Rattle.rd_runs.specs.Premises.{RunPremises}
 use Rattle.rd_script.specs.declared.line.NumberedLine.{NumberedLine}
@@ -42,20 +39,18 @@ use Rattle.rd_station.specs.Station.{StationState, is_key}
 use Rattle.rd_station.specs.declared.answers.Completion.{Completion}
 use Rattle.rd_station.specs.declared.held.InHand.{InHand}
 use Rattle.rd_world.specs.Acts.{left_open, some_wait}
-use Rattle.rd_world.specs.Control.{Control, control_of, dropped_at}
-use Rattle.rd_world.specs.Devices.{Declared, device_cut}
+use Rattle.rd_world.specs.Control.{Control, control_of}
+use Rattle.rd_world.specs.Devices.{Declared}
 use Rattle.rd_world.specs.Events as event
 use Rattle.rd_world.specs.Events.{Event, act, applies_at, applies_held, asks, came_of, client_has_message, comes_of_asking, cutting, drop_channel, dropping, drops, has_completion, hand_at, host_has_message, is_channel_open, is_empty, is_enabled, is_read, issues_next, job_waits, target_of, with_hand}
-use Rattle.rd_world.specs.Hearing.{all_take, ends_line, given_handle, next_asked, reported_outcome, takes_awaited, takes_from, takes_outcome, with_outcome}
+use Rattle.rd_world.specs.Hearing.{ends_line, given_handle, next_asked, reported_outcome, takes_awaited, takes_from, takes_outcome, with_outcome}
 use Rattle.rd_world.specs.Host.{next_message}
 use Rattle.rd_world.specs.Joining.{IsCarried}
 use Rattle.rd_world.specs.Opening.{bare_lines}
 use Rattle.rd_world.specs.Run.{Most, NextStep, choices, declared_devices, device_ids, drawing, ends_session, settled, some_left, where_true}
 use Rattle.rd_world.specs.Run as run
 use Rattle.rd_world.specs.Talk.{Deed, EndsWith, host_ends, journal, open_channel, stores, submits, takes}
-use Rattle.rd_world.specs.World.{ApplicationState, Asked, WorldState, application_at, station_at, stored_beyond, with_application, with_deed, with_station, with_table}
-use Rattle.rd_world.specs.declared.device.SessionDevice.{SessionDevice}
-use Rattle.rd_world.specs.World.{handle_named}
+use Rattle.rd_world.specs.World.{ApplicationState, Asked, WorldState, application_at, station_at, with_application, with_deed, with_station, with_table}
 use Rattle.rd_pending.specs.declared.calls.Handle.{Handle}
 use Rattle.rd_acted.proofs.CutThereLemmas.{key_found}
 use Rattle.rd_acted.proofs.CuttingLemmas.{Of, is_live, live_dropped, other_dropped}

@@ -1,5 +1,5 @@
 -- A channel that ended isn't written on, so where each channel opened it ends only after its devices were told of.
-use Rattle.std.proofs.Common.{◌≡◌, ◌≢◌, ◌⊎◌, ◌∙◌, refl, sym, ap, subst, inl, inr, ℕ, ◌+◌, ◌<◌, ◌≤◌, ◌==◌, ◌||◌, Bool, true, false, arith, eq-eqb, eqb-true, not, List, [], ◌∷◌, ◌++◌, length, map, reverse, fold, Some, None, Option, append-nil}
+use Rattle.std.proofs.Common.{◌≡◌, ◌⊎◌, ◌∙◌, refl, sym, ap, subst, inl, inr, ℕ, ◌+◌, ◌<◌, ◌≤◌, ◌==◌, ◌||◌, Bool, true, false, arith, eq-eqb, eqb-true, List, [], ◌∷◌, ◌++◌, length, map, fold, Some, None, Option, append-nil}
 use Rattle.std.specs.Prelude.{Contains, filter, if◌then◌else◌}
 use Rattle.std.specs.List.{AllByRecursion, cons_option}
 use Rattle.std.specs.Option.{IfSome, option_map_or}
@@ -12,8 +12,8 @@ use Rattle.rd_journals.specs.Orderly.{Orderly}
 use Rattle.rd_station.proofs.Remembering.{came_named}
 use Rattle.rd_world.proofs.Journals.{has_contains}
 use Rattle.rd_journals.proofs.ChannelLemmas.{all_refreshed, begun_on}
-use Rattle.rd_runs.proofs.Parts.{IsBehind, MayBe, Part, adds_one, announced_by, begins, by_parts, client_hears_one, client_sends_one, cut_by, done, ends, refreshed_by, removes_one, told_added, told_removed}
-use Rattle.rd_runs.proofs.Standing.{Stands, needs_open, shut_now}
+use Rattle.rd_runs.proofs.Parts.{IsBehind, MayBe, Part, adds_one, announced_by, begins, by_parts, client_hears_one, client_sends_one, done, ends, refreshed_by, removes_one, told_added, told_removed}
+use Rattle.rd_runs.proofs.Standing.{Stands, needs_open}
 use Rattle.rd_runs.proofs.Together.{knows}
 use Rattle.rd_runs.specs.Premises.{RunPremises}
 use Rattle.rd_script.specs.declared.line.NumberedLine.{NumberedLine}
@@ -21,15 +21,15 @@ use Rattle.rd_station.specs.Station as station
 use Rattle.rd_station.specs.Station.{StationState}
 use Rattle.rd_world.proofs.BeginningLemmas.{begun_by}
 use Rattle.rd_world.proofs.OpeningLemmas.{lines_begin}
-use Rattle.rd_world.specs.Acts.{HasOpened, Opens, is_telling, tellings_on}
+use Rattle.rd_world.specs.Acts.{Opens, is_telling, tellings_on}
 use Rattle.rd_world.specs.Devices.{Declared, PrinterNames, device_cut}
-use Rattle.rd_world.specs.Events.{deed_on, dropping, is_channel_open}
+use Rattle.rd_world.specs.Events.{dropping}
 use Rattle.rd_world.specs.Opening.{bare_lines}
-use Rattle.rd_world.specs.Run.{declared_devices, world_of}
+use Rattle.rd_world.specs.Run.{declared_devices}
 use Rattle.rd_world.specs.Talk.{Deed, EachAfter, adds, client_reads, client_writes, completes, has_ended, host_begins, host_ends, journal, open_channel, removes, Has}
 use Rattle.rd_world.specs.World.{WorldState, station_at, with_station}
 use Rattle.rd_world.specs.declared.device.SessionDevice.{SessionDevice}
-use Rattle.rd_acted.proofs.PassingLemmas.{Left, all_dropped_unspoken, left_all, left_one, left_unspoken, quiet_unspoken}
+use Rattle.rd_acted.proofs.PassingLemmas.{all_dropped_unspoken, left_one, left_unspoken, quiet_unspoken}
 use Rattle.rd_acted.proofs.QuietLemmas.{AreSilent, IsSilent, Unspoken, hears_unspoken, option_unspoken, stationed_unspoken}
 use Rattle.rd_acted.proofs.ReadLemmas.{part_well, premises_fit}
 use Rattle.rd_acted.proofs.SayingLemmas.{completes_tell, told_longer, writes_tell}

@@ -1,14 +1,13 @@
 -- Where nothing can happen by itself on an open channel, a request waits in some device just where a journal leaves one of the channel waiting.
-use Rattle.std.proofs.Common.{◌≡◌, ◌≢◌, ◌⊎◌, ◌∙◌, refl, sym, ap, subst, inl, inr, ℕ, ◌+◌, ◌<◌, ◌≤◌, ◌==◌, ◌&&◌, ◌||◌, Bool, true, false, not, arith, eq-eqb, eqb-true, List, [], ◌∷◌, ◌++◌, map, reverse, Some, None, Option, append-nil, is_some}
-use Rattle.std.specs.Prelude.{All, Any, Contains, IfSome, filter, if◌then◌else◌}
+use Rattle.std.proofs.Common.{◌≡◌, ◌≢◌, ◌∙◌, refl, sym, ap, subst, inl, inr, ℕ, ◌<◌, ◌≤◌, ◌==◌, ◌&&◌, ◌||◌, Bool, true, false, not, arith, eqb-true, List, [], ◌∷◌, ◌++◌, map, reverse, Some, None, Option}
+use Rattle.std.specs.Prelude.{All, Contains, if◌then◌else◌}
 use Rattle.std.specs.List.{AllByRecursion, cons_option, flat_map, list_any}
 use Rattle.std.specs.List.Sorted.{IsStrictlySortedBy}
 use Rattle.std.specs.Map.{lookup}
-use Rattle.std.specs.Option.{option_map_or, unwrap_or}
+use Rattle.std.specs.Option.{unwrap_or}
 use Rattle.std.specs.Ordering.{nat_cmp}
 use Rattle.std.specs.BTreeMap.{is_at}
 use Rattle.std.proofs.lemmas.Bool.Decides.{nat_tests}
-use Rattle.std.proofs.lemmas.List.{reverse-append, reverse-reverse}
 use Rattle.std.proofs.lemmas.List.Elements.{All-contains, filter_map-append}
 use Rattle.rd_base.specs.Lawful.{sends}
 use Rattle.rd_base.specs.declared.journal.Cause.TheVariants.{Dropped, Removed}
@@ -33,7 +32,6 @@ use Rattle.rd_base.specs.Lawful.{Settles}
 use Rattle.rd_station.proofs.Holding.{in_held}
 use Rattle.rd_station.proofs.Remembering.{any_has, came_named}
 use Rattle.rd_station.specs.Memory.{NamesKey}
-use Rattle.rd_journals.specs.Reads.{IsRead}
 use Rattle.rd_journals.specs.Stations.{AreFit, IsFit, IsOn}
 use Rattle.rd_runs.proofs.HostLemmas.{host_channel}
 use Rattle.rd_runs.proofs.Parts.{IsBehind, reached_behind}
@@ -52,7 +50,7 @@ use Rattle.rd_world.proofs.Agreeing.{agree}
 use Rattle.rd_world.proofs.Journals.{IsPlain, has_contains, plain_of}
 use Rattle.rd_world.proofs.OpeningLemmas.{declared_openable}
 use Rattle.rd_world.proofs.Replied.{request_since}
-use Rattle.rd_world.specs.Acts.{IsCutThere, IsDone, before_end, some_wait, waiting_in, waiting_keys}
+use Rattle.rd_world.specs.Acts.{IsCutThere, IsDone, before_end, some_wait, waiting_in}
 use Rattle.rd_world.specs.Devices.{Declared, device_cut, device_cuts, device_parked, device_runs, device_step}
 use Rattle.rd_world.specs.Joining.{IsCarried}
 use Rattle.rd_world.specs.Opening.{bare_lines}
@@ -63,13 +61,13 @@ use Rattle.rd_world.specs.Talk.{Deed, EachAfter, Has, adds, client_read, client_
 use Rattle.rd_world.specs.World.{WorldState, station_at}
 use Rattle.rd_world.specs.declared.device.SessionDevice.{SessionDevice}
 use Rattle.rd_acted.proofs.CutThereLemmas.{found_key, key_found}
-use Rattle.rd_acted.proofs.CuttingLemmas.{AreCut, Of}
-use Rattle.rd_acted.proofs.EndedLemmas.{AreOver, EndsAsTold, behind_over}
+use Rattle.rd_acted.proofs.CuttingLemmas.{Of}
+use Rattle.rd_acted.proofs.EndedLemmas.{EndsAsTold, behind_over}
 use Rattle.rd_acted.proofs.EveryCutLemmas.{behind_there}
 use Rattle.rd_acted.proofs.ReadLemmas.{premises_fit}
 use Rattle.rd_acted.proofs.TellLemmas.{ids_in}
 use Rattle.rd_acted.proofs.ThereLemmas.{IsThere}
-use Rattle.rd_acted.proofs.WaitLemmas.{IsWaiting, RanWaiting, same_state, waits_marked}
+use Rattle.rd_acted.proofs.WaitLemmas.{RanWaiting, same_state, waits_marked}
 use Rattle.rd_acted.specs.Acted.{GoWell}
 
 -- ---- lists

@@ -1,5 +1,5 @@
 -- Where a client's moves are in order, nothing that it read was wrong.
-use Rattle.std.proofs.Common.{◌≡◌, ◌∙◌, refl, sym, ap, subst, ℕ, ◌==◌, Bool, true, false, List, [], ◌∷◌, ◌++◌, map, reverse, Some, None, Option}
+use Rattle.std.proofs.Common.{◌≡◌, ◌∙◌, refl, sym, ap, subst, ℕ, ◌==◌, Bool, true, false, List, [], ◌∷◌, ◌++◌, reverse, Some, None, Option}
 use Rattle.std.specs.Prelude.{IsSome, bytes_eq, filter_map, if◌then◌else◌}
 use Rattle.std.specs.List.{cons_option}
 use Rattle.std.specs.Option.{option_and_then, option_map}
@@ -15,8 +15,7 @@ use Rattle.rd_hello.specs.declared.client.ClientState.{ClientState}
 use Rattle.rd_hello.specs.declared.client.ClientState.TheVariants.{Start}
 use Rattle.rd_world.specs.Devices.{Declared}
 use Rattle.rd_world.specs.Recording.{announced_of, is_gone_at}
-use Rattle.rd_world.specs.Talk as talk
-use Rattle.rd_world.specs.Talk.{Deed, adds, client_move, client_moves, client_read, client_reads, client_writes, completes, host_begins, host_ends, host_reads, host_writes, on, removes, stores, submits, takes, tells}
+use Rattle.rd_world.specs.Talk.{Deed, adds, client_moves, client_read, client_reads, client_writes, completes, host_begins, host_ends, host_reads, host_writes, removes, stores, submits, takes, tells}
 use Rattle.rd_acted.specs.Acted.{AreReadWell, state_heard, state_read}
 
 -- the state after messages in a state, the oldest first

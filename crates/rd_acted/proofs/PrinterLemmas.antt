@@ -1,9 +1,8 @@
 -- What the host told of printers and what waits to be told are the notices that are due, in order.
-use Rattle.std.proofs.Common.{◌≡◌, ◌⊎◌, ◌∙◌, refl, sym, ap, subst, inl, inr, ℕ, ◌+◌, ◌<◌, ◌≤◌, ◌==◌, ◌&&◌, ◌||◌, ◌^◌, Bool, true, false, cond, not, arith, eq-eqb, eqb-true, List, [], ◌∷◌, ◌++◌, length, map, reverse, fold, Some, None, Option, Result, Ok, Err, append-nil, append_assoc, length-append, is_some}
-use Rattle.std.specs.Prelude.{filter, filter_map, if◌then◌else◌}
+use Rattle.std.proofs.Common.{◌≡◌, ◌⊎◌, ◌∙◌, refl, sym, ap, subst, inl, inr, ℕ, ◌+◌, ◌<◌, ◌==◌, ◌||◌, Bool, true, false, not, arith, eq-eqb, eqb-true, List, [], ◌∷◌, ◌++◌, length, map, reverse, fold, Some, None, Option, Result, Ok, Err, append-nil, append_assoc, length-append, is_some}
+use Rattle.std.specs.Prelude.{filter, if◌then◌else◌}
 use Rattle.std.specs.List.{AllByRecursion, cons_option}
 use Rattle.std.specs.Option.{option_map_or, option_to_list}
-use Rattle.std.proofs.lemmas.List.{reverse-append}
 use Rattle.std.proofs.lemmas.List.Elements.{filter-append}
 use Rattle.rd_base.specs.Header.{packet_id}
 use Rattle.rd_base.specs.Layout.{met}
@@ -16,15 +15,13 @@ use Rattle.rd_base.specs.declared.status.Status.{Status}
 use Rattle.rd_base.proofs.LayoutLemmas.{meets}
 use Rattle.rd_base.proofs.SpellingLemmas.{message_spelled}
 use Rattle.rd_controls.proofs.Numbers.{reverse_cons}
-use Rattle.rd_client.specs.Core.{Outgoing}
-use Rattle.rd_core.specs.Core.{CoreState}
 use Rattle.rd_core.specs.Hearing as hearing
 use Rattle.rd_core.specs.Hearing.{Meaning, messages_of, nothing, opens, says, wrong}
 use Rattle.rd_devices.specs.DeviceReply.{reply_bytes}
 use Rattle.rd_devices.specs.declared.list.Announce.{Announce}
 use Rattle.rd_drive.proofs.AllLemmas.{all_append}
 use Rattle.rd_hello.specs.Hello.{hello_bytes}
-use Rattle.rd_hello.specs.Moves.{is_of, packet_in}
+use Rattle.rd_hello.specs.Moves.{packet_in}
 use Rattle.rd_hello.specs.Own.{host_announce}
 use Rattle.rd_hello.specs.declared.end_fault.EndFault.{EndFault}
 use Rattle.rd_hello.specs.declared.hello.Hello.{Hello}
@@ -43,12 +40,11 @@ use Rattle.rd_pending.specs.Table.{TableState}
 use Rattle.rd_pending.specs.declared.calls.LiveNo.{LiveNo}
 use Rattle.rd_printer.specs.Notice.{HasWholePort, IsWritableNotice, notice, notice_bytes}
 use Rattle.rd_printer.specs.declared.notice.Notice.{Notice}
-use Rattle.rd_printer.specs.declared.notice.Notice.TheVariants as printer
 use Rattle.rd_printer.proofs.NoticeLemmas.{IsInRange, notice_spelled}
 use Rattle.rd_runs.proofs.AskedLemmas.{tellable_lines}
 use Rattle.rd_runs.proofs.HostLemmas.{IsHostOf, host_channel, sending_opens}
-use Rattle.rd_runs.proofs.Insides.{AreOwn, IsInside, Outside, added_inside, all_dropped_inside, all_refreshed_inside, applied_inside, hears_inside, put_inside, removed_inside, stationed}
-use Rattle.rd_runs.proofs.Parts.{IsBehind, MayBe, Part, accepts, adds_one, announced_by, applies_one, begins, by_parts, client_gets, client_hears_one, client_keeps_part, client_sends_one, collects_one, cut_by, done, draws_one, ends, hands_out, host_gets, host_hears_one, host_keeps_part, host_sends_one, idle_one, queues_one, refreshed_by, refuses, removes_one, takes_one, tells_one, told_added, told_removed, tries_one}
+use Rattle.rd_runs.proofs.Insides.{AreOwn, IsInside, Outside, added_inside, all_dropped_inside, applied_inside, hears_inside, put_inside, removed_inside, stationed}
+use Rattle.rd_runs.proofs.Parts.{IsBehind, MayBe, Part, accepts, adds_one, applies_one, begins, by_parts, client_gets, client_hears_one, client_keeps_part, client_sends_one, collects_one, done, draws_one, ends, hands_out, host_gets, host_hears_one, host_keeps_part, host_sends_one, idle_one, queues_one, refuses, removes_one, takes_one, tells_one, tries_one}
 use Rattle.rd_runs.proofs.Standing.{Stands, needs_open, shut_now}
 use Rattle.rd_runs.proofs.Together.{knows}
 use Rattle.rd_runs.specs.Premises.{RunPremises}
@@ -63,12 +59,12 @@ use Rattle.rd_world.proofs.Written.{Matches, Written, requests_on, written}
 use Rattle.rd_world.specs.Joining.{accepted, request_of_accepted}
 use Rattle.rd_world.specs.Acts.{notices_on}
 use Rattle.rd_world.specs.Devices.{PrinterNames}
-use Rattle.rd_world.specs.Events.{completion_message, deed_on, dropping, is_channel_open, telling_of}
-use Rattle.rd_world.specs.Host.{HostSide, admits, begins_on, forgets, hears, host_heard, live_code, lived, next_message, sent_from, side_sends}
+use Rattle.rd_world.specs.Events.{completion_message, dropping, is_channel_open, telling_of}
+use Rattle.rd_world.specs.Host.{HostSide, admits, forgets, hears, host_heard, live_code, lived, next_message, sent_from, side_sends}
 use Rattle.rd_world.specs.Noting.{IsTellable}
 use Rattle.rd_world.specs.Recording.{client_id}
-use Rattle.rd_world.specs.Run.{notice_of, world_of}
-use Rattle.rd_world.specs.Talk.{Deed, Has, adds, client_reads, client_writes, completes, has_ended, host_begins, host_ends, host_reads, host_writes, host_wrote, is_open_at, is_request, notice_in, on, open_channel, removes, stores, submits, takes, tells}
+use Rattle.rd_world.specs.Run.{notice_of}
+use Rattle.rd_world.specs.Talk.{Deed, adds, client_reads, client_writes, completes, has_ended, host_begins, host_ends, host_reads, host_writes, host_wrote, is_open_at, is_request, notice_in, on, open_channel, removes, stores, submits, takes, tells}
 use Rattle.rd_world.specs.Hearing.{with_client}
 use Rattle.rd_world.specs.World.{WorldState, client_sends, host_sends, with_deed, with_station}
 use Rattle.rd_world.specs.declared.device.SessionDevice.{SessionDevice}

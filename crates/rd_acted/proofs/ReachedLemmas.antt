@@ -1,5 +1,5 @@
 -- What waits to be told on the channel that is open, in every world that lines come to.
-use Rattle.std.proofs.Common.{◌≡◌, ◌⊎◌, ◌∙◌, refl, sym, ap, subst, inl, inr, ℕ, Bool, true, false, List, [], ◌∷◌, ◌++◌, length, map, Some, None, Option}
+use Rattle.std.proofs.Common.{◌≡◌, ◌∙◌, refl, sym, ap, subst, inl, inr, ℕ, Bool, true, false, List, [], ◌∷◌, ◌++◌, length, Some}
 use Rattle.rd_base.specs.declared.journal.Key.{Key}
 use Rattle.rd_controls.proofs.Unseen.{client_ready}
 use Rattle.rd_printer.specs.Notice.{notice_bytes}

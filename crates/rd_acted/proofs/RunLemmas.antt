@@ -1,11 +1,9 @@
 -- What the control lines of a whole run did.
-use Rattle.std.proofs.Common.{◌≡◌, ◌≢◌, ◌⊎◌, ◌∙◌, refl, sym, ap, subst, inl, inr, ℕ, ◌+◌, ◌<◌, ◌≤◌, ◌==◌, Bool, true, false, arith, eq-eqb, List, [], ◌∷◌, ◌++◌, length, map, reverse, Some, None, Option, append-nil, length-append, is_some}
-use Rattle.std.specs.Prelude.{All, filter, filter_map, if◌then◌else◌}
-use Rattle.std.specs.List.{cons_option, range_with_len}
+use Rattle.std.proofs.Common.{◌≡◌, ◌⊎◌, ◌∙◌, refl, sym, ap, subst, inl, inr, ℕ, ◌≤◌, ◌==◌, Bool, true, false, arith, eq-eqb, List, [], ◌∷◌, ◌++◌, length, Some, None, Option, append-nil, is_some}
+use Rattle.std.specs.Prelude.{All, if◌then◌else◌}
+use Rattle.std.specs.List.{range_with_len}
 use Rattle.std.specs.Option.{option_map_or}
-use Rattle.rd_base.specs.declared.journal.Cause.{Cause}
 use Rattle.rd_base.specs.declared.journal.Key.{Key}
-use Rattle.rd_client.specs.Core.{Outgoing}
 use Rattle.rd_controls.proofs.Leading.{does_as_said}
 use Rattle.rd_controls.proofs.Unseen.{client_ready}
 use Rattle.rd_controls.specs.Controls.{AreOrderedLines, DoAsSaid, EndsAs, control_with}
@@ -15,25 +13,24 @@ use Rattle.rd_printer.specs.declared.notice.Notice.{Notice}
 use Rattle.rd_runs.proofs.HostLemmas.{host_channel}
 use Rattle.rd_runs.proofs.Parts.{IsBehind, reached_behind}
 use Rattle.rd_runs.proofs.Reaching.{run_reached, run_rests}
-use Rattle.rd_runs.proofs.Resting.{IsQuiet, quiet}
+use Rattle.rd_runs.proofs.Resting.{quiet}
 use Rattle.rd_runs.proofs.Standing.{Stands}
 use Rattle.rd_runs.proofs.Together.{knows}
 use Rattle.rd_runs.specs.Moves.{Reached}
 use Rattle.rd_runs.specs.Premises.{RunPremises}
 use Rattle.rd_script.specs.declared.line.NumberedLine.{NumberedLine}
-use Rattle.rd_world.specs.Acts.{AreActed, AreSaid, IsCutThere, Opens, Tells, cause_in, control_at_end, control_by, is_settled_host, is_telling, left_open, notices_on, of_channel, tellings_due, tellings_on}
-use Rattle.rd_world.specs.Control.{Control, Telling, control_of, dropped_at}
+use Rattle.rd_world.specs.Acts.{AreActed, AreSaid, Opens, Tells, is_settled_host, notices_on, of_channel, tellings_due, tellings_on}
+use Rattle.rd_world.specs.Control.{Control, Telling, control_of}
 use Rattle.rd_world.specs.Devices.{Declared}
-use Rattle.rd_world.specs.Host.{first_waiting, next_message}
+use Rattle.rd_world.specs.Host.{first_waiting}
 use Rattle.rd_world.specs.Opening.{bare_lines}
 use Rattle.rd_world.specs.Recording.{host_stand}
 use Rattle.rd_world.specs.Run.{Most, choices, declared_devices, run_of}
-use Rattle.rd_world.specs.Talk.{Deed, EachAfter, EndsWith, adds, client_reads, client_writes, client_wrote, completes, has_ended, host_begins, host_ends, host_reads, host_writes, is_open_at, open_channel, removes, stores, submits, takes, tells, written_by_client}
+use Rattle.rd_world.specs.Talk.{Deed, EachAfter, adds, client_reads, client_writes, completes, has_ended, host_begins, host_ends, host_reads, host_writes, open_channel, removes, stores, submits, takes, tells}
 use Rattle.rd_world.specs.World.{WorldState}
 use Rattle.rd_acted.proofs.ActLemmas.{acts_by_deeds, control_by_acts}
 use Rattle.rd_acted.proofs.CauseLemmas.{cuts_by_deeds}
 use Rattle.rd_acted.proofs.ClosedLemmas.{left_is_open}
-use Rattle.rd_acted.proofs.CuttingLemmas.{AreCut}
 use Rattle.rd_acted.proofs.LeadingLemmas.{run_rests_after}
 use Rattle.rd_acted.proofs.DueLemmas.{current_by_deeds, notices_are_due, told_is_due}
 use Rattle.rd_acted.proofs.EveryCutLemmas.{behind_there}
@@ -42,7 +39,6 @@ use Rattle.rd_acted.proofs.PrinterLemmas.{NoticesAs, behind_notices}
 use Rattle.rd_acted.proofs.ReadLemmas.{fewer_read, premises_fit}
 use Rattle.rd_acted.proofs.SayingLemmas.{say_none, say_zip, told_longer}
 use Rattle.rd_acted.proofs.TellLemmas.{TellsAs, behind_tells, ids_in}
-use Rattle.rd_acted.proofs.ThereLemmas.{IsThere}
 use Rattle.rd_acted.specs.Acted.{AreReadWell, EndsTold, GoWell, HaveActed, SayFirst, control_after, control_by_deeds, due_on, notices_due, without_idle}
 use Rattle.rd_acted.specs.Waiting.{notices_waiting, tellings_waiting}
 

@@ -1,6 +1,6 @@
 -- Messages that say what things begin with; and what is due on a channel.
-use Rattle.std.proofs.Common.{◌≡◌, ◌∙◌, refl, sym, ap, subst, ℕ, zero, suc, ◌+◌, ◌≤◌, ◌==◌, Bool, true, false, arith, List, [], ◌∷◌, ◌++◌, length, reverse, map, Some, None, Option, append-nil, append_assoc, length-append}
-use Rattle.std.specs.Prelude.{filter, filter_map, if◌then◌else◌, take}
+use Rattle.std.proofs.Common.{◌≡◌, ◌∙◌, refl, sym, ap, ℕ, ◌+◌, ◌≤◌, ◌==◌, Bool, true, false, arith, List, [], ◌∷◌, ◌++◌, length, reverse, Some, None, Option, append-nil, length-append}
+use Rattle.std.specs.Prelude.{filter, if◌then◌else◌, take}
 use Rattle.std.specs.List.{AllZip, cons_option}
 use Rattle.std.proofs.lemmas.List.Elements.{filter-append}
 use Rattle.rd_controls.proofs.Numbers.{reverse_cons}

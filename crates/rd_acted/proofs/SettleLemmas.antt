@@ -1,15 +1,12 @@
 -- Where lines settle, and where a run was left after the last line, all is told that was due by then.
-use Rattle.std.proofs.Common.{◌≡◌, ◌⊎◌, ◌∙◌, refl, sym, ap, subst, inl, inr, ℕ, ◌+◌, ◌≤◌, Bool, true, false, arith, List, [], ◌∷◌, ◌++◌, length, map, reverse, Some, None, Option, append-nil, is_some, length-append}
+use Rattle.std.proofs.Common.{◌≡◌, ◌∙◌, refl, sym, ap, subst, ℕ, ◌+◌, ◌≤◌, Bool, true, false, arith, List, [], ◌∷◌, ◌++◌, length, reverse, Some, None, Option, append-nil, is_some, length-append}
 use Rattle.std.specs.Prelude.{◌&&◌, filter, filter_map, if◌then◌else◌}
 use Rattle.std.specs.List.{AllByRecursion, cons_option}
-use Rattle.std.specs.Option.{option_map_or}
 use Rattle.std.proofs.lemmas.List.Elements.{filter-append}
 use Rattle.rd_base.specs.declared.journal.Key.{Key}
 use Rattle.rd_controls.proofs.Leading.{rests_where_settled}
 use Rattle.rd_controls.proofs.Numbers.{reverse_cons}
 use Rattle.rd_controls.specs.Controls.{AreOrderedLines, AreReady, DoAsSaid, RestsAt, control_with}
-use Rattle.rd_printer.specs.Notice.{notice_bytes}
-use Rattle.rd_printer.specs.declared.notice.Notice.{Notice}
 use Rattle.rd_runs.proofs.HostLemmas.{host_channel}
 use Rattle.rd_runs.proofs.Parts.{IsBehind, reached_behind}
 use Rattle.rd_runs.proofs.Reaching.{run_reached}
@@ -19,14 +16,14 @@ use Rattle.rd_runs.specs.Moves.{Reached}
 use Rattle.rd_runs.specs.Premises.{RunPremises}
 use Rattle.rd_script.specs.declared.line.NumberedLine.{NumberedLine}
 use Rattle.rd_world.specs.Acts.{Tells, act_by, notices_on, of_channel, tellings_on}
-use Rattle.rd_world.specs.Control.{Control, control_of, dropped_at, first_control}
+use Rattle.rd_world.specs.Control.{Control, control_of, first_control}
 use Rattle.rd_world.specs.Devices.{Declared}
 use Rattle.rd_world.specs.Host.{first_waiting}
 use Rattle.rd_world.specs.Opening.{bare_lines}
 use Rattle.rd_world.specs.Run.{Most, choices, declared_devices, run_of, some_left}
 use Rattle.rd_world.specs.Events.{is_channel_open}
 use Rattle.rd_world.specs.Session.{at_settles}
-use Rattle.rd_world.specs.Talk.{Deed, EndsWith, host_wrote, open_channel, written_by_host}
+use Rattle.rd_world.specs.Talk.{Deed, host_wrote, open_channel, written_by_host}
 use Rattle.rd_world.specs.World.{WorldState}
 use Rattle.rd_acted.proofs.ActLemmas.{IsByActs, acts_by_deeds, control_by_acts, lines_by_acts, settles_by_acts}
 use Rattle.rd_acted.proofs.DueLemmas.{notices_are_due, told_is_due}

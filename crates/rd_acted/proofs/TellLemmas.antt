@@ -1,11 +1,8 @@
 -- What a client told and what waits to be told say, in order, what is due on each channel.
-use Rattle.std.proofs.Common.{◌≡◌, ◌⊎◌, ◌∙◌, refl, sym, ap, subst, inl, inr, ℕ, ◌+◌, ◌<◌, ◌≤◌, ◌==◌, ◌&&◌, Bool, true, false, cond, arith, eq-eqb, eqb-true, List, [], ◌∷◌, ◌++◌, length, map, fold, Some, None, Option, Result, append-nil, append_assoc, length-append}
+use Rattle.std.proofs.Common.{◌≡◌, ◌⊎◌, ◌∙◌, refl, sym, ap, subst, inl, inr, ℕ, ◌+◌, ◌<◌, ◌==◌, Bool, true, false, arith, eq-eqb, eqb-true, List, [], ◌∷◌, ◌++◌, length, map, fold, Some, None, Option, append-nil, append_assoc, length-append}
 use Rattle.std.specs.Prelude.{filter, if◌then◌else◌}
 use Rattle.std.specs.List.{AllByRecursion, AllZip, cons_option}
-use Rattle.std.specs.Map.{lookup}
 use Rattle.std.specs.Option.{IfSome, option_map_or}
-use Rattle.std.specs.Ordering.{nat_cmp}
-use Rattle.std.specs.BTreeMap.{is_at}
 use Rattle.std.proofs.lemmas.List.Elements.{filter-append}
 use Rattle.std.proofs.lemmas.List.{map-append}
 use Rattle.rd_base.specs.declared.journal.Key.{Key}
@@ -21,7 +18,7 @@ use Rattle.rd_drive.proofs.AllLemmas.{all_append}
 use Rattle.rd_hello.specs.declared.client.ClientState.{ClientState}
 use Rattle.rd_journals.proofs.ChannelLemmas.{all_refreshed, begun_on}
 use Rattle.rd_printer.specs.Cache.{CacheState}
-use Rattle.rd_runs.proofs.Parts.{IsBehind, MayBe, Part, adds_one, announced_by, begins, by_parts, client_hears_one, client_sends_one, cut_by, done, ends, refreshed_by, removes_one, told_added, told_removed}
+use Rattle.rd_runs.proofs.Parts.{IsBehind, MayBe, Part, adds_one, announced_by, begins, by_parts, client_hears_one, client_sends_one, done, ends, refreshed_by, removes_one, told_added, told_removed}
 use Rattle.rd_runs.proofs.Reaching.{both}
 use Rattle.rd_runs.proofs.Standing.{Stands, needs_open}
 use Rattle.rd_runs.proofs.Together.{knows}
@@ -38,14 +35,14 @@ use Rattle.rd_world.specs.Devices.{Declared, PrinterNames, device_cut, printer_d
 use Rattle.rd_world.specs.Events.{connects, cutting, deed_on, dropping, is_channel_open, is_ready, refreshing}
 use Rattle.rd_world.specs.Hearing.{client_hears, with_client}
 use Rattle.rd_world.specs.Opening.{bare_lines}
-use Rattle.rd_world.specs.Run.{declared_devices, printers_of, world_of}
-use Rattle.rd_world.specs.Talk.{Deed, adds, client_reads, client_writes, completes, host_begins, host_ends, is_open_at, is_removed, on, open_channel, removes, until_begin}
-use Rattle.rd_world.specs.World.{WorldState, client_sends, ending, station_at, with_deed, with_station}
+use Rattle.rd_world.specs.Run.{declared_devices, world_of}
+use Rattle.rd_world.specs.Talk.{Deed, adds, client_reads, client_writes, completes, host_begins, host_ends, is_open_at, is_removed, open_channel, removes, until_begin}
+use Rattle.rd_world.specs.World.{WorldState, client_sends, with_station}
 use Rattle.rd_world.specs.declared.device.SessionDevice.{SessionDevice}
 use Rattle.rd_acted.proofs.DataLemmas.{HasBody, IsShaped, added_shaped, fresh_all, fresh_one, removed_shaped, shaped_more, zip_as, zip_map}
 use Rattle.rd_acted.proofs.ListLemmas.{first_list, first_shaped, one_list}
-use Rattle.rd_acted.proofs.PassingLemmas.{IsQuiet, Left, all_dropped_unspoken, left_unspoken, quiet_unspoken}
-use Rattle.rd_acted.proofs.QuietLemmas.{AreUntold, HearsTo, Unspoken, announced_unspoken, hears_to, hears_unspoken, option_unspoken, read_by, stationed_unspoken, unspoken_by, unspoken_deeds}
+use Rattle.rd_acted.proofs.PassingLemmas.{Left, all_dropped_unspoken, left_unspoken, quiet_unspoken}
+use Rattle.rd_acted.proofs.QuietLemmas.{AreUntold, HearsTo, Unspoken, hears_to, hears_unspoken, option_unspoken, read_by, stationed_unspoken, unspoken_deeds}
 use Rattle.rd_acted.proofs.ReadLemmas.{behind_read_as, part_well}
 use Rattle.rd_acted.proofs.SayingLemmas.{completes_tell, say_as, say_both, say_fewer, say_more, say_none, writes_tell}
 use Rattle.rd_acted.specs.Acted.{AreReadWell, SayFirst, due_on, there_of}

@@ -1,11 +1,11 @@
 -- What waits in a device after a journal was left waiting by a run of it.
-use Rattle.std.proofs.Common.{◌≡◌, ◌⊎◌, ◌∙◌, refl, sym, ap, subst, inl, inr, ℕ, Bool, true, false, List, [], ◌∷◌, ◌++◌, map, reverse, Some, None, Option}
+use Rattle.std.proofs.Common.{◌≡◌, ◌⊎◌, ◌∙◌, refl, sym, ap, subst, inl, inr, ℕ, Bool, true, false, List, [], ◌∷◌}
 use Rattle.rd_base.specs.declared.journal.Item.{Item}
 use Rattle.rd_base.specs.declared.journal.Item.TheVariants.{Came, Cancelled, Cut, Ran, Sent}
 use Rattle.rd_base.specs.declared.journal.Key.{Key}
 use Rattle.rd_drive.specs.Device.{AreEnded, Parked, Parks, is_parked, parked_by}
 use Rattle.rd_drive.specs.Promise.{Cancels}
-use Rattle.rd_drive.specs.Replies.{AreToldBy, last_state_by, run_of, state_after}
+use Rattle.rd_drive.specs.Replies.{AreToldBy, last_state_by, state_after}
 use Rattle.rd_drive.specs.Stepped.{Stepped}
 use Rattle.rd_drive.specs.declared.plan.Job.{Job}
 use Rattle.rd_drive.specs.declared.step.End.{End}
