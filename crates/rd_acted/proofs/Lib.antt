@@ -24,3 +24,4 @@ pub mod LeadingLemmas
 pub mod ClosedLemmas
 pub mod RunLemmas
 pub mod SettleLemmas
+pub mod WholeLemmas

@@ -130,3 +130,12 @@ pub fn settles_tell_all()
         → let ids = map (λ (d : ℕ × Declared). d.0) (declared_devices (bare_lines lines)) in
         RunPremises lines → AreOrderedLines ids lines → run_of most starves lines ≡ Some w → AreReadWell w.deeds → (said : DoAsSaid ids lines starves w) → (c : ℕ) → said.left ≡ Some c → AreAllTold w.deeds (control_of ids lines) c }
 {}
+
+/// Where each client's moves are in order, each channel that began opened, and the host owes nothing on one that didn't end, the control lines of a run did all that they say.
+pub fn runs_act_wholly()
+    ensures { (lines : List NumberedLine) (starves : Key → Bool) (most : Most) (w : WorldState) → RunPremises lines → length lines ≤ 1000000
+        → let devices = declared_devices (bare_lines lines) in
+        AreOrderedLines (map (λ (d : ℕ × Declared). d.0) devices) lines → run_of most starves lines ≡ Some w → ((c : ℕ) → ClientOrder (announced_of devices) (is_gone_at c w.deeds) (reverse (client_moves c w.deeds)))
+        → All (Opens devices w.deeds) (range_with_len 1 w.channels) → All (λ c. has_ended c w.deeds ≡ false → option_map_or is_settled_host (host_stand w.deeds c) false ≡ true) (range_with_len 1 w.channels)
+        → AreActed devices lines w.idle w.deeds }
+{}
