@@ -1,19 +1,18 @@
 -- All that the control lines of a run did, where both ends' messages are in order and each channel opened.
-use Rattle.std.proofs.Common.{◌≡◌, ◌∙◌, refl, sym, ap, subst, ℕ, zero, suc, ◌+◌, ◌<◌, ◌≤◌, Bool, false, true, arith, inl, inr, List, [], ◌∷◌, length, map, reverse, Some}
+use Rattle.std.proofs.Common.{◌≡◌, ◌∙◌, refl, sym, ap, subst, ℕ, zero, suc, ◌+◌, ◌<◌, ◌≤◌, Bool, false, true, arith, inl, inr, List, length, reverse, Some}
 use Rattle.std.specs.Prelude.{All, ◌⊎◌}
 use Rattle.std.specs.List.{range_with_len}
 use Rattle.std.specs.Option.{option_map_or}
 use Rattle.std.proofs.lemmas.List.Elements.{All-head, All-tail}
 use Rattle.rd_base.specs.declared.journal.Key.{Key}
 use Rattle.rd_client.specs.Order.{ClientOrder}
-use Rattle.rd_controls.specs.Controls.{AreOrderedLines, control_with}
+use Rattle.rd_controls.specs.Controls.{AreOrderedLines}
 use Rattle.rd_runs.proofs.Parts.{IsBehind, reached_behind}
 use Rattle.rd_runs.proofs.Reaching.{run_reached}
-use Rattle.rd_runs.specs.Moves.{Reached}
 use Rattle.rd_runs.specs.Premises.{RunPremises}
 use Rattle.rd_script.specs.declared.line.NumberedLine.{NumberedLine}
 use Rattle.rd_world.specs.Acts.{AreActed, Opens, control_by, is_settled_host, left_open}
-use Rattle.rd_world.specs.Control.{Act, Control, control_of}
+use Rattle.rd_world.specs.Control.{Act, Control}
 use Rattle.rd_world.specs.Devices.{Declared}
 use Rattle.rd_world.specs.Opening.{bare_lines}
 use Rattle.rd_world.specs.Recording.{announced_of, host_stand, is_gone_at}
