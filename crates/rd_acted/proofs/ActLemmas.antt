@@ -1,7 +1,7 @@
 -- What control lines do is a function of their acts.
 use Rattle.std.proofs.Common.{◌≡◌, ◌∙◌, refl, sym, ap, ℕ, ◌+◌, Bool, true, false, List, [], ◌∷◌, ◌++◌, fold, reverse, Some, None, Option}
 use Rattle.std.specs.Prelude.{filter_map, if◌then◌else◌, is_some}
-use Rattle.std.specs.List.{cons_option}
+use Rattle.std.specs.List.{AllByRecursion, cons_option}
 use Rattle.std.specs.Option.{option_map_or}
 use Rattle.rd_controls.proofs.Numbers.{picked_reverse, reverse_cons}
 use Rattle.rd_controls.specs.Controls.{control_with}
@@ -9,22 +9,23 @@ use Rattle.rd_printer.specs.declared.notice.Notice.{Notice}
 use Rattle.rd_script.specs.declared.line.Line.{Line}
 use Rattle.rd_script.specs.declared.line.Line.TheVariants as line
 use Rattle.rd_script.specs.declared.line.NumberedLine.{NumberedLine}
-use Rattle.rd_world.specs.Acts.{act_by}
+use Rattle.rd_world.specs.Acts.{act_by, is_settle}
+use Rattle.rd_world.specs.Session.{at_settles}
 use Rattle.rd_world.specs.Control.{Act, Control, added, added_at, begun, connected, control_of, controlled, dropped_at, ended, first_control, idled, is_among, noticed, noticed_at, removed, removed_at, where_open}
 use Rattle.rd_world.specs.Run.{notice_of}
 use Rattle.rd_world.specs.Talk.{Deed}
-use Rattle.rd_acted.specs.Acted.{after_act, control_after, control_by_deeds, no_control, without_idle}
+use Rattle.rd_acted.specs.Acted.{with_act, control_after, control_by_deeds, no_control, without_idle}
 
 fold_last : {A B : Type 0} (f : B → A → B) (b : B) (xs : List A) (x : A) → fold f b (xs ++ x ∷ []) ≡ f (fold f b xs) x
 fold_last f b [] x = refl
 fold_last f b (y ∷ xs) x = fold_last f (f b y) xs x
 
 -- what these control lines did is that of their acts
-abbrev IsByActs : List ℕ → Control → Type 0
+abbrev pub IsByActs : List ℕ → Control → Type 0
 IsByActs ids c = without_idle c ≡ control_after ids c.acts
 
-one_act : (ids : List ℕ) (c d : Control) (a : Act) → d.acts ≡ c.acts ++ a ∷ [] → without_idle d ≡ after_act (without_idle c) a → IsByActs ids c → IsByActs ids d
-one_act ids c d a acts same is = same ∙ ap (λ (k : Control). after_act k a) is ∙ sym (fold_last after_act (no_control ids) c.acts a) ∙ ap (λ (done : List Act). control_after ids done) (sym acts)
+one_act : (ids : List ℕ) (c d : Control) (a : Act) → d.acts ≡ c.acts ++ a ∷ [] → without_idle d ≡ with_act (without_idle c) a → IsByActs ids c → IsByActs ids d
+one_act ids c d a acts same is = same ∙ ap (λ (k : Control). with_act k a) is ∙ sym (fold_last with_act (no_control ids) c.acts a) ∙ ap (λ (done : List Act). control_after ids done) (sym acts)
 
 connects_by : (ids : List ℕ) (c : Control) → IsByActs ids c → IsByActs ids (connected c)
 connects_by ids c is = one_act ids c (connected c) (begun (c.channels + 1)) refl refl is
@@ -95,7 +96,23 @@ acts_by_deeds ids deeds = ap (control_after ids) (picked_reverse act_by deeds) �
     go (x ∷ ds) = by (act_by x) (go ds)
       where
         by : (o : Option Act) → control_after ids (reverse (filter_map act_by ds)) ≡ control_by_deeds ids ds
-            → control_after ids (reverse (cons_option o (filter_map act_by ds))) ≡ option_map_or (after_act (control_by_deeds ids ds)) o (control_by_deeds ids ds)
+            → control_after ids (reverse (cons_option o (filter_map act_by ds))) ≡ option_map_or (with_act (control_by_deeds ids ds)) o (control_by_deeds ids ds)
         by None rest = rest
         by (Some a) rest =
-            ap (control_after ids) (reverse_cons a (filter_map act_by ds)) ∙ fold_last after_act (no_control ids) (reverse (filter_map act_by ds)) a ∙ ap (λ (c : Control). after_act c a) rest
+            ap (control_after ids) (reverse_cons a (filter_map act_by ds)) ∙ fold_last with_act (no_control ids) (reverse (filter_map act_by ds)) a ∙ ap (λ (c : Control). with_act c a) rest
+
+-- ---- where lines settle
+
+settled_by : (ids : List ℕ) (ls : List NumberedLine) (c : Control) → IsByActs ids c → AllByRecursion (IsByActs ids) (at_settles c ls)
+settled_by ids [] c is = tt
+settled_by ids (l ∷ ls) c is = by (is_settle l.line) (settled_by ids ls (controlled c l.number l.line) (line_by ids c l.number l.line is))
+  where
+    by : (b : Bool) → AllByRecursion (IsByActs ids) (at_settles (controlled c l.number l.line) ls) → AllByRecursion (IsByActs ids) ((if b then c ∷ [] else []) ++ at_settles (controlled c l.number l.line) ls)
+    by true rest = (is, rest)
+    by false rest = rest
+
+pub settles_by_acts : (ids : List ℕ) (lines : List NumberedLine) → AllByRecursion (IsByActs ids) (at_settles (first_control ids) lines)
+settles_by_acts ids lines = settled_by ids lines (first_control ids) (connects_by ids (no_control ids) refl)
+
+pub lines_by_acts : (ids : List ℕ) (lines : List NumberedLine) → IsByActs ids (control_of ids lines)
+lines_by_acts ids lines = lines_by ids lines (first_control ids) (connects_by ids (no_control ids) refl)

@@ -1,6 +1,6 @@
 -- The cuts of a device, by its journal, are those that follow from what was done.
-use Rattle.std.proofs.Common.{◌≡◌, ◌∙◌, refl, sym, ap, subst, ℕ, ◌==◌, Bool, true, false, List, [], ◌∷◌, ◌++◌, map, reverse, Some, None, Option, append-nil, append_assoc}
-use Rattle.std.specs.Prelude.{filter, filter_map, if◌then◌else◌, not}
+use Rattle.std.proofs.Common.{◌≡◌, ◌∙◌, refl, sym, ap, ℕ, ◌==◌, Bool, true, false, List, [], ◌∷◌, ◌++◌, map, reverse, Some, None, Option, append-nil, append_assoc}
+use Rattle.std.specs.Prelude.{filter_map, if◌then◌else◌}
 use Rattle.std.specs.List.{cons_option}
 use Rattle.std.specs.Option.{option_map_or}
 use Rattle.std.proofs.lemmas.List.{map-append}
@@ -10,13 +10,13 @@ use Rattle.rd_base.specs.declared.journal.Cause.TheVariants.{Dropped, Removed}
 use Rattle.rd_base.specs.declared.journal.Item.{Item}
 use Rattle.rd_base.specs.declared.journal.Item.TheVariants.{Came, Cancelled, Cut, Ran, Sent}
 use Rattle.rd_controls.proofs.Numbers.{picked_reverse, reverse_cons}
-use Rattle.rd_world.specs.Acts.{IsCutThere, IsDone, RemovesLast, cause_in, cut_last, of_channel, there_at}
+use Rattle.rd_world.specs.Acts.{IsCutThere, IsDone, cause_in, cut_last, of_channel, there_at}
 use Rattle.rd_world.specs.Control.{present}
 use Rattle.rd_world.specs.Devices.{Declared}
 use Rattle.rd_world.specs.Talk.{Deed, EachAfter, adds, client_reads, client_writes, completes, host_begins, host_ends, host_reads, host_writes, journal, on, removes, stores, submits, takes, tells}
 use Rattle.rd_acted.proofs.DueLemmas.{present_by_deeds}
 use Rattle.rd_acted.proofs.TellLemmas.{ids_in}
-use Rattle.rd_acted.specs.Acted.{control_by_deeds, there_of}
+use Rattle.rd_acted.specs.Acted.{control_by_deeds}
 
 -- the device whose removal was done last, if it was
 removing : List Deed → Option ℕ

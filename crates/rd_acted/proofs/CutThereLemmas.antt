@@ -1,19 +1,15 @@
 -- In every world that lines come to devices were cut off where they are to be, where channels ended only after their devices were told of.
-use Rattle.std.proofs.Common.{◌≡◌, ◌≢◌, ◌⊎◌, ◌∙◌, refl, sym, ap, subst, inl, inr, ℕ, ◌+◌, ◌<◌, ◌≤◌, ◌==◌, ◌&&◌, ◌||◌, Bool, true, false, cond, not, arith, eq-eqb, eqb-true, List, [], ◌∷◌, ◌++◌, length, map, reverse, fold, Some, None, Option, Result, Ok, Err, append-nil, append_assoc, is_some, length-append}
-use Rattle.std.specs.Prelude.{filter, filter_map, if◌then◌else◌}
-use Rattle.std.specs.List.{AllByRecursion, AllZip, cons_option, list_any}
+use Rattle.std.proofs.Common.{◌≡◌, ◌∙◌, refl, sym, ap, subst, inl, inr, ℕ, ◌==◌, ◌&&◌, ◌||◌, Bool, true, false, cond, not, arith, eq-eqb, eqb-true, List, [], ◌∷◌, ◌++◌, map, reverse, fold, Some, None, Option, Result, Ok, Err, append_assoc, is_some}
+use Rattle.std.specs.Prelude.{if◌then◌else◌}
+use Rattle.std.specs.List.{AllZip, list_any}
 use Rattle.std.specs.List.Sorted.{IsStrictlySortedBy}
 use Rattle.std.specs.Map.{lookup}
-use Rattle.std.specs.Option.{IfSome, option_map_or}
 use Rattle.std.specs.Ordering.{nat_cmp}
-use Rattle.std.specs.BTreeMap.{insert_entry, is_at}
+use Rattle.std.specs.BTreeMap.{is_at}
 use Rattle.std.proofs.lemmas.Bool.Decides.{nat_tests}
-use Rattle.std.proofs.lemmas.List.{reverse-append, reverse-reverse}
-use Rattle.std.proofs.lemmas.List.Elements.{filter_map-append}
-use Rattle.rd_base.specs.declared.journal.Cause.TheVariants.{Dropped, Removed}
+use Rattle.rd_base.specs.declared.journal.Cause.TheVariants.{Removed}
 use Rattle.rd_base.specs.declared.journal.Item.{Item}
-use Rattle.rd_base.specs.declared.journal.Item.TheVariants.{Came, Cancelled, Cut, Ran, Sent}
-use Rattle.rd_base.specs.declared.journal.Key.{Key}
+use Rattle.rd_base.specs.declared.journal.Item.TheVariants.{Cancelled, Cut}
 use Rattle.rd_client.specs.Core as client
 use Rattle.rd_client.specs.Core.{ClientCoreState, ClientDevice, Outgoing, announce_in, client_hear, has_device, is_device, is_gone, is_present, listed}
 use Rattle.rd_client.specs.Order.{is_client_ready}
@@ -26,38 +22,20 @@ use Rattle.rd_drive.specs.declared.plan.Job.{Job}
 use Rattle.rd_hello.specs.declared.client.ClientState.{ClientState}
 use Rattle.rd_hello.specs.declared.client.ClientState.TheVariants as state
 use Rattle.rd_hello.specs.declared.end_fault.EndFault.{EndFault}
-use Rattle.rd_journals.proofs.ChannelLemmas.{all_refreshed, begun_on}
 use Rattle.rd_journals.proofs.HeldLemmas.{found_then, stored_deeds, turned_has}
-use Rattle.rd_journals.proofs.RunLemmas.{behind_orderly}
-use Rattle.rd_journals.specs.Orderly.{Orderly}
-use Rattle.rd_runs.proofs.Parts.{IsBehind, MayBe, Part, accepts, adds_one, announced_by, applies_one, begins, by_parts, client_gets, client_hears_one, client_keeps_part, client_sends_one, collects_one, cut_by, done, draws_one, ends, hands_out, host_gets, host_hears_one, host_keeps_part, host_sends_one, idle_one, queues_one, refreshed_by, refuses, removes_one, takes_one, tells_one, told_added, told_removed, tries_one}
-use Rattle.rd_runs.proofs.Reaching.{both}
-use Rattle.rd_runs.proofs.Standing.{Stands, needs_open, shut_now}
-use Rattle.rd_runs.proofs.Together.{knows}
-use Rattle.rd_runs.specs.Premises.{RunPremises}
-use Rattle.rd_script.specs.declared.line.NumberedLine.{NumberedLine}
+use Rattle.rd_runs.proofs.Parts.{announced_by, cut_by, told_added, told_removed}
 use Rattle.rd_station.specs.Station as station
 use Rattle.rd_station.specs.Station.{StationState}
-use Rattle.rd_world.proofs.BeginningLemmas.{begun_by}
-use Rattle.rd_world.proofs.OpeningLemmas.{declared_openable, lines_begin}
-use Rattle.rd_world.specs.Acts.{IsCutThere, IsDone, tellings_on, there_at}
-use Rattle.rd_world.specs.Control.{is_among}
 use Rattle.rd_world.specs.Devices.{Declared, PrinterNames, device_cut}
-use Rattle.rd_world.specs.Events.{came_of, completion_message, deed_on, dropping, is_channel_open, is_ready}
-use Rattle.rd_world.specs.Hearing.{after_opening, announcing, client_hears, heard_by_client, with_client}
-use Rattle.rd_world.specs.Opening.{bare_lines}
-use Rattle.rd_world.specs.Run.{declared_devices, station_of, world_of}
-use Rattle.rd_world.specs.Talk.{Deed, EachAfter, Has, adds, client_reads, client_writes, completes, host_begins, host_ends, host_reads, host_writes, is_removed, journal, open_channel, removes, stored_by, stores, submits, takes, tells}
+use Rattle.rd_world.specs.Hearing.{announcing, client_hears, heard_by_client, with_client}
+use Rattle.rd_world.specs.Talk.{Deed, Has, adds, client_reads, is_removed, open_channel, removes, stores}
 use Rattle.rd_world.specs.World.{WorldState, station_at, with_station}
-use Rattle.rd_world.specs.declared.device.SessionDevice.{SessionDevice}
-use Rattle.rd_acted.proofs.CuttingLemmas.{AreCut, IsPlainDeed, IsPlainItem, Of, all_dropped, ended_cut, is_live, none_live, plain_cut, plain_stores, removed_cut}
+use Rattle.rd_acted.proofs.CuttingLemmas.{AreCut, IsPlainItem, Of, plain_cut, plain_stores, removed_cut}
 use Rattle.rd_acted.proofs.DataLemmas.{IsShaped, id_is, shaped_more, zip_as}
-use Rattle.rd_acted.proofs.PassingLemmas.{Left, all_dropped_unspoken, left_unspoken, quiet_unspoken}
-use Rattle.rd_acted.proofs.QuietLemmas.{HearsTo, Unspoken, announced_unspoken, hears_to, read_by, stationed_unspoken, unspoken_by, unspoken_deeds, unspoken_none}
-use Rattle.rd_acted.proofs.ReadLemmas.{fewer_read, part_grows, premises_fit, ready_by}
-use Rattle.rd_acted.proofs.TellLemmas.{TellsAs, behind_tells, ids_in, sent_is}
-use Rattle.rd_acted.proofs.ThereLemmas.{AreAnnounced, AreShort, HasRoom, IsThere, also, among_listed, announced_all, announced_live, announced_silent, applied_there, aside_there, collected_there, done_among, is_told_there, put_there, quiet_there, room_in, station_keyed, taken_there, told_there_same}
-use Rattle.rd_acted.specs.Acted.{AreReadWell, EndsTold}
+use Rattle.rd_acted.proofs.QuietLemmas.{HearsTo, Unspoken, announced_unspoken, hears_to, read_by, stationed_unspoken, unspoken_by, unspoken_none}
+use Rattle.rd_acted.proofs.ReadLemmas.{ready_by}
+use Rattle.rd_acted.proofs.TellLemmas.{ids_in}
+use Rattle.rd_acted.proofs.ThereLemmas.{HasRoom, IsThere, among_listed, announced_all, announced_live, announced_silent, aside_there, done_among, is_told_there, put_there, station_keyed, told_there_same}
 
 -- ---- keys
 

@@ -1,10 +1,10 @@
 -- Which stations are live, and where devices are cut off.
-use Rattle.std.proofs.Common.{◌≡◌, ◌≢◌, ◌⊎◌, ◌∙◌, refl, sym, ap, subst, inl, inr, ℕ, ◌+◌, ◌*◌, ◌<◌, ◌≤◌, ◌==◌, ◌&&◌, ◌||◌, Bool, true, false, cond, not, arith, eq-eqb, eqb-true, List, [], ◌∷◌, ◌++◌, length, map, reverse, fold, Some, None, Option, Result, Ok, Err, append-nil, append_assoc, is_some}
-use Rattle.std.specs.Prelude.{filter, find, if◌then◌else◌, nat_le, nat_lt}
+use Rattle.std.proofs.Common.{◌≡◌, ◌⊎◌, ◌∙◌, refl, sym, ap, subst, inl, inr, ℕ, ◌==◌, ◌||◌, Bool, true, false, cond, not, arith, eqb-true, List, [], ◌∷◌, ◌++◌, map, reverse, fold, Some, None, Option, append-nil, append_assoc}
+use Rattle.std.specs.Prelude.{filter, if◌then◌else◌}
 use Rattle.std.specs.List.{AllByRecursion, list_any}
 use Rattle.std.specs.List.Sorted.{IsStrictlySortedBy}
 use Rattle.std.specs.Map.{lookup}
-use Rattle.std.specs.Option.{IfSome, option_map_or}
+use Rattle.std.specs.Option.{option_map_or}
 use Rattle.std.specs.Ordering.{match_ordering, nat_cmp}
 use Rattle.std.specs.declared.cmp.Ordering.{Ordering}
 use Rattle.std.specs.declared.cmp.Ordering.TheVariants.{Equal, Greater, Less}
@@ -12,21 +12,16 @@ use Rattle.std.specs.BTreeMap.{insert_entry, is_at}
 use Rattle.std.proofs.lemmas.Bool.Decides.{nat_tests}
 use Rattle.rd_base.specs.declared.journal.Cause.TheVariants.{Dropped, Removed}
 use Rattle.rd_base.specs.declared.journal.Item.{Item}
-use Rattle.rd_base.specs.declared.journal.Item.TheVariants.{Came, Cancelled, Cut, Ran, Sent}
+use Rattle.rd_base.specs.declared.journal.Item.TheVariants.{Came, Cut}
 use Rattle.rd_base.specs.declared.journal.Key.{Key}
 use Rattle.rd_controls.proofs.Numbers.{reverse_cons}
-use Rattle.rd_controls.proofs.Unseen.{client_ready}
-use Rattle.rd_drive.specs.declared.plan.Job.{Job}
-use Rattle.rd_journals.proofs.HeldLemmas.{found_then, has_elsewhere, has_here, stored_deeds, turned_has}
-use Rattle.rd_journals.specs.Orderly.{HasStation}
+use Rattle.rd_journals.proofs.HeldLemmas.{has_elsewhere, has_here, stored_deeds}
 use Rattle.rd_station.specs.Station as station
 use Rattle.rd_station.specs.Station.{StationState}
-use Rattle.rd_station.specs.declared.refusals.AnnounceNo.{AnnounceNo}
-use Rattle.rd_station.specs.declared.refusals.AnnounceNo.TheVariants as no
 use Rattle.rd_world.specs.Acts.{IsCutThere, IsDone, cut_last, there_at}
 use Rattle.rd_world.specs.Devices.{Declared, device_cut}
 use Rattle.rd_world.specs.Events.{dropping}
-use Rattle.rd_world.specs.Talk.{Deed, EachAfter, Has, adds, client_reads, client_writes, completes, host_begins, host_ends, host_reads, host_writes, is_removed, open_channel, removes, stores, submits, takes, tells}
+use Rattle.rd_world.specs.Talk.{Deed, EachAfter, Has, host_ends, is_removed, removes, stores}
 use Rattle.rd_world.specs.World.{WorldState, station_at, with_station}
 use Rattle.rd_world.specs.declared.device.SessionDevice.{SessionDevice}
 
@@ -186,7 +181,7 @@ module _ {X : Type 0} where
 abbrev pub is_live : WorldState → ℕ → Bool
 is_live w d = option_map_or (λ (s : Of). s.live) (station_at w d) false
 
-live_dropped : (w : WorldState) (d : ℕ) → (dropping w d).deeds ≡ (if is_live w d then stores d (Cut Dropped) ∷ w.deeds else w.deeds)
+pub live_dropped : (w : WorldState) (d : ℕ) → (dropping w d).deeds ≡ (if is_live w d then stores d (Cut Dropped) ∷ w.deeds else w.deeds)
 live_dropped w d = by (station_at w d) refl
   where
     by : (o : Option Of) → station_at w d ≡ o
@@ -202,7 +197,7 @@ live_dropped w d = by (station_at w d) refl
             let same : (station.drop_channel s (device_cut s.device).state).journal ≡ s.journal ++ [] = rw e (sym (append-nil s.journal)) in
             stored_deeds w d s (station.drop_channel s (device_cut s.device).state) there [] same
 
-other_dropped : (w : WorldState) (d q : ℕ) → (q == d) ≡ false → station_at (dropping w d) q ≡ station_at w q
+pub other_dropped : (w : WorldState) (d q : ℕ) → (q == d) ≡ false → station_at (dropping w d) q ≡ station_at w q
 other_dropped w d q apart = by (station_at w d)
   where
     by : (o : Option Of) → station_at (option_map_or (λ (s : Of). with_station w d (station.drop_channel s (device_cut s.device).state)) o w) q ≡ station_at w q

@@ -1,12 +1,10 @@
 -- A client's devices are those that were declared, with the data that was kept for them as the channel began.
-use Rattle.std.proofs.Common.{◌≡◌, ◌∙◌, refl, sym, ap, subst, ℕ, ◌+◌, ◌<◌, ◌==◌, ◌&&◌, ◌||◌, Bool, true, false, cond, not, arith, eq-eqb, eqb-true, List, [], ◌∷◌, ◌++◌, map, fold, Some, None, Option}
-use Rattle.std.specs.Prelude.{filter, filter_map, if◌then◌else◌}
-use Rattle.std.specs.List.{AllByRecursion, AllZip, cons_option, list_any}
-use Rattle.std.specs.List.Sorted.{IsStrictlySortedBy}
-use Rattle.std.specs.Map.{keys_of, lookup}
-use Rattle.std.specs.Option.{option_map, option_map_or}
+use Rattle.std.proofs.Common.{◌≡◌, ◌∙◌, refl, sym, ap, subst, ℕ, ◌==◌, ◌&&◌, ◌||◌, Bool, true, false, cond, not, arith, eq-eqb, eqb-true, List, [], ◌∷◌, map, fold, Some, None, Option}
+use Rattle.std.specs.Prelude.{filter, if◌then◌else◌}
+use Rattle.std.specs.List.{AllZip}
+use Rattle.std.specs.Map.{lookup}
+use Rattle.std.specs.Option.{option_map_or}
 use Rattle.std.specs.Ordering.{nat_cmp}
-use Rattle.std.specs.declared.cmp.Ordering.TheVariants.{Less}
 use Rattle.std.specs.BTreeMap.{is_at}
 use Rattle.std.proofs.Math.Bool.{or-true}
 use Rattle.std.proofs.lemmas.Bool.Decides.{nat_tests}
@@ -14,16 +12,12 @@ use Rattle.rd_client.specs.Core as client
 use Rattle.rd_client.specs.Core.{ClientDevice, announce_in, device_marked, is_device, is_present, present_device, refreshed}
 use Rattle.rd_devices.specs.declared.list.Announce.{Announce}
 use Rattle.rd_printer.specs.Cache.{CacheState}
-use Rattle.rd_world.specs.Acts.{cache_after}
 use Rattle.rd_world.specs.Control.{is_among}
 use Rattle.rd_world.specs.Devices.{Declared, PrinterNames, announce_of, device_data, printer_data}
 use Rattle.rd_world.specs.Events.{refreshing}
 use Rattle.rd_world.specs.Hearing.{with_client}
-use Rattle.rd_world.specs.Opening.{AreOpenable, IsOpenable}
-use Rattle.rd_world.specs.Run.{printers_of}
-use Rattle.rd_world.specs.Talk.{Deed, adds, is_removed, open_channel, removes, until_begin}
+use Rattle.rd_world.specs.Talk.{Deed, adds, is_removed, removes}
 use Rattle.rd_world.specs.World.{WorldState}
-use Rattle.rd_acted.specs.Acted.{there_of}
 
 -- ---- lists side by side
 

@@ -1,14 +1,14 @@
 -- What control lines tell on a channel is what is due there by what was done.
-use Rattle.std.proofs.Common.{◌≡◌, ◌∙◌, refl, sym, ap, subst, ℕ, ◌+◌, ◌==◌, ◌&&◌, ◌||◌, Bool, true, false, arith, eq-eqb, eqb-true, List, [], ◌∷◌, ◌++◌, length, Some, None, Option, append-nil, length-append}
-use Rattle.std.specs.Prelude.{filter, filter_map, if◌then◌else◌, not}
-use Rattle.std.specs.List.{cons_option, list_any}
+use Rattle.std.proofs.Common.{◌≡◌, ◌∙◌, refl, sym, ap, ℕ, ◌+◌, ◌==◌, ◌&&◌, ◌||◌, Bool, true, false, arith, eq-eqb, eqb-true, List, [], ◌∷◌, ◌++◌, length, Some, None, Option, length-append}
+use Rattle.std.specs.Prelude.{filter, if◌then◌else◌, not}
+use Rattle.std.specs.List.{cons_option}
 use Rattle.std.specs.Option.{option_map_or}
 use Rattle.std.proofs.lemmas.List.Elements.{filter-append, filter_map-append}
 use Rattle.rd_printer.specs.declared.notice.Notice.{Notice}
-use Rattle.rd_world.specs.Acts.{act_by, is_add, of_channel}
+use Rattle.rd_world.specs.Acts.{is_add, of_channel}
 use Rattle.rd_world.specs.Control.{Act, Control, Telling, added, addition, additions, begun, ended, is_addition, is_among, lists, noticed, present, removal, removed}
 use Rattle.rd_world.specs.Talk.{Deed, adds, client_reads, client_writes, completes, host_begins, host_ends, host_reads, host_writes, is_open_at, is_removed, on, open_channel, removes, stores, submits, takes, tells}
-use Rattle.rd_acted.specs.Acted.{after_act, control_by_deeds, due_on, notices_due, there_of, where_current}
+use Rattle.rd_acted.specs.Acted.{control_by_deeds, due_on, notices_due, there_of, where_current}
 
 -- ---- who is absent
 

@@ -1,7 +1,7 @@
 -- In every world that lines come to devices were cut off where they are to be.
-use Rattle.std.proofs.Common.{◌≡◌, ◌≢◌, ◌⊎◌, ◌∙◌, refl, sym, ap, subst, inl, inr, ℕ, ◌+◌, ◌<◌, ◌≤◌, ◌==◌, ◌&&◌, ◌||◌, Bool, true, false, cond, not, arith, eq-eqb, eqb-true, List, [], ◌∷◌, ◌++◌, length, map, reverse, fold, Some, None, Option, append-nil, is_some, length-append}
-use Rattle.std.specs.Prelude.{filter, filter_map, if◌then◌else◌}
-use Rattle.std.specs.List.{AllByRecursion, AllZip, list_any}
+use Rattle.std.proofs.Common.{◌≡◌, ◌∙◌, refl, sym, ap, subst, inr, ℕ, ◌+◌, ◌==◌, ◌&&◌, ◌||◌, Bool, true, false, cond, not, arith, eq-eqb, List, [], ◌∷◌, ◌++◌, length, map, reverse, fold, Some, None, Option, is_some, length-append}
+use Rattle.std.specs.Prelude.{filter}
+use Rattle.std.specs.List.{list_any}
 use Rattle.std.specs.List.Sorted.{IsStrictlySortedBy}
 use Rattle.std.specs.Map.{lookup}
 use Rattle.std.specs.Option.{option_map_or}
@@ -19,7 +19,7 @@ use Rattle.rd_controls.proofs.Unseen.{client_ready}
 use Rattle.rd_journals.proofs.ChannelLemmas.{all_refreshed, begun_on}
 use Rattle.rd_journals.proofs.RunLemmas.{behind_orderly}
 use Rattle.rd_journals.specs.Orderly.{Orderly}
-use Rattle.rd_runs.proofs.Parts.{IsBehind, MayBe, Part, accepts, adds_one, announced_by, applies_one, begins, by_parts, client_gets, client_hears_one, client_keeps_part, client_sends_one, collects_one, cut_by, done, draws_one, ends, hands_out, host_gets, host_hears_one, host_keeps_part, host_sends_one, idle_one, queues_one, refreshed_by, refuses, removes_one, takes_one, tells_one, told_added, told_removed, tries_one}
+use Rattle.rd_runs.proofs.Parts.{IsBehind, MayBe, Part, accepts, adds_one, announced_by, applies_one, begins, by_parts, client_gets, client_hears_one, client_keeps_part, client_sends_one, collects_one, done, draws_one, ends, hands_out, host_gets, host_hears_one, host_keeps_part, host_sends_one, idle_one, queues_one, refreshed_by, refuses, removes_one, takes_one, tells_one, told_added, tries_one}
 use Rattle.rd_runs.proofs.Reaching.{both}
 use Rattle.rd_runs.proofs.Standing.{Stands, needs_open, shut_now}
 use Rattle.rd_runs.proofs.Together.{knows}
@@ -31,20 +31,18 @@ use Rattle.rd_world.proofs.BeginningLemmas.{begun_by}
 use Rattle.rd_world.proofs.OpeningLemmas.{declared_openable, lines_begin}
 use Rattle.rd_world.specs.Acts.{tellings_on, there_at}
 use Rattle.rd_world.specs.Devices.{Declared, PrinterNames, device_cut, printer_data}
-use Rattle.rd_world.specs.Events.{came_of, completion_message, cutting, deed_on, dropping, is_channel_open, is_ready, refreshing}
+use Rattle.rd_world.specs.Events.{came_of, completion_message, cutting, dropping, is_channel_open, is_ready, refreshing}
 use Rattle.rd_world.specs.Hearing.{with_client}
 use Rattle.rd_world.specs.Opening.{bare_lines}
 use Rattle.rd_world.specs.Run.{declared_devices, station_of, world_of}
 use Rattle.rd_world.specs.Talk.{Deed, EachAfter, client_writes, completes, host_begins, host_ends, host_reads, host_writes, is_removed, journal, open_channel, stored_by, stores, submits, takes, tells}
 use Rattle.rd_world.specs.World.{WorldState, client_sends, station_at, with_station}
-use Rattle.rd_world.specs.declared.device.SessionDevice.{SessionDevice}
 use Rattle.rd_acted.proofs.CuttingLemmas.{AreCut, Of, all_dropped, ended_cut, is_live, none_live, plain_cut}
-use Rattle.rd_acted.proofs.CutThereLemmas.{adds_there, hears_there, key_found, found_key, off_there, open_there, removes_there, shut_there}
-use Rattle.rd_acted.proofs.PassingLemmas.{Left, all_dropped_unspoken, left_unspoken}
-use Rattle.rd_acted.proofs.QuietLemmas.{Unspoken, silent_stores}
+use Rattle.rd_acted.proofs.CutThereLemmas.{adds_there, hears_there, key_found, found_key, open_there, removes_there, shut_there}
+use Rattle.rd_acted.proofs.PassingLemmas.{all_dropped_unspoken, left_unspoken}
 use Rattle.rd_acted.proofs.ReadLemmas.{fewer_read, part_grows, premises_fit}
 use Rattle.rd_acted.proofs.TellLemmas.{TellsAs, behind_tells, ids_in, sent_is}
-use Rattle.rd_acted.proofs.ThereLemmas.{HasRoom, IsThere, applied_there, aside_there, collected_there, is_told_there, put_there, room_in, station_keyed, taken_there, told_there_same}
+use Rattle.rd_acted.proofs.ThereLemmas.{HasRoom, IsThere, applied_there, aside_there, collected_there, put_there, room_in, station_keyed, taken_there}
 use Rattle.rd_acted.specs.Acted.{EndsTold, GoWell}
 
 -- ---- what went well before

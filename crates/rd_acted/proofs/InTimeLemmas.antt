@@ -1,12 +1,10 @@
 -- No more is told on a channel than is due, at each point; and on each channel that didn't end, and isn't open, nothing is due.
-use Rattle.std.proofs.Common.{◌≡◌, ◌⊎◌, ◌∙◌, refl, sym, ap, subst, inl, inr, ℕ, ◌+◌, ◌<◌, ◌≤◌, ◌==◌, ◌||◌, Bool, true, false, arith, eq-eqb, eqb-true, List, [], ◌∷◌, ◌++◌, length, map, fold, Some, None, Option, append-nil, length-append, is_some}
+use Rattle.std.proofs.Common.{◌≡◌, ◌⊎◌, ◌∙◌, refl, sym, ap, subst, inl, inr, ℕ, ◌+◌, ◌≤◌, ◌==◌, ◌||◌, Bool, true, false, arith, eq-eqb, eqb-true, List, [], ◌∷◌, ◌++◌, length, map, fold, Some, None, Option, append-nil, length-append}
 use Rattle.std.specs.Prelude.{filter, if◌then◌else◌, not}
 use Rattle.std.specs.Option.{option_map_or}
 use Rattle.rd_base.specs.declared.journal.Key.{Key}
-use Rattle.rd_client.specs.Core.{ClientCoreState, Outgoing, client_hear}
 use Rattle.rd_journals.proofs.ChannelLemmas.{all_refreshed, begun_on}
-use Rattle.rd_runs.proofs.HostLemmas.{host_channel}
-use Rattle.rd_runs.proofs.Parts.{IsBehind, MayBe, Part, adds_one, announced_by, begins, by_parts, client_hears_one, client_sends_one, cut_by, done, ends, refreshed_by, removes_one, told_added, told_removed}
+use Rattle.rd_runs.proofs.Parts.{IsBehind, MayBe, Part, adds_one, announced_by, begins, by_parts, client_hears_one, client_sends_one, done, ends, refreshed_by, removes_one, told_added, told_removed}
 use Rattle.rd_runs.proofs.Standing.{Stands, needs_open, shut_now}
 use Rattle.rd_runs.proofs.Together.{knows}
 use Rattle.rd_runs.specs.Premises.{RunPremises}
@@ -20,11 +18,11 @@ use Rattle.rd_world.specs.Control.{Telling, addition, lists, removal}
 use Rattle.rd_world.specs.Devices.{Declared, PrinterNames, device_cut}
 use Rattle.rd_world.specs.Events.{deed_on, dropping, is_channel_open}
 use Rattle.rd_world.specs.Opening.{bare_lines}
-use Rattle.rd_world.specs.Run.{declared_devices, world_of}
+use Rattle.rd_world.specs.Run.{declared_devices}
 use Rattle.rd_world.specs.Talk.{AtEachPoint, Deed, adds, client_reads, client_writes, completes, has_ended, host_begins, host_ends, is_open_at, open_channel, removes}
-use Rattle.rd_world.specs.World.{WorldState, station_at, with_station}
+use Rattle.rd_world.specs.World.{WorldState, with_station}
 use Rattle.rd_world.specs.declared.device.SessionDevice.{SessionDevice}
-use Rattle.rd_acted.proofs.PassingLemmas.{Left, all_dropped_unspoken, left_one, left_unspoken, quiet_unspoken}
+use Rattle.rd_acted.proofs.PassingLemmas.{all_dropped_unspoken, left_one, left_unspoken, quiet_unspoken}
 use Rattle.rd_acted.proofs.QuietLemmas.{AreSilent, IsSilent, Unspoken, hears_unspoken, option_unspoken, stationed_unspoken}
 use Rattle.rd_acted.proofs.ReadLemmas.{part_well}
 use Rattle.rd_acted.proofs.SayingLemmas.{say_few, say_none}

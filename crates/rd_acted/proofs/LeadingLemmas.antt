@@ -1,10 +1,9 @@
 -- Where the last line of a run leaves it: the control lines have done what follows from the lines, and nothing can happen by itself.
-use Rattle.std.proofs.Common.{◌≡◌, ◌∙◌, refl, sym, ap, subst, inl, inr, ℕ, ◌+◌, ◌≤◌, ◌&&◌, Bool, true, false, List, [], ◌∷◌, length, map, fold, Some, None, Option, arith, ◌++◌}
-use Rattle.std.specs.Prelude.{if◌then◌else◌, is_some, not}
+use Rattle.std.proofs.Common.{◌≡◌, ◌∙◌, refl, sym, ap, subst, inl, inr, ℕ, ◌+◌, ◌≤◌, ◌&&◌, Bool, true, false, List, [], ◌∷◌, length, map, fold, Some, None, Option, arith}
+use Rattle.std.specs.Prelude.{filter_map, if◌then◌else◌, is_some, not, reverse}
 use Rattle.std.specs.List.{AllByRecursion}
 use Rattle.std.specs.Option.{IfSome, option_and_then, option_map_or}
-use Rattle.std.proofs.lemmas.Map.Keys.{IsStrictlyIncreasing-from_sorted, sorted_from_strictly_increasing}
-use Rattle.std.proofs.lemmas.List.{append-nil}
+use Rattle.std.proofs.lemmas.Map.Keys.{sorted_from_strictly_increasing}
 use Rattle.rd_base.specs.declared.journal.Key.{Key}
 use Rattle.rd_client.specs.Core as client
 use Rattle.rd_controls.proofs.Acting.{SeenAs, added_as, added_unseen, begun_as, dropped_as, errand_idled, idled_as, passed, refreshed_unseen, removed_as, removed_unseen, told_as}
@@ -12,7 +11,7 @@ use Rattle.rd_controls.proofs.Marks.{first_marks, gone_marks, known_marks}
 use Rattle.rd_controls.proofs.Numbers.{Rise, an_errand, no_errand, numbers, picked_reverse}
 use Rattle.rd_controls.proofs.Unseen.{client_ready, event_unseen, host_ready, seen}
 use Rattle.rd_controls.proofs.Walking.{round_keeps, does_keeps, rounds_keep, settled_keeps, settled_rests}
-use Rattle.rd_controls.specs.Controls.{AreReady, EndsAs, AreOrderedLines, DoAsSaid, NamesKnown, RestWhereSettled, RestsAt, control_with}
+use Rattle.rd_controls.specs.Controls.{AreReady, AreOrderedLines, NamesKnown}
 use Rattle.rd_printer.specs.declared.notice.Notice.{Notice}
 use Rattle.rd_runs.specs.Moves.{IsOfLines, MayPass, RunMove, ReachedWithin, draws, event_weight, happens, idle, after_move, queues, weight, Reached}
 use Rattle.rd_script.specs.declared.line.Errand.{Errand}
@@ -20,15 +19,15 @@ use Rattle.rd_script.specs.declared.line.Line.{Line}
 use Rattle.rd_script.specs.declared.line.Line.TheVariants as line
 use Rattle.rd_script.specs.declared.line.NumberedLine.{NumberedLine}
 use Rattle.rd_world.proofs.PlayingLemmas.{may_connect}
-use Rattle.rd_world.specs.Acts.{act_by, is_errand, is_errand_at, is_settle}
+use Rattle.rd_world.specs.Acts.{act_by, is_errand, is_errand_at}
 use Rattle.rd_world.specs.Control.{Control, added_at, connected, control_of, controlled, dropped_at, idled, is_among, noticed_at, removed_at, where_open}
 use Rattle.rd_world.specs.Devices.{Declared}
 use Rattle.rd_world.specs.Events as event
 use Rattle.rd_world.specs.Events.{Event, act, is_channel_open, is_enabled}
-use Rattle.rd_world.specs.Run.{Most, applications_of, asked_by, by_event, choices, connects_on, controls, declared_devices, does, drawing, ends_session, event_of, idles, is_quiet, new_world, notice_of, plays, plays_line, queueing, run_of, setting, settled, some_left, world_of, rounds}
-use Rattle.rd_world.specs.Talk.{Deed, EndsWith, Has}
-use Rattle.rd_world.specs.Session.{at_settles}
+use Rattle.rd_world.specs.Run.{Most, applications_of, asked_by, by_event, choices, connects_on, controls, declared_devices, does, drawing, ends_session, event_of, idles, is_quiet, new_world, notice_of, plays, plays_line, queueing, run_of, setting, settled, world_of, rounds}
+use Rattle.rd_world.specs.Talk.{EndsWith, Has}
 use Rattle.rd_controls.proofs.Opening.{begins_at, opened}
+use Rattle.rd_controls.proofs.Resting.{later_end}
 use Rattle.rd_runs.specs.Premises.{RunPremises}
 use Rattle.rd_world.specs.World.{Asked, WorldState}
 
@@ -445,18 +444,24 @@ first_sees lines rise =
 -- What the last line of a run leaves: a world that was reached and is at rest, whose open channel is that of the control, and from which the run ends.
 pub record RestsAfter (lines : List NumberedLine) (starves : Key → Bool) (most : Most) (control : Control) (w : WorldState) : Type 0 where
   pub last : WorldState
-  pub reached : Reached lines starves last
+  pub within : ReachedWithin (length lines + 1) lines starves last
   pub rests : choices last ≡ []
   pub channel : ((last.side).table).channel ≡ control.current
+  pub acts : filter_map act_by (reverse last.deeds) ≡ control.acts
+  pub ready : is_some control.current ≡ true → AreReady last
+  pub grown : EndsWith w.deeds last.deeds
   pub ends : ends_session starves most last ≡ Some w
 
 rests_by : (lines : List NumberedLine) (starves : Key → Bool) (most : Most) (ids : List ℕ) (rise : Rise (numbers lines)) (premises : RunPremises lines) (w : WorldState) (o : Option WorldState) → IfSome o (AtEnd lines starves most ids rise premises (control_of ids lines)) → option_and_then (ends_session starves most) o ≡ Some w → RestsAfter lines starves most (control_of ids lines) w
 rests_by lines starves most ids rise premises w None own e = absurd (cc e)
 rests_by lines starves most ids rise premises w (Some v) (led, rests) e = record {
   last = v;
-  reached = (let r = led.base.reached in let few : led.base.count ≤ length lines + 2 = omega (arith, led.base.few) in record { moves = r.moves; pass = r.pass; few = omega (arith, few, r.few); leads = r.leads });
+  within = (let r = led.base.reached in let few : led.base.count ≤ length lines + 1 = omega (arith, led.base.few) in record { moves = r.moves; pass = r.pass; few = omega (arith, few, r.few); leads = r.leads });
   rests = rests;
   channel = led.base.sees.channel;
+  acts = picked_reverse act_by v.deeds ∙ led.base.sees.acts;
+  ready = λ open_is. record { client = led.client open_is; host = led.host open_is };
+  grown = subst (λ (x : Option WorldState). IfSome x (λ (y : WorldState). EndsWith y.deeds v.deeds)) e (later_end ids lines starves most v.deeds v ([], refl));
   ends = e;
 }
 

@@ -6,6 +6,7 @@ pub mod PassingLemmas
 pub mod ListLemmas
 pub mod NoticeLemmas
 pub mod ReadLemmas
+pub mod OrderLemmas
 pub mod TellLemmas
 pub mod InTimeLemmas
 pub mod DueLemmas
@@ -15,8 +16,12 @@ pub mod CutThereLemmas
 pub mod EveryCutLemmas
 pub mod CauseLemmas
 pub mod PrinterLemmas
-pub mod RunLemmas
 pub mod ReachedLemmas
-pub mod OrderLemmas
 pub mod EndedLemmas
+pub mod WaitLemmas
+pub mod LeftLemmas
 pub mod LeadingLemmas
+pub mod ClosedLemmas
+pub mod RunLemmas
+pub mod SettleLemmas
+pub mod WholeLemmas

@@ -1,27 +1,23 @@
 -- The lists that a client tells are those of its devices that are there, with what was kept for printers; so it is in every world that lines come to.
-use Rattle.std.proofs.Common.{◌≡◌, ◌∙◌, refl, sym, ap, subst, ℕ, ◌+◌, ◌==◌, ◌&&◌, ◌||◌, Bool, true, false, cond, not, arith, eq-eqb, eqb-true, List, [], ◌∷◌, ◌++◌, map, fold, Some, None, Option}
-use Rattle.std.specs.Prelude.{filter, filter_map, if◌then◌else◌}
-use Rattle.std.specs.List.{AllByRecursion, AllZip, cons_option, list_any}
+use Rattle.std.proofs.Common.{◌≡◌, ◌∙◌, refl, sym, ap, ℕ, ◌==◌, ◌&&◌, ◌||◌, Bool, true, false, not, arith, eq-eqb, eqb-true, List, [], ◌∷◌, map, Some, None, Option}
+use Rattle.std.specs.Prelude.{filter, if◌then◌else◌}
+use Rattle.std.specs.List.{AllByRecursion, AllZip, cons_option}
 use Rattle.std.specs.List.Sorted.{IsStrictlySortedBy}
 use Rattle.std.specs.Map.{keys_of, lookup}
-use Rattle.std.specs.Option.{option_map, option_map_or}
+use Rattle.std.specs.Option.{option_map}
 use Rattle.std.specs.Ordering.{nat_cmp}
 use Rattle.std.specs.declared.cmp.Ordering.TheVariants.{Less}
 use Rattle.std.specs.BTreeMap.{is_at}
 use Rattle.std.proofs.lemmas.Bool.Decides.{nat_tests}
-use Rattle.rd_base.specs.declared.journal.Key.{Key}
-use Rattle.rd_client.specs.Core as client
-use Rattle.rd_client.specs.Core.{ClientCoreState, ClientDevice, announce_in, device_marked, is_device, is_present, listed, listed_one, present_device}
-use Rattle.rd_controls.proofs.Unseen.{client_ready}
+use Rattle.rd_client.specs.Core.{ClientCoreState, ClientDevice, announce_in, is_device, is_present, listed, listed_one, present_device}
 use Rattle.rd_devices.specs.DeviceList.{list_bytes}
-use Rattle.rd_devices.specs.declared.list.Announce.{Announce}
 use Rattle.rd_printer.specs.Cache.{CacheState}
-use Rattle.rd_world.specs.Acts.{cache_after, list_of}
+use Rattle.rd_world.specs.Acts.{list_of}
 use Rattle.rd_world.specs.Control.{is_among}
 use Rattle.rd_world.specs.Devices.{Declared, PrinterNames, announce_of, device_data}
 use Rattle.rd_world.specs.Opening.{AreOpenable, IsOpenable}
 use Rattle.rd_world.specs.Run.{printers_of}
-use Rattle.rd_world.specs.Talk.{Deed, is_removed, open_channel}
+use Rattle.rd_world.specs.Talk.{Deed, is_removed}
 use Rattle.rd_acted.proofs.DataLemmas.{HasBody, IsShaped, announced_is, id_is, zip_as, zip_both, zip_passing}
 use Rattle.rd_acted.specs.Acted.{there_of}
 

@@ -1,8 +1,8 @@
 -- What a client makes of a message that tells of a printer.
-use Rattle.std.proofs.Common.{◌≡◌, ◌⊎◌, ◌∙◌, refl, sym, ap, subst, inl, inr, ℕ, ◌==◌, Bool, true, false, List, [], ◌∷◌, ◌++◌, Some, None, Option, Result, Ok, Err, eq-eqb, is_some}
+use Rattle.std.proofs.Common.{◌≡◌, refl, sym, subst, ℕ, Bool, true, false, List, Some, None, Option, Result, Ok, Err, is_some}
 use Rattle.std.specs.Prelude.{if◌then◌else◌}
 use Rattle.rd_base.specs.Fields.{number16}
-use Rattle.rd_base.specs.Header.{any_header, are_numbers_of, component_field, header, header_among, header_bytes, packet_among, packet_id}
+use Rattle.rd_base.specs.Header.{any_header, are_numbers_of, component_field, header, header_among, packet_among}
 use Rattle.rd_base.specs.Layout.{met, test}
 use Rattle.rd_base.specs.Position.{Position, at_start}
 use Rattle.rd_base.specs.declared.bad.Bad.{Bad}
@@ -13,7 +13,7 @@ use Rattle.rd_base.proofs.MessageLemmas.{test_ok}
 use Rattle.rd_base.proofs.ResultLemmas.{and_then_ok}
 use Rattle.rd_client.specs.Core as client
 use Rattle.rd_client.specs.Core.{HostSays, client_side, from_head, host_says}
-use Rattle.rd_core.specs.Hearing.{Meaning, by_row, from_header, from_hello, from_known, from_own, from_packet, is_hello, is_read_in, nothing, opens, read_as, said, says, wrong}
+use Rattle.rd_core.specs.Hearing.{Meaning, by_row, from_header, from_hello, from_own, from_packet, is_hello, is_read_in, nothing, opens, read_as, said, says, wrong}
 use Rattle.rd_devices.specs.declared.reply.DeviceReply.{DeviceReply}
 use Rattle.rd_devices.specs.DeviceReply.{device_reply}
 use Rattle.rd_hello.specs.Hello.{hello}

@@ -1,5 +1,5 @@
 -- Where a client's moves are in order, nothing that it read was wrong.
-use Rattle.std.proofs.Common.{◌≡◌, ◌∙◌, refl, sym, ap, subst, ℕ, ◌==◌, Bool, true, false, List, [], ◌∷◌, ◌++◌, map, reverse, Some, None, Option}
+use Rattle.std.proofs.Common.{◌≡◌, ◌∙◌, refl, sym, ap, subst, ℕ, ◌==◌, Bool, true, false, List, [], ◌∷◌, ◌++◌, reverse, Some, None, Option}
 use Rattle.std.specs.Prelude.{IsSome, bytes_eq, filter_map, if◌then◌else◌}
 use Rattle.std.specs.List.{cons_option}
 use Rattle.std.specs.Option.{option_and_then, option_map}
@@ -15,14 +15,13 @@ use Rattle.rd_hello.specs.declared.client.ClientState.{ClientState}
 use Rattle.rd_hello.specs.declared.client.ClientState.TheVariants.{Start}
 use Rattle.rd_world.specs.Devices.{Declared}
 use Rattle.rd_world.specs.Recording.{announced_of, is_gone_at}
-use Rattle.rd_world.specs.Talk as talk
-use Rattle.rd_world.specs.Talk.{Deed, adds, client_move, client_moves, client_read, client_reads, client_writes, completes, host_begins, host_ends, host_reads, host_writes, on, removes, stores, submits, takes, tells}
-use Rattle.rd_acted.specs.Acted.{AreReadWell, state_after, state_read}
+use Rattle.rd_world.specs.Talk.{Deed, adds, client_moves, client_read, client_reads, client_writes, completes, host_begins, host_ends, host_reads, host_writes, removes, stores, submits, takes, tells}
+use Rattle.rd_acted.specs.Acted.{AreReadWell, state_heard, state_read}
 
 -- the state after messages in a state, the oldest first
 state_from : ClientState → List (List ℕ) → Option ClientState
 state_from state [] = Some state
-state_from state (m ∷ ms) = option_and_then (λ next. state_from next ms) (state_after state (said client_side state m))
+state_from state (m ∷ ms) = option_and_then (λ next. state_from next ms) (state_heard state (said client_side state m))
 
 abbrev message_read : Move → Option (List ℕ)
 message_read (reads m) = Some m
@@ -47,7 +46,7 @@ module _ (devices : List Announce) (gone : ℕ → Bool) where
   moves_read (reads m ∷ moves) s is = by (moves_read moves) (said client_side s.shake m) is
     where
       by : ((t : ClientStanding) → IsSome (client.stand_after devices gone t moves) → IsSome (state_from t.shake (filter_map message_read moves))) → (k : Meaning ClientState HostSays) → IsSome (option_and_then (λ t. client.stand_after devices gone t moves) (order.after_said client_side (client_part devices gone) s k))
-          → IsSome (option_and_then (λ next. state_from next (filter_map message_read moves)) (state_after s.shake k))
+          → IsSome (option_and_then (λ next. state_from next (filter_map message_read moves)) (state_heard s.shake k))
       by later (wrong fault) some = absurd (cc some)
       by later nothing some = later s some
       by later (opens row) some = later (order.after_opened client_side (client_part devices gone) s row) some
@@ -58,24 +57,24 @@ module _ (devices : List Announce) (gone : ℕ → Bool) where
       by later None e some = absurd (cc some)
       by later (Some t) e some = subst (λ (state : ClientState). IsSome (state_from state (filter_map message_read moves))) (written_same s m s.owed t e) (later t some)
 
-one_more : (state : ClientState) (ms : List (List ℕ)) (m : List ℕ) → state_from state (ms ++ m ∷ []) ≡ option_and_then (λ next. state_after next (said client_side next m)) (state_from state ms)
+one_more : (state : ClientState) (ms : List (List ℕ)) (m : List ℕ) → state_from state (ms ++ m ∷ []) ≡ option_and_then (λ next. state_heard next (said client_side next m)) (state_from state ms)
 unfolding state_from
-one_more state [] m = by (state_after state (said client_side state m))
+one_more state [] m = by (state_heard state (said client_side state m))
   where
     by : (o : Option ClientState) → option_and_then (λ next. Some next) o ≡ o
     by None = refl
     by (Some next) = refl
-one_more state (x ∷ ms) m = by (λ next. one_more next ms m) (state_after state (said client_side state x))
+one_more state (x ∷ ms) m = by (λ next. one_more next ms m) (state_heard state (said client_side state x))
   where
-    by : ((next : ClientState) → state_from next (ms ++ m ∷ []) ≡ option_and_then (λ last. state_after last (said client_side last m)) (state_from next ms)) → (o : Option ClientState)
-        → option_and_then (λ next. state_from next (ms ++ m ∷ [])) o ≡ option_and_then (λ next. state_after next (said client_side next m)) (option_and_then (λ next. state_from next ms) o)
+    by : ((next : ClientState) → state_from next (ms ++ m ∷ []) ≡ option_and_then (λ last. state_heard last (said client_side last m)) (state_from next ms)) → (o : Option ClientState)
+        → option_and_then (λ next. state_from next (ms ++ m ∷ [])) o ≡ option_and_then (λ next. state_heard next (said client_side next m)) (option_and_then (λ next. state_from next ms) o)
     by later None = refl
     by later (Some next) = later next
 
 turned : (ms : List (List ℕ)) → state_read ms ≡ state_from Start (reverse ms)
 unfolding state_from
 turned [] = refl
-turned (m ∷ ms) = ap (λ (o : Option ClientState). option_and_then (λ state. state_after state (said client_side state m)) o) (turned ms) ∙ sym (one_more Start (reverse ms) m) ∙ ap (state_from Start) (sym (reverse_cons m ms))
+turned (m ∷ ms) = ap (λ (o : Option ClientState). option_and_then (λ state. state_heard state (said client_side state m)) o) (turned ms) ∙ sym (one_more Start (reverse ms) m) ∙ ap (state_from Start) (sym (reverse_cons m ms))
 
 picked : (c : ℕ) (deeds : List Deed) → filter_map message_read (client_moves c deeds) ≡ client_read c deeds
 picked c [] = refl

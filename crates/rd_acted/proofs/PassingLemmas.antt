@@ -1,17 +1,12 @@
 -- Which parts pass without that a client tells anything of its devices, and what the deeds of these leave as it was.
-use Rattle.std.proofs.Common.{◌≡◌, ◌∙◌, refl, sym, ap, subst, ℕ, Bool, true, false, List, [], ◌∷◌, ◌++◌, length, map, fold, Some, None, Option}
-use Rattle.std.specs.Prelude.{filter}
-use Rattle.std.specs.Option.{option_map_or}
+use Rattle.std.proofs.Common.{◌≡◌, ◌∙◌, refl, sym, subst, ℕ, Bool, List, [], ◌∷◌, ◌++◌, fold, Some, None}
 use Rattle.rd_base.specs.declared.journal.Key.{Key}
-use Rattle.rd_controls.proofs.Unseen.{client_ready}
-use Rattle.rd_runs.proofs.Parts.{MayBe, Part, accepts, adds_one, applies_one, begins, client_gets, client_hears_one, client_keeps_part, client_sends_one, collects_one, done, draws_one, ends, hands_out, host_gets, host_hears_one, host_keeps_part, host_sends_one, idle_one, queues_one, refuses, removes_one, takes_one, tells_one, tries_one}
-use Rattle.rd_script.specs.declared.line.NumberedLine.{NumberedLine}
+use Rattle.rd_runs.proofs.Parts.{Part, accepts, adds_one, applies_one, begins, client_gets, client_hears_one, client_keeps_part, client_sends_one, collects_one, done, draws_one, ends, hands_out, host_gets, host_hears_one, host_keeps_part, host_sends_one, idle_one, queues_one, refuses, removes_one, takes_one, tells_one, tries_one}
 use Rattle.rd_station.specs.Station as station
 use Rattle.rd_station.specs.Station.{StationState}
 use Rattle.rd_world.specs.Acts.{tellings_due, tellings_on}
-use Rattle.rd_world.specs.Devices.{Declared, device_cut}
+use Rattle.rd_world.specs.Devices.{device_cut}
 use Rattle.rd_world.specs.Events.{came_of, completion_message, dropping}
-use Rattle.rd_world.specs.Talk as deed
 use Rattle.rd_world.specs.Talk.{Deed, client_reads, completes, has_ended, host_reads, host_writes, is_removed, open_channel, stores, submits, takes, tells, until_begin}
 use Rattle.rd_world.specs.World.{WorldState, station_at, with_station}
 use Rattle.rd_world.specs.declared.device.SessionDevice.{SessionDevice}

@@ -1,9 +1,8 @@
 -- What the host told of printers and what waits to be told are the notices that are due, in order.
-use Rattle.std.proofs.Common.{◌≡◌, ◌⊎◌, ◌∙◌, refl, sym, ap, subst, inl, inr, ℕ, ◌+◌, ◌<◌, ◌≤◌, ◌==◌, ◌&&◌, ◌||◌, ◌^◌, Bool, true, false, cond, not, arith, eq-eqb, eqb-true, List, [], ◌∷◌, ◌++◌, length, map, reverse, fold, Some, None, Option, Result, Ok, Err, append-nil, append_assoc, length-append, is_some}
-use Rattle.std.specs.Prelude.{filter, filter_map, if◌then◌else◌}
+use Rattle.std.proofs.Common.{◌≡◌, ◌⊎◌, ◌∙◌, refl, sym, ap, subst, inl, inr, ℕ, ◌+◌, ◌<◌, ◌==◌, ◌||◌, Bool, true, false, not, arith, eq-eqb, eqb-true, List, [], ◌∷◌, ◌++◌, length, map, reverse, fold, Some, None, Option, Result, Ok, Err, append-nil, append_assoc, length-append, is_some}
+use Rattle.std.specs.Prelude.{filter, if◌then◌else◌}
 use Rattle.std.specs.List.{AllByRecursion, cons_option}
 use Rattle.std.specs.Option.{option_map_or, option_to_list}
-use Rattle.std.proofs.lemmas.List.{reverse-append}
 use Rattle.std.proofs.lemmas.List.Elements.{filter-append}
 use Rattle.rd_base.specs.Header.{packet_id}
 use Rattle.rd_base.specs.Layout.{met}
@@ -16,15 +15,13 @@ use Rattle.rd_base.specs.declared.status.Status.{Status}
 use Rattle.rd_base.proofs.LayoutLemmas.{meets}
 use Rattle.rd_base.proofs.SpellingLemmas.{message_spelled}
 use Rattle.rd_controls.proofs.Numbers.{reverse_cons}
-use Rattle.rd_client.specs.Core.{Outgoing}
-use Rattle.rd_core.specs.Core.{CoreState}
 use Rattle.rd_core.specs.Hearing as hearing
 use Rattle.rd_core.specs.Hearing.{Meaning, messages_of, nothing, opens, says, wrong}
 use Rattle.rd_devices.specs.DeviceReply.{reply_bytes}
 use Rattle.rd_devices.specs.declared.list.Announce.{Announce}
 use Rattle.rd_drive.proofs.AllLemmas.{all_append}
 use Rattle.rd_hello.specs.Hello.{hello_bytes}
-use Rattle.rd_hello.specs.Moves.{is_of, packet_in}
+use Rattle.rd_hello.specs.Moves.{packet_in}
 use Rattle.rd_hello.specs.Own.{host_announce}
 use Rattle.rd_hello.specs.declared.end_fault.EndFault.{EndFault}
 use Rattle.rd_hello.specs.declared.hello.Hello.{Hello}
@@ -43,12 +40,11 @@ use Rattle.rd_pending.specs.Table.{TableState}
 use Rattle.rd_pending.specs.declared.calls.LiveNo.{LiveNo}
 use Rattle.rd_printer.specs.Notice.{HasWholePort, IsWritableNotice, notice, notice_bytes}
 use Rattle.rd_printer.specs.declared.notice.Notice.{Notice}
-use Rattle.rd_printer.specs.declared.notice.Notice.TheVariants as printer
 use Rattle.rd_printer.proofs.NoticeLemmas.{IsInRange, notice_spelled}
 use Rattle.rd_runs.proofs.AskedLemmas.{tellable_lines}
 use Rattle.rd_runs.proofs.HostLemmas.{IsHostOf, host_channel, sending_opens}
-use Rattle.rd_runs.proofs.Insides.{AreOwn, IsInside, Outside, added_inside, all_dropped_inside, all_refreshed_inside, applied_inside, hears_inside, put_inside, removed_inside, stationed}
-use Rattle.rd_runs.proofs.Parts.{IsBehind, MayBe, Part, accepts, adds_one, announced_by, applies_one, begins, by_parts, client_gets, client_hears_one, client_keeps_part, client_sends_one, collects_one, cut_by, done, draws_one, ends, hands_out, host_gets, host_hears_one, host_keeps_part, host_sends_one, idle_one, queues_one, refreshed_by, refuses, removes_one, takes_one, tells_one, told_added, told_removed, tries_one}
+use Rattle.rd_runs.proofs.Insides.{AreOwn, IsInside, Outside, added_inside, all_dropped_inside, applied_inside, hears_inside, put_inside, removed_inside, stationed}
+use Rattle.rd_runs.proofs.Parts.{IsBehind, MayBe, Part, accepts, adds_one, applies_one, begins, by_parts, client_gets, client_hears_one, client_keeps_part, client_sends_one, collects_one, done, draws_one, ends, hands_out, host_gets, host_hears_one, host_keeps_part, host_sends_one, idle_one, queues_one, refuses, removes_one, takes_one, tells_one, tries_one}
 use Rattle.rd_runs.proofs.Standing.{Stands, needs_open, shut_now}
 use Rattle.rd_runs.proofs.Together.{knows}
 use Rattle.rd_runs.specs.Premises.{RunPremises}
@@ -63,19 +59,19 @@ use Rattle.rd_world.proofs.Written.{Matches, Written, requests_on, written}
 use Rattle.rd_world.specs.Joining.{accepted, request_of_accepted}
 use Rattle.rd_world.specs.Acts.{notices_on}
 use Rattle.rd_world.specs.Devices.{PrinterNames}
-use Rattle.rd_world.specs.Events.{completion_message, deed_on, dropping, is_channel_open, telling_of}
-use Rattle.rd_world.specs.Host.{HostSide, admits, begins_on, forgets, hears, host_heard, live_code, lived, next_message, sent_from, side_sends}
+use Rattle.rd_world.specs.Events.{completion_message, dropping, is_channel_open, telling_of}
+use Rattle.rd_world.specs.Host.{HostSide, admits, forgets, hears, host_heard, live_code, lived, next_message, sent_from, side_sends}
 use Rattle.rd_world.specs.Noting.{IsTellable}
 use Rattle.rd_world.specs.Recording.{client_id}
-use Rattle.rd_world.specs.Run.{notice_of, world_of}
-use Rattle.rd_world.specs.Talk.{Deed, Has, adds, client_reads, client_writes, completes, has_ended, host_begins, host_ends, host_reads, host_writes, host_wrote, is_open_at, is_request, notice_in, on, open_channel, removes, stores, submits, takes, tells}
+use Rattle.rd_world.specs.Run.{notice_of}
+use Rattle.rd_world.specs.Talk.{Deed, adds, client_reads, client_writes, completes, has_ended, host_begins, host_ends, host_reads, host_writes, host_wrote, is_open_at, is_request, notice_in, on, open_channel, removes, stores, submits, takes, tells}
 use Rattle.rd_world.specs.Hearing.{with_client}
 use Rattle.rd_world.specs.World.{WorldState, client_sends, host_sends, with_deed, with_station}
 use Rattle.rd_world.specs.declared.device.SessionDevice.{SessionDevice}
 use Rattle.rd_acted.proofs.NoticeLemmas.{is_printing, no_notice}
 use Rattle.rd_acted.proofs.SayingLemmas.{say_both, say_fewer, say_more, say_none}
 use Rattle.rd_acted.specs.Acted.{SayFirst, notices_due}
-use Rattle.rd_acted.specs.Waiting.{is_noted, noted}
+use Rattle.rd_acted.specs.Waiting.{is_noted, notices_waiting}
 
 -- ---- messages
 
@@ -115,10 +111,10 @@ told_noted n writable range =
     let is : met notice (at_start (notice_bytes n)) ≡ Ok (n, m.0) = m.1 in
     rw is refl
 
-noted_more : (ms more : List (List ℕ)) → AreUnnotedMessages more → noted (ms ++ more) ≡ noted ms
-noted_more ms more all = filter-append is_noted ms more ∙ ap (λ (xs : List (List ℕ)). noted ms ++ xs) (none more all) ∙ append-nil (noted ms)
+noted_more : (ms more : List (List ℕ)) → AreUnnotedMessages more → notices_waiting (ms ++ more) ≡ notices_waiting ms
+noted_more ms more all = filter-append is_noted ms more ∙ ap (λ (xs : List (List ℕ)). notices_waiting ms ++ xs) (none more all) ∙ append-nil (notices_waiting ms)
   where
-    none : (xs : List (List ℕ)) → AreUnnotedMessages xs → noted xs ≡ []
+    none : (xs : List (List ℕ)) → AreUnnotedMessages xs → notices_waiting xs ≡ []
     none [] each = refl
     none (x ∷ xs) each = rw each.0 (none xs each.1)
 
@@ -252,8 +248,8 @@ SaysNotice n message = message ≡ notice_bytes n
 -- What was told of printers on a channel says what was due there first. On the channel that began last that and what waits does, all that is due there while the channel is open.
 pub record NoticesAs (w : WorldState) : Type 0 where
   pub each : (c : ℕ) → SayFirst SaysNotice (notices_on c w.deeds) (notices_due c w.deeds)
-  pub now : SayFirst SaysNotice (notices_on w.channels w.deeds ++ noted (((w.side).core).core).outbox) (notices_due w.channels w.deeds)
-  pub all : open_channel w.deeds ≡ Some w.channels → length (notices_on w.channels w.deeds ++ noted (((w.side).core).core).outbox) ≡ length (notices_due w.channels w.deeds)
+  pub now : SayFirst SaysNotice (notices_on w.channels w.deeds ++ notices_waiting (((w.side).core).core).outbox) (notices_due w.channels w.deeds)
+  pub all : open_channel w.deeds ≡ Some w.channels → length (notices_on w.channels w.deeds ++ notices_waiting (((w.side).core).core).outbox) ≡ length (notices_due w.channels w.deeds)
   pub above : (c : ℕ) → w.channels < c → notices_due c w.deeds ≡ []
   pub over : (c : ℕ) → (notices_due c w.deeds ≡ []) ⊎ ((has_ended c w.deeds ≡ true) ⊎ (open_channel w.deeds ≡ Some c))
 
@@ -286,7 +282,7 @@ unnoted_by w x y one two = record {
 unnoted_notices : (w v : WorldState) → Unnoted w v → NoticesAs w → NoticesAs v
 unnoted_notices w v u is = record {
   each = λ c. subst (λ (ms : List (List ℕ)). SayFirst SaysNotice ms (notices_due c v.deeds)) (sym (left.told c)) (subst (λ (ts : List Notice). SayFirst SaysNotice (notices_on c w.deeds) ts) (sym (left.due c)) (is.each c));
-  now = subst (λ (ms : List (List ℕ)). SayFirst SaysNotice ms (notices_due v.channels v.deeds)) (sym now_same) (subst (λ (ts : List Notice). SayFirst SaysNotice (notices_on w.channels w.deeds ++ noted (((w.side).core).core).outbox) ts) (sym due_same) is.now);
+  now = subst (λ (ms : List (List ℕ)). SayFirst SaysNotice ms (notices_due v.channels v.deeds)) (sym now_same) (subst (λ (ts : List Notice). SayFirst SaysNotice (notices_on w.channels w.deeds ++ notices_waiting (((w.side).core).core).outbox) ts) (sym due_same) is.now);
   all = λ opened. ap length now_same ∙ is.all (sym left.opened ∙ opened ∙ ap (λ (n : ℕ). Some n) u.channels) ∙ ap length (sym due_same);
   above = λ c higher. left.due c ∙ is.above c (subst (λ (n : ℕ). n < c) u.channels higher);
   over = λ c. elim (is.over c) [
@@ -299,10 +295,10 @@ unnoted_notices w v u is = record {
     left : LeftNoted w.deeds v.deeds
     left = subst (LeftNoted w.deeds) (sym u.deeds) (left_all u.more w.deeds u.silent)
 
-    now_same : notices_on v.channels v.deeds ++ noted (((v.side).core).core).outbox ≡ notices_on w.channels w.deeds ++ noted (((w.side).core).core).outbox
+    now_same : notices_on v.channels v.deeds ++ notices_waiting (((v.side).core).core).outbox ≡ notices_on w.channels w.deeds ++ notices_waiting (((w.side).core).core).outbox
     now_same =
-        ap (λ (n : ℕ). notices_on n v.deeds ++ noted (((v.side).core).core).outbox) u.channels ∙ ap (λ (ms : List (List ℕ)). ms ++ noted (((v.side).core).core).outbox) (left.told w.channels)
-        ∙ ap (λ (ms : List (List ℕ)). notices_on w.channels w.deeds ++ noted ms) u.adds.outbox ∙ ap (λ (ms : List (List ℕ)). notices_on w.channels w.deeds ++ ms) (noted_more (((w.side).core).core).outbox u.adds.others u.adds.quiet)
+        ap (λ (n : ℕ). notices_on n v.deeds ++ notices_waiting (((v.side).core).core).outbox) u.channels ∙ ap (λ (ms : List (List ℕ)). ms ++ notices_waiting (((v.side).core).core).outbox) (left.told w.channels)
+        ∙ ap (λ (ms : List (List ℕ)). notices_on w.channels w.deeds ++ notices_waiting ms) u.adds.outbox ∙ ap (λ (ms : List (List ℕ)). notices_on w.channels w.deeds ++ ms) (noted_more (((w.side).core).core).outbox u.adds.others u.adds.quiet)
 
     due_same : notices_due v.channels v.deeds ≡ notices_due w.channels w.deeds
     due_same = ap (λ (n : ℕ). notices_due n v.deeds) u.channels ∙ left.due w.channels
@@ -325,23 +321,23 @@ other_wrote c channel m deeds apart =
 
 -- what the host has to say then, and what it said, are the same in all
 sent_now : (s : HostSide) (c : ℕ) (deeds : List Deed) (m : List ℕ) → IsHostOf s c deeds → next_message s ≡ Some m
-    → notices_on c (host_writes c m ∷ deeds) ++ noted (((side_sends s).core).core).outbox ≡ notices_on c deeds ++ noted ((s.core).core).outbox
+    → notices_on c (host_writes c m ∷ deeds) ++ notices_waiting (((side_sends s).core).core).outbox ≡ notices_on c deeds ++ notices_waiting ((s.core).core).outbox
 sent_now s c deeds m h next = by ((s.core).core).outbox refl
   where
-    by : (o : List (List ℕ)) → ((s.core).core).outbox ≡ o → notices_on c (host_writes c m ∷ deeds) ++ noted (((side_sends s).core).core).outbox ≡ notices_on c deeds ++ noted ((s.core).core).outbox
+    by : (o : List (List ℕ)) → ((s.core).core).outbox ≡ o → notices_on c (host_writes c m ∷ deeds) ++ notices_waiting (((side_sends s).core).core).outbox ≡ notices_on c deeds ++ notices_waiting ((s.core).core).outbox
     by [] e =
         let quiet : notice_in m ≡ None = request_unnoted m (table_next s c deeds m h e next) in
         let left_over : (((side_sends s).core).core).outbox ≡ ((s.core).core).outbox = ap (λ (ms : List (List ℕ)). ((sent_from s ms).core).core.outbox) e in
-        ap (λ (ms : List (List ℕ)). notices_on c (host_writes c m ∷ deeds) ++ noted ms) left_over
-        ∙ ap (λ (ms : List (List ℕ)). ms ++ noted ((s.core).core).outbox)
+        ap (λ (ms : List (List ℕ)). notices_on c (host_writes c m ∷ deeds) ++ notices_waiting ms) left_over
+        ∙ ap (λ (ms : List (List ℕ)). ms ++ notices_waiting ((s.core).core).outbox)
         (own_wrote c m deeds ∙ ap (λ (o : Option Notice). notices_on c deeds ++ (if is_some o then m ∷ [] else [])) quiet ∙ append-nil (notices_on c deeds))
     by (x ∷ xs) e =
         let first : next_message s ≡ Some x = rw e refl in
         let same : x ≡ m = cc (first, next) in
         let left_over : (((side_sends s).core).core).outbox ≡ xs = rw e refl in
-        ap (λ (ms : List (List ℕ)). notices_on c (host_writes c m ∷ deeds) ++ noted ms) left_over ∙ ap (λ (ms : List (List ℕ)). ms ++ noted xs) (own_wrote c m deeds)
-        ∙ append_assoc (notices_on c deeds) (filter is_noted (m ∷ [])) (noted xs) ∙ ap (λ (ms : List (List ℕ)). notices_on c deeds ++ ms) (sym (filter-append is_noted (m ∷ []) xs))
-        ∙ ap (λ (ms : List (List ℕ)). notices_on c deeds ++ noted ms) (ap (λ (k : List ℕ). k ∷ xs) (sym same) ∙ sym e)
+        ap (λ (ms : List (List ℕ)). notices_on c (host_writes c m ∷ deeds) ++ notices_waiting ms) left_over ∙ ap (λ (ms : List (List ℕ)). ms ++ notices_waiting xs) (own_wrote c m deeds)
+        ∙ append_assoc (notices_on c deeds) (filter is_noted (m ∷ [])) (notices_waiting xs) ∙ ap (λ (ms : List (List ℕ)). notices_on c deeds ++ ms) (sym (filter-append is_noted (m ∷ []) xs))
+        ∙ ap (λ (ms : List (List ℕ)). notices_on c deeds ++ notices_waiting ms) (ap (λ (k : List ℕ). k ∷ xs) (sym same) ∙ sym e)
 
 sends_notices : (w : WorldState) (m : List ℕ) → Stands w → next_message w.side ≡ Some m → NoticesAs w → NoticesAs (host_sends (record w { side = side_sends w.side }) m)
 sends_notices w m stands next is = record {
@@ -352,13 +348,13 @@ sends_notices w m stands next is = record {
   over = is.over;
 }
   where
-    moved : notices_on w.channels (host_writes w.channels m ∷ w.deeds) ++ noted (((side_sends w.side).core).core).outbox ≡ notices_on w.channels w.deeds ++ noted (((w.side).core).core).outbox
+    moved : notices_on w.channels (host_writes w.channels m ∷ w.deeds) ++ notices_waiting (((side_sends w.side).core).core).outbox ≡ notices_on w.channels w.deeds ++ notices_waiting (((w.side).core).core).outbox
     moved = sent_now w.side w.channels w.deeds m stands.host next
 
     by : (c : ℕ) (b : Bool) → (w.channels == c) ≡ b → SayFirst SaysNotice (notices_on c (host_writes w.channels m ∷ w.deeds)) (notices_due c w.deeds)
     by c true e =
         subst (λ (n : ℕ). SayFirst SaysNotice (notices_on n (host_writes w.channels m ∷ w.deeds)) (notices_due n w.deeds)) (eqb-true w.channels c e)
-        (say_fewer SaysNotice (notices_on w.channels (host_writes w.channels m ∷ w.deeds)) (noted (((side_sends w.side).core).core).outbox) (notices_due w.channels w.deeds)
+        (say_fewer SaysNotice (notices_on w.channels (host_writes w.channels m ∷ w.deeds)) (notices_waiting (((side_sends w.side).core).core).outbox) (notices_due w.channels w.deeds)
         (subst (λ (ms : List (List ℕ)). SayFirst SaysNotice ms (notices_due w.channels w.deeds)) (sym moved) is.now))
     by c false e = subst (λ (ms : List (List ℕ)). SayFirst SaysNotice ms (notices_due c w.deeds)) (sym (other_wrote c w.channels m w.deeds e)) (is.each c)
 
@@ -371,10 +367,10 @@ told_notices : (w : WorldState) (n : Notice) → open_channel w.deeds ≡ Some w
 told_notices w n opened spelled is = record {
   each = λ c. say_more SaysNotice (notices_on c w.deeds) (notices_due c w.deeds) (if is_open_at c w.deeds then n ∷ [] else []) (is.each c);
   now = subst (λ (ms : List (List ℕ)). SayFirst SaysNotice ms (notices_due w.channels (tells n ∷ w.deeds))) (sym now_is)
-      (subst (λ (ts : List Notice). SayFirst SaysNotice ((notices_on w.channels w.deeds ++ noted (((w.side).core).core).outbox) ++ notice_bytes n ∷ []) ts) (sym due_is)
-      (say_both SaysNotice (notices_on w.channels w.deeds ++ noted (((w.side).core).core).outbox) (notices_due w.channels w.deeds) (notice_bytes n) n (is.all opened) refl is.now));
+      (subst (λ (ts : List Notice). SayFirst SaysNotice ((notices_on w.channels w.deeds ++ notices_waiting (((w.side).core).core).outbox) ++ notice_bytes n ∷ []) ts) (sym due_is)
+      (say_both SaysNotice (notices_on w.channels w.deeds ++ notices_waiting (((w.side).core).core).outbox) (notices_due w.channels w.deeds) (notice_bytes n) n (is.all opened) refl is.now));
   all = λ open_too.
-      ap length now_is ∙ length-append (notices_on w.channels w.deeds ++ noted (((w.side).core).core).outbox) (notice_bytes n ∷ []) ∙ ap (λ (k : ℕ). k + 1) (is.all opened)
+      ap length now_is ∙ length-append (notices_on w.channels w.deeds ++ notices_waiting (((w.side).core).core).outbox) (notice_bytes n ∷ []) ∙ ap (λ (k : ℕ). k + 1) (is.all opened)
       ∙ sym (length-append (notices_due w.channels w.deeds) (n ∷ [])) ∙ ap length (sym due_is);
   above = λ c higher.
       ap (λ (b : Bool). notices_due c w.deeds ++ (if b then n ∷ [] else [])) (open_is c w.channels w.deeds opened ∙ apart w.channels c higher) ∙ append-nil (notices_due c w.deeds) ∙ is.above c higher;
@@ -394,11 +390,11 @@ told_notices w n opened spelled is = record {
     due_is : notices_due w.channels (tells n ∷ w.deeds) ≡ notices_due w.channels w.deeds ++ n ∷ []
     due_is = ap (λ (b : Bool). notices_due w.channels w.deeds ++ (if b then n ∷ [] else [])) own
 
-    now_is : notices_on w.channels w.deeds ++ noted ((((w.side).core).core).outbox ++ notice_bytes n ∷ []) ≡ (notices_on w.channels w.deeds ++ noted (((w.side).core).core).outbox) ++ notice_bytes n ∷ []
+    now_is : notices_on w.channels w.deeds ++ notices_waiting ((((w.side).core).core).outbox ++ notice_bytes n ∷ []) ≡ (notices_on w.channels w.deeds ++ notices_waiting (((w.side).core).core).outbox) ++ notice_bytes n ∷ []
     now_is =
         ap (λ (ms : List (List ℕ)). notices_on w.channels w.deeds ++ ms) (filter-append is_noted (((w.side).core).core).outbox (notice_bytes n ∷ [])
-        ∙ ap (λ (o : Option Notice). noted (((w.side).core).core).outbox ++ (if is_some o then notice_bytes n ∷ [] else [])) spelled)
-        ∙ sym (append_assoc (notices_on w.channels w.deeds) (noted (((w.side).core).core).outbox) (notice_bytes n ∷ []))
+        ∙ ap (λ (o : Option Notice). notices_waiting (((w.side).core).core).outbox ++ (if is_some o then notice_bytes n ∷ [] else [])) spelled)
+        ∙ sym (append_assoc (notices_on w.channels w.deeds) (notices_waiting (((w.side).core).core).outbox) (notice_bytes n ∷ []))
 
     by : (c : ℕ) (b : Bool) → (w.channels == c) ≡ b → (notices_due c w.deeds ≡ []) ⊎ ((has_ended c w.deeds ≡ true) ⊎ (open_channel w.deeds ≡ Some c))
         → (notices_due c (tells n ∷ w.deeds) ≡ []) ⊎ ((has_ended c w.deeds ≡ true) ⊎ (open_channel w.deeds ≡ Some c))
@@ -408,7 +404,7 @@ told_notices w n opened spelled is = record {
 
 -- ---- a channel begins, and ends
 
-begun_notices : (w v : WorldState) → open_channel w.deeds ≡ None → v.deeds ≡ host_begins (w.channels + 1) ∷ w.deeds → v.channels ≡ w.channels + 1 → noted (((v.side).core).core).outbox ≡ [] → NoticesAs w → NoticesAs v
+begun_notices : (w v : WorldState) → open_channel w.deeds ≡ None → v.deeds ≡ host_begins (w.channels + 1) ∷ w.deeds → v.channels ≡ w.channels + 1 → notices_waiting (((v.side).core).core).outbox ≡ [] → NoticesAs w → NoticesAs v
 begun_notices w v shut deeds channels quiet is = record {
   each = λ c. subst (λ (ds : List Deed). SayFirst SaysNotice (notices_on c ds) (notices_due c ds)) (sym deeds) (is.each c);
   now = subst (λ (ms : List (List ℕ)). SayFirst SaysNotice ms (notices_due v.channels v.deeds)) (sym none) tt;
@@ -421,7 +417,7 @@ begun_notices w v shut deeds channels quiet is = record {
     untold =
         say_none SaysNotice (notices_on (w.channels + 1) w.deeds) (subst (λ (ts : List Notice). SayFirst SaysNotice (notices_on (w.channels + 1) w.deeds) ts) (is.above (w.channels + 1) (omega arith)) (is.each (w.channels + 1)))
 
-    none : notices_on v.channels v.deeds ++ noted (((v.side).core).core).outbox ≡ []
+    none : notices_on v.channels v.deeds ++ notices_waiting (((v.side).core).core).outbox ≡ []
     none =
         ap (λ (ms : List (List ℕ)). notices_on v.channels v.deeds ++ ms) quiet ∙ append-nil (notices_on v.channels v.deeds) ∙ ap (λ (n : ℕ). notices_on n v.deeds) channels
         ∙ ap (notices_on (w.channels + 1)) deeds ∙ untold
@@ -434,9 +430,9 @@ begun_notices w v shut deeds channels quiet is = record {
 ended_notices : (w v : WorldState) → open_channel w.deeds ≡ Some w.channels → v.deeds ≡ host_ends w.channels ∷ w.deeds → v.channels ≡ w.channels → (((v.side).core).core).outbox ≡ [] → NoticesAs w → NoticesAs v
 ended_notices w v opened deeds channels quiet is = record {
   each = λ c. subst (λ (ds : List Deed). SayFirst SaysNotice (notices_on c ds) (notices_due c ds)) (sym deeds) (is.each c);
-  now = subst (λ (n : ℕ). SayFirst SaysNotice (notices_on n v.deeds ++ noted (((v.side).core).core).outbox) (notices_due n v.deeds)) (sym channels)
-      (subst (λ (ds : List Deed). SayFirst SaysNotice (notices_on w.channels ds ++ noted (((v.side).core).core).outbox) (notices_due w.channels ds)) (sym deeds)
-      (subst (λ (ms : List (List ℕ)). SayFirst SaysNotice ms (notices_due w.channels w.deeds)) (sym (ap (λ (ms : List (List ℕ)). notices_on w.channels w.deeds ++ noted ms) quiet ∙ append-nil (notices_on w.channels w.deeds))) (is.each w.channels)));
+  now = subst (λ (n : ℕ). SayFirst SaysNotice (notices_on n v.deeds ++ notices_waiting (((v.side).core).core).outbox) (notices_due n v.deeds)) (sym channels)
+      (subst (λ (ds : List Deed). SayFirst SaysNotice (notices_on w.channels ds ++ notices_waiting (((v.side).core).core).outbox) (notices_due w.channels ds)) (sym deeds)
+      (subst (λ (ms : List (List ℕ)). SayFirst SaysNotice ms (notices_due w.channels w.deeds)) (sym (ap (λ (ms : List (List ℕ)). notices_on w.channels w.deeds ++ notices_waiting ms) quiet ∙ append-nil (notices_on w.channels w.deeds))) (is.each w.channels)));
   all = λ still. absurd (cc (sym (ap open_channel deeds) ∙ still));
   above = λ c higher. ap (notices_due c) deeds ∙ is.above c (subst (λ (n : ℕ). n < c) channels higher);
   over = λ c. by c (w.channels == c) refl (is.over c);

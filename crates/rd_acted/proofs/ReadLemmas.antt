@@ -1,9 +1,8 @@
 -- Where nothing that a client read was wrong, its state is that of what it read on the channel, and what it keeps for printers is what it read of them.
-use Rattle.std.proofs.Common.{◌≡◌, ◌⊎◌, ◌∙◌, refl, sym, ap, subst, inl, inr, ℕ, ◌+◌, ◌<◌, ◌==◌, Bool, true, false, cond, arith, eq-eqb, List, [], ◌∷◌, ◌++◌, length, map, reverse, drop, fold, Some, None, Option, Result, Ok, Err, append_assoc, is_some}
+use Rattle.std.proofs.Common.{◌≡◌, ◌∙◌, refl, sym, ap, subst, ℕ, ◌+◌, ◌==◌, Bool, true, false, cond, arith, eq-eqb, List, [], ◌∷◌, ◌++◌, length, map, reverse, drop, fold, Some, None, Option, Result, Ok, Err, append_assoc}
 use Rattle.std.specs.Prelude.{IsSome, filter_map, if◌then◌else◌}
 use Rattle.std.specs.List.{AllByRecursion, cons_option}
 use Rattle.std.specs.Option.{option_and_then, option_map_or}
-use Rattle.rd_base.specs.Statuses as status
 use Rattle.rd_base.specs.declared.journal.Item.{Item}
 use Rattle.rd_base.specs.declared.journal.Key.{Key}
 use Rattle.rd_client.specs.Core as client
@@ -29,7 +28,7 @@ use Rattle.rd_printer.specs.Cache as cache
 use Rattle.rd_printer.specs.Cache.{CacheState, heard_all}
 use Rattle.rd_printer.specs.declared.notice.Notice.{Notice}
 use Rattle.rd_runs.specs.Premises.{DeviceFits, RunPremises}
-use Rattle.rd_runs.proofs.Parts.{IsBehind, MayBe, by_parts, Part, accepts, adds_one, announced_by, applies_one, begins, client_gets, client_hears_one, client_keeps_part, client_sends_one, collects_one, cut_by, done, draws_one, ends, hands_out, host_gets, host_hears_one, host_keeps_part, host_sends_one, idle_one, queues_one, refreshed_by, refuses, removes_one, takes_one, tells_one, told_added, told_removed, tries_one}
+use Rattle.rd_runs.proofs.Parts.{IsBehind, MayBe, by_parts, Part, accepts, adds_one, announced_by, applies_one, begins, client_gets, client_hears_one, client_keeps_part, client_sends_one, collects_one, done, draws_one, ends, hands_out, host_gets, host_hears_one, host_keeps_part, host_sends_one, idle_one, queues_one, refreshed_by, refuses, removes_one, takes_one, tells_one, told_added, told_removed, tries_one}
 use Rattle.rd_script.specs.declared.line.NumberedLine.{NumberedLine}
 use Rattle.rd_station.specs.Station as station
 use Rattle.rd_station.specs.Station.{StationState}
@@ -39,18 +38,17 @@ use Rattle.rd_world.specs.Acts.{cache_after, notice_read}
 use Rattle.rd_world.proofs.BeginningLemmas.{begun_by}
 use Rattle.rd_world.proofs.OpeningLemmas.{declared_openable, lines_begin}
 use Rattle.rd_world.specs.Opening.{IsOpenable, bare_lines}
-use Rattle.rd_world.specs.Run.{declared_devices, world_of}
+use Rattle.rd_world.specs.Run.{declared_devices}
 use Rattle.rd_world.specs.declared.device.SessionDevice.TheVariants as session
 use Rattle.rd_world.specs.Devices.{Declared, PrinterNames, device_cut, printer_data}
-use Rattle.rd_world.specs.Events.{came_of, completion_message, connects, deed_on, dropping, is_channel_open}
+use Rattle.rd_world.specs.Events.{came_of, completion_message, connects, deed_on, dropping}
 use Rattle.rd_world.specs.Hearing.{after_opening, announcing, client_hears, heard_by_client, put_at, put_by, putting, refused_put, with_client}
-use Rattle.rd_world.specs.Talk as deed
-use Rattle.rd_world.specs.Talk.{Deed, adds, client_read, client_reads, client_writes, completes, host_begins, host_ends, host_reads, host_writes, notice_in, on, removes, stores, submits, takes, tells}
-use Rattle.rd_world.specs.World.{WorldState, station_at, stored_beyond, with_deed, with_station}
+use Rattle.rd_world.specs.Talk.{Deed, adds, client_read, client_reads, client_writes, completes, host_begins, host_ends, host_reads, host_writes, notice_in, removes, stores, submits, takes, tells}
+use Rattle.rd_world.specs.World.{WorldState, station_at, stored_beyond, with_station}
 use Rattle.rd_world.specs.declared.device.SessionDevice.{SessionDevice}
 use Rattle.rd_acted.proofs.NoticeLemmas.{heard_notice, noticed}
 use Rattle.rd_acted.proofs.QuietLemmas.{read_by}
-use Rattle.rd_acted.specs.Acted.{AreReadWell, state_after, state_read}
+use Rattle.rd_acted.specs.Acted.{AreReadWell, state_heard, state_read}
 
 -- ---- what passes without that a client reads
 
@@ -243,7 +241,7 @@ cache_more c m deeds = cache_is (client_reads c m ∷ deeds) ∙ by (notice_in m
 fewer : (x : Deed) (deeds : List Deed) → AreReadWell (x ∷ deeds) → AreReadWell deeds
 fewer (client_reads channel message) deeds well c = by (channel == c) (well c)
   where
-    earlier : (o : Option ClientState) → IsSome (option_and_then (λ state. state_after state (said client_side state message)) o) → IsSome o
+    earlier : (o : Option ClientState) → IsSome (option_and_then (λ state. state_heard state (said client_side state message)) o) → IsSome o
     earlier None is = is
     earlier (Some state) is = refl
 
@@ -303,26 +301,26 @@ module _ (w : WorldState) (m : List ℕ) (is : IsReadAs w) where
   abbrev shake : ClientState
   shake = ((w.client).core).shake
 
-  read_state : state_read (client_read w.channels (client_reads w.channels m ∷ w.deeds)) ≡ state_after shake (said client_side shake m)
+  read_state : state_read (client_read w.channels (client_reads w.channels m ∷ w.deeds)) ≡ state_heard shake (said client_side shake m)
   read_state =
       ap (λ (b : Bool). state_read (cons_option (cond b (Some m) None) (client_read w.channels w.deeds))) (eq-eqb w.channels w.channels refl)
-      ∙ ap (λ (o : Option ClientState). option_and_then (λ state. state_after state (said client_side state m)) o) is.0
+      ∙ ap (λ (o : Option ClientState). option_and_then (λ state. state_heard state (said client_side state m)) o) is.0
 
   -- a client after the message, with what it keeps then
-  after_message : (d : ClientCoreState) (s : Meaning ClientState HostSays) (kept : CacheState) → said client_side shake m ≡ s → state_after shake s ≡ Some (d.core).shake → (d.core).fault ≡ None
+  after_message : (d : ClientCoreState) (s : Meaning ClientState HostSays) (kept : CacheState) → said client_side shake m ≡ s → state_heard shake s ≡ Some (d.core).shake → (d.core).fault ≡ None
       → kept ≡ cached w.cache (noticed s) → IsReadAs (record (read_by w m d) { cache = kept })
   after_message d s kept meant state fine held =
       let right : (fault : EndFault) → s ≡ wrong fault → ⊥ = λ fault e.
-          let none : state_after shake s ≡ None = ap (state_after shake) e in
+          let none : state_heard shake s ≡ None = ap (state_heard shake) e in
           absurd (cc (none, state)) in
       let spells : notice_in m ≡ noticed s = heard_notice shake m s meant right in
       (
-        read_state ∙ ap (state_after shake) meant ∙ state,
+        read_state ∙ ap (state_heard shake) meant ∙ state,
         fine,
         held ∙ ap (λ (k : CacheState). cached k (noticed s)) is.2 ∙ ap (λ (o : Option Notice). cached (cache_after w.deeds) o) (sym spells) ∙ sym (cache_more w.channels m w.deeds),
       )
 
-  by_meaning : (s : Meaning ClientState HostSays) → said client_side shake m ≡ s → IsSome (state_after shake s) → IsReadAs (heard_by_client shake (read_by w m (made w.client s).0) (made w.client s).1)
+  by_meaning : (s : Meaning ClientState HostSays) → said client_side shake m ≡ s → IsSome (state_heard shake s) → IsReadAs (heard_by_client shake (read_by w m (made w.client s).0) (made w.client s).1)
   by_meaning (wrong fault) meant some = absurd cc
   by_meaning nothing meant some =
       let d : ClientCoreState = client_opened w.client (w.client).core in

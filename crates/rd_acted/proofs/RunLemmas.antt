@@ -1,11 +1,9 @@
 -- What the control lines of a whole run did.
-use Rattle.std.proofs.Common.{◌≡◌, ◌≢◌, ◌⊎◌, ◌∙◌, refl, sym, ap, subst, inl, inr, ℕ, ◌+◌, ◌<◌, ◌≤◌, ◌==◌, Bool, true, false, arith, eq-eqb, List, [], ◌∷◌, ◌++◌, length, map, reverse, Some, None, Option, append-nil, length-append, is_some}
-use Rattle.std.specs.Prelude.{All, filter, filter_map, if◌then◌else◌}
-use Rattle.std.specs.List.{cons_option, range_with_len}
+use Rattle.std.proofs.Common.{◌≡◌, ◌⊎◌, ◌∙◌, refl, sym, ap, subst, inl, inr, ℕ, ◌≤◌, ◌==◌, Bool, true, false, arith, eq-eqb, List, [], ◌∷◌, ◌++◌, length, Some, None, Option, append-nil, is_some}
+use Rattle.std.specs.Prelude.{All, if◌then◌else◌}
+use Rattle.std.specs.List.{range_with_len}
 use Rattle.std.specs.Option.{option_map_or}
-use Rattle.rd_base.specs.declared.journal.Cause.{Cause}
 use Rattle.rd_base.specs.declared.journal.Key.{Key}
-use Rattle.rd_client.specs.Core.{Outgoing}
 use Rattle.rd_controls.proofs.Leading.{does_as_said}
 use Rattle.rd_controls.proofs.Unseen.{client_ready}
 use Rattle.rd_controls.specs.Controls.{AreOrderedLines, DoAsSaid, EndsAs, control_with}
@@ -15,48 +13,40 @@ use Rattle.rd_printer.specs.declared.notice.Notice.{Notice}
 use Rattle.rd_runs.proofs.HostLemmas.{host_channel}
 use Rattle.rd_runs.proofs.Parts.{IsBehind, reached_behind}
 use Rattle.rd_runs.proofs.Reaching.{run_reached, run_rests}
-use Rattle.rd_runs.proofs.Resting.{IsQuiet, quiet}
+use Rattle.rd_runs.proofs.Resting.{quiet}
 use Rattle.rd_runs.proofs.Standing.{Stands}
 use Rattle.rd_runs.proofs.Together.{knows}
 use Rattle.rd_runs.specs.Moves.{Reached}
 use Rattle.rd_runs.specs.Premises.{RunPremises}
 use Rattle.rd_script.specs.declared.line.NumberedLine.{NumberedLine}
-use Rattle.rd_world.specs.Acts.{AreActed, AreSaid, IsCutThere, Opens, Tells, cause_in, control_at_end, control_by, is_settled_host, is_telling, left_open, notices_on, of_channel, tellings_due, tellings_on}
-use Rattle.rd_world.specs.Control.{Control, Telling, control_of, dropped_at}
+use Rattle.rd_world.specs.Acts.{AreActed, AreSaid, Opens, Tells, is_settled_host, notices_on, of_channel, tellings_due, tellings_on}
+use Rattle.rd_world.specs.Control.{Control, Telling, control_of}
 use Rattle.rd_world.specs.Devices.{Declared}
-use Rattle.rd_world.specs.Host.{first_waiting, next_message}
+use Rattle.rd_world.specs.Host.{first_waiting}
 use Rattle.rd_world.specs.Opening.{bare_lines}
 use Rattle.rd_world.specs.Recording.{host_stand}
 use Rattle.rd_world.specs.Run.{Most, choices, declared_devices, run_of}
-use Rattle.rd_world.specs.Talk.{Deed, EachAfter, EndsWith, adds, client_reads, client_writes, client_wrote, completes, has_ended, host_begins, host_ends, host_reads, host_writes, is_open_at, open_channel, removes, stores, submits, takes, tells, written_by_client}
+use Rattle.rd_world.specs.Talk.{Deed, EachAfter, adds, client_reads, client_writes, completes, has_ended, host_begins, host_ends, host_reads, host_writes, open_channel, removes, stores, submits, takes, tells}
 use Rattle.rd_world.specs.World.{WorldState}
 use Rattle.rd_acted.proofs.ActLemmas.{acts_by_deeds, control_by_acts}
 use Rattle.rd_acted.proofs.CauseLemmas.{cuts_by_deeds}
-use Rattle.rd_acted.proofs.CuttingLemmas.{AreCut}
+use Rattle.rd_acted.proofs.ClosedLemmas.{left_is_open}
+use Rattle.rd_acted.proofs.LeadingLemmas.{run_rests_after}
 use Rattle.rd_acted.proofs.DueLemmas.{current_by_deeds, notices_are_due, told_is_due}
 use Rattle.rd_acted.proofs.EveryCutLemmas.{behind_there}
 use Rattle.rd_acted.proofs.InTimeLemmas.{AreInTime, behind_in_time}
 use Rattle.rd_acted.proofs.PrinterLemmas.{NoticesAs, behind_notices}
 use Rattle.rd_acted.proofs.ReadLemmas.{fewer_read, premises_fit}
-use Rattle.rd_acted.proofs.SayingLemmas.{say_none, say_zip, wrote_more}
+use Rattle.rd_acted.proofs.SayingLemmas.{say_none, say_zip, told_longer}
 use Rattle.rd_acted.proofs.TellLemmas.{TellsAs, behind_tells, ids_in}
-use Rattle.rd_acted.proofs.ThereLemmas.{IsThere}
 use Rattle.rd_acted.specs.Acted.{AreReadWell, EndsTold, GoWell, HaveActed, SayFirst, control_after, control_by_deeds, due_on, notices_due, without_idle}
-use Rattle.rd_acted.specs.Waiting.{noted, waiting}
+use Rattle.rd_acted.specs.Waiting.{notices_waiting, tellings_waiting}
 
 -- ---- lists
 
 nothing_first : {A : Type 0} (xs ys : List A) → xs ++ ys ≡ [] → xs ≡ []
 nothing_first [] ys e = refl
 nothing_first (x ∷ xs) ys e = absurd (cc e)
-
--- what was told is told still
-pub told_longer : (c : ℕ) (more deeds : List Deed) → length (tellings_on c deeds) ≤ length (tellings_on c (more ++ deeds))
-told_longer c [] deeds = omega arith
-told_longer c (x ∷ more) deeds =
-    let longer : length (tellings_on c (x ∷ more ++ deeds)) ≡ length (tellings_on c (more ++ deeds)) + length (filter is_telling (cons_option (written_by_client c x) [])) =
-    ap length (wrote_more c (written_by_client c x) (client_wrote c (more ++ deeds))) ∙ length-append (tellings_on c (more ++ deeds)) (filter is_telling (cons_option (written_by_client c x) [])) in
-    omega (arith, longer, told_longer c more deeds)
 
 -- something is due on a channel that is open
 open_due : (deeds : List Deed) (c : ℕ) → open_channel deeds ≡ Some c → 1 ≤ tellings_due c deeds
@@ -114,7 +104,7 @@ module _ (lines : List NumberedLine) (starves : Key → Bool) (premises : RunPre
             let t = behind_tells lines starves premises v behind v_well in
             let i = behind_in_time lines starves premises v behind v_well in
             let all = t.all (v_opened ∙ ap (λ (n : ℕ). Some n) v_channel) (ends.ready (ap is_some is)).client in
-            let out : waiting ((v.client).core).outbox ≡ [] = ap waiting (quiet v ends.rests).client_sends in
+            let out : tellings_waiting ((v.client).core).outbox ≡ [] = ap tellings_waiting (quiet v ends.rests).client_sends in
             let many : length (tellings_on v.channels v.deeds) ≡ length (due_on ids v.channels v.deeds) =
             sym (ap length (ap (λ (ms : List (List ℕ)). tellings_on v.channels v.deeds ++ ms) out ∙ append-nil (tellings_on v.channels v.deeds))) ∙ all in
             let some : 1 ≤ tellings_due v.channels v.deeds = subst (λ (n : ℕ). 1 ≤ tellings_due n v.deeds) v_channel (open_due v.deeds c v_opened) in
@@ -162,7 +152,7 @@ module _ (lines : List NumberedLine) (starves : Key → Bool) (premises : RunPre
         by (inr (inr opened)) unended =
             let channel : c ≡ w.channels = opened_now w c (knows lines starves premises w b).stands opened in
             let all = t.all (opened ∙ ap (λ (n : ℕ). Some n) channel) (ready_now c opened) in
-            let out : waiting ((w.client).core).outbox ≡ [] = ap waiting (quiet w rests).client_sends in
+            let out : tellings_waiting ((w.client).core).outbox ≡ [] = ap tellings_waiting (quiet w rests).client_sends in
             ap (λ (n : ℕ). length (tellings_on n w.deeds)) channel
             ∙ sym (ap length (ap (λ (ms : List (List ℕ)). tellings_on w.channels w.deeds ++ ms) out ∙ append-nil (tellings_on w.channels w.deeds))) ∙ all
             ∙ ap (λ (n : ℕ). length (due_on ids n w.deeds)) (sym channel)
@@ -191,27 +181,29 @@ module _ (lines : List NumberedLine) (starves : Key → Bool) (premises : RunPre
             let channel : c ≡ w.channels = opened_now w c (knows lines starves premises w b).stands opened in
             let all = n.all (opened ∙ ap (λ (k : ℕ). Some k) channel) in
             ap (λ (k : ℕ). length (notices_on k w.deeds)) channel
-            ∙ sym (ap length (ap (λ (ms : List (List ℕ)). notices_on w.channels w.deeds ++ noted ms) silent ∙ append-nil (notices_on w.channels w.deeds))) ∙ all
+            ∙ sym (ap length (ap (λ (ms : List (List ℕ)). notices_on w.channels w.deeds ++ notices_waiting ms) silent ∙ append-nil (notices_on w.channels w.deeds))) ∙ all
             ∙ ap (λ (k : ℕ). length (notices_due k w.deeds)) (sym channel)
 
   -- what the deeds of a run's end take is met by its lines
   pub runs_go_well : (w : WorldState) → Reached lines starves w → length lines ≤ 1000000 → AreReadWell w.deeds → EachAfter EndsTold w.deeds → GoWell w.deeds
   runs_go_well w r few well told = record { well = well; ends = told; short = unworn lines starves premises w r few (premises_fit lines premises) }
 
-  -- The control lines of a run did what they say, where its deeds leave open what it left open.
+  -- The control lines of a run did what they say.
   pub run_acted : (most : Most) (w : WorldState) → length lines ≤ 1000000 → AreOrderedLines ids lines → (is : run_of most starves lines ≡ Some w) → AreReadWell w.deeds → EachAfter EndsTold w.deeds
-      → ((said : DoAsSaid ids lines starves w) → left_open devices w.deeds (control_by devices lines) ≡ said.left) → HaveActed devices lines w.idle w.deeds
-  run_acted most w few ordered is well told left_is =
+      → HaveActed devices lines w.idle w.deeds
+  run_acted most w few ordered is well told =
       let said : DoAsSaid ids lines starves w = does_as_said lines starves most w ordered premises is in
       let reached : Reached lines starves w = run_reached lines starves most w is in
       let b : IsBehind lines starves w = reached_behind lines starves w reached in
       let control : Control = control_with said.left (control_of ids lines) in
       let same : without_idle control ≡ control_by_deeds ids w.deeds = control_by_acts ids lines said.left ∙ ap (control_after ids) (sym said.acts) ∙ acts_by_deeds ids w.deeds in
       let rests : choices w ≡ [] = run_rests starves most lines w is in
-      let there = behind_there lines starves premises w b (runs_go_well w reached few well told) in
+      let goes : GoWell w.deeds = runs_go_well w reached few well told in
+      let there = behind_there lines starves premises w b goes in
+      let left_is = left_is_open lines starves premises most w reached goes (run_rests_after lines starves most w ordered premises is) said in
       record {
         control = control;
-        control_is = ap (λ (o : Option ℕ). control_with o (control_of ids lines)) (sym (left_is said));
+        control_is = ap (λ (o : Option ℕ). control_with o (control_of ids lines)) (sym left_is);
         acts = said.acts;
         tells = λ c. subst (λ (ts : List Telling). AreSaid (Tells devices w.deeds c) ts (tellings_on c w.deeds) (has_ended c w.deeds)) (sym (ap (λ (k : Control). of_channel c k.told) same ∙ told_is_due ids c w.deeds))
             (all_told w b rests well (ready_now w well b said.left said.ends same) c);

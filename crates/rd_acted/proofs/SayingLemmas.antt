@@ -1,6 +1,6 @@
 -- Messages that say what things begin with; and what is due on a channel.
-use Rattle.std.proofs.Common.{◌≡◌, ◌∙◌, refl, sym, ap, subst, ℕ, zero, suc, ◌+◌, ◌≤◌, ◌==◌, Bool, true, false, arith, List, [], ◌∷◌, ◌++◌, length, reverse, map, Some, None, Option, append-nil, append_assoc, length-append}
-use Rattle.std.specs.Prelude.{filter, filter_map, if◌then◌else◌, take}
+use Rattle.std.proofs.Common.{◌≡◌, ◌∙◌, refl, sym, ap, ℕ, ◌+◌, ◌≤◌, ◌==◌, Bool, true, false, arith, List, [], ◌∷◌, ◌++◌, length, reverse, Some, None, Option, append-nil, length-append}
+use Rattle.std.specs.Prelude.{filter, if◌then◌else◌, take}
 use Rattle.std.specs.List.{AllZip, cons_option}
 use Rattle.std.proofs.lemmas.List.Elements.{filter-append}
 use Rattle.rd_controls.proofs.Numbers.{reverse_cons}
@@ -75,3 +75,11 @@ pub tells_more : (devices : List (ℕ × Declared)) (c : ℕ) (x : Deed) (deeds 
 tells_more devices c x deeds same (lists ids) m is = is ∙ sym (ap (λ (ds : List Deed). list_of devices (cache_after ds) ids) same)
 tells_more devices c x deeds same (removal device) m is = is
 tells_more devices c x deeds same (addition device count) m (since, before, parts, many, is) = (x ∷ since, before, ap (λ (ds : List Deed). x ∷ ds) parts, many, is)
+
+-- what was told is told still
+pub told_longer : (c : ℕ) (more deeds : List Deed) → length (tellings_on c deeds) ≤ length (tellings_on c (more ++ deeds))
+told_longer c [] deeds = omega arith
+told_longer c (x ∷ more) deeds =
+    let longer : length (tellings_on c (x ∷ more ++ deeds)) ≡ length (tellings_on c (more ++ deeds)) + length (filter is_telling (cons_option (written_by_client c x) [])) =
+    ap length (wrote_more c (written_by_client c x) (client_wrote c (more ++ deeds))) ∙ length-append (tellings_on c (more ++ deeds)) (filter is_telling (cons_option (written_by_client c x) [])) in
+    omega (arith, longer, told_longer c more deeds)

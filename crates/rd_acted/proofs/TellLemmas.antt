@@ -1,11 +1,8 @@
 -- What a client told and what waits to be told say, in order, what is due on each channel.
-use Rattle.std.proofs.Common.{◌≡◌, ◌⊎◌, ◌∙◌, refl, sym, ap, subst, inl, inr, ℕ, ◌+◌, ◌<◌, ◌≤◌, ◌==◌, ◌&&◌, Bool, true, false, cond, arith, eq-eqb, eqb-true, List, [], ◌∷◌, ◌++◌, length, map, fold, Some, None, Option, Result, append-nil, append_assoc, length-append}
+use Rattle.std.proofs.Common.{◌≡◌, ◌⊎◌, ◌∙◌, refl, sym, ap, subst, inl, inr, ℕ, ◌+◌, ◌<◌, ◌==◌, Bool, true, false, arith, eq-eqb, eqb-true, List, [], ◌∷◌, ◌++◌, length, map, fold, Some, None, Option, append-nil, append_assoc, length-append}
 use Rattle.std.specs.Prelude.{filter, if◌then◌else◌}
 use Rattle.std.specs.List.{AllByRecursion, AllZip, cons_option}
-use Rattle.std.specs.Map.{lookup}
 use Rattle.std.specs.Option.{IfSome, option_map_or}
-use Rattle.std.specs.Ordering.{nat_cmp}
-use Rattle.std.specs.BTreeMap.{is_at}
 use Rattle.std.proofs.lemmas.List.Elements.{filter-append}
 use Rattle.std.proofs.lemmas.List.{map-append}
 use Rattle.rd_base.specs.declared.journal.Key.{Key}
@@ -21,7 +18,7 @@ use Rattle.rd_drive.proofs.AllLemmas.{all_append}
 use Rattle.rd_hello.specs.declared.client.ClientState.{ClientState}
 use Rattle.rd_journals.proofs.ChannelLemmas.{all_refreshed, begun_on}
 use Rattle.rd_printer.specs.Cache.{CacheState}
-use Rattle.rd_runs.proofs.Parts.{IsBehind, MayBe, Part, adds_one, announced_by, begins, by_parts, client_hears_one, client_sends_one, cut_by, done, ends, refreshed_by, removes_one, told_added, told_removed}
+use Rattle.rd_runs.proofs.Parts.{IsBehind, MayBe, Part, adds_one, announced_by, begins, by_parts, client_hears_one, client_sends_one, done, ends, refreshed_by, removes_one, told_added, told_removed}
 use Rattle.rd_runs.proofs.Reaching.{both}
 use Rattle.rd_runs.proofs.Standing.{Stands, needs_open}
 use Rattle.rd_runs.proofs.Together.{knows}
@@ -38,18 +35,18 @@ use Rattle.rd_world.specs.Devices.{Declared, PrinterNames, device_cut, printer_d
 use Rattle.rd_world.specs.Events.{connects, cutting, deed_on, dropping, is_channel_open, is_ready, refreshing}
 use Rattle.rd_world.specs.Hearing.{client_hears, with_client}
 use Rattle.rd_world.specs.Opening.{bare_lines}
-use Rattle.rd_world.specs.Run.{declared_devices, printers_of, world_of}
-use Rattle.rd_world.specs.Talk.{Deed, adds, client_reads, client_writes, completes, host_begins, host_ends, is_open_at, is_removed, on, open_channel, removes, until_begin}
-use Rattle.rd_world.specs.World.{WorldState, client_sends, ending, station_at, with_deed, with_station}
+use Rattle.rd_world.specs.Run.{declared_devices, world_of}
+use Rattle.rd_world.specs.Talk.{Deed, adds, client_reads, client_writes, completes, host_begins, host_ends, is_open_at, is_removed, open_channel, removes, until_begin}
+use Rattle.rd_world.specs.World.{WorldState, client_sends, with_station}
 use Rattle.rd_world.specs.declared.device.SessionDevice.{SessionDevice}
 use Rattle.rd_acted.proofs.DataLemmas.{HasBody, IsShaped, added_shaped, fresh_all, fresh_one, removed_shaped, shaped_more, zip_as, zip_map}
 use Rattle.rd_acted.proofs.ListLemmas.{first_list, first_shaped, one_list}
-use Rattle.rd_acted.proofs.PassingLemmas.{IsQuiet, Left, all_dropped_unspoken, left_unspoken, quiet_unspoken}
-use Rattle.rd_acted.proofs.QuietLemmas.{AreUntold, HearsTo, Unspoken, announced_unspoken, hears_to, hears_unspoken, option_unspoken, read_by, stationed_unspoken, unspoken_by, unspoken_deeds}
+use Rattle.rd_acted.proofs.PassingLemmas.{Left, all_dropped_unspoken, left_unspoken, quiet_unspoken}
+use Rattle.rd_acted.proofs.QuietLemmas.{AreUntold, HearsTo, Unspoken, hears_to, hears_unspoken, option_unspoken, read_by, stationed_unspoken, unspoken_deeds}
 use Rattle.rd_acted.proofs.ReadLemmas.{behind_read_as, part_well}
 use Rattle.rd_acted.proofs.SayingLemmas.{completes_tell, say_as, say_both, say_fewer, say_more, say_none, writes_tell}
 use Rattle.rd_acted.specs.Acted.{AreReadWell, SayFirst, due_on, there_of}
-use Rattle.rd_acted.specs.Waiting.{waiting}
+use Rattle.rd_acted.specs.Waiting.{tellings_waiting}
 
 -- a message that answers a request tells nothing of devices
 abbrev pub AnswersUntold : Outgoing → Type 0
@@ -65,11 +62,11 @@ pub record TellsAs (devices : List (ℕ × Declared)) (w : WorldState) : Type 0 
   pub shaped : AllZip (IsShaped (ids_in devices) w.printers w.deeds) devices (w.client).devices
   pub bodies : open_channel w.deeds ≡ Some w.channels → client_ready w ≡ false → AllZip (HasBody (cache_after (until_begin w.channels w.deeds))) devices (w.client).devices
   pub each : (c : ℕ) → SayFirst (Tells devices w.deeds c) (tellings_on c w.deeds) (due_on (ids_in devices) c w.deeds)
-  pub now : SayFirst (Tells devices w.deeds w.channels) (tellings_on w.channels w.deeds ++ waiting ((w.client).core).outbox) (due_on (ids_in devices) w.channels w.deeds)
+  pub now : SayFirst (Tells devices w.deeds w.channels) (tellings_on w.channels w.deeds ++ tellings_waiting ((w.client).core).outbox) (due_on (ids_in devices) w.channels w.deeds)
   pub all : open_channel w.deeds ≡ Some w.channels → client_ready w ≡ true
-      → length (tellings_on w.channels w.deeds ++ waiting ((w.client).core).outbox) ≡ length (due_on (ids_in devices) w.channels w.deeds)
+      → length (tellings_on w.channels w.deeds ++ tellings_waiting ((w.client).core).outbox) ≡ length (due_on (ids_in devices) w.channels w.deeds)
   pub first : open_channel w.deeds ≡ Some w.channels → client_ready w ≡ false
-      → (tellings_on w.channels w.deeds ++ waiting ((w.client).core).outbox ≡ []) × (due_on (ids_in devices) w.channels w.deeds ≡ lists (there_of (ids_in devices) w.deeds) ∷ [])
+      → (tellings_on w.channels w.deeds ++ tellings_waiting ((w.client).core).outbox ≡ []) × (due_on (ids_in devices) w.channels w.deeds ≡ lists (there_of (ids_in devices) w.deeds) ∷ [])
   pub above : (c : ℕ) → w.channels < c → due_on (ids_in devices) c w.deeds ≡ []
   pub answers : AllByRecursion AnswersUntold ((w.client).core).outbox
 
@@ -81,19 +78,19 @@ tells_later devices c more old new is same (removal device) m told = told
 tells_later devices c more old new is same (addition device count) m (since, before, parts, many, told) =
     (more ++ since, before, is ∙ ap (λ (ds : List Deed). more ++ ds) parts ∙ sym (append_assoc more since (adds device ∷ before)), many, told)
 
-waiting_untold : (os more : List Outgoing) → AreUntold more → waiting (os ++ more) ≡ waiting os
+waiting_untold : (os more : List Outgoing) → AreUntold more → tellings_waiting (os ++ more) ≡ tellings_waiting os
 waiting_untold os more untold =
     ap (filter is_telling) (map-append (λ (o : Outgoing). o.message) os more) ∙ filter-append is_telling (map (λ (o : Outgoing). o.message) os) (map (λ (o : Outgoing). o.message) more)
-    ∙ ap (λ (ms : List (List ℕ)). waiting os ++ ms) (none more untold) ∙ append-nil (waiting os)
+    ∙ ap (λ (ms : List (List ℕ)). tellings_waiting os ++ ms) (none more untold) ∙ append-nil (tellings_waiting os)
   where
-    none : (xs : List Outgoing) → AreUntold xs → waiting xs ≡ []
+    none : (xs : List Outgoing) → AreUntold xs → tellings_waiting xs ≡ []
     none [] all = refl
     none (x ∷ xs) all = rw (all.0) (none xs all.1)
 
-waiting_told : (os : List Outgoing) (m : List ℕ) → is_telling m ≡ true → waiting (os ++ plain m ∷ []) ≡ waiting os ++ m ∷ []
+waiting_told : (os : List Outgoing) (m : List ℕ) → is_telling m ≡ true → tellings_waiting (os ++ plain m ∷ []) ≡ tellings_waiting os ++ m ∷ []
 waiting_told os m told =
     ap (filter is_telling) (map-append (λ (o : Outgoing). o.message) os (plain m ∷ [])) ∙ filter-append is_telling (map (λ (o : Outgoing). o.message) os) (m ∷ [])
-    ∙ ap (λ (b : Bool). waiting os ++ (if b then m ∷ [] else [])) told
+    ∙ ap (λ (b : Bool). tellings_waiting os ++ (if b then m ∷ [] else [])) told
 
 answers_untold : (os : List Outgoing) → AreUntold os → AllByRecursion AnswersUntold os
 answers_untold [] all = tt
@@ -112,9 +109,9 @@ unspoken_tells devices w v u t = record {
       subst (λ (ds : List ClientDevice). AllZip (HasBody (cache_after (until_begin v.channels v.deeds))) devices ds) (sym u.devices)
       (subst (λ (ds : List Deed). AllZip (HasBody (cache_after ds)) devices (w.client).devices) (sym until_same) (t.bodies (open_same opened) (sym u.ready ∙ unready)));
   each = λ c. later c (subst (λ (ms : List (List ℕ)). SayFirst (Tells devices w.deeds c) ms (due_on ids c v.deeds)) (sym (left.told c)) (subst (λ (ts : List Telling). SayFirst (Tells devices w.deeds c) (tellings_on c w.deeds) ts) (sym (left.due ids c)) (t.each c)));
-  now = subst (λ (n : ℕ). SayFirst (Tells devices v.deeds n) (tellings_on n v.deeds ++ waiting ((v.client).core).outbox) (due_on ids n v.deeds)) (sym u.channels)
+  now = subst (λ (n : ℕ). SayFirst (Tells devices v.deeds n) (tellings_on n v.deeds ++ tellings_waiting ((v.client).core).outbox) (due_on ids n v.deeds)) (sym u.channels)
       (later_now (subst (λ (ms : List (List ℕ)). SayFirst (Tells devices w.deeds w.channels) ms (due_on ids w.channels v.deeds)) (sym now_same)
-      (subst (λ (ts : List Telling). SayFirst (Tells devices w.deeds w.channels) (tellings_on w.channels w.deeds ++ waiting ((w.client).core).outbox) ts) (sym (left.due ids w.channels)) t.now)));
+      (subst (λ (ts : List Telling). SayFirst (Tells devices w.deeds w.channels) (tellings_on w.channels w.deeds ++ tellings_waiting ((w.client).core).outbox) ts) (sym (left.due ids w.channels)) t.now)));
   all = λ opened ready. ap length now_at ∙ t.all (open_same opened) (sym u.ready ∙ ready) ∙ ap length (sym due_at);
   first = λ opened unready.
       let (none, due) = t.first (open_same opened) (sym u.ready ∙ unready) in
@@ -138,23 +135,23 @@ unspoken_tells devices w v u t = record {
     later : (c : ℕ) → SayFirst (Tells devices w.deeds c) (tellings_on c v.deeds) (due_on ids c v.deeds) → SayFirst (Tells devices v.deeds c) (tellings_on c v.deeds) (due_on ids c v.deeds)
     later c is = say_as (Tells devices w.deeds c) (Tells devices v.deeds c) (tells_later devices c u.more w.deeds v.deeds u.deeds (left.begun c)) (tellings_on c v.deeds) (due_on ids c v.deeds) is
 
-    now_same : tellings_on w.channels v.deeds ++ waiting ((v.client).core).outbox ≡ tellings_on w.channels w.deeds ++ waiting ((w.client).core).outbox
+    now_same : tellings_on w.channels v.deeds ++ tellings_waiting ((v.client).core).outbox ≡ tellings_on w.channels w.deeds ++ tellings_waiting ((w.client).core).outbox
     now_same =
-        ap (λ (ms : List (List ℕ)). ms ++ waiting ((v.client).core).outbox) (left.told w.channels)
-        ∙ ap (λ (os : List Outgoing). tellings_on w.channels w.deeds ++ waiting os) u.outbox
+        ap (λ (ms : List (List ℕ)). ms ++ tellings_waiting ((v.client).core).outbox) (left.told w.channels)
+        ∙ ap (λ (os : List Outgoing). tellings_on w.channels w.deeds ++ tellings_waiting os) u.outbox
         ∙ ap (λ (ms : List (List ℕ)). tellings_on w.channels w.deeds ++ ms) (waiting_untold ((w.client).core).outbox u.others u.untold)
 
-    now_at : tellings_on v.channels v.deeds ++ waiting ((v.client).core).outbox ≡ tellings_on w.channels w.deeds ++ waiting ((w.client).core).outbox
-    now_at = ap (λ (n : ℕ). tellings_on n v.deeds ++ waiting ((v.client).core).outbox) u.channels ∙ now_same
+    now_at : tellings_on v.channels v.deeds ++ tellings_waiting ((v.client).core).outbox ≡ tellings_on w.channels w.deeds ++ tellings_waiting ((w.client).core).outbox
+    now_at = ap (λ (n : ℕ). tellings_on n v.deeds ++ tellings_waiting ((v.client).core).outbox) u.channels ∙ now_same
 
     due_at : due_on ids v.channels v.deeds ≡ due_on ids w.channels w.deeds
     due_at = ap (λ (n : ℕ). due_on ids n v.deeds) u.channels ∙ left.due ids w.channels
 
-    later_now : SayFirst (Tells devices w.deeds w.channels) (tellings_on w.channels v.deeds ++ waiting ((v.client).core).outbox) (due_on ids w.channels v.deeds)
-        → SayFirst (Tells devices v.deeds w.channels) (tellings_on w.channels v.deeds ++ waiting ((v.client).core).outbox) (due_on ids w.channels v.deeds)
+    later_now : SayFirst (Tells devices w.deeds w.channels) (tellings_on w.channels v.deeds ++ tellings_waiting ((v.client).core).outbox) (due_on ids w.channels v.deeds)
+        → SayFirst (Tells devices v.deeds w.channels) (tellings_on w.channels v.deeds ++ tellings_waiting ((v.client).core).outbox) (due_on ids w.channels v.deeds)
     later_now is =
         say_as (Tells devices w.deeds w.channels) (Tells devices v.deeds w.channels) (tells_later devices w.channels u.more w.deeds v.deeds u.deeds (left.begun w.channels))
-        (tellings_on w.channels v.deeds ++ waiting ((v.client).core).outbox) (due_on ids w.channels v.deeds) is
+        (tellings_on w.channels v.deeds ++ tellings_waiting ((v.client).core).outbox) (due_on ids w.channels v.deeds) is
 
     there_same : there_of ids v.deeds ≡ there_of ids w.deeds
     there_same = go ids
@@ -182,8 +179,8 @@ moved_tells : (devices : List (ℕ × Declared)) (w v : WorldState) (x : Deed) (
     → ((v.client).core).shake ≡ ((w.client).core).shake → (v.client).devices ≡ (w.client).devices → v.printers ≡ w.printers → v.channels ≡ w.channels
     → ((d : ℕ) → is_removed d (x ∷ w.deeds) ≡ is_removed d w.deeds) → ((c : ℕ) → until_begin c (x ∷ w.deeds) ≡ until_begin c w.deeds) → open_channel (x ∷ w.deeds) ≡ open_channel w.deeds
     → ((ids : List ℕ) (c : ℕ) → due_on ids c (x ∷ w.deeds) ≡ due_on ids c w.deeds)
-    → ((c : ℕ) → (tellings_on c (x ∷ w.deeds) ≡ tellings_on c w.deeds) ⊎ ((c ≡ w.channels) × ((more : List (List ℕ)) × (tellings_on w.channels w.deeds ++ waiting ((w.client).core).outbox ≡ tellings_on c (x ∷ w.deeds) ++ more))))
-    → tellings_on w.channels (x ∷ w.deeds) ++ waiting rest ≡ tellings_on w.channels w.deeds ++ waiting (o ∷ rest) → TellsAs devices w → TellsAs devices v
+    → ((c : ℕ) → (tellings_on c (x ∷ w.deeds) ≡ tellings_on c w.deeds) ⊎ ((c ≡ w.channels) × ((more : List (List ℕ)) × (tellings_on w.channels w.deeds ++ tellings_waiting ((w.client).core).outbox ≡ tellings_on c (x ∷ w.deeds) ++ more))))
+    → tellings_on w.channels (x ∷ w.deeds) ++ tellings_waiting rest ≡ tellings_on w.channels w.deeds ++ tellings_waiting (o ∷ rest) → TellsAs devices w → TellsAs devices v
 moved_tells devices w v x o rest deeds outbox left_over shake same_devices printers channels removed begun opened due told moved t = record {
   shaped = subst (λ (ds : List ClientDevice). AllZip (IsShaped ids v.printers v.deeds) devices ds) (sym same_devices)
       (zip_as (IsShaped ids w.printers w.deeds) (IsShaped ids v.printers v.deeds)
@@ -192,11 +189,11 @@ moved_tells devices w v x o rest deeds outbox left_over shake same_devices print
       subst (λ (ds : List ClientDevice). AllZip (HasBody (cache_after (until_begin v.channels v.deeds))) devices ds) (sym same_devices)
       (subst (λ (ds : List Deed). AllZip (HasBody (cache_after ds)) devices (w.client).devices) (sym until_same) (t.bodies (open_same is_open) (sym ready_same ∙ unready)));
   each = λ c. subst (λ (ds : List Deed). SayFirst (Tells devices ds c) (tellings_on c ds) (due_on ids c ds)) (sym deeds) (each_one c);
-  now = subst (λ (n : ℕ). SayFirst (Tells devices v.deeds n) (tellings_on n v.deeds ++ waiting ((v.client).core).outbox) (due_on ids n v.deeds)) (sym channels)
+  now = subst (λ (n : ℕ). SayFirst (Tells devices v.deeds n) (tellings_on n v.deeds ++ tellings_waiting ((v.client).core).outbox) (due_on ids n v.deeds)) (sym channels)
       (subst (λ (ms : List (List ℕ)). SayFirst (Tells devices v.deeds w.channels) ms (due_on ids w.channels v.deeds)) (sym now_same)
-      (subst (λ (ts : List Telling). SayFirst (Tells devices v.deeds w.channels) (tellings_on w.channels w.deeds ++ waiting ((w.client).core).outbox) ts) (sym due_same)
+      (subst (λ (ts : List Telling). SayFirst (Tells devices v.deeds w.channels) (tellings_on w.channels w.deeds ++ tellings_waiting ((w.client).core).outbox) ts) (sym due_same)
       (say_as (Tells devices w.deeds w.channels) (Tells devices v.deeds w.channels) (tells_later devices w.channels (x ∷ []) w.deeds v.deeds deeds (ap (until_begin w.channels) deeds ∙ begun w.channels))
-      (tellings_on w.channels w.deeds ++ waiting ((w.client).core).outbox) (due_on ids w.channels w.deeds) t.now)));
+      (tellings_on w.channels w.deeds ++ tellings_waiting ((w.client).core).outbox) (due_on ids w.channels w.deeds) t.now)));
   all = λ is_open ready. ap length now_at ∙ t.all (open_same is_open) (sym ready_same ∙ ready) ∙ ap length (sym due_at);
   first = λ is_open unready.
       let (none, due_first) = t.first (open_same is_open) (sym ready_same ∙ unready) in
@@ -217,13 +214,13 @@ moved_tells devices w v x o rest deeds outbox left_over shake same_devices print
     open_same : open_channel v.deeds ≡ Some v.channels → open_channel w.deeds ≡ Some w.channels
     open_same is_open = sym (ap open_channel deeds ∙ opened) ∙ is_open ∙ ap (λ (n : ℕ). Some n) channels
 
-    now_same : tellings_on w.channels v.deeds ++ waiting ((v.client).core).outbox ≡ tellings_on w.channels w.deeds ++ waiting ((w.client).core).outbox
+    now_same : tellings_on w.channels v.deeds ++ tellings_waiting ((v.client).core).outbox ≡ tellings_on w.channels w.deeds ++ tellings_waiting ((w.client).core).outbox
     now_same =
-        ap (λ (os : List Outgoing). tellings_on w.channels v.deeds ++ waiting os) left_over ∙ ap (λ (ds : List Deed). tellings_on w.channels ds ++ waiting rest) deeds ∙ moved
-        ∙ ap (λ (os : List Outgoing). tellings_on w.channels w.deeds ++ waiting os) (sym outbox)
+        ap (λ (os : List Outgoing). tellings_on w.channels v.deeds ++ tellings_waiting os) left_over ∙ ap (λ (ds : List Deed). tellings_on w.channels ds ++ tellings_waiting rest) deeds ∙ moved
+        ∙ ap (λ (os : List Outgoing). tellings_on w.channels w.deeds ++ tellings_waiting os) (sym outbox)
 
-    now_at : tellings_on v.channels v.deeds ++ waiting ((v.client).core).outbox ≡ tellings_on w.channels w.deeds ++ waiting ((w.client).core).outbox
-    now_at = ap (λ (n : ℕ). tellings_on n v.deeds ++ waiting ((v.client).core).outbox) channels ∙ now_same
+    now_at : tellings_on v.channels v.deeds ++ tellings_waiting ((v.client).core).outbox ≡ tellings_on w.channels w.deeds ++ tellings_waiting ((w.client).core).outbox
+    now_at = ap (λ (n : ℕ). tellings_on n v.deeds ++ tellings_waiting ((v.client).core).outbox) channels ∙ now_same
 
     due_same : due_on ids w.channels v.deeds ≡ due_on ids w.channels w.deeds
     due_same = ap (due_on ids w.channels) deeds ∙ due ids w.channels
@@ -248,7 +245,7 @@ moved_tells devices w v x o rest deeds outbox left_over shake same_devices print
               let (more, is) = own.1 in
               say_fewer (Tells devices w.deeds c) (tellings_on c (x ∷ w.deeds)) more (due_on ids c w.deeds)
               (subst (λ (ms : List (List ℕ)). SayFirst (Tells devices w.deeds c) ms (due_on ids c w.deeds)) is
-              (subst (λ (n : ℕ). SayFirst (Tells devices w.deeds n) (tellings_on w.channels w.deeds ++ waiting ((w.client).core).outbox) (due_on ids n w.deeds)) (sym here) t.now))
+              (subst (λ (n : ℕ). SayFirst (Tells devices w.deeds n) (tellings_on w.channels w.deeds ++ tellings_waiting ((w.client).core).outbox) (due_on ids n w.deeds)) (sym here) t.now))
         ]))
 
 sends_tells : (devices : List (ℕ × Declared)) (w : WorldState) (d : ClientCoreState) (o : Outgoing) → client.client_send w.client ≡ (d, Some o) → TellsAs devices w
@@ -266,39 +263,39 @@ sends_tells devices w d o made t =
         here = writes_tell w.channels w.channels o.message w.deeds
             ∙ ap (λ (b : Bool). tellings_on w.channels w.deeds ++ filter is_telling (cons_option (if b then Some o.message else None) [])) (eq-eqb w.channels w.channels refl)
 
-        joined : waiting (o ∷ rest) ≡ filter is_telling (o.message ∷ []) ++ waiting rest
+        joined : tellings_waiting (o ∷ rest) ≡ filter is_telling (o.message ∷ []) ++ tellings_waiting rest
         joined = filter-append is_telling (o.message ∷ []) (map (λ (x : Outgoing). x.message) rest)
 
-        moved : tellings_on w.channels (client_writes w.channels o.message ∷ w.deeds) ++ waiting rest ≡ tellings_on w.channels w.deeds ++ waiting (o ∷ rest)
-        moved = ap (λ (ms : List (List ℕ)). ms ++ waiting rest) here ∙ append_assoc (tellings_on w.channels w.deeds) (filter is_telling (o.message ∷ [])) (waiting rest) ∙ ap (λ (ms : List (List ℕ)). tellings_on w.channels w.deeds ++ ms) (sym joined)
+        moved : tellings_on w.channels (client_writes w.channels o.message ∷ w.deeds) ++ tellings_waiting rest ≡ tellings_on w.channels w.deeds ++ tellings_waiting (o ∷ rest)
+        moved = ap (λ (ms : List (List ℕ)). ms ++ tellings_waiting rest) here ∙ append_assoc (tellings_on w.channels w.deeds) (filter is_telling (o.message ∷ [])) (tellings_waiting rest) ∙ ap (λ (ms : List (List ℕ)). tellings_on w.channels w.deeds ++ ms) (sym joined)
 
         told : (c : ℕ) → (tellings_on c (client_writes w.channels o.message ∷ w.deeds) ≡ tellings_on c w.deeds)
-            ⊎ ((c ≡ w.channels) × ((more : List (List ℕ)) × (tellings_on w.channels w.deeds ++ waiting ((w.client).core).outbox ≡ tellings_on c (client_writes w.channels o.message ∷ w.deeds) ++ more)))
+            ⊎ ((c ≡ w.channels) × ((more : List (List ℕ)) × (tellings_on w.channels w.deeds ++ tellings_waiting ((w.client).core).outbox ≡ tellings_on c (client_writes w.channels o.message ∷ w.deeds) ++ more)))
         told c = at (w.channels == c) refl
           where
             at : (b : Bool) → (w.channels == c) ≡ b → (tellings_on c (client_writes w.channels o.message ∷ w.deeds) ≡ tellings_on c w.deeds)
-                ⊎ ((c ≡ w.channels) × ((more : List (List ℕ)) × (tellings_on w.channels w.deeds ++ waiting ((w.client).core).outbox ≡ tellings_on c (client_writes w.channels o.message ∷ w.deeds) ++ more)))
+                ⊎ ((c ≡ w.channels) × ((more : List (List ℕ)) × (tellings_on w.channels w.deeds ++ tellings_waiting ((w.client).core).outbox ≡ tellings_on c (client_writes w.channels o.message ∷ w.deeds) ++ more)))
             at true f =
                 let same : w.channels ≡ c = eqb-true w.channels c f in
                 inr (sym same, (
-                  waiting rest,
-                  ap (λ (os : List Outgoing). tellings_on w.channels w.deeds ++ waiting os) outbox ∙ sym moved
-                  ∙ ap (λ (n : ℕ). tellings_on n (client_writes w.channels o.message ∷ w.deeds) ++ waiting rest) same,
+                  tellings_waiting rest,
+                  ap (λ (os : List Outgoing). tellings_on w.channels w.deeds ++ tellings_waiting os) outbox ∙ sym moved
+                  ∙ ap (λ (n : ℕ). tellings_on n (client_writes w.channels o.message ∷ w.deeds) ++ tellings_waiting rest) same,
                 ))
             at false f =
                 inl (writes_tell c w.channels o.message w.deeds ∙ ap (λ (b : Bool). tellings_on c w.deeds ++ filter is_telling (cons_option (if b then Some o.message else None) [])) f
                 ∙ append-nil (tellings_on c w.deeds))
     by rest outbox (Some key) e =
         moved_tells devices w _ (completes key o.message) o rest refl outbox refl refl refl refl refl (λ k. refl) (λ c. refl) refl (λ ids c. refl) (λ c. inl (completes_tell c key o.message w.deeds none))
-        (ap (λ (ms : List (List ℕ)). ms ++ waiting rest) (completes_tell w.channels key o.message w.deeds none)
-        ∙ ap (λ (b : Bool). tellings_on w.channels w.deeds ++ (if b then o.message ∷ waiting rest else waiting rest)) (sym none)) t
+        (ap (λ (ms : List (List ℕ)). ms ++ tellings_waiting rest) (completes_tell w.channels key o.message w.deeds none)
+        ∙ ap (λ (b : Bool). tellings_on w.channels w.deeds ++ (if b then o.message ∷ tellings_waiting rest else tellings_waiting rest)) (sym none)) t
       where
         none : is_telling o.message ≡ false
         none = subst (λ (k : Option Key). IfSome k (λ (i : Key). is_telling o.message ≡ false)) e (subst (λ (os : List Outgoing). AllByRecursion AnswersUntold os) outbox t.answers).0
 
 -- ---- a message is heard
 
-telling_list : (list : List ℕ) → is_telling list ≡ true → (os more : List Outgoing) → AreUntold more → waiting ((os ++ more) ++ plain list ∷ []) ≡ waiting os ++ list ∷ []
+telling_list : (list : List ℕ) → is_telling list ≡ true → (os more : List Outgoing) → AreUntold more → tellings_waiting ((os ++ more) ++ plain list ∷ []) ≡ tellings_waiting os ++ list ∷ []
 telling_list list told os more untold = waiting_told (os ++ more) list told ∙ ap (λ (ms : List (List ℕ)). ms ++ list ∷ []) (waiting_untold os more untold)
 
 pub list_is_telling : (c : ClientCoreState) → is_telling (list_bytes (listed c)) ≡ true
@@ -332,10 +329,10 @@ read_tells devices w m d opened h t = elim h.either [ inl kept ↦ quietly kept 
     opening : (is_client_ready ((w.client).core).shake ≡ false) × (is_client_ready (d.core).shake ≡ true) × ((d.core).outbox ≡ (((w.client).core).outbox ++ h.more) ++ plain (list_bytes (listed w.client)) ∷ []) → TellsAs devices (read_by w m d)
     opening (was, is, outbox) =
         let (none, due) = t.first opened was in
-        let now_is : tellings_on w.channels w.deeds ++ waiting (d.core).outbox ≡ list_bytes (listed w.client) ∷ [] =
-        ap (λ (os : List Outgoing). tellings_on w.channels w.deeds ++ waiting os) outbox
+        let now_is : tellings_on w.channels w.deeds ++ tellings_waiting (d.core).outbox ≡ list_bytes (listed w.client) ∷ [] =
+        ap (λ (os : List Outgoing). tellings_on w.channels w.deeds ++ tellings_waiting os) outbox
         ∙ ap (λ (ms : List (List ℕ)). tellings_on w.channels w.deeds ++ ms) (telling_list (list_bytes (listed w.client)) (list_is_telling w.client) ((w.client).core).outbox h.more h.untold)
-        ∙ sym (append_assoc (tellings_on w.channels w.deeds) (waiting ((w.client).core).outbox) (list_bytes (listed w.client) ∷ []))
+        ∙ sym (append_assoc (tellings_on w.channels w.deeds) (tellings_waiting ((w.client).core).outbox) (list_bytes (listed w.client) ∷ []))
         ∙ ap (λ (ms : List (List ℕ)). ms ++ list_bytes (listed w.client) ∷ []) none in
         record {
           shaped = subst (λ (ds : List ClientDevice). AllZip (IsShaped (ids_in devices) w.printers (client_reads w.channels m ∷ w.deeds)) devices ds) (sym h.devices)
@@ -389,16 +386,16 @@ one_more devices w v x m thing deeds outbox ready was_ready channels opened shap
       (subst (λ (ms : List (List ℕ)). SayFirst (Tells devices (x ∷ w.deeds) c) ms (due_on ids c (x ∷ w.deeds))) (sym (told c))
       (subst (λ (ts : List Telling). SayFirst (Tells devices (x ∷ w.deeds) c) (tellings_on c w.deeds) ts) (sym (due c))
       (say_more (Tells devices (x ∷ w.deeds) c) (tellings_on c w.deeds) (due_on ids c w.deeds) (if is_open_at c w.deeds then thing ∷ [] else []) (later c (tellings_on c w.deeds) (due_on ids c w.deeds) (t.each c)))));
-  now = subst (λ (n : ℕ). SayFirst (Tells devices v.deeds n) (tellings_on n v.deeds ++ waiting ((v.client).core).outbox) (due_on ids n v.deeds)) (sym channels)
-      (subst (λ (ds : List Deed). SayFirst (Tells devices ds w.channels) (tellings_on w.channels v.deeds ++ waiting ((v.client).core).outbox) (due_on ids w.channels v.deeds)) (sym deeds)
+  now = subst (λ (n : ℕ). SayFirst (Tells devices v.deeds n) (tellings_on n v.deeds ++ tellings_waiting ((v.client).core).outbox) (due_on ids n v.deeds)) (sym channels)
+      (subst (λ (ds : List Deed). SayFirst (Tells devices ds w.channels) (tellings_on w.channels v.deeds ++ tellings_waiting ((v.client).core).outbox) (due_on ids w.channels v.deeds)) (sym deeds)
       (subst (λ (ms : List (List ℕ)). SayFirst (Tells devices (x ∷ w.deeds) w.channels) ms (due_on ids w.channels v.deeds)) (sym now_same)
-      (subst (λ (ts : List Telling). SayFirst (Tells devices (x ∷ w.deeds) w.channels) ((tellings_on w.channels w.deeds ++ waiting ((w.client).core).outbox) ++ m ∷ []) ts) (sym due_same)
-      (say_both (Tells devices (x ∷ w.deeds) w.channels) (tellings_on w.channels w.deeds ++ waiting ((w.client).core).outbox) (due_on ids w.channels w.deeds) m thing (t.all opened was_ready) says
-      (later w.channels (tellings_on w.channels w.deeds ++ waiting ((w.client).core).outbox) (due_on ids w.channels w.deeds) t.now)))));
+      (subst (λ (ts : List Telling). SayFirst (Tells devices (x ∷ w.deeds) w.channels) ((tellings_on w.channels w.deeds ++ tellings_waiting ((w.client).core).outbox) ++ m ∷ []) ts) (sym due_same)
+      (say_both (Tells devices (x ∷ w.deeds) w.channels) (tellings_on w.channels w.deeds ++ tellings_waiting ((w.client).core).outbox) (due_on ids w.channels w.deeds) m thing (t.all opened was_ready) says
+      (later w.channels (tellings_on w.channels w.deeds ++ tellings_waiting ((w.client).core).outbox) (due_on ids w.channels w.deeds) t.now)))));
   all = λ is_open is_ready.
-      let at_now = ap (λ (n : ℕ). length (tellings_on n v.deeds ++ waiting ((v.client).core).outbox)) channels ∙ ap length now_same in
+      let at_now = ap (λ (n : ℕ). length (tellings_on n v.deeds ++ tellings_waiting ((v.client).core).outbox)) channels ∙ ap length now_same in
       let at_due = ap (λ (n : ℕ). length (due_on ids n v.deeds)) channels ∙ ap length due_same in
-      at_now ∙ length-append (tellings_on w.channels w.deeds ++ waiting ((w.client).core).outbox) (m ∷ []) ∙ ap (λ (k : ℕ). k + 1) (t.all opened was_ready)
+      at_now ∙ length-append (tellings_on w.channels w.deeds ++ tellings_waiting ((w.client).core).outbox) (m ∷ []) ∙ ap (λ (k : ℕ). k + 1) (t.all opened was_ready)
       ∙ sym (length-append (due_on ids w.channels w.deeds) (thing ∷ [])) ∙ sym at_due;
   first = λ is_open unready. absurd (cc (ready, unready));
   above = λ c over.
@@ -414,11 +411,11 @@ one_more devices w v x m thing deeds outbox ready was_ready channels opened shap
     later : (c : ℕ) (ms : List (List ℕ)) (ts : List Telling) → SayFirst (Tells devices w.deeds c) ms ts → SayFirst (Tells devices (x ∷ w.deeds) c) ms ts
     later c ms ts is = say_as (Tells devices w.deeds c) (Tells devices (x ∷ w.deeds) c) (tells_later devices c (x ∷ []) w.deeds (x ∷ w.deeds) refl (begun c)) ms ts is
 
-    now_same : tellings_on w.channels v.deeds ++ waiting ((v.client).core).outbox ≡ (tellings_on w.channels w.deeds ++ waiting ((w.client).core).outbox) ++ m ∷ []
+    now_same : tellings_on w.channels v.deeds ++ tellings_waiting ((v.client).core).outbox ≡ (tellings_on w.channels w.deeds ++ tellings_waiting ((w.client).core).outbox) ++ m ∷ []
     now_same =
-        ap (λ (ds : List Deed). tellings_on w.channels ds ++ waiting ((v.client).core).outbox) deeds ∙ ap (λ (ms : List (List ℕ)). ms ++ waiting ((v.client).core).outbox) (told w.channels)
-        ∙ ap (λ (os : List Outgoing). tellings_on w.channels w.deeds ++ waiting os) outbox ∙ ap (λ (ms : List (List ℕ)). tellings_on w.channels w.deeds ++ ms) (waiting_told ((w.client).core).outbox m telling)
-        ∙ sym (append_assoc (tellings_on w.channels w.deeds) (waiting ((w.client).core).outbox) (m ∷ []))
+        ap (λ (ds : List Deed). tellings_on w.channels ds ++ tellings_waiting ((v.client).core).outbox) deeds ∙ ap (λ (ms : List (List ℕ)). ms ++ tellings_waiting ((v.client).core).outbox) (told w.channels)
+        ∙ ap (λ (os : List Outgoing). tellings_on w.channels w.deeds ++ tellings_waiting os) outbox ∙ ap (λ (ms : List (List ℕ)). tellings_on w.channels w.deeds ++ ms) (waiting_told ((w.client).core).outbox m telling)
+        ∙ sym (append_assoc (tellings_on w.channels w.deeds) (tellings_waiting ((w.client).core).outbox) (m ∷ []))
 
     due_same : due_on ids w.channels v.deeds ≡ due_on ids w.channels w.deeds ++ thing ∷ []
     due_same = ap (due_on ids w.channels) deeds ∙ due w.channels ∙ ap (λ (b : Bool). due_on ids w.channels w.deeds ++ (if b then thing ∷ [] else [])) (own_open w.channels w.deeds opened)

@@ -1,35 +1,25 @@
 -- A station is live just while its device is there and told of; so a device is cut off as it is removed, and those that are there as their channel ends.
-use Rattle.std.proofs.Common.{◌≡◌, ◌≢◌, ◌⊎◌, ◌∙◌, refl, sym, ap, subst, inl, inr, ℕ, ◌+◌, ◌*◌, ◌<◌, ◌≤◌, ◌==◌, ◌&&◌, ◌||◌, Bool, true, false, cond, not, arith, eq-eqb, eqb-true, List, [], ◌∷◌, ◌++◌, length, map, reverse, fold, Some, None, Option, Result, Ok, Err, append-nil, append_assoc, is_some, length-append}
-use Rattle.std.specs.Prelude.{filter, filter_map, find, if◌then◌else◌, nat_le, nat_lt}
-use Rattle.std.specs.List.{AllByRecursion, AllZip, cons_option, list_any}
+use Rattle.std.proofs.Common.{◌≡◌, ◌∙◌, refl, sym, ap, subst, inl, inr, ℕ, ◌<◌, ◌≤◌, ◌==◌, ◌&&◌, ◌||◌, Bool, true, false, cond, not, arith, eq-eqb, eqb-true, List, [], ◌∷◌, ◌++◌, length, map, reverse, fold, Some, None, Option, Result, Ok, Err, append-nil, is_some}
+use Rattle.std.specs.Prelude.{filter, find, if◌then◌else◌, nat_le}
+use Rattle.std.specs.List.{AllZip, list_any}
 use Rattle.std.specs.List.Sorted.{IsStrictlySortedBy}
 use Rattle.std.specs.Map.{lookup}
-use Rattle.std.specs.Option.{IfSome, option_map_or}
+use Rattle.std.specs.Option.{option_map_or}
 use Rattle.std.specs.Ordering.{nat_cmp}
-use Rattle.std.specs.BTreeMap.{insert_entry, is_at}
+use Rattle.std.specs.BTreeMap.{is_at}
 use Rattle.std.proofs.lemmas.Bool.Decides.{nat_tests}
 use Rattle.std.proofs.lemmas.List.{length-reverse}
-use Rattle.rd_base.specs.declared.journal.Cause.TheVariants.{Dropped, Removed}
 use Rattle.rd_base.specs.declared.journal.Item.{Item}
-use Rattle.rd_base.specs.declared.journal.Item.TheVariants.{Came, Cancelled, Cut, Ran, Sent}
-use Rattle.rd_base.specs.declared.journal.Key.{Key}
-use Rattle.rd_client.specs.Core as client
-use Rattle.rd_client.specs.Core.{ClientCoreState, ClientDevice, Outgoing, announce_in, client_hear, has_device, is_device, is_gone, is_present, listed}
-use Rattle.rd_client.specs.Order.{is_client_ready}
-use Rattle.rd_client.specs.declared.heard.Heard.{Heard}
-use Rattle.rd_client.specs.declared.heard.Heard.TheVariants.{Nothing, Ask, Print}
-use Rattle.rd_controls.proofs.Numbers.{reverse_cons}
+use Rattle.rd_base.specs.declared.journal.Item.TheVariants.{Came, Cancelled, Ran, Sent}
+use Rattle.rd_client.specs.Core.{ClientDevice, announce_in, is_present}
 use Rattle.rd_controls.proofs.Unseen.{client_ready}
 use Rattle.rd_devices.specs.declared.list.Announce.{Announce}
 use Rattle.rd_drive.specs.Device.{is_parked, is_starved}
 use Rattle.rd_drive.specs.Stepped.{Stepped}
 use Rattle.rd_drive.specs.declared.plan.Job.{Job}
-use Rattle.rd_hello.specs.declared.client.ClientState.{ClientState}
-use Rattle.rd_hello.specs.declared.client.ClientState.TheVariants as state
-use Rattle.rd_hello.specs.declared.end_fault.EndFault.{EndFault}
 use Rattle.rd_irp.specs.Fits.{kind_of}
-use Rattle.rd_journals.proofs.HeldLemmas.{found_then, has_elsewhere, has_here, stored_deeds, turned_has}
-use Rattle.rd_journals.specs.Orderly.{HasStation, Orderly}
+use Rattle.rd_journals.proofs.HeldLemmas.{found_then, stored_deeds, turned_has}
+use Rattle.rd_journals.specs.Orderly.{Orderly}
 use Rattle.rd_station.proofs.Soundness.{few}
 use Rattle.rd_station.specs.Station as station
 use Rattle.rd_station.specs.Station.{StationState, entry_count, held, is_key, max_entries, put_refusal, put_unless}
@@ -44,19 +34,16 @@ use Rattle.rd_station.specs.declared.refusals.AnnounceNo.TheVariants as no
 use Rattle.rd_station.specs.declared.refusals.PutWhy.{PutWhy}
 use Rattle.rd_station.specs.declared.refusals.PutWhy.TheVariants as why
 use Rattle.rd_station.proofs.Holding.{size_held}
-use Rattle.rd_world.specs.Devices.{Declared, PrinterNames, device_cut, device_cuts, device_parked, device_runs}
-use Rattle.rd_world.specs.Control.{is_among}
-use Rattle.rd_world.specs.Events.{came_of}
-use Rattle.rd_world.specs.Hearing.{after_opening, announcing, client_hears, heard_by_client, put_at, put_by, putting}
-use Rattle.rd_world.specs.Talk.{Deed, Has, client_reads, completes, is_removed, journal, open_channel, removes, stores}
+use Rattle.rd_world.specs.Devices.{Declared, PrinterNames, device_cuts, device_parked, device_runs}
+use Rattle.rd_world.specs.Hearing.{announcing, put_at, put_by, putting}
+use Rattle.rd_world.specs.Talk.{Deed, Has, is_removed, journal, open_channel}
 use Rattle.rd_world.specs.Told.{worn_entries}
 use Rattle.rd_world.specs.World.{WorldState, station_at, with_station}
 use Rattle.rd_world.specs.declared.device.SessionDevice.{SessionDevice}
-use Rattle.rd_acted.proofs.CuttingLemmas.{AreCut, IsPlainDeed, IsPlainItem, Of, came_cut, is_live, plain_cut, plain_stores, same_keys}
+use Rattle.rd_acted.proofs.CuttingLemmas.{AreCut, IsPlainItem, Of, came_cut, plain_stores, same_keys}
 use Rattle.rd_acted.proofs.DataLemmas.{IsShaped, id_is}
-use Rattle.rd_acted.proofs.PassingLemmas.{Left, left_unspoken}
-use Rattle.rd_acted.proofs.QuietLemmas.{HearsTo, Unspoken, hears_to, read_by, stationed_unspoken, unspoken_deeds}
-use Rattle.rd_acted.proofs.ReadLemmas.{ready_by}
+use Rattle.rd_acted.proofs.PassingLemmas.{left_unspoken}
+use Rattle.rd_acted.proofs.QuietLemmas.{Unspoken, stationed_unspoken}
 use Rattle.rd_acted.proofs.TellLemmas.{ids_in}
 
 -- whether a device is there, and told of on the channel that is open

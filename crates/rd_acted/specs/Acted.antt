@@ -1,5 +1,5 @@
 -- What control lines do, by what was done: it follows from the acts alone.
-use Rattle.std.specs.Prelude.{◌≡◌, ◌≢◌, ◌<◌, ℕ, ◌==◌, not, if◌then◌else◌, List, [], ◌∷◌, ◌++◌, filter, filter_map, fold, length, reverse, Option, Some, None, IsSome}
+use Rattle.std.specs.Prelude.{◌≡◌, ◌≢◌, ◌<◌, ℕ, ◌==◌, Bool, not, if◌then◌else◌, List, [], ◌∷◌, ◌++◌, filter, filter_map, fold, length, reverse, Option, Some, None, IsSome}
 use Rattle.std.specs.Option.{option_and_then, option_map_or}
 use Rattle.rd_base.specs.declared.journal.Cause.TheVariants.{Removed}
 use Rattle.rd_client.specs.Core.{HostSays, client_side}
@@ -7,13 +7,15 @@ use Rattle.rd_core.specs.Hearing.{Meaning, nothing, opens, said, says, wrong}
 use Rattle.rd_hello.specs.declared.client.ClientState.{ClientState}
 use Rattle.rd_hello.specs.declared.client.ClientState.TheVariants.{Start}
 use Rattle.rd_printer.specs.declared.notice.Notice.{Notice}
+use Rattle.rd_controls.specs.Controls.{RestsAt}
+use Rattle.rd_base.specs.declared.journal.Key.{Key}
 use Rattle.rd_world.specs.Acts.{AreSaid, IsCutThere, IsDone, IsToldInTime, Tells, act_by, cause_in, control_at_end, control_by, is_add, is_errand_at, notices_on, of_channel, tellings_on}
 use Rattle.rd_world.specs.Devices.{Declared}
 use Rattle.rd_script.specs.declared.line.NumberedLine.{NumberedLine}
 use Rattle.rd_printer.specs.Notice.{notice_bytes}
 use Rattle.std.specs.List.Sorted.{IsStrictlyIncreasing}
 use Rattle.rd_world.specs.Control.{Act, Control, Telling, added, addition, additions, begun, dropped_at, ended, lists, noticed, present, removal, removed}
-use Rattle.rd_world.specs.Talk.{AtEachPoint, Deed, EachAfter, adds, client_read, has_ended, host_begins, host_ends, is_open_at, is_removed, journal, removes, tells}
+use Rattle.rd_world.specs.Talk.{AtEachPoint, Deed, EachAfter, adds, client_read, has_ended, host_begins, host_ends, is_open_at, is_removed, journal, open_channel, removes, tells}
 use Rattle.rd_world.specs.Told.{worn_entries}
 
 -- before the first channel
@@ -25,30 +27,30 @@ abbrev pub where_current : {A : Type 0} → Control → A → List (ℕ × A)
 where_current c x = option_map_or (λ channel. (channel, x) ∷ []) c.current []
 
 -- after an act
-abbrev pub after_act : Control → Act → Control
-after_act c (begun channel) = record c {
+abbrev pub with_act : Control → Act → Control
+with_act c (begun channel) = record c {
   current = Some channel;
   channels = channel;
   acts = c.acts ++ begun channel ∷ [];
   told = c.told ++ (channel, lists (present c)) ∷ [];
 }
-after_act c (ended channel) = dropped_at c channel
-after_act c (removed device) = record c {
+with_act c (ended channel) = dropped_at c channel
+with_act c (removed device) = record c {
   absent = c.absent ++ device ∷ [];
   acts = c.acts ++ removed device ∷ [];
   told = c.told ++ where_current c (removal device);
   cuts = c.cuts ++ (device, Removed) ∷ [];
 }
-after_act c (added device) = record c {
+with_act c (added device) = record c {
   absent = filter (λ id. not (id == device)) c.absent;
   acts = c.acts ++ added device ∷ [];
   told = c.told ++ where_current c (addition device (additions c device));
 }
-after_act c (noticed n) = record c { acts = c.acts ++ noticed n ∷ []; notices = c.notices ++ where_current c n }
+with_act c (noticed n) = record c { acts = c.acts ++ noticed n ∷ []; notices = c.notices ++ where_current c n }
 
 -- where control lines stand that did these acts, and what they did, by the ids of a session's devices
 abbrev pub control_after : List ℕ → List Act → Control
-control_after devices acts = fold after_act (no_control devices) acts
+control_after devices acts = fold with_act (no_control devices) acts
 
 -- but for the numbers of the lines that did nothing
 abbrev pub without_idle : Control → Control
@@ -57,7 +59,7 @@ without_idle c = record c { idle = [] }
 -- the same by deeds, the newest first
 abbrev pub control_by_deeds : List ℕ → List Deed → Control
 control_by_deeds devices [] = no_control devices
-control_by_deeds devices (deed ∷ before) = option_map_or (after_act (control_by_deeds devices before)) (act_by deed) (control_by_deeds devices before)
+control_by_deeds devices (deed ∷ before) = option_map_or (with_act (control_by_deeds devices before)) (act_by deed) (control_by_deeds devices before)
 
 -- ---- what is told
 
@@ -82,16 +84,16 @@ SayFirst Says (message ∷ messages) (thing ∷ things) = Says thing message × 
 -- ---- what is read in order
 
 -- the state of a client after a message in a state, if it isn't wrong there
-abbrev pub state_after : ClientState → Meaning ClientState HostSays → Option ClientState
-state_after state (wrong fault) = None
-state_after state nothing = Some state
-state_after state (opens row) = Some row.next
-state_after state (says a) = Some state
+abbrev pub state_heard : ClientState → Meaning ClientState HostSays → Option ClientState
+state_heard state (wrong fault) = None
+state_heard state nothing = Some state
+state_heard state (opens row) = Some row.next
+state_heard state (says a) = Some state
 
 -- after messages, the newest first
 abbrev pub state_read : List (List ℕ) → Option ClientState
 state_read [] = Some Start
-state_read (message ∷ older) = option_and_then (λ state. state_after state (said client_side state message)) (state_read older)
+state_read (message ∷ older) = option_and_then (λ state. state_heard state (said client_side state message)) (state_read older)
 
 -- nothing that a client read was wrong
 abbrev pub AreReadWell : List Deed → Type 0
@@ -135,3 +137,15 @@ pub record HaveActed (devices : List (ℕ × Declared)) (lines : List NumberedLi
   pub cut_all : IsDone deeds
   pub idle_lines : filter (λ number. not (is_errand_at lines number)) idle ≡ control.idle
   pub idle_rise : IsStrictlyIncreasing idle
+
+-- ---- where lines settle
+
+-- All that the control told on a channel by then is told.
+pub record AreAllTold (deeds : List Deed) (control : Control) (c : ℕ) : Type 0 where
+  pub tells : length (tellings_on c deeds) ≡ length (of_channel c control.told)
+  pub notices : length (notices_on c deeds) ≡ length (of_channel c control.notices)
+
+-- There was a rest of the run where the control lines had done this and all was told on the channel that was open.
+pub record RestsTold (lines : List NumberedLine) (starves : Key → Bool) (deeds : List Deed) (control : Control) : Type 0 where
+  pub rest : RestsAt lines starves deeds control
+  pub told : (c : ℕ) → open_channel (rest.world).deeds ≡ Some c → AreAllTold (rest.world).deeds control c

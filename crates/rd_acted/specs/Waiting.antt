@@ -5,12 +5,12 @@ use Rattle.rd_world.specs.Acts.{is_telling}
 use Rattle.rd_world.specs.Talk.{notice_in}
 
 -- the lists and removals among what a client has to send
-abbrev pub waiting : List Outgoing → List (List ℕ)
-waiting os = filter is_telling (map (λ (o : Outgoing). o.message) os)
+abbrev pub tellings_waiting : List Outgoing → List (List ℕ)
+tellings_waiting os = filter is_telling (map (λ (o : Outgoing). o.message) os)
 
 -- the notices among what a host has to send
 abbrev pub is_noted : List ℕ → Bool
 is_noted m = is_some (notice_in m)
 
-abbrev pub noted : List (List ℕ) → List (List ℕ)
-noted ms = filter is_noted ms
+abbrev pub notices_waiting : List (List ℕ) → List (List ℕ)
+notices_waiting ms = filter is_noted ms

@@ -1,10 +1,10 @@
 //! What the control lines of a script did, as contracts of functions that do nothing.
 
 ghost use Rattle.std.specs.Prelude.{◌≡◌, ℕ, ◌≤◌, All, Bool, true, false, List, Ok, Option, Some, [], ◌∷◌, ◌++◌, filter_map, length, map, reverse};
-ghost use Rattle.std.specs.List.{range_with_len};
+ghost use Rattle.std.specs.List.{AllByRecursion, range_with_len};
 ghost use Rattle.std.specs.Option.{option_map_or};
-ghost use Rattle.rd_acted.specs.Acted.{AreReadWell, EndsTold, GoWell, HaveActed, SayFirst, control_after, control_by_deeds, due_on, notices_due, there_of, without_idle};
-ghost use Rattle.rd_acted.specs.Waiting.{noted, waiting};
+ghost use Rattle.rd_acted.specs.Acted.{AreAllTold, AreReadWell, EndsTold, GoWell, HaveActed, RestsTold, SayFirst, control_after, control_by_deeds, due_on, notices_due, there_of, without_idle};
+ghost use Rattle.rd_acted.specs.Waiting.{notices_waiting, tellings_waiting};
 ghost use Rattle.rd_base.specs.declared.journal.Key.{Key};
 ghost use Rattle.rd_client.specs.Order.{ClientOrder, is_client_ready};
 ghost use Rattle.rd_controls.specs.Controls.{AreOrderedLines, DoAsSaid, control_with};
@@ -16,13 +16,14 @@ ghost use Rattle.rd_script.specs.declared.keyword.Mode.TheVariants as Mode;
 ghost use Rattle.rd_script.specs.declared.script.Script.{Script};
 ghost use Rattle.rd_script.specs.declared.line.NumberedLine.{NumberedLine};
 ghost use Rattle.rd_world.specs.Acts.{AreActed, AreSaid, IsCutThere, IsDone, IsToldInTime, Opens, Tells, act_by, cache_after, cause_in, control_by, is_settled_host, left_open, notices_on, of_channel, tellings_on};
-ghost use Rattle.rd_world.specs.Control.{control_of, lists};
+ghost use Rattle.rd_world.specs.Control.{control_of, first_control, lists};
 ghost use Rattle.rd_world.specs.Devices.{Declared};
 ghost use Rattle.rd_world.specs.Opening.{bare_lines};
 ghost use Rattle.rd_world.specs.Recording.{announced_of, host_stand, is_gone_at};
 ghost use Rattle.rd_world.specs.Run.{Most, WorldRun, choices, declared_devices, run_of};
+ghost use Rattle.rd_world.specs.Session.{at_settles};
 ghost use Rattle.rd_world.specs.Talk.{AtEachPoint, Deed, EachAfter, client_moves, has_ended, journal, open_channel};
-ghost use Rattle.rd_world.specs.World.{WorldState, marks_of};
+ghost use Rattle.rd_world.specs.World.{WorldState};
 
 /// What control lines do is a function of their acts, but for which lines do nothing: so is what a channel's end after everything adds. What is told on a channel, of devices and of
 /// printers, is what is due there by what was done.
@@ -47,7 +48,7 @@ pub fn runs_tell_in_time()
     ensures waiting { (lines : List NumberedLine) (starves : Key → Bool) (w : WorldState) → RunPremises lines → Reached lines starves w → AreReadWell w.deeds → (c : ℕ) → open_channel w.deeds ≡ Some c → is_client_ready w.client.core.shake ≡ true
         → let devices = declared_devices (bare_lines lines) in
         let due = due_on (map (λ (d : ℕ × Declared). d.0) devices) c w.deeds in
-        SayFirst (Tells devices w.deeds c) (tellings_on c w.deeds ++ waiting w.client.core.outbox) due × (length (tellings_on c w.deeds ++ waiting w.client.core.outbox) ≡ length due) }
+        SayFirst (Tells devices w.deeds c) (tellings_on c w.deeds ++ tellings_waiting w.client.core.outbox) due × (length (tellings_on c w.deeds ++ tellings_waiting w.client.core.outbox) ≡ length due) }
     ensures unready { (lines : List NumberedLine) (starves : Key → Bool) (w : WorldState) → RunPremises lines → Reached lines starves w → AreReadWell w.deeds → (c : ℕ) → open_channel w.deeds ≡ Some c → is_client_ready w.client.core.shake ≡ false
         → let ids = map (λ (d : ℕ × Declared). d.0) (declared_devices (bare_lines lines)) in
         (tellings_on c w.deeds ≡ []) × (due_on ids c w.deeds ≡ lists (there_of ids w.deeds) ∷ []) }
@@ -58,7 +59,7 @@ pub fn runs_tell_in_time()
 pub fn runs_tell_of_printers()
     ensures told { (lines : List NumberedLine) (starves : Key → Bool) (w : WorldState) → RunPremises lines → Reached lines starves w → (c : ℕ) → SayFirst (λ n message. message ≡ notice_bytes n) (notices_on c w.deeds) (notices_due c w.deeds) }
     ensures waiting { (lines : List NumberedLine) (starves : Key → Bool) (w : WorldState) → RunPremises lines → Reached lines starves w → (c : ℕ) → open_channel w.deeds ≡ Some c
-        → SayFirst (λ n message. message ≡ notice_bytes n) (notices_on c w.deeds ++ noted w.side.core.core.outbox) (notices_due c w.deeds) × (length (notices_on c w.deeds ++ noted w.side.core.core.outbox) ≡ length (notices_due c w.deeds)) }
+        → SayFirst (λ n message. message ≡ notice_bytes n) (notices_on c w.deeds ++ notices_waiting w.side.core.core.outbox) (notices_due c w.deeds) × (length (notices_on c w.deeds ++ notices_waiting w.side.core.core.outbox) ≡ length (notices_due c w.deeds)) }
 {}
 
 /// A device is cut off as it is removed, and those that are there as their channel ends, where channels end only after their devices were told of; and its cuts are those that follow from what was done.
@@ -75,7 +76,7 @@ pub fn runs_act()
         → let devices = declared_devices (bare_lines lines) in
         let ids = map (λ (d : ℕ × Declared). d.0) devices in
         RunPremises lines → length lines ≤ 1000000 → AreOrderedLines ids lines → run_of most starves lines ≡ Some w → AreReadWell w.deeds → EachAfter EndsTold w.deeds
-        → ((said : DoAsSaid ids lines starves w) → left_open devices w.deeds (control_by devices lines) ≡ said.left) → HaveActed devices lines w.idle w.deeds }
+        → HaveActed devices lines w.idle w.deeds }
 {}
 
 /// Where a client's moves are in order on each channel, nothing that it read was wrong.
@@ -104,14 +105,37 @@ pub fn rests_tell_all()
 pub fn sessions_act()
     ensures acted { (text : List ℕ) (script : Script) (w : WorldState) → script_of Mode.Both text ≡ Ok script → WorldRun script.lines w
         → let devices = declared_devices (bare_lines script.lines) in
-        let ids = map (λ (d : ℕ × Declared). d.0) devices in
-        AreReadWell w.deeds → EachAfter EndsTold w.deeds → ((said : DoAsSaid ids script.lines (marks_of w) w) → left_open devices w.deeds (control_by devices script.lines) ≡ said.left)
-        → HaveActed devices script.lines w.idle w.deeds }
+        AreReadWell w.deeds → EachAfter EndsTold w.deeds → HaveActed devices script.lines w.idle w.deeds }
     ensures whole { (devices : List (ℕ × Declared)) (lines : List NumberedLine) (idle : List ℕ) (deeds : List Deed) → (acted : HaveActed devices lines idle deeds)
         → All (Opens devices deeds) (range_with_len 1 acted.control.channels) → All (λ c. has_ended c deeds ≡ false → option_map_or is_settled_host (host_stand deeds c) false ≡ true) (range_with_len 1 acted.control.channels)
         → AreActed devices lines idle deeds }
 {}
 
-pub fn placeholder()
-    ensures { (n : ℕ) → n ≡ n }
+/// The channel that is left open after the last line, since a request waits on it in some device, is the one that ends after everything.
+pub fn runs_leave_open()
+    ensures { (lines : List NumberedLine) (starves : Key → Bool) (most : Most) (w : WorldState)
+        → let devices = declared_devices (bare_lines lines) in
+        let ids = map (λ (d : ℕ × Declared). d.0) devices in
+        RunPremises lines → AreOrderedLines ids lines → run_of most starves lines ≡ Some w → GoWell w.deeds
+        → (said : DoAsSaid ids lines starves w) → left_open devices w.deeds (control_by devices lines) ≡ said.left }
+{}
+
+/// Where a `settle` line of a run ends there was a rest at which all was told, on the channel that was open, that the control lines told so far; and so it was, of all lines, on the channel that ended after everything since a
+/// request waited on it.
+pub fn settles_tell_all()
+    ensures settles { (lines : List NumberedLine) (starves : Key → Bool) (most : Most) (w : WorldState)
+        → let ids = map (λ (d : ℕ × Declared). d.0) (declared_devices (bare_lines lines)) in
+        RunPremises lines → AreOrderedLines ids lines → run_of most starves lines ≡ Some w → AreReadWell w.deeds → AllByRecursion (RestsTold lines starves w.deeds) (at_settles (first_control ids) lines) }
+    ensures at_end { (lines : List NumberedLine) (starves : Key → Bool) (most : Most) (w : WorldState)
+        → let ids = map (λ (d : ℕ × Declared). d.0) (declared_devices (bare_lines lines)) in
+        RunPremises lines → AreOrderedLines ids lines → run_of most starves lines ≡ Some w → AreReadWell w.deeds → (said : DoAsSaid ids lines starves w) → (c : ℕ) → said.left ≡ Some c → AreAllTold w.deeds (control_of ids lines) c }
+{}
+
+/// Where each client's moves are in order, each channel that began opened, and the host owes nothing on one that didn't end, the control lines of a run did all that they say.
+pub fn runs_act_wholly()
+    ensures { (lines : List NumberedLine) (starves : Key → Bool) (most : Most) (w : WorldState) → RunPremises lines → length lines ≤ 1000000
+        → let devices = declared_devices (bare_lines lines) in
+        AreOrderedLines (map (λ (d : ℕ × Declared). d.0) devices) lines → run_of most starves lines ≡ Some w → ((c : ℕ) → ClientOrder (announced_of devices) (is_gone_at c w.deeds) (reverse (client_moves c w.deeds)))
+        → All (Opens devices w.deeds) (range_with_len 1 w.channels) → All (λ c. has_ended c w.deeds ≡ false → option_map_or is_settled_host (host_stand w.deeds c) false ≡ true) (range_with_len 1 w.channels)
+        → AreActed devices lines w.idle w.deeds }
 {}

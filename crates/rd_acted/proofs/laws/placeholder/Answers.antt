@@ -1,6 +1,0 @@
-use Rattle.rd_acted.proofs.LeadingLemmas.{run_rests_after}
-use Rattle.rd_acted.proofs.laws.placeholder.Goals as goal
-use Rattle.std.proofs.Common.{refl}
-
-pub returns : goal.returns
-returns c n = refl
