@@ -149,9 +149,9 @@ module _ (lines : List NumberedLine) (starves : Key → Bool) (premises : RunPre
       by None e =
           one_over ids (client_writes w.channels o.message) w.deeds w.channels (λ k. refl) refl
           (λ k ended.
-              writes_tell k w.channels o.message w.deeds
-              ∙ ap (λ (b : Bool). tellings_on k w.deeds ++ filter is_telling (cons_option (if b then Some o.message else None) [])) (other_told w o opened is k ended)
-              ∙ append-nil (tellings_on k w.deeds)) tt refl is
+          writes_tell k w.channels o.message w.deeds
+          ∙ ap (λ (b : Bool). tellings_on k w.deeds ++ filter is_telling (cons_option (if b then Some o.message else None) [])) (other_told w o opened is k ended)
+          ∙ append-nil (tellings_on k w.deeds)) tt refl is
       by (Some key) e =
           let (rest, outbox, same) = sent_is w.client c o may in
           let untold = (subst (λ (os : List Outgoing). AllByRecursion AnswersUntold os) outbox t.answers).0 in
@@ -186,8 +186,8 @@ module _ (lines : List NumberedLine) (starves : Key → Bool) (premises : RunPre
       by_parts lines starves (λ w. AreReadWell w.deeds → AreOver ids w.deeds w.channels)
       (λ well. subst (λ (x : WorldState). AreOver ids x.deeds x.channels) (sym (begun_by lines _ (lines_begin lines))) (record { over = λ c e. absurd (cc e); some = λ c e. absurd (cc e); each = tt; channels = refl }))
       (λ w p before after may is well.
-          let earlier = part_well lines starves w p may well in
-          part_over w p may (knows lines starves premises w before).stands (behind_tells lines starves premises w before earlier) (behind_orderly lines starves (done starves w p) (premises_fit lines premises) after).0 (is earlier))
+      let earlier = part_well lines starves w p may well in
+      part_over w p may (knows lines starves premises w before).stands (behind_tells lines starves premises w before earlier) (behind_orderly lines starves (done starves w p) (premises_fit lines premises) after).0 (is earlier))
 
 -- ---- where each channel opened
 

@@ -223,7 +223,7 @@ module _ (lines : List NumberedLine) (starves : Key → Bool) (premises : RunPre
   behind_there =
       by_parts lines starves (λ w. GoWell w.deeds → IsThere devices w) (λ goes. first_there)
       (λ w p before after may is goes.
-          let g = part_grows lines starves w p may in
-          let earlier : GoWell w.deeds = fewer_well g.0 w.deeds (subst GoWell g.1 goes) in
-          let ordered : Orderly w = (behind_orderly lines starves w (premises_fit lines premises) before).0 in
-          part_there w p may (knows lines starves premises w before).stands (behind_tells lines starves premises w before earlier.well) (room_in w ordered earlier.short) goes (is earlier))
+      let g = part_grows lines starves w p may in
+      let earlier : GoWell w.deeds = fewer_well g.0 w.deeds (subst GoWell g.1 goes) in
+      let ordered : Orderly w = (behind_orderly lines starves w (premises_fit lines premises) before).0 in
+      part_there w p may (knows lines starves premises w before).stands (behind_tells lines starves premises w before earlier.well) (room_in w ordered earlier.short) goes (is earlier))

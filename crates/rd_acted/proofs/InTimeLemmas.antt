@@ -63,10 +63,13 @@ more_due : (ids : List ℕ) (x : Deed) (thing : Telling) (deeds : List Deed) →
     → ((c : ℕ) → due_on ids c (x ∷ deeds) ≡ due_on ids c deeds ++ (if is_open_at c deeds then thing ∷ [] else []))
     → ((c : ℕ) → tellings_due c (x ∷ deeds) ≡ tellings_due c deeds + (if is_open_at c deeds then 1 else 0)) → AreInTime ids deeds → AreInTime ids (x ∷ deeds)
 more_due ids x thing deeds told ended opened due count is = record {
-  points = (λ c.
-      let few : length (tellings_on c deeds) ≤ tellings_due c deeds = point_now IsToldInTime deeds is.points c in
-      let same : length (tellings_on c (x ∷ deeds)) ≡ length (tellings_on c deeds) = ap length (told c) in
-      omega (arith, few, same, count c), is.points);
+  points = (
+    λ c.
+        let few : length (tellings_on c deeds) ≤ tellings_due c deeds = point_now IsToldInTime deeds is.points c in
+        let same : length (tellings_on c (x ∷ deeds)) ≡ length (tellings_on c deeds) = ap length (told c) in
+        omega (arith, few, same, count c),
+    is.points,
+  );
   counted = λ c.
       let longer : length (due_on ids c (x ∷ deeds)) ≡ length (due_on ids c deeds) + length (if is_open_at c deeds then thing ∷ [] else []) = ap length (due c) ∙ length-append (due_on ids c deeds) (if is_open_at c deeds then thing ∷ [] else []) in
       omega (arith, longer, one (is_open_at c deeds), is.counted c, count c);
@@ -131,9 +134,12 @@ ended_in_time ids n deeds opened is = record { points = (point_now IsToldInTime 
 sent_in_time : (ids : List ℕ) (x : Deed) (deeds : List Deed) → ((c : ℕ) → tellings_due c (x ∷ deeds) ≡ tellings_due c deeds) → ((c : ℕ) → due_on ids c (x ∷ deeds) ≡ due_on ids c deeds) → ((c : ℕ) → has_ended c (x ∷ deeds) ≡ has_ended c deeds)
     → open_channel (x ∷ deeds) ≡ open_channel deeds → ((c : ℕ) → length (tellings_on c (x ∷ deeds)) ≤ length (due_on ids c (x ∷ deeds))) → AreInTime ids deeds → AreInTime ids (x ∷ deeds)
 sent_in_time ids x deeds count due ended opened few is = record {
-  points = (λ c.
-      let same : length (due_on ids c (x ∷ deeds)) ≡ length (due_on ids c deeds) = ap length (due c) in
-      omega (arith, few c, same, is.counted c, count c), is.points);
+  points = (
+    λ c.
+        let same : length (due_on ids c (x ∷ deeds)) ≡ length (due_on ids c deeds) = ap length (due c) in
+        omega (arith, few c, same, is.counted c, count c),
+    is.points,
+  );
   counted = λ c. ap length (due c) ∙ is.counted c ∙ sym (count c);
   over = λ c. elim (is.over c) [
     | inl none ↦ inl (due c ∙ none)
@@ -206,5 +212,5 @@ module _ (lines : List NumberedLine) (starves : Key → Bool) (premises : RunPre
       by_parts lines starves (λ w. AreReadWell w.deeds → AreInTime ids w.deeds)
       (λ well. subst (λ (x : WorldState). AreInTime ids x.deeds) (sym (begun_by lines _ (lines_begin lines))) (record { points = λ c. omega arith; counted = λ c. refl; over = λ c. inl refl }))
       (λ w p before after may is well.
-          let earlier = part_well lines starves w p may well in
-          part_in_time w p may (knows lines starves premises w before).stands (behind_tells lines starves premises w before earlier) (behind_tells lines starves premises (done starves w p) after well) (is earlier))
+      let earlier = part_well lines starves w p may well in
+      part_in_time w p may (knows lines starves premises w before).stands (behind_tells lines starves premises w before earlier) (behind_tells lines starves premises (done starves w p) after well) (is earlier))

@@ -18,10 +18,4 @@ pub mod CauseLemmas
 pub mod PrinterLemmas
 pub mod ReachedLemmas
 pub mod EndedLemmas
-pub mod WaitLemmas
-pub mod LeftLemmas
-pub mod LeadingLemmas
-pub mod ClosedLemmas
 pub mod RunLemmas
-pub mod SettleLemmas
-pub mod WholeLemmas

@@ -264,8 +264,7 @@ unheard_as w v u (was, fine, kept) =
     let all = unread_all u.more w.deeds u.unread in
     let read : client_read v.channels v.deeds ≡ client_read w.channels w.deeds = ap (λ (c : ℕ). client_read c v.deeds) u.channels ∙ ap (client_read w.channels) u.deeds ∙ all.0 w.channels in
     let noted : cache_after v.deeds ≡ cache_after w.deeds =
-    ap cache_after u.deeds ∙ cache_is (u.more ++ w.deeds) ∙ ap (λ (ns : List Notice). heard_all [] (reverse ns)) all.1 ∙ sym (cache_is w.deeds) in
-    (
+    ap cache_after u.deeds ∙ cache_is (u.more ++ w.deeds) ∙ ap (λ (ns : List Notice). heard_all [] (reverse ns)) all.1 ∙ sym (cache_is w.deeds) in (
       ap state_read read ∙ was ∙ ap (λ (s : ClientState). Some s) (sym u.shake),
       u.fault ∙ fine,
       u.kept ∙ kept ∙ sym noted,
@@ -311,10 +310,9 @@ module _ (w : WorldState) (m : List ℕ) (is : IsReadAs w) where
       → kept ≡ cached w.cache (noticed s) → IsReadAs (record (read_by w m d) { cache = kept })
   after_message d s kept meant state fine held =
       let right : (fault : EndFault) → s ≡ wrong fault → ⊥ = λ fault e.
-          let none : state_heard shake s ≡ None = ap (state_heard shake) e in
-          absurd (cc (none, state)) in
-      let spells : notice_in m ≡ noticed s = heard_notice shake m s meant right in
-      (
+      let none : state_heard shake s ≡ None = ap (state_heard shake) e in
+      absurd (cc (none, state)) in
+      let spells : notice_in m ≡ noticed s = heard_notice shake m s meant right in (
         read_state ∙ ap (state_heard shake) meant ∙ state,
         fine,
         held ∙ ap (λ (k : CacheState). cached k (noticed s)) is.2 ∙ ap (λ (o : Option Notice). cached (cache_after w.deeds) o) (sym spells) ∙ sym (cache_more w.channels m w.deeds),

@@ -10,6 +10,7 @@ use Rattle.rd_controls.specs.Controls.{AreOrderedLines, DoAsSaid, EndsAs, contro
 use Rattle.rd_joined.proofs.RoomLemmas.{unworn}
 use Rattle.rd_printer.specs.Notice.{notice_bytes}
 use Rattle.rd_printer.specs.declared.notice.Notice.{Notice}
+use Rattle.rd_rest.proofs.RunLemmas.{run_left}
 use Rattle.rd_runs.proofs.HostLemmas.{host_channel}
 use Rattle.rd_runs.proofs.Parts.{IsBehind, reached_behind}
 use Rattle.rd_runs.proofs.Reaching.{run_reached, run_rests}
@@ -30,8 +31,6 @@ use Rattle.rd_world.specs.Talk.{Deed, EachAfter, adds, client_reads, client_writ
 use Rattle.rd_world.specs.World.{WorldState}
 use Rattle.rd_acted.proofs.ActLemmas.{acts_by_deeds, control_by_acts}
 use Rattle.rd_acted.proofs.CauseLemmas.{cuts_by_deeds}
-use Rattle.rd_acted.proofs.ClosedLemmas.{left_is_open}
-use Rattle.rd_acted.proofs.LeadingLemmas.{run_rests_after}
 use Rattle.rd_acted.proofs.DueLemmas.{current_by_deeds, notices_are_due, told_is_due}
 use Rattle.rd_acted.proofs.EveryCutLemmas.{behind_there}
 use Rattle.rd_acted.proofs.InTimeLemmas.{AreInTime, behind_in_time}
@@ -200,10 +199,9 @@ module _ (lines : List NumberedLine) (starves : Key → Bool) (premises : RunPre
       let rests : choices w ≡ [] = run_rests starves most lines w is in
       let goes : GoWell w.deeds = runs_go_well w reached few well told in
       let there = behind_there lines starves premises w b goes in
-      let left_is = left_is_open lines starves premises most w reached goes (run_rests_after lines starves most w ordered premises is) said in
       record {
         control = control;
-        control_is = ap (λ (o : Option ℕ). control_with o (control_of ids lines)) (sym left_is);
+        control_is = ap (λ (o : Option ℕ). control_with o (control_of ids lines)) (sym (run_left lines starves most w ordered premises is said));
         acts = said.acts;
         tells = λ c. subst (λ (ts : List Telling). AreSaid (Tells devices w.deeds c) ts (tellings_on c w.deeds) (has_ended c w.deeds)) (sym (ap (λ (k : Control). of_channel c k.told) same ∙ told_is_due ids c w.deeds))
             (all_told w b rests well (ready_now w well b said.left said.ends same) c);

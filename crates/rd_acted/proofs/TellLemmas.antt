@@ -277,11 +277,14 @@ sends_tells devices w d o made t =
                 ⊎ ((c ≡ w.channels) × ((more : List (List ℕ)) × (tellings_on w.channels w.deeds ++ tellings_waiting ((w.client).core).outbox ≡ tellings_on c (client_writes w.channels o.message ∷ w.deeds) ++ more)))
             at true f =
                 let same : w.channels ≡ c = eqb-true w.channels c f in
-                inr (sym same, (
-                  tellings_waiting rest,
-                  ap (λ (os : List Outgoing). tellings_on w.channels w.deeds ++ tellings_waiting os) outbox ∙ sym moved
-                  ∙ ap (λ (n : ℕ). tellings_on n (client_writes w.channels o.message ∷ w.deeds) ++ tellings_waiting rest) same,
-                ))
+                inr (
+                  sym same,
+                  (
+                    tellings_waiting rest,
+                    ap (λ (os : List Outgoing). tellings_on w.channels w.deeds ++ tellings_waiting os) outbox ∙ sym moved
+                        ∙ ap (λ (n : ℕ). tellings_on n (client_writes w.channels o.message ∷ w.deeds) ++ tellings_waiting rest) same,
+                  ),
+                )
             at false f =
                 inl (writes_tell c w.channels o.message w.deeds ∙ ap (λ (b : Bool). tellings_on c w.deeds ++ filter is_telling (cons_option (if b then Some o.message else None) [])) f
                 ∙ append-nil (tellings_on c w.deeds))
@@ -450,7 +453,7 @@ begun_tells devices w c kept shaped bodies t = record {
   first = λ is_open unready. (
     none_now,
     ap (λ (b : Bool). due_on ids n w.deeds ++ (if b then lists (there_of ids w.deeds) ∷ [] else [])) (eq-eqb n n refl)
-    ∙ ap (λ (ts : List Telling). ts ++ lists (there_of ids w.deeds) ∷ []) (t.above n (omega arith)),
+        ∙ ap (λ (ts : List Telling). ts ++ lists (there_of ids w.deeds) ∷ []) (t.above n (omega arith)),
   );
   above = λ k over.
       ap (λ (b : Bool). due_on ids k w.deeds ++ (if b then lists (there_of ids w.deeds) ∷ [] else [])) (apart n k over) ∙ append-nil (due_on ids k w.deeds) ∙ t.above k (omega (arith, over));
@@ -515,8 +518,8 @@ ended_tells devices w t = over (unspoken_tells devices w (fold dropping w statio
         let ids : List ℕ = ids_in devices in
         let later : (c : ℕ) → SayFirst (Tells devices (host_ends cut.channels ∷ cut.deeds) c) (tellings_on c cut.deeds) (due_on ids c cut.deeds) =
         λ c.
-            say_as (Tells devices cut.deeds c) (Tells devices (host_ends cut.channels ∷ cut.deeds) c) (tells_later devices c (host_ends cut.channels ∷ []) cut.deeds (host_ends cut.channels ∷ cut.deeds) refl refl)
-            (tellings_on c cut.deeds) (due_on ids c cut.deeds) (u.each c) in
+        say_as (Tells devices cut.deeds c) (Tells devices (host_ends cut.channels ∷ cut.deeds) c) (tells_later devices c (host_ends cut.channels ∷ []) cut.deeds (host_ends cut.channels ∷ cut.deeds) refl refl)
+        (tellings_on c cut.deeds) (due_on ids c cut.deeds) (u.each c) in
         record {
           shaped = zip_as (IsShaped ids cut.printers cut.deeds) (IsShaped ids cut.printers (host_ends cut.channels ∷ cut.deeds)) (shaped_more ids cut.printers cut.deeds (host_ends cut.channels ∷ cut.deeds) (λ k. refl)) devices
               (cut.client).devices u.shaped;
@@ -582,5 +585,5 @@ module _ (lines : List NumberedLine) (starves : Key → Bool) (premises : RunPre
   behind_tells =
       by_parts lines starves (λ w. AreReadWell w.deeds → TellsAs devices w) (λ well. first_tells)
       (λ w p before after may is well.
-          let earlier = part_well lines starves w p may well in
-          part_tells w p may (knows lines starves premises w before).stands (behind_read_as lines starves premises w before earlier).2 (is earlier))
+      let earlier = part_well lines starves w p may well in
+      part_tells w p may (knows lines starves premises w before).stands (behind_read_as lines starves premises w before earlier).2 (is earlier))

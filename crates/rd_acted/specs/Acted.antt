@@ -7,15 +7,13 @@ use Rattle.rd_core.specs.Hearing.{Meaning, nothing, opens, said, says, wrong}
 use Rattle.rd_hello.specs.declared.client.ClientState.{ClientState}
 use Rattle.rd_hello.specs.declared.client.ClientState.TheVariants.{Start}
 use Rattle.rd_printer.specs.declared.notice.Notice.{Notice}
-use Rattle.rd_controls.specs.Controls.{RestsAt}
-use Rattle.rd_base.specs.declared.journal.Key.{Key}
 use Rattle.rd_world.specs.Acts.{AreSaid, IsCutThere, IsDone, IsToldInTime, Tells, act_by, cause_in, control_at_end, control_by, is_add, is_errand_at, notices_on, of_channel, tellings_on}
 use Rattle.rd_world.specs.Devices.{Declared}
 use Rattle.rd_script.specs.declared.line.NumberedLine.{NumberedLine}
 use Rattle.rd_printer.specs.Notice.{notice_bytes}
 use Rattle.std.specs.List.Sorted.{IsStrictlyIncreasing}
 use Rattle.rd_world.specs.Control.{Act, Control, Telling, added, addition, additions, begun, dropped_at, ended, lists, noticed, present, removal, removed}
-use Rattle.rd_world.specs.Talk.{AtEachPoint, Deed, EachAfter, adds, client_read, has_ended, host_begins, host_ends, is_open_at, is_removed, journal, open_channel, removes, tells}
+use Rattle.rd_world.specs.Talk.{AtEachPoint, Deed, EachAfter, adds, client_read, has_ended, host_begins, host_ends, is_open_at, is_removed, journal, removes, tells}
 use Rattle.rd_world.specs.Told.{worn_entries}
 
 -- before the first channel
@@ -137,15 +135,3 @@ pub record HaveActed (devices : List (ℕ × Declared)) (lines : List NumberedLi
   pub cut_all : IsDone deeds
   pub idle_lines : filter (λ number. not (is_errand_at lines number)) idle ≡ control.idle
   pub idle_rise : IsStrictlyIncreasing idle
-
--- ---- where lines settle
-
--- All that the control told on a channel by then is told.
-pub record AreAllTold (deeds : List Deed) (control : Control) (c : ℕ) : Type 0 where
-  pub tells : length (tellings_on c deeds) ≡ length (of_channel c control.told)
-  pub notices : length (notices_on c deeds) ≡ length (of_channel c control.notices)
-
--- There was a rest of the run where the control lines had done this and all was told on the channel that was open.
-pub record RestsTold (lines : List NumberedLine) (starves : Key → Bool) (deeds : List Deed) (control : Control) : Type 0 where
-  pub rest : RestsAt lines starves deeds control
-  pub told : (c : ℕ) → open_channel (rest.world).deeds ≡ Some c → AreAllTold (rest.world).deeds control c

@@ -1,9 +1,9 @@
 //! What the control lines of a script did, as contracts of functions that do nothing.
 
 ghost use Rattle.std.specs.Prelude.{◌≡◌, ℕ, ◌≤◌, All, Bool, true, false, List, Ok, Option, Some, [], ◌∷◌, ◌++◌, filter_map, length, map, reverse};
-ghost use Rattle.std.specs.List.{AllByRecursion, range_with_len};
+ghost use Rattle.std.specs.List.{range_with_len};
 ghost use Rattle.std.specs.Option.{option_map_or};
-ghost use Rattle.rd_acted.specs.Acted.{AreAllTold, AreReadWell, EndsTold, GoWell, HaveActed, RestsTold, SayFirst, control_after, control_by_deeds, due_on, notices_due, there_of, without_idle};
+ghost use Rattle.rd_acted.specs.Acted.{AreReadWell, EndsTold, GoWell, HaveActed, SayFirst, control_after, control_by_deeds, due_on, notices_due, there_of, without_idle};
 ghost use Rattle.rd_acted.specs.Waiting.{notices_waiting, tellings_waiting};
 ghost use Rattle.rd_base.specs.declared.journal.Key.{Key};
 ghost use Rattle.rd_client.specs.Order.{ClientOrder, is_client_ready};
@@ -16,12 +16,11 @@ ghost use Rattle.rd_script.specs.declared.keyword.Mode.TheVariants as Mode;
 ghost use Rattle.rd_script.specs.declared.script.Script.{Script};
 ghost use Rattle.rd_script.specs.declared.line.NumberedLine.{NumberedLine};
 ghost use Rattle.rd_world.specs.Acts.{AreActed, AreSaid, IsCutThere, IsDone, IsToldInTime, Opens, Tells, act_by, cache_after, cause_in, control_by, is_settled_host, left_open, notices_on, of_channel, tellings_on};
-ghost use Rattle.rd_world.specs.Control.{control_of, first_control, lists};
+ghost use Rattle.rd_world.specs.Control.{control_of, lists};
 ghost use Rattle.rd_world.specs.Devices.{Declared};
 ghost use Rattle.rd_world.specs.Opening.{bare_lines};
 ghost use Rattle.rd_world.specs.Recording.{announced_of, host_stand, is_gone_at};
 ghost use Rattle.rd_world.specs.Run.{Most, WorldRun, choices, declared_devices, run_of};
-ghost use Rattle.rd_world.specs.Session.{at_settles};
 ghost use Rattle.rd_world.specs.Talk.{AtEachPoint, Deed, EachAfter, client_moves, has_ended, journal, open_channel};
 ghost use Rattle.rd_world.specs.World.{WorldState};
 
@@ -109,33 +108,4 @@ pub fn sessions_act()
     ensures whole { (devices : List (ℕ × Declared)) (lines : List NumberedLine) (idle : List ℕ) (deeds : List Deed) → (acted : HaveActed devices lines idle deeds)
         → All (Opens devices deeds) (range_with_len 1 acted.control.channels) → All (λ c. has_ended c deeds ≡ false → option_map_or is_settled_host (host_stand deeds c) false ≡ true) (range_with_len 1 acted.control.channels)
         → AreActed devices lines idle deeds }
-{}
-
-/// The channel that is left open after the last line, since a request waits on it in some device, is the one that ends after everything.
-pub fn runs_leave_open()
-    ensures { (lines : List NumberedLine) (starves : Key → Bool) (most : Most) (w : WorldState)
-        → let devices = declared_devices (bare_lines lines) in
-        let ids = map (λ (d : ℕ × Declared). d.0) devices in
-        RunPremises lines → AreOrderedLines ids lines → run_of most starves lines ≡ Some w → GoWell w.deeds
-        → (said : DoAsSaid ids lines starves w) → left_open devices w.deeds (control_by devices lines) ≡ said.left }
-{}
-
-/// Where a `settle` line of a run ends there was a rest at which all was told, on the channel that was open, that the control lines told so far; and so it was, of all lines, on the channel that ended after everything since a
-/// request waited on it.
-pub fn settles_tell_all()
-    ensures settles { (lines : List NumberedLine) (starves : Key → Bool) (most : Most) (w : WorldState)
-        → let ids = map (λ (d : ℕ × Declared). d.0) (declared_devices (bare_lines lines)) in
-        RunPremises lines → AreOrderedLines ids lines → run_of most starves lines ≡ Some w → AreReadWell w.deeds → AllByRecursion (RestsTold lines starves w.deeds) (at_settles (first_control ids) lines) }
-    ensures at_end { (lines : List NumberedLine) (starves : Key → Bool) (most : Most) (w : WorldState)
-        → let ids = map (λ (d : ℕ × Declared). d.0) (declared_devices (bare_lines lines)) in
-        RunPremises lines → AreOrderedLines ids lines → run_of most starves lines ≡ Some w → AreReadWell w.deeds → (said : DoAsSaid ids lines starves w) → (c : ℕ) → said.left ≡ Some c → AreAllTold w.deeds (control_of ids lines) c }
-{}
-
-/// Where each client's moves are in order, each channel that began opened, and the host owes nothing on one that didn't end, the control lines of a run did all that they say.
-pub fn runs_act_wholly()
-    ensures { (lines : List NumberedLine) (starves : Key → Bool) (most : Most) (w : WorldState) → RunPremises lines → length lines ≤ 1000000
-        → let devices = declared_devices (bare_lines lines) in
-        AreOrderedLines (map (λ (d : ℕ × Declared). d.0) devices) lines → run_of most starves lines ≡ Some w → ((c : ℕ) → ClientOrder (announced_of devices) (is_gone_at c w.deeds) (reverse (client_moves c w.deeds)))
-        → All (Opens devices w.deeds) (range_with_len 1 w.channels) → All (λ c. has_ended c w.deeds ≡ false → option_map_or is_settled_host (host_stand w.deeds c) false ≡ true) (range_with_len 1 w.channels)
-        → AreActed devices lines w.idle w.deeds }
 {}

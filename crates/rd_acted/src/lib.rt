@@ -9,6 +9,6 @@ mod laws;
 
 pub use laws::{
     caches_keep_what_is_read, channels_end_told, control_lines_are_by_acts, orders_read_well,
-    rests_tell_all, runs_act, runs_act_wholly, runs_cut_devices, runs_leave_open,
-    runs_tell_in_time, runs_tell_of_printers, sessions_act, settles_tell_all,
+    rests_tell_all, runs_act, runs_cut_devices, runs_tell_in_time, runs_tell_of_printers,
+    sessions_act,
 };

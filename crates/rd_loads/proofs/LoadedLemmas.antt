@@ -44,14 +44,16 @@ seed_plain : (number : ℕ) → IsPlain (line.Seed number)
 unfolding IsDeclarable IsNotable DeclaresWritable NamesKnown asked_by declaring furnishing
 seed_plain number = record {
   within = record { declarable = tt; notable = tt; numbered = tt; submittable = tt; writable = tt; known = λ ids. tt };
-  declares = λ es. refl; furnishes = λ es. refl;
+  declares = λ es. refl;
+  furnishes = λ es. refl;
 }
 
 workers_plain : IsPlain (line.Workers 4)
 unfolding IsDeclarable IsNotable DeclaresWritable NamesKnown asked_by declaring furnishing
 workers_plain = record {
   within = record { declarable = (omega arith, omega arith); notable = tt; numbered = tt; submittable = tt; writable = tt; known = λ ids. tt };
-  declares = λ es. refl; furnishes = λ es. refl;
+  declares = λ es. refl;
+  furnishes = λ es. refl;
 }
 
 drive_small : (a : ℕ) → drive_number a < 2 ^ 32
@@ -65,49 +67,76 @@ create_plain : (a : ℕ) → IsNumber a → IsPlain (create_line a)
 unfolding IsDeclarable IsNotable DeclaresWritable NamesKnown asked_by declaring furnishing
 create_plain a number = record {
   within = record {
-    declarable = tt; notable = tt; numbered = number; writable = tt; known = λ ids. tt;
+    declarable = tt;
+    notable = tt;
+    numbered = number;
+    writable = tt;
+    known = λ ids. tt;
     submittable = record {
       fits = (omega arith, All-from_recursion (λ (unit : ℕ). unit ≢ 0) (codes "\\f" ++ (0x30 + a) ∷ []) (λ (e : 92 ≡ 0). absurd cc, (λ (e : 102 ≡ 0). absurd cc, (λ (e : 0x30 + a ≡ 0). omega (arith, e), tt))));
-      range = (omega arith, omega arith, omega arith, omega arith, omega arith, omega arith,
-          All-from_recursion (λ (unit : ℕ). unit < 2 ^ 16) (codes "\\f" ++ (0x30 + a) ∷ []) (omega arith, (omega arith, (omega (arith, number.1), tt))));
+      range = (
+        omega arith,
+        omega arith,
+        omega arith,
+        omega arith,
+        omega arith,
+        omega arith,
+        All-from_recursion (λ (unit : ℕ). unit < 2 ^ 16) (codes "\\f" ++ (0x30 + a) ∷ []) (omega arith, (omega arith, (omega (arith, number.1), tt))),
+      );
       device = drive_small a;
     };
   };
-  declares = λ es. refl; furnishes = λ es. refl;
+  declares = λ es. refl;
+  furnishes = λ es. refl;
 }
 
 write_plain : (a i : ℕ) → i ≤ 1000 → IsNumber a → IsPlain (line.Write a (codes "h") (block * i) (block_bytes a i))
 unfolding IsDeclarable IsNotable DeclaresWritable NamesKnown asked_by declaring furnishing
 write_plain a i few number = record {
   within = record {
-    declarable = tt; notable = tt; numbered = number; writable = tt; known = λ ids. tt;
+    declarable = tt;
+    notable = tt;
+    numbered = number;
+    writable = tt;
+    known = λ ids. tt;
     submittable = record {
       fits = let long : length (block_bytes a i) ≡ 4096 = length-replicate block ((a + i) % 256) in omega (arith, long);
       range = omega (arith, few);
       device = tt;
     };
   };
-  declares = λ es. refl; furnishes = λ es. refl;
+  declares = λ es. refl;
+  furnishes = λ es. refl;
 }
 
 read_plain : (a i : ℕ) → i ≤ 1000 → IsNumber a → IsPlain (line.Read a (codes "h") (block * i) block)
 unfolding IsDeclarable IsNotable DeclaresWritable NamesKnown asked_by declaring furnishing
 read_plain a i few number = record {
   within = record {
-    declarable = tt; notable = tt; numbered = number; writable = tt; known = λ ids. tt;
+    declarable = tt;
+    notable = tt;
+    numbered = number;
+    writable = tt;
+    known = λ ids. tt;
     submittable = record { fits = tt; range = (omega (arith, few), omega arith); device = tt };
   };
-  declares = λ es. refl; furnishes = λ es. refl;
+  declares = λ es. refl;
+  furnishes = λ es. refl;
 }
 
 close_plain : (a : ℕ) → IsNumber a → IsPlain (line.Close a (codes "h"))
 unfolding IsDeclarable IsNotable DeclaresWritable NamesKnown asked_by declaring furnishing
 close_plain a number = record {
   within = record {
-    declarable = tt; notable = tt; numbered = number; writable = tt; known = λ ids. tt;
+    declarable = tt;
+    notable = tt;
+    numbered = number;
+    writable = tt;
+    known = λ ids. tt;
     submittable = record { fits = tt; range = tt; device = tt };
   };
-  declares = λ es. refl; furnishes = λ es. refl;
+  declares = λ es. refl;
+  furnishes = λ es. refl;
 }
 
 drive_within : (device : ℕ) (name : List ℕ) → device < 2 ^ 32 → length name ≤ 7 → IsWithin (line.Drive device name)

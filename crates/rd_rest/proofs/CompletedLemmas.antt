@@ -122,10 +122,9 @@ told_answered replies (completes key m ∷ before) each c d index has =
           let is_head : head_in m ≡ Some h = rw (head_read h m done.head).1 refl in
           let of_device : (r.device == d) ≡ true = sym (ap (λ (o : Option Head). option_map_or (λ (x : Head). x.device == d) o false) is_head) ∙ both.1 in
           let pair : message_has_pair d r.completion m ≡ true =
-              ap (λ (o : Option Head). option_map_or (λ (x : Head). x.device == d && x.completion == r.completion) o false) is_head
-              ∙ ap (λ (b : Bool). b && r.completion == r.completion) of_device ∙ eq-eqb r.completion r.completion refl in
-          let c_is : key.channel ≡ c = eqb-true key.channel c both.0 in
-          (
+          ap (λ (o : Option Head). option_map_or (λ (x : Head). x.device == d && x.completion == r.completion) o false) is_head
+          ∙ ap (λ (b : Bool). b && r.completion == r.completion) of_device ∙ eq-eqb r.completion r.completion refl in
+          let c_is : key.channel ≡ c = eqb-true key.channel c both.0 in (
             r,
             subst (λ (x : ℕ). request_at (client_read x before) index ≡ Some r) c_is (subst (λ (x : ℕ). request_at (client_read key.channel before) x ≡ Some r) (sym same) read),
             rw (both.0, pair) (inl same),
@@ -312,8 +311,8 @@ module _ (lines : List NumberedLine) (starves : Key → Bool) (premises : RunPre
           let empty = (quiet w none).client_sends in
           let line : cons_option (kept_at c d w.kept) (said c d ((w.client).core).outbox (told c d w.deeds)) ≡ told c d w.deeds = λ i. cons_option (kept_at c d (kept i)) (said c d (empty i) (told c d w.deeds)) in
           let all : never c (journal d w.deeds) (requests_to d (client_read c w.deeds)) ≡ never c (journal d w.deeds) (told c d w.deeds) =
-              turn.stands ∙ ap (λ (xs : List ℕ). xs ++ never c (journal d w.deeds) (cons_option (kept_at c d w.kept) (said c d ((w.client).core).outbox (told c d w.deeds)))) (turn.all fine opened)
-              ∙ ap (never c (journal d w.deeds)) line in
+          turn.stands ∙ ap (λ (xs : List ℕ). xs ++ never c (journal d w.deeds) (cons_option (kept_at c d w.kept) (said c d ((w.client).core).outbox (told c d w.deeds)))) (turn.all fine opened)
+          ∙ ap (never c (journal d w.deeds)) line in
           let isnt : not (came c (journal d w.deeds) index) ≡ true = ap not off in
           from_told (filter_has (λ (i : ℕ). not (came c (journal d w.deeds) i)) index (told c d w.deeds)
           (subst (Has index) all (filter_keeps (λ (i : ℕ). not (came c (journal d w.deeds) i)) index (requests_to d (client_read c w.deeds)) isnt a.among))).0

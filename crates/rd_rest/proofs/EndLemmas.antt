@@ -291,8 +291,7 @@ module _ (lines : List NumberedLine) (starves : Key → Bool) (premises : RunPre
       let at : station_at (cutting last) d ≡ Some t = ap (λ (es : List (ℕ × Of)). lookup (is_at (nat_cmp d)) es) (sym closed.stations) ∙ there in
       let (s, was, cut) = all_cut_by (map (λ (e : ℕ × Of). e.0) last.stations) last last (λ q u found. (u, found, inl refl)) d t at in
       let told : journal d w.deeds ≡ reverse t.journal = back_again (journal d w.deeds) t.journal ((now_ordered.held).tied d t there) in
-      let before : journal d last.deeds ≡ reverse s.journal = back_again (journal d last.deeds) s.journal ((last_ordered.held).tied d s was) in
-      (
+      let before : journal d last.deeds ≡ reverse s.journal = back_again (journal d last.deeds) s.journal ((last_ordered.held).tied d s was) in (
         s,
         was,
         elim (cut_as s t cut) [
@@ -319,7 +318,7 @@ module _ (lines : List NumberedLine) (starves : Key → Bool) (premises : RunPre
       let one : y ≡ x = cc in
       let keeps = (keeps_at lines starves premises last reached rests is d s there).1 in
       let in_device : Has p (device_parked s.device) =
-          subst (λ (st : SessionDevice). Has p (device_parked st)) (sym (same ∙ ap (λ (z : Declared). last_state_by device_step device_cut (request_of last.deeds) z.state (reverse (journal d last.deeds))) one)) has in
+      subst (λ (st : SessionDevice). Has p (device_parked st)) (sym (same ∙ ap (λ (z : Declared). last_state_by device_step device_cut (request_of last.deeds) z.state (reverse (journal d last.deeds))) one)) has in
       let (q, held, is_q) = map_has as_parked p s.parked (subst (Has p) (sym keeps.parked) in_device) in
       let closes : s.journal ≡ reverse earlier ++ Cut Dropped ∷ [] = sym ((last_ordered.held).tied d s there) ∙ ap reverse e ∙ reverse-append (Cut Dropped ∷ []) earlier in
       let low = reached_over lines starves (bounded_fit lines premises.bounded) last reached d s there (reverse earlier) closes q.key (came_named s.journal q.key (keeps.parked_run q held).1.came) in
@@ -418,7 +417,7 @@ module _ (lines : List NumberedLine) (starves : Key → Bool) (premises : RunPre
     | inr (open_is, waits, now, closed) ↦
         let e : said.current ≡ Some last.channels = said_open open_is in
         let some : some_wait devices w.deeds last.channels ≡ true =
-            same_wait lines starves premises last w ends.reached ends.rests (open_at open_is) now closed ∙ sym (left_waits lines starves premises last ends.reached ends.rests (open_at open_is)) ∙ waits in
+        same_wait lines starves premises last w ends.reached ends.rests (open_at open_is) now closed ∙ sym (left_waits lines starves premises last ends.reached ends.rests (open_at open_is)) ∙ waits in
         left_at e ∙ ap (λ (b : Bool). if b then Some last.channels else None) some ∙ sym e
         ∙ sym (ap (λ (b : Bool). left_by (b && some_left last)) open_is ∙ ap left_by waits)
   ]
@@ -428,7 +427,7 @@ module _ (lines : List NumberedLine) (starves : Key → Bool) (premises : RunPre
           let e : said.current ≡ Some last.channels = said_open open_is in
           let off : some_left last ≡ false = sym (ap (λ (b : Bool). b && some_left last) open_is) ∙ none in
           let waits : some_wait devices w.deeds last.channels ≡ false =
-              ap (λ (x : WorldState). some_wait devices x.deeds last.channels) same ∙ sym (left_waits lines starves premises last ends.reached ends.rests (open_at open_is)) ∙ off in
+          ap (λ (x : WorldState). some_wait devices x.deeds last.channels) same ∙ sym (left_waits lines starves premises last ends.reached ends.rests (open_at open_is)) ∙ off in
           left_at e ∙ ap (λ (b : Bool). if b then Some last.channels else None) waits ∙ sym (ap left_by none)
       at_rest same none false shut =
           let e : said.current ≡ None = sym ends.channel ∙ is_shut ((last.side).table).channel shut in
@@ -493,8 +492,8 @@ left_is_said lines starves premises w ends does = elim ends.comes [
       left_is_open lines starves premises said w ends ∙ ap (λ (b : Bool). if b then said.current else None) none ∙ still does.left acts
   | inr (open_is, waits, now, closed) ↦
       let acts : said.acts ++ ended last.channels ∷ [] ≡ (control_with does.left said).acts =
-          sym (picked_reverse act_by w.deeds ∙ ap reverse (acts_closed last w closed) ∙ reverse-append (ended last.channels ∷ []) (filter_map act_by last.deeds)
-          ∙ ap (λ (xs : List Act). xs ++ ended last.channels ∷ []) (sym (picked_reverse act_by last.deeds) ∙ ends.acts)) ∙ does.acts in
+      sym (picked_reverse act_by w.deeds ∙ ap reverse (acts_closed last w closed) ∙ reverse-append (ended last.channels ∷ []) (filter_map act_by last.deeds)
+      ∙ ap (λ (xs : List Act). xs ++ ended last.channels ∷ []) (sym (picked_reverse act_by last.deeds) ∙ ends.acts)) ∙ does.acts in
       left_is_open lines starves premises said w ends ∙ ap (λ (b : Bool). if b && some_left last then said.current else None) open_is ∙ ap (λ (b : Bool). if b then said.current else None) waits
       ∙ said_open lines starves premises said w ends open_is ∙ over does.left acts
 ]

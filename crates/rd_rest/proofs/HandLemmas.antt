@@ -145,8 +145,11 @@ gave_back s job moment came = by (find (λ (t : InHand). is_key t.key job.key) s
 
     by : (o : Option InHand) → find (λ (t : InHand). is_key t.key job.key) s.taken ≡ o → Gave s job (apply_from s job moment came o).0
     by None e = record {
-      others = λ x has. (has, λ equal. let no : is_key x.key job.key ≡ false = find_none (λ (t : InHand). is_key t.key job.key) s.taken e x has in
-          let yes : is_key x.key job.key ≡ true = ap (λ (k : Key). is_key k job.key) equal ∙ key_self job.key in cc (no, yes));
+      others = λ x has. (
+        has,
+        λ equal. let no : is_key x.key job.key ≡ false = find_none (λ (t : InHand). is_key t.key job.key) s.taken e x has in
+            let yes : is_key x.key job.key ≡ true = ap (λ (k : Key). is_key k job.key) equal ∙ key_self job.key in cc (no, yes),
+      );
       parked = λ p has. inl has;
       more = [];
       longer = sym (append-nil s.journal);
@@ -201,8 +204,7 @@ module _ (lines : List NumberedLine) (starves : Key → Bool) where
           elim (replaced w.hands (hand - 1) hand None (Some (d, job)) y at is_free has) [ inl none ↦ absurd (some none) | inr there ↦ there ]
   part_hands w (applies_one hand d job None) (holds, there) is = λ q t at x has.
       let (j, held, key) = is q t at x has in
-      let (n, full) = hand_is w hand (Some (d, job)) holds in
-      (
+      let (n, full) = hand_is w hand (Some (d, job)) holds in (
         j,
         elim (replaced w.hands (hand - 1) hand (Some (d, job)) None (Some (q, j)) n full held) [
           | inl same ↦
@@ -222,10 +224,10 @@ module _ (lines : List NumberedLine) (starves : Key → Bool) where
             let (j, held, key) = is d s there x was in (
               j,
               subst (λ (k : ℕ). Has (Some (k, j)) (take (hand - 1) w.hands ++ None ∷ drop hand w.hands)) (sym here)
-              (elim (replaced w.hands (hand - 1) hand (Some (d, job)) None (Some (d, j)) n full held) [
-                | inl same ↦ let one : j ≡ job = (same_held d d j job same).1 in absurd (apart (sym key ∙ ap (λ (y : Job). y.key) one))
-                | inr still ↦ still
-              ]),
+                  (elim (replaced w.hands (hand - 1) hand (Some (d, job)) None (Some (d, j)) n full held) [
+                    | inl same ↦ let one : j ≡ job = (same_held d d j job same).1 in absurd (apart (sym key ∙ ap (λ (y : Job). y.key) one))
+                    | inr still ↦ still
+                  ]),
               key,
             )
         | inr (apart, was) ↦

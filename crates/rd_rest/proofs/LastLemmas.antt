@@ -465,6 +465,7 @@ module _ (lines : List NumberedLine) (starves : Key → Bool) (most : Most) (ids
       (settled_rests starves (Led (control_of ids lines) []) (led_free (control_of ids lines) []) (led_drawn (control_of ids lines) []) most.draws)
       (then_on (Led (connected first) lines) (Led (control_of ids lines) []) (plays starves most lines) begun (plays_led lines (λ x has. has) known (connected first))
       (begins_led first lines (world_of lines) 0 start (omega arith) sees (may_connect lines) sees.channel)))
+
 -- ---- a run
 
 one_set_seen : (w : WorldState) (l : Line) → seen (setting w l) ≡ seen w

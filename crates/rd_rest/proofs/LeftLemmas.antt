@@ -145,7 +145,7 @@ module _ (lines : List NumberedLine) (starves : Key → Bool) (premises : RunPre
       let (moment, starved, ran) = reached_left_parked lines starves w reached d s there q has in
       let unsent = ((keeps_at lines starves premises w reached none is d s there).1.parked_run q has).1.unsent in
       let test : is_left_parked s.journal w.channels (Ran q.key moment starved true) ≡ true =
-          ap (λ (b : Bool). b && not (list_any (sends q.key) s.journal)) (eq-eqb (q.key).channel w.channels here) ∙ ap not (not_sent (list_any (sends q.key) s.journal) refl unsent) in
+      ap (λ (b : Bool). b && not (list_any (sends q.key) s.journal)) (eq-eqb (q.key).channel w.channels here) ∙ ap not (not_sent (list_any (sends q.key) s.journal) refl unsent) in
       any_of (λ (e : ℕ × Of). let t = e.1 in list_any (is_left_parked t.journal w.channels) t.journal) w.stations (d, s) (entry_has w.stations d s there)
       (any_of (is_left_parked s.journal w.channels) s.journal (Ran q.key moment starved true) ran test)
     where
@@ -172,8 +172,8 @@ module _ (lines : List NumberedLine) (starves : Key → Bool) (premises : RunPre
         | inr (moment, starved, mark, ran) ↦
             let among : Has (Ran p.key moment starved mark) (journal d w.deeds) = subst (Has (Ran p.key moment starved mark)) (sym e) (inr (turned_has (Ran p.key moment starved mark) earlier ran)) in
             let stored : Has (Ran p.key moment starved mark) s.journal =
-                from_contains s.journal (Ran p.key moment starved mark) (subst (λ (j : List Item). Contains j (Ran p.key moment starved mark)) (((ordered lines starves premises w reached none is).held).tied d s there)
-                (has_contains (Ran p.key moment starved mark) (journal d w.deeds) among)) in
+            from_contains s.journal (Ran p.key moment starved mark) (subst (λ (j : List Item). Contains j (Ran p.key moment starved mark)) (((ordered lines starves premises w reached none is).held).tied d s there)
+            (has_contains (Ran p.key moment starved mark) (journal d w.deeds) among)) in
             has_any (λ entry. named_key entry ≡ Some p.key) s.journal (Ran p.key moment starved mark) stored refl
       ]
 

@@ -91,7 +91,7 @@ module _ (w : WorldState) (none : choices w ≡ []) where
   no_hand_full x has =
       let (i, below, is) = place_of (Some x) w.hands has in
       let quiet : where_true (is_enabled w (apply_job (suc i))) (event (apply_job (suc i))) ≡ [] =
-          none_of (λ hand. where_true (is_enabled w (apply_job hand)) (event (apply_job hand))) (hand_numbers w) (nothing_in _ _ none).1 (suc i) (number_there w i below) in
+      none_of (λ hand. where_true (is_enabled w (apply_job hand)) (event (apply_job hand))) (hand_numbers w) (nothing_in _ _ none).1 (suc i) (number_there w i below) in
       let off : is_hand_full w (suc i) ≡ false = not_true (is_enabled w (apply_job (suc i))) (event (apply_job (suc i))) quiet in
       let full : is_hand_full w (suc i) ≡ true = ap (λ (o : Option (Option (ℕ × Job))). option_map_or is_some o false) (hand_there w i ∙ is) in
       clash (is_hand_full w (suc i)) off full
@@ -112,7 +112,7 @@ module _ (w : WorldState) (none : choices w ≡ []) where
       let c = nothing_in _ _ b.0 in
       let e = nothing_in _ _ c.0 in
       let quiet : where_true (is_enabled w (collect d)) (event (collect d)) ≡ [] =
-          none_of (λ device. where_true (is_enabled w (collect device)) (event (collect device))) (device_ids w) e.1 d (found_has w.stations d s there) in
+      none_of (λ device. where_true (is_enabled w (collect device)) (event (collect device))) (device_ids w) e.1 d (found_has w.stations d s there) in
       by s.ready (sym (ap (λ (o : Option Of). option_map_or (λ (t : Of). not (is_empty t.ready)) o false) there)
       ∙ left (client_has_message w) (has_completion w d) no_message (not_true (is_enabled w (collect d)) (event (collect d)) quiet))
     where
@@ -130,7 +130,7 @@ module _ (w : WorldState) (none : choices w ≡ []) where
       let b = nothing_in _ _ a.0 in
       let takes : takes_of w d ≡ [] = none_of (takes_of w) (device_ids w) b.1 d (found_has w.stations d s there) in
       let quiet : where_true (is_enabled w (take_job d 1)) (event (take_job d 1)) ≡ [] =
-          none_of (λ hand. where_true (is_enabled w (take_job d hand)) (event (take_job d hand))) (hand_numbers w) takes 1 (number_there w 0 some) in
+      none_of (λ hand. where_true (is_enabled w (take_job d hand)) (event (take_job d hand))) (hand_numbers w) takes 1 (number_there w 0 some) in
       by s.waiting (sym (ap (λ (o : Option Of). option_map_or (λ (t : Of). not (is_empty t.waiting)) o false) there)
       ∙ left (is_hand_free w 1) (job_waits w d) (free w.hands some (λ x has. no_hand_full x has) (hand_there w 0)) (not_true (is_enabled w (take_job d 1)) (event (take_job d 1)) quiet))
     where

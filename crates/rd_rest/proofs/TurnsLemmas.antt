@@ -73,9 +73,9 @@ module _ (lines : List NumberedLine) (starves : Key → Bool) (fit : AreFit (dec
   behind_turns w behind =
       by_parts lines starves (λ x. (EndsWith all x.deeds → InTurn x)) (λ e. begins_turns lines)
       (λ x p before after may is e.
-          let both = behind_orderly lines starves x fit before in
-          let (more, same) = part_grows starves x p in
-          part_turns lines starves fit premises x p may before after both.0 both.1 (meets x p may before e) (is (ends_before (done starves x p).deeds x.deeds more same e))) w behind
+      let both = behind_orderly lines starves x fit before in
+      let (more, same) = part_grows starves x p in
+      part_turns lines starves fit premises x p may before after both.0 both.1 (meets x p may before e) (is (ends_before (done starves x p).deeds x.deeds more same e))) w behind
 
 -- so it is in each world that lines come to
 pub reached_in_turn : (lines : List NumberedLine) (starves : Key → Bool) → RunPremises lines → DeclareWritable lines → length lines ≤ 1000000 → (w : WorldState) → Reached lines starves w → InTurn w

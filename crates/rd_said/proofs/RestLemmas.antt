@@ -125,7 +125,7 @@ left_over devices things replies c os deeds due answers is =
       };
       tells = record {
         each = say_zip (Tells devices deeds c) (tellings_on c (rest ++ deeds)) (of_channel c things)
-        (subst (λ (ms : List (List ℕ)). SayFirst (Tells devices deeds c) ms (of_channel c things)) (sym tellings) (subst (SayFirst (Tells devices deeds c) (tellings_on c deeds ++ waiting os)) (sym due) is.tells));
+            (subst (λ (ms : List (List ℕ)). SayFirst (Tells devices deeds c) ms (of_channel c things)) (sym tellings) (subst (SayFirst (Tells devices deeds c) (tellings_on c deeds ++ waiting os)) (sym due) is.tells));
         all = λ e. absurd (cc e);
       };
     }

@@ -183,15 +183,17 @@ left_same devices c os new old same is = record {
   unserved = λ o has key e.
       let (was, none) = is.unserved o has key e in
       let own : key.channel ≡ c = subst (λ (a : Option Key). IfSome a (λ (k : Key). k.channel ≡ c)) e (has_on c os o is.on has) in
-      let read : client_read key.channel new ≡ client_read key.channel old = subst (λ (n : ℕ). client_read n new ≡ client_read n old) (sym own) same.read in
-      (record { request = was.request; reply = was.reply; read = ap (λ (ms : List (List ℕ)). request_at ms key.index) read ∙ was.read; completes = was.completes; given = was.given },
-        λ device. same.came_same device key.index ∙ none device);
+      let read : client_read key.channel new ≡ client_read key.channel old = subst (λ (n : ℕ). client_read n new ≡ client_read n old) (sym own) same.read in (
+        record { request = was.request; reply = was.reply; read = ap (λ (ms : List (List ℕ)). request_at ms key.index) read ∙ was.read; completes = was.completes; given = was.given },
+        λ device. same.came_same device key.index ∙ none device,
+      );
   each = λ device.
       let now : (xs : List ℕ) → never c (journal device old) xs ≡ never c (journal device new) xs = λ xs. sym (never_same c (journal device new) (journal device old) (same.came_same device) xs) in
-      let (prefix, parts) = is.each device in
-      (prefix,
+      let (prefix, parts) = is.each device in (
+        prefix,
         ap (λ (xs : List ℕ). never c (journal device new) (said c device os xs)) (same.line device) ∙ sym (now (said c device os (told c device old))) ∙ parts
-        ∙ ap (λ (xs : List ℕ). prefix ++ xs) (now (requests_to device (without_last (client_read c old))) ∙ ap (λ (ms : List (List ℕ)). never c (journal device new) (requests_to device (without_last ms))) (sym same.read)));
+            ∙ ap (λ (xs : List ℕ). prefix ++ xs) (now (requests_to device (without_last (client_read c old))) ∙ ap (λ (ms : List (List ℕ)). never c (journal device new) (requests_to device (without_last ms))) (sym same.read)),
+      );
   tells =
       let ids : List ℕ = map (λ (d : ℕ × Declared). d.0) devices in
       say_as (Tells devices old c) (Tells devices new c) (tells_since devices c new old same) (tellings_on c new ++ waiting os) (due_on ids c new)

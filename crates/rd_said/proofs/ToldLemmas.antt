@@ -110,13 +110,13 @@ module _ (lines : List NumberedLine) (starves : Key → Bool) (premises : RunPre
       → AllTold (declared_devices (bare_lines lines)) told (replies_in (declared_devices (bare_lines lines)) w.deeds) w.deeds
   rest_told told same rests = open_told told same
       (λ c opened.
-          let at = last c opened in
-          let (none, kept, all) = rests at.1 in
-          subst (λ (n : ℕ). client_read n w.deeds ≡ host_wrote n w.deeds) (sym at.0) (client_heard_all lines starves premises w reached none at.1 kept))
+      let at = last c opened in
+      let (none, kept, all) = rests at.1 in
+      subst (λ (n : ℕ). client_read n w.deeds ≡ host_wrote n w.deeds) (sym at.0) (client_heard_all lines starves premises w reached none at.1 kept))
       (λ c opened device id index has.
-          let at = last c opened in
-          let (none, kept, all) = rests at.1 in
-          subst (λ (n : ℕ). Has index (answers_on n device id w.deeds)) (sym at.0) (all device id index (subst (λ (n : ℕ). Has index (asked n device id w.deeds)) at.0 has)))
+      let at = last c opened in
+      let (none, kept, all) = rests at.1 in
+      subst (λ (n : ℕ). Has index (answers_on n device id w.deeds)) (sym at.0) (all device id index (subst (λ (n : ℕ). Has index (asked n device id w.deeds)) at.0 has)))
     where
       last : (c : ℕ) → open_channel w.deeds ≡ Some c → (c ≡ w.channels) × (open_channel w.deeds ≡ Some w.channels)
       last c opened =

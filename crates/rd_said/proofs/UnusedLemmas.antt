@@ -73,10 +73,10 @@ module _ (c : ℕ) (deeds : List Deed) (may : EachAfter (λ before deed. MayDo (
   one_used (completes key m) may on (inr (inr unused)) = elim (apart_or key.channel on) [
     | inl opened ↦ inr (inl opened)
     | inr apart ↦ inr (inr (record {
-        read = unused.read;
-        wrote = unused.wrote;
-        none_answered = λ device id. off_both (key.channel == c) (message_has_pair device id m) key.index (answered c device id deeds) apart ∙ unused.none_answered device id;
-      }))
+      read = unused.read;
+      wrote = unused.wrote;
+      none_answered = λ device id. off_both (key.channel == c) (message_has_pair device id m) key.index (answered c device id deeds) apart ∙ unused.none_answered device id;
+    }))
   ]
   one_used (client_writes n m) may on (inl ended) = inl ended
   one_used (client_writes n m) may on (inr (inl opened)) = inr (inl opened)
