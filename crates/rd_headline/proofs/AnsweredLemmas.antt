@@ -1,6 +1,6 @@
 -- At rest, where each request on the open channel was completed, no application awaits anything.
-use Rattle.std.proofs.Common.{◌≡◌, ◌⊎◌, ◌∙◌, refl, sym, ap, subst, inl, inr, ℕ, zero, suc, ◌+◌, ◌<◌, ◌≤◌, ◌==◌, Bool, true, false, cond, List, [], ◌∷◌, ◌++◌, length, Some, None, Option, arith, eq-eqb}
-use Rattle.std.specs.Prelude.{filter, is_some, slice_get}
+use Rattle.std.proofs.Common.{◌≡◌, ◌∙◌, refl, sym, ap, subst, inl, inr, ℕ, zero, suc, ◌<◌, ◌≤◌, Bool, true, cond, List, [], ◌∷◌, length, Some, None, Option, arith, eq-eqb}
+use Rattle.std.specs.Prelude.{filter, slice_get}
 use Rattle.std.proofs.lemmas.Option.{slice_get_cases}
 use Rattle.rd_base.specs.declared.journal.Key.{Key}
 use Rattle.rd_answered.proofs.SessionLemmas.{reached_joined, reached_joins}
@@ -8,19 +8,17 @@ use Rattle.rd_answered.specs.Refusing.{DeclareWritable}
 use Rattle.rd_orders.specs.Orders.{DeclaresWritable}
 use Rattle.rd_outcomes.proofs.AwaitedLemmas.{awaited_unknown}
 use Rattle.rd_pending.specs.Outcomes.{Accepted}
-use Rattle.rd_pending.specs.Table.{TableState, Untaken, awaits, untaken_at}
-use Rattle.rd_pending.specs.History.{accepted_in}
+use Rattle.rd_pending.specs.Table.{TableState, awaits, untaken_at}
 use Rattle.rd_pending.proofs.CountLemmas.{pairs}
-use Rattle.rd_pending.proofs.CourseLemmas.{heard_pairs}
 use Rattle.rd_pending.proofs.FateLemmas.{waiting}
-use Rattle.rd_pending.proofs.Sound.{Sound, course, held, own_slot}
+use Rattle.rd_pending.proofs.Sound.{Sound, held, own_slot}
 use Rattle.rd_runs.proofs.Resting.{client_heard_all, host_heard_all, quiet}
 use Rattle.rd_runs.proofs.HostLemmas.{host_channel}
 use Rattle.rd_runs.proofs.Together.{known}
 use Rattle.rd_runs.specs.Moves.{Reached}
 use Rattle.rd_runs.specs.Premises.{RunPremises}
 use Rattle.rd_script.specs.declared.line.NumberedLine.{NumberedLine}
-use Rattle.rd_world.specs.Host.{HostSide, first_waiting, next_message}
+use Rattle.rd_world.specs.Host.{HostSide, first_waiting}
 use Rattle.rd_world.specs.HostDeeds.{calls_of, side_of}
 use Rattle.rd_world.specs.Joining.{accepted}
 use Rattle.rd_world.specs.Recording.{client_id}

@@ -1,11 +1,9 @@
 -- What a host read of completions it heard, and where all was answered no outcome is awaited.
-use Rattle.std.proofs.Common.{◌≡◌, ◌⊎◌, ◌∙◌, refl, sym, ap, subst, inl, inr, ℕ, zero, suc, ◌+◌, ◌<◌, ◌≤◌, ◌==◌, ◌&&◌, Bool, true, false, cond, List, [], ◌∷◌, ◌++◌, fold, length, map, reverse, Some, None, Option, Result, Ok, Err, arith, eq-eqb, eqb-true}
+use Rattle.std.proofs.Common.{◌≡◌, ◌∙◌, refl, sym, ap, subst, inl, inr, ℕ, suc, ◌+◌, ◌<◌, ◌≤◌, ◌==◌, ◌&&◌, Bool, true, false, cond, List, [], ◌∷◌, ◌++◌, fold, length, map, reverse, Some, None, Option, Result, Ok, Err, arith}
 use Rattle.std.specs.Prelude.{IsOk, filter, is_some}
 use Rattle.std.specs.List.{cons_option}
 use Rattle.std.specs.Option.{option_map_or}
 use Rattle.rd_base.specs.declared.journal.Key.{Key}
-use Rattle.rd_base.specs.Position.{Position, at_start}
-use Rattle.rd_base.specs.Layout.{met}
 use Rattle.rd_hello.specs.declared.end_fault.EndFault.{EndFault}
 use Rattle.rd_base.specs.Statuses as status
 use Rattle.rd_devices.specs.declared.list.Announce.{Announce}
@@ -15,7 +13,6 @@ use Rattle.rd_host.specs.Served.{is_served_type}
 use Rattle.rd_host.specs.declared.act.Act.{Act}
 use Rattle.rd_host.specs.declared.act.Act.TheVariants as act
 use Rattle.rd_irp.specs.declared.completion.Head.{Head}
-use Rattle.rd_irp.specs.declared.request.Request.{Request}
 use Rattle.rd_orders.proofs.Meeting.{behind_meets}
 use Rattle.rd_orders.specs.Orders.{DeclaresWritable}
 use Rattle.rd_pending.specs.declared.calls.CompleteNo.{CompleteNo}
@@ -26,12 +23,9 @@ use Rattle.rd_pending.specs.Table as table
 use Rattle.rd_pending.specs.Table.{TableState, awaits}
 use Rattle.rd_pending.specs.History.{heard_on}
 use Rattle.rd_pending.proofs.CountLemmas.{pairs}
-use Rattle.rd_pending.proofs.CourseLemmas.{heard_pairs}
-use Rattle.rd_pending.proofs.Sound.{Sound, course, own_slot}
 use Rattle.rd_pending.proofs.Tame.{newest, newest_pairs, with_pair}
 use Rattle.rd_runs.proofs.Insides.{AreOwn, IsInside, IsOwn, all_dropped_inside, applied_inside, hears_inside, put_inside, removed_inside, added_inside, stationed}
 use Rattle.rd_runs.proofs.Parts.{IsBehind, MayBe, Part, accepts, adds_one, applies_one, begins, by_parts, client_gets, client_hears_one, client_keeps_part, client_sends_one, collects_one, done, draws_one, ends, hands_out, host_gets, host_hears_one, host_keeps_part, host_sends_one, idle_one, queues_one, reached_behind, refuses, removes_one, takes_one, tells_one, tries_one}
-use Rattle.rd_runs.proofs.HostLemmas.{host_channel}
 use Rattle.rd_runs.proofs.Standing.{needs_open}
 use Rattle.rd_runs.proofs.Together.{knows}
 use Rattle.rd_runs.proofs.BeginningLemmas.{Unset, begins_as}
@@ -42,20 +36,17 @@ use Rattle.rd_script.specs.declared.line.NumberedLine.{NumberedLine}
 use Rattle.rd_station.specs.Station.{StationState}
 use Rattle.rd_world.specs.Devices.{PrinterNames}
 use Rattle.rd_world.specs.declared.device.SessionDevice.{SessionDevice}
-use Rattle.rd_world.specs.Events.{cutting, deed_on, dropping}
 use Rattle.rd_world.specs.Host.{HostSide, admits, forgets, hears, host_heard, lived}
 use Rattle.rd_world.specs.HostDeeds.{calls_of, side_of}
 use Rattle.rd_world.specs.Joining.{IsCompleted as IsCompletedBy, IsTaken, TakesHeard, accepted, request_of_accepted}
 use Rattle.rd_world.specs.Recording.{client_id}
-use Rattle.rd_world.specs.Run.{world_of}
-use Rattle.rd_world.specs.Talk.{Deed, EachAfter, EndsWith, Has, adds, answered, asked, client_read, client_reads, client_writes, client_wrote, completes, head_in, host_begins, host_ends, host_read, host_reads, host_writes, host_wrote, indices_of, is_request, message_asks_pair, message_has_pair, open_channel, removes, stores, submits, takes, tells}
+use Rattle.rd_world.specs.Talk.{Deed, EachAfter, EndsWith, Has, adds, answered, asked, client_read, client_reads, client_writes, completes, head_in, host_begins, host_ends, host_read, host_reads, host_writes, host_wrote, indices_of, is_request, message_asks_pair, message_has_pair, open_channel, removes, stores, submits, takes, tells}
 use Rattle.rd_world.specs.World.{WorldState}
 use Rattle.rd_world.proofs.Calls.{Does, heard_by_deed, heard_step, taken}
-use Rattle.rd_world.proofs.Counting.{length-answered}
 use Rattle.rd_world.proofs.Hearings.{Heard, heard}
-use Rattle.rd_world.proofs.Joined.{heard_is, pairs_in, pairs_more}
+use Rattle.rd_world.proofs.Joined.{pairs_in, pairs_more}
 use Rattle.rd_world.proofs.Messages.{request_is}
-use Rattle.rd_world.proofs.Written.{Matches, Spells, requests_on, sound_side, written}
+use Rattle.rd_world.proofs.Written.{Matches, requests_on, written}
 use Rattle.rd_headline.specs.Heard.{HearsFine}
 
 -- ---- nothing that a host reads is wrong

@@ -1,5 +1,5 @@
 -- In every run each channel opens before the next line passes.
-use Rattle.std.proofs.Common.{◌≡◌, ◌∙◌, refl, sym, ap, subst, ℕ, suc, ◌+◌, ◌≤◌, Bool, true, List, [], ◌∷◌, length, Some, None, Option, arith}
+use Rattle.std.proofs.Common.{◌≡◌, refl, sym, ap, subst, ℕ, ◌+◌, ◌≤◌, Bool, true, List, [], ◌∷◌, length, Some, None, Option, arith}
 use Rattle.std.specs.Option.{IfSome}
 use Rattle.rd_base.specs.declared.journal.Key.{Key}
 use Rattle.rd_controls.proofs.Walking.{IsOpening, opening_rounds_keep}
@@ -11,7 +11,7 @@ use Rattle.rd_runs.proofs.Parts.{reached_behind}
 use Rattle.rd_runs.specs.Moves.{IsOfLines, MayPass, Reached, ReachedWithin, event_weight, happens}
 use Rattle.rd_runs.specs.Premises.{RunPremises}
 use Rattle.rd_script.specs.declared.line.NumberedLine.{NumberedLine}
-use Rattle.rd_world.specs.Acts.{HasOpened, Opens}
+use Rattle.rd_world.specs.Acts.{HasOpened}
 use Rattle.rd_world.specs.Devices.{Declared}
 use Rattle.rd_world.specs.Events as event
 use Rattle.rd_world.specs.Events.{Event, act, is_enabled}

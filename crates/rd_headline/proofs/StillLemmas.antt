@@ -1,10 +1,10 @@
 -- Where a run rests on an open channel that channel is still.
-use Rattle.std.proofs.Common.{◌≡◌, ◌⊎◌, ◌∙◌, refl, sym, ap, subst, inl, inr, ℕ, ◌≤◌, Bool, true, false, List, [], ◌∷◌, ◌++◌, length, map, reverse, filter_map, fold, Some, None, Option, arith, ◌<◌}
-use Rattle.std.specs.Prelude.{All, filter, is_some, if◌then◌else◌}
+use Rattle.std.proofs.Common.{◌≡◌, ◌∙◌, refl, sym, ap, subst, inl, inr, ℕ, ◌≤◌, Bool, true, false, List, [], ◌∷◌, ◌++◌, length, map, reverse, filter_map, fold, Some, None, Option, arith}
+use Rattle.std.specs.Prelude.{All, if◌then◌else◌}
 use Rattle.std.proofs.lemmas.List.{length-reverse}
 use Rattle.std.proofs.lemmas.List.Elements.{All-from_recursion}
 use Rattle.std.specs.List.{AllByRecursion}
-use Rattle.std.specs.Option.{IfSome, option_map_or}
+use Rattle.std.specs.Option.{IfSome}
 use Rattle.rd_base.specs.declared.journal.Key.{Key}
 use Rattle.rd_acted.proofs.ActLemmas.{acts_by_deeds, control_by_acts}
 use Rattle.rd_acted.proofs.DueLemmas.{notices_are_due, told_is_due}
@@ -30,13 +30,13 @@ use Rattle.rd_runs.proofs.Together.{known}
 use Rattle.rd_runs.specs.Moves.{Reached}
 use Rattle.rd_runs.specs.Premises.{RunPremises}
 use Rattle.rd_script.specs.declared.line.NumberedLine.{NumberedLine}
-use Rattle.rd_world.specs.Acts.{act_by, first_control_of, is_settle, left_open, notices_on, of_channel, tellings_on}
+use Rattle.rd_world.specs.Acts.{act_by, first_control_of, is_settle, of_channel}
 use Rattle.rd_world.specs.Control.{Act, Control, Telling, control_of, controlled, first_control}
 use Rattle.rd_world.specs.Devices.{Declared}
 use Rattle.rd_world.specs.Opening.{bare_lines}
 use Rattle.rd_world.specs.Run.{Most, choices, declared_devices, run_of}
 use Rattle.rd_world.specs.Session.{IsStill, WasStill, at_settles}
-use Rattle.rd_world.specs.Talk.{Deed, EndsWith, has_ended, open_channel}
+use Rattle.rd_world.specs.Talk.{Deed, has_ended, open_channel}
 use Rattle.rd_world.specs.World.{WorldState}
 
 -- ---- what control lines told

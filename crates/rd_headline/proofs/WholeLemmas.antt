@@ -1,27 +1,20 @@
 -- The end of every run, field by field of a whole session.
-use Rattle.std.proofs.Common.{◌≡◌, ◌⊎◌, ◌∙◌, refl, sym, ap, subst, inl, inr, ℕ, zero, suc, ◌+◌, ◌<◌, ◌≤◌, ◌==◌, ◌&&◌, ◌||◌, arith, eq-eqb, Bool, true, false, List, [], ◌∷◌, ◌++◌, length, map, reverse, filter_map, fold, Some, None, Option, Result, Ok, Err}
+use Rattle.std.proofs.Common.{◌≡◌, ◌∙◌, refl, sym, ap, subst, inl, inr, ℕ, zero, suc, ◌+◌, ◌<◌, ◌≤◌, ◌==◌, ◌&&◌, ◌||◌, arith, eq-eqb, Bool, true, false, List, [], ◌∷◌, length, map, fold, Some, None, Option, Result, Ok, Err}
 use Rattle.std.specs.Prelude.{All, filter, if◌then◌else◌, is_some}
 use Rattle.std.proofs.lemmas.Bool.{cases_eq}
 use Rattle.std.proofs.lemmas.List.Elements.{recursion_from_All}
-use Rattle.std.specs.List.{AllByRecursion, flat_map, list_any, range_with_len}
+use Rattle.std.specs.List.{AllByRecursion, list_any, range_with_len}
 use Rattle.std.specs.Option.{IfSome, option_and_then, option_map_or}
 use Rattle.rd_base.specs.declared.journal.Key.{Key}
 use Rattle.rd_acted.proofs.ActLemmas.{acts_by_deeds, control_by_acts}
 use Rattle.rd_acted.proofs.EndedLemmas.{behind_over, channels_end_told}
-use Rattle.rd_acted.proofs.ReadLemmas.{behind_read_as}
 use Rattle.rd_acted.proofs.RunLemmas.{acted_whole, run_acted}
 use Rattle.rd_acted.specs.Acted.{AreReadWell, EndsTold, HaveActed, control_after, control_by_deeds, without_idle}
-use Rattle.rd_answered.proofs.SessionLemmas.{reached_answered, reached_joined, reached_joins}
+use Rattle.rd_answered.proofs.SessionLemmas.{reached_joined, reached_joins}
 use Rattle.rd_controls.proofs.Unseen.{Seen, event_unseen}
 use Rattle.rd_controls.proofs.Walking.{settled_keeps}
-use Rattle.rd_controls.specs.Controls.{DoAsSaid}
-use Rattle.rd_joined.proofs.BookLemmas.{marked, named, still_clock, stored}
-use Rattle.rd_journals.proofs.DeclaredLemmas.{bounded_fit}
-use Rattle.rd_journals.specs.Stations.{AreFit}
 use Rattle.rd_opening.proofs.RunLemmas.{runs_opened, runs_settled}
 use Rattle.rd_opening.proofs.SentLemmas.{open_or_none, opened_as, rest_heard, rest_sent, unbegun_heard}
-use Rattle.rd_orders.proofs.ClientOrdering.{behind_client_ordered}
-use Rattle.rd_orders.proofs.HostOrdering.{behind_host_ordered}
 use Rattle.rd_orders.proofs.Meeting.{behind_meets}
 use Rattle.rd_outcomes.proofs.LinesLemmas.{lines_end}
 use Rattle.rd_outcomes.proofs.NumberedLemmas.{are_applications, outcomes_numbered}
@@ -31,30 +24,23 @@ use Rattle.rd_rest.proofs.FullLemmas.{none_kept_back}
 use Rattle.rd_rest.proofs.LeftLemmas.{left_waits}
 use Rattle.rd_runs.proofs.Parts.{reached_behind}
 use Rattle.rd_runs.proofs.Reaching.{run_reached, run_rests}
-use Rattle.rd_runs.proofs.Resting.{client_heard_all, quiet}
+use Rattle.rd_runs.proofs.Resting.{client_heard_all}
 use Rattle.rd_runs.proofs.HostLemmas.{host_channel}
 use Rattle.rd_runs.proofs.Together.{known}
 use Rattle.rd_runs.proofs.TrafficLemmas.{Traffic}
 use Rattle.rd_runs.specs.Moves.{Reached, event_weight}
 use Rattle.rd_script.specs.declared.line.NumberedLine.{NumberedLine}
 use Rattle.rd_script.specs.declared.outcome.Outcome.{Outcome}
-use Rattle.rd_script.specs.Report.{numbered_from}
-use Rattle.rd_script.specs.Rows.{max_applications}
-use Rattle.rd_told.proofs.OpenLemmas.{stored_open}
-use Rattle.rd_told.proofs.PlainLemmas.{written_plainly}
-use Rattle.rd_told.proofs.PrintedLemmas.{documents_told}
 use Rattle.rd_world.specs.Acts.{AreActed, Opens, control_by, is_settled_host, left_open, some_wait, waiting_keys}
-use Rattle.rd_world.specs.Control.{Control, Telling}
+use Rattle.rd_world.specs.Control.{Control}
 use Rattle.rd_world.specs.Devices.{Declared}
 use Rattle.rd_world.specs.Events.{Event, act, cutting, drop_channel, is_channel_open, is_enabled}
 use Rattle.rd_world.specs.Lines.{HaveOutcomes}
 use Rattle.rd_world.specs.Opening.{bare_lines}
-use Rattle.rd_world.specs.Recording.{IsRecorded, client_id, host_stand, recording_of_deeds}
+use Rattle.rd_world.specs.Recording.{host_stand}
 use Rattle.rd_world.specs.Report.{outcomes_of}
 use Rattle.rd_world.specs.Run.{Most, choices, connects_on, declared_devices, ends_session, plays, run_of, settled, some_left, world_of}
-use Rattle.rd_world.specs.Session.{AllTold, IsLeftOver, replies_in}
-use Rattle.rd_world.specs.Talk.{Deed, EachAfter, Has, answered, asked, client_read, client_wrote, has_ended, host_read, host_wrote, indices_of, message_has_pair, open_channel, takes}
-use Rattle.rd_world.specs.Told.{Replies}
+use Rattle.rd_world.specs.Talk.{EachAfter, Has, answered, asked, client_read, has_ended, host_wrote, indices_of, message_has_pair, open_channel, takes}
 use Rattle.rd_pending.specs.declared.calls.Handle.{Handle}
 use Rattle.rd_pending.specs.declared.calls.Taken.{Taken}
 use Rattle.rd_pending.specs.declared.calls.TakeNo.{TakeNo}
@@ -68,7 +54,7 @@ use Rattle.rd_headline.proofs.AnsweredLemmas.{none_awaits}
 use Rattle.rd_headline.proofs.HeardLemmas.{all_answered}
 use Rattle.rd_headline.proofs.StandLemmas.{opens_in_time}
 use Rattle.rd_headline.proofs.StillLemmas.{read_well}
-use Rattle.rd_headline.specs.Premises.{MeetPremises}
+use Rattle.rd_loads.specs.AllPremises.{MeetPremises}
 
 in_range : (P : ℕ → Type 0) (from n c : ℕ) → AllByRecursion P (range_with_len from n) → from ≤ c → c < from + n → P c
 in_range P from zero c all low high = absurd (omega (arith, low, high))
@@ -114,13 +100,13 @@ module _ (lines : List NumberedLine) (starves : Key → Bool) (most : Most) (pre
   abbrev pub ids : List ℕ
   ids = map (λ (d : ℕ × Declared). d.0) devices
 
-  reached : Reached lines starves w
+  pub reached : Reached lines starves w
   reached = run_reached lines starves most w is
 
-  rests : choices w ≡ []
+  pub rests : choices w ≡ []
   rests = run_rests starves most lines w is
 
-  kept : w.kept ≡ None
+  pub kept : w.kept ≡ None
   kept = none_kept_back lines starves premises.run w reached rests
 
   -- ---- a run that ends on an open channel leaves nothing waiting there
@@ -219,25 +205,24 @@ module _ (lines : List NumberedLine) (starves : Key → Bool) (most : Most) (pre
 
   -- ---- what control lines did
 
-  well : AreReadWell w.deeds
+  pub well : AreReadWell w.deeds
   well = read_well lines starves premises.run premises.few premises.declared premises.writable w reached rests kept
 
   ends_told : EachAfter EndsTold w.deeds
   ends_told = channels_end_told lines starves premises.run w (reached_behind lines starves w reached) well (λ c first below. in_range (Opens devices w.deeds) 1 w.channels c (recursion_from_All (Opens devices w.deeds) (range_with_len 1 w.channels) (runs_opened lines starves premises.run premises.writable most w is)) first (omega (arith, below)))
 
-  module _ (left : (said : DoAsSaid (map (λ (d : ℕ × Declared). d.0) devices) lines starves w) → left_open devices w.deeds (control_by devices lines) ≡ said.left) where
-    acted : HaveActed devices lines w.idle w.deeds
-    acted = run_acted lines starves premises.run most w premises.few premises.ordered is well ends_told left
+  acted : HaveActed devices lines w.idle w.deeds
+  acted = run_acted lines starves premises.run most w premises.few premises.ordered is well ends_told
 
-    pub run_acts : AreActed devices lines w.idle w.deeds
-    run_acts =
-        let many : acted.control.channels ≡ w.channels = channels_are acted in
-        acted_whole devices lines w.idle w.deeds acted
-        (subst (λ (n : ℕ). All (Opens devices w.deeds) (range_with_len 1 n)) (sym many) (runs_opened lines starves premises.run premises.writable most w is))
-        (subst (λ (n : ℕ). All (λ (c : ℕ). has_ended c w.deeds ≡ false → option_map_or is_settled_host (host_stand w.deeds c) false ≡ true) (range_with_len 1 n)) (sym many) (runs_settled lines starves premises.run premises.writable most w is))
-      where
-        channels_are : (a : HaveActed devices lines w.idle w.deeds) → a.control.channels ≡ w.channels
-        channels_are a =
-            let by_acts = subst (λ (k : Control). without_idle k ≡ control_after ids k.acts) (sym a.control_is) (control_by_acts ids lines (left_open devices w.deeds (control_by devices lines))) in
-            let same : without_idle a.control ≡ control_by_deeds ids w.deeds = by_acts ∙ ap (control_after ids) (sym a.acts) ∙ acts_by_deeds ids w.deeds in
-            ap (λ (k : Control). k.channels) same ∙ (behind_over lines starves premises.run ids w (reached_behind lines starves w reached) well).channels
+  pub run_acts : AreActed devices lines w.idle w.deeds
+  run_acts =
+      let many : acted.control.channels ≡ w.channels = channels_are acted in
+      acted_whole devices lines w.idle w.deeds acted
+      (subst (λ (n : ℕ). All (Opens devices w.deeds) (range_with_len 1 n)) (sym many) (runs_opened lines starves premises.run premises.writable most w is))
+      (subst (λ (n : ℕ). All (λ (c : ℕ). has_ended c w.deeds ≡ false → option_map_or is_settled_host (host_stand w.deeds c) false ≡ true) (range_with_len 1 n)) (sym many) (runs_settled lines starves premises.run premises.writable most w is))
+    where
+      channels_are : (a : HaveActed devices lines w.idle w.deeds) → a.control.channels ≡ w.channels
+      channels_are a =
+          let by_acts = subst (λ (k : Control). without_idle k ≡ control_after ids k.acts) (sym a.control_is) (control_by_acts ids lines (left_open devices w.deeds (control_by devices lines))) in
+          let same : without_idle a.control ≡ control_by_deeds ids w.deeds = by_acts ∙ ap (control_after ids) (sym a.acts) ∙ acts_by_deeds ids w.deeds in
+          ap (λ (k : Control). k.channels) same ∙ (behind_over lines starves premises.run ids w (reached_behind lines starves w reached) well).channels

@@ -1,5 +1,5 @@
 -- What a host heard.
-use Rattle.std.specs.Prelude.{ℕ, List, IsOk}
+use Rattle.std.specs.Prelude.{List, IsOk}
 use Rattle.rd_host.specs.Core.{host_hear}
 use Rattle.rd_world.specs.HostDeeds.{side_of}
 use Rattle.rd_world.specs.Recording.{client_id}

@@ -5,4 +5,4 @@
 
 mod laws;
 
-pub use laws::channels_open_in_time;
+pub use laws::{channels_open_in_time, loads_are_whole, runs_are_whole, scripts_are_whole};

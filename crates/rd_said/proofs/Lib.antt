@@ -5,4 +5,3 @@ pub mod EndingLemmas
 pub mod PartLemmas
 pub mod LeftLemmas
 pub mod ToldLemmas
-pub mod UnusedLemmas

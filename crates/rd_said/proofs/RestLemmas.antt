@@ -6,7 +6,7 @@ use Rattle.std.specs.List.{AllByRecursion, cons_option}
 use Rattle.std.specs.Option.{IfSome, option_map_or}
 use Rattle.rd_acted.proofs.SayingLemmas.{say_zip, wrote_more}
 use Rattle.rd_acted.specs.Acted.{SayFirst, due_on}
-use Rattle.rd_acted.specs.Waiting.{waiting}
+use Rattle.rd_acted.specs.Waiting.{tellings_waiting}
 use Rattle.rd_answered.proofs.SayingLemmas.{refuses_so}
 use Rattle.rd_answered.specs.Refusing.{AllRefuse, RefusesGone}
 use Rattle.rd_base.specs.declared.journal.Key.{Key}
@@ -71,15 +71,15 @@ module _ (c : ℕ) where
   left_then [] deeds on left = left
   left_then (o ∷ os) deeds on left = left_then os (deed_on c o ∷ deeds) on.1 (left_one o on.0, left)
 
-  tells_then : (os : List Outgoing) (deeds : List Deed) → AllByRecursion (IsAnswerOn c) os → tellings_on c (deeds_then c os deeds) ≡ tellings_on c deeds ++ waiting os
+  tells_then : (os : List Outgoing) (deeds : List Deed) → AllByRecursion (IsAnswerOn c) os → tellings_on c (deeds_then c os deeds) ≡ tellings_on c deeds ++ tellings_waiting os
   tells_then [] deeds on = sym (append-nil (tellings_on c deeds))
   tells_then (o ∷ os) deeds on =
       tells_then os (deed_on c o ∷ deeds) on.1
-      ∙ ap (λ (ms : List (List ℕ)). ms ++ waiting os) (ap (λ (ms : List (List ℕ)). filter is_telling (reverse ms)) (wrote_one o deeds on.0) ∙ wrote_more c (Some o.message) (client_wrote c deeds))
-      ∙ append_assoc (tellings_on c deeds) (filter is_telling (o.message ∷ [])) (waiting os)
+      ∙ ap (λ (ms : List (List ℕ)). ms ++ tellings_waiting os) (ap (λ (ms : List (List ℕ)). filter is_telling (reverse ms)) (wrote_one o deeds on.0) ∙ wrote_more c (Some o.message) (client_wrote c deeds))
+      ∙ append_assoc (tellings_on c deeds) (filter is_telling (o.message ∷ [])) (tellings_waiting os)
       ∙ ap (λ (ms : List (List ℕ)). tellings_on c deeds ++ ms) (first (is_telling o.message))
     where
-      first : (b : Bool) → (if b then o.message ∷ [] else []) ++ waiting os ≡ (if b then o.message ∷ waiting os else waiting os)
+      first : (b : Bool) → (if b then o.message ∷ [] else []) ++ tellings_waiting os ≡ (if b then o.message ∷ tellings_waiting os else tellings_waiting os)
       first true = refl
       first false = refl
 
@@ -116,7 +116,7 @@ left_over devices things replies c os deeds due answers is =
     let rest : List Deed = deeds_then c os [] in
     let parts : deeds_then c os deeds ≡ rest ++ deeds = then_parts c os deeds in
     let line : (device : ℕ) → told c device (rest ++ deeds) ≡ said c device os (told c device deeds) = λ device. ap (told c device) (sym parts) ∙ told_then c device os deeds in
-    let tellings : tellings_on c (rest ++ deeds) ≡ tellings_on c deeds ++ waiting os = ap (tellings_on c) (sym parts) ∙ tells_then c os deeds is.on in
+    let tellings : tellings_on c (rest ++ deeds) ≡ tellings_on c deeds ++ tellings_waiting os = ap (tellings_on c) (sym parts) ∙ tells_then c os deeds is.on in
     record {
       heeded = record {
         left = All-from_recursion (IsLeft c) rest (left_then c os [] is.on tt);
@@ -125,7 +125,7 @@ left_over devices things replies c os deeds due answers is =
       };
       tells = record {
         each = say_zip (Tells devices deeds c) (tellings_on c (rest ++ deeds)) (of_channel c things)
-            (subst (λ (ms : List (List ℕ)). SayFirst (Tells devices deeds c) ms (of_channel c things)) (sym tellings) (subst (SayFirst (Tells devices deeds c) (tellings_on c deeds ++ waiting os)) (sym due) is.tells));
+            (subst (λ (ms : List (List ℕ)). SayFirst (Tells devices deeds c) ms (of_channel c things)) (sym tellings) (subst (SayFirst (Tells devices deeds c) (tellings_on c deeds ++ tellings_waiting os)) (sym due) is.tells));
         all = λ e. absurd (cc e);
       };
     }

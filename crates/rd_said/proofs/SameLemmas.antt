@@ -5,7 +5,7 @@ use Rattle.std.specs.List.{AllByRecursion, cons_option}
 use Rattle.std.specs.Option.{IfSome, option_map_or}
 use Rattle.rd_acted.proofs.SayingLemmas.{say_as}
 use Rattle.rd_acted.specs.Acted.{SayFirst, due_on, there_of}
-use Rattle.rd_acted.specs.Waiting.{waiting}
+use Rattle.rd_acted.specs.Waiting.{tellings_waiting}
 use Rattle.rd_answered.specs.Refusing.{AllRefuse}
 use Rattle.rd_base.specs.declared.journal.Item.{Item}
 use Rattle.rd_base.specs.declared.journal.Item.TheVariants.{Came, Cancelled, Cut, Ran, Sent}
@@ -196,9 +196,9 @@ left_same devices c os new old same is = record {
       );
   tells =
       let ids : List ℕ = map (λ (d : ℕ × Declared). d.0) devices in
-      say_as (Tells devices old c) (Tells devices new c) (tells_since devices c new old same) (tellings_on c new ++ waiting os) (due_on ids c new)
-      (subst (λ (ms : List (List ℕ)). SayFirst (Tells devices old c) (filter is_telling (reverse ms) ++ waiting os) (due_on ids c new)) (sym same.wrote)
-      (subst (SayFirst (Tells devices old c) (tellings_on c old ++ waiting os)) (sym (same.due ids)) is.tells));
+      say_as (Tells devices old c) (Tells devices new c) (tells_since devices c new old same) (tellings_on c new ++ tellings_waiting os) (due_on ids c new)
+      (subst (λ (ms : List (List ℕ)). SayFirst (Tells devices old c) (filter is_telling (reverse ms) ++ tellings_waiting os) (due_on ids c new)) (sym same.wrote)
+      (subst (SayFirst (Tells devices old c) (tellings_on c old ++ tellings_waiting os)) (sym (same.due ids)) is.tells));
 }
 
 -- ---- which deeds are of another channel

@@ -3,7 +3,7 @@ use Rattle.std.specs.Prelude.{◌≡◌, ℕ, false, List, [], ◌∷◌, ◌++�
 use Rattle.std.specs.List.{AllByRecursion}
 use Rattle.std.specs.Option.{IfSome}
 use Rattle.rd_acted.specs.Acted.{SayFirst, due_on}
-use Rattle.rd_acted.specs.Waiting.{waiting}
+use Rattle.rd_acted.specs.Waiting.{tellings_waiting}
 use Rattle.rd_answered.specs.Refusing.{AllRefuse}
 use Rattle.rd_base.specs.declared.journal.Key.{Key}
 use Rattle.rd_client.specs.Core.{Outgoing}
@@ -35,4 +35,4 @@ pub record WasLeft (devices : List (ℕ × Declared)) (c : ℕ) (os : List Outgo
   pub refuse : AllRefuse os (client_wrote c deeds)
   pub unserved : (o : Outgoing) → Has o os → RefusesUnserved c deeds o
   pub each : (device : ℕ) → EndsWith (never c (journal device deeds) (said c device os (told c device deeds))) (never c (journal device deeds) (requests_to device (without_last (client_read c deeds))))
-  pub tells : SayFirst (Tells devices deeds c) (tellings_on c deeds ++ waiting os) (due_on (map (λ (d : ℕ × Declared). d.0) devices) c deeds)
+  pub tells : SayFirst (Tells devices deeds c) (tellings_on c deeds ++ tellings_waiting os) (due_on (map (λ (d : ℕ × Declared). d.0) devices) c deeds)

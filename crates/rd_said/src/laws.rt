@@ -35,22 +35,6 @@ pub fn what_waits_is_told()
         (c : ℕ) → open_channel w.deeds ≡ Some c → IsLeftOver devices (control_by_deeds (map (λ (d : ℕ × Declared). d.0) devices) w.deeds).told (replies_in devices w.deeds) c w.deeds (deeds_then c w.client.core.outbox []) }
 {}
 
-/// So a client told all, by what the control lines told that did these acts, where on the channel that is open, if one is, all was read and each request completed; of a channel that neither
-/// ended nor is open nothing was written. All was read where nothing can happen by itself and no job is kept back.
-pub fn clients_tell_all()
-    ensures opened { (lines : List NumberedLine) (starves : Key → Bool) (w : WorldState) → RunPremises lines → DeclareWritable lines → DeclaresWritable lines → length lines ≤ 1000000 → Reached lines starves w
-        → let devices = declared_devices (bare_lines lines) in
-        (control : Control) → control ≡ control_at_end devices w.deeds (control_by devices lines) → filter_map act_by (reverse w.deeds) ≡ control.acts
-        → ((c : ℕ) → open_channel w.deeds ≡ Some c → client_read c w.deeds ≡ host_wrote c w.deeds)
-        → ((c : ℕ) → open_channel w.deeds ≡ Some c → (device id index : ℕ) → Has index (asked c device id w.deeds) → Has index (answered c device id w.deeds))
-        → AllTold devices control.told (replies_in devices w.deeds) w.deeds }
-    ensures rest { (lines : List NumberedLine) (starves : Key → Bool) (w : WorldState) → RunPremises lines → DeclareWritable lines → DeclaresWritable lines → length lines ≤ 1000000 → Reached lines starves w
-        → let devices = declared_devices (bare_lines lines) in
-        (control : Control) → control ≡ control_at_end devices w.deeds (control_by devices lines) → filter_map act_by (reverse w.deeds) ≡ control.acts
-        → (open_channel w.deeds ≡ Some w.channels → (choices w ≡ []) × (w.kept ≡ None) × ((device id index : ℕ) → Has index (asked w.channels device id w.deeds) → Has index (answered w.channels device id w.deeds)))
-        → AllTold devices control.told (replies_in devices w.deeds) w.deeds }
-{}
-
 /// What was left of channels that ended is so in every session of a script, between any two events; nothing is assumed of it but that the script was read.
 pub fn scripts_leave_channels_so()
     ensures { (m : Mode) (text : List ℕ) (script : Script) (starves : Key → Bool) (w : WorldState) → script_of m text ≡ Ok script → Reached script.lines starves w

@@ -5,6 +5,4 @@
 
 mod laws;
 
-pub use laws::{
-    clients_tell_all, ended_channels_are_left_so, scripts_leave_channels_so, what_waits_is_told,
-};
+pub use laws::{ended_channels_are_left_so, scripts_leave_channels_so, what_waits_is_told};
