@@ -10,21 +10,22 @@ use Rattle.rd_script.specs.declared.script.Script.{Script}
 use Rattle.rd_script.specs.Report.{report_of}
 use Rattle.rd_script.specs.declared.keyword.Mode.TheVariants as mode
 use Rattle.rd_script.specs.Script.{BadLine, max_bytes, script_of}
+use Rattle.rd_headline.proofs.SessionLemmas.{runs_are_whole}
+use Rattle.rd_loads.specs.AllPremises.{MeetPremises}
 use Rattle.rd_world.specs.Recording.{recording_of_deeds}
+use Rattle.rd_world.specs.Session.{IsRun}
 use Rattle.rd_world.specs.Talk.{Deed}
 use Rattle.rd_world.specs.Wire.{CountsWire, IsCutRun}
 use Rattle.rd_world.specs.World.{WorldState}
 use Rattle.rd_world.specs.declared.event.StepNo.{StepNo}
 use Rattle.rd_world.specs.declared.event.StepNo.TheVariants as no
-use Rattle.rd_world.proofs.DeclaredLemmas.{scripts_are_declared, scripts_are_notable}
-use Rattle.rd_world.proofs.NumberedLemmas.{scripts_are_numbered}
 use Rattle.rd_cli.proofs.LimitLemmas.{script_cut, script_short}
 use Rattle.rd_cli.specs.declared.stop.Stop.{Stop}
 use Rattle.rd_cli.specs.declared.stop.Stop.TheVariants as stop
 use Rattle.rd_cli.specs.Outside.{IsFaultless, Outside, Read, ReadToEnd, Stream, Wrote}
 use Rattle.rd_cli.specs.Headline.{Played, PlayedToEnd}
 use Rattle.rd_cli.specs.Stops.{Prints, StopsWith, early_stop}
-use Rattle.rd_cli.specs.Playing.{ComesOutOfBoth, IsEndOfBoth, FailedToReport, GivesBadLine, GivesScript, HasRead, IsPlayable, ReadsBadLine, ReadsScript, RefusesScript, Starved, StarvedAfterSession, StarvedPlaying, StoppedPlaying, StopsForRecording}
+use Rattle.rd_cli.specs.Playing.{ComesOutOfBoth, IsEndOfBoth, FailedToReport, GivesBadLine, GivesScript, HasRead, ReadsBadLine, ReadsScript, RefusesScript, Starved, StarvedAfterSession, StarvedPlaying, StoppedPlaying, StopsForRecording}
 
 -- what holds of the one error that a result may be
 pub err_is : {T E : Type 0} (r : Result T E) (e : E) (P : E → Type 0) → IsErrAnd r (λ s. s ≡ e) → P e → IfErr r P
@@ -35,11 +36,6 @@ err_is (Err s) e P is p = subst P (sym is) p
 pub stopped_with : {T S K R : Type 0} (before after : Outside S K R) (books : List (ℕ × History)) (r : Result T Stop) (s : Stop) → IsErrAnd r (λ e. e ≡ s) → StoppedPlaying before after books s → ComesOutOfBoth before after books r
 stopped_with before after books (Ok x) s is stopped = absurd is
 stopped_with before after books (Err e) s is stopped = subst (λ (e : Stop). StoppedPlaying before after books e) (sym is) stopped
-
--- a script that some text is can be played
-pub script_playable : (text : List ℕ) (script : Script) → script_of mode.Both text ≡ Ok script → IsPlayable script
-script_playable text script is =
-    record { declared = scripts_are_declared mode.Both text script is; numbered = scripts_are_numbered mode.Both text script is; notable = scripts_are_notable mode.Both text script is }
 
 -- a script that is short enough to be one was read to the input's end
 pub read_whole : {S : Type 0} (before after : Stream S) (text : List ℕ) (script : Script) → Read before after text → (length text ≤ max_bytes → IsAtEnd after.bytes) → script_of mode.Both text ≡ Ok script → ReadsScript before after script
@@ -79,13 +75,27 @@ starved_playing before after books script reads silent starved = record {
   recording = inr (script, reads, starved);
 }
 
+-- a whole session that was recorded came of a run
+pub played : {R : Type 0} (script : Script) (before after : Stream R) (books : List (ℕ × History)) (told : Outcomes) (deeds : List Deed) → MeetPremises script.lines → IsRun script books told deeds
+    → Wrote before after (recording_of_deeds deeds) → Played script before after books told
+played script before after books told deeds premises run recorded = record {
+  recording = recording_of_deeds deeds;
+  whole = runs_are_whole script books told deeds premises run;
+  recorded = recorded;
+}
+
 -- Memory ran out after the session of a script that was played.
 pub played_starved : {R : Type 0} (script : Script) (before after : Stream R) (books : List (ℕ × History)) (told : Outcomes) → Played script before after books told → StarvedAfterSession script before after
-played_starved script before after books told played = record {
-  world = played.run.world;
-  run = played.run.run;
-  recorded = subst (λ (deeds : List Deed). Wrote before after (recording_of_deeds deeds)) (sym played.run.did) played.recorded;
-}
+played_starved script before after books told p =
+    let run = (p.whole).run in
+    record {
+      world = run.world;
+      run = run.run;
+      recorded = subst (λ (bytes : List ℕ). Wrote before after bytes) ((p.whole).wire.bytes ∙ ap recording_of_deeds (sym same)) p.recorded;
+    }
+  where
+    same : ((p.whole).run).world.deeds ≡ (p.whole).deeds
+    same = ((p.whole).run).did
 
 -- a stop of the playing of a script that was read
 pub stopped_playing : {S K R : Type 0} (before after : Outside S K R) (books : List (ℕ × History)) (script : Script) (s : Stop) → ReadsScript before.input after.input script → after.output ≡ before.output

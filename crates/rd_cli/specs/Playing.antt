@@ -7,9 +7,6 @@ use Rattle.rd_script.specs.declared.outcome.Outcomes.{Outcomes}
 use Rattle.rd_script.specs.declared.script.Script.{Script}
 use Rattle.rd_script.specs.Report.{report_of}
 use Rattle.rd_script.specs.Script.{BadLine, max_bytes, script_of}
-use Rattle.rd_world.specs.Applications.{AreNumbered}
-use Rattle.rd_world.specs.Noting.{AreNotable}
-use Rattle.rd_world.specs.Opening.{AreDeclared}
 use Rattle.rd_world.specs.Recording.{recording_of_deeds}
 use Rattle.rd_world.specs.Run.{WorldRun}
 use Rattle.rd_world.specs.Wire.{IsCutRun}
@@ -34,12 +31,6 @@ pub record ReadsScript {S : Type 0} (before after : Stream S) (script : Script) 
 -- This line of what was read is the first that is refused, for this reason.
 abbrev pub ReadsBadLine : {S : Type 0} → (before after : Stream S) → BadLine → Type 0
 ReadsBadLine before after bad = (text : List ℕ) × HasRead before after text × (script_of mode.Both text ≡ Err bad)
-
--- What a session wants of the script that it plays: its lines and devices aren't too many, and each line is within the limits of a script.
-pub record IsPlayable (script : Script) : Type 0 where
-  pub declared : AreDeclared script.lines
-  pub numbered : AreNumbered script.lines
-  pub notable : AreNotable script.lines
 
 -- The recording failed, and the session of the script stopped early. Of a world, the last that is known, a prefix of its recording was written; and wherever the
 -- script's session ends, if the runs in that world's journals found no memory just where these say so, its recording goes on from that world's. One fault was

@@ -3,7 +3,8 @@
 ghost use Rattle.std.specs.Prelude.{◌≡◌, [], IfErr, IfOk};
 ghost use Rattle.rd_cli.specs.Headline.{Played};
 ghost use Rattle.rd_cli.specs.Outside.{stream};
-ghost use Rattle.rd_cli.specs.Playing.{IsPlayable, StopsForRecording};
+ghost use Rattle.rd_cli.specs.Playing.{StopsForRecording};
+ghost use Rattle.rd_loads.specs.AllPremises.{MeetPremises};
 ghost use Rattle.rd_script.specs.Report.{AreCountable};
 
 use crate::stop::Stop;
@@ -20,7 +21,7 @@ pub fn play<R: Sink>(
     books: &mut Books,
 ) -> Result<Outcomes, Stop>
     requires books { books.old ≡ [] }
-    requires script { IsPlayable script.now }
+    requires script { MeetPremises script.now.lines }
     ensures countable { IfOk result (λ told. AreCountable told.lines.entries) }
     ensures played { IfOk result (Played script.now (stream R.held R.faults recording.old) (stream R.held R.faults recording.new) books.new) }
     ensures err { IfErr result (StopsForRecording script.now (stream R.held R.faults recording.old) (stream R.held R.faults recording.new) books.new) }

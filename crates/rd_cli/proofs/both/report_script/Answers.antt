@@ -1,9 +1,10 @@
 use Rattle.std.proofs.Common.{refl}
-use Rattle.rd_cli.proofs.PlayingLemmas.{printed, read_whole, script_playable, stopped_playing, stopped_with}
+use Rattle.rd_cli.proofs.PlayingLemmas.{printed, read_whole, stopped_playing, stopped_with}
+use Rattle.rd_loads.proofs.ScriptLemmas.{scripts_meet_all}
 use Rattle.rd_cli.proofs.both.report_script.Goals as goal
 
 pub play-requires-clause-script : goal.play-requires-clause-script
-play-requires-clause-script g c = script_playable c.in_ok-text.text.items c.in_ok-script.script c.in_ok-script.ensures.script
+play-requires-clause-script g c = scripts_meet_all c.in_ok-text.text.items c.in_ok-script.script c.in_ok-script.ensures.script
 
 pub returns-in_err-told : goal.returns-in_err-told
 returns-in_err-told g c =

@@ -2,7 +2,7 @@ use Rattle.std.proofs.Common.{refl, inr}
 use Rattle.rd_cli.specs.declared.stop.Stop.{Stop}
 use Rattle.rd_cli.specs.Outside.{stream}
 use Rattle.rd_cli.specs.Playing.{StopsForRecording}
-use Rattle.rd_cli.proofs.PlayingLemmas.{err_is, stopped_early}
+use Rattle.rd_cli.proofs.PlayingLemmas.{err_is, played, stopped_early}
 use Rattle.rd_world.specs.Wire.{IsCutRun}
 use Rattle.rd_world.specs.World.{WorldState}
 use Rattle.rd_cli.proofs.playing.play.Goals as goal
@@ -23,14 +23,12 @@ returns-in_err-finish-clause-err g c =
     })))
 
 pub returns-clause-played : goal.returns-clause-played
-returns-clause-played g c = record {
-  deeds = c.run.new.self.deeds;
-  run = record {
-    world = c.run.new.self;
-    run = rw c.as_slice-lines.ensures at c.in_ok-run.ensures.ran;
-    did = refl;
-    stored = c.in_ok-finish.ensures.stored;
-    tells = c.in_ok-finish.ensures.told;
-  };
-  recorded = record { written = c.in_ok-run.ensures.recorded; faultless = c.in_ok-run.ensures.counted };
-}
+returns-clause-played g c = played c.args.script.now _ _ _ _ c.run.new.self.deeds c.requires.script
+    (record {
+      world = c.run.new.self;
+      run = rw c.as_slice-lines.ensures at c.in_ok-run.ensures.ran;
+      did = refl;
+      stored = c.in_ok-finish.ensures.stored;
+      tells = c.in_ok-finish.ensures.told;
+    })
+    (record { written = c.in_ok-run.ensures.recorded; faultless = c.in_ok-run.ensures.counted })
