@@ -1,0 +1,6 @@
+use Rattle.std.proofs.Common.{refl}
+use Rattle.rd_ended.proofs.Lessening.{settling_ends}
+use Rattle.rd_ended.proofs.laws.runs_end.Goals as goal
+
+pub returns : goal.returns
+returns c lines n = refl
