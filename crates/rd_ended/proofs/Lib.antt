@@ -1,1 +1,4 @@
 pub mod Lessening
+pub mod Remaining
+pub mod ClientHearing
+pub mod HostHearing
