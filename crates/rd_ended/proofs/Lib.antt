@@ -2,3 +2,4 @@ pub mod Lessening
 pub mod Remaining
 pub mod ClientHearing
 pub mod HostHearing
+pub mod ClientEvents
