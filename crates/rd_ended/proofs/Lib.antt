@@ -3,3 +3,4 @@ pub mod Remaining
 pub mod ClientHearing
 pub mod HostHearing
 pub mod ClientEvents
+pub mod HostEvents
