@@ -4,3 +4,4 @@ pub mod ClientHearing
 pub mod HostHearing
 pub mod ClientEvents
 pub mod HostEvents
+pub mod Happening

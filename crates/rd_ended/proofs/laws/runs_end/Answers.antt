@@ -1,7 +1,7 @@
 use Rattle.std.proofs.Common.{refl}
 use Rattle.rd_ended.proofs.Lessening.{settling_ends}
 use Rattle.rd_ended.proofs.ClientEvents.{tries_on}
-use Rattle.rd_ended.proofs.HostEvents.{all_taken}
+use Rattle.rd_ended.proofs.Happening.{collected_one}
 use Rattle.rd_ended.proofs.laws.runs_end.Goals as goal
 
 pub returns : goal.returns
