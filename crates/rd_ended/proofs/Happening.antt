@@ -1,11 +1,12 @@
 -- Each thing that happens by itself leaves less.
-use Rattle.std.proofs.Common.{◌≡◌, ◌⊎◌, ◌∙◌, refl, sym, ap, subst, inl, inr, ℕ, zero, suc, ◌+◌, ◌-◌, ◌*◌, ◌<◌, ◌≤◌, ◌==◌, ◌&&◌, arith, Bool, true, false, cond, not, List, [], ◌∷◌, ◌++◌, length, map, fold, take, drop, Some, None, Option, Result, Ok, Err, length-append}
+use Rattle.std.proofs.Common.{◌≡◌, ◌⊎◌, ◌∙◌, refl, sym, ap, subst, inl, inr, ℕ, zero, suc, ◌+◌, ◌-◌, ◌*◌, ◌<◌, ◌≤◌, ◌==◌, ◌&&◌, arith, Bool, true, false, cond, not, List, [], ◌∷◌, ◌++◌, length, map, fold, take, drop, Some, None, Option, Result, Ok, Err, ne_eqb}
 use Rattle.std.specs.Prelude.{find, if◌then◌else◌, is_none, is_some, nat_le, nat_lt, slice_get}
-use Rattle.std.specs.List.{AllByRecursion}
+use Rattle.std.specs.List.{AllByRecursion, cons_option}
 use Rattle.std.specs.Map.{lookup}
 use Rattle.std.specs.Ordering.{nat_cmp}
 use Rattle.std.specs.BTreeMap.{insert_entry, is_at}
 use Rattle.std.specs.Option.{IfSome, option_and_then, option_map_or, unwrap_or}
+use Rattle.std.proofs.lemmas.Bool.{cases_Bool}
 use Rattle.std.proofs.lemmas.Bool.Decides.{nat_tests}
 use Rattle.std.proofs.lemmas.List.{length-drop}
 use Rattle.rd_base.specs.declared.journal.Key.{Key}
@@ -51,9 +52,9 @@ use Rattle.rd_world.specs.Run.{host_count}
 use Rattle.rd_world.specs.Talk.{Deed, EndsWith, Has, client_writes, client_wrote, completes, host_read, submits}
 use Rattle.rd_world.specs.World.{ApplicationState, Asked, Kept, WayState, WorldState, application_at, client_sends, having_read, host_sends, most_messages, new_application, station_at, with_application, with_deed, with_station, with_table}
 use Rattle.rd_ended.proofs.ClientEvents.{GoesOn, Handles, client_handles_on, inside_unheard, tries_on}
-use Rattle.rd_ended.proofs.HostEvents.{all_taken, comes_out, host_handles_on, line_put_within}
+use Rattle.rd_ended.proofs.HostEvents.{AppsTake, HostHears, all_taken, comes_out, host_handles_on, line_put_within}
 use Rattle.rd_ended.proofs.Lessening.{Lessens}
-use Rattle.rd_ended.proofs.Remaining.{completions_left, full_hands, hand_changed, handling_left, jobs_left, line_left, lines_left, of_station, other_one, others, others_more, put_at_each, ready_in, remaining, sum, sum_less, sum_same, sum_within, to_open, undrawn, unheard, unheard_by, waiting_in, waits, way_left}
+use Rattle.rd_ended.proofs.Remaining.{back, completions_left, full_hands, hand_changed, handling_left, jobs_left, line_left, lines_left, of_station, other_one, others, others_more, put_at_each, ready_in, remaining, sum, sum_less, sum_same, sum_within, to_open, undrawn, unheard, unheard_by, waiting_in, waits, way_left}
 
 -- ---- stations
 
@@ -239,3 +240,187 @@ module _ (applications devices : List ℕ) where
               let same : unheard v ≡ others (waiting_messages c) + ((other_one (is_of packet.IoCompletion o.message) + others t.client_wrote) - others t.host_read) = ap (unheard_by c) (wrote w.deeds o ((sent_on w.channels w.client c o on made).0).0) in
               let split : others (waiting_messages w.client) ≡ other_one (is_of packet.IoCompletion o.message) + others (waiting_messages c) = (moved c o made).1 in
               omega (arith, same, split, carried)
+
+  -- ---- the host reads
+
+  pub host_read_less : (w : WorldState) (n : ℕ) → is_read (w.to_host).pipe n ≡ true
+      → (let v : WorldState = host_handles_all (record w { to_host = having_read n w.to_host }) in others (host_read v.channels v.deeds) ≤ others (client_wrote v.channels v.deeds))
+      → Less w (host_handles_all (record w { to_host = having_read n w.to_host }))
+  host_read_less w n can carried = by (others h.heard) refl
+    where
+      x : WorldState
+      x = record w { to_host = having_read n w.to_host }
+
+      y : WorldState
+      y = host_handles (most_messages x.to_host) x
+
+      h : HostHears x y
+      h = host_handles_on (most_messages x.to_host) x
+
+      v : WorldState
+      v = host_handles_all x
+
+      t : AppsTake applications y v
+      t = all_taken applications (map (λ (e : ℕ × ApplicationState). e.0) y.applications) y
+
+      channels : v.channels ≡ w.channels
+      channels = t.channels ∙ h.channels
+
+      same_client : v.client ≡ w.client
+      same_client = t.client ∙ h.client
+
+      wrote : client_wrote v.channels v.deeds ≡ client_wrote w.channels w.deeds
+      wrote = ap (λ (c : ℕ). client_wrote c v.deeds) channels ∙ ap (λ (u : Traffic). u.client_wrote) (t.traffic w.channels) ∙ h.wrote
+
+      read : host_read v.channels v.deeds ≡ h.heard ++ host_read w.channels w.deeds
+      read = ap (λ (c : ℕ). host_read c v.deeds) channels ∙ ap (λ (u : Traffic). u.host_read) (t.traffic w.channels) ∙ h.read
+
+      few : others h.heard + others (host_read w.channels w.deeds) ≤ others (client_wrote w.channels w.deeds)
+      few =
+          let more : others (host_read v.channels v.deeds) ≡ others h.heard + others (host_read w.channels w.deeds) = ap others read ∙ others_more h.heard (host_read w.channels w.deeds) in
+          let all : others (client_wrote v.channels v.deeds) ≡ others (client_wrote w.channels w.deeds) = ap others wrote in
+          omega (arith, more, all, carried)
+
+      left : unheard v ≡ others (waiting_messages w.client) + (others (client_wrote w.channels w.deeds) - (others h.heard + others (host_read w.channels w.deeds)))
+      left =
+          let more : others (host_read v.channels v.deeds) ≡ others h.heard + others (host_read w.channels w.deeds) = ap others read ∙ others_more h.heard (host_read w.channels w.deeds) in
+          let all : others (client_wrote v.channels v.deeds) ≡ others (client_wrote w.channels w.deeds) = ap others wrote in
+          let waiting : others (waiting_messages v.client) ≡ others (waiting_messages w.client) = ap (λ (c : ClientCoreState). others (waiting_messages c)) same_client in
+          omega (arith, more, all, waiting)
+
+      nearer : to_open v ≡ to_open w
+      nearer = ap (λ (c : ClientCoreState). 5 - client_number (c.core).shake) same_client
+
+      lines : lines_left applications v ≤ lines_left applications w
+      lines =
+          let same : lines_left applications y ≡ lines_left applications w = ap (λ (es : List (ℕ × ApplicationState)). sum applications (λ b. line_left (unwrap_or (lookup (is_at (nat_cmp b)) es) new_application))) h.applications in
+          omega (arith, same, t.lines)
+
+      cases : (a b : ℕ) → a ≤ b → (a < b) ⊎ (a ≡ b)
+      cases a b low = elim (cases_less a b) [ inl less ↦ inl less | inr most ↦ inr (omega (arith, most, low)) ]
+        where
+          cases_less : (a b : ℕ) → (a < b) ⊎ (b ≤ a)
+          cases_less a b = elim (cases_Bool (nat_lt a b)) [ inl so ↦ inl (grind (arith, nat_tests, so)) | inr not_so ↦ inr (grind (arith, nat_tests, not_so)) ]
+
+      by : (k : ℕ) → others h.heard ≡ k → Less w v
+      by (suc k) some = inr (nearer, inl (omega (arith, some, few, left)))
+      by zero none =
+          let same : unheard v ≡ unheard w = omega (arith, none, left) in
+          let count : host_count v ≡ host_count w = t.count ∙ h.quiet none in
+          let down : v.to_client ≡ w.to_client = t.way ∙ h.way in
+          let kept : v.kept ≡ w.kept = t.kept ∙ h.kept in
+          let stations : v.stations ≡ w.stations = t.stations ∙ h.stations in
+          let hands : v.hands ≡ w.hands = t.hands ∙ h.hands in
+          let handling : handling_left v ≡ handling_left w = (λ i. 2 * (length (down i).part + length (down i).unhandled) + back (kept i)) in
+          let jobs : jobs_left devices v ≡ jobs_left devices w = (λ i. 2 * sum devices (λ d. of_station waiting_in (lookup (is_at (nat_cmp d)) (stations i))) + full_hands (hands i)) in
+          let ready : completions_left devices v ≡ completions_left devices w = ap (λ (es : List (ℕ × StationState SessionDevice)). sum devices (λ d. of_station ready_in (lookup (is_at (nat_cmp d)) es))) stations in
+          let pipe : length (v.to_host).pipe ≡ length (drop n (w.to_host).pipe) = ap (λ (u : WayState). length u.pipe) t.back_way ∙ ap length h.pipe in
+          let less : length (drop n (w.to_host).pipe) < length (w.to_host).pipe = read_some (w.to_host).pipe n can in
+          inr (nearer, inr (same, elim (cases (lines_left applications v) (lines_left applications w) lines) [
+            | inl fewer ↦ inl fewer
+            | inr all ↦ inr (all, inr (count, inr (ap (λ (u : WayState). length u.pipe) down, inr (handling, inr (jobs, inr (ready, inr (ap (λ (c : ClientCoreState). length (c.core).outbox) same_client, inl (omega (arith, pipe, less)))))))))
+          ]))
+
+  -- ---- jobs
+
+  -- what is left of stations where one steps
+  station_step : (f : StationState SessionDevice → ℕ) (es : List (ℕ × StationState SessionDevice)) (device : ℕ) (s after : StationState SessionDevice) → lookup (is_at (nat_cmp device)) es ≡ Some s → f after ≡ f s
+      → sum devices (λ d. of_station f (lookup (is_at (nat_cmp d)) (insert_entry nat_cmp es device after))) ≡ sum devices (λ d. of_station f (lookup (is_at (nat_cmp d)) es))
+  station_step f es device s after there same =
+      sum_same devices (λ d. of_station f (lookup (is_at (nat_cmp d)) es)) (λ d. of_station f (lookup (is_at (nat_cmp d)) (insert_entry nat_cmp es device after)))
+      (put_at_each (λ (d : ℕ) (o : Option (StationState SessionDevice)). of_station f o ≡ of_station f (lookup (is_at (nat_cmp d)) es)) device after es (same ∙ sym (ap (of_station f) there)) (λ d. refl))
+
+  station_less : (f : StationState SessionDevice → ℕ) (es : List (ℕ × StationState SessionDevice)) (device : ℕ) (s after : StationState SessionDevice) → Has device devices → lookup (is_at (nat_cmp device)) es ≡ Some s → f after < f s
+      → sum devices (λ d. of_station f (lookup (is_at (nat_cmp d)) (insert_entry nat_cmp es device after))) < sum devices (λ d. of_station f (lookup (is_at (nat_cmp d)) es))
+  station_less f es device s after has there less =
+      let old : of_station f (lookup (is_at (nat_cmp device)) es) ≡ f s = ap (of_station f) there in
+      let new : of_station f (lookup (is_at (nat_cmp device)) (insert_entry nat_cmp es device after)) ≡ f after = ap (of_station f) (inserted device after es) in
+      sum_less devices device (λ d. of_station f (lookup (is_at (nat_cmp d)) es)) (λ d. of_station f (lookup (is_at (nat_cmp d)) (insert_entry nat_cmp es device after))) has (omega (arith, old, new, less))
+      (put_at_each (λ (d : ℕ) (o : Option (StationState SessionDevice)). of_station f o ≤ of_station f (lookup (is_at (nat_cmp d)) es)) device after es (omega (arith, old, less)) (λ d. omega arith))
+
+  -- a hand holds something else than it held
+  hand_step : (hands : List (Option (ℕ × Job))) (hand : ℕ) (old new : Option (ℕ × Job)) → (if hand == 0 then None else slice_get hands (hand - 1)) ≡ Some old
+      → full_hands (take (hand - 1) hands ++ new ∷ drop hand hands) + full_hands (old ∷ []) ≡ full_hands hands + full_hands (new ∷ [])
+  hand_step hands zero old new there = absurd (cc there)
+  hand_step hands (suc i) old new there =
+      let place : suc i - 1 ≡ i = omega arith in
+      let off : (suc i == 0) ≡ false = ne_eqb (suc i) 0 (λ (same : suc i ≡ 0). absurd (omega (arith, same))) in
+      let at : slice_get hands (suc i - 1) ≡ Some old = rw off at there in
+      let is : slice_get hands i ≡ Some old = ap (slice_get hands) (sym place) ∙ at in
+      ap (λ (k : ℕ). full_hands (take k hands ++ new ∷ drop (suc i) hands) + full_hands (old ∷ [])) place ∙ hand_changed hands i old new is
+
+  held_is : (w : WorldState) (hand : ℕ) → is_hand_free w hand ≡ true → hand_at w hand ≡ Some None
+  held_is w hand free = by (hand_at w hand) free
+    where
+      by : (o : Option (Option (ℕ × Job))) → option_map_or is_none o false ≡ true → o ≡ Some None
+      by None e = absurd (cc e)
+      by (Some None) e = refl
+      by (Some (Some held)) e = absurd (cc e)
+
+  pub take_less : (w : WorldState) (device hand : ℕ) (s after : StationState SessionDevice) (job : Job) → Has device devices → is_hand_free w hand ≡ true → station_at w device ≡ Some s → station.take s ≡ (after, given.Job job)
+      → Less w (with_hand (with_station w device after) hand (Some (device, job)))
+  take_less w device hand s after job has free there made =
+      let i : IsInside w (with_station w device after) = stationed w device after in
+      let one : waiting_in s ≡ suc (waiting_in after) = took_one s after job made in
+      let waiting = station_less waiting_in w.stations device s after has there (omega (arith, one)) in
+      let hands = hand_step w.hands hand None (Some (device, job)) (held_is w hand free) in
+      inr (refl, inr (inside_unheard w (with_station w device after) i, inr (refl, inr (refl, inr (refl, inr (refl, inl (omega (arith, waiting, hands))))))))
+
+  pub apply_less : (starves : Key → Bool) (w : WorldState) (hand device : ℕ) (job : Job) (o : Option (StationState SessionDevice)) → hand_at w hand ≡ Some (Some (device, job)) → station_at w device ≡ o
+      → Less w (applies_at starves w hand device job o)
+  apply_less starves w hand device job None holds there =
+      let hands = hand_step w.hands hand (Some (device, job)) None holds in
+      inr (refl, inr (refl, inr (refl, inr (refl, inr (refl, inr (refl, inl (omega (arith, hands))))))))
+  apply_less starves w hand device job (Some s) holds there =
+      let after : StationState SessionDevice = (station.apply s job w.moment (came_of starves w job s.device)).0 in
+      let i : IsInside w (with_station w device after) = stationed w device after in
+      let waiting = station_step waiting_in w.stations device s after there (ran_waits starves w job s) in
+      let hands = hand_step w.hands hand (Some (device, job)) None holds in
+      inr (refl, inr (inside_unheard w (with_station w device after) i, inr (refl, inr (refl, inr (refl, inr (refl, inl (omega (arith, waiting, hands))))))))
+
+  -- ---- a completion is collected
+
+  collected_wrote : (c device : ℕ) (x : Completion) (deeds : List Deed) → others (client_wrote c (completes x.key (completion_message device x) ∷ deeds)) ≡ others (client_wrote c deeds)
+  collected_wrote c device x deeds = by ((x.key).channel == c)
+    where
+      completion : is_of packet.IoCompletion (completion_message device x) ≡ true
+      completion = packet_is packet.IoCompletion packet.IoCompletion (completion_message device x) (written_packet packet.IoCompletion _)
+
+      by : (b : Bool) → others (cons_option (if b then Some (completion_message device x) else None) (client_wrote c deeds)) ≡ others (client_wrote c deeds)
+      by true = let none : other_one (is_of packet.IoCompletion (completion_message device x)) ≡ 0 = ap other_one completion in omega (arith, none)
+      by false = refl
+
+  pub collect_less : (w : WorldState) (device : ℕ) (s after : StationState SessionDevice) (x : Completion) → Has device devices → station_at w device ≡ Some s → station.collect s ≡ (after, Some x)
+      → Less w (collects_from w device (after, Some x))
+  collect_less w device s after x has there made = elim (tries_on y device) [
+    | inl same ↦ subst (Less w) (sym same) (inr (refl, inr (heard, inr (refl, inr (refl, inr (refl, inr (refl, inr (jobs, inl ready))))))))
+    | inr (h, less) ↦ elim h.goes [
+      | inl nearer ↦ inl nearer
+      | inr same ↦ inr (same.0, inr (same.1 ∙ heard, inr (
+        ap (λ (es : List (ℕ × ApplicationState)). sum applications (λ b. line_left (unwrap_or (lookup (is_at (nat_cmp b)) es) new_application))) h.applications,
+        inr (ap (λ (s : HostSide). length ((s.core).core).outbox + length (s.table).outbox) h.side, inr (ap length h.way, inl less)))))
+    ]
+  ]
+    where
+      z : WorldState
+      z = with_station w device after
+
+      bytes : List ℕ
+      bytes = completion_message device x
+
+      y : WorldState
+      y = client_sends z (completes x.key bytes) bytes
+
+      heard : unheard y ≡ unheard w
+      heard =
+          let wrote : others (client_wrote w.channels y.deeds) ≡ others (client_wrote w.channels z.deeds) = collected_wrote w.channels device x z.deeds in
+          ap (λ (n : ℕ). others (waiting_messages w.client) + (n - others (host_read w.channels z.deeds))) wrote ∙ inside_unheard w z (stationed w device after)
+
+      one : (waiting_in after ≡ waiting_in s) × (ready_in s ≡ suc (ready_in after))
+      one = collected_one s after x made
+
+      jobs : jobs_left devices y ≡ jobs_left devices w
+      jobs = ap (λ (n : ℕ). 2 * n + full_hands w.hands) (station_step waiting_in w.stations device s after there one.0)
+
+      ready : completions_left devices y < completions_left devices w
+      ready = let fewer : ready_in after < ready_in s = omega (arith, one.1) in station_less ready_in w.stations device s after has there fewer
