@@ -5,3 +5,4 @@ pub mod HostHearing
 pub mod ClientEvents
 pub mod HostEvents
 pub mod Happening
+pub mod LinedLemmas
