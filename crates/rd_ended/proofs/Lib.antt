@@ -6,3 +6,4 @@ pub mod ClientEvents
 pub mod HostEvents
 pub mod Happening
 pub mod LinedLemmas
+pub mod OverLemmas
