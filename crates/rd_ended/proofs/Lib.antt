@@ -7,3 +7,4 @@ pub mod HostEvents
 pub mod Happening
 pub mod LinedLemmas
 pub mod OverLemmas
+pub mod Ending
