@@ -8,3 +8,4 @@ pub mod Happening
 pub mod LinedLemmas
 pub mod OverLemmas
 pub mod Ending
+pub mod Runs
