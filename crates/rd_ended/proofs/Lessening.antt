@@ -42,7 +42,7 @@ lessens_then (f ∷ fs) w x v (inr a) (inr b) = inr (b.0 ∙ a.0, lessens_then f
 
 -- ---- what can be drawn
 
-abbrev CanCome : WorldState → NextStep → Type 0
+abbrev pub CanCome : WorldState → NextStep → Type 0
 CanCome w (event e) = (event_weight e ≡ 0) × (is_enabled w e ≡ true)
 CanCome w reads_client = is_enabled w (client_read (length (w.to_client).pipe)) ≡ true
 CanCome w reads_host = is_enabled w (host_read (length (w.to_host).pipe)) ≡ true
@@ -55,7 +55,7 @@ where_can : (Q : NextStep → Type 0) (b : Bool) (c : NextStep) → (b ≡ true 
 where_can Q true c is = (is refl, tt)
 where_can Q false c is = tt
 
-choices_can : (w : WorldState) → AllByRecursion (CanCome w) (choices w)
+pub choices_can : (w : WorldState) → AllByRecursion (CanCome w) (choices w)
 choices_can w =
     let Q : NextStep → Type 0 = CanCome w in
     all_append Q _ _ (all_append Q _ _ (all_append Q _ _ (all_append Q _ _ (all_append Q _ _ (all_append Q _ _ (all_append Q _ _
@@ -99,7 +99,7 @@ count_fits w pipe can =
     let last : 1 + drawn ≤ length pipe = omega (arith, below, few) in
     and_both (nat_lt 0 (1 + drawn)) (nat_le (1 + drawn) (length pipe)) (grind (arith, nat_tests, first)) (grind (arith, nat_tests, last))
 
-pick_has : (Q : NextStep → Type 0) (xs : List NextStep) (i : ℕ) (d : NextStep) → AllByRecursion Q xs → Q d → Q (unwrap_or (slice_get xs i) d)
+pub pick_has : (Q : NextStep → Type 0) (xs : List NextStep) (i : ℕ) (d : NextStep) → AllByRecursion Q xs → Q d → Q (unwrap_or (slice_get xs i) d)
 pick_has Q [] i d all own = own
 pick_has Q (x ∷ xs) zero d all own = all.0
 pick_has Q (x ∷ xs) (suc i) d all own = pick_has Q xs i d all.1 own
@@ -113,7 +113,7 @@ Settles starves P w = (most : ℕ) × (x : WorldState) × (settled starves most 
 module _ (starves : Key → Bool) (fs : List (WorldState → ℕ)) (P : WorldState → Type 0)
     (free : (w : WorldState) (e : Event) → event_weight e ≡ 0 → is_enabled w e ≡ true → P w → P (act starves w e) × Lessens fs w (act starves w e))
     (draw : (w : WorldState) → P w → P (drawing w)) (undrawn : (w v : WorldState) → Lessens fs (drawing w) v → Lessens fs w v) where
-  chosen_lessens : (w : WorldState) (c : NextStep) → CanCome w c → P w → P (chosen starves (drawing w) c) × Lessens fs w (chosen starves (drawing w) c)
+  pub chosen_lessens : (w : WorldState) (c : NextStep) → CanCome w c → P w → P (chosen starves (drawing w) c) × Lessens fs w (chosen starves (drawing w) c)
   chosen_lessens w (event e) can p =
       let done = free (drawing w) e can.0 (drawing_can w e can.0 can.1) (draw w p) in
       (done.0, undrawn w _ done.1)

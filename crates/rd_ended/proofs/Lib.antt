@@ -9,3 +9,4 @@ pub mod LinedLemmas
 pub mod OverLemmas
 pub mod Ending
 pub mod Runs
+pub mod OwnMarks
