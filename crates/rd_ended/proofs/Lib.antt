@@ -10,3 +10,4 @@ pub mod OverLemmas
 pub mod Ending
 pub mod Runs
 pub mod OwnMarks
+pub mod SameMarks

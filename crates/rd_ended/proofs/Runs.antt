@@ -85,14 +85,14 @@ module _ (lines : List NumberedLine) (starves : Key → Bool) (premises : RunPre
   On = IsOn lines starves premises
 
   -- a channel begins, and its rounds end
-  connects_end : (n : ℕ) (rest : List NumberedLine) (w : WorldState) → n + 1 ≤ length lines + 2 → is_enabled w event.connect ≡ true → On n rest w → Ends (λ most. connects_on starves most w) (On (n + 1) rest)
+  pub connects_end : (n : ℕ) (rest : List NumberedLine) (w : WorldState) → n + 1 ≤ length lines + 2 → is_enabled w event.connect ≡ true → On n rest w → Ends (λ most. connects_on starves most w) (On (n + 1) rest)
   connects_end n rest w few can on =
       let begun : On (n + 1) rest (act starves w event.connect) = event_on lines starves premises n (n + 1) rest w event.connect (omega arith) few tt can on in
       let opening = opening_first w (reached lines starves premises n rest w on) can in
       let (most, x, is, p) = rounds_settle lines starves premises writable (n + 1) rest (act starves w event.connect) begun opening in
       (record { draws = 0; rounds = most }, x, is, p.0)
 
-  settles_end : (n : ℕ) (rest : List NumberedLine) (w : WorldState) → On n rest w → Ends (λ most. settled starves most.draws w) (On n rest)
+  pub settles_end : (n : ℕ) (rest : List NumberedLine) (w : WorldState) → On n rest w → Ends (λ most. settled starves most.draws w) (On n rest)
   settles_end n rest w on =
       let (most, x, is, p) = settles lines starves premises n rest w on in
       (record { draws = most; rounds = 0 }, x, is, p)
@@ -136,7 +136,7 @@ module _ (lines : List NumberedLine) (starves : Key → Bool) (premises : RunPre
       by None said = ends_now (On (n + 1) rest) w (more_on lines starves premises n (n + 1) rest w (omega arith) few on)
       by (Some notice) said = (no_steps, by_event starves no_steps w number (event.tell notice), refl, event_ends no_steps n rest w number (event.tell notice) few refl (l, has, said) on)
 
-  line_ends : (n : ℕ) (l : NumberedLine) (rest : List NumberedLine) (w : WorldState) → n + 1 ≤ length lines + 2 → Has l lines → On n (l ∷ rest) w → Ends (λ most. plays_line starves most w l) (On (n + 1) rest)
+  pub line_ends : (n : ℕ) (l : NumberedLine) (rest : List NumberedLine) (w : WorldState) → n + 1 ≤ length lines + 2 → Has l lines → On n (l ∷ rest) w → Ends (λ most. plays_line starves most w l) (On (n + 1) rest)
   line_ends n l rest w few has on = by (asked_by l.line) refl
     where
       by : (o : Option (ℕ × Asked)) → asked_by l.line ≡ o
@@ -144,7 +144,7 @@ module _ (lines : List NumberedLine) (starves : Key → Bool) (premises : RunPre
       by None is = controls_end n rest w l.number l few has l.line refl (passed_on lines starves premises n l rest w is on)
       by (Some (a, asked)) is = ends_now (On (n + 1) rest) (queueing w a) (queued_on lines starves premises n l rest w a asked has is few on)
 
-  plays_end : (ls : List NumberedLine) (n : ℕ) (w : WorldState) → n + length ls ≤ length lines + 2 → ((l : NumberedLine) → Has l ls → Has l lines) → On n ls w → Ends (λ most. plays starves most ls w) (On (n + length ls) [])
+  pub plays_end : (ls : List NumberedLine) (n : ℕ) (w : WorldState) → n + length ls ≤ length lines + 2 → ((l : NumberedLine) → Has l ls → Has l lines) → On n ls w → Ends (λ most. plays starves most ls w) (On (n + length ls) [])
   plays_end [] n w few among on = ends_now (On (n + 0) []) w (more_on lines starves premises n (n + 0) [] w (omega arith) few on)
   plays_end (l ∷ ls) n w few among on =
       let (first, y, is, p) = line_ends n l ls w (omega (arith, few)) (among l (inl refl)) on in

@@ -1,5 +1,5 @@
 use Rattle.rd_ended.proofs.Runs.{run_ends}
-use Rattle.rd_ended.proofs.OwnMarks.{own_marks}
+use Rattle.rd_ended.proofs.SameMarks.{run_same}
 use Rattle.rd_ended.proofs.laws.runs_end.Goals as goal
 
 pub returns : goal.returns
