@@ -11,3 +11,4 @@ pub mod Ending
 pub mod Runs
 pub mod OwnMarks
 pub mod SameMarks
+pub mod CutRuns

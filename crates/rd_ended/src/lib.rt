@@ -6,4 +6,4 @@
 
 mod laws;
 
-pub use laws::{runs_end};
+pub use laws::{cut_runs_are_cut_off, journals_mark_their_runs, runs_are_of_their_marks, runs_end};

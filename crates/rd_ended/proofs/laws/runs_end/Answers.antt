@@ -1,6 +1,10 @@
 use Rattle.rd_ended.proofs.Runs.{run_ends}
-use Rattle.rd_ended.proofs.SameMarks.{run_same}
+use Rattle.rd_joined.proofs.ScriptLemmas.{script_premises}
+use Rattle.rd_orders.proofs.AddressLemmas.{scripts_writable}
 use Rattle.rd_ended.proofs.laws.runs_end.Goals as goal
 
-pub returns : goal.returns
-returns c lines starves premises writable = run_ends lines starves premises writable
+pub returns-clause-lines : goal.returns-clause-lines
+returns-clause-lines c lines starves premises writable = run_ends lines starves premises writable
+
+pub returns-clause-scripts : goal.returns-clause-scripts
+returns-clause-scripts c m text script starves is = run_ends script.lines starves (script_premises m text script is) (scripts_writable m text script is)
