@@ -1,10 +1,9 @@
 -- What a client handles brings its opening on, or leaves the host as much to hear as there was; and of what it read less is left.
-use Rattle.std.proofs.Common.{◌≡◌, ◌⊎◌, ◌∙◌, refl, sym, ap, subst, inl, inr, ℕ, zero, suc, ◌+◌, ◌-◌, ◌*◌, ◌<◌, ◌≤◌, ◌==◌, arith, Bool, true, false, List, [], ◌∷◌, ◌++◌, length, Some, None, Option, Result, length-append}
+use Rattle.std.proofs.Common.{◌≡◌, ◌⊎◌, ◌∙◌, refl, sym, ap, inl, inr, ℕ, zero, suc, ◌+◌, ◌-◌, ◌<◌, ◌≤◌, ◌==◌, arith, Bool, true, false, List, [], ◌++◌, length, Some, None, Option, Result, length-append}
 use Rattle.std.specs.Prelude.{if◌then◌else◌, is_some}
 use Rattle.rd_client.specs.Core.{ClientCoreState, client_hear}
 use Rattle.rd_client.specs.Events.{waiting_messages}
 use Rattle.rd_client.specs.declared.heard.Heard.{Heard}
-use Rattle.rd_drive.specs.declared.plan.Job.{Job}
 use Rattle.rd_hello.specs.declared.end_fault.EndFault.{EndFault}
 use Rattle.rd_hello.specs.ClientTable.{client_number}
 use Rattle.rd_orders.proofs.Meeting.{heard_client, inside_traffic, put_client}
@@ -17,9 +16,8 @@ use Rattle.rd_station.specs.declared.refusals.PutWhy.TheVariants as why
 use Rattle.rd_world.proofs.WayStreamLemmas.{message_shorter}
 use Rattle.rd_world.specs.declared.device.SessionDevice.{SessionDevice}
 use Rattle.rd_world.specs.Hearing.{client_handles, client_handles_all, client_handles_first, client_hears, put_at, put_by, putting, refused_put, tries, tries_kept, with_client}
-use Rattle.rd_world.specs.Host.{HostSide}
 use Rattle.rd_world.specs.Talk.{client_reads}
-use Rattle.rd_world.specs.World.{ApplicationState, Kept, WayState, WorldState, first_message, handling_by, most_messages, station_at, with_deed}
+use Rattle.rd_world.specs.World.{Kept, WayState, WorldState, first_message, handling_by, most_messages, station_at, with_deed}
 use Rattle.rd_ended.proofs.ClientHearing.{DoesNoMore, heard_no_more, hears_on, put_no_more}
 use Rattle.rd_ended.proofs.Remaining.{back, handling_left, others, to_open, unheard, unheard_by}
 

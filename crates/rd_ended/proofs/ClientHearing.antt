@@ -1,8 +1,8 @@
 -- What a client hears brings its opening on, or leaves as it is what it has to send, but for completions.
-use Rattle.std.proofs.Common.{◌≡◌, ◌⊎◌, ◌∙◌, refl, sym, ap, subst, inl, inr, ℕ, ◌+◌, ◌<◌, ◌≤◌, ◌==◌, arith, Bool, true, false, List, [], ◌∷◌, ◌++◌, length, map, Some, None, Option, Result, Ok, Err, append-nil}
+use Rattle.std.proofs.Common.{◌≡◌, ◌⊎◌, ◌∙◌, refl, ap, inl, inr, ℕ, ◌+◌, ◌<◌, ◌≤◌, arith, Bool, true, false, List, [], ◌∷◌, ◌++◌, map, Some, None, Option, Result, Ok, Err, append-nil}
 use Rattle.std.specs.Prelude.{if◌then◌else◌}
 use Rattle.std.specs.Option.{IfSome}
-use Rattle.rd_base.specs.Header.{any_header, packet_id}
+use Rattle.rd_base.specs.Header.{any_header}
 use Rattle.rd_base.specs.Layout.{met}
 use Rattle.rd_base.specs.Position.{Position, at_start}
 use Rattle.rd_base.specs.declared.bad.Bad.{Bad}
@@ -15,7 +15,7 @@ use Rattle.rd_client.specs.Events.{waiting_messages}
 use Rattle.rd_client.specs.declared.heard.Heard.{Heard}
 use Rattle.rd_client.specs.declared.heard.Heard.TheVariants.{Nothing, Ask, Print}
 use Rattle.rd_core.specs.Core.{CoreState}
-use Rattle.rd_core.specs.Hearing.{Meaning, Side, after_row, by_row, from_header, from_hello, from_own, from_packet, hear, hear_said, hear_unless, is_hello, is_read_in, messages_of, nothing, opens, said, says, wrong}
+use Rattle.rd_core.specs.Hearing.{Meaning, Side, after_row, by_row, from_header, from_hello, from_own, from_packet, hear_said, hear_unless, is_hello, is_read_in, messages_of, nothing, opens, said, says, wrong}
 use Rattle.rd_devices.specs.DeviceList.{list_bytes}
 use Rattle.rd_drive.specs.declared.plan.Job.{Job}
 use Rattle.rd_hello.specs.ClientTable.{after_sets, client_number}

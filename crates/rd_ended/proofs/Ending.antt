@@ -1,17 +1,15 @@
 -- Settling ends in each world that lines come to, and so do the rounds of a channel's begin.
-use Rattle.std.proofs.Common.{◌≡◌, ◌≢◌, ◌⊎◌, ◌∙◌, refl, sym, ap, subst, inl, inr, ℕ, zero, suc, ◌+◌, ◌-◌, ◌<◌, ◌≤◌, ◌==◌, ◌&&◌, arith, Bool, true, false, cond, not, List, [], ◌∷◌, ◌++◌, length, map, fold, reverse, Some, None, Option, length-append, ne_eqb, eq-eqb}
+use Rattle.std.proofs.Common.{◌≡◌, ◌∙◌, refl, sym, ap, subst, inl, inr, ℕ, zero, suc, ◌+◌, ◌<◌, ◌≤◌, ◌==◌, arith, Bool, true, false, not, List, [], ◌∷◌, ◌++◌, length, map, fold, Some, None, Option, length-append, ne_eqb, eq-eqb}
 use Rattle.std.specs.Prelude.{filter_map, if◌then◌else◌, is_none, is_some, nat_lt, slice_get}
 use Rattle.std.specs.List.{AllByRecursion, cons_option}
 use Rattle.std.specs.Map.{keys_of, lookup}
 use Rattle.std.specs.Ordering.{nat_cmp}
-use Rattle.std.specs.BTreeMap.{insert_entry, is_at}
+use Rattle.std.specs.BTreeMap.{is_at}
 use Rattle.std.specs.Option.{IfSome, option_and_then, option_map_or, unwrap_or}
 use Rattle.std.proofs.lemmas.Bool.{cases_eq}
 use Rattle.std.proofs.lemmas.Bool.Decides.{nat_tests}
 use Rattle.rd_base.specs.declared.journal.Key.{Key}
-use Rattle.rd_client.specs.Core.{ClientCoreState}
 use Rattle.rd_drive.specs.declared.plan.Job.{Job}
-use Rattle.rd_drive.proofs.AllLemmas.{all_append}
 use Rattle.rd_journals.proofs.DeclaredLemmas.{bounded_fit}
 use Rattle.rd_journals.proofs.RunLemmas.{reached_orderly}
 use Rattle.rd_orders.proofs.PhaseLemmas.{IsGreeting}
@@ -26,7 +24,6 @@ use Rattle.rd_runs.proofs.Together.{known}
 use Rattle.rd_runs.proofs.TrafficLemmas.{carried_last}
 use Rattle.rd_runs.specs.Moves.{IsOfLines, MayPass, Reached, ReachedWithin, RunMove, after_move, draws, event_weight, happens, idle, queues, weight}
 use Rattle.rd_runs.specs.Premises.{RunPremises}
-use Rattle.rd_script.specs.declared.line.Line.{Line}
 use Rattle.rd_script.specs.declared.line.NumberedLine.{NumberedLine}
 use Rattle.rd_station.specs.declared.answers.Completion.{Completion}
 use Rattle.rd_station.specs.declared.answers.Given.{Given}
@@ -38,11 +35,10 @@ use Rattle.rd_world.specs.declared.device.SessionDevice.{SessionDevice}
 use Rattle.rd_world.specs.Devices.{Declared}
 use Rattle.rd_world.specs.Events as event
 use Rattle.rd_world.specs.Events.{Event, act, add, applies_held, apply_job, client_read, client_send, collect, collects_from, connect, drop_channel, hand_at, host_read, host_send, is_empty, is_enabled, is_hand_free, is_read, issue, may_issue, remove, take_job, takes_job_from, tell}
-use Rattle.rd_world.specs.Hearing.{next_asked}
 use Rattle.rd_world.specs.Joining.{IsCarried}
 use Rattle.rd_world.specs.Opening.{bare_lines}
-use Rattle.rd_world.specs.Run.{applications_of, asked_by, asking, declared_devices, drawing, idles, queueing, world_of}
-use Rattle.rd_world.specs.Talk.{Deed, EndsWith, Has, client_read as read_by_client, client_wrote, host_read as read_by_host, host_wrote, is_request, request_at}
+use Rattle.rd_world.specs.Run.{asked_by, asking, declared_devices, drawing, idles, queueing, world_of}
+use Rattle.rd_world.specs.Talk.{EndsWith, Has, client_read as read_by_client, client_wrote, host_read as read_by_host, request_at}
 use Rattle.rd_world.specs.World.{ApplicationState, Asked, Kept, WorldState, application_at, new_application, station_at}
 use Rattle.rd_ended.proofs.Happening.{apply_less, client_read_less, client_send_less, collect_less, host_read_less, host_send_less, issue_less, take_less}
 use Rattle.rd_ended.proofs.Lessening.{IsOfRounds, Lessens, RoundsEnd, Settles, rounds_end, settling_ends}
@@ -210,7 +206,7 @@ module _ (lines : List NumberedLine) (starves : Key → Bool) (premises : RunPre
   collects_less w device r (Some s) there some = from s.ready refl (station.collect s) refl
     where
       from : (cs : List Completion) → s.ready ≡ cs → (c : StationState SessionDevice × Option Completion) → station.collect s ≡ c → Less w (collects_from w device c)
-      from [] none c made = absurd (cc (some, ap (λ (l : List Completion). not (is_empty l)) none))
+      from [] none c made = absurd (cc (some, none))
       from (x ∷ cs) ready (after, None) made =
           let given_one : (station.collect s).1 ≡ Some x = rw ready refl in
           absurd (cc (given_one, ap (λ (q : StationState SessionDevice × Option Completion). q.1) made))
@@ -229,7 +225,7 @@ module _ (lines : List NumberedLine) (starves : Key → Bool) (premises : RunPre
       first x jobs waiting = rw (going, waiting) refl
 
       from : (jobs : List Job) → s.waiting ≡ jobs → (c : StationState SessionDevice × Given) → station.take s ≡ c → Less w (takes_job_from w device hand c)
-      from [] none c made = absurd (cc (some, ap (λ (l : List Job). not (is_empty l)) none))
+      from [] none c made = absurd (cc (some, none))
       from (x ∷ jobs) waiting (after, given.Job job) made = take_less (ids_of (pairs_of lines)) (keys_of devices) w device hand s after job (device_has w device s r there) free there made
       from (x ∷ jobs) waiting (after, given.Nothing) made = absurd (cc (first x jobs waiting, ap (λ (q : StationState SessionDevice × Given). q.1) made))
       from (x ∷ jobs) waiting (after, given.Over) made = absurd (cc (first x jobs waiting, ap (λ (q : StationState SessionDevice × Given). q.1) made))

@@ -1,11 +1,11 @@
 -- Each thing that happens by itself leaves less.
-use Rattle.std.proofs.Common.{◌≡◌, ◌⊎◌, ◌∙◌, refl, sym, ap, subst, inl, inr, ℕ, zero, suc, ◌+◌, ◌-◌, ◌*◌, ◌<◌, ◌≤◌, ◌==◌, ◌&&◌, arith, Bool, true, false, cond, not, List, [], ◌∷◌, ◌++◌, length, map, fold, take, drop, Some, None, Option, Result, Ok, Err, ne_eqb}
-use Rattle.std.specs.Prelude.{find, if◌then◌else◌, is_none, is_some, nat_le, nat_lt, slice_get}
+use Rattle.std.proofs.Common.{◌≡◌, ◌⊎◌, ◌∙◌, refl, sym, ap, subst, inl, inr, ℕ, zero, suc, ◌+◌, ◌-◌, ◌*◌, ◌<◌, ◌≤◌, ◌==◌, arith, Bool, true, false, cond, List, [], ◌∷◌, ◌++◌, length, map, take, drop, Some, None, Option, Result, Ok, Err, ne_eqb}
+use Rattle.std.specs.Prelude.{find, if◌then◌else◌, is_none, nat_le, nat_lt, slice_get}
 use Rattle.std.specs.List.{AllByRecursion, cons_option}
 use Rattle.std.specs.Map.{lookup}
 use Rattle.std.specs.Ordering.{nat_cmp}
 use Rattle.std.specs.BTreeMap.{insert_entry, is_at}
-use Rattle.std.specs.Option.{IfSome, option_and_then, option_map_or, unwrap_or}
+use Rattle.std.specs.Option.{IfSome, option_map_or, unwrap_or}
 use Rattle.std.proofs.lemmas.Bool.{cases_Bool}
 use Rattle.std.proofs.lemmas.Bool.Decides.{nat_tests}
 use Rattle.std.proofs.lemmas.List.{length-drop}
@@ -18,18 +18,16 @@ use Rattle.rd_drive.specs.declared.plan.Job.{Job}
 use Rattle.rd_hello.specs.ClientTable.{client_number}
 use Rattle.rd_hello.specs.Moves.{is_of}
 use Rattle.rd_drive.specs.Device.{is_parked}
-use Rattle.rd_irp.specs.declared.op.Op.{Op}
 use Rattle.rd_irp.specs.Fits.{kind_of}
 use Rattle.rd_pending.proofs.MapLemmas.{inserted}
 use Rattle.rd_pending.specs.declared.calls.SubmitNo.{SubmitNo}
 use Rattle.rd_pending.specs.declared.calls.Target.{Target}
 use Rattle.rd_pending.specs.Table as table
 use Rattle.rd_pending.specs.Table.{TableState}
-use Rattle.rd_runs.proofs.Insides.{IsInside, Outside, stationed}
+use Rattle.rd_runs.proofs.Insides.{IsInside, stationed}
 use Rattle.rd_runs.proofs.KeysOn.{AnswersOn, sent_on}
 use Rattle.rd_runs.proofs.Reaching.{both}
 use Rattle.rd_runs.proofs.TrafficLemmas.{Traffic, client_writes_here, completes_here, traffic}
-use Rattle.rd_orders.proofs.Meeting.{inside_traffic}
 use Rattle.rd_script.specs.declared.outcome.Outcome.{Outcome}
 use Rattle.rd_script.specs.declared.outcome.Outcome.TheVariants as outcome
 use Rattle.rd_script.specs.declared.outcome.Refusal.TheVariants as refusal
@@ -44,17 +42,16 @@ use Rattle.rd_station.specs.Station.{StationState, is_key}
 use Rattle.rd_world.proofs.Messages.{packet_is, written_packet}
 use Rattle.rd_world.proofs.RoundsLemmas.{client_count, client_sends_one, host_sends_one}
 use Rattle.rd_world.specs.declared.device.SessionDevice.{SessionDevice}
-use Rattle.rd_world.specs.Events as event
-use Rattle.rd_world.specs.Events.{applies_at, applies_held, applies_job, asks, came_of, client_has_message, client_sends_first, client_sends_next, collects, collects_from, comes_of_asking, completion_message, deed_on, hand_at, has_completion, host_has_message, host_sends_next, is_hand_free, is_hand_full, is_read, issues, issues_next, job_waits, may_issue, refusal_of, takes_job, takes_job_from, target_of, with_hand}
-use Rattle.rd_world.specs.Hearing.{all_take, client_handles_all, ends_line, host_handles, host_handles_all, next_asked, tries_kept, with_client, with_outcome}
+use Rattle.rd_world.specs.Events.{applies_at, asks, came_of, client_has_message, client_sends_first, client_sends_next, collects_from, comes_of_asking, completion_message, deed_on, hand_at, host_has_message, host_sends_next, is_hand_free, is_read, issues, issues_next, may_issue, refusal_of, target_of, with_hand}
+use Rattle.rd_world.specs.Hearing.{client_handles_all, ends_line, host_handles, host_handles_all, next_asked, with_outcome}
 use Rattle.rd_world.specs.Host.{HostSide, next_message, side_sends}
 use Rattle.rd_world.specs.Run.{host_count}
-use Rattle.rd_world.specs.Talk.{Deed, EndsWith, Has, client_writes, client_wrote, completes, host_read, submits}
-use Rattle.rd_world.specs.World.{ApplicationState, Asked, Kept, WayState, WorldState, application_at, client_sends, having_read, host_sends, most_messages, new_application, station_at, with_application, with_deed, with_station, with_table}
-use Rattle.rd_ended.proofs.ClientEvents.{GoesOn, Handles, client_handles_on, inside_unheard, tries_on}
+use Rattle.rd_world.specs.Talk.{Deed, Has, client_writes, client_wrote, completes, host_read}
+use Rattle.rd_world.specs.World.{ApplicationState, Asked, WayState, WorldState, application_at, client_sends, having_read, host_sends, most_messages, new_application, station_at, with_application, with_station}
+use Rattle.rd_ended.proofs.ClientEvents.{Handles, client_handles_on, inside_unheard, tries_on}
 use Rattle.rd_ended.proofs.HostEvents.{AppsTake, HostHears, all_taken, comes_out, host_handles_on, line_put_within}
 use Rattle.rd_ended.proofs.Lessening.{Lessens}
-use Rattle.rd_ended.proofs.Remaining.{back, completions_left, full_hands, hand_changed, handling_left, jobs_left, line_left, lines_left, of_station, other_one, others, others_more, put_at_each, ready_in, remaining, sum, sum_less, sum_same, sum_within, to_open, undrawn, unheard, unheard_by, waiting_in, waits, way_left}
+use Rattle.rd_ended.proofs.Remaining.{back, completions_left, full_hands, hand_changed, handling_left, jobs_left, line_left, lines_left, of_station, other_one, others, others_more, put_at_each, ready_in, remaining, sum, sum_less, sum_same, to_open, unheard, unheard_by, waiting_in, waits, way_left}
 
 -- ---- stations
 

@@ -1,14 +1,11 @@
 -- What a host handles, and what applications take: it hears messages, and has more to send only where one is no completion.
-use Rattle.std.proofs.Common.{◌≡◌, ◌⊎◌, ◌∙◌, refl, sym, ap, subst, inl, inr, ℕ, zero, suc, ◌+◌, ◌-◌, ◌*◌, ◌<◌, ◌≤◌, arith, Bool, true, false, List, [], ◌∷◌, ◌++◌, length, map, fold, Some, None, Option, Result, Ok, Err, length-append, append_assoc}
+use Rattle.std.proofs.Common.{◌≡◌, ◌∙◌, refl, sym, ap, subst, ℕ, zero, suc, ◌+◌, ◌-◌, ◌*◌, ◌≤◌, arith, Bool, true, false, List, [], ◌∷◌, ◌++◌, length, fold, Some, None, Option, Result, Ok, Err, length-append, append_assoc}
 use Rattle.std.specs.Prelude.{if◌then◌else◌, is_some}
 use Rattle.std.specs.Map.{lookup}
 use Rattle.std.specs.Ordering.{nat_cmp}
 use Rattle.std.specs.BTreeMap.{insert_entry, is_at}
 use Rattle.std.specs.Option.{option_map_or, unwrap_or}
-use Rattle.std.proofs.lemmas.Bool.{cases_Bool}
 use Rattle.rd_base.specs.declared.packet.Packet.TheVariants as packet
-use Rattle.rd_client.specs.Core.{ClientCoreState}
-use Rattle.rd_drive.specs.declared.plan.Job.{Job}
 use Rattle.rd_hello.specs.Moves.{is_of}
 use Rattle.rd_pending.proofs.Tame.{tame_take}
 use Rattle.rd_pending.specs.declared.calls.Handle.{Handle}
@@ -18,12 +15,10 @@ use Rattle.rd_pending.specs.Table as table
 use Rattle.rd_pending.specs.Table.{TableState}
 use Rattle.rd_runs.proofs.TrafficLemmas.{Traffic, host_reads_here, traffic}
 use Rattle.rd_script.specs.declared.outcome.Outcome.{Outcome}
-use Rattle.rd_station.specs.Station.{StationState}
-use Rattle.rd_world.specs.declared.device.SessionDevice.{SessionDevice}
-use Rattle.rd_world.specs.Hearing.{all_take, ends_line, given_handle, holding_under, host_handles, host_handles_all, host_handles_first, host_hears, next_asked, reported_outcome, takes_awaited, takes_from, takes_outcome, with_outcome}
+use Rattle.rd_world.specs.Hearing.{given_handle, holding_under, host_handles, host_handles_first, host_hears, next_asked, reported_outcome, takes_awaited, takes_from, takes_outcome, with_outcome}
 use Rattle.rd_world.specs.Run.{host_count}
 use Rattle.rd_world.specs.Talk.{client_wrote, host_read, takes}
-use Rattle.rd_world.specs.World.{ApplicationState, Asked, Kept, WayState, WorldState, application_at, first_message, handling_by, most_messages, new_application, with_application, with_deed, with_table}
+use Rattle.rd_world.specs.World.{ApplicationState, Asked, WorldState, application_at, first_message, handling_by, new_application, with_application, with_deed, with_table}
 use Rattle.rd_ended.proofs.HostHearing.{completion_heard}
 use Rattle.rd_ended.proofs.Remaining.{line_left, lines_left, other_one, others, others_more, put_at_each, sum_within, waits}
 

@@ -1,7 +1,6 @@
 -- A host that hears a completion has no more to send.
-use Rattle.std.proofs.Common.{◌≡◌, ◌∙◌, refl, sym, ap, ℕ, ◌==◌, Bool, true, false, List, [], ◌∷◌, Some, None, Option, Result, Ok, Err}
+use Rattle.std.proofs.Common.{◌≡◌, ◌∙◌, refl, sym, ℕ, ◌==◌, Bool, true, false, List, Some, None, Option, Result, Ok, Err}
 use Rattle.std.specs.Prelude.{if◌then◌else◌}
-use Rattle.std.specs.Option.{option_map_or}
 use Rattle.rd_base.specs.Header.{any_header, packet_id}
 use Rattle.rd_base.specs.Layout.{met}
 use Rattle.rd_base.specs.Position.{Position, at_start}
@@ -10,10 +9,10 @@ use Rattle.rd_base.specs.declared.packet.Packet.{Packet}
 use Rattle.rd_base.specs.declared.packet.Packet.TheVariants as packet
 use Rattle.rd_core.specs.Core.{CoreState}
 use Rattle.rd_core.specs.Hearing.{Meaning, from_header, from_own, from_packet, hear_said, hear_unless, is_read_in, nothing, opens, read_as, said, says, wrong}
-use Rattle.rd_hello.specs.Moves.{is_of, packet_in}
+use Rattle.rd_hello.specs.Moves.{is_of}
 use Rattle.rd_hello.specs.declared.end_fault.EndFault.{EndFault}
 use Rattle.rd_hello.specs.declared.host.HostState.{HostState}
-use Rattle.rd_host.specs.Core.{HostCoreState, client_says, host_hear, host_hear_made, host_side}
+use Rattle.rd_host.specs.Core.{host_hear_made, host_side}
 use Rattle.rd_host.specs.declared.act.Act.{Act}
 use Rattle.rd_host.specs.declared.act.Act.TheVariants as act
 use Rattle.rd_irp.specs.declared.completion.Head.{Head}

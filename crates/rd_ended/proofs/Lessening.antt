@@ -1,8 +1,8 @@
 -- What makes one of some counts smaller, and leaves those before it as they are, doesn't go on for ever: so settling ends, and rounds.
-use Rattle.std.proofs.Common.{◌≡◌, ◌⊎◌, ◌∙◌, refl, sym, ap, subst, inl, inr, ℕ, zero, suc, ◌+◌, ◌<◌, ◌≤◌, ◌&&◌, ◌/◌, ◌^◌, arith, Bool, true, false, List, [], ◌∷◌, length, Some, None, Option}
-use Rattle.std.specs.Prelude.{if◌then◌else◌, is_none, max, min, nat_le, nat_lt, slice_get, not}
+use Rattle.std.proofs.Common.{◌≡◌, ◌⊎◌, ◌∙◌, refl, sym, subst, inl, inr, ℕ, zero, suc, ◌+◌, ◌<◌, ◌≤◌, ◌&&◌, ◌/◌, ◌^◌, arith, Bool, true, false, List, [], ◌∷◌, length, Some}
+use Rattle.std.specs.Prelude.{if◌then◌else◌, is_none, max, min, nat_le, nat_lt, slice_get}
 use Rattle.std.specs.List.{AllByRecursion, flat_map}
-use Rattle.std.specs.Option.{IfSome, unwrap_or}
+use Rattle.std.specs.Option.{unwrap_or}
 use Rattle.std.proofs.Math.Nat.{le-max_left, le-min, min-le_right, mod-lt}
 use Rattle.std.proofs.lemmas.Bool.Decides.{nat_tests}
 use Rattle.rd_base.specs.declared.journal.Key.{Key}

@@ -1,9 +1,9 @@
 -- In each world that lines come to no station is over, so what waits there can be taken.
-use Rattle.std.proofs.Common.{◌≡◌, ◌∙◌, refl, sym, ap, subst, ℕ, Bool, true, false, cond, not, List, [], ◌∷◌, ◌++◌, map, fold, Some, None, Option, Result, Ok, Err}
+use Rattle.std.proofs.Common.{◌≡◌, ◌∙◌, refl, sym, ap, subst, ℕ, Bool, true, false, cond, List, [], ◌∷◌, map, fold, Some, None, Option, Result, Ok, Err}
 use Rattle.std.specs.Prelude.{find, if◌then◌else◌, nat_le}
 use Rattle.std.specs.Map.{lookup}
 use Rattle.std.specs.Ordering.{nat_cmp}
-use Rattle.std.specs.BTreeMap.{insert_entry, is_at}
+use Rattle.std.specs.BTreeMap.{is_at}
 use Rattle.std.specs.Option.{IfSome, option_map_or}
 use Rattle.rd_base.specs.declared.journal.Key.{Key}
 use Rattle.rd_client.specs.Core as client
@@ -18,7 +18,7 @@ use Rattle.rd_hello.specs.declared.client.ClientState.{ClientState}
 use Rattle.rd_hello.specs.declared.end_fault.EndFault.{EndFault}
 use Rattle.rd_irp.specs.Fits.{kind_of}
 use Rattle.rd_runs.proofs.BeginningLemmas.{Unset, begins_as}
-use Rattle.rd_runs.proofs.Parts.{IsBehind, MayBe, Part, accepts, adds_one, announced_by, applies_one, begins, by_parts, client_gets, client_hears_one, client_keeps_part, client_sends_one, collects_one, cut_by, done, draws_one, ends, hands_out, host_gets, host_hears_one, host_keeps_part, host_sends_one, idle_one, queues_one, reached_behind, refreshed_by, refuses, removes_one, takes_one, tells_one, told_added, told_removed, tries_one}
+use Rattle.rd_runs.proofs.Parts.{MayBe, Part, accepts, adds_one, announced_by, applies_one, begins, by_parts, client_gets, client_hears_one, client_keeps_part, client_sends_one, collects_one, cut_by, done, draws_one, ends, hands_out, host_gets, host_hears_one, host_keeps_part, host_sends_one, idle_one, queues_one, reached_behind, refreshed_by, refuses, removes_one, takes_one, tells_one, told_added, told_removed, tries_one}
 use Rattle.rd_runs.specs.Moves.{Reached}
 use Rattle.rd_script.specs.declared.line.NumberedLine.{NumberedLine}
 use Rattle.rd_station.specs.declared.answers.Applied.{Applied}
@@ -35,9 +35,9 @@ use Rattle.rd_station.specs.Station as station
 use Rattle.rd_station.specs.Station.{StationState, is_key}
 use Rattle.rd_world.specs.declared.device.SessionDevice.{SessionDevice}
 use Rattle.rd_world.specs.Devices.{Declared, PrinterNames, device_cut}
-use Rattle.rd_world.specs.Events.{applies_at, came_of, dropping, refreshing}
-use Rattle.rd_world.specs.Hearing.{after_opening, announcing, client_hears, heard_by_client, put_at, put_by, putting, refused_put, with_client}
-use Rattle.rd_world.specs.Run.{declared_devices, station_of, world_of}
+use Rattle.rd_world.specs.Events.{came_of, dropping, refreshing}
+use Rattle.rd_world.specs.Hearing.{after_opening, announcing, heard_by_client, put_at, put_by, putting, refused_put, with_client}
+use Rattle.rd_world.specs.Run.{declared_devices, station_of}
 use Rattle.rd_world.specs.Talk.{client_reads}
 use Rattle.rd_world.specs.World.{WorldState, station_at, with_deed, with_station}
 use Rattle.rd_ended.proofs.Remaining.{put_at_each}

@@ -1,5 +1,5 @@
 -- In each world that lines come to no key is named at two stations, so what its journals say of a key's run is what the run was.
-use Rattle.std.proofs.Common.{◌≡◌, ◌≢◌, ◌∙◌, refl, sym, ap, subst, inl, inr, ℕ, zero, suc, ◌<◌, ◌≤◌, arith, Bool, List, [], ◌∷◌, length, map, reverse, Some, None, Option}
+use Rattle.std.proofs.Common.{◌≡◌, ◌∙◌, refl, sym, ap, subst, inl, inr, ℕ, zero, suc, ◌<◌, ◌≤◌, arith, Bool, List, [], ◌∷◌, length, reverse, Some, Option}
 use Rattle.std.specs.Prelude.{All, Contains, slice_get}
 use Rattle.std.specs.List.{AllByRecursion}
 use Rattle.std.specs.List.Sorted.{IsStrictlySortedBy}
@@ -13,7 +13,6 @@ use Rattle.std.proofs.lemmas.List.{length-map}
 use Rattle.std.proofs.lemmas.List.Elements.{All-from_recursion, All-head, All-tail}
 use Rattle.rd_base.specs.declared.journal.Item.{Item}
 use Rattle.rd_base.specs.declared.journal.Key.{Key}
-use Rattle.rd_base.specs.Lawful.{named_key}
 use Rattle.rd_joined.proofs.BookLemmas.{named}
 use Rattle.rd_joined.proofs.JournalLemmas.{each_found}
 use Rattle.rd_journals.proofs.DeclaredLemmas.{bounded_fit}
@@ -31,7 +30,7 @@ use Rattle.rd_world.proofs.KeysLemmas.{marks_agree}
 use Rattle.rd_world.proofs.OpeningLemmas.{declared_openable}
 use Rattle.rd_world.specs.declared.device.SessionDevice.{SessionDevice}
 use Rattle.rd_world.specs.Devices.{Declared}
-use Rattle.rd_world.specs.Keys.{KeysApart, MarksAgree, NamesAt}
+use Rattle.rd_world.specs.Keys.{KeysApart, MarksAgree}
 use Rattle.rd_world.specs.Opening.{bare_lines}
 use Rattle.rd_world.specs.Run.{declared_devices}
 use Rattle.rd_world.specs.Session.{IsOfDevice}

@@ -1,10 +1,10 @@
 -- What is left to happen by itself in a world, as ten counts.
-use Rattle.std.proofs.Common.{◌≡◌, ◌≢◌, ◌⊎◌, ◌∙◌, refl, sym, ap, subst, inl, inr, ℕ, zero, suc, ◌+◌, ◌-◌, ◌*◌, ◌<◌, ◌≤◌, arith, Bool, true, false, cond, List, [], ◌∷◌, ◌++◌, length, take, drop, map, Some, None, Option}
+use Rattle.std.proofs.Common.{◌≡◌, ◌⊎◌, ◌∙◌, refl, sym, ap, subst, inl, inr, ℕ, zero, suc, ◌+◌, ◌-◌, ◌*◌, ◌<◌, ◌≤◌, arith, Bool, true, false, cond, List, [], ◌∷◌, ◌++◌, length, take, drop, Some, None, Option}
 use Rattle.std.specs.Prelude.{if◌then◌else◌, slice_get}
 use Rattle.std.specs.Map.{keys_of, lookup}
 use Rattle.std.specs.Ordering.{nat_cmp}
 use Rattle.std.specs.BTreeMap.{insert_entry, is_at}
-use Rattle.std.specs.Option.{option_map_or, unwrap_or}
+use Rattle.std.specs.Option.{option_map_or}
 use Rattle.std.proofs.lemmas.Bool.{cases_eq}
 use Rattle.rd_base.specs.declared.packet.Packet.TheVariants as packet
 use Rattle.rd_client.specs.Core.{ClientCoreState}
@@ -19,7 +19,7 @@ use Rattle.rd_world.proofs.RoundsLemmas.{client_count}
 use Rattle.rd_world.specs.declared.device.SessionDevice.{SessionDevice}
 use Rattle.rd_world.specs.Run.{drawing, host_count}
 use Rattle.rd_world.specs.Talk.{Has}
-use Rattle.rd_world.specs.World.{ApplicationState, Kept, WorldState, application_at, new_application, station_at}
+use Rattle.rd_world.specs.World.{ApplicationState, Kept, WorldState, application_at, station_at}
 use Rattle.rd_ended.proofs.Lessening.{Lessens}
 
 -- ---- sums

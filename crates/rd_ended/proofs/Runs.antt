@@ -1,5 +1,5 @@
 -- Every run ends: what each line comes to is reached by some draws and rounds, and those of all lines together do for the run.
-use Rattle.std.proofs.Common.{◌≡◌, ◌≢◌, ◌∙◌, refl, sym, ap, subst, inl, inr, ℕ, zero, suc, ◌+◌, ◌<◌, ◌≤◌, ◌&&◌, arith, Bool, true, false, List, [], ◌∷◌, length, map, fold, Some, None, Option}
+use Rattle.std.proofs.Common.{◌≡◌, ◌∙◌, refl, sym, ap, subst, inl, inr, ℕ, suc, ◌+◌, ◌≤◌, ◌&&◌, arith, Bool, true, false, List, [], ◌∷◌, length, map, fold, Some, None, Option}
 use Rattle.std.specs.Prelude.{if◌then◌else◌, is_some}
 use Rattle.std.specs.List.{AllByRecursion}
 use Rattle.std.specs.Option.{option_and_then, option_map_or}
@@ -26,7 +26,7 @@ use Rattle.rd_script.specs.declared.line.Errand.{Errand}
 use Rattle.rd_script.specs.declared.line.Line.{Line}
 use Rattle.rd_script.specs.declared.line.Line.TheVariants as line
 use Rattle.rd_script.specs.declared.line.NumberedLine.{NumberedLine}
-use Rattle.rd_world.proofs.FuelLemmas.{AreWithin, both, connects_on_more, controls_more, ends_session_more, first_within, plays_line_more, plays_more, second_within, settled_more}
+use Rattle.rd_world.proofs.FuelLemmas.{AreWithin, both, connects_on_more, ends_session_more, first_within, plays_line_more, plays_more, second_within, settled_more}
 use Rattle.rd_world.proofs.Written.{sound_side}
 use Rattle.rd_runs.proofs.BelowLemmas.{channel_is}
 use Rattle.rd_world.proofs.PlayingLemmas.{may_connect}
@@ -35,7 +35,7 @@ use Rattle.rd_world.specs.Events as event
 use Rattle.rd_world.specs.Events.{Event, act, is_channel_open, is_enabled, refreshing}
 use Rattle.rd_world.specs.Host.{HostSide}
 use Rattle.rd_world.specs.Recording.{client_id}
-use Rattle.rd_world.specs.Run.{Most, asked_by, by_event, connects_on, controls, does, ends_session, event_of, idles, notice_of, plays, plays_line, queueing, rounds, run_of, settled, some_left, world_of}
+use Rattle.rd_world.specs.Run.{Most, asked_by, by_event, connects_on, controls, does, ends_session, event_of, idles, notice_of, plays, plays_line, queueing, run_of, settled, some_left, world_of}
 use Rattle.rd_world.specs.Talk.{Has, client_wrote, open_channel}
 use Rattle.rd_world.specs.World.{Asked, WorldState}
 use Rattle.rd_ended.proofs.Ending.{IsOn, drawing_on, event_on, first_on, free_less, idles_on, more_on, passed_on, queued_on, reached, rounds_settle, settles}
@@ -162,28 +162,42 @@ module _ (lines : List NumberedLine) (starves : Key → Bool) (premises : RunPre
       by true can false = ends_now (On (n + 1) []) w (more_on lines starves premises n (n + 1) [] w (omega arith) few on)
       by false can b = ends_now (On (n + 1) []) w (more_on lines starves premises n (n + 1) [] w (omega arith) few on)
 
+  -- the parts of a run, one after the other
+  run_by : (most : Most) (begun played rested last : WorldState) → connects_on starves most (world_of lines) ≡ Some begun → plays starves most lines begun ≡ Some played → settled starves most.draws played ≡ Some rested
+      → ends_session starves most rested ≡ Some last → run_of most starves lines ≡ Some last
+  run_by most begun played rested last e1 e2 e3 e4 =
+      ap (λ (o : Option WorldState). option_and_then (ends_session starves most) (option_and_then (settled starves most.draws) (option_and_then (plays starves most lines) o))) e1
+      ∙ ap (λ (o : Option WorldState). option_and_then (ends_session starves most) (option_and_then (settled starves most.draws) o)) e2
+      ∙ ap (option_and_then (ends_session starves most)) e3
+      ∙ e4
+
   pub run_ends : (most : Most) × (w : WorldState) × (run_of most starves lines ≡ Some w)
   run_ends =
-      let (m1, begun, is1, p1) = connects_end 0 lines (world_of lines) (omega arith) (may_connect lines) (first_on lines starves premises) in
-      let (m2, played, is2, p2) = plays_end lines (0 + 1) begun (omega arith) (λ l has. has) p1 in
-      let (m3, rested, is3, p3) = settles_end (0 + 1 + length lines) [] played p2 in
-      let (m4, last, is4, p4) = session_ends (0 + 1 + length lines) rested (omega arith) p3 in
-      let a : Most = both m1 m2 in
-      let b : Most = both m3 m4 in
-      let most : Most = both a b in
-      let w1 = within_then m1 a most (first_within m1 m2) (first_within a b) in
-      let w2 = within_then m2 a most (second_within m1 m2) (first_within a b) in
-      let w3 = within_then m3 b most (first_within m3 m4) (second_within a b) in
-      let w4 = within_then m4 b most (second_within m3 m4) (second_within a b) in
-      let e1 : connects_on starves most (world_of lines) ≡ Some begun = connects_on_more starves m1 most w1 (world_of lines) begun is1 in
-      let e2 : plays starves most lines begun ≡ Some played = plays_more starves m2 most w2 lines begun played is2 in
-      let e3 : settled starves most.draws played ≡ Some rested = settled_more starves m3.draws most.draws w3.draws played rested is3 in
-      let e4 : ends_session starves most rested ≡ Some last = ends_session_more starves m4 most w4 rested last is4 in
-      (
-        most,
-        last,
-        ap (λ (o : Option WorldState). option_and_then (ends_session starves most) (option_and_then (settled starves most.draws) (option_and_then (plays starves most lines) o))) e1
-        ∙ ap (λ (o : Option WorldState). option_and_then (ends_session starves most) (option_and_then (settled starves most.draws) o)) e2
-        ∙ ap (option_and_then (ends_session starves most)) e3
-        ∙ e4,
-      )
+      begin_ends (connects_end 0 lines (world_of lines) (omega arith) (may_connect lines) (first_on lines starves premises))
+    where
+      ends_after : (m1 m2 m3 : Most) (begun played rested : WorldState) → connects_on starves m1 (world_of lines) ≡ Some begun → plays starves m2 lines begun ≡ Some played → settled starves m3.draws played ≡ Some rested
+          → Ends (λ most. ends_session starves most rested) (On (0 + 1 + length lines + 1) []) → (most : Most) × (w : WorldState) × (run_of most starves lines ≡ Some w)
+      ends_after m1 m2 m3 begun played rested is1 is2 is3 (m4, last, is4, p4) =
+          let a : Most = both m1 m2 in
+          let b : Most = both m3 m4 in
+          let most : Most = both a b in
+          let w1 = within_then m1 a most (first_within m1 m2) (first_within a b) in
+          let w2 = within_then m2 a most (second_within m1 m2) (first_within a b) in
+          let w3 = within_then m3 b most (first_within m3 m4) (second_within a b) in
+          let w4 = within_then m4 b most (second_within m3 m4) (second_within a b) in (
+            most,
+            last,
+            run_by most begun played rested last (connects_on_more starves m1 most w1 (world_of lines) begun is1) (plays_more starves m2 most w2 lines begun played is2)
+                (settled_more starves m3.draws most.draws w3.draws played rested is3) (ends_session_more starves m4 most w4 rested last is4),
+          )
+
+      rests_after : (m1 m2 : Most) (begun played : WorldState) → connects_on starves m1 (world_of lines) ≡ Some begun → plays starves m2 lines begun ≡ Some played
+          → Ends (λ most. settled starves most.draws played) (On (0 + 1 + length lines) []) → (most : Most) × (w : WorldState) × (run_of most starves lines ≡ Some w)
+      rests_after m1 m2 begun played is1 is2 (m3, rested, is3, p3) = ends_after m1 m2 m3 begun played rested is1 is2 is3 (session_ends (0 + 1 + length lines) rested (omega arith) p3)
+
+      plays_after : (m1 : Most) (begun : WorldState) → connects_on starves m1 (world_of lines) ≡ Some begun
+          → Ends (λ most. plays starves most lines begun) (On (0 + 1 + length lines) []) → (most : Most) × (w : WorldState) × (run_of most starves lines ≡ Some w)
+      plays_after m1 begun is1 (m2, played, is2, p2) = rests_after m1 m2 begun played is1 is2 (settles_end (0 + 1 + length lines) [] played p2)
+
+      begin_ends : Ends (λ most. connects_on starves most (world_of lines)) (On (0 + 1) lines) → (most : Most) × (w : WorldState) × (run_of most starves lines ≡ Some w)
+      begin_ends (m1, begun, is1, p1) = plays_after m1 begun is1 (plays_end lines (0 + 1) begun (omega arith) (λ l has. has) p1)

@@ -1,8 +1,7 @@
 -- A run is the same where the runs of jobs find no memory of which its own journals say so.
-use Rattle.std.proofs.Common.{◌≡◌, ◌∙◌, refl, sym, ap, subst, inl, inr, ℕ, zero, suc, ◌+◌, ◌<◌, ◌≤◌, ◌&&◌, arith, Bool, true, false, cond, not, List, [], ◌∷◌, length, map, Some, None, Option, Result}
+use Rattle.std.proofs.Common.{◌≡◌, ◌∙◌, refl, sym, ap, subst, inl, inr, ℕ, zero, suc, ◌+◌, ◌≤◌, ◌&&◌, arith, Bool, true, false, cond, not, List, [], ◌∷◌, length, map, Some, None, Option}
 use Rattle.std.specs.Prelude.{All, if◌then◌else◌, slice_get}
 use Rattle.std.specs.List.{AllByRecursion}
-use Rattle.std.specs.List.Sorted.{IsStrictlySortedBy}
 use Rattle.std.specs.Map.{keys_of, lookup}
 use Rattle.std.specs.Ordering.{nat_cmp}
 use Rattle.std.specs.BTreeMap.{insert_entry, is_at}
@@ -12,7 +11,6 @@ use Rattle.rd_base.specs.declared.journal.Item.{Item}
 use Rattle.rd_base.specs.declared.journal.Key.{Key}
 use Rattle.rd_drive.specs.declared.plan.Job.{Job}
 use Rattle.rd_drive.specs.Planned.{Planned}
-use Rattle.rd_drive.specs.Stepped.{Stepped, ran_step}
 use Rattle.rd_irp.specs.declared.op.Op.{Op}
 use Rattle.rd_irp.specs.declared.op.Op.TheVariants as op
 use Rattle.rd_journals.proofs.DeclaredLemmas.{bounded_fit}
@@ -21,7 +19,6 @@ use Rattle.rd_journals.proofs.RunLemmas.{reached_orderly}
 use Rattle.rd_journals.specs.Stations.{IsFit}
 use Rattle.rd_orders.specs.Orders.{DeclaresWritable}
 use Rattle.rd_pending.proofs.MapLemmas.{inserted}
-use Rattle.rd_printer.specs.declared.notice.Notice.{Notice}
 use Rattle.rd_runs.specs.Moves.{Reached}
 use Rattle.rd_runs.specs.Premises.{RunPremises}
 use Rattle.rd_script.specs.declared.line.Errand.{Errand}
@@ -37,18 +34,18 @@ use Rattle.rd_world.proofs.GoingLemmas.{Goes, ends_session_goes, gone_to, goes_l
 use Rattle.rd_world.proofs.KeysLemmas.{agrees_before, applied_as}
 use Rattle.rd_world.proofs.PlayingLemmas.{may_connect}
 use Rattle.rd_world.specs.declared.device.SessionDevice.{SessionDevice}
-use Rattle.rd_world.specs.Devices.{device_cuts, device_parked, device_runs, device_step}
+use Rattle.rd_world.specs.Devices.{device_cuts, device_parked, device_runs}
 use Rattle.rd_world.specs.Events as event
 use Rattle.rd_world.specs.Events.{Event, act, applies_at, applies_held, came_of, hand_at, is_channel_open, is_close, is_enabled, with_hand}
 use Rattle.rd_world.specs.Keys.{AgreesAt, MarksAgree, station_journals}
 use Rattle.rd_world.specs.Run as run
 use Rattle.rd_world.specs.Run.{Most, NextStep, all_client_sends, all_host_sends, asked_by, choices, chosen, connects_on, controls, does, drawing, drawn_count, ends_session, event_of, host_count, idles, is_quiet, picked, plays, plays_line, queueing, rounds, run_of, settled, settles_by, some_left, while_enabled, world_of}
 use Rattle.rd_world.specs.Talk.{Has}
-use Rattle.rd_world.specs.World.{Asked, WorldState, journals_in, marks_of, station_at, with_station}
+use Rattle.rd_world.specs.World.{Asked, WorldState, journals_in, station_at, with_station}
 use Rattle.rd_world.proofs.RoundsLemmas.{round}
 use Rattle.rd_ended.proofs.Ending.{IsOn, drawing_on, event_on, first_on, free_less, passed_on, reached, ids_of, pairs_of}
 use Rattle.rd_ended.proofs.Lessening.{CanCome, choices_can, chosen_lessens, pick_has}
-use Rattle.rd_ended.proofs.OwnMarks.{ids_rise, own_marks}
+use Rattle.rd_ended.proofs.OwnMarks.{ids_rise}
 use Rattle.rd_ended.proofs.Remaining.{remaining, undrawn}
 use Rattle.rd_ended.proofs.Runs.{Ends, connects_end, line_ends, plays_end, settles_end}
 
