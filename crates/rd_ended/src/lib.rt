@@ -1,7 +1,7 @@
-//! That every run of a session's world ends, and what a run that was cut off wrote begins an end's recording.
+//! That every run of a session's world ends, and that what a run wrote which was cut off begins an end's recording.
 //!
-//! It stands on `rd_outcomes` and `rd_opening`, and has no code: each statement is the contract of a function that does nothing. Each thing that happens by itself makes one of ten counts
-//! smaller and leaves those before it as they are (`proofs/Lessening`), so nothing goes on for ever.
+//! It stands on `rd_opening` and `rd_told`, and has no code: each statement is the contract of a function that does nothing. Each thing that happens by itself makes one of ten counts
+//! smaller and leaves those before it as they are (`proofs/Remaining`, `Happening`), so nothing goes on for ever.
 #![tactic(auto)]
 
 mod laws;
