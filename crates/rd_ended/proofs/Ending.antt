@@ -133,13 +133,13 @@ module _ (lines : List NumberedLine) (starves : Key → Bool) (premises : RunPre
   Less = Lessens (remaining (ids_of (pairs_of lines)) (keys_of devices))
 
   -- A world behind so many lines, in which each application may have all its other lines queued.
-  pub record IsOn (n : ℕ) (rest : List NumberedLine) (w : WorldState) : Type 0 where
+  pub record StandsBefore (n : ℕ) (rest : List NumberedLine) (w : WorldState) : Type 0 where
     pub within : ReachedWithin n lines starves w
     pub few : n ≤ length lines + 2
     pub left : (a : ℕ) → (application_at w a).queued + how_many a (pairs_of rest) ≤ length (application_at w a).asks
     pub among : (a : ℕ) → 0 < length (application_at w a).asks → Has a (ids_of (pairs_of lines))
 
-  pub reached : (n : ℕ) (rest : List NumberedLine) (w : WorldState) → IsOn n rest w → Reached lines starves w
+  pub reached : (n : ℕ) (rest : List NumberedLine) (w : WorldState) → StandsBefore n rest w → Reached lines starves w
   reached n rest w on = record { moves = on.within.moves; pass = on.within.pass; few = omega (arith, on.within.few, on.few); leads = on.within.leads }
 
   -- a move more
@@ -151,7 +151,7 @@ module _ (lines : List NumberedLine) (starves : Key → Bool) (premises : RunPre
     leads = ap (λ (x : WorldState). after_move starves x m) r.leads;
   }
 
-  pub lined_on : (n k : ℕ) (rest : List NumberedLine) (w v : WorldState) → Lined w v → ReachedWithin k lines starves v → k ≤ length lines + 2 → IsOn n rest w → IsOn k rest v
+  pub lined_on : (n k : ℕ) (rest : List NumberedLine) (w v : WorldState) → Lined w v → ReachedWithin k lines starves v → k ≤ length lines + 2 → StandsBefore n rest w → StandsBefore k rest v
   lined_on n k rest w v lined within few on = record {
     within = within;
     few = few;
@@ -164,10 +164,10 @@ module _ (lines : List NumberedLine) (starves : Key → Bool) (premises : RunPre
         on.among a (omega (arith, same, some));
   }
 
-  pub event_on : (n k : ℕ) (rest : List NumberedLine) (w : WorldState) (e : Event) → event_weight e + n ≤ k → k ≤ length lines + 2 → IsOfLines lines e → is_enabled w e ≡ true → IsOn n rest w → IsOn k rest (act starves w e)
+  pub event_on : (n k : ℕ) (rest : List NumberedLine) (w : WorldState) (e : Event) → event_weight e + n ≤ k → k ≤ length lines + 2 → IsOfLines lines e → is_enabled w e ≡ true → StandsBefore n rest w → StandsBefore k rest (act starves w e)
   event_on n k rest w e more few of can on = lined_on n k rest w (act starves w e) (event_lined starves w e) (one_move n k w (happens e) more (of, can) on.within) few on
 
-  pub more_on : (n k : ℕ) (rest : List NumberedLine) (w : WorldState) → n ≤ k → k ≤ length lines + 2 → IsOn n rest w → IsOn k rest w
+  pub more_on : (n k : ℕ) (rest : List NumberedLine) (w : WorldState) → n ≤ k → k ≤ length lines + 2 → StandsBefore n rest w → StandsBefore k rest w
   more_on n k rest w more few on = record {
     within = record { moves = on.within.moves; pass = on.within.pass; few = omega (arith, on.within.few, more); leads = on.within.leads };
     few = few;
@@ -175,10 +175,10 @@ module _ (lines : List NumberedLine) (starves : Key → Bool) (premises : RunPre
     among = on.among;
   }
 
-  pub drawing_on : (n : ℕ) (rest : List NumberedLine) (w : WorldState) → IsOn n rest w → IsOn n rest (drawing w)
+  pub drawing_on : (n : ℕ) (rest : List NumberedLine) (w : WorldState) → StandsBefore n rest w → StandsBefore n rest (drawing w)
   drawing_on n rest w on = record { within = one_move n n w draws (omega arith) tt on.within; few = on.few; left = on.left; among = on.among }
 
-  pub idles_on : (n : ℕ) (rest : List NumberedLine) (w : WorldState) (number : ℕ) → n + 1 ≤ length lines + 2 → IsOn n rest w → IsOn (n + 1) rest (idles w number)
+  pub idles_on : (n : ℕ) (rest : List NumberedLine) (w : WorldState) (number : ℕ) → n + 1 ≤ length lines + 2 → StandsBefore n rest w → StandsBefore (n + 1) rest (idles w number)
   idles_on n rest w number few on = record { within = one_move n (n + 1) w (idle number) (omega arith) tt on.within; few = few; left = on.left; among = on.among }
 
   free_of : (e : Event) → event_weight e ≡ 0 → IsOfLines lines e
@@ -235,16 +235,16 @@ module _ (lines : List NumberedLine) (starves : Key → Bool) (premises : RunPre
   applied_less w hand (Some None) holds full = absurd (cc full)
   applied_less w hand (Some (Some (device, job))) holds full = apply_less (ids_of (pairs_of lines)) (keys_of devices) starves w hand device job (station_at w device) holds refl
 
-  pub free_less : (n : ℕ) (rest : List NumberedLine) (w : WorldState) (e : Event) → event_weight e ≡ 0 → is_enabled w e ≡ true → IsOn n rest w → IsOn n rest (act starves w e) × Less w (act starves w e)
+  pub free_less : (n : ℕ) (rest : List NumberedLine) (w : WorldState) (e : Event) → event_weight e ≡ 0 → is_enabled w e ≡ true → StandsBefore n rest w → StandsBefore n rest (act starves w e) × Less w (act starves w e)
   free_less n rest w e free can on = (after, by e free can after)
     where
-      after : IsOn n rest (act starves w e)
+      after : StandsBefore n rest (act starves w e)
       after = event_on n n rest w e (omega (arith, free)) on.few (free_of e free) can on
 
       r : Reached lines starves w
       r = reached n rest w on
 
-      by : (x : Event) → event_weight x ≡ 0 → is_enabled w x ≡ true → IsOn n rest (act starves w x) → Less w (act starves w x)
+      by : (x : Event) → event_weight x ≡ 0 → is_enabled w x ≡ true → StandsBefore n rest (act starves w x) → Less w (act starves w x)
       by (issue a) free can after =
           let x : ApplicationState = application_at w a in
           let low : length x.outcomes < length x.asks = omega (arith, some_left x can, on.left a) in
@@ -267,13 +267,13 @@ module _ (lines : List NumberedLine) (starves : Key → Bool) (premises : RunPre
       by x free can after = absurd (omega (arith, free))
 
   -- settling ends
-  pub settles : (n : ℕ) (rest : List NumberedLine) (w : WorldState) → IsOn n rest w → Settles starves (IsOn n rest) w
+  pub settles : (n : ℕ) (rest : List NumberedLine) (w : WorldState) → StandsBefore n rest w → Settles starves (StandsBefore n rest) w
   settles n rest w on =
-      settling_ends starves (remaining (ids_of (pairs_of lines)) (keys_of devices)) (IsOn n rest) (free_less n rest) (drawing_on n rest) (undrawn (ids_of (pairs_of lines)) (keys_of devices)) w on
+      settling_ends starves (remaining (ids_of (pairs_of lines)) (keys_of devices)) (StandsBefore n rest) (free_less n rest) (drawing_on n rest) (undrawn (ids_of (pairs_of lines)) (keys_of devices)) w on
 
   -- ---- the world that lines begin
 
-  pub first_on : IsOn 0 lines (world_of lines)
+  pub first_on : StandsBefore 0 lines (world_of lines)
   first_on = record {
     within = record { moves = []; pass = tt; few = omega arith; leads = refl };
     few = omega arith;
@@ -287,7 +287,7 @@ module _ (lines : List NumberedLine) (starves : Key → Bool) (premises : RunPre
       asked a = begins_as lines (λ (u : Unset). length (application_in u.applications a).asks ≡ 0 + how_many a (pairs_of lines)) (asked_more a (pairs_of lines) [])
 
   -- a line that asks for something is queued
-  pub queued_on : (n : ℕ) (l : NumberedLine) (rest : List NumberedLine) (w : WorldState) (a : ℕ) (asked : Asked) → Has l lines → asked_by l.line ≡ Some (a, asked) → n + 1 ≤ length lines + 2 → IsOn n (l ∷ rest) w → IsOn (n + 1) rest (queueing w a)
+  pub queued_on : (n : ℕ) (l : NumberedLine) (rest : List NumberedLine) (w : WorldState) (a : ℕ) (asked : Asked) → Has l lines → asked_by l.line ≡ Some (a, asked) → n + 1 ≤ length lines + 2 → StandsBefore n (l ∷ rest) w → StandsBefore (n + 1) rest (queueing w a)
   queued_on n l rest w a asked has is few on = record {
     within = one_move n (n + 1) w (queues a) (omega arith) (l, asked, has, is) on.within;
     few = few;
@@ -321,7 +321,7 @@ module _ (lines : List NumberedLine) (starves : Key → Bool) (premises : RunPre
           omega (arith, queued, more b, same_asks b, on.left b)
 
   -- a line that asks for nothing
-  pub passed_on : (n : ℕ) (l : NumberedLine) (rest : List NumberedLine) (w : WorldState) → asked_by l.line ≡ None → IsOn n (l ∷ rest) w → IsOn n rest w
+  pub passed_on : (n : ℕ) (l : NumberedLine) (rest : List NumberedLine) (w : WorldState) → asked_by l.line ≡ None → StandsBefore n (l ∷ rest) w → StandsBefore n rest w
   passed_on n l rest w is on = record {
     within = on.within;
     few = on.few;
@@ -380,9 +380,9 @@ module _ (lines : List NumberedLine) (starves : Key → Bool) (premises : RunPre
     off_none : {X : Type 0} (o : Option X) → o ≡ None → is_none o ≡ true
     off_none o is = ap is_none is
 
-    pub rounds_settle : (n : ℕ) (rest : List NumberedLine) (w : WorldState) → IsOn n rest w → IsOpening w → RoundsEnd starves (λ x. IsOn n rest x × IsOpening x) w
+    pub rounds_settle : (n : ℕ) (rest : List NumberedLine) (w : WorldState) → StandsBefore n rest w → IsOpening w → RoundsEnd starves (λ x. StandsBefore n rest x × IsOpening x) w
     rounds_settle n rest w on opening =
-        rounds_end starves (remaining (ids_of (pairs_of lines)) (keys_of devices)) (λ x. IsOn n rest x × IsOpening x) (λ x (own, o). off_none x.kept (none_kept x (reached n rest x own) o))
+        rounds_end starves (remaining (ids_of (pairs_of lines)) (keys_of devices)) (λ x. StandsBefore n rest x × IsOpening x) (λ x (own, o). off_none x.kept (none_kept x (reached n rest x own) o))
         (λ x e of can (own, o).
             let less = free_less n rest x e (round_of e of).1 can own in
             ((less.0, opening_goes x e of can (reached n rest x own) o), less.1)) w (on, opening)

@@ -26,7 +26,7 @@ use Rattle.rd_script.specs.declared.line.Errand.{Errand}
 use Rattle.rd_script.specs.declared.line.Line.{Line}
 use Rattle.rd_script.specs.declared.line.Line.TheVariants as line
 use Rattle.rd_script.specs.declared.line.NumberedLine.{NumberedLine}
-use Rattle.rd_world.proofs.FuelLemmas.{AreWithin, both, connects_on_more, ends_session_more, first_within, plays_line_more, plays_more, second_within, settled_more}
+use Rattle.rd_world.proofs.FuelLemmas.{AreWithin, IsKept, both, kept_then, connects_on_more, ends_session_more, first_within, plays_line_more, plays_more, second_within, settled_more}
 use Rattle.rd_world.proofs.Written.{sound_side}
 use Rattle.rd_runs.proofs.BelowLemmas.{channel_is}
 use Rattle.rd_world.proofs.PlayingLemmas.{may_connect}
@@ -38,7 +38,7 @@ use Rattle.rd_world.specs.Recording.{client_id}
 use Rattle.rd_world.specs.Run.{Most, asked_by, by_event, connects_on, controls, does, ends_session, event_of, idles, notice_of, plays, plays_line, queueing, run_of, settled, some_left, world_of}
 use Rattle.rd_world.specs.Talk.{Has, client_wrote, open_channel}
 use Rattle.rd_world.specs.World.{Asked, WorldState}
-use Rattle.rd_ended.proofs.Ending.{IsOn, drawing_on, event_on, first_on, free_less, idles_on, more_on, passed_on, queued_on, reached, rounds_settle, settles}
+use Rattle.rd_ended.proofs.Ending.{StandsBefore, drawing_on, event_on, first_on, free_less, idles_on, more_on, passed_on, queued_on, reached, rounds_settle, settles}
 
 -- some draws and rounds come to a world of which this holds
 abbrev pub Ends : (Most → Option WorldState) → (WorldState → Type 0) → Type 0
@@ -52,6 +52,24 @@ ends_now P x p = (no_steps, x, refl, p)
 
 within_then : (least most more : Most) → AreWithin least most → AreWithin most more → AreWithin least more
 within_then least most more a b = record { draws = omega (arith, a.draws, b.draws); rounds = omega (arith, a.rounds, b.rounds) }
+
+-- what so many draws and rounds come to, more of them come to, and so to one world alone
+run_more : (starves : Key → Bool) (lines : List NumberedLine) (most more : Most) → AreWithin most more → IsKept (run_of most starves lines) (run_of more starves lines)
+run_more starves lines most more within =
+    let begun : IsKept (connects_on starves most (world_of lines)) (connects_on starves more (world_of lines)) = connects_on_more starves most more within (world_of lines) in
+    let played = kept_then (plays starves most lines) (plays starves more lines) (connects_on starves most (world_of lines)) (connects_on starves more (world_of lines)) begun (plays_more starves most more within lines) in
+    let rested = kept_then (settled starves most.draws) (settled starves more.draws) (option_and_then (plays starves most lines) (connects_on starves most (world_of lines)))
+    (option_and_then (plays starves more lines) (connects_on starves more (world_of lines))) played (settled_more starves most.draws more.draws within.draws) in
+    kept_then (ends_session starves most) (ends_session starves more)
+    (option_and_then (settled starves most.draws) (option_and_then (plays starves most lines) (connects_on starves most (world_of lines))))
+    (option_and_then (settled starves more.draws) (option_and_then (plays starves more lines) (connects_on starves more (world_of lines)))) rested (ends_session_more starves most more within)
+
+pub one_end : (starves : Key → Bool) (lines : List NumberedLine) (most more : Most) (w v : WorldState) → run_of most starves lines ≡ Some w → run_of more starves lines ≡ Some v → v ≡ w
+one_end starves lines most more w v first second =
+    let a : run_of (both most more) starves lines ≡ Some w = run_more starves lines most (both most more) (first_within most more) w first in
+    let b : run_of (both most more) starves lines ≡ Some v = run_more starves lines more (both most more) (second_within most more) v second in
+    let same : Some v ≡ Some w = sym b ∙ a in
+    cc same
 
 begun_outbox : (t : TableState) (channel : ℕ) → ((table.begin t channel).0).outbox ≡ t.outbox
 begun_outbox t channel = by (is_some t.channel)
@@ -82,7 +100,7 @@ module _ (lines : List NumberedLine) (starves : Key → Bool) (premises : RunPre
       }
 
   abbrev On : ℕ → List NumberedLine → WorldState → Type 0
-  On = IsOn lines starves premises
+  On = StandsBefore lines starves premises
 
   -- a channel begins, and its rounds end
   pub connects_end : (n : ℕ) (rest : List NumberedLine) (w : WorldState) → n + 1 ≤ length lines + 2 → is_enabled w event.connect ≡ true → On n rest w → Ends (λ most. connects_on starves most w) (On (n + 1) rest)

@@ -43,7 +43,7 @@ use Rattle.rd_world.specs.Run.{Most, NextStep, all_client_sends, all_host_sends,
 use Rattle.rd_world.specs.Talk.{Has}
 use Rattle.rd_world.specs.World.{Asked, WorldState, journals_in, station_at, with_station}
 use Rattle.rd_world.proofs.RoundsLemmas.{round}
-use Rattle.rd_ended.proofs.Ending.{IsOn, drawing_on, event_on, first_on, free_less, passed_on, reached, ids_of, pairs_of}
+use Rattle.rd_ended.proofs.Ending.{StandsBefore, drawing_on, event_on, first_on, free_less, passed_on, reached, ids_of, pairs_of}
 use Rattle.rd_ended.proofs.Lessening.{CanCome, choices_can, chosen_lessens, pick_has}
 use Rattle.rd_ended.proofs.OwnMarks.{ids_rise}
 use Rattle.rd_ended.proofs.Remaining.{remaining, undrawn}
@@ -111,7 +111,7 @@ module _ (starves marks : Key → Bool) where
 
 module _ (lines : List NumberedLine) (starves marks : Key → Bool) (premises : RunPremises lines) where
   abbrev On : ℕ → List NumberedLine → WorldState → Type 0
-  On = IsOn lines starves premises
+  On = StandsBefore lines starves premises
 
   abbrev Agrees : WorldState → Type 0
   Agrees w = MarksAgree marks (journals_in w)

@@ -17,10 +17,12 @@ ghost use Rattle.rd_world.specs.Stations.{AreStations};
 ghost use Rattle.rd_world.specs.Wire.{IsCutRun};
 ghost use Rattle.rd_world.specs.World.{WorldState, journals_in, marks_of};
 
-/// Every run ends: whichever runs of jobs find no memory, some draws and rounds do for the session of these lines, and so for that of every script.
+/// Every run ends: whichever runs of jobs find no memory, some draws and rounds do for the session of these lines, and so for that of every script. However many are given, a
+/// run that ends comes to one world alone.
 pub fn runs_end()
     ensures lines { (lines : List NumberedLine) (starves : Key → Bool) → RunPremises lines → DeclaresWritable lines → (most : Most) × (w : WorldState) × (run_of most starves lines ≡ Some w) }
     ensures scripts { (m : Mode) (text : List ℕ) (script : Script) (starves : Key → Bool) → script_of m text ≡ Ok script → (most : Most) × (w : WorldState) × (run_of most starves script.lines ≡ Some w) }
+    ensures one { (lines : List NumberedLine) (starves : Key → Bool) (most : Most) (more : Most) (w : WorldState) (v : WorldState) → run_of most starves lines ≡ Some w → run_of more starves lines ≡ Some v → v ≡ w }
 {}
 
 /// In each world that lines come to the ids of the stations rise and no key is named at two of them; so its runs found no memory of which its journals say so, and no others.
