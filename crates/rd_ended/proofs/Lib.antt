@@ -1,0 +1,14 @@
+pub mod Lessening
+pub mod Remaining
+pub mod ClientHearing
+pub mod HostHearing
+pub mod ClientEvents
+pub mod HostEvents
+pub mod Happening
+pub mod LinedLemmas
+pub mod OverLemmas
+pub mod Ending
+pub mod Runs
+pub mod OwnMarks
+pub mod SameMarks
+pub mod CutRuns
