@@ -10,6 +10,7 @@ use Rattle.rd_script.specs.declared.script.Script.{Script}
 use Rattle.rd_script.specs.Report.{report_of}
 use Rattle.rd_script.specs.declared.keyword.Mode.TheVariants as mode
 use Rattle.rd_script.specs.Script.{BadLine, max_bytes, script_of}
+use Rattle.rd_ended.proofs.CutRuns.{cut_off}
 use Rattle.rd_headline.proofs.SessionLemmas.{runs_are_whole}
 use Rattle.rd_loads.specs.AllPremises.{MeetPremises}
 use Rattle.rd_world.specs.Recording.{recording_of_deeds}
@@ -25,7 +26,7 @@ use Rattle.rd_cli.specs.declared.stop.Stop.TheVariants as stop
 use Rattle.rd_cli.specs.Outside.{IsFaultless, Outside, Read, ReadToEnd, Stream, Wrote}
 use Rattle.rd_cli.specs.Headline.{Played, PlayedToEnd}
 use Rattle.rd_cli.specs.Stops.{Prints, StopsWith, early_stop}
-use Rattle.rd_cli.specs.Playing.{ComesOutOfBoth, IsEndOfBoth, FailedToReport, GivesBadLine, GivesScript, HasRead, ReadsBadLine, ReadsScript, RefusesScript, Starved, StarvedAfterSession, StarvedPlaying, StoppedPlaying, StopsForRecording}
+use Rattle.rd_cli.specs.Playing.{ComesOutOfBoth, IsEndOfBoth, FailedToReport, GivesBadLine, GivesScript, HasRead, ReadsBadLine, ReadsScript, RefusesScript, Starved, StarvedAfterSession, StarvedPlaying, StoppedEarly, StoppedPlaying, StopsForRecording}
 
 -- what holds of the one error that a result may be
 pub err_is : {T E : Type 0} (r : Result T E) (e : E) (P : E → Type 0) → IsErrAnd r (λ s. s ≡ e) → P e → IfErr r P
@@ -42,12 +43,18 @@ pub read_whole : {S : Type 0} (before after : Stream S) (text : List ℕ) (scrip
 read_whole before after text script read whole is = record { text = text; read = record { read = read; ended = whole (script_short mode.Both text script is) }; script_is = is }
 
 -- a session that stopped early
-pub stopped_early : {R : Type 0} (script : Script) (before after : Stream R) (books : List (ℕ × History)) (cause : StepNo)
+pub stopped_early : {R : Type 0} (script : Script) (before after : Stream R) (books : List (ℕ × History)) (cause : StepNo) → MeetPremises script.lines
     → (x : WorldState) × IsCutRun before.bytes after.bytes script.lines x → CountsWire {T = Unit {0}} (Err cause) before.faults after.faults → books ≡ []
     → StopsForRecording script before after books (early_stop cause)
-stopped_early script before after books no.Wire cut counted unstored = (record { world = cut.0; cut = cut.1; fault = counted }, unstored)
-stopped_early script before after books no.Memory cut counted unstored = inr (inl (record { world = cut.0; cut = cut.1; faultless = counted; unstored = unstored }))
-stopped_early script before after books (no.Disabled event) cut counted unstored = absurd counted
+stopped_early {R} script before after books cause premises (x, cut) counted unstored = by cause counted
+  where
+    stopped : StoppedEarly script before after
+    stopped = let (written, appended, off) = cut_off script.lines premises.run premises.writable before.bytes after.bytes x cut in record { written = written; appended = appended; cut_off = off }
+
+    by : (cause : StepNo) → CountsWire {T = Unit {0}} (Err cause) before.faults after.faults → StopsForRecording script before after books (early_stop cause)
+    by no.Wire counted = (record { stopped = stopped; fault = counted }, unstored)
+    by no.Memory counted = inr (inl (record { stopped = stopped; faultless = counted; unstored = unstored }))
+    by (no.Disabled event) counted = absurd counted
 
 -- want of memory before a script was played
 pub starved_unplayed : {S K R : Type 0} (before after : Outside S K R) (books : List (ℕ × History)) → IsFaultless before.input after.input → after.output ≡ before.output → after.recording ≡ before.recording → books ≡ [] → Starved before after books

@@ -1,7 +1,7 @@
 -- How the command `both` ends: with which status, what it has done by then, and which event, the first, gave the status.
 use Rattle.std.specs.Prelude.{◌≡◌, ℕ, ◌≤◌, ◌⊎◌, List, [], length, Option, Some, Result, Ok, Err}
 use Rattle.rd_base.specs.History.{History}
-use Rattle.std.specs.Io.KnownBytes.{IsAtEnd}
+use Rattle.std.specs.Io.KnownBytes.{Appends, IsAtEnd}
 use Rattle.rd_script.specs.declared.keyword.Mode.TheVariants as mode
 use Rattle.rd_script.specs.declared.outcome.Outcomes.{Outcomes}
 use Rattle.rd_script.specs.declared.script.Script.{Script}
@@ -9,7 +9,7 @@ use Rattle.rd_script.specs.Report.{report_of}
 use Rattle.rd_script.specs.Script.{BadLine, max_bytes, script_of}
 use Rattle.rd_world.specs.Recording.{recording_of_deeds}
 use Rattle.rd_world.specs.Run.{WorldRun}
-use Rattle.rd_world.specs.Wire.{IsCutRun}
+use Rattle.rd_world.specs.Session.{IsCutOff}
 use Rattle.rd_world.specs.World.{WorldState}
 use Rattle.rd_cli.specs.Outside.{AreFaultless, FailedToWrite, HasOneFault, IsFaultless, Outside, Read, ReadToEnd, Stream, Wrote}
 use Rattle.rd_cli.specs.Headline.{Played, PlayedToEnd}
@@ -32,12 +32,16 @@ pub record ReadsScript {S : Type 0} (before after : Stream S) (script : Script) 
 abbrev pub ReadsBadLine : {S : Type 0} → (before after : Stream S) → BadLine → Type 0
 ReadsBadLine before after bad = (text : List ℕ) × HasRead before after text × (script_of mode.Both text ≡ Err bad)
 
--- The recording failed, and the session of the script stopped early. Of a world, the last that is known, a prefix of its recording was written; and wherever the
--- script's session ends, if the runs in that world's journals found no memory just where these say so, its recording goes on from that world's. One fault was
--- counted.
+-- The session of the script stopped early: what was written of its recording is a beginning of what the script's session comes to, where some runs found no
+-- memory.
+pub record StoppedEarly {R : Type 0} (script : Script) (before after : Stream R) : Type 0 where
+  pub written : List ℕ
+  pub appended : Appends before.bytes after.bytes written
+  pub cut_off : IsCutOff script.lines written []
+
+-- The recording failed, and the session of the script stopped early. One fault was counted.
 pub record FailedToRecord {R : Type 0} (script : Script) (before after : Stream R) : Type 0 where
-  pub world : WorldState
-  pub cut : IsCutRun before.bytes after.bytes script.lines world
+  pub stopped : StoppedEarly script before after
   pub fault : HasOneFault before after
 
 -- The output failed, after the script was played and recorded: a prefix of the report was written.
@@ -46,11 +50,9 @@ pub record FailedToReport {S K R : Type 0} (script : Script) (before after : Out
   pub played : Played script before.recording after.recording books told
   pub failed : FailedToWrite before.output after.output (report_of script told books)
 
--- Memory ran out, and the session of the script stopped early: of a world, the last that is known, the same holds as where the recording failed. No fault was
--- counted, and no journal was stored.
+-- Memory ran out, and the session of the script stopped early. No fault was counted, and no journal was stored.
 pub record StarvedInSession {R : Type 0} (script : Script) (before after : Stream R) (books : List (ℕ × History)) : Type 0 where
-  pub world : WorldState
-  pub cut : IsCutRun before.bytes after.bytes script.lines world
+  pub stopped : StoppedEarly script before after
   pub faultless : IsFaultless before after
   pub unstored : books ≡ []
 

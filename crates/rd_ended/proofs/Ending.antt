@@ -70,8 +70,8 @@ some_has a [] some = absurd (omega (arith, some))
 some_has a (p ∷ ps) some = elim (cases_eq a p.0) [
   | inl same ↦ inl same
   | inr other ↦ inr (
-    let none : one_of a p ≡ 0 = ap (λ (b : Bool). if b then 1 else 0) (ne_eqb p.0 a (λ (same : p.0 ≡ a). other (sym same))) in
-    some_has a ps (omega (arith, some, none)))
+      let none : one_of a p ≡ 0 = ap (λ (b : Bool). if b then 1 else 0) (ne_eqb p.0 a (λ (same : p.0 ≡ a). other (sym same))) in
+      some_has a ps (omega (arith, some, none)))
 ]
 
 asked_more : (a : ℕ) (ps : List (ℕ × Asked)) (es : List (ℕ × ApplicationState)) → length (application_in (fold asking es ps) a).asks ≡ length (application_in es a).asks + how_many a ps
@@ -374,8 +374,8 @@ module _ (lines : List NumberedLine) (starves : Key → Bool) (premises : RunPre
     opening_goes : (w : WorldState) (e : Event) → IsOfRounds e → is_enabled w e ≡ true → Reached lines starves w → IsOpening w → IsOpening (act starves w e)
     opening_goes w e of can r o =
         (round_event_keeps lines starves (λ y. IsBehind lines starves y × IsOpening y)
-            (λ y p round may (behind, own). (round_behind y p round may behind, opening_step lines starves premises writable y p round may behind own)) w e (round_of e of).0 can
-            (reached_behind lines starves w r, o)).1
+        (λ y p round may (behind, own). (round_behind y p round may behind, opening_step lines starves premises writable y p round may behind own)) w e (round_of e of).0 can
+        (reached_behind lines starves w r, o)).1
 
     off_none : {X : Type 0} (o : Option X) → o ≡ None → is_none o ≡ true
     off_none o is = ap is_none is
@@ -384,5 +384,5 @@ module _ (lines : List NumberedLine) (starves : Key → Bool) (premises : RunPre
     rounds_settle n rest w on opening =
         rounds_end starves (remaining (ids_of (pairs_of lines)) (keys_of devices)) (λ x. StandsBefore n rest x × IsOpening x) (λ x (own, o). off_none x.kept (none_kept x (reached n rest x own) o))
         (λ x e of can (own, o).
-            let less = free_less n rest x e (round_of e of).1 can own in
-            ((less.0, opening_goes x e of can (reached n rest x own) o), less.1)) w (on, opening)
+        let less = free_less n rest x e (round_of e of).1 can own in
+        ((less.0, opening_goes x e of can (reached n rest x own) o), less.1)) w (on, opening)

@@ -173,9 +173,16 @@ module _ (applications devices : List ℕ) where
       let less : length (drop n (w.to_client).pipe) < length (w.to_client).pipe = read_some (w.to_client).pipe n can in
       elim h.goes [
         | inl nearer ↦ inl nearer
-        | inr same ↦ inr (same.0, inr (same.1, inr (
-          ap (λ (es : List (ℕ × ApplicationState)). sum applications (λ b. line_left (unwrap_or (lookup (is_at (nat_cmp b)) es) new_application))) h.applications,
-          inr (ap (λ (s : HostSide). length ((s.core).core).outbox + length (s.table).outbox) h.side, inl (omega (arith, way, less))))))
+        | inr same ↦ inr (
+          same.0,
+          inr (
+            same.1,
+            inr (
+              ap (λ (es : List (ℕ × ApplicationState)). sum applications (λ b. line_left (unwrap_or (lookup (is_at (nat_cmp b)) es) new_application))) h.applications,
+              inr (ap (λ (s : HostSide). length ((s.core).core).outbox + length (s.table).outbox) h.side, inl (omega (arith, way, less))),
+            ),
+          ),
+        )
       ]
 
   -- ---- the client sends
@@ -210,8 +217,8 @@ module _ (applications devices : List ℕ) where
               let left : now ≡ c = ap (λ (r : ClientCoreState × Option Outgoing). r.0) (sym one ∙ made) in (
                 ap (λ (x : ClientCoreState). (x.core).shake) (sym left),
                 ap (λ (l : List Outgoing). others (map (λ (x : Outgoing). x.message) l)) is
-                ∙ ap (λ (x : Outgoing). other_one (is_of packet.IoCompletion x.message) + others (map (λ (x : Outgoing). x.message) os)) same
-                ∙ ap (λ (x : ClientCoreState). other_one (is_of packet.IoCompletion o.message) + others (waiting_messages x)) left,
+                    ∙ ap (λ (x : Outgoing). other_one (is_of packet.IoCompletion x.message) + others (map (λ (x : Outgoing). x.message) os)) same
+                    ∙ ap (λ (x : ClientCoreState). other_one (is_of packet.IoCompletion o.message) + others (waiting_messages x)) left,
               )
 
       all_same : (r : ClientCoreState × Option Outgoing) → client.client_send w.client ≡ r → let v : WorldState = client_sends_first w r in
@@ -313,10 +320,16 @@ module _ (applications devices : List ℕ) where
           let ready : completions_left devices v ≡ completions_left devices w = ap (λ (es : List (ℕ × StationState SessionDevice)). sum devices (λ d. of_station ready_in (lookup (is_at (nat_cmp d)) es))) stations in
           let pipe : length (v.to_host).pipe ≡ length (drop n (w.to_host).pipe) = ap (λ (u : WayState). length u.pipe) t.back_way ∙ ap length h.pipe in
           let less : length (drop n (w.to_host).pipe) < length (w.to_host).pipe = read_some (w.to_host).pipe n can in
-          inr (nearer, inr (same, elim (cases (lines_left applications v) (lines_left applications w) lines) [
-            | inl fewer ↦ inl fewer
-            | inr all ↦ inr (all, inr (count, inr (ap (λ (u : WayState). length u.pipe) down, inr (handling, inr (jobs, inr (ready, inr (ap (λ (c : ClientCoreState). length (c.core).outbox) same_client, inl (omega (arith, pipe, less)))))))))
-          ]))
+          inr (
+            nearer,
+            inr (
+              same,
+              elim (cases (lines_left applications v) (lines_left applications w) lines) [
+                | inl fewer ↦ inl fewer
+                | inr all ↦ inr (all, inr (count, inr (ap (λ (u : WayState). length u.pipe) down, inr (handling, inr (jobs, inr (ready, inr (ap (λ (c : ClientCoreState). length (c.core).outbox) same_client, inl (omega (arith, pipe, less)))))))))
+              ],
+            ),
+          )
 
   -- ---- jobs
 
@@ -393,9 +406,16 @@ module _ (applications devices : List ℕ) where
     | inl same ↦ subst (Less w) (sym same) (inr (refl, inr (heard, inr (refl, inr (refl, inr (refl, inr (refl, inr (jobs, inl ready))))))))
     | inr (h, less) ↦ elim h.goes [
       | inl nearer ↦ inl nearer
-      | inr same ↦ inr (same.0, inr (same.1 ∙ heard, inr (
-        ap (λ (es : List (ℕ × ApplicationState)). sum applications (λ b. line_left (unwrap_or (lookup (is_at (nat_cmp b)) es) new_application))) h.applications,
-        inr (ap (λ (s : HostSide). length ((s.core).core).outbox + length (s.table).outbox) h.side, inr (ap length h.way, inl less)))))
+      | inr same ↦ inr (
+        same.0,
+        inr (
+          same.1 ∙ heard,
+          inr (
+            ap (λ (es : List (ℕ × ApplicationState)). sum applications (λ b. line_left (unwrap_or (lookup (is_at (nat_cmp b)) es) new_application))) h.applications,
+            inr (ap (λ (s : HostSide). length ((s.core).core).outbox + length (s.table).outbox) h.side, inr (ap length h.way, inl less)),
+          ),
+        ),
+      )
     ]
   ]
     where

@@ -172,11 +172,13 @@ module _ (starves : Key → Bool) (fs : List (WorldState → ℕ)) (P : WorldSta
           → let v : WorldState = if b then while_enabled starves most e (act starves w e) else w in P v × ((v ≡ w) ⊎ Lessens fs w v)
       by true can next =
           let one = free w e of can p in
-          let more = next (act starves w e) one.0 in
-          (more.0, inr (elim more.1 [
-            | inl same ↦ subst (Lessens fs w) (sym same) one.1
-            | inr less ↦ lessens_then fs w (act starves w e) _ one.1 less
-          ]))
+          let more = next (act starves w e) one.0 in (
+            more.0,
+            inr (elim more.1 [
+              | inl same ↦ subst (Lessens fs w) (sym same) one.1
+              | inr less ↦ lessens_then fs w (act starves w e) _ one.1 less
+            ]),
+          )
       by false can next = (p, inl refl)
 
   -- an event that can happen, and then more of its kind
@@ -184,10 +186,13 @@ module _ (starves : Key → Bool) (fs : List (WorldState → ℕ)) (P : WorldSta
   first_stage e of w v most can is p =
       let one = free w e of can p in
       let more = while_stage most e of (act starves w e) one.0 in
-      subst (Stage true w) (sym is) (more.0, inr (elim more.1 [
-        | inl same ↦ subst (Lessens fs w) (sym same) one.1
-        | inr less ↦ lessens_then fs w (act starves w e) _ one.1 less
-      ]))
+      subst (Stage true w) (sym is) (
+        more.0,
+        inr (elim more.1 [
+          | inl same ↦ subst (Lessens fs w) (sym same) one.1
+          | inr less ↦ lessens_then fs w (act starves w e) _ one.1 less
+        ]),
+      )
 
   host_stage : (w : WorldState) → P w → Stage (host_has_message w) w (all_host_sends starves w)
   host_stage w p = by (host_has_message w) refl
@@ -282,10 +287,10 @@ module _ (starves : Key → Bool) (fs : List (WorldState → ℕ)) (P : WorldSta
             | inl (down_off, c_is) ↦ elim fourth.1 [
               | inr less ↦ subst (λ (x : WorldState). Lessens fs x d) (c_is ∙ b_is ∙ a_is) less
               | inl (up_off, d_is) ↦ absurd (
-                let quiet : is_quiet w ≡ true = quiet_by w host_off (subst (λ (x : WorldState). client_has_message x ≡ false) a_is client_off)
+                  let quiet : is_quiet w ≡ true = quiet_by w host_off (subst (λ (x : WorldState). client_has_message x ≡ false) a_is client_off)
                   (subst (λ (x : WorldState). is_enabled x (client_read (length (x.to_client).pipe)) ≡ false) (b_is ∙ a_is) down_off)
                   (subst (λ (x : WorldState). is_enabled x (host_read (length (x.to_host).pipe)) ≡ false) (c_is ∙ b_is ∙ a_is) up_off) p in
-                cc (quiet, busy))
+                  cc (quiet, busy))
             ]
           ]
         ]

@@ -281,8 +281,7 @@ module _ (lines : List NumberedLine) (starves marks : Key → Bool) (premises : 
         rested p on (Some s) settles is =
             let on_s : On (0 + 1 + length lines) [] s = ended_as (λ m. settled starves m.draws p) (On (0 + 1 + length lines) []) (λ m more within. settled_more starves m.draws more.draws within.draws p)
             (settles_end lines starves premises writable (0 + 1 + length lines) [] p on) most s settles in
-            let agrees_s : Agrees s = goes_end s on_s is in
-            (
+            let agrees_s : Agrees s = goes_end s on_s is in (
               ap (option_and_then (ends_session marks most)) (settled_same (0 + 1 + length lines) [] most.draws p on s settles agrees_s) ∙ ends_as s on_s is,
               before p s (reached lines starves premises (0 + 1 + length lines) [] p on) (gone_to p (settled starves most.draws p) s (settled_goes starves most.draws p) settles) agrees_s,
             )

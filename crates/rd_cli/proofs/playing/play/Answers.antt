@@ -11,7 +11,7 @@ pub returns-in_err-run-clause-err : goal.returns-in_err-run-clause-err
 returns-in_err-run-clause-err g c =
     let cut : (x : WorldState) × IsCutRun (g.R.Sink.held c.args.recording.now) (g.R.Sink.held c.run.new.wire) c.args.script.now.lines x = rw c.as_slice-lines.ensures at c.in_err-run.ensures.cut in
     err_is _ _ (λ (s : Stop). StopsForRecording c.args.script.now (stream g.R.Sink.held g.R.Sink.faults c.args.recording.now) (stream g.R.Sink.held g.R.Sink.faults c.run.new.wire) c.args.books.now s)
-    c.from_residual-in_err-run.ensures.1 (stopped_early c.args.script.now _ _ _ _ cut c.in_err-run.ensures.counted c.requires.books)
+    c.from_residual-in_err-run.ensures.1 (stopped_early c.args.script.now _ _ _ _ c.requires.script cut c.in_err-run.ensures.counted c.requires.books)
 
 pub returns-in_err-finish-clause-err : goal.returns-in_err-finish-clause-err
 returns-in_err-finish-clause-err g c =
