@@ -164,8 +164,9 @@ fn ends(
     Ok(())
 }
 
+/// Where there is ample memory it is found, and a file goes through frames.
 #[test]
-fn takes_a_file_through_frames(rt: HostRuntime) -> Result<(), Fail> {
+fn finds_memory(rt: HostRuntime) -> Result<(), Fail> {
     let recording = hex::decode(rt.alloc(), RECORDING)?;
     let wanted = (0, REPORT, recording.as_slice());
     ends(&rt, rt.alloc(), &["both"], SCRIPT, NEVER, wanted)

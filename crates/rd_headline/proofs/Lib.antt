@@ -4,3 +4,4 @@ pub mod AnsweredLemmas
 pub mod StillLemmas
 pub mod WholeLemmas
 pub mod SessionLemmas
+pub mod WrongLemmas

@@ -1,10 +1,16 @@
 //! What every run of a script's lines comes to, as contracts of functions that do nothing.
 
-ghost use Rattle.std.specs.Prelude.{◌≡◌, ℕ, ◌≤◌, Bool, List, Ok};
+ghost use Rattle.std.specs.Prelude.{◌≡◌, ◌≢◌, ℕ, ◌≤◌, Bool, false, true, List, [], ◌∷◌, filter_map, reverse, None, Ok, Some};
 ghost use Rattle.rd_base.specs.History.{History};
 ghost use Rattle.rd_base.specs.declared.journal.Key.{Key};
+ghost use Rattle.rd_base.specs.Lawful.{EachEntry, SendsFirst, SettlesFirst};
+ghost use Rattle.rd_headline.specs.Wrong.{closed_bytes, done, earlier_accepted, first_key, head_of_both, later_accepted, other_file, ran_twice, refused, removing_lines, sent_unrun};
+ghost use Rattle.rd_irp.specs.Written.{request_bytes};
 ghost use Rattle.rd_loads.specs.AllPremises.{MeetPremises};
 ghost use Rattle.rd_outcomes.specs.Opened.{ChannelsOpen};
+ghost use Rattle.rd_pending.specs.Outcomes.{accepted_outcome};
+ghost use Rattle.rd_pending.specs.Outcomes.Tidings.{begins, completes, removes};
+ghost use Rattle.rd_pending.specs.declared.calls.Outcome.TheVariants.{Done};
 ghost use Rattle.rd_script.specs.Load.{load_script};
 ghost use Rattle.rd_script.specs.Report.{report_of};
 ghost use Rattle.rd_script.specs.Script.{script_of};
@@ -12,10 +18,18 @@ ghost use Rattle.rd_script.specs.declared.keyword.Mode.TheVariants as mode;
 ghost use Rattle.rd_script.specs.declared.line.NumberedLine.{NumberedLine};
 ghost use Rattle.rd_script.specs.declared.outcome.Outcomes.{Outcomes};
 ghost use Rattle.rd_script.specs.declared.script.Script.{Script};
+ghost use Rattle.rd_script.specs.declared.outcome.Outcome.{Outcome};
+ghost use Rattle.rd_world.specs.Acts.{act_by, control_by};
+ghost use Rattle.rd_world.specs.Devices.{Declared};
+ghost use Rattle.rd_world.specs.Joining.{HasReply, IsOwnReply};
+ghost use Rattle.rd_world.specs.Lines.{LinesEnd, Waits};
+ghost use Rattle.rd_world.specs.Opening.{bare_lines};
 ghost use Rattle.rd_world.specs.Recording.{recording_of_deeds};
-ghost use Rattle.rd_world.specs.Run.{Most};
+ghost use Rattle.rd_world.specs.Run.{Most, declared_devices};
 ghost use Rattle.rd_world.specs.Session.{IsRun, IsWholeSession};
-ghost use Rattle.rd_world.specs.Talk.{Deed};
+ghost use Rattle.rd_world.specs.Talk.{Deed, client_reads, host_begins};
+ghost use Rattle.rd_world.specs.Told.{Replies};
+ghost use Rattle.rd_world.specs.World.{ApplicationState};
 
 /// Each channel opens before the next line passes.
 pub fn channels_open_in_time()
@@ -38,4 +52,26 @@ pub fn scripts_are_whole()
 pub fn loads_are_whole()
     ensures { (number : ℕ) (books : List (ℕ × History)) (told : Outcomes) (deeds : List Deed) → number ≤ 1000 → IsRun (load_script number) books told deeds
         → IsWholeSession (load_script number) (recording_of_deeds deeds) books told (report_of (load_script number) told books) }
+{}
+
+/// What the words of the promise refuse, each a wrong run at the clause that has the word.
+pub fn wrong_runs_are_refused()
+    // One legal history: a completion is handed out of a request that never ran.
+    ensures unrun { ¬ (EachEntry SendsFirst sent_unrun) }
+    // Each request in it at most once: a request runs again, whose completion isn't collected.
+    ensures again { ¬ (EachEntry SettlesFirst ran_twice) }
+    // The replies of it: a request has another reply than the one that the journal gives.
+    ensures other_reply { ¬ (HasReply ((first_key, done) ∷ []) first_key refused) }
+    // Against the file it named: another file's id is read under the request's key.
+    ensures other_file { (replies : Replies) → ¬ (IsOwnReply replies (client_reads 1 (request_bytes other_file) ∷ []) earlier_accepted done) }
+    // Exactly one outcome: a line has none, or one line has two.
+    ensures no_outcome { (devices : List (ℕ × Declared)) (deeds : List Deed) (holds : ApplicationState) (x : Waits) (from : List Deed) → ¬ (LinesEnd devices deeds 1 holds (x ∷ []) [] (λ later. Unit {0}) from) }
+    ensures two_outcomes { (devices : List (ℕ × Declared)) (deeds : List Deed) (holds : ApplicationState) (o : Outcome) (from : List Deed) → ¬ (LinesEnd devices deeds 1 holds [] (o ∷ []) (λ later. Unit {0}) from) }
+    // Its own completion: the completion of an earlier request with its id ends a request.
+    ensures earlier_completion { accepted_outcome (earlier_accepted ∷ []) later_accepted 0 (begins 1 ∷ completes head_of_both closed_bytes ∷ []) false ≡ None }
+    // Lost only where its device was removed or its channel dropped first: another device was removed, or the completion was heard before.
+    ensures lost_by_another { accepted_outcome [] earlier_accepted 0 (begins 1 ∷ removes 2 ∷ []) false ≡ None }
+    ensures lost_though_heard { accepted_outcome [] earlier_accepted 0 (begins 1 ∷ completes head_of_both closed_bytes ∷ removes 1 ∷ []) true ≡ Some (Done done) }
+    // Whatever removals do: a line removes a device, and it isn't done.
+    ensures not_removed { filter_map act_by (reverse (host_begins 1 ∷ [])) ≢ (control_by (declared_devices (bare_lines removing_lines)) removing_lines).acts }
 {}

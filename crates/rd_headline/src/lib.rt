@@ -5,4 +5,7 @@
 
 mod laws;
 
-pub use laws::{channels_open_in_time, loads_are_whole, runs_are_whole, scripts_are_whole};
+pub use laws::{
+    channels_open_in_time, loads_are_whole, runs_are_whole, scripts_are_whole,
+    wrong_runs_are_refused,
+};

@@ -1,0 +1,72 @@
+-- What the clauses refuse.
+use Rattle.std.proofs.Common.{◌≡◌, ◌≢◌, refl, sym, ap, subst, arith, zero, suc, false, true, List, [], ◌∷◌, Option, Some, None}
+use Rattle.std.specs.Prelude.{Any, Contains, filter_map, length, reverse}
+use Rattle.std.proofs.lemmas.List.Elements.{All-head, All-tail}
+use Rattle.rd_base.specs.Lawful.{EachEntry, SendsFirst, Settles, SettlesFirst}
+use Rattle.rd_base.specs.declared.journal.Item.TheVariants.{Came, Ran, Sent}
+use Rattle.rd_base.specs.declared.journal.Item.{Item}
+use Rattle.rd_base.specs.declared.journal.Key.{Key}
+use Rattle.rd_base.specs.Fields.{bytes16, bytes32, bytes64, bytes8}
+use Rattle.rd_base.specs.Header.{component_field, header, header_among}
+use Rattle.rd_irp.specs.declared.completion.Reply.{Reply}
+use Rattle.rd_irp.specs.declared.request.Request.{Request}
+use Rattle.std.specs.Option.{option_map_or}
+use Rattle.rd_irp.specs.Op.{close_body, op_body}
+use Rattle.rd_irp.specs.Request.{request_head}
+use Rattle.rd_irp.specs.Completion.{completion_body, success_body}
+use Rattle.rd_irp.specs.Written.{request_bytes}
+use Rattle.rd_pending.specs.Outcomes.{accepted_outcome}
+use Rattle.rd_pending.specs.Outcomes.Tidings.{begins, completes, removes}
+use Rattle.rd_pending.specs.declared.calls.Outcome.TheVariants.{Done}
+use Rattle.rd_world.specs.Acts.{act_by, control_by}
+use Rattle.rd_world.specs.Control.{Act, controlled}
+use Rattle.rd_world.specs.Joining.{HasReply, IsOwnReply, request_of_accepted}
+use Rattle.rd_world.specs.Opening.{bare_lines}
+use Rattle.rd_world.specs.Run.{declared_devices, notice_of}
+use Rattle.rd_world.specs.Talk.{client_reads, host_begins}
+use Rattle.rd_world.specs.Told.{Replies}
+use Rattle.rd_headline.specs.Wrong.{closed_bytes, done, earlier_accepted, first_key, head_of_both, later_accepted, other_file, ran_twice, refused, removing_lines, sent_unrun}
+
+pub sent_without_run : ¬ (EachEntry SendsFirst sent_unrun)
+sent_without_run each = none ((each (Came first_key ∷ []) (Sent first_key) [] refl).0)
+  where
+    none : ¬ (Any (Settles first_key) (Came first_key ∷ []))
+    none (zero, x, below, is, settles) = subst (Settles first_key) (sym is) settles
+    none (suc k, x, below, is, settles) = omega (arith, below)
+
+pub ran_again : ¬ (EachEntry SettlesFirst ran_twice)
+ran_again each = All-head (λ (entry : Item). ¬ (Settles first_key entry)) (Ran first_key 0 false false) []
+    (All-tail (λ (entry : Item). ¬ (Settles first_key entry)) (Came first_key) (Ran first_key 0 false false ∷ []) (each (Came first_key ∷ Ran first_key 0 false false ∷ []) (Ran first_key 0 false false) [] refl).1) refl
+
+pub other_reply : ¬ (HasReply ((first_key, done) ∷ []) first_key refused)
+other_reply has = none has.has
+  where
+    none : ¬ (Contains {X = Key × Reply} ((first_key, done) ∷ []) (first_key, refused))
+    none (zero, below, is) =
+        let status : 0 ≡ 3221225486 = ap (λ (e : Key × Reply). ((e.1).status).0) is in
+        omega (arith, status)
+    none (suc k, below, is) = omega (arith, below)
+
+pub other_file_read : (replies : Replies) → ¬ (IsOwnReply replies (client_reads 1 (request_bytes other_file) ∷ []) earlier_accepted done)
+unfolding header_among component_field request_head header op_body close_body bytes8 bytes16 bytes32 bytes64
+other_file_read replies own =
+    let read : Some other_file ≡ Some (request_of_accepted earlier_accepted) = own.read in
+    let file : 2 ≡ 1 = ap (λ (r : Option Request). option_map_or (λ (x : Request). x.file) r 0) read in
+    omega (arith, file)
+
+pub earlier_completion : accepted_outcome (earlier_accepted ∷ []) later_accepted 0 (begins 1 ∷ completes head_of_both closed_bytes ∷ []) false ≡ None
+earlier_completion = refl
+
+pub lost_by_another : accepted_outcome [] earlier_accepted 0 (begins 1 ∷ removes 2 ∷ []) false ≡ None
+lost_by_another = refl
+
+pub lost_though_heard : accepted_outcome [] earlier_accepted 0 (begins 1 ∷ completes head_of_both closed_bytes ∷ removes 1 ∷ []) true ≡ Some (Done done)
+unfolding completion_body success_body
+lost_though_heard = refl
+
+pub not_removed : filter_map act_by (reverse (host_begins 1 ∷ [])) ≢ (control_by (declared_devices (bare_lines removing_lines)) removing_lines).acts
+unfolding controlled notice_of
+not_removed same =
+    let one : length (filter_map act_by (reverse (host_begins 1 ∷ []))) ≡ 1 = refl in
+    let two : length (control_by (declared_devices (bare_lines removing_lines)) removing_lines).acts ≡ 2 = refl in
+    omega (arith, one, two, ap (λ (acts : List Act). length acts) same)
