@@ -14,7 +14,7 @@ use Rattle.rd_ended.proofs.CutRuns.{cut_off}
 use Rattle.rd_headline.proofs.SessionLemmas.{runs_are_whole}
 use Rattle.rd_loads.specs.AllPremises.{MeetPremises}
 use Rattle.rd_world.specs.Recording.{recording_of_deeds}
-use Rattle.rd_world.specs.Session.{IsRun}
+use Rattle.rd_world.specs.Session.{IsRun, journals_of}
 use Rattle.rd_world.specs.Talk.{Deed}
 use Rattle.rd_world.specs.Wire.{CountsWire, IsCutRun}
 use Rattle.rd_world.specs.World.{WorldState}
@@ -92,13 +92,14 @@ played script before after books told deeds premises run recorded = record {
 }
 
 -- Memory ran out after the session of a script that was played.
-pub played_starved : {R : Type 0} (script : Script) (before after : Stream R) (books : List (ℕ × History)) (told : Outcomes) → Played script before after books told → StarvedAfterSession script before after
+pub played_starved : {R : Type 0} (script : Script) (before after : Stream R) (books : List (ℕ × History)) (told : Outcomes) → Played script before after books told → StarvedAfterSession script before after books
 played_starved script before after books told p =
     let run = (p.whole).run in
     record {
       world = run.world;
       run = run.run;
       recorded = subst (λ (bytes : List ℕ). Wrote before after bytes) ((p.whole).wire.bytes ∙ ap recording_of_deeds (sym same)) p.recorded;
+      stored = ([], sym run.stored ∙ sym (append-nil (journals_of books)));
     }
   where
     same : ((p.whole).run).world.deeds ≡ (p.whole).deeds

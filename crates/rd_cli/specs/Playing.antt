@@ -9,8 +9,8 @@ use Rattle.rd_script.specs.Report.{report_of}
 use Rattle.rd_script.specs.Script.{BadLine, max_bytes, script_of}
 use Rattle.rd_world.specs.Recording.{recording_of_deeds}
 use Rattle.rd_world.specs.Run.{WorldRun}
-use Rattle.rd_world.specs.Session.{IsCutOff}
-use Rattle.rd_world.specs.World.{WorldState}
+use Rattle.rd_world.specs.Session.{IsCutOff, StoresSome}
+use Rattle.rd_world.specs.World.{WorldState, journals_in}
 use Rattle.rd_cli.specs.Outside.{AreFaultless, FailedToWrite, HasOneFault, IsFaultless, Outside, Read, ReadToEnd, Stream, Wrote}
 use Rattle.rd_cli.specs.Headline.{Played, PlayedToEnd}
 use Rattle.rd_cli.specs.Stops.{StopsWith}
@@ -37,7 +37,7 @@ ReadsBadLine before after bad = (text : List ℕ) × HasRead before after text �
 pub record StoppedEarly {R : Type 0} (script : Script) (before after : Stream R) : Type 0 where
   pub written : List ℕ
   pub appended : Appends before.bytes after.bytes written
-  pub cut_off : IsCutOff script.lines written []
+  pub cut_off : IsCutOff script.lines written
 
 -- The recording failed, and the session of the script stopped early. One fault was counted.
 pub record FailedToRecord {R : Type 0} (script : Script) (before after : Stream R) : Type 0 where
@@ -56,15 +56,17 @@ pub record StarvedInSession {R : Type 0} (script : Script) (before after : Strea
   pub faultless : IsFaultless before after
   pub unstored : books ≡ []
 
--- Memory ran out after the script's session had come to its end, in this world: its recording was written whole, with no fault.
-pub record StarvedAfterSession {R : Type 0} (script : Script) (before after : Stream R) : Type 0 where
+-- Memory ran out after the script's session had come to its end, in this world: its recording was written whole, with no fault, and of its journals the
+-- first were stored.
+pub record StarvedAfterSession {R : Type 0} (script : Script) (before after : Stream R) (books : List (ℕ × History)) : Type 0 where
   pub world : WorldState
   pub run : WorldRun script.lines world
   pub recorded : Wrote before after (recording_of_deeds world.deeds)
+  pub stored : StoresSome (journals_in world) books
 
 -- Memory ran out before the script's session came to its end, or after that.
 abbrev pub StarvedPlaying : {R : Type 0} → Script → (before after : Stream R) → List (ℕ × History) → Type 0
-StarvedPlaying script before after books = StarvedInSession script before after books ⊎ StarvedAfterSession script before after
+StarvedPlaying script before after books = StarvedInSession script before after books ⊎ StarvedAfterSession script before after books
 
 -- nothing was recorded, and no journal was stored
 abbrev pub IsUnplayed : {R : Type 0} → (before after : Stream R) → List (ℕ × History) → Type 0

@@ -25,7 +25,7 @@ module _ (lines : List NumberedLine) (premises : RunPremises lines) (writable : 
   pub session_of : (starves : Key → Bool) (most : Most) (w : WorldState) → run_of most starves lines ≡ Some w → WorldRun lines w
   session_of starves most w is = (most, run_of_own starves most w is)
 
-  pub cut_off : (start held : Option (List ℕ)) (x : WorldState) → IsCutRun start held lines x → (written : List ℕ) × Appends start held written × IsCutOff lines written []
+  pub cut_off : (start held : Option (List ℕ)) (x : WorldState) → IsCutRun start held lines x → (written : List ℕ) × Appends start held written × IsCutOff lines written
   cut_off start held x cut =
       let (n, appended) = cut.prefix in
       let all : List ℕ = recording_of_deeds x.deeds in
@@ -38,6 +38,5 @@ module _ (lines : List NumberedLine) (premises : RunPremises lines) (writable : 
           run = session_of (marks_of x) most w is;
           rest = drop n all ++ more;
           recorded = recorded ∙ ap (λ (bytes : List ℕ). bytes ++ more) (sym (take-append-drop n all)) ∙ append_assoc (take n all) (drop n all) more;
-          stored = λ k d low. absurd (omega (arith, low));
         },
       )

@@ -37,10 +37,10 @@ pub fn runs_are_of_their_marks()
     ensures session { (lines : List NumberedLine) (starves : Key → Bool) (most : Most) (w : WorldState) → RunPremises lines → DeclaresWritable lines → run_of most starves lines ≡ Some w → WorldRun lines w }
 {}
 
-/// What was written where a run stopped early is a beginning of the recording that the session of its lines comes to, where some runs find no memory; no books are told of.
+/// What was written where a run stopped early is a beginning of the recording that the session of its lines comes to, where some runs find no memory.
 pub fn cut_runs_are_cut_off()
     ensures lines { (lines : List NumberedLine) (start held : Option (List ℕ)) (x : WorldState) → RunPremises lines → DeclaresWritable lines → IsCutRun start held lines x
-        → (written : List ℕ) × Appends start held written × IsCutOff lines written [] }
+        → (written : List ℕ) × Appends start held written × IsCutOff lines written }
     ensures scripts { (m : Mode) (text : List ℕ) (script : Script) (start held : Option (List ℕ)) (x : WorldState) → script_of m text ≡ Ok script → IsCutRun start held script.lines x
-        → (written : List ℕ) × Appends start held written × IsCutOff script.lines written [] }
+        → (written : List ℕ) × Appends start held written × IsCutOff script.lines written }
 {}

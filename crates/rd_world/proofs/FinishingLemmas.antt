@@ -20,7 +20,7 @@ use Rattle.rd_station.specs.Station.{StationState}
 use Rattle.rd_world.specs.declared.device.SessionDevice.{SessionDevice}
 use Rattle.rd_world.specs.declared.device.SessionDevice.TheVariants as session
 use Rattle.rd_world.specs.Report.{outcomes_under}
-use Rattle.rd_world.specs.Session.{by_device, journals_of, printed_in}
+use Rattle.rd_world.specs.Session.{StoresSome, by_device, journals_of, printed_in}
 use Rattle.rd_world.specs.World.{ApplicationState}
 use Rattle.rd_world.proofs.ApplicationsLemmas.{apart_at, below_of, equal_is, greater_is}
 use Rattle.rd_world.proofs.PlacesLemmas.{key_between}
@@ -156,6 +156,15 @@ pub record AreStored (all : List (ℕ × StationState SessionDevice)) (ids : Lis
   pub count : length ids ≡ place + length rest
   pub stored : journals_of books ≡ map journal_under done
   pub told : documents ≡ flat_map printed_in done
+
+-- The books hold the first of the journals.
+pub some_stored : (all : List (ℕ × StationState SessionDevice)) (ids : List ℕ) (place : ℕ) (rest : List (StationState SessionDevice)) (books : List (ℕ × History)) (documents : List (ℕ × List (List ℕ)))
+    → AreStored all ids place rest books documents → StoresSome (map journal_under all) books
+some_stored all ids place rest books documents are =
+    let left : List Stored = zip (drop place ids) rest in (
+      map journal_under left,
+      ap (λ (l : List Stored). map journal_under l) are.are ∙ map-append journal_under are.done left ∙ ap (λ (l : List (ℕ × List Item)). l ++ map journal_under left) (sym are.stored),
+    )
 
 journals_below : (k : ℕ) (done : List Stored) → AllByRecursion (λ (e : Stored). e.0 < k) done → AllByRecursion (λ (j : ℕ × List Item). j.0 < k) (map journal_under done)
 journals_below k [] below = tt

@@ -192,10 +192,13 @@ pub record IsWholeSession (script : Script) (recording : List ℕ) (books : List
 
 -- ---- a session that was cut off
 
--- what was written of its recording, and the books so far, are a beginning of what the session of the script comes to, where some runs found no memory
-pub record IsCutOff (lines : List NumberedLine) (written : List ℕ) (books : List (ℕ × List Item)) : Type 0 where
+-- what was written of its recording is a beginning of what the session of the script comes to, where some runs found no memory
+pub record IsCutOff (lines : List NumberedLine) (written : List ℕ) : Type 0 where
   pub world : WorldState
   pub run : WorldRun lines world
   pub rest : List ℕ
   pub recorded : recording_of_deeds world.deeds ≡ written ++ rest
-  pub stored : All (λ (b : ℕ × List Item). (s : StationState SessionDevice) × (later : List Item) × (station_at world b.0 ≡ Some s) × (s.journal ≡ b.1 ++ later)) books
+
+-- the books hold the first of these journals, in their order, and no others
+abbrev pub StoresSome : List (ℕ × List Item) → List (ℕ × History) → Type 0
+StoresSome journals books = (rest : List (ℕ × List Item)) × (journals ≡ journals_of books ++ rest)

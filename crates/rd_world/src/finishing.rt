@@ -2,7 +2,7 @@
 //!
 //! Cost: outcomes and journals are moved, and the finished documents of printers are copied once; each is put into a map at its end.
 
-ghost use Rattle.std.specs.Prelude.{◌≡◌, ◌<◌, ◌≤◌, ◌++◌, ℕ, List, [], length, map, IfOk, OnOk};
+ghost use Rattle.std.specs.Prelude.{◌≡◌, ◌<◌, ◌≤◌, ◌++◌, ℕ, List, [], length, map, IfOk, OnErr, OnOk};
 ghost use Rattle.std.specs.List.{AllByRecursion, flat_map};
 ghost use Rattle.rd_script.specs.declared.outcome.Outcome.{Outcome};
 ghost use Rattle.rd_script.specs.Report.{AreCountable, numbered_from};
@@ -10,7 +10,7 @@ ghost use Rattle.rd_script.specs.Script.{max_lines};
 ghost use Rattle.rd_station.specs.Station.{StationState};
 ghost use Rattle.rd_world.specs.declared.device.SessionDevice.{SessionDevice};
 ghost use Rattle.rd_world.specs.Report.{outcomes_under};
-ghost use Rattle.rd_world.specs.Session.{TellsWorld, by_device, journals_of, printed_in};
+ghost use Rattle.rd_world.specs.Session.{StoresSome, TellsWorld, by_device, journals_of, printed_in};
 ghost use Rattle.rd_world.specs.World.{journals_in};
 
 use crate::applications::Applications;
@@ -26,12 +26,13 @@ use std::collections::BTreeMap;
 
 impl<'s> World<'s> {
     /// What is told of the session: how each line of an application ended, which lines did nothing, the finished documents, and what is kept for printers.
-    /// The journals go into the books, a journal for each device.
+    /// The journals go into the books, a journal for each device; where memory runs out, the first of them did.
     pub fn finish(self, books: &mut Books) -> Result<Outcomes, AllocError>
         requires { books.old ≡ [] }
         ensures told { IfOk result (TellsWorld self.entry) }
         ensures countable { IfOk result (λ told. AreCountable told.lines.entries) }
         ensures stored { IfOk result (λ told. journals_of books.new ≡ journals_in self.entry) }
+        ensures some { OnErr result (StoresSome (journals_in self.entry) books.new) }
     {
         let World {
             alloc,
@@ -95,6 +96,7 @@ fn store_all(
     requires { books.old ≡ [] }
     ensures documents { IfOk result (λ told. told.entries ≡ flat_map printed_in stations) }
     ensures stored { IfOk result (λ told. journals_of books.new ≡ map (λ (e : ℕ × StationState SessionDevice). (e.0, e.1.journal)) stations) }
+    ensures some { OnErr result (StoresSome (map (λ (e : ℕ × StationState SessionDevice). (e.0, e.1.journal)) stations) books.new) }
 {
     let mut documents = BTreeMap::new(alloc);
     let (ids, list) = stations.finish();

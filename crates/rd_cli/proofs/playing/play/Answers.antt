@@ -20,6 +20,7 @@ returns-in_err-finish-clause-err g c =
       world = c.run.new.self;
       run = rw c.as_slice-lines.ensures at c.in_ok-run.ensures.ran;
       recorded = record { written = c.in_ok-run.ensures.recorded; faultless = c.in_ok-run.ensures.counted };
+      stored = c.in_err-finish.ensures.some;
     })))
 
 pub returns-clause-played : goal.returns-clause-played
