@@ -1,7 +1,9 @@
 -- What the clauses refuse.
-use Rattle.std.proofs.Common.{◌≡◌, ◌≢◌, refl, sym, ap, subst, arith, zero, suc, false, true, List, [], ◌∷◌, Option, Some, None}
+use Rattle.std.proofs.Common.{◌≡◌, ◌≢◌, ◌∙◌, refl, sym, ap, subst, arith, ℕ, zero, suc, ◌||◌, Bool, false, true, List, [], ◌∷◌, Option, Some, None}
 use Rattle.std.specs.Prelude.{Any, Contains, filter_map, length, reverse}
+use Rattle.std.specs.List.{list_any}
 use Rattle.std.proofs.lemmas.List.Elements.{All-head, All-tail}
+use Rattle.std.proofs.lemmas.List.Folds.{list_any-append}
 use Rattle.rd_base.specs.Lawful.{EachEntry, SendsFirst, Settles, SettlesFirst}
 use Rattle.rd_base.specs.declared.journal.Item.TheVariants.{Came, Ran, Sent}
 use Rattle.rd_base.specs.declared.journal.Item.{Item}
@@ -17,15 +19,26 @@ use Rattle.rd_irp.specs.Completion.{completion_body, success_body}
 use Rattle.rd_irp.specs.Written.{request_bytes}
 use Rattle.rd_pending.specs.Outcomes.{accepted_outcome}
 use Rattle.rd_pending.specs.Outcomes.Tidings.{begins, completes, removes}
+use Rattle.rd_pending.specs.declared.calls.Outcome as table_outcome
 use Rattle.rd_pending.specs.declared.calls.Outcome.TheVariants.{Done}
+use Rattle.rd_pending.specs.declared.calls.SubmitNo.{SubmitNo}
+use Rattle.rd_pending.specs.declared.calls.Target.{Target}
+use Rattle.rd_pending.specs.Table.{submit_refusal}
+use Rattle.rd_script.specs.declared.outcome.Outcome.{Outcome}
 use Rattle.rd_world.specs.Acts.{act_by, control_by}
 use Rattle.rd_world.specs.Control.{Act, controlled}
+use Rattle.rd_world.specs.Devices.{Declared}
+use Rattle.rd_world.specs.Events.{target_of}
+use Rattle.rd_world.specs.HostDeeds.{MayDo, side_after, side_of}
 use Rattle.rd_world.specs.Joining.{HasReply, IsOwnReply, request_of_accepted}
+use Rattle.rd_world.specs.Lines.{AskedEnds, IsHandedOut, LineEnds, LinesEnd, Waits}
 use Rattle.rd_world.specs.Opening.{bare_lines}
+use Rattle.rd_world.specs.Recording.{client_id}
 use Rattle.rd_world.specs.Run.{declared_devices, notice_of}
-use Rattle.rd_world.specs.Talk.{client_reads, host_begins}
+use Rattle.rd_world.specs.Talk.{Deed, client_reads, host_begins, takes}
 use Rattle.rd_world.specs.Told.{Replies}
-use Rattle.rd_headline.specs.Wrong.{closed_bytes, done, earlier_accepted, first_key, head_of_both, later_accepted, other_file, ran_twice, refused, removing_lines, sent_unrun}
+use Rattle.rd_world.specs.World.{ApplicationState}
+use Rattle.rd_headline.specs.Wrong.{closed_bytes, done, earlier_accepted, first_key, head_of_both, knows_first, later_accepted, lost_untaken, other_file, ran_twice, refused, removing_lines, sent_unrun}
 
 pub sent_without_run : ¬ (EachEntry SendsFirst sent_unrun)
 sent_without_run each = none ((each (Came first_key ∷ []) (Sent first_key) [] refl).0)
@@ -53,6 +66,33 @@ other_file_read replies own =
     let read : Some other_file ≡ Some (request_of_accepted earlier_accepted) = own.read in
     let file : 2 ≡ 1 = ap (λ (r : Option Request). option_map_or (λ (x : Request). x.file) r 0) read in
     omega (arith, file)
+
+-- nothing comes out after the last line
+pub one_outcome : (devices : List (ℕ × Declared)) (deeds : List Deed) (holds : ApplicationState) (x : Waits) (o other : Outcome) (from : List Deed) → ¬ (LinesEnd devices deeds 1 holds (x ∷ []) (o ∷ other ∷ []) (λ later. Unit {0}) from)
+one_outcome devices deeds holds x o other from (before, nothing, received, due, ends) = line (target_of holds x.asked) ends
+  where
+    asked : (named : Target) (r : Option SubmitNo) → ¬ (AskedEnds devices deeds 1 holds x.asked o (λ next received after. LinesEnd devices deeds 1 next [] (other ∷ []) received after) before named r)
+    asked named (Some cause) (why, on) = on
+    asked named None (after, parts, came, comes, said, on) = on
+
+    line : (n : Option Target) → ¬ (LineEnds devices deeds 1 holds x.asked o (λ next received after. LinesEnd devices deeds 1 next [] (other ∷ []) received after) before n)
+    line None (why, on) = on
+    line (Some named) ends = asked named (submit_refusal (side_of client_id before).table named) ends
+
+-- whether a deed hands out an outcome
+abbrev is_taking : Deed → Bool
+is_taking (takes number) = true
+is_taking _ = false
+
+pub never_taken : (came : table_outcome.Outcome) → ¬ (IsHandedOut 1 came lost_untaken)
+never_taken came is = none (list_any is_taking is.later) (ap (list_any is_taking) is.taken ∙ list_any-append is_taking is.later (takes 1 ∷ is.before))
+  where
+    none : (b : Bool) → ¬ (false ≡ (b || true))
+    none true e = absurd (cc e)
+    none false e = absurd (cc e)
+
+pub taken_once : MayDo knows_first (takes 1) × ¬ (MayDo (side_after knows_first (takes 1)) (takes 1))
+taken_once = (refl, λ again. absurd (cc again))
 
 pub earlier_completion : accepted_outcome (earlier_accepted ∷ []) later_accepted 0 (begins 1 ∷ completes head_of_both closed_bytes ∷ []) false ≡ None
 earlier_completion = refl

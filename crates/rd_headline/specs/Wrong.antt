@@ -10,8 +10,14 @@ use Rattle.rd_irp.specs.declared.completion.Reply.{Reply}
 use Rattle.rd_irp.specs.declared.op.Op.TheVariants as op
 use Rattle.rd_irp.specs.declared.request.Request.{Request}
 use Rattle.rd_pending.specs.Outcomes.{Accepted}
+use Rattle.rd_pending.specs.Table.{known, new_table}
+use Rattle.rd_pending.specs.declared.calls.Outcome.TheVariants.{Done}
+use Rattle.rd_pending.specs.declared.calls.Target.TheVariants as target
 use Rattle.rd_script.specs.declared.line.Line.TheVariants as line
 use Rattle.rd_script.specs.declared.line.NumberedLine.{NumberedLine}
+use Rattle.rd_world.specs.Host.{HostSide, new_side}
+use Rattle.rd_world.specs.Recording.{client_id}
+use Rattle.rd_world.specs.Talk.{Deed, host_begins, host_ends, submits}
 use Rattle.rd_world.specs.Worked.{numbered}
 
 -- the first two requests of a channel
@@ -53,6 +59,14 @@ head_of_both = record { device = 1; completion = 0; status = status.success }
 
 abbrev pub closed_bytes : List ℕ
 closed_bytes = 0 ∷ 0 ∷ 0 ∷ 0 ∷ []
+
+-- a request is accepted and its channel ends, by which it is lost; that isn't handed out
+abbrev pub lost_untaken : List Deed
+lost_untaken = host_ends 1 ∷ submits 1 (target.Device 1) op.Close ∷ host_begins 1 ∷ []
+
+-- a host whose first request is done, which wasn't handed out yet
+abbrev pub knows_first : HostSide
+knows_first = record (new_side client_id) { table = record new_table { count = 1; untaken = (1, record { device = 1; life = 1; fate = known (Done done) }) ∷ [] } }
 
 -- a device is declared, and removed on the channel that begins before the lines
 abbrev pub removing_lines : List NumberedLine

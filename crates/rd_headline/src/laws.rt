@@ -4,12 +4,13 @@ ghost use Rattle.std.specs.Prelude.{◌≡◌, ◌≢◌, ℕ, ◌≤◌, Bool, 
 ghost use Rattle.rd_base.specs.History.{History};
 ghost use Rattle.rd_base.specs.declared.journal.Key.{Key};
 ghost use Rattle.rd_base.specs.Lawful.{EachEntry, SendsFirst, SettlesFirst};
-ghost use Rattle.rd_headline.specs.Wrong.{closed_bytes, done, earlier_accepted, first_key, head_of_both, later_accepted, other_file, ran_twice, refused, removing_lines, sent_unrun};
+ghost use Rattle.rd_headline.specs.Wrong.{closed_bytes, done, earlier_accepted, first_key, head_of_both, knows_first, later_accepted, lost_untaken, other_file, ran_twice, refused, removing_lines, sent_unrun};
 ghost use Rattle.rd_irp.specs.Written.{request_bytes};
 ghost use Rattle.rd_loads.specs.AllPremises.{MeetPremises};
 ghost use Rattle.rd_outcomes.specs.Opened.{ChannelsOpen};
 ghost use Rattle.rd_pending.specs.Outcomes.{accepted_outcome};
 ghost use Rattle.rd_pending.specs.Outcomes.Tidings.{begins, completes, removes};
+ghost use Rattle.rd_pending.specs.declared.calls.Outcome as table_outcome;
 ghost use Rattle.rd_pending.specs.declared.calls.Outcome.TheVariants.{Done};
 ghost use Rattle.rd_script.specs.Load.{load_script};
 ghost use Rattle.rd_script.specs.Report.{report_of};
@@ -21,13 +22,14 @@ ghost use Rattle.rd_script.specs.declared.script.Script.{Script};
 ghost use Rattle.rd_script.specs.declared.outcome.Outcome.{Outcome};
 ghost use Rattle.rd_world.specs.Acts.{act_by, control_by};
 ghost use Rattle.rd_world.specs.Devices.{Declared};
+ghost use Rattle.rd_world.specs.HostDeeds.{MayDo, side_after};
 ghost use Rattle.rd_world.specs.Joining.{HasReply, IsOwnReply};
-ghost use Rattle.rd_world.specs.Lines.{LinesEnd, Waits};
+ghost use Rattle.rd_world.specs.Lines.{IsHandedOut, LinesEnd, Waits};
 ghost use Rattle.rd_world.specs.Opening.{bare_lines};
 ghost use Rattle.rd_world.specs.Recording.{recording_of_deeds};
 ghost use Rattle.rd_world.specs.Run.{Most, declared_devices};
 ghost use Rattle.rd_world.specs.Session.{IsRun, IsWholeSession};
-ghost use Rattle.rd_world.specs.Talk.{Deed, client_reads, host_begins};
+ghost use Rattle.rd_world.specs.Talk.{Deed, client_reads, host_begins, takes};
 ghost use Rattle.rd_world.specs.Told.{Replies};
 ghost use Rattle.rd_world.specs.World.{ApplicationState};
 
@@ -66,7 +68,10 @@ pub fn wrong_runs_are_refused()
     ensures other_file { (replies : Replies) → ¬ (IsOwnReply replies (client_reads 1 (request_bytes other_file) ∷ []) earlier_accepted done) }
     // Exactly one outcome: a line has none, or one line has two.
     ensures no_outcome { (devices : List (ℕ × Declared)) (deeds : List Deed) (holds : ApplicationState) (x : Waits) (from : List Deed) → ¬ (LinesEnd devices deeds 1 holds (x ∷ []) [] (λ later. Unit {0}) from) }
-    ensures two_outcomes { (devices : List (ℕ × Declared)) (deeds : List Deed) (holds : ApplicationState) (o : Outcome) (from : List Deed) → ¬ (LinesEnd devices deeds 1 holds [] (o ∷ []) (λ later. Unit {0}) from) }
+    ensures two_outcomes { (devices : List (ℕ × Declared)) (deeds : List Deed) (holds : ApplicationState) (x : Waits) (o other : Outcome) (from : List Deed) → ¬ (LinesEnd devices deeds 1 holds (x ∷ []) (o ∷ other ∷ []) (λ later. Unit {0}) from) }
+    // Which its application receives, once: an outcome is never handed out, or is handed out twice.
+    ensures never_taken { (devices : List (ℕ × Declared)) (holds : ApplicationState) (came : table_outcome.Outcome) (from : List Deed) → ¬ (LinesEnd devices lost_untaken 1 holds [] [] (IsHandedOut 1 came) from) }
+    ensures taken_twice { MayDo knows_first (takes 1) × ¬ (MayDo (side_after knows_first (takes 1)) (takes 1)) }
     // Its own completion: the completion of an earlier request with its id ends a request.
     ensures earlier_completion { accepted_outcome (earlier_accepted ∷ []) later_accepted 0 (begins 1 ∷ completes head_of_both closed_bytes ∷ []) false ≡ None }
     // Lost only where its device was removed or its channel dropped first: another device was removed, or the completion was heard before.

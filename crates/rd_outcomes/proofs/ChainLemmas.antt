@@ -1,5 +1,5 @@
 -- Lines that ended, one after the other, come out as they should.
-use Rattle.std.proofs.Common.{◌≡◌, ◌∙◌, refl, sym, ap, subst, ℕ, zero, suc, Bool, true, false, List, [], ◌∷◌, ◌++◌, length, reverse, map, take, Some, None, Option, Ok, append_assoc, append-nil, arith}
+use Rattle.std.proofs.Common.{◌≡◌, ◌∙◌, refl, sym, ap, subst, ℕ, suc, Bool, true, false, List, [], ◌∷◌, ◌++◌, length, reverse, map, take, Some, None, Option, Ok, append_assoc, append-nil, arith}
 use Rattle.std.specs.Prelude.{slice_get}
 use Rattle.std.proofs.lemmas.List.{reverse-append}
 use Rattle.std.specs.Option.{option_and_then, option_map_or}
@@ -22,7 +22,7 @@ use Rattle.rd_world.specs.Events.{refusal_of, target_of}
 use Rattle.rd_world.specs.Hearing.{file_given, given_handle, holding_after, reported_outcome}
 use Rattle.rd_world.specs.HostDeeds.{calls_of, side_of}
 use Rattle.rd_world.specs.Joining.{accepted}
-use Rattle.rd_world.specs.Lines.{AskedEnds, IsAccepted, IsDue, LineEnds, LinesEnd, SubmitsNothing, Waits, given_at, outcome_at}
+use Rattle.rd_world.specs.Lines.{AskedEnds, IsAccepted, IsDue, IsHandedOut, LineEnds, LinesEnd, SubmitsNothing, Waits, given_at, outcome_at}
 use Rattle.rd_world.specs.Recording.{client_id}
 use Rattle.rd_world.specs.Talk.{Deed, EndsWith, submits, takes}
 use Rattle.rd_world.specs.World.{ApplicationState, new_application}
@@ -101,57 +101,28 @@ handed deeds does count given (later, before, parts, is) =
 
 -- ---- lines come out
 
--- the outcome of a line is known from here on
-abbrev pub KnownTo : Option (ℕ × Taken) → List Deed → Type 0
-KnownTo None later = Unit {0}
-KnownTo (Some (zero, given)) later = ⊥
-KnownTo (Some (suc count, given)) later = outcome_at later count ≡ Some given.outcome
+-- the outcome of a line was handed out
+abbrev pub WasHandedOut : Option (ℕ × Taken) → List Deed → Type 0
+WasHandedOut None later = Unit {0}
+WasHandedOut (Some (number, given)) later = IsHandedOut number given.outcome later
 
-abbrev IsNumbered : Option (ℕ × Taken) → Type 0
-IsNumbered None = Unit {0}
-IsNumbered (Some (zero, given)) = ⊥
-IsNumbered (Some (suc count, given)) = Unit {0}
-
-known_to : (deeds : List Deed) → Does client_id deeds → (k : Option (ℕ × Taken)) → IsNumbered k → IsKnownAt k deeds → KnownTo k deeds
-known_to deeds does None numbered is = tt
-known_to deeds does (Some (zero, given)) numbered is = absurd numbered
-known_to deeds does (Some (suc count, given)) numbered is = (handed deeds does count given is).0
-
-does_before : (more deeds : List Deed) → Does client_id (more ++ deeds) → Does client_id deeds
-does_before [] deeds does = does
-does_before (d ∷ more) deeds does = does_before more deeds does.1
+pub was_handed_out : (k : Option (ℕ × Taken)) (deeds : List Deed) → IsKnownAt k deeds → WasHandedOut k deeds
+was_handed_out None deeds is = tt
+was_handed_out (Some (number, given)) deeds (later, before, taken, gives) = record { later = later; before = before; taken = taken; given = given; gives = gives; came_is = refl }
 
 module _ (devices : List (ℕ × Declared)) (a : ℕ) (deeds : List Deed) (does : Does client_id deeds) where
   abbrev Ends : ApplicationState → List Waits → List Outcome → (List Deed → Type 0) → List Deed → Type 0
-  Ends holds xs os known from = LinesEnd devices deeds a holds xs os known from
-
-  does_at : (before : List Deed) → EndsWith deeds before → Does client_id before
-  does_at before (more, e) = does_before more before (subst (Does client_id) e does)
-
-  -- the number of a stage is that of a request
-  numbered_by : (s : Stage) (x : Waits) (o : Outcome) (t : Stage) (before : List Deed) (n : Option Target) → EndsOf devices a deeds s x o t before n → IsNumbered t.known
-  numbered_by s x o t before None (why, same) = subst (λ (t : Stage). IsNumbered t.known) (sym same) tt
-  numbered_by s x o t before (Some named) is = by (submit_refusal (side_of client_id before).table named) is
-    where
-      by : (r : Option SubmitNo) → EndsAsked devices a deeds s x o t before named r → IsNumbered t.known
-      by (Some cause) (why, same) = subst (λ (t : Stage). IsNumbered t.known) (sym same) tt
-      by None (given, grown, handed, said, same) = subst (λ (t : Stage). IsNumbered t.known) (sym same) tt
-
-  chain_numbered : (xs : List Waits) (os : List Outcome) (s : Stage) → Chain devices a deeds xs os s → IsNumbered s.known
-  chain_numbered [] [] s is = subst (λ (t : Stage). IsNumbered t.known) (sym is) tt
-  chain_numbered [] (o ∷ os) s is = absurd is
-  chain_numbered (x ∷ xs) [] s is = absurd is
-  chain_numbered (x ∷ xs) (o ∷ os) s (r, chain, ended) = numbered_by r x o s ended.before (target_of (r.holds) x.asked) ended.ends
+  Ends holds xs os received from = LinesEnd devices deeds a holds xs os received from
 
   -- a line goes before those after it
-  one_line : (s : Stage) (x : Waits) (o : Outcome) (t : Stage) (xs : List Waits) (os : List Outcome) → IsNumbered s.known → IsEnded devices a deeds s x o t
-      → Ends t.holds xs os (KnownTo t.known) t.from → Ends s.holds (x ∷ xs) (o ∷ os) (KnownTo s.known) s.from
-  one_line s x o t xs os numbered is after_it =
-      (is.before, is.nothing, known_to is.before (does_at is.before is.grown) s.known numbered is.known, is.due, ends (target_of s.holds x.asked) is.ends)
+  one_line : (s : Stage) (x : Waits) (o : Outcome) (t : Stage) (xs : List Waits) (os : List Outcome) → IsEnded devices a deeds s x o t
+      → Ends t.holds xs os (WasHandedOut t.known) t.from → Ends s.holds (x ∷ xs) (o ∷ os) (WasHandedOut s.known) s.from
+  one_line s x o t xs os is after_it =
+      (is.before, is.nothing, was_handed_out s.known is.before is.known, is.due, ends (target_of s.holds x.asked) is.ends)
     where
       asked : (named : Target) (r : Option SubmitNo) → EndsAsked devices a deeds s x o t is.before named r
-          → AskedEnds devices deeds a s.holds x.asked o (λ next known after. LinesEnd devices deeds a next xs os known after) is.before named r
-      asked named (Some cause) (why, same) = (why, subst (λ (t : Stage). Ends t.holds xs os (KnownTo t.known) t.from) same after_it)
+          → AskedEnds devices deeds a s.holds x.asked o (λ next received after. LinesEnd devices deeds a next xs os received after) is.before named r
+      asked named (Some cause) (why, same) = (why, subst (λ (t : Stage). Ends t.holds xs os (WasHandedOut t.known) t.from) same after_it)
       asked named None (given, (more, grown), out, said, same) =
           let (came, holds) = handed deeds does (count_of is.before) given out in (
             more,
@@ -159,22 +130,22 @@ module _ (devices : List (ℕ × Declared)) (a : ℕ) (deeds : List Deed) (does 
             given.outcome,
             came,
             said,
-            subst (λ (h : Option Handle). Ends (holding_after s.holds x.asked h) xs os (λ later. outcome_at later (count_of is.before) ≡ Some given.outcome) (submits a named (x.asked).op ∷ is.before)) (sym holds)
-                (subst (λ (t : Stage). Ends t.holds xs os (KnownTo t.known) t.from) same after_it),
+            subst (λ (h : Option Handle). Ends (holding_after s.holds x.asked h) xs os (IsHandedOut (suc (count_of is.before)) given.outcome) (submits a named (x.asked).op ∷ is.before)) (sym holds)
+                (subst (λ (t : Stage). Ends t.holds xs os (WasHandedOut t.known) t.from) same after_it),
           )
 
       ends : (n : Option Target) → EndsOf devices a deeds s x o t is.before n
-          → LineEnds devices deeds a s.holds x.asked o (λ next known after. LinesEnd devices deeds a next xs os known after) is.before n
-      ends None (why, same) = (why, subst (λ (t : Stage). Ends t.holds xs os (KnownTo t.known) t.from) same after_it)
+          → LineEnds devices deeds a s.holds x.asked o (λ next received after. LinesEnd devices deeds a next xs os received after) is.before n
+      ends None (why, same) = (why, subst (λ (t : Stage). Ends t.holds xs os (WasHandedOut t.known) t.from) same after_it)
       ends (Some named) own = asked named (submit_refusal (side_of client_id is.before).table named) own
 
-  pub chain_ends : (xs : List Waits) (os : List Outcome) (s : Stage) → Chain devices a deeds xs os s → (ys : List Waits) (qs : List Outcome) → Ends s.holds ys qs (KnownTo s.known) s.from
+  pub chain_ends : (xs : List Waits) (os : List Outcome) (s : Stage) → Chain devices a deeds xs os s → (ys : List Waits) (qs : List Outcome) → Ends s.holds ys qs (WasHandedOut s.known) s.from
       → Ends new_application (reverse xs ++ ys) (reverse os ++ qs) (λ later. Unit {0}) []
-  chain_ends [] [] s is ys qs after_it = subst (λ (t : Stage). Ends t.holds ys qs (KnownTo t.known) t.from) is after_it
+  chain_ends [] [] s is ys qs after_it = subst (λ (t : Stage). Ends t.holds ys qs (WasHandedOut t.known) t.from) is after_it
   chain_ends [] (o ∷ os) s is ys qs after_it = absurd is
   chain_ends (x ∷ xs) [] s is ys qs after_it = absurd is
   chain_ends (x ∷ xs) (o ∷ os) s (r, chain, ended) ys qs after_it =
-      let all = chain_ends xs os r chain (x ∷ ys) (o ∷ qs) (one_line r x o s ys qs (chain_numbered xs os r chain) ended after_it) in
+      let all = chain_ends xs os r chain (x ∷ ys) (o ∷ qs) (one_line r x o s ys qs ended after_it) in
       subst (λ (p : List Waits × List Outcome). Ends new_application p.0 p.1 (λ later. Unit {0}) []) (λ i. (sym (turned x xs ys) i, sym (turned o os qs) i)) all
     where
       turned : {A : Type 0} (x : A) (xs ys : List A) → reverse (x ∷ xs) ++ ys ≡ reverse xs ++ x ∷ ys

@@ -45,7 +45,7 @@ use Rattle.rd_outcomes.proofs.TrailLemmas.{chain_long}
 use Rattle.rd_world.proofs.ApplicationsLemmas.{apart_at}
 use Rattle.rd_world.proofs.Calls.{Does}
 use Rattle.rd_world.specs.Recording.{client_id}
-use Rattle.rd_outcomes.proofs.ChainLemmas.{chain_ends}
+use Rattle.rd_outcomes.proofs.ChainLemmas.{chain_ends, was_handed_out}
 use Rattle.rd_outcomes.proofs.ComingLemmas.{AreDue, From, Going, event_goes, going_queued, line_goes, part_acted, part_going, part_queued}
 
 -- ---- what applications ask for
@@ -424,7 +424,7 @@ module _ (lines : List NumberedLine) (starves : Key → Bool) (most : Most) (pre
           let ended : waits_of devices a lines ≡ reverse t.ended ++ [] = t.whole ∙ ap (λ (xs : List Waits). reverse t.ended ++ xs) rest in
           let outs : reverse (reverse x.outcomes) ++ [] ≡ x.outcomes = append-nil (reverse (reverse x.outcomes)) ∙ reverse-reverse x.outcomes in
           subst (λ (p : List Waits × List Outcome). LinesEnd devices w.deeds a new_application p.0 p.1 (λ later. Unit {0}) []) (λ i. (sym ended i, outs i))
-          (chain_ends devices a w.deeds does t.ended (reverse x.outcomes) t.stage t.chain [] [] stands.0)
+          (chain_ends devices a w.deeds does t.ended (reverse x.outcomes) t.stage t.chain [] [] (stands.0, was_handed_out t.stage.known w.deeds stands.1))
         where
           empty : (xs : List Waits) → length xs ≡ 0 → xs ≡ []
           empty [] e = refl

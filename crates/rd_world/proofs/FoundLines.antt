@@ -24,8 +24,8 @@ use Rattle.rd_irp.specs.Completion.{completion_head, success_body, completion_bo
 use Rattle.rd_irp.specs.Op.{create_body, close_body, read_body, write_body, notify_body, range, lock_body, directory_body, op_body}
 use Rattle.rd_irp.specs.Request.{request_head}
 use Rattle.rd_irp.specs.declared.op.Op.TheVariants as op
-use Rattle.rd_pending.specs.declared.calls.Outcome as table_outcome
 use Rattle.rd_pending.specs.declared.calls.Outcome.TheVariants as came
+use Rattle.rd_pending.specs.declared.calls.Taken.{Taken}
 use Rattle.rd_pending.specs.declared.calls.Target.TheVariants as target
 use Rattle.rd_printer.specs.Cache.{CacheState}
 use Rattle.rd_printer.specs.Notice.{add_event, update_event, delete_event, rename_event, event_body, cache_data, using_xps, notice, notice_bytes}
@@ -41,7 +41,7 @@ use Rattle.rd_world.specs.Control as control
 use Rattle.rd_world.specs.Devices.{declaring, furnishing, Declared}
 use Rattle.rd_world.specs.Found.{AreFound, handle_target, found_deeds, found_devices, found_lines, found_outcomes, gives_file, read_dropped, read_removed, found_journal, found_script, found_books, found_output}
 use Rattle.rd_world.specs.Hearing.{holding_after}
-use Rattle.rd_world.specs.Lines.{HaveOutcomes, LinesEnd, Waits, outcome_at, submitted, waits_of}
+use Rattle.rd_world.specs.Lines.{HaveOutcomes, IsHandedOut, LinesEnd, Waits, submitted, waits_of}
 use Rattle.rd_world.specs.Recording.{host_stand}
 use Rattle.rd_world.specs.Report.{outcomes_of}
 use Rattle.rd_world.specs.Run.{asked_by, controls, notice_of, on_device, asked_on_handle, open_op, setting, WorldRun, run_of}
@@ -50,7 +50,7 @@ use Rattle.rd_world.specs.Talk.{Deed, EndsWith, Has, answered, asked, open_chann
 use Rattle.rd_world.specs.Worked.{ran}
 use Rattle.rd_world.specs.World.{ApplicationState, new_application, WorldState, journals_in, starved_in}
 use Rattle.rd_world.proofs.TestedActs.{cut_by_test, none_said, none_told_on, told_in_time_by_test}
-use Rattle.rd_world.proofs.TestedLines.{are_within, is_line_within, none_client_wrote, none_host_read, none_host_wrote, none_submitted, given_along, line_accepted, none_by, none_under, none_waits, of_each, opens_by, outcome_along, quiet_by, none_stored}
+use Rattle.rd_world.proofs.TestedLines.{are_within, is_line_within, none_client_wrote, none_host_read, none_host_wrote, none_submitted, given_along, handed_by, line_accepted, none_by, none_under, none_waits, of_each, opens_by, outcome_along, quiet_by, none_stored}
 use Rattle.rd_world.proofs.TestedTelling.{among}
 
 -- ---- few are named
@@ -104,35 +104,44 @@ with_h = record new_application { handles = (codes "h", record { device = 1; lif
 abbrev with_k : ApplicationState
 with_k = record new_application { handles = (codes "h", record { device = 1; life = 1; file = 1 }) ∷ (codes "k", record { device = 1; life = 2; file = 2 }) ∷ [] }
 
--- the outcome of a request is known at a point
-abbrev Knows : ℕ → table_outcome.Outcome → List Deed → Type 0
-Knows count o later = outcome_at later count ≡ Some o
+-- what the host handed out for its numbers
+abbrev given_1 : Taken
+given_1 = record { device = 1; life = 1; outcome = came.Done (gives_file 1) }
+
+abbrev given_2 : Taken
+given_2 = record { device = 1; life = 1; outcome = came.Lost Dropped }
+
+abbrev given_3 : Taken
+given_3 = record { device = 1; life = 2; outcome = came.Done (gives_file 2) }
+
+abbrev given_4 : Taken
+given_4 = record { device = 1; life = 2; outcome = came.Lost Removed }
 
 -- each line ends so, from where the one before was accepted; the last one first
-line_4 : LinesEnd found_devices found_deeds 1 with_k (read_k ∷ []) (outcome.Lost Removed ∷ []) (Knows 2 (came.Done (gives_file 2))) (drop 18 found_deeds)
+line_4 : LinesEnd found_devices found_deeds 1 with_k (read_k ∷ []) (outcome.Lost Removed ∷ []) (IsHandedOut 3 (came.Done (gives_file 2))) (drop 18 found_deeds)
 unfolding count_to counted counted_bytes two_fields four_fields two_fields_bytes four_fields_bytes bytes8 bytes16 bytes32 bytes64 component_field header header_among announce device_list device_reply removal checked one_of given special general other body_of capability sets version name hello completion_head success_body completion_body create_body close_body read_body write_body notify_body range lock_body directory_body op_body request_head
-line_4 = line_accepted found_devices found_deeds 1 with_k with_k read_k [] (outcome.Lost Removed) [] (Knows 2 (came.Done (gives_file 2))) (drop 18 found_deeds) (drop 10 found_deeds) (take 9 found_deeds) (handle_target read_removed) 3 (came.Lost Removed)
+line_4 = line_accepted found_devices found_deeds 1 with_k with_k read_k [] (outcome.Lost Removed) [] (IsHandedOut 3 (came.Done (gives_file 2))) (drop 18 found_deeds) (drop 10 found_deeds) (take 9 found_deeds) (handle_target read_removed) 3 (came.Lost Removed)
     (quiet_by 1 8 (drop 10 found_deeds) (drop 18 found_deeds) refl refl)
-    (outcome_along (drop 10 found_deeds) 2 ∙ refl)
+    (handed_by 3 0 given_3 (drop 10 found_deeds) refl refl)
     (record { acted = lit≤ tt; opened = opens_by found_devices 9 (drop 10 found_deeds) 2 second_open })
     refl refl refl (sym (take-append-drop 9 found_deeds)) (outcome_along found_deeds 3 ∙ refl) refl refl
-    (quiet_by 1 9 found_deeds (drop 9 found_deeds) refl refl)
+    (quiet_by 1 9 found_deeds (drop 9 found_deeds) refl refl, handed_by 4 3 given_4 found_deeds refl refl)
 
-line_3 : LinesEnd found_devices found_deeds 1 with_h (open_k ∷ read_k ∷ []) (outcome.Done (gives_file 2) ∷ outcome.Lost Removed ∷ []) (Knows 1 (came.Lost Dropped)) (drop 44 found_deeds)
+line_3 : LinesEnd found_devices found_deeds 1 with_h (open_k ∷ read_k ∷ []) (outcome.Done (gives_file 2) ∷ outcome.Lost Removed ∷ []) (IsHandedOut 2 (came.Lost Dropped)) (drop 44 found_deeds)
 unfolding count_to counted counted_bytes two_fields four_fields two_fields_bytes four_fields_bytes bytes8 bytes16 bytes32 bytes64 component_field header header_among announce device_list device_reply removal checked one_of given special general other body_of capability sets version name hello completion_head success_body completion_body create_body close_body read_body write_body notify_body range lock_body directory_body op_body request_head
-line_3 = line_accepted found_devices found_deeds 1 with_h with_k open_k (read_k ∷ []) (outcome.Done (gives_file 2)) (outcome.Lost Removed ∷ []) (Knows 1 (came.Lost Dropped)) (drop 44 found_deeds) (drop 19 found_deeds) (take 18 found_deeds) (target.Device 1) 2 (came.Done (gives_file 2))
+line_3 = line_accepted found_devices found_deeds 1 with_h with_k open_k (read_k ∷ []) (outcome.Done (gives_file 2)) (outcome.Lost Removed ∷ []) (IsHandedOut 2 (came.Lost Dropped)) (drop 44 found_deeds) (drop 19 found_deeds) (take 18 found_deeds) (target.Device 1) 2 (came.Done (gives_file 2))
     (quiet_by 1 25 (drop 19 found_deeds) (drop 44 found_deeds) refl refl)
-    (outcome_along (drop 19 found_deeds) 1 ∙ refl)
+    (handed_by 2 19 given_2 (drop 19 found_deeds) refl refl)
     (record { acted = lit≤ tt; opened = opens_by found_devices 0 (drop 19 found_deeds) 2 second_open })
     refl refl refl (sym (take-append-drop 18 found_deeds)) (outcome_along found_deeds 2 ∙ refl) refl
     (ap (holding_after with_h open_k.asked) (given_along found_deeds 2 (came.Done (gives_file 2))) ∙ refl)
     line_4
 
-line_2 : LinesEnd found_devices found_deeds 1 with_h (read_h ∷ open_k ∷ read_k ∷ []) (outcome.Lost Dropped ∷ outcome.Done (gives_file 2) ∷ outcome.Lost Removed ∷ []) (Knows 0 (came.Done (gives_file 1))) (drop 53 found_deeds)
+line_2 : LinesEnd found_devices found_deeds 1 with_h (read_h ∷ open_k ∷ read_k ∷ []) (outcome.Lost Dropped ∷ outcome.Done (gives_file 2) ∷ outcome.Lost Removed ∷ []) (IsHandedOut 1 (came.Done (gives_file 1))) (drop 53 found_deeds)
 unfolding count_to counted counted_bytes two_fields four_fields two_fields_bytes four_fields_bytes bytes8 bytes16 bytes32 bytes64 component_field header header_among announce device_list device_reply removal checked one_of given special general other body_of capability sets version name hello completion_head success_body completion_body create_body close_body read_body write_body notify_body range lock_body directory_body op_body request_head
-line_2 = line_accepted found_devices found_deeds 1 with_h with_h read_h (open_k ∷ read_k ∷ []) (outcome.Lost Dropped) (outcome.Done (gives_file 2) ∷ outcome.Lost Removed ∷ []) (Knows 0 (came.Done (gives_file 1))) (drop 53 found_deeds) (drop 45 found_deeds) (take 44 found_deeds) (handle_target read_dropped) 1 (came.Lost Dropped)
+line_2 = line_accepted found_devices found_deeds 1 with_h with_h read_h (open_k ∷ read_k ∷ []) (outcome.Lost Dropped) (outcome.Done (gives_file 2) ∷ outcome.Lost Removed ∷ []) (IsHandedOut 1 (came.Done (gives_file 1))) (drop 53 found_deeds) (drop 45 found_deeds) (take 44 found_deeds) (handle_target read_dropped) 1 (came.Lost Dropped)
     (quiet_by 1 8 (drop 45 found_deeds) (drop 53 found_deeds) refl refl)
-    (outcome_along (drop 45 found_deeds) 0 ∙ refl)
+    (handed_by 1 0 given_1 (drop 45 found_deeds) refl refl)
     (record { acted = lit≤ tt; opened = opens_by found_devices 9 (drop 45 found_deeds) 1 first_open })
     refl refl refl (sym (take-append-drop 44 found_deeds)) (outcome_along found_deeds 1 ∙ refl) refl refl
     line_3
@@ -170,7 +179,7 @@ of_no_other a isnt =
     let no_outcomes = none_under applications under refl a isnt in
     subst (λ (xs : List Waits). LinesEnd found_devices found_deeds a new_application xs (came_to a) (λ later. Unit {0}) []) (sym no_waits)
     (subst (λ (os : List Outcome). LinesEnd found_devices found_deeds a new_application [] os (λ later. Unit {0}) []) (sym no_outcomes)
-    (found_deeds, sym (append-nil found_deeds), none_by channels devices applications found_deeds within a isnt))
+    ((found_deeds, sym (append-nil found_deeds), none_by channels devices applications found_deeds within a isnt), tt))
 
 -- ---- what is sent and heard
 

@@ -1,14 +1,16 @@
 -- What holds of all channels, applications and devices where few are named; and lines that end as they should.
-use Rattle.std.proofs.Common.{◌≡◌, ◌∙◌, refl, sym, ap, subst, inl, inr, ℕ, Bool, true, false, List, [], ◌∷◌, ◌++◌, take, drop, take-append-drop, eqb-true, Option, Some, None, slice_get}
+use Rattle.std.proofs.Common.{◌≡◌, ◌∙◌, refl, sym, ap, subst, inl, inr, ℕ, suc, Bool, true, false, List, [], ◌∷◌, ◌++◌, take, drop, take-append-drop, eqb-true, Option, Some, None, slice_get, Ok}
 use Rattle.std.specs.Prelude.{filter_map}
 use Rattle.std.specs.List.{AllByRecursion, list_all, list_any}
 use Rattle.std.specs.Option.{option_and_then, option_map_or}
 use Rattle.std.proofs.lemmas.Bool.{and_parts, or_cases, cases_Bool}
 use Rattle.rd_pending.specs.declared.calls.Outcome as table_outcome
 use Rattle.rd_pending.specs.declared.calls.Handle.{Handle}
+use Rattle.rd_pending.specs.declared.calls.Taken.{Taken}
 use Rattle.rd_pending.specs.declared.calls.Target.{Target}
 use Rattle.rd_pending.specs.History.{Call, accepted_in, outcome_in}
 use Rattle.rd_pending.specs.Outcomes.{Accepted}
+use Rattle.rd_pending.specs.Table as table
 use Rattle.rd_pending.specs.Table.{submit_refusal}
 use Rattle.rd_script.specs.declared.line.NumberedLine.{NumberedLine}
 use Rattle.rd_script.specs.declared.outcome.Outcome.{Outcome}
@@ -19,10 +21,10 @@ use Rattle.rd_world.specs.Events.{target_of}
 use Rattle.rd_world.specs.Host.{HostSide}
 use Rattle.rd_world.specs.Hearing.{given_handle, holding_after, reported_outcome}
 use Rattle.rd_world.specs.HostDeeds.{side_of}
-use Rattle.rd_world.specs.Lines.{AskedEnds, IsAccepted, IsDue, LineEnds, LinesEnd, SubmitsNothing, Waits, given_at, is_submission_of, outcome_at, submitted, waits_after}
+use Rattle.rd_world.specs.Lines.{AskedEnds, IsAccepted, IsDue, IsHandedOut, LineEnds, LinesEnd, SubmitsNothing, Waits, given_at, is_submission_of, outcome_at, submitted, waits_after}
 use Rattle.rd_world.specs.Recording.{client_id}
 use Rattle.rd_world.specs.Run.{asked_by}
-use Rattle.rd_world.specs.Talk.{Deed, client_wrote, completes, client_writes, host_begins, host_ends, host_read, host_reads, host_writes, host_wrote, is_open_at, journal, on, read_by_host, stored_by, stores, submits, written_by_client, written_by_host}
+use Rattle.rd_world.specs.Talk.{Deed, client_wrote, completes, client_writes, host_begins, host_ends, host_read, host_reads, host_writes, host_wrote, is_open_at, journal, on, read_by_host, stored_by, stores, submits, takes, written_by_client, written_by_host}
 use Rattle.rd_world.specs.World.{ApplicationState, Asked}
 use Rattle.rd_world.proofs.TestedDeeds.{along, along_is}
 use Rattle.rd_world.proofs.TestedTelling.{among, strange}
@@ -172,19 +174,31 @@ given_of_calls count o calls = option_and_then (λ (a : Accepted). given_handle 
 pub given_along : (deeds : List Deed) (count : ℕ) (o : table_outcome.Outcome) → given_at deeds count o ≡ given_of_calls count o (along client_id deeds).1
 given_along deeds count o = ap (λ (made : HostSide × List Call). given_of_calls count o made.1) (sym (along_is client_id deeds))
 
+-- it was handed out by the oldest of so many of the newest deeds
+pub handed_by : (number since : ℕ) (given : Taken) (deeds : List Deed) → drop since deeds ≡ takes number ∷ drop (suc since) deeds
+    → (table.take (side_of client_id (drop (suc since) deeds)).table number).1 ≡ Ok given → IsHandedOut number given.outcome deeds
+handed_by number since given deeds at gives = record {
+  later = take since deeds;
+  before = drop (suc since) deeds;
+  taken = sym (take-append-drop since deeds) ∙ ap (λ (older : List Deed). take since deeds ++ older) at;
+  given = given;
+  gives = gives;
+  came_is = refl;
+}
+
 -- ---- a line whose request is accepted
 
 module _ (devices : List (ℕ × Declared)) (deeds : List Deed) (a : ℕ) where
-  pub line_accepted : (holds next : ApplicationState) (x : Waits) (xs : List Waits) (o : Outcome) (os : List Outcome) (known : List Deed → Type 0) (from before after : List Deed) (named : Target) (count : ℕ) (came : table_outcome.Outcome)
-      → SubmitsNothing a before from → known before → IsDue devices x.acts before → target_of holds x.asked ≡ Some named → submit_refusal (side_of client_id before).table named ≡ None
+  pub line_accepted : (holds next : ApplicationState) (x : Waits) (xs : List Waits) (o : Outcome) (os : List Outcome) (received : List Deed → Type 0) (from before after : List Deed) (named : Target) (count : ℕ) (came : table_outcome.Outcome)
+      → SubmitsNothing a before from → received before → IsDue devices x.acts before → target_of holds x.asked ≡ Some named → submit_refusal (side_of client_id before).table named ≡ None
       → ((side_of client_id before).table).count ≡ count → deeds ≡ after ++ submits a named (x.asked).op ∷ before → outcome_at deeds count ≡ Some came → o ≡ reported_outcome came
       → holding_after holds x.asked (given_at deeds count came) ≡ next
-      → LinesEnd devices deeds a next xs os (λ later. outcome_at later count ≡ Some came) (submits a named (x.asked).op ∷ before)
-      → LinesEnd devices deeds a holds (x ∷ xs) (o ∷ os) known from
-  line_accepted holds next x xs o os known from before after named count came quiet is_known due targets unrefused counts parts comes is holds_next on =
-      let goes : ApplicationState → (List Deed → Type 0) → List Deed → Type 0 = λ holding known after. LinesEnd devices deeds a holding xs os known after in
+      → LinesEnd devices deeds a next xs os (IsHandedOut (suc count) came) (submits a named (x.asked).op ∷ before)
+      → LinesEnd devices deeds a holds (x ∷ xs) (o ∷ os) received from
+  line_accepted holds next x xs o os received from before after named count came quiet has_received due targets unrefused counts parts comes is holds_next on =
+      let goes : ApplicationState → (List Deed → Type 0) → List Deed → Type 0 = λ holding received after. LinesEnd devices deeds a holding xs os received after in
       let accepted : IsAccepted devices deeds a holds x.asked o goes before named count =
-      (after, parts, came, comes, is, subst (λ (h : ApplicationState). LinesEnd devices deeds a h xs os (λ later. outcome_at later count ≡ Some came) (submits a named (x.asked).op ∷ before)) (sym holds_next) on) in
+      (after, parts, came, comes, is, subst (λ (h : ApplicationState). LinesEnd devices deeds a h xs os (IsHandedOut (suc count) came) (submits a named (x.asked).op ∷ before)) (sym holds_next) on) in
       let counted = subst (IsAccepted devices deeds a holds x.asked o goes before named) (sym counts) accepted in
       let asked = subst (AskedEnds devices deeds a holds x.asked o goes before named) (sym unrefused) counted in
-      (before, quiet, is_known, due, subst (LineEnds devices deeds a holds x.asked o goes before) (sym targets) asked)
+      (before, quiet, has_received, due, subst (LineEnds devices deeds a holds x.asked o goes before) (sym targets) asked)

@@ -1,5 +1,5 @@
 -- How the lines of applications come out: where each is issued, and what came of it.
-use Rattle.std.specs.Prelude.{◌≡◌, ℕ, ◌≤◌, ◌==◌, Bool, false, if◌then◌else◌, List, [], ◌∷◌, ◌++◌, filter, filter_map, length, take, Option, Some, None, slice_get}
+use Rattle.std.specs.Prelude.{◌≡◌, ℕ, suc, ◌≤◌, ◌==◌, Bool, false, if◌then◌else◌, List, [], ◌∷◌, ◌++◌, filter, filter_map, length, take, Option, Some, None, Ok, slice_get}
 use Rattle.std.specs.List.{list_any, range_with_len, flat_map}
 use Rattle.std.specs.Option.{option_and_then, option_map_or}
 use Rattle.rd_irp.specs.declared.op.Op.{Op}
@@ -7,9 +7,11 @@ use Rattle.rd_irp.specs.Written.{request_bytes}
 use Rattle.rd_pending.specs.declared.calls.Handle.{Handle}
 use Rattle.rd_pending.specs.declared.calls.Outcome as table_outcome
 use Rattle.rd_pending.specs.declared.calls.SubmitNo.{SubmitNo}
+use Rattle.rd_pending.specs.declared.calls.Taken.{Taken}
 use Rattle.rd_pending.specs.declared.calls.Target.{Target}
 use Rattle.rd_pending.specs.History.{outcome_in}
 use Rattle.rd_pending.specs.Outcomes.{Accepted}
+use Rattle.rd_pending.specs.Table as table
 use Rattle.rd_pending.specs.Table.{device_in, file_in, next_id, submit_refusal}
 use Rattle.rd_script.specs.declared.line.NumberedLine.{NumberedLine}
 use Rattle.rd_script.specs.declared.outcome.Outcome.{Outcome}
@@ -26,7 +28,7 @@ use Rattle.rd_world.specs.HostDeeds.{calls_of, side_of}
 use Rattle.rd_world.specs.Joining.{accepted}
 use Rattle.rd_world.specs.Recording.{client_id}
 use Rattle.rd_world.specs.Run.{asked_by}
-use Rattle.rd_world.specs.Talk.{Deed, EndsWith, client_wrote, has_ended, host_begins, host_read, host_wrote, is_open_at, is_request, on, submits}
+use Rattle.rd_world.specs.Talk.{Deed, EndsWith, client_wrote, has_ended, host_begins, host_read, host_wrote, is_open_at, is_request, on, submits, takes}
 use Rattle.rd_world.specs.World.{ApplicationState, Asked, new_application}
 
 -- ---- requests
@@ -49,6 +51,15 @@ abbrev pub given_at : List Deed → ℕ → table_outcome.Outcome → Option Han
 given_at deeds count o =
     option_and_then (λ (a : Accepted). given_handle (record { device = a.device; life = a.life; outcome = o })) (slice_get (accepted client_id deeds) count)
 
+-- The outcome of the request with a number was handed out: one of these deeds is that its number was taken, and this is what the host's table gave for it.
+pub record IsHandedOut (number : ℕ) (came : table_outcome.Outcome) (deeds : List Deed) : Type 0 where
+  pub later : List Deed
+  pub before : List Deed
+  pub taken : deeds ≡ later ++ takes number ∷ before
+  pub given : Taken
+  pub gives : (table.take (side_of client_id before).table number).1 ≡ Ok given
+  pub came_is : given.outcome ≡ came
+
 -- ---- where a line is issued
 
 -- A line of an application: what it asks for, and how many acts the control lines before it come to.
@@ -69,7 +80,7 @@ pub record IsDue (devices : List (ℕ × Declared)) (acts : ℕ) (before : List 
 
 -- ---- how it ends
 
--- how what comes after goes on: with what the application's handles hold, and from which points on its next line may be issued
+-- how what comes after goes on: with what the application's handles hold, with what it receives first, and from a point on
 abbrev GoesOn : Type 1
 GoesOn = ApplicationState → (List Deed → Type 0) → List Deed → Type 0
 
@@ -78,11 +89,12 @@ module _ (devices : List (ℕ × Declared)) (deeds : List Deed) (a : ℕ) where
   abbrev pub IsRefused : ApplicationState → Asked → Outcome → GoesOn → List Deed → Outcome → Type 0
   IsRefused holds x o goes_on before why = (o ≡ why) × goes_on (holding_after holds x None) (λ later. Unit {0}) before
 
-  -- A line's request is accepted next, before which so many were accepted, and its outcome is what came of that.
+  -- A line's request is accepted next, before which so many were accepted, and its outcome is what came of that. What comes after goes on once that was
+  -- handed out for the request's number.
   abbrev pub IsAccepted : ApplicationState → Asked → Outcome → GoesOn → List Deed → Target → ℕ → Type 0
   IsAccepted holds x o goes_on before named count =
       (after : List Deed) × (deeds ≡ after ++ submits a named x.op ∷ before) × (came : table_outcome.Outcome) × (outcome_at deeds count ≡ Some came)
-      × (o ≡ reported_outcome came) × goes_on (holding_after holds x (given_at deeds count came)) (λ later. outcome_at later count ≡ Some came) (submits a named x.op ∷ before)
+      × (o ≡ reported_outcome came) × goes_on (holding_after holds x (given_at deeds count came)) (IsHandedOut (suc count) came) (submits a named x.op ∷ before)
 
   -- what a line asks for of what it names, which the host's table refuses or not
   abbrev pub AskedEnds : ApplicationState → Asked → Outcome → GoesOn → List Deed → Target → Option SubmitNo → Type 0
@@ -94,15 +106,15 @@ module _ (devices : List (ℕ × Declared)) (deeds : List Deed) (a : ℕ) where
   LineEnds holds x o goes_on before None = IsRefused holds x o goes_on before (outcome.Refused refusal.NoHandle)
   LineEnds holds x o goes_on before (Some named) = AskedEnds holds x o goes_on before named (submit_refusal (side_of client_id before).table named)
 
-  -- The lines of an application end so, one after the other, from a point on. A line is issued where it is due, and the outcome of the one before is
-  -- known.
+  -- The lines of an application end so, one after the other, from a point on. A line is issued where it is due, once the application has received the
+  -- outcome of the line before; and at the end it has received that of the last one.
   abbrev pub LinesEnd : ApplicationState → List Waits → List Outcome → (List Deed → Type 0) → List Deed → Type 0
-  LinesEnd holds [] [] IsKnown from = SubmitsNothing a deeds from
-  LinesEnd holds [] (o ∷ os) IsKnown from = ⊥
-  LinesEnd holds (x ∷ xs) [] IsKnown from = ⊥
-  LinesEnd holds (x ∷ xs) (o ∷ os) IsKnown from =
-      (before : List Deed) × SubmitsNothing a before from × IsKnown before × IsDue devices x.acts before
-      × LineEnds holds x.asked o (λ next known after. LinesEnd next xs os known after) before (target_of holds x.asked)
+  LinesEnd holds [] [] HasReceived from = SubmitsNothing a deeds from × HasReceived deeds
+  LinesEnd holds [] (o ∷ os) HasReceived from = ⊥
+  LinesEnd holds (x ∷ xs) [] HasReceived from = ⊥
+  LinesEnd holds (x ∷ xs) (o ∷ os) HasReceived from =
+      (before : List Deed) × SubmitsNothing a before from × HasReceived before × IsDue devices x.acts before
+      × LineEnds holds x.asked o (λ next received after. LinesEnd next xs os received after) before (target_of holds x.asked)
 
 -- the lines of an application, after what control lines come to
 abbrev pub waits_after : ℕ → Control → List NumberedLine → List Waits
@@ -128,8 +140,8 @@ submitted c [] = []
 submitted c (submits application named o ∷ before) = if is_open_at c before then message_of before named o ∷ submitted c before else submitted c before
 submitted c (deed ∷ before) = submitted c before
 
--- Each line of an application has its one outcome. The requests on a channel are those that were accepted there, in order, all of them where it didn't
--- end; and what the client wrote there is heard, all of it where it didn't end.
+-- Each line of an application has its one outcome, which was handed out where its request was accepted. The requests on a channel are those that were
+-- accepted there, in order, all of them where it didn't end; and what the client wrote there is heard, all of it where it didn't end.
 pub record HaveOutcomes (devices : List (ℕ × Declared)) (lines : List NumberedLine) (told : List ((ℕ × ℕ) × Outcome)) (deeds : List Deed) : Type 0 where
   pub outcomes : ℕ → List Outcome
   pub each : told ≡ flat_map (λ a. numbered_from a 1 (outcomes a)) (range_with_len 1 max_applications)

@@ -1,4 +1,4 @@
-use Rattle.rd_headline.proofs.WrongLemmas.{earlier_completion, lost_by_another, lost_though_heard, not_removed, other_file_read, other_reply, ran_again, sent_without_run}
+use Rattle.rd_headline.proofs.WrongLemmas.{earlier_completion, lost_by_another, lost_though_heard, never_taken, not_removed, one_outcome, other_file_read, other_reply, ran_again, sent_without_run, taken_once}
 use Rattle.rd_headline.proofs.laws.wrong_runs_are_refused.Goals as goal
 
 pub returns-clause-unrun : goal.returns-clause-unrun
@@ -17,7 +17,13 @@ pub returns-clause-no_outcome : goal.returns-clause-no_outcome
 returns-clause-no_outcome c devices deeds holds x from ends = ends
 
 pub returns-clause-two_outcomes : goal.returns-clause-two_outcomes
-returns-clause-two_outcomes c devices deeds holds o from ends = ends
+returns-clause-two_outcomes c devices deeds holds x o other from ends = one_outcome devices deeds holds x o other from ends
+
+pub returns-clause-never_taken : goal.returns-clause-never_taken
+returns-clause-never_taken c devices holds came from ends = never_taken came ends.1
+
+pub returns-clause-taken_twice : goal.returns-clause-taken_twice
+returns-clause-taken_twice c = taken_once
 
 pub returns-clause-earlier_completion : goal.returns-clause-earlier_completion
 returns-clause-earlier_completion c = earlier_completion
