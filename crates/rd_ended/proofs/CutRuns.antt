@@ -1,5 +1,5 @@
 -- What a run that stopped early wrote is a beginning of what the session of its lines comes to.
-use Rattle.std.proofs.Common.{◌≡◌, ◌∙◌, sym, ap, arith, ℕ, Bool, List, [], ◌++◌, take, drop, Some, Option, append_assoc}
+use Rattle.std.proofs.Common.{◌≡◌, ◌∙◌, sym, ap, ℕ, Bool, List, ◌++◌, take, drop, Some, Option, append_assoc}
 use Rattle.std.specs.Io.KnownBytes.{Appends}
 use Rattle.std.proofs.lemmas.List.{take-append-drop}
 use Rattle.rd_base.specs.declared.journal.Key.{Key}

@@ -1,7 +1,7 @@
 //! That runs end, and what comes of one that is cut off, as contracts of functions that do nothing.
 
 ghost use Rattle.std.specs.Io.KnownBytes.{Appends};
-ghost use Rattle.std.specs.Prelude.{◌≡◌, ℕ, [], Bool, List, Ok, Option, Some};
+ghost use Rattle.std.specs.Prelude.{◌≡◌, ℕ, Bool, List, Ok, Option, Some};
 ghost use Rattle.rd_base.specs.declared.journal.Key.{Key};
 ghost use Rattle.rd_orders.specs.Orders.{DeclaresWritable};
 ghost use Rattle.rd_runs.specs.Moves.{Reached};

@@ -1,15 +1,15 @@
 -- Lines that ended, one after the other, come out as they should.
-use Rattle.std.proofs.Common.{◌≡◌, ◌∙◌, refl, sym, ap, subst, ℕ, suc, Bool, true, false, List, [], ◌∷◌, ◌++◌, length, reverse, map, take, Some, None, Option, Ok, append_assoc, append-nil, arith}
+use Rattle.std.proofs.Common.{◌≡◌, ◌∙◌, refl, sym, ap, subst, ℕ, suc, List, [], ◌∷◌, ◌++◌, length, reverse, take, Some, None, Option, Ok, append_assoc}
 use Rattle.std.specs.Prelude.{slice_get}
 use Rattle.std.proofs.lemmas.List.{reverse-append}
-use Rattle.std.specs.Option.{option_and_then, option_map_or}
+use Rattle.std.specs.Option.{option_and_then}
 use Rattle.rd_pending.specs.declared.calls.Handle.{Handle}
 use Rattle.rd_pending.specs.declared.calls.Outcome as table_outcome
 use Rattle.rd_pending.specs.declared.calls.SubmitNo.{SubmitNo}
 use Rattle.rd_pending.specs.declared.calls.Taken.{Taken}
 use Rattle.rd_pending.specs.declared.calls.Target.{Target}
 use Rattle.rd_pending.specs.History as call
-use Rattle.rd_pending.specs.History.{Call, CameTo, Holds, after, accepted_in, outcome_in}
+use Rattle.rd_pending.specs.History.{Call, Holds, after, accepted_in, outcome_in}
 use Rattle.rd_pending.specs.Outcomes.{Accepted}
 use Rattle.rd_pending.specs.Table as table
 use Rattle.rd_pending.specs.Table.{submit_refusal}
@@ -18,16 +18,16 @@ use Rattle.rd_script.specs.declared.outcome.Outcome.{Outcome}
 use Rattle.rd_script.specs.declared.outcome.Outcome.TheVariants as outcome
 use Rattle.rd_script.specs.declared.outcome.Refusal.TheVariants as refusal
 use Rattle.rd_world.specs.Devices.{Declared}
-use Rattle.rd_world.specs.Events.{refusal_of, target_of}
-use Rattle.rd_world.specs.Hearing.{file_given, given_handle, holding_after, reported_outcome}
+use Rattle.rd_world.specs.Events.{target_of}
+use Rattle.rd_world.specs.Hearing.{given_handle, holding_after}
 use Rattle.rd_world.specs.HostDeeds.{calls_of, side_of}
 use Rattle.rd_world.specs.Joining.{accepted}
-use Rattle.rd_world.specs.Lines.{AskedEnds, IsAccepted, IsDue, IsHandedOut, LineEnds, LinesEnd, SubmitsNothing, Waits, given_at, outcome_at}
+use Rattle.rd_world.specs.Lines.{AskedEnds, IsHandedOut, LineEnds, LinesEnd, Waits, given_at, outcome_at}
 use Rattle.rd_world.specs.Recording.{client_id}
 use Rattle.rd_world.specs.Talk.{Deed, EndsWith, submits, takes}
 use Rattle.rd_world.specs.World.{ApplicationState, new_application}
 use Rattle.rd_world.proofs.Calls.{Does, calls_hold, calls_since, table_of}
-use Rattle.rd_outcomes.specs.Trail.{Chain, EndsAsked, EndsOf, HandedAt, IsEnded, IsKnownAt, IsPending, Stage, count_of, first_stage}
+use Rattle.rd_outcomes.specs.Trail.{Chain, EndsAsked, EndsOf, HandedAt, IsEnded, IsKnownAt, Stage, count_of}
 
 -- ---- deeds grow
 

@@ -1,25 +1,24 @@
 -- Where a run ends the lines of each application have come out.
-use Rattle.std.proofs.Common.{◌≡◌, ◌≢◌, ◌⊎◌, ◌∙◌, refl, sym, ap, subst, inl, inr, ℕ, zero, suc, ◌+◌, ◌<◌, ◌≤◌, ◌==◌, ◌&&◌, Bool, true, false, cond, not, List, [], ◌∷◌, ◌++◌, length, reverse, map, filter_map, Some, None, Option, arith, append_assoc, append-nil, length-append, ne_eqb, eq-eqb, eqb-true}
-use Rattle.std.specs.Prelude.{fold, if◌then◌else◌, is_none, nat_lt, slice_get}
+use Rattle.std.proofs.Common.{◌≡◌, ◌≢◌, ◌⊎◌, ◌∙◌, refl, sym, ap, subst, inl, inr, ℕ, zero, suc, ◌+◌, ◌<◌, ◌≤◌, ◌==◌, ◌&&◌, Bool, true, false, cond, not, List, [], ◌∷◌, ◌++◌, length, reverse, map, filter_map, Some, None, Option, arith, append_assoc, append-nil, length-append, ne_eqb, eq-eqb}
+use Rattle.std.specs.Prelude.{fold, is_none, nat_lt, slice_get}
 use Rattle.std.specs.List.{AllByRecursion, cons_option, flat_map}
 use Rattle.std.specs.Map.{lookup}
 use Rattle.std.specs.Ordering.{nat_cmp}
-use Rattle.std.specs.BTreeMap.{insert_entry, is_at}
+use Rattle.std.specs.BTreeMap.{is_at}
 use Rattle.std.specs.Option.{IfSome, option_and_then, option_map_or, unwrap_or}
 use Rattle.std.proofs.lemmas.Bool.{cases_eq}
 use Rattle.std.proofs.lemmas.Bool.Decides.{nat_tests}
 use Rattle.std.proofs.lemmas.List.{length-reverse, reverse-reverse}
 use Rattle.std.proofs.lemmas.Map.Keys.{sorted_from_strictly_increasing}
 use Rattle.rd_base.specs.declared.journal.Key.{Key}
-use Rattle.rd_controls.proofs.Along.{Keeps, Leads, ids_of, runs_along}
+use Rattle.rd_controls.proofs.Along.{Keeps, ids_of, runs_along}
 use Rattle.rd_controls.proofs.Leading.{asked_controls_none}
 use Rattle.rd_controls.proofs.Numbers.{Rise, numbers}
 use Rattle.rd_controls.proofs.Walking.{IsOpening, opening_rounds_keep}
 use Rattle.rd_controls.specs.Controls.{AreOrderedLines}
-use Rattle.rd_drive.proofs.AllLemmas.{all_append}
 use Rattle.rd_journals.proofs.ChannelLemmas.{all_refreshed, begun_on}
 use Rattle.rd_pending.proofs.MapLemmas.{beside, inserted}
-use Rattle.rd_runs.specs.Moves.{MayPass, Reached, ReachedWithin, event_weight, happens}
+use Rattle.rd_runs.specs.Moves.{ReachedWithin}
 use Rattle.rd_runs.specs.Premises.{RunPremises}
 use Rattle.rd_runs.proofs.BeginningLemmas.{Unset, begins_as}
 use Rattle.rd_runs.proofs.Parts.{IsBehind, IsBehindWithin, MayBe, Part, all_take_keeps, begins, client_all_keeps, client_gets, client_send_keeps, done, host_gets, host_handling_keeps, host_send_keeps, is_issue, one_part, part_weight, within_behind}
@@ -35,9 +34,9 @@ use Rattle.rd_world.specs.Events.{Event, act, is_enabled, is_read, may_issue}
 use Rattle.rd_world.specs.Lines.{IsDue, LinesEnd, Waits, last_begun, waits_after, waits_of}
 use Rattle.rd_world.specs.Opening.{bare_lines}
 use Rattle.rd_world.specs.Run.{event as next_event}
-use Rattle.rd_world.specs.Run.{Most, NextStep, applications_of, asked_by, asking, choices, connects_on, declared_devices, drawing, host_reads_all, idles, is_quiet, queueing, rounds, run_of, where_true, world_of}
-use Rattle.rd_world.specs.Talk.{Deed, Has, on}
-use Rattle.rd_world.specs.World.{ApplicationState, Asked, Kept, WorldState, application_at, having_read, most_messages, new_application}
+use Rattle.rd_world.specs.Run.{Most, NextStep, applications_of, asked_by, asking, choices, connects_on, declared_devices, drawing, idles, is_quiet, queueing, rounds, run_of, where_true, world_of}
+use Rattle.rd_world.specs.Talk.{Deed, on}
+use Rattle.rd_world.specs.World.{ApplicationState, Asked, Kept, WorldState, application_at, most_messages, new_application}
 use Rattle.rd_world.specs.Hearing.{host_handles}
 use Rattle.rd_outcomes.specs.Opened.{ChannelsOpen}
 use Rattle.rd_outcomes.specs.Trail.{IsTrailed, StandsWith, first_stage}

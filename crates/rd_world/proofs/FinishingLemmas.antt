@@ -142,10 +142,10 @@ countable_more old new a outcomes before all added =
 
 -- ---- journals and documents
 
-abbrev Stored : Type 0
+abbrev pub Stored : Type 0
 Stored = ℕ × StationState SessionDevice
 
-abbrev journal_under : Stored → ℕ × List Item
+abbrev pub journal_under : Stored → ℕ × List Item
 journal_under e = let s = e.1 in (e.0, s.journal)
 
 -- The journals of the first stations are in the books, and their documents were told; these stations are left, whose ids stand from a place on.

@@ -34,7 +34,7 @@ use Rattle.rd_world.specs.Report.{outcomes_of}
 use Rattle.rd_world.specs.Run.{WorldRun, declared_devices, world_of}
 use Rattle.rd_world.specs.Talk.{Deed, EachAfter, Has, answered, asked, client_read, client_wrote, completes, has_ended, host_read, host_wrote, is_request, journal, open_channel, request_at, stores}
 use Rattle.rd_world.specs.Told.{CompletesWith, IsHeeded, Replies}
-use Rattle.rd_world.specs.World.{WorldState, journals_in, station_at}
+use Rattle.rd_world.specs.World.{WorldState, journals_in}
 
 -- ---- the journals
 
