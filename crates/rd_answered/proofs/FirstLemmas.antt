@@ -22,7 +22,7 @@ use Rattle.rd_world.specs.Opening.{IsOpenable, bare_lines}
 use Rattle.rd_world.specs.Run.{declared_devices, station_of, world_of}
 use Rattle.rd_world.specs.declared.device.SessionDevice.{SessionDevice}
 use Rattle.rd_answered.proofs.PartLemmas.{IsGood}
-use Rattle.rd_answered.specs.Refusing.{AreLive, AreSaying, DeclareWritable, DeclaresWritable, HasRoomToAnnounce}
+use Rattle.rd_answered.specs.Refusing.{AreLive, AreSaying, DeclareInRoom, DeclaresInRoom, HasRoomToAnnounce}
 
 -- ---- the numbers of what is declared
 
@@ -49,8 +49,8 @@ held_writable device first (e ∷ es) all = (one (e.0 == device), held_writable 
     one true = all.0
     one false = all.0
 
-declaring_writable : (es : List (ℕ × Declared)) (l : Line) → DeclaresWritable l → AreWritable es → AreWritable (declaring es l)
-unfolding declaring DeclaresWritable
+declaring_writable : (es : List (ℕ × Declared)) (l : Line) → DeclaresInRoom l → AreWritable es → AreWritable (declaring es l)
+unfolding declaring DeclaresInRoom
 declaring_writable es (line.Drive device name) few all = inserted_writable device _ es (lit< tt, few) all
 declaring_writable es (line.DriveFold device name) few all = inserted_writable device _ es (lit< tt, few) all
 declaring_writable es (line.Printer device name driver printer) few all = inserted_writable device _ es (lit< tt, few) all
@@ -63,7 +63,7 @@ furnishing_writable es (line.File device path bytes) all = held_writable device 
 furnishing_writable es (line.Fill device path len byte) all = held_writable device (path, Some (replicate len byte)) es all
 furnishing_writable es _ all = all
 
-all_declared : (ls : List NumberedLine) (es : List (ℕ × Declared)) → DeclareWritable ls → AreWritable es → AreWritable (fold declaring es (bare_lines ls))
+all_declared : (ls : List NumberedLine) (es : List (ℕ × Declared)) → DeclareInRoom ls → AreWritable es → AreWritable (fold declaring es (bare_lines ls))
 all_declared [] es few all = all
 all_declared (l ∷ ls) es few all = all_declared ls (declaring es l.line) few.1 (declaring_writable es l.line few.0 all)
 
@@ -96,7 +96,7 @@ first_stationed (e ∷ es) all d has = by ((e.1).id == d) refl has (is_at (nat_c
         absurd (let yes : is_at (nat_cmp d) e.0 ≡ true = rw (equal_is d e.0 (sym same)) refl in cc (yes, at))
     by false is has false at later = later has
 
-pub begins_good : (lines : List NumberedLine) → RunPremises lines → DeclareWritable lines → IsGood (world_of lines)
+pub begins_good : (lines : List NumberedLine) → RunPremises lines → DeclareInRoom lines → IsGood (world_of lines)
 begins_good lines premises few =
     let ls : List Line = bare_lines lines in
     begins_as lines (λ (u : Unset). AreSaying u.client u.stations u.channels ((u.side).table).channel u.deeds × AreLive u.client u.stations ((u.side).table).channel) (

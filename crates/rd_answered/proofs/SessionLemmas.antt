@@ -30,7 +30,7 @@ use Rattle.rd_world.specs.Session.{replies_in}
 use Rattle.rd_world.specs.Talk.{EachAfter}
 use Rattle.rd_world.specs.Told.{Answers, AreAnswered}
 use Rattle.rd_world.specs.World.{WorldState}
-use Rattle.rd_answered.specs.Refusing.{DeclareWritable}
+use Rattle.rd_answered.specs.Refusing.{DeclareInRoom}
 use Rattle.rd_answered.proofs.FirstLemmas.{begins_good}
 use Rattle.rd_answered.proofs.PartLemmas.{IsGood, behind_good}
 use Rattle.rd_answered.proofs.WritableLemmas.{scripts_writable}
@@ -51,7 +51,7 @@ module _ (lines : List NumberedLine) (starves : Key → Bool) (premises : RunPre
       let fit = bounded_fit lines premises.bounded in
       joined_behind lines starves fit premises w.deeds w (reached_behind lines starves w reached) (answers_refused refuses) (unworn lines starves premises w reached few fit)
 
-  module _ (writable : DeclareWritable lines) where
+  module _ (writable : DeclareInRoom lines) where
     -- what was said of each device is what the client's marks say, and a device that the host was told of last has a live station
     pub reached_good : IsGood w
     reached_good =

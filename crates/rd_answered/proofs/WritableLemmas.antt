@@ -30,41 +30,41 @@ use Rattle.rd_script.specs.declared.keyword.Mode.{Mode}
 use Rattle.rd_script.specs.declared.line.NumberedLine.{NumberedLine}
 use Rattle.rd_script.specs.declared.script.Script.{Script}
 use Rattle.rd_drive.proofs.AllLemmas.{all_append}
-use Rattle.rd_answered.specs.Refusing.{DeclareWritable, DeclaresWritable}
+use Rattle.rd_answered.specs.Refusing.{DeclareInRoom, DeclaresInRoom}
 
 module _ (n : ℕ) (said : Said) where
   abbrev P : Line → Type 0
-  P = DeclaresWritable
+  P = DeclaresInRoom
 
   -- ---- settings
 
   seed_row_good : Gives n P seed_row
-  unfolding seed_row DeclaresWritable
+  unfolding seed_row DeclaresInRoom
   seed_row_good =
       gives_after n P number64_word _ (λ number. gives_done n P (line.Seed number) tt)
 
   clock_row_good : Gives n P clock_row
-  unfolding clock_row DeclaresWritable
+  unfolding clock_row DeclaresInRoom
   clock_row_good =
       gives_after n P number64_word _ (λ moment. gives_done n P (line.Clock moment) tt)
 
   piece_row_good : Gives n P piece_row
-  unfolding piece_row DeclaresWritable
+  unfolding piece_row DeclaresInRoom
   piece_row_good =
       gives_then n _ P (number_word 1 65536) _ (gives_between n 1 65536) (λ most most_is. gives_done n P (line.Piece most) tt)
 
   workers_row_good : Gives n P workers_row
-  unfolding workers_row DeclaresWritable
+  unfolding workers_row DeclaresInRoom
   workers_row_good =
       gives_then n _ P (number_word 1 16) _ (gives_between n 1 16) (λ count count_is. gives_done n P (line.Workers count) tt)
 
   channels_row_good : Gives n P channels_row
-  unfolding channels_row DeclaresWritable
+  unfolding channels_row DeclaresInRoom
   channels_row_good =
       gives_after n P (number_word 1 64) _ (λ count. gives_done n P (line.Channels count) tt)
 
   devices_row_good : Gives n P devices_row
-  unfolding devices_row DeclaresWritable
+  unfolding devices_row DeclaresInRoom
   devices_row_good =
       gives_after n P (number_word 0 256) _ (λ count. gives_done n P (line.Devices count) tt)
 
@@ -76,37 +76,37 @@ module _ (n : ℕ) (said : Said) where
       (λ v. gives_done n (λ (device : ℕ). device < 2 ^ 32) device (omega (arith, is.1)))))
 
   drive_row_good : Gives n P (drive_row said)
-  unfolding drive_row DeclaresWritable
+  unfolding drive_row DeclaresInRoom
   drive_row_good =
       gives_then n _ P (new_device said) _ gives_new (λ device device_is. gives_then n _ P name_word _ (gives_name n) (λ name name_is. gives_done n P (line.Drive device name) device_is))
 
   drivefold_row_good : Gives n P (drivefold_row said)
-  unfolding drivefold_row DeclaresWritable
+  unfolding drivefold_row DeclaresInRoom
   drivefold_row_good =
       gives_then n _ P (new_device said) _ gives_new (λ device device_is. gives_then n _ P name_word _ (gives_name n) (λ name name_is. gives_done n P (line.DriveFold device name) device_is))
 
   real_row_good : Gives n P (real_row said)
-  unfolding real_row DeclaresWritable
+  unfolding real_row DeclaresInRoom
   real_row_good =
       gives_then n _ P (new_device said) _ gives_new (λ device device_is. gives_after n P name_word _ (λ name. gives_after n P place_word _ (λ place. gives_done n P (line.Real device name place) tt)))
 
   folder_row_good : Gives n P (folder_row said)
-  unfolding folder_row DeclaresWritable
+  unfolding folder_row DeclaresInRoom
   folder_row_good =
       gives_after n P (drive_id said) _ (λ device. gives_after n P (new_path said device) _ (λ path. gives_done n P (line.Folder device path) tt))
 
   file_row_good : Gives n P (file_row said)
-  unfolding file_row DeclaresWritable
+  unfolding file_row DeclaresInRoom
   file_row_good =
       gives_after n P (drive_id said) _ (λ device. gives_after n P (new_path said device) _ (λ path. gives_then n _ P hex_word _ (gives_hex n) (λ bytes bytes_is. gives_done n P (line.File device path bytes) tt)))
 
   fill_row_good : Gives n P (fill_row said)
-  unfolding fill_row DeclaresWritable
+  unfolding fill_row DeclaresInRoom
   fill_row_good =
       gives_after n P (drive_id said) _ (λ device. gives_after n P (new_path said device) _ (λ path. gives_after n P fill_length _ (λ len. gives_after n P (number_word 0 255) _ (λ byte. gives_done n P (line.Fill device path len byte) tt))))
 
   printer_row_good : Gives n P (printer_row said)
-  unfolding printer_row DeclaresWritable
+  unfolding printer_row DeclaresInRoom
   printer_row_good =
       gives_then n _ P (new_device said) _ gives_new (λ device device_is. gives_then n _ P name_word _ (gives_name n) (λ name name_is. gives_then n _ P printer_name _ (gives_few n why.Name max_printer_name) (λ driver driver_is. gives_then n _ P printer_name _ (gives_few n why.Name max_printer_name)
       (λ printer printer_is. gives_done n P (line.Printer device name driver printer) device_is))))
@@ -114,17 +114,17 @@ module _ (n : ℕ) (said : Said) where
   -- ---- control lines
 
   at_remove_good : (channel requests : ℕ) → Gives n P (at_remove said channel requests)
-  unfolding at_remove DeclaresWritable
+  unfolding at_remove DeclaresInRoom
   at_remove_good channel requests =
       gives_after n P (known_device said) _ (λ device. gives_done n P (line.AtRemove channel requests device) tt)
 
   at_add_good : (channel requests : ℕ) → Gives n P (at_add said channel requests)
-  unfolding at_add DeclaresWritable
+  unfolding at_add DeclaresInRoom
   at_add_good channel requests =
       gives_after n P (known_device said) _ (λ device. gives_done n P (line.AtAdd channel requests device) tt)
 
   act_row_good : (channel requests : ℕ) (a : Act) → Gives n P (act_row said channel requests a)
-  unfolding act_row DeclaresWritable
+  unfolding act_row DeclaresInRoom
   act_row_good channel requests act.Remove = at_remove_good channel requests
   act_row_good channel requests act.Add = at_add_good channel requests
   act_row_good channel requests act.Drop = gives_done n P (line.AtDrop channel requests) tt
@@ -134,39 +134,39 @@ module _ (n : ℕ) (said : Said) where
   at_row_good = gives_after n P (moment_row said) _ (λ moment. gives_after n P (entry_word acts) _ (λ a. act_row_good moment.0 moment.1 a))
 
   remove_row_good : Gives n P (remove_row said)
-  unfolding remove_row DeclaresWritable
+  unfolding remove_row DeclaresInRoom
   remove_row_good =
       gives_after n P (known_device said) _ (λ device. gives_done n P (line.Remove device) tt)
 
   add_row_good : Gives n P (add_row said)
-  unfolding add_row DeclaresWritable
+  unfolding add_row DeclaresInRoom
   add_row_good =
       gives_after n P (known_device said) _ (λ device. gives_done n P (line.Add device) tt)
 
   do_row_good : Gives n P (do_row said)
-  unfolding do_row DeclaresWritable
+  unfolding do_row DeclaresInRoom
   do_row_good =
       gives_after n P (errand_row said) _ (λ e. gives_done n P (line.Do e) tt)
 
   cache_add_row_good : Gives n P cache_add_row
-  unfolding cache_add_row DeclaresWritable
+  unfolding cache_add_row DeclaresInRoom
   cache_add_row_good =
       gives_then n _ P name_word _ (gives_name n) (λ port port_is. gives_then n _ P printer_name _ (gives_few n why.Name max_printer_name) (λ driver driver_is. gives_then n _ P printer_name _ (gives_few n why.Name max_printer_name)
       (λ printer printer_is. gives_then n _ P (few_bytes max_cached) _ (gives_few_bytes n max_cached) (λ bytes bytes_is. gives_done n P (line.CacheAdd port driver printer bytes) tt))))
 
   cache_update_row_good : Gives n P cache_update_row
-  unfolding cache_update_row DeclaresWritable
+  unfolding cache_update_row DeclaresInRoom
   cache_update_row_good =
       gives_then n _ P printer_name _ (gives_few n why.Name max_printer_name) (λ printer printer_is. gives_then n _ P (few_bytes max_cached) _ (gives_few_bytes n max_cached)
       (λ bytes bytes_is. gives_done n P (line.CacheUpdate printer bytes) tt))
 
   cache_delete_row_good : Gives n P cache_delete_row
-  unfolding cache_delete_row DeclaresWritable
+  unfolding cache_delete_row DeclaresInRoom
   cache_delete_row_good =
       gives_then n _ P printer_name _ (gives_few n why.Name max_printer_name) (λ printer printer_is. gives_done n P (line.CacheDelete printer) tt)
 
   cache_rename_row_good : Gives n P cache_rename_row
-  unfolding cache_rename_row DeclaresWritable
+  unfolding cache_rename_row DeclaresInRoom
   cache_rename_row_good =
       gives_then n _ P printer_name _ (gives_few n why.Name max_printer_name) (λ old old_is. gives_then n _ P printer_name _ (gives_few n why.Name max_printer_name)
       (λ new new_is. gives_done n P (line.CacheRename old new) tt))
@@ -185,12 +185,12 @@ module _ (n : ℕ) (said : Said) where
   -- ---- lines of applications
 
   open_row_good : (application : ℕ) (handle : List ℕ) → Gives n P (open_row said application handle)
-  unfolding open_row DeclaresWritable
+  unfolding open_row DeclaresInRoom
   open_row_good application handle =
       gives_after n P (known_device said) _ (λ device. gives_after n P path_word _ (λ path. gives_done n P (line.Open application handle device path) tt))
 
   create_numbers_good : (application : ℕ) (handle : List ℕ) (device : ℕ) (path : List ℕ) → Gives n P (create_numbers application handle device path)
-  unfolding create_numbers DeclaresWritable
+  unfolding create_numbers DeclaresInRoom
   create_numbers_good application handle device path =
       gives_after n P number32_word _ (λ disposition. gives_after n P number32_word _ (λ access. gives_after n P number32_word _ (λ share. gives_after n P number32_word _ (λ options. gives_after n P number32_word _ (λ attributes. gives_done n P (line.Create application handle device path disposition access share options attributes) tt)))))
 
@@ -200,57 +200,57 @@ module _ (n : ℕ) (said : Said) where
       gives_after n P (known_device said) _ (λ device. gives_after n P path_word _ (λ path. create_numbers_good application handle device path))
 
   read_row_good : (application : ℕ) (handle : List ℕ) → Gives n P (read_row application handle)
-  unfolding read_row DeclaresWritable
+  unfolding read_row DeclaresInRoom
   read_row_good application handle =
       gives_after n P number64_word _ (λ offset. gives_after n P number32_word _ (λ len. gives_done n P (line.Read application handle offset len) tt))
 
   write_row_good : (application : ℕ) (handle : List ℕ) → Gives n P (write_row application handle)
-  unfolding write_row DeclaresWritable
+  unfolding write_row DeclaresInRoom
   write_row_good application handle =
       gives_after n P number64_word _ (λ offset. gives_after n P buffer_word _ (λ bytes. gives_done n P (line.Write application handle offset bytes) tt))
 
   query_row_good : (application : ℕ) (handle : List ℕ) → Gives n P (query_row application handle)
-  unfolding query_row DeclaresWritable
+  unfolding query_row DeclaresInRoom
   query_row_good application handle =
       gives_after n P number32_word _ (λ class. gives_done n P (line.Query application handle class) tt)
 
   volume_row_good : (application : ℕ) (handle : List ℕ) → Gives n P (volume_row application handle)
-  unfolding volume_row DeclaresWritable
+  unfolding volume_row DeclaresInRoom
   volume_row_good application handle =
       gives_after n P number32_word _ (λ class. gives_done n P (line.Volume application handle class) tt)
 
   set_row_good : (application : ℕ) (handle : List ℕ) → Gives n P (set_row application handle)
-  unfolding set_row DeclaresWritable
+  unfolding set_row DeclaresInRoom
   set_row_good application handle =
       gives_after n P number32_word _ (λ class. gives_after n P buffer_word _ (λ bytes. gives_done n P (line.Set application handle class bytes) tt))
 
   setvolume_row_good : (application : ℕ) (handle : List ℕ) → Gives n P (setvolume_row application handle)
-  unfolding setvolume_row DeclaresWritable
+  unfolding setvolume_row DeclaresInRoom
   setvolume_row_good application handle =
       gives_after n P number32_word _ (λ class. gives_after n P buffer_word _ (λ bytes. gives_done n P (line.SetVolume application handle class bytes) tt))
 
   dir_row_good : (application : ℕ) (handle : List ℕ) → Gives n P (dir_row application handle)
-  unfolding dir_row DeclaresWritable
+  unfolding dir_row DeclaresInRoom
   dir_row_good application handle =
       gives_after n P number32_word _ (λ class. gives_after n P flag_word _ (λ initial. gives_after n P path_word _ (λ path. gives_done n P (line.Dir application handle class initial path) tt)))
 
   lock_row_good : (application : ℕ) (handle : List ℕ) → Gives n P (lock_row application handle)
-  unfolding lock_row DeclaresWritable
+  unfolding lock_row DeclaresInRoom
   lock_row_good application handle =
       gives_after n P number32_word _ (λ operation. gives_after n P flag_word _ (λ wait. gives_after n P (few_ranges max_ranges) _ (λ ranges. gives_done n P (line.Lock application handle operation wait ranges) tt)))
 
   control_row_good : (application : ℕ) (handle : List ℕ) → Gives n P (control_row application handle)
-  unfolding control_row DeclaresWritable
+  unfolding control_row DeclaresInRoom
   control_row_good application handle =
       gives_after n P number32_word _ (λ code. gives_after n P number32_word _ (λ output. gives_after n P buffer_word _ (λ bytes. gives_done n P (line.Control application handle code output bytes) tt)))
 
   notify_row_good : (application : ℕ) (handle : List ℕ) → Gives n P (notify_row application handle)
-  unfolding notify_row DeclaresWritable
+  unfolding notify_row DeclaresInRoom
   notify_row_good application handle =
       gives_after n P flag_word _ (λ tree. gives_after n P number32_word _ (λ filter. gives_done n P (line.Notify application handle tree filter) tt))
 
   verb_row_good : (application : ℕ) (handle : List ℕ) (v : Verb) → Gives n P (verb_row said application handle v)
-  unfolding verb_row DeclaresWritable
+  unfolding verb_row DeclaresInRoom
   verb_row_good application handle verb.Open = open_row_good application handle
   verb_row_good application handle verb.Create = create_row_good application handle
   verb_row_good application handle verb.Close = gives_done n P (line.Close application handle) tt
@@ -270,7 +270,7 @@ module _ (n : ℕ) (said : Said) where
   application_row_good = gives_after n P (number_word 1 max_applications) _ (λ application. gives_after n P (verb_word said) _ (λ v. gives_after n P handle_word _ (λ handle. verb_row_good application handle v)))
 
   keyword_row_good : (k : Keyword) → Gives n P (keyword_row said k)
-  unfolding keyword_row DeclaresWritable
+  unfolding keyword_row DeclaresInRoom
   keyword_row_good keyword.Seed = seed_row_good
   keyword_row_good keyword.Clock = clock_row_good
   keyword_row_good keyword.Piece = piece_row_good
@@ -325,14 +325,14 @@ line_found : (r : Result (Line × List (List ℕ)) LineWhy) (l : Line) → and_t
 line_found (Ok x) l is = (x.1, ap (λ (m : Line). Ok (m, x.1)) (ok_same x.0 l is))
 line_found (Err cause) l is = absurd cc
 
-line_declares : (said : Said) (text : List ℕ) (l : Line) → line_of said text ≡ Ok l → DeclaresWritable l
+line_declares : (said : Said) (text : List ℕ) (l : Line) → line_of said text ≡ Ok l → DeclaresInRoom l
 unfolding line_of
 line_declares said text l is =
     let found = line_found (met_words (line_row said (is_application text)) (words_of text)) l is in
     ((line_row_good (total (words_of text)) said (is_application text)).each (words_of text) l found.0 (all_short (words_of text)) found.1).0
 
 abbrev AllWritable : Reading → Type 0
-AllWritable r = AllByRecursion (λ (l : NumberedLine). DeclaresWritable l.line) r.lines
+AllWritable r = AllByRecursion (λ (l : NumberedLine). DeclaresInRoom l.line) r.lines
 
 one_read : (r new : Reading) (l : TextLine) → AllWritable r → step r l ≡ Ok new → AllWritable new
 unfolding step
@@ -345,7 +345,7 @@ one_read r new l known is = by (fits r l.size) (is_skipped l.text) (line_of r.sa
     by true false (Err cause) at is = absurd (cc is)
     by true false (Ok m) at is =
         let same : reading r l.size m ≡ new = cc is in
-        subst AllWritable same (all_append (λ (x : NumberedLine). DeclaresWritable x.line) r.lines (record { number = r.number + 1; line = m } ∷ []) known (line_declares r.said l.text m at, tt))
+        subst AllWritable same (all_append (λ (x : NumberedLine). DeclaresInRoom x.line) r.lines (record { number = r.number + 1; line = m } ∷ []) known (line_declares r.said l.text m at, tt))
 
 all_lines : (lines : List TextLine) (r new : Reading) → AllWritable r → read_all lines r ≡ Ok new → AllWritable new
 all_lines [] r new known is = let same : r ≡ new = cc is in subst AllWritable same known
@@ -356,11 +356,11 @@ all_lines (l ∷ lines) r new known is = by (step r l) refl is (λ x own. all_li
     by (Err bad) at is later = absurd (cc is)
 
 -- a script declares devices whose numbers have room in their fields
-pub scripts_writable : (m : Mode) (text : List ℕ) (script : Script) → script_of m text ≡ Ok script → DeclareWritable script.lines
+pub scripts_writable : (m : Mode) (text : List ℕ) (script : Script) → script_of m text ≡ Ok script → DeclareInRoom script.lines
 scripts_writable m text script is = by (read_all (lines_of text) (reading_at_start m)) refl is
   where
-    by : (r : Result Reading BadLine) → read_all (lines_of text) (reading_at_start m) ≡ r → script_read m r ≡ Ok script → DeclareWritable script.lines
+    by : (r : Result Reading BadLine) → read_all (lines_of text) (reading_at_start m) ≡ r → script_read m r ≡ Ok script → DeclareInRoom script.lines
     by (Ok last) at is =
         let same : last.lines ≡ script.lines = ap (λ (r : Result Script BadLine). (result_unwrap_or r script).lines) is in
-        subst (AllByRecursion (λ (l : NumberedLine). DeclaresWritable l.line)) same (all_lines (lines_of text) (reading_at_start m) last tt at)
+        subst (AllByRecursion (λ (l : NumberedLine). DeclaresInRoom l.line)) same (all_lines (lines_of text) (reading_at_start m) last tt at)
     by (Err bad) at is = absurd (cc is)

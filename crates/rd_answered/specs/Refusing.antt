@@ -21,15 +21,15 @@ use Rattle.rd_world.specs.declared.device.SessionDevice.{SessionDevice}
 -- ---- the devices of lines
 
 -- the number of a device that a line declares has room in its field
-unfoldable pub DeclaresWritable : Line → Type 0
-DeclaresWritable (line.Drive device name) = device < 2 ^ 32
-DeclaresWritable (line.DriveFold device name) = device < 2 ^ 32
-DeclaresWritable (line.Printer device name driver printer) = device < 2 ^ 32
-DeclaresWritable _ = Unit {0}
+unfoldable pub DeclaresInRoom : Line → Type 0
+DeclaresInRoom (line.Drive device name) = device < 2 ^ 32
+DeclaresInRoom (line.DriveFold device name) = device < 2 ^ 32
+DeclaresInRoom (line.Printer device name driver printer) = device < 2 ^ 32
+DeclaresInRoom _ = Unit {0}
 
 -- the same of each of these lines
-abbrev pub DeclareWritable : List NumberedLine → Type 0
-DeclareWritable lines = AllByRecursion (λ (l : NumberedLine). DeclaresWritable l.line) lines
+abbrev pub DeclareInRoom : List NumberedLine → Type 0
+DeclareInRoom lines = AllByRecursion (λ (l : NumberedLine). DeclaresInRoom l.line) lines
 
 -- the numbers of an announcement have room in their fields
 abbrev pub HasRoomToAnnounce : Announce → Type 0

@@ -4,7 +4,7 @@ use Rattle.std.specs.Prelude.{filter, slice_get}
 use Rattle.std.proofs.lemmas.Option.{slice_get_cases}
 use Rattle.rd_base.specs.declared.journal.Key.{Key}
 use Rattle.rd_answered.proofs.SessionLemmas.{reached_joined, reached_joins}
-use Rattle.rd_answered.specs.Refusing.{DeclareWritable}
+use Rattle.rd_answered.specs.Refusing.{DeclareInRoom}
 use Rattle.rd_orders.specs.Orders.{DeclaresWritable}
 use Rattle.rd_outcomes.proofs.AwaitedLemmas.{awaited_unknown}
 use Rattle.rd_pending.specs.Outcomes.{Accepted}
@@ -31,7 +31,7 @@ use Rattle.rd_world.proofs.Joined.{heard_is}
 use Rattle.rd_world.proofs.Written.{sound_side}
 use Rattle.rd_headline.proofs.HeardLemmas.{all_answered, all_asked, behind_heard, read_heard}
 
-module _ (lines : List NumberedLine) (starves : Key → Bool) (premises : RunPremises lines) (few : length lines ≤ 1000000) (declared : DeclareWritable lines) (writable : DeclaresWritable lines)
+module _ (lines : List NumberedLine) (starves : Key → Bool) (premises : RunPremises lines) (few : length lines ≤ 1000000) (declared : DeclareInRoom lines) (writable : DeclaresWritable lines)
     (w : WorldState) (reached : Reached lines starves w) (rests : choices w ≡ []) (kept : w.kept ≡ None)
     (completed : open_channel w.deeds ≡ Some w.channels → (d i k : ℕ) → Has k (asked w.channels d i w.deeds) → Has k (answered w.channels d i w.deeds)) where
   does : Does client_id w.deeds

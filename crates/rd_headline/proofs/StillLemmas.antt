@@ -12,7 +12,7 @@ use Rattle.rd_acted.proofs.EndedLemmas.{behind_over}
 use Rattle.rd_acted.proofs.OrderLemmas.{orders_read}
 use Rattle.rd_acted.proofs.RunLemmas.{all_noticed, all_told}
 use Rattle.rd_acted.specs.Acted.{AreReadWell, control_after, control_by_deeds, due_on, notices_due, without_idle}
-use Rattle.rd_answered.specs.Refusing.{DeclareWritable}
+use Rattle.rd_answered.specs.Refusing.{DeclareInRoom}
 use Rattle.rd_client.specs.Order.{is_client_ready}
 use Rattle.rd_controls.proofs.Leading.{rests_where_settled}
 use Rattle.rd_controls.proofs.Numbers.{picked_reverse}
@@ -77,7 +77,7 @@ settled_all ids (x ∷ ls) prefix c is = by (is_settle x.line) (settled_all ids 
 
 -- ---- at rest
 
-module _ (lines : List NumberedLine) (starves : Key → Bool) (premises : RunPremises lines) (few : length lines ≤ 1000000) (declared : DeclareWritable lines) (writable : DeclaresWritable lines)
+module _ (lines : List NumberedLine) (starves : Key → Bool) (premises : RunPremises lines) (few : length lines ≤ 1000000) (declared : DeclareInRoom lines) (writable : DeclaresWritable lines)
     (w : WorldState) (reached : Reached lines starves w) (rests : choices w ≡ []) (kept : w.kept ≡ None) where
   abbrev devices : List (ℕ × Declared)
   devices = declared_devices (bare_lines lines)
@@ -116,7 +116,7 @@ module _ (lines : List NumberedLine) (starves : Key → Bool) (premises : RunPre
 
 -- ---- where lines settle
 
-module _ (lines : List NumberedLine) (starves : Key → Bool) (premises : RunPremises lines) (few : length lines ≤ 1000000) (declared : DeclareWritable lines) (writable : DeclaresWritable lines)
+module _ (lines : List NumberedLine) (starves : Key → Bool) (premises : RunPremises lines) (few : length lines ≤ 1000000) (declared : DeclareInRoom lines) (writable : DeclaresWritable lines)
     (back : (w : WorldState) → Reached lines starves w → choices w ≡ [] → w.kept ≡ None) where
   abbrev all_devices : List (ℕ × Declared)
   all_devices = declared_devices (bare_lines lines)

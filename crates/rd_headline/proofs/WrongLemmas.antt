@@ -38,7 +38,7 @@ use Rattle.rd_world.specs.Run.{declared_devices, notice_of}
 use Rattle.rd_world.specs.Talk.{Deed, client_reads, host_begins, takes}
 use Rattle.rd_world.specs.Told.{Replies}
 use Rattle.rd_world.specs.World.{ApplicationState}
-use Rattle.rd_headline.specs.Wrong.{closed_bytes, done, earlier_accepted, first_key, head_of_both, knows_first, later_accepted, lost_untaken, other_file, ran_twice, refused, removing_lines, sent_unrun}
+use Rattle.rd_headline.specs.Wrong.{closed_bytes, earlier_accepted, first_key, head_of_both, knows_first, later_accepted, lost_untaken, other_file, ran_twice, removing_lines, replied_done, replied_refused, sent_unrun}
 
 pub sent_without_run : ¬ (EachEntry SendsFirst sent_unrun)
 sent_without_run each = none ((each (Came first_key ∷ []) (Sent first_key) [] refl).0)
@@ -51,16 +51,16 @@ pub ran_again : ¬ (EachEntry SettlesFirst ran_twice)
 ran_again each = All-head (λ (entry : Item). ¬ (Settles first_key entry)) (Ran first_key 0 false false) []
     (All-tail (λ (entry : Item). ¬ (Settles first_key entry)) (Came first_key) (Ran first_key 0 false false ∷ []) (each (Came first_key ∷ Ran first_key 0 false false ∷ []) (Ran first_key 0 false false) [] refl).1) refl
 
-pub other_reply : ¬ (HasReply ((first_key, done) ∷ []) first_key refused)
+pub other_reply : ¬ (HasReply ((first_key, replied_done) ∷ []) first_key replied_refused)
 other_reply has = none has.has
   where
-    none : ¬ (Contains {X = Key × Reply} ((first_key, done) ∷ []) (first_key, refused))
+    none : ¬ (Contains {X = Key × Reply} ((first_key, replied_done) ∷ []) (first_key, replied_refused))
     none (zero, below, is) =
         let status : 0 ≡ 3221225486 = ap (λ (e : Key × Reply). ((e.1).status).0) is in
         omega (arith, status)
     none (suc k, below, is) = omega (arith, below)
 
-pub other_file_read : (replies : Replies) → ¬ (IsOwnReply replies (client_reads 1 (request_bytes other_file) ∷ []) earlier_accepted done)
+pub other_file_read : (replies : Replies) → ¬ (IsOwnReply replies (client_reads 1 (request_bytes other_file) ∷ []) earlier_accepted replied_done)
 unfolding header_among component_field request_head header op_body close_body bytes8 bytes16 bytes32 bytes64
 other_file_read replies own =
     let read : Some other_file ≡ Some (request_of_accepted earlier_accepted) = own.read in
@@ -100,7 +100,7 @@ earlier_completion = refl
 pub lost_by_another : accepted_outcome [] earlier_accepted 0 (begins 1 ∷ removes 2 ∷ []) false ≡ None
 lost_by_another = refl
 
-pub lost_though_heard : accepted_outcome [] earlier_accepted 0 (begins 1 ∷ completes head_of_both closed_bytes ∷ removes 1 ∷ []) true ≡ Some (Done done)
+pub lost_though_heard : accepted_outcome [] earlier_accepted 0 (begins 1 ∷ completes head_of_both closed_bytes ∷ removes 1 ∷ []) true ≡ Some (Done replied_done)
 unfolding completion_body success_body
 lost_though_heard = refl
 

@@ -36,11 +36,11 @@ abbrev pub sent_unrun : List Item
 sent_unrun = Came first_key ∷ Sent first_key ∷ []
 
 -- two replies
-abbrev pub done : Reply
-done = record { status = status.success; body = body.Closed }
+abbrev pub replied_done : Reply
+replied_done = record { status = status.success; body = body.Closed }
 
-abbrev pub refused : Reply
-refused = record { status = status.no_such_device; body = body.Fault }
+abbrev pub replied_refused : Reply
+replied_refused = record { status = status.no_such_device; body = body.Fault }
 
 -- the second request has the first one's device and completion id: it was accepted after that was completed
 abbrev pub earlier_accepted : Accepted
@@ -66,7 +66,7 @@ lost_untaken = host_ends 1 ∷ submits 1 (target.Device 1) op.Close ∷ host_beg
 
 -- a host whose first request is done, which wasn't handed out yet
 abbrev pub knows_first : HostSide
-knows_first = record (new_side client_id) { table = record new_table { count = 1; untaken = (1, record { device = 1; life = 1; fate = known (Done done) }) ∷ [] } }
+knows_first = record (new_side client_id) { table = record new_table { count = 1; untaken = (1, record { device = 1; life = 1; fate = known (Done replied_done) }) ∷ [] } }
 
 -- a device is declared, and removed on the channel that begins before the lines
 abbrev pub removing_lines : List NumberedLine

@@ -4,7 +4,7 @@ ghost use Rattle.std.specs.Prelude.{◌≡◌, ◌≢◌, ℕ, ◌≤◌, Bool, 
 ghost use Rattle.rd_base.specs.History.{History};
 ghost use Rattle.rd_base.specs.declared.journal.Key.{Key};
 ghost use Rattle.rd_base.specs.Lawful.{EachEntry, SendsFirst, SettlesFirst};
-ghost use Rattle.rd_headline.specs.Wrong.{closed_bytes, done, earlier_accepted, first_key, head_of_both, knows_first, later_accepted, lost_untaken, other_file, ran_twice, refused, removing_lines, sent_unrun};
+ghost use Rattle.rd_headline.specs.Wrong.{closed_bytes, earlier_accepted, first_key, head_of_both, knows_first, later_accepted, lost_untaken, other_file, ran_twice, removing_lines, replied_done, replied_refused, sent_unrun};
 ghost use Rattle.rd_irp.specs.Written.{request_bytes};
 ghost use Rattle.rd_loads.specs.AllPremises.{MeetPremises};
 ghost use Rattle.rd_outcomes.specs.Opened.{ChannelsOpen};
@@ -63,9 +63,9 @@ pub fn wrong_runs_are_refused()
     // Each request in it at most once: a request runs again, whose completion isn't collected.
     ensures again { ¬ (EachEntry SettlesFirst ran_twice) }
     // The replies of it: a request has another reply than the one that the journal gives.
-    ensures other_reply { ¬ (HasReply ((first_key, done) ∷ []) first_key refused) }
+    ensures other_reply { ¬ (HasReply ((first_key, replied_done) ∷ []) first_key replied_refused) }
     // Against the file it named: another file's id is read under the request's key.
-    ensures other_file { (replies : Replies) → ¬ (IsOwnReply replies (client_reads 1 (request_bytes other_file) ∷ []) earlier_accepted done) }
+    ensures other_file { (replies : Replies) → ¬ (IsOwnReply replies (client_reads 1 (request_bytes other_file) ∷ []) earlier_accepted replied_done) }
     // Exactly one outcome: a line has none, or one line has two.
     ensures no_outcome { (devices : List (ℕ × Declared)) (deeds : List Deed) (holds : ApplicationState) (x : Waits) (from : List Deed) → ¬ (LinesEnd devices deeds 1 holds (x ∷ []) [] (λ later. Unit {0}) from) }
     ensures two_outcomes { (devices : List (ℕ × Declared)) (deeds : List Deed) (holds : ApplicationState) (x : Waits) (o other : Outcome) (from : List Deed) → ¬ (LinesEnd devices deeds 1 holds (x ∷ []) (o ∷ other ∷ []) (λ later. Unit {0}) from) }
@@ -76,7 +76,7 @@ pub fn wrong_runs_are_refused()
     ensures earlier_completion { accepted_outcome (earlier_accepted ∷ []) later_accepted 0 (begins 1 ∷ completes head_of_both closed_bytes ∷ []) false ≡ None }
     // Lost only where its device was removed or its channel dropped first: another device was removed, or the completion was heard before.
     ensures lost_by_another { accepted_outcome [] earlier_accepted 0 (begins 1 ∷ removes 2 ∷ []) false ≡ None }
-    ensures lost_though_heard { accepted_outcome [] earlier_accepted 0 (begins 1 ∷ completes head_of_both closed_bytes ∷ removes 1 ∷ []) true ≡ Some (Done done) }
+    ensures lost_though_heard { accepted_outcome [] earlier_accepted 0 (begins 1 ∷ completes head_of_both closed_bytes ∷ removes 1 ∷ []) true ≡ Some (Done replied_done) }
     // Whatever removals do: a line removes a device, and it isn't done.
     ensures not_removed { filter_map act_by (reverse (host_begins 1 ∷ [])) ≢ (control_by (declared_devices (bare_lines removing_lines)) removing_lines).acts }
 {}

@@ -4,7 +4,7 @@ use Rattle.std.specs.Prelude.{IfSome, codes, map}
 use Rattle.std.specs.List.{AllByRecursion}
 use Rattle.std.proofs.lemmas.List.Elements.{All-from_recursion}
 use Rattle.std.proofs.lemmas.Map.Keys.{IsStrictlyIncreasing-from_sorted}
-use Rattle.rd_answered.specs.Refusing.{DeclaresWritable}
+use Rattle.rd_answered.specs.Refusing.{DeclaresInRoom}
 use Rattle.rd_client.specs.Events.{AreWritable, IsWritableDevice}
 use Rattle.rd_controls.proofs.Numbers.{numbers}
 use Rattle.rd_controls.specs.Controls.{NamesKnown}
@@ -83,7 +83,7 @@ module _ (count : ℕ) (few : count ≤ 1000) where
   loads_meet_all = record {
     run = record { fitting = fitting; declared = declared; bounded = bounded; notable = each (λ (l : NumberedLine). IsNotable l.line) (λ n l own. own.notable) };
     few = omega (arith, long, few);
-    declared = each (λ (l : NumberedLine). DeclaresWritable l.line) (λ n l own. own.writable);
+    declared = each (λ (l : NumberedLine). DeclaresInRoom l.line) (λ n l own. own.writable);
     writable = subst (λ (es : List (ℕ × Declared)). AreWritable (announced_of es)) (sym (load_devices count few)) drives_writable;
     numbered = record {
       few = omega (arith, long, few);

@@ -8,7 +8,7 @@ use Rattle.std.specs.declared.cmp.Ordering.TheVariants.{Less}
 use Rattle.std.proofs.lemmas.Bool.Decides.{nat_tests}
 use Rattle.std.proofs.lemmas.List.{length-replicate}
 use Rattle.std.proofs.lemmas.List.Elements.{All-from_recursion}
-use Rattle.rd_answered.specs.Refusing.{DeclaresWritable}
+use Rattle.rd_answered.specs.Refusing.{DeclaresInRoom}
 use Rattle.rd_controls.proofs.Numbers.{Rise, numbers}
 use Rattle.rd_controls.specs.Controls.{NamesKnown}
 use Rattle.rd_runs.specs.Premises.{IsSubmittable}
@@ -31,7 +31,7 @@ pub record IsWithin (l : Line) : Type 0 where
   pub notable : IsNotable l
   pub numbered : IfSome (asked_by l) (λ (x : ℕ × Asked). IsNumber x.0)
   pub submittable : IfSome (asked_by l) (λ (x : ℕ × Asked). IsSubmittable x.1)
-  pub writable : DeclaresWritable l
+  pub writable : DeclaresInRoom l
   pub known : (ids : List ℕ) → NamesKnown ids l
 
 -- it declares no device, and puts nothing on one
@@ -41,7 +41,7 @@ pub record IsPlain (l : Line) : Type 0 where
   pub furnishes : (es : List (ℕ × Declared)) → furnishing es l ≡ es
 
 seed_plain : (number : ℕ) → IsPlain (line.Seed number)
-unfolding IsDeclarable IsNotable DeclaresWritable NamesKnown asked_by declaring furnishing
+unfolding IsDeclarable IsNotable DeclaresInRoom NamesKnown asked_by declaring furnishing
 seed_plain number = record {
   within = record { declarable = tt; notable = tt; numbered = tt; submittable = tt; writable = tt; known = λ ids. tt };
   declares = λ es. refl;
@@ -49,7 +49,7 @@ seed_plain number = record {
 }
 
 workers_plain : IsPlain (line.Workers 4)
-unfolding IsDeclarable IsNotable DeclaresWritable NamesKnown asked_by declaring furnishing
+unfolding IsDeclarable IsNotable DeclaresInRoom NamesKnown asked_by declaring furnishing
 workers_plain = record {
   within = record { declarable = (omega arith, omega arith); notable = tt; numbered = tt; submittable = tt; writable = tt; known = λ ids. tt };
   declares = λ es. refl;
@@ -64,7 +64,7 @@ drive_small a = by (a % 2 == 1)
     by false = omega arith
 
 create_plain : (a : ℕ) → IsNumber a → IsPlain (create_line a)
-unfolding IsDeclarable IsNotable DeclaresWritable NamesKnown asked_by declaring furnishing
+unfolding IsDeclarable IsNotable DeclaresInRoom NamesKnown asked_by declaring furnishing
 create_plain a number = record {
   within = record {
     declarable = tt;
@@ -91,7 +91,7 @@ create_plain a number = record {
 }
 
 write_plain : (a i : ℕ) → i ≤ 1000 → IsNumber a → IsPlain (line.Write a (codes "h") (block * i) (block_bytes a i))
-unfolding IsDeclarable IsNotable DeclaresWritable NamesKnown asked_by declaring furnishing
+unfolding IsDeclarable IsNotable DeclaresInRoom NamesKnown asked_by declaring furnishing
 write_plain a i few number = record {
   within = record {
     declarable = tt;
@@ -110,7 +110,7 @@ write_plain a i few number = record {
 }
 
 read_plain : (a i : ℕ) → i ≤ 1000 → IsNumber a → IsPlain (line.Read a (codes "h") (block * i) block)
-unfolding IsDeclarable IsNotable DeclaresWritable NamesKnown asked_by declaring furnishing
+unfolding IsDeclarable IsNotable DeclaresInRoom NamesKnown asked_by declaring furnishing
 read_plain a i few number = record {
   within = record {
     declarable = tt;
@@ -125,7 +125,7 @@ read_plain a i few number = record {
 }
 
 close_plain : (a : ℕ) → IsNumber a → IsPlain (line.Close a (codes "h"))
-unfolding IsDeclarable IsNotable DeclaresWritable NamesKnown asked_by declaring furnishing
+unfolding IsDeclarable IsNotable DeclaresInRoom NamesKnown asked_by declaring furnishing
 close_plain a number = record {
   within = record {
     declarable = tt;
@@ -140,7 +140,7 @@ close_plain a number = record {
 }
 
 drive_within : (device : ℕ) (name : List ℕ) → device < 2 ^ 32 → length name ≤ 7 → IsWithin (line.Drive device name)
-unfolding IsDeclarable IsNotable DeclaresWritable NamesKnown asked_by
+unfolding IsDeclarable IsNotable DeclaresInRoom NamesKnown asked_by
 drive_within device name small short = record { declarable = short; notable = tt; numbered = tt; submittable = tt; writable = small; known = λ ids. tt }
 
 -- ---- all lines

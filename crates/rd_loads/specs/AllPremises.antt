@@ -1,6 +1,6 @@
 -- What every run takes of its lines.
 use Rattle.std.specs.Prelude.{ℕ, ◌≤◌, List, length, map}
-use Rattle.rd_answered.specs.Refusing.{DeclareWritable}
+use Rattle.rd_answered.specs.Refusing.{DeclareInRoom}
 use Rattle.rd_controls.specs.Controls.{AreOrderedLines}
 use Rattle.rd_orders.specs.Orders.{DeclaresWritable}
 use Rattle.rd_ranges.specs.Ranges.{AreFreshDevices}
@@ -16,7 +16,7 @@ use Rattle.rd_world.specs.Run.{declared_devices}
 pub record MeetPremises (lines : List NumberedLine) : Type 0 where
   pub run : RunPremises lines
   pub few : length lines ≤ 1000000
-  pub declared : DeclareWritable lines
+  pub declared : DeclareInRoom lines
   pub writable : DeclaresWritable lines
   pub numbered : AreNumbered lines
   pub ordered : AreOrderedLines (map (λ (d : ℕ × Declared). d.0) (declared_devices (bare_lines lines))) lines

@@ -27,7 +27,7 @@ use Rattle.rd_world.specs.Recording.{client_id}
 use Rattle.rd_world.specs.Talk.{Deed, EndsWith, submits, takes}
 use Rattle.rd_world.specs.World.{ApplicationState, new_application}
 use Rattle.rd_world.proofs.Calls.{Does, calls_hold, calls_since, table_of}
-use Rattle.rd_outcomes.specs.Trail.{Chain, EndsAsked, EndsOf, HandedAt, IsEnded, IsKnownAt, Stage, count_of}
+use Rattle.rd_outcomes.specs.Trail.{Chain, EndsAsked, EndsOf, HandedAt, IsEnded, IsKnownAt, Stage, accepted_before}
 
 -- ---- deeds grow
 
@@ -47,7 +47,7 @@ module _ (devices : List (ℕ × Declared)) (a : ℕ) (deeds more : List Deed) w
 
   asked_more : (s : Stage) (x : Waits) (o : Outcome) (t : Stage) (before : List Deed) (named : Target) (r : Option SubmitNo) → EndsAsked devices a deeds s x o t before named r → EndsAsked devices a (more ++ deeds) s x o t before named r
   asked_more s x o t before named (Some cause) is = is
-  asked_more s x o t before named None (given, grown, handed, same, stage) = (given, ends_more grown, handed_more deeds more (suc (count_of before)) given handed, same, stage)
+  asked_more s x o t before named None (given, grown, handed, same, stage) = (given, ends_more grown, handed_more deeds more (suc (accepted_before before)) given handed, same, stage)
 
   of_more : (s : Stage) (x : Waits) (o : Outcome) (t : Stage) (before : List Deed) (n : Option Target) → EndsOf devices a deeds s x o t before n → EndsOf devices a (more ++ deeds) s x o t before n
   of_more s x o t before None is = is
@@ -124,13 +124,13 @@ module _ (devices : List (ℕ × Declared)) (a : ℕ) (deeds : List Deed) (does 
           → AskedEnds devices deeds a s.holds x.asked o (λ next received after. LinesEnd devices deeds a next xs os received after) is.before named r
       asked named (Some cause) (why, same) = (why, subst (λ (t : Stage). Ends t.holds xs os (WasHandedOut t.known) t.from) same after_it)
       asked named None (given, (more, grown), out, said, same) =
-          let (came, holds) = handed deeds does (count_of is.before) given out in (
+          let (came, holds) = handed deeds does (accepted_before is.before) given out in (
             more,
             grown,
             given.outcome,
             came,
             said,
-            subst (λ (h : Option Handle). Ends (holding_after s.holds x.asked h) xs os (IsHandedOut (suc (count_of is.before)) given.outcome) (submits a named (x.asked).op ∷ is.before)) (sym holds)
+            subst (λ (h : Option Handle). Ends (holding_after s.holds x.asked h) xs os (IsHandedOut (suc (accepted_before is.before)) given.outcome) (submits a named (x.asked).op ∷ is.before)) (sym holds)
                 (subst (λ (t : Stage). Ends t.holds xs os (WasHandedOut t.known) t.from) same after_it),
           )
 

@@ -35,7 +35,7 @@ use Rattle.rd_world.specs.Recording.{client_id}
 use Rattle.rd_world.specs.Talk.{Deed, EndsWith, submits, takes}
 use Rattle.rd_world.specs.World.{ApplicationState, Asked, WorldState, application_at, handle_named, new_application, with_application}
 use Rattle.rd_runs.proofs.Parts.{IsRefused}
-use Rattle.rd_outcomes.specs.Trail.{Chain, EndsAsked, EndsOf, HandedAt, IsEnded, IsKnownAt, IsPending, IsTrailed, Stage, StandsWith, count_of, first_stage}
+use Rattle.rd_outcomes.specs.Trail.{Chain, EndsAsked, EndsOf, HandedAt, IsEnded, IsKnownAt, IsPending, IsTrailed, Stage, StandsWith, accepted_before, first_stage}
 use Rattle.rd_outcomes.proofs.ChainLemmas.{chain_more, grown_more, handed_more, known_more}
 
 -- ---- lists
@@ -260,10 +260,10 @@ module _ (devices : List (ℕ × Declared)) (a : ℕ) where
       let n = next_is deeds lines x is asked all asks in
       let same : p.next ≡ n.next = (let both : p.next ∷ p.later ≡ n.next ∷ n.later = sym p.first ∙ n.first in cc both) in
       let own : (p.next).asked ≡ asked = ap (λ (l : Waits). l.asked) same ∙ n.asks in
-      let count : number ≡ suc (count_of p.before) = p.number_is in
+      let count : number ≡ suc (accepted_before p.before) = p.number_is in
       let out : HandedAt (takes number ∷ deeds) number given = ([], deeds, refl, ap (λ (r : TableState × Result Taken table_no.TakeNo). r.1) made) in
-      let counted : HandedAt (takes number ∷ deeds) (suc (count_of p.before)) given = subst (λ (k : ℕ). HandedAt (takes number ∷ deeds) k given) count out in
-      let t : Stage = record { holds = holding_after is.stage.holds (p.next).asked (given_handle given); known = Some (suc (count_of p.before), given); from = submits a p.named ((p.next).asked).op ∷ p.before } in
+      let counted : HandedAt (takes number ∷ deeds) (suc (accepted_before p.before)) given = subst (λ (k : ℕ). HandedAt (takes number ∷ deeds) k given) count out in
+      let t : Stage = record { holds = holding_after is.stage.holds (p.next).asked (given_handle given); known = Some (suc (accepted_before p.before), given); from = submits a p.named ((p.next).asked).op ∷ p.before } in
       subst (λ (q : Asked). Trailed (takes number ∷ deeds) lines (with_outcome x (reported_outcome given.outcome) (given_handle given) q)) own
       (grown_trail deeds lines x is p.next p.later p.first (reported_outcome given.outcome) (given_handle given) t (takes number ∷ deeds)
       (chain_more devices a deeds (takes number ∷ []) is.ended (reverse x.outcomes) is.stage is.chain)

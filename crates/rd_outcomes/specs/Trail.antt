@@ -37,8 +37,8 @@ IsKnownAt None deeds = Unit {0}
 IsKnownAt (Some (number, given)) deeds = HandedAt deeds number given
 
 -- how many requests were accepted before
-abbrev pub count_of : List Deed → ℕ
-count_of before = ((side_of client_id before).table).count
+abbrev pub accepted_before : List Deed → ℕ
+accepted_before before = ((side_of client_id before).table).count
 
 module _ (devices : List (ℕ × Declared)) (a : ℕ) (deeds : List Deed) where
   abbrev pub EndsRefused : Stage → Waits → Outcome → Stage → List Deed → Outcome → Type 0
@@ -46,8 +46,8 @@ module _ (devices : List (ℕ × Declared)) (a : ℕ) (deeds : List Deed) where
 
   abbrev pub EndsAccepted : Stage → Waits → Outcome → Stage → List Deed → Target → Type 0
   EndsAccepted s x o t before named =
-      (given : Taken) × EndsWith deeds (submits a named (x.asked).op ∷ before) × HandedAt deeds (suc (count_of before)) given × (o ≡ reported_outcome given.outcome)
-      × (t ≡ record { holds = holding_after s.holds x.asked (given_handle given); known = Some (suc (count_of before), given); from = submits a named (x.asked).op ∷ before })
+      (given : Taken) × EndsWith deeds (submits a named (x.asked).op ∷ before) × HandedAt deeds (suc (accepted_before before)) given × (o ≡ reported_outcome given.outcome)
+      × (t ≡ record { holds = holding_after s.holds x.asked (given_handle given); known = Some (suc (accepted_before before), given); from = submits a named (x.asked).op ∷ before })
 
   abbrev pub EndsAsked : Stage → Waits → Outcome → Stage → List Deed → Target → Option SubmitNo → Type 0
   EndsAsked s x o t before named (Some cause) = EndsRefused s x o t before (outcome.Refused (refusal_of cause))
@@ -86,7 +86,7 @@ module _ (devices : List (ℕ × Declared)) (a : ℕ) (deeds : List Deed) where
     pub due : IsDue devices next.acts before
     pub target : target_of s.holds next.asked ≡ Some named
     pub free : submit_refusal (side_of client_id before).table named ≡ None
-    pub number_is : number ≡ suc (count_of before)
+    pub number_is : number ≡ suc (accepted_before before)
     pub since : SubmitsNothing a deeds (submits a named (next.asked).op ∷ before)
 
   -- what the application awaits

@@ -8,7 +8,7 @@ use Rattle.std.specs.BTreeMap.{is_at}
 use Rattle.std.specs.Option.{option_map_or}
 use Rattle.std.proofs.lemmas.List.{reverse-append}
 use Rattle.rd_answered.proofs.SessionLemmas.{reached_answered}
-use Rattle.rd_answered.specs.Refusing.{DeclareWritable}
+use Rattle.rd_answered.specs.Refusing.{DeclareInRoom}
 use Rattle.rd_base.specs.declared.journal.Cause.TheVariants.{Dropped, Removed}
 use Rattle.rd_base.specs.declared.journal.Item.{Item}
 use Rattle.rd_base.specs.declared.journal.Item.TheVariants.{Came, Cancelled, Cut, Ran, Sent}
@@ -279,7 +279,7 @@ module _ (lines : List NumberedLine) (starves : Key → Bool) (premises : RunPre
       let among : Has (as_parked p) (waiting_in w.deeds (d, x)) = subst (Has (as_parked p)) (sym waits) (has_map as_parked p s.parked has) in
       has_map (λ (q : Parked). q.key) (as_parked p) (flat_map (waiting_in w.deeds) devices) (flat_has (waiting_in w.deeds) (d, x) (as_parked p) devices (entry_has devices d x at) among)
 
-  module _ (writable : DeclareWritable lines) (few : length lines ≤ 1000000) (kept : w.kept ≡ None) (fine : ((w.client).core).fault ≡ None) where
+  module _ (writable : DeclareInRoom lines) (few : length lines ≤ 1000000) (kept : w.kept ≡ None) (fine : ((w.client).core).fault ≡ None) where
     abbrev c : ℕ
     c = w.channels
 

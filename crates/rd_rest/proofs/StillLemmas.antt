@@ -1,6 +1,6 @@
 -- Where nothing can happen by itself the open channel is still, if all that was accepted was sent, and all was told and replied to.
 use Rattle.std.proofs.Common.{◌≡◌, ◌≤◌, Bool, List, [], length, Some, None}
-use Rattle.rd_answered.specs.Refusing.{DeclareWritable}
+use Rattle.rd_answered.specs.Refusing.{DeclareInRoom}
 use Rattle.rd_base.specs.declared.journal.Key.{Key}
 use Rattle.rd_rest.proofs.CompletedLemmas.{completed}
 use Rattle.rd_rest.proofs.FullLemmas.{none_kept_back}
@@ -16,7 +16,7 @@ use Rattle.rd_world.specs.Session.{IsStill}
 use Rattle.rd_world.specs.Talk.{open_channel}
 use Rattle.rd_world.specs.World.{WorldState}
 
-pub still_at_rest : (lines : List NumberedLine) (starves : Key → Bool) (control : Control) (w : WorldState) → RunPremises lines → DeclareWritable lines → length lines ≤ 1000000 → Reached lines starves w → choices w ≡ []
+pub still_at_rest : (lines : List NumberedLine) (starves : Key → Bool) (control : Control) (w : WorldState) → RunPremises lines → DeclareInRoom lines → length lines ≤ 1000000 → Reached lines starves w → choices w ≡ []
     → open_channel w.deeds ≡ Some w.channels → ((w.client).core).fault ≡ None → IsToldAll control w.deeds w.channels → IsStill (declared_devices (bare_lines lines)) control w.deeds w.channels
 still_at_rest lines starves control w premises writable few reached none is fine told = record {
   sent = told.sent;

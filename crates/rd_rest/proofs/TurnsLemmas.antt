@@ -3,7 +3,7 @@ use Rattle.std.proofs.Common.{◌≡◌, ◌∙◌, refl, sym, ap, subst, inr, �
 use Rattle.std.specs.List.{cons_option}
 use Rattle.rd_answered.proofs.GrowingLemmas.{part_grows}
 use Rattle.rd_answered.proofs.SessionLemmas.{reached_joins}
-use Rattle.rd_answered.specs.Refusing.{DeclareWritable}
+use Rattle.rd_answered.specs.Refusing.{DeclareInRoom}
 use Rattle.rd_base.specs.declared.journal.Item.{Item}
 use Rattle.rd_base.specs.declared.journal.Item.TheVariants.{Came}
 use Rattle.rd_base.specs.declared.journal.Key.{Key}
@@ -78,6 +78,6 @@ module _ (lines : List NumberedLine) (starves : Key → Bool) (fit : AreFit (dec
       part_turns lines starves fit premises x p may before after both.0 both.1 (meets x p may before e) (is (ends_before (done starves x p).deeds x.deeds more same e))) w behind
 
 -- so it is in each world that lines come to
-pub reached_in_turn : (lines : List NumberedLine) (starves : Key → Bool) → RunPremises lines → DeclareWritable lines → length lines ≤ 1000000 → (w : WorldState) → Reached lines starves w → InTurn w
+pub reached_in_turn : (lines : List NumberedLine) (starves : Key → Bool) → RunPremises lines → DeclareInRoom lines → length lines ≤ 1000000 → (w : WorldState) → Reached lines starves w → InTurn w
 reached_in_turn lines starves premises writable few w reached =
     behind_turns lines starves (bounded_fit lines premises.bounded) premises w.deeds (reached_joins lines starves premises few w reached writable).alone w (reached_behind lines starves w reached) ([], refl)

@@ -16,7 +16,7 @@ ghost use Rattle.rd_world.specs.Session.{IsStill};
 ghost use Rattle.rd_world.specs.Talk.{Has, answered, asked, open_channel};
 ghost use Rattle.rd_world.specs.World.{WorldState, marks_of, station_at};
 ghost use Rattle.rd_world.specs.declared.device.SessionDevice.{SessionDevice};
-ghost use Rattle.rd_answered.specs.Refusing.{DeclareWritable};
+ghost use Rattle.rd_answered.specs.Refusing.{DeclareInRoom};
 ghost use Rattle.rd_directs.specs.Turns.{InTurn};
 ghost use Rattle.rd_controls.specs.Controls.{AreOrderedLines, DoAsSaid};
 ghost use Rattle.rd_world.specs.Control.{Control};
@@ -39,12 +39,12 @@ pub fn dropped_journals_are_over()
 
 /// Each request that never came to its station is in line to be answered directly.
 pub fn requests_are_in_turn()
-    ensures { (lines : List NumberedLine) (starves : Key → Bool) (w : WorldState) → RunPremises lines → DeclareWritable lines → length lines ≤ 1000000 → Reached lines starves w → InTurn w }
+    ensures { (lines : List NumberedLine) (starves : Key → Bool) (w : WorldState) → RunPremises lines → DeclareInRoom lines → length lines ≤ 1000000 → Reached lines starves w → InTurn w }
 {}
 
 /// Where nothing can happen by itself, each request that was read on the open channel was answered, or waits in its device, unless something is wrong at the client.
 pub fn requests_are_completed()
-    ensures { (lines : List NumberedLine) (starves : Key → Bool) (w : WorldState) → RunPremises lines → DeclareWritable lines → length lines ≤ 1000000 → Reached lines starves w → choices w ≡ []
+    ensures { (lines : List NumberedLine) (starves : Key → Bool) (w : WorldState) → RunPremises lines → DeclareInRoom lines → length lines ≤ 1000000 → Reached lines starves w → choices w ≡ []
         → open_channel w.deeds ≡ Some w.channels → w.client.core.fault ≡ None → (device id index : ℕ) → Has index (asked w.channels device id w.deeds)
         → Has index (answered w.channels device id w.deeds) ⊎ Has (record { channel = w.channels; index = index }) (waiting_keys (declared_devices (bare_lines lines)) w.deeds) }
 {}
@@ -79,7 +79,7 @@ pub fn left_channel_is_open()
 
 /// Where nothing can happen by itself the open channel is still, if all that was accepted was sent, and all was told and replied to.
 pub fn rests_are_still()
-    ensures { (lines : List NumberedLine) (starves : Key → Bool) (control : Control) (w : WorldState) → RunPremises lines → DeclareWritable lines → length lines ≤ 1000000 → Reached lines starves w → choices w ≡ []
+    ensures { (lines : List NumberedLine) (starves : Key → Bool) (control : Control) (w : WorldState) → RunPremises lines → DeclareInRoom lines → length lines ≤ 1000000 → Reached lines starves w → choices w ≡ []
         → open_channel w.deeds ≡ Some w.channels → w.client.core.fault ≡ None → IsToldAll control w.deeds w.channels → IsStill (declared_devices (bare_lines lines)) control w.deeds w.channels }
 {}
 

@@ -7,7 +7,7 @@ use Rattle.rd_acted.proofs.OrderLemmas.{orders_read}
 use Rattle.rd_acted.proofs.TellLemmas.{behind_tells}
 use Rattle.rd_acted.specs.Acted.{AreReadWell}
 use Rattle.rd_answered.proofs.SessionLemmas.{reached_good}
-use Rattle.rd_answered.specs.Refusing.{DeclareWritable}
+use Rattle.rd_answered.specs.Refusing.{DeclareInRoom}
 use Rattle.rd_base.specs.declared.journal.Key.{Key}
 use Rattle.rd_client.specs.Core.{Outgoing}
 use Rattle.rd_journals.proofs.AnswerLemmas.{reached_spelled}
@@ -134,7 +134,7 @@ cutting_over devices w left all each c ended = by (cut.channels == c) refl ended
           left = left_same devices c was.os (cutting w).deeds w.deeds (cutting_same c w) was.left;
         }
 
-module _ (lines : List NumberedLine) (starves : Key → Bool) (premises : RunPremises lines) (few : length lines ≤ 1000000) (declare : DeclareWritable lines) (writable : DeclaresWritable lines) where
+module _ (lines : List NumberedLine) (starves : Key → Bool) (premises : RunPremises lines) (few : length lines ≤ 1000000) (declare : DeclareInRoom lines) (writable : DeclaresWritable lines) where
   abbrev devs : List (ℕ × Declared)
   devs = declared_devices (bare_lines lines)
 

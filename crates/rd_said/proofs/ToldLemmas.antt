@@ -4,7 +4,7 @@ use Rattle.rd_acted.proofs.DueLemmas.{told_is_due}
 use Rattle.rd_acted.specs.Acted.{control_by_deeds}
 use Rattle.rd_answered.proofs.SessionLemmas.{reached_answered}
 use Rattle.rd_answered.proofs.WritableLemmas as answered
-use Rattle.rd_answered.specs.Refusing.{DeclareWritable}
+use Rattle.rd_answered.specs.Refusing.{DeclareInRoom}
 use Rattle.rd_base.specs.declared.journal.Key.{Key}
 use Rattle.rd_client.specs.Core.{Outgoing}
 use Rattle.rd_joined.proofs.ScriptLemmas.{script_premises}
@@ -33,7 +33,7 @@ use Rattle.rd_said.specs.Rest.{WasLeft, deeds_then}
 
 -- ---- every run
 
-module _ (lines : List NumberedLine) (starves : Key → Bool) (premises : RunPremises lines) (few : length lines ≤ 1000000) (declare : DeclareWritable lines) (writable : DeclaresWritable lines) (w : WorldState) (reached : Reached lines starves w) where
+module _ (lines : List NumberedLine) (starves : Key → Bool) (premises : RunPremises lines) (few : length lines ≤ 1000000) (declare : DeclareInRoom lines) (writable : DeclaresWritable lines) (w : WorldState) (reached : Reached lines starves w) where
   abbrev devs : List (ℕ × Declared)
   devs = declared_devices (bare_lines lines)
 

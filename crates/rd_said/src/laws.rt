@@ -2,7 +2,7 @@
 
 ghost use Rattle.std.specs.Prelude.{◌≡◌, ℕ, ◌≤◌, Bool, true, List, [], None, Ok, Some, filter_map, length, map, reverse};
 ghost use Rattle.rd_acted.specs.Acted.{control_by_deeds};
-ghost use Rattle.rd_answered.specs.Refusing.{DeclareWritable};
+ghost use Rattle.rd_answered.specs.Refusing.{DeclareInRoom};
 ghost use Rattle.rd_base.specs.declared.journal.Key.{Key};
 ghost use Rattle.rd_orders.specs.Orders.{DeclaresWritable};
 ghost use Rattle.rd_runs.specs.Moves.{Reached};
@@ -23,14 +23,14 @@ ghost use Rattle.rd_world.specs.World.{WorldState};
 
 /// Of each channel that ended something was left to be said, maybe nothing, with which no request there was passed over but for the last, and by which no more was told of devices than is due by what was done.
 pub fn ended_channels_are_left_so()
-    ensures { (lines : List NumberedLine) (starves : Key → Bool) (w : WorldState) → RunPremises lines → DeclareWritable lines → DeclaresWritable lines → length lines ≤ 1000000 → Reached lines starves w
+    ensures { (lines : List NumberedLine) (starves : Key → Bool) (w : WorldState) → RunPremises lines → DeclareInRoom lines → DeclaresWritable lines → length lines ≤ 1000000 → Reached lines starves w
         → let devices = declared_devices (bare_lines lines) in
         (c : ℕ) → has_ended c w.deeds ≡ true → (rest : List Deed) × IsLeftOver devices (control_by_deeds (map (λ (d : ℕ × Declared). d.0) devices) w.deeds).told (replies_in devices w.deeds) c w.deeds rest }
 {}
 
 /// On the channel that is open what the client has to send is what would be left so if the channel ended.
 pub fn what_waits_is_told()
-    ensures { (lines : List NumberedLine) (starves : Key → Bool) (w : WorldState) → RunPremises lines → DeclareWritable lines → DeclaresWritable lines → length lines ≤ 1000000 → Reached lines starves w
+    ensures { (lines : List NumberedLine) (starves : Key → Bool) (w : WorldState) → RunPremises lines → DeclareInRoom lines → DeclaresWritable lines → length lines ≤ 1000000 → Reached lines starves w
         → let devices = declared_devices (bare_lines lines) in
         (c : ℕ) → open_channel w.deeds ≡ Some c → IsLeftOver devices (control_by_deeds (map (λ (d : ℕ × Declared). d.0) devices) w.deeds).told (replies_in devices w.deeds) c w.deeds (deeds_then c w.client.core.outbox []) }
 {}
