@@ -3,6 +3,7 @@ use Rattle.std.proofs.Common.{◌≡◌, ℕ, ◌+◌, Bool, true, false, cond, 
 use Rattle.std.specs.Prelude.{◌==◌, ◌&&◌, nat_lt, IfSome, IsErr, IsOk}
 use Rattle.std.specs.List.{AllByRecursion, cons_option, flat_map}
 use Rattle.std.proofs.lemmas.Bool.{le-ltb}
+use Rattle.std.proofs.lemmas.List.Elements.{recursion_from_All}
 use Rattle.std.proofs.lemmas.Bool.Decides.{nat_tests}
 use Rattle.rd_base.specs.declared.bad.Bad.{Bad}
 use Rattle.rd_base.specs.declared.journal.Key.{Key}
@@ -12,7 +13,7 @@ use Rattle.rd_decode.specs.Entries.{Channel, fresh, nothing_under_way}
 use Rattle.rd_decode.specs.Kept.{GoesOn}
 use Rattle.rd_decode.specs.Lines.{completion_shown, line}
 use Rattle.rd_decode.specs.Messages.{Printed, body_line, message_line}
-use Rattle.rd_decode.specs.Recording.{decoded, decoded_from, good, text_before}
+use Rattle.rd_decode.specs.Recording.{Decoded, decoded, decoded_from, good, text_before}
 use Rattle.rd_decode.specs.declared.fault.EntryFault.{EntryFault}
 use Rattle.rd_decode.specs.declared.side.Side.{Side}
 use Rattle.rd_decode.specs.declared.side.Side.TheVariants.{Host, Client}
@@ -23,7 +24,7 @@ use Rattle.rd_irp.specs.declared.completion.Kind.{Kind}
 use Rattle.rd_irp.specs.Completion.{completion_body}
 use Rattle.rd_irp.specs.Fits.{kind_of}
 use Rattle.rd_irp.specs.Measure.{tail_of}
-use Rattle.rd_printed.specs.Printed.{AnswersNext, IsOnOpen, IsReadable, comes_of, lines_by, one_awaited, text_of}
+use Rattle.rd_printed.specs.Printed.{AnswersNext, ArePrintable, IsOnOpen, IsReadable, comes_of, lines_by, one_awaited, text_of}
 use Rattle.rd_printed.proofs.FrameLemmas.{after_line, goes_both, goes_one, marked, message_goes}
 use Rattle.rd_printed.proofs.MessageLemmas.{Reading, asks, completing, fails, nothing, reading}
 use Rattle.rd_printed.proofs.PairLemmas.{Owes, OwesNext, kind_in, owes_less, owes_more, owes_next, owes_nothing, owes_still}
@@ -282,7 +283,7 @@ quiet deed before none silent is_open wrote answers p =
 
 -- ---- all deeds
 
-pub all_print : (deeds : List Deed) → AllByRecursion (λ deed. IfSome (written_by deed) IsMessage) deeds → EachAfter IsOnOpen deeds → EachAfter IsReadable deeds → EachAfter AnswersNext deeds → Prints deeds
+all_print : (deeds : List Deed) → AllByRecursion (λ deed. IfSome (written_by deed) IsMessage) deeds → EachAfter IsOnOpen deeds → EachAfter IsReadable deeds → EachAfter AnswersNext deeds → Prints deeds
 all_print [] fit on_open readable turns = nothing_printed
 all_print (host_begins c ∷ before) fit on_open readable turns =
     begins_prints before c on_open.0.0 on_open.0.1 on_open.0.2 (all_print before fit.1 on_open.1 readable.1 turns.1)
@@ -298,8 +299,15 @@ all_print (deed ∷ before) fit on_open readable turns = quiet deed before refl 
 -- ---- a recording
 
 -- all of a recording is taken, and no fault is met
-pub all_decoded : (deeds : List Deed) → Prints deeds → decoded (recording_of_deeds deeds) ≡ text_before (lines_by deeds) good
+all_decoded : (deeds : List Deed) → Prints deeds → decoded (recording_of_deeds deeds) ≡ text_before (lines_by deeds) good
 all_decoded deeds p =
     let all = p.goes.on [] (length (recording_of_deeds deeds)) (omega (arith, length-append (entries_of deeds) [])) in
     let long : nat_lt (length (recording_of_deeds deeds)) 8 ≡ false = le-ltb (length (recording_of_deeds deeds)) 8 (omega arith) in
     rw long refl ∙ ap (decoded_from (length (recording_of_deeds deeds)) 8 None) (sym (append-nil (entries_of deeds))) ∙ all.2 ∙ ap (text_before (lines_by deeds)) (no_bytes all.0 p.place p.channel)
+
+-- what is printed of deeds whose recording prints
+pub printed : (deeds : List Deed) → ArePrintable deeds → decoded (recording_of_deeds deeds) ≡ text_before (lines_by deeds) good
+printed deeds is = all_decoded deeds (all_print deeds (recursion_from_All (λ deed. IfSome (written_by deed) IsMessage) deeds is.fit) is.on_open is.readable is.in_turn)
+
+pub lines_printed : (deeds : List Deed) → ArePrintable deeds → (decoded (recording_of_deeds deeds)).text ≡ lines_by deeds
+lines_printed deeds is = ap (λ (d : Decoded). d.text) (printed deeds is) ∙ append-nil (lines_by deeds)
