@@ -1,7 +1,9 @@
 -- The deeds of a whole session are such whose recording prints.
-use Rattle.std.proofs.Common.{ℕ, List}
+use Rattle.std.proofs.Common.{◌≡◌, ℕ, List, None, ap, reverse, ◌∙◌}
 use Rattle.rd_base.specs.History.{History}
-use Rattle.rd_printed.specs.Printed.{ArePrintable}
+use Rattle.rd_decode.specs.Recording.{Decoded, decoded}
+use Rattle.rd_printed.specs.Printed.{ArePrintable, lines_by}
+use Rattle.rd_printed.proofs.DeedLemmas.{lines_printed, printed}
 use Rattle.rd_readable.proofs.ClientLemmas as client
 use Rattle.rd_readable.proofs.HostLemmas as host
 use Rattle.rd_readable.proofs.LineLemmas.{all_readable}
@@ -16,7 +18,6 @@ use Rattle.rd_world.specs.HostDeeds.{calls_of}
 use Rattle.rd_world.specs.Recording.{announced_of, client_id, is_gone_at}
 use Rattle.rd_world.specs.Session.{IsWholeSession, replies_in}
 use Rattle.rd_world.specs.Talk.{client_moves, host_moves}
-use Rattle.std.proofs.Common.{reverse}
 
 pub session_prints : (script : Script) (recording : List ℕ) (books : List (ℕ × History)) (told : Outcomes) (output : List ℕ) (s : IsWholeSession script recording books told output) → ArePrintable s.deeds
 session_prints script recording books told output s =
@@ -31,3 +32,11 @@ session_prints script recording books told output s =
           s.joined.carried s.joined.stands s.joined.told.answers;
       in_turn = all_in_turn client_id deeds s.joined.host s.joined.carried s.joined.stands (each_tells replies deeds s.joined.told s.joined.lawful);
     }
+
+-- so its recording has no fault, and what is printed of it are their lines
+pub recording_good : (script : Script) (recording : List ℕ) (books : List (ℕ × History)) (told : Outcomes) (output : List ℕ) → IsWholeSession script recording books told output → (decoded recording).whole_fault ≡ None
+recording_good script recording books told output s =
+    ap (λ b. (decoded b).whole_fault) s.wire.bytes ∙ ap (λ (d : Decoded). d.whole_fault) (printed s.deeds (session_prints script recording books told output s))
+
+pub recording_lines : (script : Script) (recording : List ℕ) (books : List (ℕ × History)) (told : Outcomes) (output : List ℕ) (s : IsWholeSession script recording books told output) → (decoded recording).text ≡ lines_by s.deeds
+recording_lines script recording books told output s = ap (λ b. (decoded b).text) s.wire.bytes ∙ lines_printed s.deeds (session_prints script recording books told output s)
