@@ -25,9 +25,9 @@ recording_printed script before after books told p input input_after output outp
     let gives : Gives input.bytes p.recording = (has.same ∙ held, has.short p.recording held) in
     elim (is.completes p.recording gives (recording_good script p.recording books told _ p.whole)) [
       | inl zero ↦
-        let all = is.printed zero in
-        let same : p.recording ≡ all.recording = all_read input.bytes input_after.bytes p.recording all.recording gives.0 all.read.read.taken all.read.ended in
-        let lines : (decoded all.recording).text ≡ lines_by p.whole.deeds = ap (λ b. (decoded b).text) (sym same) ∙ recording_lines script p.recording books told _ p.whole in
-        inl (zero, subst (λ (t : List ℕ). Wrote output output_after t) lines all.printed)
+          let all = is.printed zero in
+          let same : p.recording ≡ all.recording = all_read input.bytes input_after.bytes p.recording all.recording gives.0 all.read.read.taken all.read.ended in
+          let lines : (decoded all.recording).text ≡ lines_by p.whole.deeds = ap (λ b. (decoded b).text) (sym same) ∙ recording_lines script p.recording books told _ p.whole in
+          inl (zero, subst (λ (t : List ℕ). Wrote output output_after t) lines all.printed)
       | inr other ↦ inr other
     ]
