@@ -4,3 +4,4 @@ pub mod FrameLemmas
 pub mod KindLemmas
 pub mod MessageLemmas
 pub mod PairLemmas
+pub mod ValueLemmas

@@ -74,7 +74,7 @@ request_reading side message named sends same = by (met request_head (at_start m
         asks (record {
           request = own;
           text = line side packet.IoRequest (length message) (request_shown read.0) tail;
-          line = λ awaited. same awaited ∙ rw (measured, kind_read read.0 read.1) refl;
+          line = λ awaited. same awaited ∙ rw (measured, (kind_read read.0 read.1).0) refl;
           is = packet_is packet.IoRequest packet.IoRequest message named;
           spells = rw e refl;
           sender = sends;

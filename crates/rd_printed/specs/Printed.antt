@@ -4,9 +4,13 @@ use Rattle.rd_chunk.specs.Carrier.{IsMessage}
 use Rattle.rd_decode.specs.Awaited.{Awaited, none_awaited}
 use Rattle.rd_decode.specs.declared.fault.EntryFault.{EntryFault}
 use Rattle.rd_decode.specs.declared.side.Side.TheVariants.{Host, Client}
+use Rattle.rd_decode.specs.Lines.{completion_shown, request_shown}
 use Rattle.rd_decode.specs.Messages.{Printed, message_line}
 use Rattle.rd_irp.specs.declared.completion.Kind.{Kind}
+use Rattle.rd_irp.specs.declared.completion.Reply.{Reply}
+use Rattle.rd_irp.specs.declared.request.Request.{Request}
 use Rattle.rd_irp.specs.Fits.{kind_of}
+use Rattle.rd_irp.specs.Written.{major_of, minor_of}
 use Rattle.rd_world.specs.Recording.{request_of, written_by}
 use Rattle.rd_world.specs.Talk.{Deed, EachAfter, EndsWith, answered, client_writes, client_wrote, completes, host_begins, host_ends, host_writes, host_wrote, indices_of, message_has_pair, open_channel}
 
@@ -33,6 +37,14 @@ text_of _ = []
 abbrev pub lines_by : List Deed → List ℕ
 lines_by [] = []
 lines_by (deed ∷ before) = lines_by before ++ text_of (comes_of before deed)
+
+-- what the line of a request shows, by what it asks for
+abbrev pub asks_shown : Request → List ℕ
+asks_shown r = request_shown (record { device = r.device; file = r.file; completion = r.completion; major = major_of r.op; minor = minor_of r.op })
+
+-- and that of a completion, by the reply with which it completes its request
+abbrev pub answer_shown : Request → Reply → List ℕ
+answer_shown r reply = completion_shown (record { device = r.device; completion = r.completion; status = reply.status })
 
 -- ---- what is taken
 

@@ -5,4 +5,4 @@
 
 mod laws;
 
-pub use laws::{deeds_are_printed, lines_are_as_listed};
+pub use laws::{deeds_are_printed, lines_are_as_listed, lines_say_values};

@@ -1,5 +1,5 @@
 -- Messages of each packet that are met by its layout have a line.
-use Rattle.std.proofs.Common.{◌≡◌, ◌∙◌, refl, subst, ℕ, Bool, true, false, cond, List, [], ◌∷◌, length, Some, None, Option, Result, Ok, Err}
+use Rattle.std.proofs.Common.{◌≡◌, ◌∙◌, refl, ap, subst, ℕ, Bool, true, false, cond, List, [], ◌∷◌, length, Some, None, Option, Result, Ok, Err}
 use Rattle.std.specs.Prelude.{IsOk, find, is_ok, is_some}
 use Rattle.rd_base.specs.declared.bad.Bad.{Bad}
 use Rattle.rd_base.specs.declared.bad.Why.TheVariants as why
@@ -7,13 +7,13 @@ use Rattle.rd_base.specs.declared.packet.Packet.{Packet}
 use Rattle.rd_base.specs.declared.packet.Packet.TheVariants as packet
 use Rattle.rd_base.specs.Counted.{count_to}
 use Rattle.rd_base.specs.Fields.{number16}
-use Rattle.rd_base.specs.Header.{any_header, are_numbers_of, component_field, header, header_among, packet_among}
+use Rattle.rd_base.specs.Header.{are_numbers_of, component_field, header, header_among, packet_among}
 use Rattle.rd_base.specs.Layout.{met, test}
 use Rattle.rd_base.specs.Position.{Position, at_start}
 use Rattle.rd_base.proofs.HeaderLemmas.{named_back}
 use Rattle.rd_base.proofs.MessageLemmas.{test_ok}
 use Rattle.rd_base.proofs.ResultLemmas.{and_then_ok}
-use Rattle.rd_decode.specs.Awaited.{Awaited, none_awaited}
+use Rattle.rd_decode.specs.Awaited.{none_awaited}
 use Rattle.rd_decode.specs.declared.side.Side.{Side}
 use Rattle.rd_decode.specs.declared.side.Side.TheVariants.{Host, Client}
 use Rattle.rd_decode.specs.Lines.{may_send}
@@ -29,8 +29,9 @@ use Rattle.rd_hello.specs.Capability.{body_of, capability, general, other, sets,
 use Rattle.rd_hello.specs.Hello.{hello, hello_bytes, name, version}
 use Rattle.rd_hello.specs.Own.{client_name, client_sets, host_announce, host_sets}
 use Rattle.rd_irp.specs.declared.request.RequestHead.{RequestHead}
-use Rattle.rd_irp.specs.Measure.{left_after, measure_of, tail_of}
-use Rattle.rd_irp.specs.Request.{body_after, request_head}
+use Rattle.rd_irp.specs.Measure.{tail_of}
+use Rattle.rd_irp.specs.Request.{request_head}
+use Rattle.rd_printed.proofs.ValueLemmas.{IsHeaded, headed_line, own_headed, request_line_is}
 use Rattle.rd_printer.specs.declared.notice.Notice.{Notice}
 use Rattle.rd_printer.specs.Notice.{notice, notices}
 
@@ -48,35 +49,18 @@ found_passes p (x ∷ xs) y e = go (p x) refl e (found_passes p xs y)
     go true is e later = let same : x ≡ y = cc in subst (λ (z : Packet). p z ≡ true) same is
     go false is e later = later e
 
--- the one that a header names
-pub record IsHeaded (m : List ℕ) (p : Packet) : Type 0 where
-  pub after : Position
-  pub named : met any_header (at_start m) ≡ Ok (Some p, after)
-
-pub own_headed : (p : Packet) (m : List ℕ) (x : Unit {0} × Position) → met (header p) (at_start m) ≡ Ok x → IsHeaded m p
-own_headed p m x e = record { after = x.1; named = named_back p (at_start m) x.1 e }
-
-pub headed_line : (side : Side) (awaited : Awaited) (p : Packet) (m : List ℕ) → IsHeaded m p → may_send side p ≡ true → message_line side awaited m ≡ packet_line p side awaited m
-headed_line side awaited p m h sends = rw (h.named, sends) refl
-
 -- a plain packet whose layout is met
 plain_fine : (side : Side) (p : Packet) (m : List ℕ) (tail : ℕ) → IsHeaded m p → may_send side p ≡ true → packet_line p side none_awaited m ≡ plain_line side p none_awaited m → plain_tail p m ≡ Ok tail → Fine side m
 plain_fine side p m tail h sends plain met_it = rw (headed_line side none_awaited p m h sends ∙ plain, met_it) refl
 
 -- ---- the host's
 
-request_headed : (m : List ℕ) (x : RequestHead × Position) → met request_head (at_start m) ≡ Ok x → IsHeaded m packet.IoRequest
-unfolding request_head
-request_headed m x e = let first = and_then_ok (met (header packet.IoRequest) (at_start m)) _ x e in own_headed packet.IoRequest m first.0 first.1
-
 pub request_fine : (m : List ℕ) → is_ok (met request_head (at_start m)) ≡ true → Fine Host m
 request_fine m is = by (met request_head (at_start m)) refl is
   where
     by : (r : Result (RequestHead × Position) Bad) → met request_head (at_start m) ≡ r → is_ok r ≡ true → Fine Host m
     by (Err bad) e is = absurd (cc is)
-    by (Ok x) e is =
-        let measured : measure_of m ≡ Ok (x.0, left_after (length x.1.left) (met (body_after x.0) x.1)) = rw e refl in
-        rw (headed_line Host none_awaited packet.IoRequest m (request_headed m x e) refl, measured) refl
+    by (Ok x) e is = ap is_ok (request_line_is m x e).line_is
 
 -- a header among some is that of one of them
 among_headed : (wanted : List Packet) (m : List ℕ) (x : Option Packet × Position) → met (header_among wanted) (at_start m) ≡ Ok x

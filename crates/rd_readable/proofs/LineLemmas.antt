@@ -1,47 +1,22 @@
 -- Each message that is written has a line.
-use Rattle.std.proofs.Common.{◌≡◌, refl, sym, subst, ℕ, Bool, true, false, cond, List, [], ◌∷◌, length, drop, Some, None, Ok, eq-eqb}
-use Rattle.std.specs.Prelude.{◌==◌, IsOk}
+use Rattle.std.proofs.Common.{◌≡◌, refl, sym, ap, subst, ℕ, Bool, true, false, cond, List, [], ◌∷◌, Some, None, eq-eqb}
+use Rattle.std.specs.Prelude.{◌==◌, IsOk, is_ok}
 use Rattle.std.specs.List.{AllByRecursion, cons_option}
-use Rattle.rd_base.specs.declared.packet.Packet.TheVariants.{IoCompletion}
-use Rattle.rd_base.specs.Header.{header}
-use Rattle.rd_base.specs.Layout.{met}
-use Rattle.rd_base.specs.Position.{Position, at_start}
-use Rattle.rd_base.proofs.LayoutLemmas.{meets}
-use Rattle.rd_base.proofs.ResultLemmas.{and_then_ok}
 use Rattle.rd_decode.specs.declared.side.Side.TheVariants.{Client, Host}
 use Rattle.rd_decode.specs.Messages.{message_line}
 use Rattle.rd_hello.specs.Moves.{Move, writes}
-use Rattle.rd_irp.specs.declared.completion.Head.{Head}
-use Rattle.rd_irp.specs.declared.completion.Reply.{Reply}
 use Rattle.rd_irp.specs.declared.request.Request.{Request}
-use Rattle.rd_irp.specs.Completion.{completion_body, completion_head}
 use Rattle.rd_irp.specs.Fits.{kind_of}
-use Rattle.rd_irp.specs.Measure.{tail_of}
 use Rattle.rd_printed.specs.Printed.{IsReadable, one_awaited}
+use Rattle.rd_printed.proofs.ValueLemmas.{completion_line_is}
 use Rattle.rd_readable.proofs.ClientLemmas.{PlainFine}
-use Rattle.rd_readable.proofs.HeadedLemmas.{Fine, IsHeaded, headed_line, own_headed}
+use Rattle.rd_readable.proofs.HeadedLemmas.{Fine}
 use Rattle.rd_readable.proofs.OrderLemmas.{IsWrittenWell, all_later}
 use Rattle.rd_world.proofs.Agreeing.{agree}
 use Rattle.rd_world.proofs.Joined.{carried_now}
-use Rattle.rd_world.proofs.Messages.{head_read}
 use Rattle.rd_world.specs.Joining.{IsCarried, Stands}
 use Rattle.rd_world.specs.Talk.{AtEachPoint, Deed, EachAfter, client_move, client_moves, client_writes, completes, host_move, host_moves, host_writes}
-use Rattle.rd_world.specs.Told.{Answers, CompletesWith, Replies}
-
--- ---- completions
-
-completion_headed : (m : List ℕ) (x : Head × Position) → met completion_head (at_start m) ≡ Ok x → IsHeaded m IoCompletion
-unfolding completion_head
-completion_headed m x e = let first = and_then_ok (met (header IoCompletion) (at_start m)) _ x e in own_headed IoCompletion m first.0 first.1
-
--- what completes a request has a line by that one's layout
-completion_fine : (r : Request) (reply : Reply) (m : List ℕ) → CompletesWith r reply m → IsOk (message_line Client (one_awaited (kind_of r.op)) m)
-completion_fine r reply m is =
-    let h : Head = record { device = r.device; completion = r.completion; status = reply.status } in
-    let read = head_read h m is.head in
-    let body = meets (completion_body (kind_of r.op) reply.status) 0 (drop 16 m) reply.body is.tail is.body in
-    let tail : tail_of (completion_body (kind_of r.op) reply.status) (drop 16 m) ≡ Ok (length body.0.left) = rw body.1 refl in
-    rw (headed_line Client (one_awaited (kind_of r.op)) IoCompletion m (completion_headed m (h, read.0) read.1) refl, read.1, tail) refl
+use Rattle.rd_world.specs.Told.{Answers, Replies}
 
 -- ---- each deed
 
@@ -77,7 +52,7 @@ all_readable replies (client_writes c m ∷ before) host client carried stands a
 )
 all_readable replies (completes key m ∷ before) host client carried stands answers =
     let (r, reply, found, is, answer) = answers.0 in (
-      subst (λ (q : Request). IsOk (message_line Client (one_awaited (kind_of q.op)) m)) (sym (agree before (carried_now before carried.1) key r found)) (completion_fine r reply m is),
+      subst (λ (q : Request). IsOk (message_line Client (one_awaited (kind_of q.op)) m)) (sym (agree before (carried_now before carried.1) key r found)) (ap is_ok (completion_line_is r reply m is)),
       all_readable replies before (host_before (completes key m) before host) (client_before (completes key m) before client) carried.1 stands.1 answers.1,
     )
 all_readable replies (deed ∷ before) host client carried stands answers =
