@@ -24,7 +24,7 @@ parts (Some xs) None all bytes is taken = absurd taken
 parts (Some xs) (Some ys) all bytes is taken = (ys, refl, sym (same_Some _ _ is) ∙ taken)
 
 -- What was read to its end is all of them.
-all_read : (left rest : Option (List ℕ)) (all bytes : List ℕ) → left ≡ Some all → Consumes left rest bytes → IsAtEnd rest → all ≡ bytes
+pub all_read : (left rest : Option (List ℕ)) (all bytes : List ℕ) → left ≡ Some all → Consumes left rest bytes → IsAtEnd rest → all ≡ bytes
 all_read left rest all bytes is taken ended =
     let p = parts left rest all bytes is taken in
     p.2 ∙ ap (λ ys. bytes ++ ys) (subst (λ (o : Option (List ℕ)). IsAtEnd o) p.1 ended) ∙ append-nil bytes

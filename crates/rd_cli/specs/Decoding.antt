@@ -1,11 +1,11 @@
 -- How the command `decode` ends: with which status, what it has printed by then, and which event, the first, gave the status.
-use Rattle.std.specs.Prelude.{◌≡◌, ℕ, ◌<◌, ◌⊎◌, List, length, Option, Some, None}
+use Rattle.std.specs.Prelude.{◌≡◌, ℕ, ◌<◌, ◌⊎◌, List, [], length, Option, Some, None}
 use Rattle.rd_decode.specs.declared.fault.Fault.{Fault}
 use Rattle.rd_decode.specs.declared.fault.DecodeNo.{DecodeNo}
 use Rattle.rd_decode.specs.declared.fault.DecodeNo.TheVariants as no
 use Rattle.rd_decode.specs.Recording.{decoded}
 use Rattle.rd_decode.specs.Ends.{FailedToPrint, FailedToRead, PrintedAll, PrintedToFault, PrintedToLimit, RanOut, limit}
-use Rattle.rd_cli.specs.Outside.{Stream}
+use Rattle.rd_cli.specs.Outside.{Stream, Wrote}
 use Rattle.rd_cli.specs.Stops.{Says, fault_line, long_line}
 use Rattle.rd_cli.specs.declared.stop.Stop.{Stop}
 use Rattle.rd_cli.specs.declared.stop.Stop.TheVariants as stop
@@ -55,3 +55,15 @@ pub record IsEndOfDecode {S K : Type 0} (input input_after : Stream S) (output o
   -- Bytes that are none come to 4 with their first fault, unless a read or a write fails or memory runs out.
   pub names : (bytes : List ℕ) (fault : Fault) → Gives input.bytes bytes → (decoded bytes).whole_fault ≡ Some fault
       → ((status ≡ 4) × SaysFault fault input input_after output output_after) ⊎ ((status ≡ 2) ⊎ ((status ≡ 3) ⊎ (status ≡ 6)))
+
+-- ---- what a session recorded
+
+-- The input has what was written to a recording that was empty before, which can be told and is below the limit.
+pub record HasRecording {R S : Type 0} (before after : Stream R) (input : Stream S) : Type 0 where
+  pub empty : before.bytes ≡ Some []
+  pub same : input.bytes ≡ after.bytes
+  pub short : (bytes : List ℕ) → after.bytes ≡ Some bytes → length bytes < limit
+
+-- The command prints these lines and no more, and ends with 0, unless a read or a write fails or memory runs out.
+abbrev pub PrintsJust : {K : Type 0} → List ℕ → (output output_after : Stream K) → ℕ → Type 0
+PrintsJust lines output output_after status = ((status ≡ 0) × Wrote output output_after lines) ⊎ ((status ≡ 2) ⊎ ((status ≡ 3) ⊎ (status ≡ 6)))

@@ -26,5 +26,5 @@ mod words;
 
 pub use arguments::words_of;
 pub use decoding::decode;
-pub use laws::summaries_are_as_listed;
+pub use laws::{recordings_are_read, summaries_are_as_listed};
 pub use top::{program, run};
