@@ -1,7 +1,7 @@
 -- Between two moves no application awaits an outcome that is known.
-use Rattle.std.proofs.Common.{◌≡◌, ◌≢◌, ◌⊎◌, ◌∙◌, refl, sym, ap, subst, inl, inr, ℕ, zero, suc, ◌+◌, ◌≤◌, ◌==◌, ◌&&◌, Bool, true, false, cond, not, List, [], ◌∷◌, ◌++◌, map, filter_map, fold, Some, None, Option, Result, Ok, Err, arith}
+use Rattle.std.proofs.Common.{◌≡◌, ◌≢◌, ◌⊎◌, ◌∙◌, refl, sym, ap, subst, inl, inr, ℕ, zero, suc, ◌+◌, ◌≤◌, ◌==◌, Bool, true, false, cond, List, [], ◌∷◌, ◌++◌, map, filter_map, fold, Some, None, Option, Result, Ok, Err, arith}
 use Rattle.std.specs.Prelude.{IsSome, if◌then◌else◌, is_some}
-use Rattle.std.specs.Map.{keys_of, lookup, remove_entry}
+use Rattle.std.specs.Map.{lookup, remove_entry}
 use Rattle.std.specs.Ordering.{nat_cmp}
 use Rattle.std.specs.BTreeMap.{insert_entry, is_at}
 use Rattle.std.specs.Option.{option_and_then, option_map, option_map_or, unwrap_or}
@@ -19,13 +19,12 @@ use Rattle.rd_pending.specs.declared.calls.TakeNo.TheVariants as table_no
 use Rattle.rd_pending.specs.declared.calls.Taken.{Taken}
 use Rattle.rd_pending.specs.declared.calls.Target.{Target}
 use Rattle.rd_pending.specs.Table as table
-use Rattle.rd_pending.specs.Table.{Fate, TableState, Untaken, accept, awaited, awaits, fate_at, known, submit_refusal, untaken_at}
+use Rattle.rd_pending.specs.Table.{Fate, TableState, Untaken, accept, awaited, awaits, fate_at, known, untaken_at}
 use Rattle.rd_pending.proofs.Effects as effects
 use Rattle.rd_pending.proofs.MapLemmas.{beside, inserted, kept}
-use Rattle.rd_printer.specs.declared.notice.Notice.{Notice}
 use Rattle.rd_runs.proofs.BeginningLemmas.{Unset, begins_as}
-use Rattle.rd_runs.proofs.Insides.{IsInside, Outside, all_dropped_inside, applied_inside, hears_inside, put_inside, removed_inside, added_inside, stationed}
-use Rattle.rd_runs.proofs.Parts.{IsBehind, MayBe, Part, accepts, adds_one, announced_by, applies_one, begins, by_parts, client_gets, client_hears_one, client_keeps_part, client_sends_one, collects_one, cut_by, done, draws_one, ends, hands_out, host_gets, host_handling_keeps, host_hears_one, host_keeps_part, host_sends_one, idle_one, queues_one, reached_behind, refreshed_by, refuses, removes_one, takes_one, tells_one, told_added, told_removed, tries_one}
+use Rattle.rd_runs.proofs.Insides.{IsInside, Outside, all_dropped_inside, applied_inside, hears_inside, put_inside, removed_inside, added_inside}
+use Rattle.rd_runs.proofs.Parts.{MayBe, Part, accepts, adds_one, applies_one, begins, client_gets, client_hears_one, client_keeps_part, client_sends_one, collects_one, done, draws_one, ends, hands_out, host_gets, host_handling_keeps, host_hears_one, host_keeps_part, host_sends_one, idle_one, queues_one, refreshed_by, refuses, removes_one, takes_one, tells_one, told_added, tries_one}
 use Rattle.rd_runs.proofs.Reaching.{by_moves}
 use Rattle.rd_runs.specs.Moves.{MayPass, Reached, RunMove, after_move, draws, happens, idle, queues}
 use Rattle.rd_script.specs.declared.line.Line.{Line}
@@ -38,17 +37,17 @@ use Rattle.rd_station.specs.declared.answers.Given.{Given}
 use Rattle.rd_station.specs.declared.answers.Given.TheVariants as given
 use Rattle.rd_station.specs.Station as station
 use Rattle.rd_station.specs.Station.{StationState}
-use Rattle.rd_world.specs.Devices.{PrinterNames, device_cut}
+use Rattle.rd_world.specs.Devices.{PrinterNames}
 use Rattle.rd_world.specs.declared.device.SessionDevice.{SessionDevice}
 use Rattle.rd_world.specs.Events as event
 use Rattle.rd_world.specs.Events.{Event, act, asks, collects_from, comes_of_asking, cutting, is_enabled, issues, issues_next, may_issue, refusal_of, takes_job_from, target_of}
 use Rattle.rd_world.specs.Hearing.{all_take, client_handles, client_handles_all, client_handles_first, client_hears, with_client, given_handle, holding_under, host_handles, putting, next_asked, reported_outcome, takes_awaited, takes_from, takes_outcome, tries, tries_kept, with_outcome}
 use Rattle.rd_world.proofs.ApplicationsLemmas.{apart_at}
 use Rattle.rd_world.specs.Host as host
-use Rattle.rd_world.specs.Host.{HostSide, hears, side_sends}
+use Rattle.rd_world.specs.Host.{HostSide, side_sends}
 use Rattle.rd_world.specs.Run.{asked_by, drawing, idles, queueing, world_of}
-use Rattle.rd_world.specs.Talk.{Has, client_reads, submits, takes}
-use Rattle.rd_world.specs.World.{ApplicationState, Asked, Kept, WayState, WorldState, application_at, handling, having_read, host_sends, most_messages, new_application, station_at, with_application, with_deed, with_table}
+use Rattle.rd_world.specs.Talk.{Has, client_reads, submits}
+use Rattle.rd_world.specs.World.{ApplicationState, Asked, Kept, WayState, WorldState, application_at, handling, having_read, host_sends, most_messages, new_application, station_at, with_application, with_deed}
 use Rattle.rd_outcomes.proofs.ComingLemmas.{put_beside, put_here}
 use Rattle.rd_outcomes.proofs.LinesLemmas.{all_fresh, asks_in}
 use Rattle.rd_outcomes.proofs.TrailLemmas.{accepted_is}

@@ -1,23 +1,21 @@
 -- In every run the lines of each application end as they should, as far as the run has come.
-use Rattle.std.proofs.Common.{◌≡◌, ◌≢◌, ◌⊎◌, ◌∙◌, refl, sym, ap, subst, inl, inr, ℕ, zero, suc, ◌+◌, ◌<◌, ◌≤◌, ◌==◌, ◌&&◌, ◌||◌, Bool, true, false, cond, not, List, [], ◌∷◌, ◌++◌, length, reverse, map, filter_map, Some, None, Option, Result, Ok, Err, arith, append_assoc, append-nil, length-append, eq-eqb, eqb-true, ne_eqb}
-use Rattle.std.specs.Prelude.{fold, if◌then◌else◌, is_none, is_some, nat_lt, slice_get}
+use Rattle.std.proofs.Common.{◌≡◌, ◌≢◌, ◌∙◌, refl, sym, ap, subst, inl, inr, ℕ, ◌+◌, ◌<◌, ◌≤◌, ◌&&◌, ◌||◌, Bool, true, false, cond, List, [], ◌∷◌, ◌++◌, length, map, filter_map, Some, None, Option, arith, append_assoc, ne_eqb}
+use Rattle.std.specs.Prelude.{fold, is_none, is_some, nat_lt, slice_get}
 use Rattle.std.specs.List.{AllByRecursion, cons_option, list_any}
 use Rattle.std.specs.Map.{lookup}
 use Rattle.std.specs.Ordering.{nat_cmp}
 use Rattle.std.specs.BTreeMap.{insert_entry, is_at}
-use Rattle.std.specs.Option.{IfSome, option_and_then, option_map, option_map_or, unwrap_or}
+use Rattle.std.specs.Option.{option_map_or, unwrap_or}
 use Rattle.std.proofs.lemmas.Bool.{cases_eq}
 use Rattle.std.proofs.lemmas.Bool.Decides.{nat_tests}
 use Rattle.rd_base.specs.declared.journal.Key.{Key}
-use Rattle.rd_client.specs.Core.{ClientCoreState, Outgoing}
+use Rattle.rd_client.specs.Core.{Outgoing}
 use Rattle.rd_journals.proofs.ChannelLemmas.{all_refreshed, begun_on}
 use Rattle.rd_pending.specs.declared.calls.Handle.{Handle}
-use Rattle.rd_pending.specs.declared.calls.Taken.{Taken}
 use Rattle.rd_pending.specs.declared.calls.Target.{Target}
 use Rattle.rd_pending.specs.Table as table
-use Rattle.rd_pending.specs.Table.{TableState}
 use Rattle.rd_pending.proofs.MapLemmas.{beside, inserted}
-use Rattle.rd_runs.proofs.Insides.{AreOwn, IsInside, IsOwn, Outside, added_inside, all_dropped_inside, applied_inside, hears_inside, put_inside, removed_inside, stationed}
+use Rattle.rd_runs.proofs.Insides.{AreOwn, IsInside, Outside, added_inside, all_dropped_inside, applied_inside, hears_inside, put_inside, removed_inside, stationed}
 use Rattle.rd_runs.proofs.Parts.{IsBehind, IsBehindWithin, IsRefused, MayBe, Part, accepts, adds_one, all_take_keeps, announced_by, applies_one, begins, client_gets, client_hears_one, client_keeps_part, client_sends_one, collects_one, done, draws_one, ends, event_keeps, hands_out, host_gets, host_hears_one, host_keeps_part, host_sends_one, idle_one, is_issue, one_part, part_weight, queues_one, reached_behind, refreshed_by, refuses, removes_one, takes_one, tells_one, told_added, tries_keeps, tries_one, within_behind}
 use Rattle.rd_runs.proofs.Together.{knows}
 use Rattle.rd_runs.specs.Moves.{IsOfLines, MayPass, Reached, ReachedWithin, event_weight, happens}
@@ -40,8 +38,8 @@ use Rattle.rd_world.specs.Lines.{IsDue, Waits, is_submission_of, last_begun, wai
 use Rattle.rd_world.specs.Opening.{bare_lines}
 use Rattle.rd_world.specs.Recording.{client_id}
 use Rattle.rd_world.specs.Run.{declared_devices, queueing}
-use Rattle.rd_world.specs.Talk.{Deed, EndsWith, adds, client_reads, client_writes, completes, host_begins, host_ends, host_reads, host_writes, removes, stores, submits, takes, tells}
-use Rattle.rd_world.specs.World.{ApplicationState, Asked, WorldState, application_at, new_application, station_at, with_application, with_station}
+use Rattle.rd_world.specs.Talk.{Deed, adds, client_reads, client_writes, completes, host_begins, host_ends, host_reads, host_writes, removes, stores, submits, takes, tells}
+use Rattle.rd_world.specs.World.{ApplicationState, Asked, WorldState, application_at, new_application, station_at, with_application}
 use Rattle.rd_outcomes.specs.Trail.{IsTrailed}
 use Rattle.rd_outcomes.proofs.TrailLemmas.{RefusedBy, accepted_trail, handed_trail, refused_trail, trailed_more}
 

@@ -1,21 +1,20 @@
 -- The applications of every run have numbers that they may have, in order; so the outcomes of their lines are told by application and line.
 use Rattle.std.proofs.Common.{◌≡◌, ◌≢◌, ◌⊎◌, ◌∙◌, refl, sym, ap, subst, inl, inr, ℕ, zero, suc, ◌+◌, ◌<◌, ◌≤◌, Bool, true, false, cond, List, [], ◌∷◌, ◌++◌, length, map, filter_map, Some, None, Option, arith}
 use Rattle.std.specs.Prelude.{fold, zip}
-use Rattle.std.specs.List.{AllByRecursion, cons_option, flat_map, range_with_len}
+use Rattle.std.specs.List.{AllByRecursion, flat_map, range_with_len}
 use Rattle.std.specs.List.Sorted.{IsStrictlySortedBy}
 use Rattle.std.specs.Map.{keys_of, lookup}
 use Rattle.std.specs.Ordering.{is_eq, nat_cmp, match_ordering}
 use Rattle.std.specs.declared.cmp.Ordering.{Ordering}
 use Rattle.std.specs.declared.cmp.Ordering.TheVariants.{Less, Equal, Greater}
 use Rattle.std.specs.BTreeMap.{insert_entry, is_at}
-use Rattle.std.specs.Option.{IfSome, option_map_or, unwrap_or}
+use Rattle.std.specs.Option.{IfSome, unwrap_or}
 use Rattle.std.proofs.lemmas.Bool.{cases_eq}
-use Rattle.std.proofs.lemmas.Bool.Decides.{nat_tests}
 use Rattle.rd_base.specs.declared.journal.Key.{Key}
 use Rattle.rd_journals.proofs.ChannelLemmas.{all_refreshed, begun_on}
 use Rattle.rd_pending.proofs.MapLemmas.{rises_with}
 use Rattle.rd_runs.proofs.BeginningLemmas.{Unset, begins_as}
-use Rattle.rd_runs.proofs.Parts.{IsBehind, MayBe, Part, accepts, begins, by_parts, done, hands_out, queues_one, reached_behind, refuses}
+use Rattle.rd_runs.proofs.Parts.{MayBe, Part, accepts, begins, by_parts, done, hands_out, queues_one, reached_behind, refuses}
 use Rattle.rd_runs.specs.Moves.{Reached}
 use Rattle.rd_script.specs.declared.line.NumberedLine.{NumberedLine}
 use Rattle.rd_script.specs.declared.outcome.Outcome.{Outcome}
@@ -25,7 +24,7 @@ use Rattle.rd_world.specs.Applications.{AreApplications, AreNumbered, IsNumber}
 use Rattle.rd_world.specs.Devices.{PrinterNames}
 use Rattle.rd_world.specs.Events.{may_issue}
 use Rattle.rd_world.specs.Report.{outcomes_of, outcomes_under}
-use Rattle.rd_world.specs.Run.{applications_of, asked_by, asking, world_of}
+use Rattle.rd_world.specs.Run.{asked_by, asking, world_of}
 use Rattle.rd_world.specs.Talk.{Has}
 use Rattle.rd_world.specs.World.{ApplicationState, Asked, WorldState, application_at, new_application}
 use Rattle.rd_world.proofs.ApplicationsLemmas.{apart_at, below_of, equal_is}

@@ -1,5 +1,5 @@
 -- The requests that a host wrote on a channel are those that were accepted there, in order, and on the open channel the others wait to be sent.
-use Rattle.std.proofs.Common.{◌≡◌, ◌∙◌, refl, sym, ap, subst, inl, inr, ℕ, ◌+◌, ◌<◌, ◌≤◌, ◌==◌, Bool, true, false, cond, List, [], ◌∷◌, ◌++◌, reverse, Some, None, Option, arith, append_assoc, append-nil, eq-eqb, eqb-true}
+use Rattle.std.proofs.Common.{◌≡◌, ◌∙◌, refl, sym, ap, subst, ℕ, ◌+◌, ◌<◌, ◌≤◌, ◌==◌, Bool, true, false, cond, List, [], ◌∷◌, ◌++◌, reverse, Some, None, Option, arith, append_assoc, eq-eqb, eqb-true}
 use Rattle.std.specs.Prelude.{◌^◌, filter}
 use Rattle.std.specs.List.{AllByRecursion, cons_option}
 use Rattle.std.specs.Option.{option_map_or}
@@ -8,11 +8,10 @@ use Rattle.std.proofs.lemmas.Bool.Decides.{nat_tests}
 use Rattle.rd_base.specs.declared.journal.Key.{Key}
 use Rattle.rd_irp.specs.declared.op.Op.{Op}
 use Rattle.rd_irp.specs.declared.request.Request.{Request}
-use Rattle.rd_irp.specs.Written.{request_bytes}
 use Rattle.rd_irp.proofs.WrittenLemmas.{request_spelled}
 use Rattle.rd_pending.specs.declared.calls.Target.{Target}
 use Rattle.rd_pending.specs.Table as table
-use Rattle.rd_pending.specs.Table.{TableState, accept, device_in, file_in, next_id}
+use Rattle.rd_pending.specs.Table.{TableState, device_in, file_in, next_id}
 use Rattle.rd_pending.proofs.Effects as effects
 use Rattle.rd_pending.proofs.MapLemmas.{free_within}
 use Rattle.rd_pending.proofs.Tame.{Tame, tame_take}
@@ -25,7 +24,7 @@ use Rattle.rd_world.specs.Host.{HostSide, first_waiting, hears, next_message, si
 use Rattle.rd_world.specs.HostDeeds.{IsInRange, side_of}
 use Rattle.rd_world.specs.Lines.{message_of, submitted}
 use Rattle.rd_world.specs.Recording.{client_id}
-use Rattle.rd_world.specs.Talk.{Deed, EndsWith, adds, client_reads, client_writes, completes, has_ended, host_begins, host_ends, host_reads, host_writes, host_wrote, is_open_at, is_request, open_channel, removes, stores, submits, takes, tells}
+use Rattle.rd_world.specs.Talk.{Deed, EndsWith, adds, client_reads, client_writes, completes, host_begins, host_ends, host_reads, host_writes, host_wrote, is_open_at, is_request, open_channel, removes, stores, submits, takes, tells}
 use Rattle.rd_world.specs.World.{WorldState}
 use Rattle.rd_world.proofs.Calls.{Does, read_tame}
 use Rattle.rd_world.proofs.Hearings.{AreQuiet, quiet}

@@ -1,15 +1,9 @@
 -- Of each application the lines ended so far as they should, and part by part that is kept.
-use Rattle.std.proofs.Common.{◌≡◌, ◌⊎◌, ◌∙◌, refl, sym, ap, subst, inl, inr, ℕ, zero, suc, ◌+◌, ◌<◌, ◌≤◌, ◌==◌, ◌&&◌, ◌||◌, Bool, true, false, cond, not, List, [], ◌∷◌, ◌++◌, length, reverse, map, filter_map, Some, None, Option, Result, Ok, Err, arith, append_assoc, append-nil, length-append, eq-eqb, eqb-true}
-use Rattle.std.specs.Prelude.{fold, if◌then◌else◌, is_none, is_some, nat_lt, slice_get}
-use Rattle.std.specs.List.{AllByRecursion, list_any}
-use Rattle.std.specs.Map.{lookup}
-use Rattle.std.specs.Ordering.{nat_cmp}
-use Rattle.std.specs.BTreeMap.{insert_entry, is_at}
-use Rattle.std.specs.Option.{option_map, option_map_or, unwrap_or}
-use Rattle.std.proofs.lemmas.Bool.{cases_eq}
-use Rattle.std.proofs.lemmas.Bool.Decides.{nat_tests}
+use Rattle.std.proofs.Common.{◌≡◌, ◌∙◌, refl, sym, ap, subst, ℕ, suc, ◌+◌, ◌||◌, Bool, true, false, cond, List, [], ◌∷◌, ◌++◌, length, reverse, map, Some, None, Option, Result, Ok, Err, append_assoc}
+use Rattle.std.specs.Prelude.{is_some, slice_get}
+use Rattle.std.specs.List.{list_any}
+use Rattle.std.specs.Option.{option_map_or}
 use Rattle.std.proofs.lemmas.List.{length-reverse, reverse-append}
-use Rattle.rd_base.specs.declared.journal.Key.{Key}
 use Rattle.rd_irp.specs.declared.op.Op.{Op}
 use Rattle.rd_pending.specs.declared.calls.Handle.{Handle}
 use Rattle.rd_pending.specs.declared.calls.SubmitNo.{SubmitNo}
@@ -19,24 +13,20 @@ use Rattle.rd_pending.specs.declared.calls.TakeNo as table_no
 use Rattle.rd_pending.specs.declared.calls.Target.TheVariants as target
 use Rattle.rd_pending.specs.Table as table
 use Rattle.rd_pending.specs.Table.{TableState, submit_refusal}
-use Rattle.rd_pending.proofs.MapLemmas.{beside, inserted}
-use Rattle.rd_script.specs.declared.line.NumberedLine.{NumberedLine}
 use Rattle.rd_script.specs.declared.outcome.Outcome.{Outcome}
 use Rattle.rd_script.specs.declared.outcome.Outcome.TheVariants as outcome
 use Rattle.rd_script.specs.declared.outcome.Refusal.{Refusal}
 use Rattle.rd_script.specs.declared.outcome.Refusal.TheVariants as refusal
 use Rattle.rd_world.specs.Devices.{Declared}
-use Rattle.rd_world.specs.Events.{may_issue, refusal_of, target_of}
+use Rattle.rd_world.specs.Events.{refusal_of, target_of}
 use Rattle.rd_world.specs.Hearing.{given_handle, holding_after, holding_under, next_asked, reported_outcome, with_outcome}
-use Rattle.rd_world.specs.Host.{HostSide}
 use Rattle.rd_world.specs.HostDeeds.{side_of}
 use Rattle.rd_world.specs.Lines.{IsDue, SubmitsNothing, Waits, is_submission_of}
 use Rattle.rd_world.specs.Recording.{client_id}
-use Rattle.rd_world.specs.Talk.{Deed, EndsWith, submits, takes}
-use Rattle.rd_world.specs.World.{ApplicationState, Asked, WorldState, application_at, handle_named, new_application, with_application}
-use Rattle.rd_runs.proofs.Parts.{IsRefused}
-use Rattle.rd_outcomes.specs.Trail.{Chain, EndsAsked, EndsOf, HandedAt, IsEnded, IsKnownAt, IsPending, IsTrailed, Stage, StandsWith, accepted_before, first_stage}
-use Rattle.rd_outcomes.proofs.ChainLemmas.{chain_more, grown_more, handed_more, known_more}
+use Rattle.rd_world.specs.Talk.{Deed, submits, takes}
+use Rattle.rd_world.specs.World.{ApplicationState, Asked, new_application}
+use Rattle.rd_outcomes.specs.Trail.{Chain, EndsAsked, EndsOf, HandedAt, IsEnded, IsPending, IsTrailed, Stage, StandsWith, accepted_before}
+use Rattle.rd_outcomes.proofs.ChainLemmas.{chain_more, grown_more, known_more}
 
 -- ---- lists
 

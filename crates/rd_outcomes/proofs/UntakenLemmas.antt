@@ -1,5 +1,5 @@
 -- What a host hears, and the end of a channel, take no outcome from its table.
-use Rattle.std.proofs.Common.{◌≡◌, ◌≢◌, ◌∙◌, refl, sym, ap, subst, inl, inr, ℕ, Bool, true, false, cond, List, [], ◌∷◌, map, fold, Some, None, Option, Result, Ok, Err}
+use Rattle.std.proofs.Common.{◌≡◌, ◌∙◌, refl, sym, ap, subst, inl, inr, ℕ, Bool, true, false, List, [], ◌∷◌, fold, Some, None, Option, Result, Ok, Err}
 use Rattle.std.specs.Prelude.{IsOk, IsSome, if◌then◌else◌, is_some}
 use Rattle.std.specs.Map.{lookup, set_value}
 use Rattle.std.specs.Ordering.{nat_cmp}

@@ -1,5 +1,5 @@
 -- How far the lines of an application have come, by what was done so far.
-use Rattle.std.specs.Prelude.{◌≡◌, ◌⊎◌, ℕ, List, [], ◌∷◌, ◌++◌, Option, None, Some, Ok, map, reverse}
+use Rattle.std.specs.Prelude.{◌≡◌, ℕ, List, [], ◌∷◌, ◌++◌, Option, None, Some, Ok, reverse}
 use Rattle.std.proofs.Common.{suc}
 use Rattle.rd_pending.specs.declared.calls.SubmitNo.{SubmitNo}
 use Rattle.rd_pending.specs.declared.calls.Taken.{Taken}

@@ -4,7 +4,7 @@ use Rattle.std.specs.Prelude.{filter, if◌then◌else◌}
 use Rattle.std.specs.Option.{option_map_or}
 use Rattle.rd_base.specs.declared.journal.Key.{Key}
 use Rattle.rd_client.specs.Core as client
-use Rattle.rd_client.specs.Core.{ClientCoreState, Outgoing, client_hear, job_of, listed}
+use Rattle.rd_client.specs.Core.{ClientCoreState, Outgoing, client_hear, listed}
 use Rattle.rd_client.specs.declared.heard.Heard.{Heard}
 use Rattle.rd_client.specs.declared.heard.Heard.TheVariants as heard
 use Rattle.rd_devices.specs.declared.list.Announce.{Announce}

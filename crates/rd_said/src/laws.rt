@@ -1,6 +1,6 @@
 //! What was left to be said when a channel ended, as contracts of functions that do nothing.
 
-ghost use Rattle.std.specs.Prelude.{◌≡◌, ℕ, ◌≤◌, Bool, true, List, [], None, Ok, Some, filter_map, length, map, reverse};
+ghost use Rattle.std.specs.Prelude.{◌≡◌, ℕ, ◌≤◌, Bool, true, List, [], Ok, Some, length, map};
 ghost use Rattle.rd_acted.specs.Acted.{control_by_deeds};
 ghost use Rattle.rd_answered.specs.Refusing.{DeclareInRoom};
 ghost use Rattle.rd_base.specs.declared.journal.Key.{Key};
@@ -12,13 +12,11 @@ ghost use Rattle.rd_script.specs.Script.{script_of};
 ghost use Rattle.rd_script.specs.declared.keyword.Mode.{Mode};
 ghost use Rattle.rd_script.specs.declared.line.NumberedLine.{NumberedLine};
 ghost use Rattle.rd_script.specs.declared.script.Script.{Script};
-ghost use Rattle.rd_world.specs.Acts.{act_by, control_at_end, control_by};
-ghost use Rattle.rd_world.specs.Control.{Control};
 ghost use Rattle.rd_world.specs.Devices.{Declared};
 ghost use Rattle.rd_world.specs.Opening.{bare_lines};
-ghost use Rattle.rd_world.specs.Run.{choices, declared_devices};
-ghost use Rattle.rd_world.specs.Session.{AllTold, IsLeftOver, replies_in};
-ghost use Rattle.rd_world.specs.Talk.{Deed, Has, answered, asked, client_read, has_ended, host_wrote, open_channel};
+ghost use Rattle.rd_world.specs.Run.{declared_devices};
+ghost use Rattle.rd_world.specs.Session.{IsLeftOver, replies_in};
+ghost use Rattle.rd_world.specs.Talk.{Deed, has_ended, open_channel};
 ghost use Rattle.rd_world.specs.World.{WorldState};
 
 /// Of each channel that ended something was left to be said, maybe nothing, with which no request there was passed over but for the last, and by which no more was told of devices than is due by what was done.
