@@ -1,6 +1,6 @@
 -- Channels and a linker in memory, as contracts see them.
 use Rattle.std.specs.Prelude.{ℕ, List, map, take}
-use Rattle.rd_link.specs.Links.{Channel, Links}
+use Rattle.rd_link.specs.Links.{SettledChannel, Links}
 use Rattle.rd_link.specs.declared.memory.Settled.{Settled}
 
 -- a channel to come: its bytes, and the numbers of the reads and writes that fail
@@ -28,9 +28,9 @@ pub record LinkerState : Type 0 where
   pub writes : ℕ
 
 -- what a linker tells of a settled channel
-abbrev pub channel_of : Settled → Channel
-channel_of s = record { read = take s.read s.scripted; written = s.written; faults = s.faults; write_faults = s.write_faults }
+abbrev pub told_of : Settled → SettledChannel
+told_of s = record { read = take s.read s.scripted; written = s.written; faults = s.faults; write_faults = s.write_faults }
 
 -- what a linker tells
 abbrev pub links_of : LinkerState → Links
-links_of l = record { settled = map channel_of l.settled; lent = l.lent }
+links_of l = record { settled = map told_of l.settled; lent = l.lent }

@@ -2,7 +2,7 @@
 
 ghost use Rattle.std.specs.Prelude.{◌≡◌, ℕ, Option, IfOk, OnErr};
 ghost use Rattle.rd_base.specs.Faults.{CountsFault};
-ghost use Rattle.rd_link.specs.Links.{Links, Lends, Settles, more_faults};
+ghost use Rattle.rd_link.specs.Links.{Links, Lends, TakesBack, more_faults};
 
 use rd_base::{Failed, Sink, Source};
 
@@ -43,5 +43,5 @@ pub trait Linker {
     fn settle(&mut self, input: Self::In, output: Self::Out)
         ensures failures { failures self.new ≡ failures self.old }
         ensures trouble { trouble self.new ≡ more_faults (trouble self.old) (more_faults (Self.In.faults input) (Self.Out.faults output)) }
-        ensures settles { Settles (linked self.old) (linked self.new) (Self.In.left input) (Self.Out.held output) (Self.In.faults input) (Self.Out.faults output) };
+        ensures settles { TakesBack (linked self.old) (linked self.new) (Self.In.left input) (Self.Out.held output) (Self.In.faults input) (Self.Out.faults output) };
 }

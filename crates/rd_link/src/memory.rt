@@ -2,7 +2,7 @@
 
 ghost use Rattle.std.specs.Prelude.{◌≡◌, ◌∷◌, ◌++◌, ◌-◌, ◌↔◌, ◌⊎◌, ℕ, List, [], Some, Contains, IsErr, IfOk, OnErr, length, map};
 ghost use Rattle.rd_base.specs.Faults.{CountsFault, one_more};
-ghost use Rattle.rd_link.specs.Links.{Lends, Settles, more_faults};
+ghost use Rattle.rd_link.specs.Links.{Lends, TakesBack, more_faults};
 ghost use Rattle.rd_link.specs.InMemory.{Scripted, scripted, links_of};
 
 use crate::halves::{MemIn, MemOut};
@@ -178,7 +178,7 @@ impl Linker for MemLinker {
     fn settle(&mut self, input: MemIn, output: MemOut)
         ensures failures { self.new.failures ≡ self.old.failures }
         ensures trouble { self.new.trouble ≡ more_faults self.old.trouble (more_faults input.faults output.faults) }
-        ensures settles { Settles (Some (links_of self.old)) (Some (links_of self.new)) (Some input.left) (Some output.held) input.faults output.faults }
+        ensures settles { TakesBack (Some (links_of self.old)) (Some (links_of self.new)) (Some input.left) (Some output.held) input.faults output.faults }
         ensures calls { (self.new.calls ≡ self.old.calls) × (self.new.fails ≡ self.old.fails) × (self.new.ahead ≡ self.old.ahead) }
         ensures counts { (self.new.reads ≡ input.calls) × (self.new.writes ≡ output.calls) }
         // What is told has the channel's own bytes.

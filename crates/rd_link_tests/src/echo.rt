@@ -2,7 +2,7 @@
 
 ghost use Rattle.std.specs.Prelude.{◌≡◌, ◌++◌, ◌∷◌, [], ℕ, List, Some, OnOk};
 ghost use Rattle.std.specs.Io.KnownBytes.{Consumes, Appends};
-ghost use Rattle.rd_link.specs.Links.{Channel};
+ghost use Rattle.rd_link.specs.Links.{SettledChannel};
 
 use rd_base::{Failed, Sink, Source, write_all};
 use rd_link::{Hang, Linker};
@@ -25,7 +25,7 @@ pub fn echo_once<L: Linker>(linker: &mut L, room: &mut [u8]) -> Result<(), Faile
     ensures trouble { OnOk result (L.trouble linker.new ≡ L.trouble linker.old) }
     ensures failures { OnOk result (L.failures linker.new ≡ L.failures linker.old) }
     // Where the linker tells its channels, what was written on this one is what was read.
-    ensures echoed { OnOk result ((settled : List Channel) → L.linked linker.old ≡ Some (record { settled = settled; lent = [] })
+    ensures echoed { OnOk result ((settled : List SettledChannel) → L.linked linker.old ≡ Some (record { settled = settled; lent = [] })
         → (bytes : List ℕ) × (L.linked linker.new ≡ Some (record { settled = settled ++ record { read = bytes; written = bytes; faults = 0; write_faults = 0 } ∷ []; lent = [] }))) }
 {
     let (mut input, mut output) = linker.connect()?;
