@@ -1,0 +1,9 @@
+//! The tests of `rd_link`, by its public calls, and a caller of any linker. They stand beside it, since a crate with tests of its own is
+//! proved twice.
+#![tactic(auto)]
+
+mod echo;
+#[cfg(test)]
+mod tests;
+
+pub use echo::{echo_once, pass_on};
