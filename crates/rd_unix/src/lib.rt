@@ -10,6 +10,7 @@ mod clock;
 mod faults;
 mod halves;
 mod linker;
+mod listening;
 
 pub use clock::SystemClock;
 pub use halves::{UnixIn, UnixOut};

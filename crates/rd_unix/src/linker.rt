@@ -5,31 +5,29 @@ ghost use Rattle.std.specs.Prelude.{◌≡◌, None};
 use crate::faults::Faults;
 use crate::halves::{UnixIn, UnixOut, halves_of};
 use rd_base::Failed;
+use crate::listening::Listening;
 use rd_link::Linker;
 use std::io;
 use std::io::Error;
 use std::net::Net;
-use std::os::unix::net::{UnixListener, UnixStream};
+use std::os::unix::net::UnixStream;
 use std::rt::Files;
 
 /// Where a linker's sockets come from.
 #[derive(Drop)]
-enum Place<'a> {
+enum Place<'a, R: Files + Net> {
     /// The other side dials.
-    Bound(UnixListener),
+    Bound(Listening<'a, R>),
     /// The other side can't dial, for this reason.
     Unbound(Error),
     /// The other side listens at this path.
     Dialed(&'a str),
 }
 
-impl Place<'_> {
-    fn stream<R: Net>(&self, rt: &R) -> io::Result<UnixStream> {
+impl<R: Files + Net> Place<'_, R> {
+    fn stream(&self, rt: &R) -> io::Result<UnixStream> {
         match self {
-            Place::Bound(listener) => {
-                let (stream, _) = listener.accept()?;
-                Ok(stream)
-            }
+            Place::Bound(listening) => listening.accept(),
             Place::Unbound(error) => Err(*error),
             Place::Dialed(path) => UnixStream::connect(rt, *path),
         }
@@ -38,23 +36,24 @@ impl Place<'_> {
 
 /// A linker whose channels are sockets at one path. It tells nothing of them.
 #[derive(Drop)]
-pub struct UnixLinker<'a, R> {
+pub struct UnixLinker<'a, R: Files + Net> {
     rt: &'a R,
-    place: Place<'a>,
+    place: Place<'a, R>,
     failures: Faults,
     trouble: Faults,
 }
 
 impl<'a, R: Files + Net> UnixLinker<'a, R> {
-    /// A linker that listens at the path. It makes a socket's file there at once, which stays when the linker is dropped. Where that fails,
-    /// as it does where a file is there already, each call of `connect` fails with that reason. `connect` waits for the other side.
-    pub fn listen(rt: &'a R, path: &str) -> Self
+    /// A linker that listens at the path. It makes a socket's file there at once, which its owner alone may use (mode 0600), and which is
+    /// taken away when the linker is dropped. A socket's file that nobody serves any more is replaced. Where it can't listen, as where the
+    /// path is served or is no socket, each call of `connect` fails with that reason. `connect` waits for the other side.
+    pub fn listen(rt: &'a R, path: &'a str) -> Self
         ensures failures { ⟦<UnixLinker<'a, R> as Linker>⟧.failures result ≡ 0 }
         ensures trouble { ⟦<UnixLinker<'a, R> as Linker>⟧.trouble result ≡ 0 }
         ensures linked { ⟦<UnixLinker<'a, R> as Linker>⟧.linked result ≡ None }
     {
-        let place = match UnixListener::bind(rt, path) {
-            Ok(listener) => Place::Bound(listener),
+        let place = match Listening::new(rt, path) {
+            Ok(listening) => Place::Bound(listening),
             Err(error) => Place::Unbound(error),
         };
         UnixLinker {
@@ -64,9 +63,7 @@ impl<'a, R: Files + Net> UnixLinker<'a, R> {
             trouble: Faults::new(),
         }
     }
-}
 
-impl<'a, R: Net> UnixLinker<'a, R> {
     /// A linker that dials the path at each `connect`, which fails where nobody listens there.
     pub fn dial(rt: &'a R, path: &'a str) -> Self
         ensures failures { ⟦<UnixLinker<'a, R> as Linker>⟧.failures result ≡ 0 }
@@ -88,7 +85,7 @@ impl<'a, R: Net> UnixLinker<'a, R> {
     }
 }
 
-impl<R: Net> Linker for UnixLinker<'_, R> {
+impl<R: Files + Net> Linker for UnixLinker<'_, R> {
     type In = UnixIn;
 
     type Out = UnixOut;

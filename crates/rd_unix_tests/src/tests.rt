@@ -5,6 +5,8 @@ use rd_link::{Clock, Hang, Linker};
 use rd_unix::{SystemClock, UnixLinker};
 use std::fs;
 use std::io::{Error, ErrorKind};
+use std::os::unix::fs::PermissionsExt;
+use std::os::unix::net::UnixListener;
 use std::process::Abort;
 use std::test::Fail;
 
@@ -60,11 +62,12 @@ fn sockets_carry_bytes(rt: HostRuntime) -> Result<(), Fail> {
         (kind(client.last_error()), kind(host.last_error())),
         (Some(ErrorKind::BrokenPipe), None)
     );
-    fs::remove_file(&rt, path)?;
+    drop(host);
+    assert!(rt; !fs::exists(&rt, path)?);
     Ok(())
 }
 
-/// A path at which there is a file is left alone, and what isn't there can't be dialed.
+/// A path that is served, or is no socket, is left alone, and what isn't there can't be dialed.
 #[test]
 fn refused_paths_fail_at_connect(rt: HostRuntime) -> Result<(), Fail> {
     let path = "taken.sock";
@@ -72,10 +75,25 @@ fn refused_paths_fail_at_connect(rt: HostRuntime) -> Result<(), Fail> {
     let mut second = UnixLinker::listen(&rt, path);
     assert!(rt; second.connect().is_err() && second.connect().is_err());
     assert_eq!(rt; kind(second.last_error()), Some(ErrorKind::AddrInUse));
+    fs::write(&rt, "file.sock", b"mine")?;
+    let mut file = UnixLinker::listen(&rt, "file.sock");
+    assert!(rt; file.connect().is_err() && fs::exists(&rt, "file.sock")?);
     let mut nowhere = UnixLinker::dial(&rt, "nowhere.sock");
     assert!(rt; nowhere.connect().is_err());
     assert_eq!(rt; kind(nowhere.last_error()), Some(ErrorKind::NotFound));
-    fs::remove_file(&rt, path)?;
+    Ok(())
+}
+
+/// A socket's file that nobody serves is replaced, and only its owner may use the new one.
+#[test]
+fn left_over_files_are_replaced(rt: HostRuntime) -> Result<(), Fail> {
+    let path = "left.sock";
+    drop(UnixListener::bind(&rt, path)?);
+    assert!(rt; fs::exists(&rt, path)?);
+    let mut host = UnixLinker::listen(&rt, path);
+    assert_eq!(rt; fs::metadata(&rt, path)?.permissions().mode() & 0o777, 0o600);
+    let mut client = UnixLinker::dial(&rt, path);
+    assert!(rt; client.connect().is_ok() && host.connect().is_ok());
     Ok(())
 }
 

@@ -1,0 +1,59 @@
+//! A socket's file that is served.
+
+use std::fs;
+use std::fs::Permissions;
+use std::io;
+use std::io::ErrorKind;
+use std::net::Net;
+use std::os::unix::fs::{FileTypeExt, PermissionsExt};
+use std::os::unix::net::{UnixListener, UnixStream};
+use std::rt::Files;
+
+/// Read and write for the owner, nothing for others.
+const OWNER_ONLY: u32 = 0o600;
+
+/// A listener with its file, which goes with it.
+pub struct Listening<'a, R: Files + Net> {
+    rt: &'a R,
+    path: &'a str,
+    listener: UnixListener,
+}
+
+impl<'a, R: Files + Net> Listening<'a, R> {
+    pub fn new(rt: &'a R, path: &'a str) -> io::Result<Self> {
+        if is_left_over(rt, path) {
+            fs::remove_file(rt, path)?;
+        }
+        let listener = UnixListener::bind(rt, path)?;
+        let listening = Listening { rt, path, listener };
+        fs::set_permissions(rt, path, Permissions::from_mode(OWNER_ONLY))?;
+        Ok(listening)
+    }
+
+    pub fn accept(&self) -> io::Result<UnixStream> {
+        let (stream, _) = self.listener.accept()?;
+        Ok(stream)
+    }
+}
+
+impl<'a, R: Files + Net> Drop for Listening<'a, R> {
+    fn drop(self) {
+        let Self { rt, path, listener } = self;
+        drop(listener);
+        let _ = fs::remove_file(rt, path);
+    }
+}
+
+/// Whether a socket's file stands there that nobody serves. Of one that is served it dials once.
+fn is_left_over<R: Files + Net>(rt: &R, path: &str) -> bool {
+    let Ok(found) = fs::symlink_metadata(rt, path) else {
+        return false;
+    };
+    if !found.file_type().is_socket() {
+        return false;
+    }
+    match UnixStream::connect(rt, path) {
+        Ok(_) => false,
+        Err(error) => error.kind() == ErrorKind::ConnectionRefused,
+    }
+}
