@@ -18,8 +18,8 @@ pub fn summaries_are_as_listed()
     ensures worked { summary_of 20 outcomes_worked ≡ codes "load 20 accepted 4 done 3 lost 1 bytes 3 sum 258\n" }
 {}
 
-/// Where a session came to its end, as at status 0 of `both` and of `load`, its recording is one; and `decode` prints the lines of its messages of it, and no
-/// more, and ends with 0, unless a read or a write fails or memory runs out.
+/// Where a session came to its end, as at status 0 of `both` and of `load`, its recording is one. Where it was written to an empty one that can be told, and is below
+/// 2^40 bytes, `decode` prints the lines of its messages of it, and no more, and ends with 0, unless a read or a write fails or memory runs out.
 pub fn recordings_are_read<R, S, K>()
     ensures good { (script : Script) (before after : Stream R) (books : List (ℕ × History)) (told : Outcomes) (p : Played script before after books told) → (decoded p.recording).whole_fault ≡ None }
     ensures printed { (script : Script) (before after : Stream R) (books : List (ℕ × History)) (told : Outcomes) (p : Played script before after books told) (input input_after : Stream S) (output output_after : Stream K) (status : ℕ) →

@@ -31,14 +31,14 @@ use Rattle.rd_world.specs.Devices.{Declared}
 use Rattle.rd_world.specs.Events.{target_of}
 use Rattle.rd_world.specs.HostDeeds.{MayDo, side_after, side_of}
 use Rattle.rd_world.specs.Joining.{HasReply, IsOwnReply, request_of_accepted}
-use Rattle.rd_world.specs.Lines.{AskedEnds, IsHandedOut, LineEnds, LinesEnd, Waits}
+use Rattle.rd_world.specs.Lines.{AskedEnds, IsAccepted, IsHandedOut, LineEnds, LinesEnd, Waits, outcome_at}
 use Rattle.rd_world.specs.Opening.{bare_lines}
 use Rattle.rd_world.specs.Recording.{client_id}
 use Rattle.rd_world.specs.Run.{declared_devices, notice_of}
 use Rattle.rd_world.specs.Talk.{Deed, client_reads, host_begins, takes}
 use Rattle.rd_world.specs.Told.{Replies}
-use Rattle.rd_world.specs.World.{ApplicationState}
-use Rattle.rd_headline.specs.Wrong.{closed_bytes, earlier_accepted, first_key, head_of_both, knows_first, later_accepted, lost_untaken, other_file, ran_twice, removing_lines, replied_done, replied_refused, sent_unrun}
+use Rattle.rd_world.specs.World.{ApplicationState, Asked}
+use Rattle.rd_headline.specs.Wrong.{closed_bytes, earlier_accepted, first_key, head_of_both, knows_first, later_accepted, lost_untaken, other_file, ran_twice, removing_lines, replied_done, replied_refused, sent_unrun, unheard}
 
 pub sent_without_run : ¬ (EachEntry SendsFirst sent_unrun)
 sent_without_run each = none ((each (Came first_key ∷ []) (Sent first_key) [] refl).0)
@@ -84,12 +84,23 @@ abbrev is_taking : Deed → Bool
 is_taking (takes number) = true
 is_taking _ = false
 
-pub never_taken : (came : table_outcome.Outcome) → ¬ (IsHandedOut 1 came lost_untaken)
-never_taken came is = none (list_any is_taking is.later) (ap (list_any is_taking) is.taken ∙ list_any-append is_taking is.later (takes 1 ∷ is.before))
+none_taken : (number : ℕ) (came : table_outcome.Outcome) → ¬ (IsHandedOut number came lost_untaken)
+none_taken number came is = none (list_any is_taking is.later) (ap (list_any is_taking) is.taken ∙ list_any-append is_taking is.later (takes number ∷ is.before))
   where
     none : (b : Bool) → ¬ (false ≡ (b || true))
     none true e = absurd (cc e)
     none false e = absurd (cc e)
+
+pub never_taken : (devices : List (ℕ × Declared)) (holds : ApplicationState) (x : Asked) (o : Outcome) (before : List Deed) (named : Target) (count : ℕ)
+    → ¬ (IsAccepted devices lost_untaken 1 holds x o (λ next received after. LinesEnd devices lost_untaken 1 next [] [] received after) before named count)
+never_taken devices holds x o before named count (after, parts, came, comes, said, on) = none_taken (suc count) came on.1
+
+pub never_heard : (devices : List (ℕ × Declared)) (holds : ApplicationState) (x : Asked) (o : Outcome) (before : List Deed) (named : Target)
+    → ¬ (IsAccepted devices unheard 1 holds x o (λ next received after. Unit {0}) before named 0)
+never_heard devices holds x o before named (after, parts, came, comes, said, on) = absurd (cc (sym nothing ∙ comes))
+  where
+    nothing : outcome_at unheard 0 ≡ None
+    nothing = refl
 
 pub taken_once : MayDo knows_first (takes 1) × ¬ (MayDo (side_after knows_first (takes 1)) (takes 1))
 taken_once = (refl, λ again. absurd (cc again))
@@ -99,6 +110,9 @@ earlier_completion = refl
 
 pub lost_by_another : accepted_outcome [] earlier_accepted 0 (begins 1 ∷ removes 2 ∷ []) false ≡ None
 lost_by_another = refl
+
+pub lost_while_open : accepted_outcome [] earlier_accepted 0 (begins 1 ∷ []) false ≡ None
+lost_while_open = refl
 
 pub lost_though_heard : accepted_outcome [] earlier_accepted 0 (begins 1 ∷ completes head_of_both closed_bytes ∷ removes 1 ∷ []) true ≡ Some (Done replied_done)
 unfolding completion_body success_body

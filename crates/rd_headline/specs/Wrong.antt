@@ -60,9 +60,13 @@ head_of_both = record { device = 1; completion = 0; status = status.success }
 abbrev pub closed_bytes : List ℕ
 closed_bytes = 0 ∷ 0 ∷ 0 ∷ 0 ∷ []
 
--- a request is accepted and its channel ends, by which it is lost; that isn't handed out
+-- a request, and the end of its channel, by which it is lost; that isn't handed out
 abbrev pub lost_untaken : List Deed
 lost_untaken = host_ends 1 ∷ submits 1 (target.Device 1) op.Close ∷ host_begins 1 ∷ []
+
+-- a request of which nothing was heard, on a channel that is open
+abbrev pub unheard : List Deed
+unheard = submits 1 (target.Device 1) op.Close ∷ host_begins 1 ∷ []
 
 -- a host whose first request is done, which wasn't handed out yet
 abbrev pub knows_first : HostSide

@@ -4,14 +4,14 @@ ghost use Rattle.std.specs.Prelude.{◌≡◌, ◌≢◌, ℕ, ◌≤◌, Bool, 
 ghost use Rattle.rd_base.specs.History.{History};
 ghost use Rattle.rd_base.specs.declared.journal.Key.{Key};
 ghost use Rattle.rd_base.specs.Lawful.{EachEntry, SendsFirst, SettlesFirst};
-ghost use Rattle.rd_headline.specs.Wrong.{closed_bytes, earlier_accepted, first_key, head_of_both, knows_first, later_accepted, lost_untaken, other_file, ran_twice, removing_lines, replied_done, replied_refused, sent_unrun};
+ghost use Rattle.rd_headline.specs.Wrong.{closed_bytes, earlier_accepted, first_key, head_of_both, knows_first, later_accepted, lost_untaken, other_file, ran_twice, removing_lines, replied_done, replied_refused, sent_unrun, unheard};
 ghost use Rattle.rd_irp.specs.Written.{request_bytes};
 ghost use Rattle.rd_loads.specs.AllPremises.{MeetPremises};
 ghost use Rattle.rd_outcomes.specs.Opened.{ChannelsOpen};
 ghost use Rattle.rd_pending.specs.Outcomes.{accepted_outcome};
 ghost use Rattle.rd_pending.specs.Outcomes.Tidings.{begins, completes, removes};
-ghost use Rattle.rd_pending.specs.declared.calls.Outcome as table_outcome;
 ghost use Rattle.rd_pending.specs.declared.calls.Outcome.TheVariants.{Done};
+ghost use Rattle.rd_pending.specs.declared.calls.Target.{Target};
 ghost use Rattle.rd_script.specs.Load.{load_script};
 ghost use Rattle.rd_script.specs.Report.{report_of};
 ghost use Rattle.rd_script.specs.Script.{script_of};
@@ -24,14 +24,14 @@ ghost use Rattle.rd_world.specs.Acts.{act_by, control_by};
 ghost use Rattle.rd_world.specs.Devices.{Declared};
 ghost use Rattle.rd_world.specs.HostDeeds.{MayDo, side_after};
 ghost use Rattle.rd_world.specs.Joining.{HasReply, IsOwnReply};
-ghost use Rattle.rd_world.specs.Lines.{IsHandedOut, LinesEnd, Waits};
+ghost use Rattle.rd_world.specs.Lines.{IsAccepted, LinesEnd, Waits};
 ghost use Rattle.rd_world.specs.Opening.{bare_lines};
 ghost use Rattle.rd_world.specs.Recording.{recording_of_deeds};
 ghost use Rattle.rd_world.specs.Run.{Most, declared_devices};
 ghost use Rattle.rd_world.specs.Session.{IsRun, IsWholeSession};
 ghost use Rattle.rd_world.specs.Talk.{Deed, client_reads, host_begins, takes};
 ghost use Rattle.rd_world.specs.Told.{Replies};
-ghost use Rattle.rd_world.specs.World.{ApplicationState};
+ghost use Rattle.rd_world.specs.World.{ApplicationState, Asked};
 
 /// Each channel opens before the next line passes.
 pub fn channels_open_in_time()
@@ -70,12 +70,16 @@ pub fn wrong_runs_are_refused()
     ensures no_outcome { (devices : List (ℕ × Declared)) (deeds : List Deed) (holds : ApplicationState) (x : Waits) (from : List Deed) → ¬ (LinesEnd devices deeds 1 holds (x ∷ []) [] (λ later. Unit {0}) from) }
     ensures two_outcomes { (devices : List (ℕ × Declared)) (deeds : List Deed) (holds : ApplicationState) (x : Waits) (o other : Outcome) (from : List Deed) → ¬ (LinesEnd devices deeds 1 holds (x ∷ []) (o ∷ other ∷ []) (λ later. Unit {0}) from) }
     // Which its application receives, once: an outcome is never handed out, or is handed out twice.
-    ensures never_taken { (devices : List (ℕ × Declared)) (holds : ApplicationState) (came : table_outcome.Outcome) (from : List Deed) → ¬ (LinesEnd devices lost_untaken 1 holds [] [] (IsHandedOut 1 came) from) }
+    ensures never_taken { (devices : List (ℕ × Declared)) (holds : ApplicationState) (x : Asked) (o : Outcome) (before : List Deed) (named : Target) (count : ℕ)
+        → ¬ (IsAccepted devices lost_untaken 1 holds x o (λ next received after. LinesEnd devices lost_untaken 1 next [] [] received after) before named count) }
     ensures taken_twice { MayDo knows_first (takes 1) × ¬ (MayDo (side_after knows_first (takes 1)) (takes 1)) }
-    // Its own completion: the completion of an earlier request with its id ends a request.
+    // Its own completion: an outcome is told of a request of which nothing was heard, or the completion of an earlier request with its id ends it.
+    ensures never_heard { (devices : List (ℕ × Declared)) (holds : ApplicationState) (x : Asked) (o : Outcome) (before : List Deed) (named : Target)
+        → ¬ (IsAccepted devices unheard 1 holds x o (λ next received after. Unit {0}) before named 0) }
     ensures earlier_completion { accepted_outcome (earlier_accepted ∷ []) later_accepted 0 (begins 1 ∷ completes head_of_both closed_bytes ∷ []) false ≡ None }
-    // Lost only where its device was removed or its channel dropped first: another device was removed, or the completion was heard before.
+    // Lost only where its device was removed or its channel dropped first: another device was removed, or nothing was, or the completion was heard before.
     ensures lost_by_another { accepted_outcome [] earlier_accepted 0 (begins 1 ∷ removes 2 ∷ []) false ≡ None }
+    ensures lost_while_open { accepted_outcome [] earlier_accepted 0 (begins 1 ∷ []) false ≡ None }
     ensures lost_though_heard { accepted_outcome [] earlier_accepted 0 (begins 1 ∷ completes head_of_both closed_bytes ∷ removes 1 ∷ []) true ≡ Some (Done replied_done) }
     // Whatever removals do: a line removes a device, and it isn't done.
     ensures not_removed { filter_map act_by (reverse (host_begins 1 ∷ [])) ≢ (control_by (declared_devices (bare_lines removing_lines)) removing_lines).acts }
