@@ -1,6 +1,6 @@
 //! The halves of a channel in memory.
 
-ghost use Rattle.std.specs.Prelude.{◌≡◌, ◌↔◌, ◌==◌, ◌++◌, [], Ok, Some, Contains, IsErr, IfOk, min, length};
+ghost use Rattle.std.specs.Prelude.{◌≡◌, ◌↔◌, [], Ok, Some, Contains, IsErr, IfOk, min, length};
 ghost use Rattle.std.specs.Io.KnownBytes.{ReadConsumes, WriteAppends};
 ghost use Rattle.std.specs.Io.{ReadsAtMost, WritesAtMost};
 ghost use Rattle.rd_base.specs.Faults.{CountsFault, CountsWriteFault, one_more};

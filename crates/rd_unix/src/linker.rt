@@ -4,8 +4,8 @@ ghost use Rattle.std.specs.Prelude.{◌≡◌, None};
 
 use crate::faults::Faults;
 use crate::halves::{UnixIn, UnixOut, halves_of};
-use rd_base::Failed;
 use crate::listening::Listening;
+use rd_base::Failed;
 use rd_link::Linker;
 use std::io;
 use std::io::Error;

@@ -1,13 +1,12 @@
 //! A socket's file that is served.
 
-use std::fs;
 use std::fs::Permissions;
-use std::io;
 use std::io::ErrorKind;
 use std::net::Net;
 use std::os::unix::fs::{FileTypeExt, PermissionsExt};
 use std::os::unix::net::{UnixListener, UnixStream};
 use std::rt::Files;
+use std::{fs, io};
 
 /// Read and write for the owner, nothing for others.
 const OWNER_ONLY: u32 = 0o600;

@@ -91,7 +91,10 @@ fn left_over_files_are_replaced(rt: HostRuntime) -> Result<(), Fail> {
     drop(UnixListener::bind(&rt, path)?);
     assert!(rt; fs::exists(&rt, path)?);
     let mut host = UnixLinker::listen(&rt, path);
-    assert_eq!(rt; fs::metadata(&rt, path)?.permissions().mode() & 0o777, 0o600);
+    assert_eq!(rt;
+        fs::metadata(&rt, path)?.permissions().mode() & 0o777,
+        0o600
+    );
     let mut client = UnixLinker::dial(&rt, path);
     assert!(rt; client.connect().is_ok() && host.connect().is_ok());
     Ok(())
