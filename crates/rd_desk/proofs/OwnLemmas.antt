@@ -2,7 +2,7 @@
 use Rattle.std.proofs.Common.{◌≡◌, ◌∙◌, ◌⊎◌, refl, sym, ap, subst, ℕ, inl, inr, List, [], ◌∷◌, ◌++◌, append-nil}
 use Rattle.std.specs.Prelude.{Contains}
 use Rattle.std.proofs.lemmas.Grind.{flat_map-append}
-use Rattle.std.proofs.lemmas.List.Elements.{All-contains_itself, All-weaker, Contains-append_right}
+use Rattle.std.proofs.lemmas.List.Elements.{All-contains_itself, All-nil, All-weaker, Contains-append_left, Contains-append_right}
 use Rattle.rd_drive.specs.declared.plan.Job.{Job}
 use Rattle.rd_station.specs.Station.{StationState}
 use Rattle.rd_turn.specs.declared.object.Entry.{Entry}
@@ -15,7 +15,7 @@ use Rattle.rd_desk.specs.declared.calls.DeskCall.TheVariants as call
 use Rattle.rd_desk.specs.declared.calls.DeskReply.{DeskReply}
 use Rattle.rd_desk.specs.declared.calls.DeskReply.TheVariants as reply
 use Rattle.rd_desk.specs.Batch.{WorkedState, jobs_of}
-use Rattle.rd_desk.specs.Desk.{Replies}
+use Rattle.rd_desk.specs.Desk.{Replies, runs_of}
 use Rattle.rd_desk.specs.Own.{GivesOwnBack, WereGiven, given_to, jobs_back, jobs_given}
 
 abbrev E : Type 0
@@ -87,3 +87,12 @@ module _ {O : Type 0} (p q : PassState O DeskCall DeskReply) (runs : List Run) (
   call_given w is = subst (λ (n : ℕ). WereGiven (calls_of n q.seen) w.jobs) (sym number)
       (subst (λ (es : List E). WereGiven es w.jobs) (sym own)
       (subst (λ (jobs : List Job). WereGiven (calls_of p.number p.seen ++ entry p.number (call.Work runs) answer ∷ []) jobs) (ap jobs_given is) (last_given (calls_of p.number p.seen) (entry p.number (call.Work runs) answer))))
+
+-- a call that gives nothing back
+pub idle_back : (own : List E) (e : E) → GivesOwnBack own → runs_of e.call ≡ [] → GivesOwnBack (own ++ e ∷ [])
+idle_back own e gives none = more_back own e gives (subst (λ (runs : List Run). WereGiven own (jobs_of runs)) (sym none) (All-nil (Contains (given_to own))))
+
+-- what was given stays given
+pub still_given : (own later : List E) (jobs : List Job) → WereGiven own jobs → WereGiven (own ++ later) jobs
+still_given own later jobs given =
+    All-weaker (Contains (given_to own)) (Contains (given_to (own ++ later))) (λ job has. subst (λ (l : List Job). Contains l job) (sym (given_append own later)) (Contains-append_left (given_to own) (given_to later) job has)) jobs given

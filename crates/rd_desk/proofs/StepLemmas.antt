@@ -11,13 +11,16 @@ use Rattle.rd_station.specs.declared.answers.Applied.{Applied}
 use Rattle.rd_station.specs.declared.answers.Given.{Given}
 use Rattle.rd_station.specs.declared.answers.Given.TheVariants as given
 use Rattle.rd_station.specs.declared.refusals.PutNo.{PutNo}
-use Rattle.rd_station.specs.Station.{StationCall, StationState, StationStep, StationSteps, applies, puts, take, take_first, takes}
+use Rattle.rd_station.specs.Station.{StationCall, StationState, StationStep, StationSteps, applies, new_station, puts, take, take_first, takes}
+use Rattle.rd_station.specs.Tied.{IsReached}
+use Rattle.rd_turn.specs.declared.object.Entry.{Entry}
+use Rattle.rd_turn.specs.History.{Leads}
 use Rattle.rd_desk.specs.declared.batch.Run.{Run}
 use Rattle.rd_desk.specs.declared.calls.DeskCall.{DeskCall}
 use Rattle.rd_desk.specs.declared.calls.DeskCall.TheVariants as call
 use Rattle.rd_desk.specs.declared.calls.DeskReply.{DeskReply}
 use Rattle.rd_desk.specs.declared.calls.DeskReply.TheVariants as reply
-use Rattle.rd_desk.specs.Desk.{DeskStep, applied_calls, taken_calls, told_by}
+use Rattle.rd_desk.specs.Desk.{DeskStep, applied_calls, taken_calls, told, told_by}
 
 module _ {S : Type 0} (Runs : S → Planned → ℕ → Step → List End → S → Type 0) (parked : S → List Parked) (Cuts : S → S → Type 0) where
   -- calls after calls
@@ -103,3 +106,18 @@ same_step {S} Runs parked Cuts old old' new new' asked asked' answer answer' o a
     (subst (λ (c : DeskCall). DeskStep Runs parked Cuts old c answer' new') (sym a)
     (subst (λ (c : DeskReply). DeskStep Runs parked Cuts old asked c new') (sym r)
     (subst (λ (s : StationState S). DeskStep Runs parked Cuts old asked answer s) (sym n) step)))
+
+-- ---- histories
+
+module _ {S : Type 0} (Runs : S → Planned → ℕ → Step → List End → S → Type 0) (parked : S → List Parked) (Cuts : S → S → Type 0) where
+  pub led_steps : (s t : StationState S) (entries : List (Entry DeskCall DeskReply)) → Leads (DeskStep Runs parked Cuts) s entries t → StationSteps Runs parked Cuts s (told entries) t
+  led_steps s t [] leads = sym leads
+  led_steps s t (e ∷ entries) leads = steps_append Runs parked Cuts s leads.0 t (told_by e.call e.reply) (told entries) leads.1.0 (led_steps leads.0 t entries leads.2)
+
+  pub led_reached : (s t : StationState S) (entries : List (Entry DeskCall DeskReply)) → IsReached Runs parked Cuts s → Leads (DeskStep Runs parked Cuts) s entries t → IsReached Runs parked Cuts t
+  led_reached s t entries is leads = record {
+    device = is.device;
+    nothing = is.nothing;
+    calls = is.calls ++ told entries;
+    steps = steps_append Runs parked Cuts (new_station is.device) s t is.calls (told entries) is.steps (led_steps s t entries leads);
+  }

@@ -9,17 +9,16 @@ use Rattle.rd_drive.specs.declared.plan.Job.{Job}
 use Rattle.rd_station.specs.Station.{StationCall, is_key, puts}
 use Rattle.rd_turn.specs.declared.object.Entry.{Entry}
 use Rattle.rd_desk.specs.declared.calls.DeskCall.{DeskCall}
-use Rattle.rd_desk.specs.declared.calls.DeskCall.TheVariants as call
 use Rattle.rd_desk.specs.declared.calls.DeskReply.{DeskReply}
 use Rattle.rd_desk.specs.declared.calls.DeskReply.TheVariants as reply
 use Rattle.rd_desk.specs.Batch.{jobs_of}
+use Rattle.rd_desk.specs.Desk.{runs_of}
 
 -- ---- what is given and given back
 
 -- the jobs that a call gives back
 abbrev pub jobs_back : DeskCall → List Job
-jobs_back (call.Work runs) = jobs_of runs
-jobs_back _ = []
+jobs_back asked = jobs_of (runs_of asked)
 
 -- the jobs that a reply gives
 abbrev pub jobs_given : DeskReply → List Job
