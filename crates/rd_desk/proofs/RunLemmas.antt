@@ -155,10 +155,10 @@ module _ (requests : Key → Request) where
         let goes = steps_give (told_by e.call e.reply) here leads.0 leads.1.0 own (all_left (PutsOwn requests) (told_by e.call e.reply) (told later) puts_own) in
         let back : (job : Job) → Has job (jobs_back e.call) → IsJobOf requests job = λ job has. given job (from_contains (given_to before) job (All-contains (Contains (given_to before)) (jobs_back e.call) job (gives before later e is) (to_contains (jobs_back e.call) job has))) in
         let next : (job : Job) → Has job (given_to (before ++ e ∷ [])) → IsJobOf requests job = λ job has.
-            elim (has_append job (given_to before) (jobs_given e.reply) (subst (Has job) (given_append before (e ∷ []) ∙ ap (λ l. given_to before ++ l) (append-nil (jobs_given e.reply))) has)) [
-              inl earlier ↦ given job earlier
-              | inr now ↦ given_own e.call e.reply goes.1 job now
-            ] in
+        elim (has_append job (given_to before) (jobs_given e.reply) (subst (Has job) (given_append before (e ∷ []) ∙ ap (λ l. given_to before ++ l) (append-nil (jobs_given e.reply))) has)) [
+          | inl earlier ↦ given job earlier
+          | inr now ↦ given_own e.call e.reply goes.1 job now
+        ] in
         all_both (RunsOwn requests) (told_by e.call e.reply) (told later) (told_own e.call e.reply back)
         (led_own all (before ++ e ∷ []) later leads.0 t (is ∙ sym (append_assoc before (e ∷ []) later)) leads.2 goes.0 next gives (all_right (PutsOwn requests) (told_by e.call e.reply) (told later) puts_own))
 
@@ -169,7 +169,7 @@ given_among number (e ∷ entries) job has = by (e.by == number) (given_among nu
   where
     by : (b : Bool) → (Has job (given_to (calls_of number entries)) → Has job (given_to entries)) → Has job (given_to (cond b (e ∷ calls_of number entries) (calls_of number entries))) → Has job (given_to (e ∷ entries))
     by true among has = elim (has_append job (jobs_given e.reply) (given_to (calls_of number entries)) has) [
-      inl here ↦ has_left job (jobs_given e.reply) (given_to entries) here
+      | inl here ↦ has_left job (jobs_given e.reply) (given_to entries) here
       | inr later ↦ has_right job (jobs_given e.reply) (given_to entries) (among later)
     ]
     by false among has = has_right job (jobs_given e.reply) (given_to entries) (among has)
@@ -240,7 +240,7 @@ module _ {S : Type 0} (Runs : S → Planned → ℕ → Step → List End → S 
   all_own all before (c ∷ calls) old new is named e =
       let goes = step_goes old Runs parked Cuts e.0 c e.1 in
       let next : AreNamed (before ++ job_come c) e.0 = λ job has. elim (has_append job before (job_come c) has) [
-        inl earlier ↦ subst (Has (Came job.key)) (sym goes.grows) (has_left (Came job.key) old.journal goes.more (named job earlier))
+        | inl earlier ↦ subst (Has (Came job.key)) (sym goes.grows) (has_left (Came job.key) old.journal goes.more (named job earlier))
         | inr now ↦ came_now old Runs parked Cuts e.0 c e.1 job now
       ] in
       (call_own all before (flat_map job_come calls) old e.0 c is named e.1, all_own all (before ++ job_come c) calls e.0 new (is ∙ sym (append_assoc before (job_come c) (flat_map job_come calls))) next e.2)
