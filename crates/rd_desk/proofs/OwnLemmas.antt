@@ -39,15 +39,20 @@ at_or_last (y ∷ xs) (b ∷ before) later last x is =
 
 -- no calls give nothing back
 pub none_back : (entries : List E) → entries ≡ [] → GivesOwnBack entries
-none_back entries none [] later e is = absurd (cc (none, is))
-none_back entries none (b ∷ before) later e is = absurd (cc (none, is))
+none_back entries none = record { each = each }
+  where
+    each : (before later : List E) (e : E) → entries ≡ before ++ e ∷ later → WereGiven before (jobs_back e.call)
+    each [] later e is = absurd (cc (none, is))
+    each (b ∷ before) later e is = absurd (cc (none, is))
 
 -- a call more
 pub more_back : (own : List E) (e : E) → GivesOwnBack own → WereGiven own (jobs_back e.call) → GivesOwnBack (own ++ e ∷ [])
-more_back own last gives given before later e is = elim (at_or_last own before later last e is) [
-  | inl there ↦ gives before there.0 e there.1
-  | inr here ↦ subst (λ (es : List E). WereGiven es (jobs_back e.call)) (sym here.0) (subst (λ (x : E). WereGiven own (jobs_back x.call)) (sym here.1) given)
-]
+more_back own last gives given = record {
+  each = λ before later e is. elim (at_or_last own before later last e is) [
+    inl there ↦ gives.each before there.0 e there.1
+    | inr here ↦ subst (λ (es : List E). WereGiven es (jobs_back e.call)) (sym here.0) (subst (λ (x : E). WereGiven own (jobs_back x.call)) (sym here.1) given)
+  ];
+}
 
 pub given_append : (xs ys : List E) → given_to (xs ++ ys) ≡ given_to xs ++ given_to ys
 given_append xs ys = flat_map-append (λ (e : E). jobs_given e.reply) xs ys

@@ -179,7 +179,7 @@ whole_gives : (most : ℕ) (entries : List E) → All (λ (e : E). e.by ≤ most
     → (b l : List E) (e : E) → entries ≡ b ++ e ∷ l → WereGiven b (jobs_back e.call)
 whole_gives most entries few gives b l e is =
     All-weaker (Contains (given_to (calls_of e.by b))) (Contains (given_to b)) (λ job has. to_contains (given_to b) job (given_among e.by b job (from_contains (given_to (calls_of e.by b)) job has))) (jobs_back e.call)
-    (gives e.by (by_at most entries b l e few is) (calls_of e.by b) (calls_of e.by l) e (calls_of-at entries b l e is))
+    ((gives e.by (by_at most entries b l e few is)).each (calls_of e.by b) (calls_of e.by l) e (calls_of-at entries b l e is))
 
 pub history_own : {S : Type 0} (Runs : S → Planned → ℕ → Step → List End → S → Type 0) (parked : S → List Parked) (Cuts : S → S → Type 0) (requests : Key → Request) (s t : StationState S) (entries : List E) (most : ℕ)
     → Leads (DeskStep Runs parked Cuts) s entries t → All (λ (e : E). e.by ≤ most) entries → ((number : ℕ) → number ≤ most → GivesOwnBack (calls_of number entries))

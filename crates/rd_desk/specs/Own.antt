@@ -34,8 +34,8 @@ abbrev pub WereGiven : List (Entry DeskCall DeskReply) → List Job → Type 0
 WereGiven entries jobs = All (Contains (given_to entries)) jobs
 
 -- The calls of one pass: each job that one of them gives back was given in an earlier one.
-abbrev pub GivesOwnBack : List (Entry DeskCall DeskReply) → Type 0
-GivesOwnBack entries = (before later : List (Entry DeskCall DeskReply)) (e : Entry DeskCall DeskReply) → entries ≡ before ++ e ∷ later → WereGiven before (jobs_back e.call)
+pub record GivesOwnBack (entries : List (Entry DeskCall DeskReply)) : Type 0 where
+  pub each : (before later : List (Entry DeskCall DeskReply)) (e : Entry DeskCall DeskReply) → entries ≡ before ++ e ∷ later → WereGiven before (jobs_back e.call)
 
 -- ---- of which request a job is
 

@@ -58,10 +58,10 @@ other (inr none) = none
 
 pub returns-clause-not_own : goal.returns-clause-not_own
 returns-clause-not_own c = λ gives.
-    let given : WereGiven (took 1 (close 0 7 ∷ []) ∷ []) (close 1 8 ∷ []) = gives (took 1 (close 0 7 ∷ []) ∷ []) [] (gave 1 (close 1 8)) refl in
+    let given : WereGiven (took 1 (close 0 7 ∷ []) ∷ []) (close 1 8 ∷ []) = gives.each (took 1 (close 0 7 ∷ []) ∷ []) [] (gave 1 (close 1 8)) refl in
     other (from_contains (close 0 7 ∷ []) (close 1 8) (All-head (Contains (close 0 7 ∷ [])) (close 1 8) [] given))
 
 pub returns-clause-not_later : goal.returns-clause-not_later
 returns-clause-not_later c = λ gives.
-    let given : WereGiven [] (close 0 7 ∷ []) = gives [] (took 1 (close 0 7 ∷ []) ∷ []) (gave 1 (close 0 7)) refl in
+    let given : WereGiven [] (close 0 7 ∷ []) = gives.each [] (took 1 (close 0 7 ∷ []) ∷ []) (gave 1 (close 0 7)) refl in
     from_contains [] (close 0 7) (All-head (Contains []) (close 0 7) [] given)
