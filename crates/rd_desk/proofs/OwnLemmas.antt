@@ -49,10 +49,14 @@ none_back entries none = record { each = each }
 pub more_back : (own : List E) (e : E) → GivesOwnBack own → WereGiven own (jobs_back e.call) → GivesOwnBack (own ++ e ∷ [])
 more_back own last gives given = record {
   each = λ before later e is. elim (at_or_last own before later last e is) [
-    inl there ↦ gives.each before there.0 e there.1
+    | inl there ↦ gives.each before there.0 e there.1
     | inr here ↦ subst (λ (es : List E). WereGiven es (jobs_back e.call)) (sym here.0) (subst (λ (x : E). WereGiven own (jobs_back x.call)) (sym here.1) given)
   ];
 }
+
+-- a call that gives nothing back
+pub idle_back : (own : List E) (e : E) → GivesOwnBack own → runs_of e.call ≡ [] → GivesOwnBack (own ++ e ∷ [])
+idle_back own e gives none = more_back own e gives (subst (λ (runs : List Run). WereGiven own (jobs_of runs)) (sym none) (All-nil (Contains (given_to own))))
 
 pub given_append : (xs ys : List E) → given_to (xs ++ ys) ≡ given_to xs ++ given_to ys
 given_append xs ys = flat_map-append (λ (e : E). jobs_given e.reply) xs ys
@@ -80,22 +84,24 @@ worked_only runs (reply.Removed r) new is = absurd is
 worked_only runs reply.Dropped new is = absurd is
 worked_only runs reply.Ended new is = absurd is
 
--- ---- a pass that makes a call of a hand
+-- ---- a pass that makes a call
 
-module _ {O : Type 0} (p q : PassState O DeskCall DeskReply) (runs : List Run) (answer : DeskReply) (number : q.number ≡ p.number)
-    (own : calls_of p.number q.seen ≡ calls_of p.number p.seen ++ entry p.number (call.Work runs) answer ∷ []) where
-  pub call_gives : GivesOwnBack (calls_of p.number p.seen) → WereGiven (calls_of p.number p.seen) (jobs_of runs) → GivesOwnBack (calls_of q.number q.seen)
+module _ {O : Type 0} (p q : PassState O DeskCall DeskReply) (asked : DeskCall) (answer : DeskReply) (number : q.number ≡ p.number)
+    (own : calls_of p.number q.seen ≡ calls_of p.number p.seen ++ entry p.number asked answer ∷ []) where
+  pub call_gives : GivesOwnBack (calls_of p.number p.seen) → WereGiven (calls_of p.number p.seen) (jobs_back asked) → GivesOwnBack (calls_of q.number q.seen)
   call_gives gives given = subst (λ (n : ℕ). GivesOwnBack (calls_of n q.seen)) (sym number)
-      (subst GivesOwnBack (sym own) (more_back (calls_of p.number p.seen) (entry p.number (call.Work runs) answer) gives given))
+      (subst GivesOwnBack (sym own) (more_back (calls_of p.number p.seen) (entry p.number asked answer) gives given))
 
+  -- one that gives nothing back
+  pub call_idle : runs_of asked ≡ [] → GivesOwnBack (calls_of p.number p.seen) → GivesOwnBack (calls_of q.number q.seen)
+  call_idle none gives = subst (λ (n : ℕ). GivesOwnBack (calls_of n q.seen)) (sym number)
+      (subst GivesOwnBack (sym own) (idle_back (calls_of p.number p.seen) (entry p.number asked answer) gives none))
+
+  -- what a hand is given was given then
   pub call_given : (w : WorkedState) → answer ≡ reply.Worked w → WereGiven (calls_of q.number q.seen) w.jobs
   call_given w is = subst (λ (n : ℕ). WereGiven (calls_of n q.seen) w.jobs) (sym number)
       (subst (λ (es : List E). WereGiven es w.jobs) (sym own)
-      (subst (λ (jobs : List Job). WereGiven (calls_of p.number p.seen ++ entry p.number (call.Work runs) answer ∷ []) jobs) (ap jobs_given is) (last_given (calls_of p.number p.seen) (entry p.number (call.Work runs) answer))))
-
--- a call that gives nothing back
-pub idle_back : (own : List E) (e : E) → GivesOwnBack own → runs_of e.call ≡ [] → GivesOwnBack (own ++ e ∷ [])
-idle_back own e gives none = more_back own e gives (subst (λ (runs : List Run). WereGiven own (jobs_of runs)) (sym none) (All-nil (Contains (given_to own))))
+      (subst (λ (jobs : List Job). WereGiven (calls_of p.number p.seen ++ entry p.number asked answer ∷ []) jobs) (ap jobs_given is) (last_given (calls_of p.number p.seen) (entry p.number asked answer))))
 
 -- what was given stays given
 pub still_given : (own later : List E) (jobs : List Job) → WereGiven own jobs → WereGiven (own ++ later) jobs

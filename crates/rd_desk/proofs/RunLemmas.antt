@@ -7,16 +7,18 @@ use Rattle.std.proofs.lemmas.List.Elements.{All-contains, All-weaker}
 use Rattle.rd_base.specs.declared.journal.Item.TheVariants.{Came}
 use Rattle.rd_base.specs.declared.journal.Key.{Key}
 use Rattle.rd_base.specs.Lawful.{IsBelow, named_key}
+use Rattle.rd_irp.specs.declared.op.Op.{Op}
 use Rattle.rd_irp.specs.declared.request.Request.{Request}
 use Rattle.rd_drive.specs.declared.plan.Job.{Job}
 use Rattle.rd_drive.specs.declared.step.Step.{Step}
 use Rattle.rd_drive.specs.declared.step.End.{End}
 use Rattle.rd_drive.specs.Device.{Parked}
 use Rattle.rd_drive.specs.Planned.{Planned}
+use Rattle.rd_drive.specs.Stepped.{Settled, Stepped}
 use Rattle.rd_station.specs.declared.answers.Applied.{Applied}
 use Rattle.rd_station.specs.declared.answers.Given.TheVariants as given
-use Rattle.rd_station.specs.Station.{StationCall, StationState, StationStep, StationSteps, announces, applies, collects, drops, ends, is_key, puts, puts_unfit, removes, takes}
-use Rattle.rd_station.specs.Tied.{RunsOwn}
+use Rattle.rd_station.specs.Station.{StationCall, StationState, StationStep, StationSteps, announces, applies, collects, drops, ends, is_key, new_station, puts, puts_unfit, removes, takes}
+use Rattle.rd_station.specs.Tied.{IsRunBy, IsTied, RunsOwn}
 use Rattle.rd_station.proofs.Members.{Has, from_contains, has_append, has_left, has_right, key_self, same_key, to_contains}
 use Rattle.rd_turn.specs.declared.object.Entry.{Entry}
 use Rattle.rd_turn.specs.History.{Leads, calls_of}
@@ -28,6 +30,8 @@ use Rattle.rd_desk.specs.declared.calls.DeskReply.TheVariants as reply
 use Rattle.rd_desk.specs.Batch.{jobs_of}
 use Rattle.rd_desk.specs.Desk.{DeskStep, applied_calls, job_put, most_given, runs_of, taken_calls, told, told_by}
 use Rattle.rd_desk.specs.Own.{GivesOwnBack, IsJobOf, PutsOwn, WereGiven, given_to, job_come, jobs_back, jobs_given, no_request, request_of, request_put}
+use Rattle.rd_station.proofs.Tying.{all_tied}
+use Rattle.rd_desk.proofs.StepLemmas.{led_steps}
 use Rattle.rd_desk.proofs.OwnLemmas.{given_append}
 use Rattle.rd_desk.proofs.WaitingLemmas.{came_now, given_waited, step_goes}
 
@@ -247,3 +251,12 @@ module _ {S : Type 0} (Runs : S → Planned → ℕ → Step → List End → S 
 
   pub puts_are_own : (calls : List StationCall) (old new : StationState S) → StationSteps Runs parked Cuts old calls new → AllByRecursion (PutsOwn (request_put calls)) calls
   puts_are_own calls old new steps = all_own (flat_map job_come calls) [] calls old new refl (λ job none. absurd none) steps
+
+-- So over a new station of a device that a step and a cut compute, the station is tied to its journal by the requests of the jobs that came.
+pub history_tied : {S : Type 0} (Runs : S → Planned → ℕ → Step → List End → S → Type 0) (parked : S → List Parked) (Cuts : S → S → Type 0) (step : S → Key → ℕ → Op → ℕ → Stepped S) (cut : S → Settled S) (device : S) (t : StationState S) (entries : List E)
+    (most : ℕ) → IsRunBy step cut Runs parked Cuts → parked device ≡ [] → Leads (DeskStep Runs parked Cuts) (new_station device) entries t → All (λ (e : E). e.by ≤ most) entries
+    → ((number : ℕ) → number ≤ most → GivesOwnBack (calls_of number entries)) → IsTied step cut (request_put (told entries)) device t
+history_tied Runs parked Cuts step cut device t entries most by_step nothing leads few gives =
+    let steps = led_steps Runs parked Cuts (new_station device) t entries leads in
+    all_tied step cut (request_put (told entries)) Runs parked Cuts by_step device (told entries) t nothing
+    (history_own Runs parked Cuts (request_put (told entries)) (new_station device) t entries most leads few gives tt (puts_are_own Runs parked Cuts (told entries) (new_station device) t steps)) steps

@@ -3,6 +3,4 @@
 
 mod side_by_side;
 
-
-
 pub use side_by_side::{run_two, work_side_by_side};

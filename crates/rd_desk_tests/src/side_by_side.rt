@@ -9,7 +9,7 @@ ghost use Rattle.rd_turn.specs.History.{calls_of, entry};
 ghost use Rattle.rd_turn.specs.Pass.{max_made, Belongs, IsSamePass};
 ghost use Rattle.rd_desk.specs.declared.calls.DeskCall.{DeskCall};
 ghost use Rattle.rd_desk.specs.declared.calls.DeskReply.{DeskReply};
-ghost use Rattle.rd_desk.specs.Desk.{told};
+ghost use Rattle.rd_desk.specs.Desk.{runs_of, told};
 ghost use Rattle.rd_desk.specs.Own.{GivesOwnBack, request_put};
 
 use rd_desk::{Batch, Desk, DeskCall, Hand};
@@ -81,6 +81,22 @@ pub fn work_side_by_side<T: Threads + Wait + Sync>(
     pass
 }
 
+/// A call that gives nothing back, of which the reply isn't looked at.
+fn tell<T: Wait>(
+    rt: &T,
+    turn: &Turn<Desk<MemoryDrive>>,
+    pass: &mut Pass<Desk<MemoryDrive>>,
+    call: DeskCall,
+)
+    requires own { Belongs turn.now pass.old }
+    requires idle { runs_of call ≡ [] }
+    ensures own { Belongs turn.now pass.new }
+    ensures same { IsSamePass pass.old pass.new }
+    ensures gives { GivesOwnBack (calls_of pass.old.number pass.old.seen) → GivesOwnBack (calls_of pass.new.number pass.new.seen) }
+{
+    turn.call(rt, pass, call);
+}
+
 /// Puts two jobs at the desk of a drive, lets two hands work side by side, and gives the station back: what it has run are the two jobs, whoever ran them.
 pub fn run_two<T: Threads + Wait + Sync>(
     rt: &T,
@@ -99,9 +115,9 @@ pub fn run_two<T: Threads + Wait + Sync>(
     let Ok((turn, mut pass)) = Turn::new(alloc, Desk { station }) else {
         return None;
     };
-    turn.call(rt, &mut pass, DeskCall::Announce);
-    turn.call(rt, &mut pass, DeskCall::Put(first));
-    turn.call(rt, &mut pass, DeskCall::Put(second));
+    tell(rt, &turn, &mut pass, DeskCall::Announce);
+    tell(rt, &turn, &mut pass, DeskCall::Put(first));
+    tell(rt, &turn, &mut pass, DeskCall::Put(second));
     let pass = work_side_by_side(rt, alloc, &turn, pass, moment);
     let Desk { station } = turn.close(pass);
     Some(station)

@@ -1,4 +1,4 @@
-use Rattle.std.proofs.Common.{◌≡◌, ◌∙◌, List, subst, sym}
+use Rattle.std.proofs.Common.{◌∙◌, List, subst, sym}
 use Rattle.rd_drive.specs.declared.plan.Job.{Job}
 use Rattle.rd_turn.specs.History.{calls_of}
 use Rattle.rd_desk.specs.Own.{WereGiven}
