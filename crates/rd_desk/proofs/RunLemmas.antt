@@ -28,8 +28,8 @@ use Rattle.rd_desk.specs.declared.calls.DeskCall.{DeskCall}
 use Rattle.rd_desk.specs.declared.calls.DeskReply.{DeskReply}
 use Rattle.rd_desk.specs.declared.calls.DeskReply.TheVariants as reply
 use Rattle.rd_desk.specs.Batch.{jobs_of}
-use Rattle.rd_desk.specs.Desk.{DeskStep, applied_calls, job_put, most_given, runs_of, taken_calls, told, told_by}
-use Rattle.rd_desk.specs.Own.{GivesOwnBack, IsJobOf, PutsOwn, WereGiven, given_to, job_come, jobs_back, jobs_given, no_request, request_of, request_put}
+use Rattle.rd_desk.specs.Desk.{DeskStep, applied_calls, job_put, most_given, runs_of, taken_calls, told_calls, told_by}
+use Rattle.rd_desk.specs.Own.{GivesOwnBack, IsOwnJob, PutsOwn, WereGiven, given_to, job_come, jobs_back, jobs_given, no_job_request, job_request, request_put}
 use Rattle.rd_station.proofs.Tying.{all_tied}
 use Rattle.rd_desk.proofs.StepLemmas.{led_steps}
 use Rattle.rd_desk.proofs.OwnLemmas.{given_append}
@@ -59,8 +59,8 @@ all_has P [] all x none = absurd none
 
 module _ (requests : Key → Request) where
   -- a job that comes is its request's
-  comes_own : (c : StationCall) → PutsOwn requests c → (job : Job) → Has job (job_come c) → IsJobOf requests job
-  comes_own (puts j None) own job (inl same) = subst (IsJobOf requests) (sym same) own
+  comes_own : (c : StationCall) → PutsOwn requests c → (job : Job) → Has job (job_come c) → IsOwnJob requests job
+  comes_own (puts j None) own job (inl same) = subst (IsOwnJob requests) (sym same) own
   comes_own (puts j None) own job (inr none) = absurd none
   comes_own (puts j (Some refusal)) own job none = absurd none
   comes_own (announces r) own job none = absurd none
@@ -74,11 +74,11 @@ module _ (requests : Key → Request) where
 
   -- a job that is given is its request's
   abbrev GivesOwn : StationCall → Type 0
-  GivesOwn (takes (given.Job job)) = IsJobOf requests job
+  GivesOwn (takes (given.Job job)) = IsOwnJob requests job
   GivesOwn _ = Unit {0}
 
   -- plans of such jobs run their requests
-  runs_own : (runs : List Run) (answers : List Applied) → ((job : Job) → Has job (jobs_of runs) → IsJobOf requests job) → AllByRecursion (RunsOwn requests) (applied_calls runs answers)
+  runs_own : (runs : List Run) (answers : List Applied) → ((job : Job) → Has job (jobs_of runs) → IsOwnJob requests job) → AllByRecursion (RunsOwn requests) (applied_calls runs answers)
   runs_own [] answers own = tt
   runs_own (run ∷ runs) [] own = tt
   runs_own (run ∷ runs) (answer ∷ answers) own = ((λ did. own run.plan.job (inl refl)), runs_own runs answers (λ job has. own job (inr has)))
@@ -96,7 +96,7 @@ module _ (requests : Key → Request) where
   puts_run_none (job ∷ jobs) f each = (each job, puts_run_none jobs f each)
 
   -- so a call of the desk that gives back such jobs runs its requests
-  told_own : (asked : DeskCall) (answer : DeskReply) → ((job : Job) → Has job (jobs_back asked) → IsJobOf requests job) → AllByRecursion (RunsOwn requests) (told_by asked answer)
+  told_own : (asked : DeskCall) (answer : DeskReply) → ((job : Job) → Has job (jobs_back asked) → IsOwnJob requests job) → AllByRecursion (RunsOwn requests) (told_by asked answer)
   told_own asked (reply.Announced r) own = (tt, tt)
   told_own asked (reply.Put (Ok done)) own = puts_run_none (job_put asked) (λ job. puts job None) (λ job. tt)
   told_own asked (reply.Put (Err refusal)) own = puts_run_none (job_put asked) (λ job. puts job (Some refusal)) (λ job. tt)
@@ -109,12 +109,12 @@ module _ (requests : Key → Request) where
   told_own asked reply.Ended own = (tt, tt)
 
   -- what the takes of a call give
-  takes_give : (jobs : List Job) (last : List StationCall) → AllByRecursion GivesOwn (map (λ (job : Job). takes (given.Job job)) jobs ++ last) → (job : Job) → Has job jobs → IsJobOf requests job
-  takes_give (j ∷ jobs) last all job (inl same) = subst (IsJobOf requests) (sym same) all.0
+  takes_give : (jobs : List Job) (last : List StationCall) → AllByRecursion GivesOwn (map (λ (job : Job). takes (given.Job job)) jobs ++ last) → (job : Job) → Has job jobs → IsOwnJob requests job
+  takes_give (j ∷ jobs) last all job (inl same) = subst (IsOwnJob requests) (sym same) all.0
   takes_give (j ∷ jobs) last all job (inr later) = takes_give jobs last all.1 job later
   takes_give [] last all job none = absurd none
 
-  given_own : (asked : DeskCall) (answer : DeskReply) → AllByRecursion GivesOwn (told_by asked answer) → (job : Job) → Has job (jobs_given answer) → IsJobOf requests job
+  given_own : (asked : DeskCall) (answer : DeskReply) → AllByRecursion GivesOwn (told_by asked answer) → (job : Job) → Has job (jobs_given answer) → IsOwnJob requests job
   given_own asked (reply.Worked w) all job has = takes_give w.jobs (cond (nat_lt (length w.jobs) most_given) (takes (cond w.over given.Over given.Nothing) ∷ []) [])
       (all_right GivesOwn (applied_calls (runs_of asked) w.applied) (taken_calls w.jobs w.over) all) job has
   given_own asked (reply.Announced r) all job none = absurd none
@@ -128,7 +128,7 @@ module _ (requests : Key → Request) where
   module _ {S : Type 0} (Runs : S → Planned → ℕ → Step → List End → S → Type 0) (parked : S → List Parked) (Cuts : S → S → Type 0) where
     -- what waits is its request's
     abbrev WaitsOwn : StationState S → Type 0
-    WaitsOwn s = (job : Job) → Has job s.waiting → IsJobOf requests job
+    WaitsOwn s = (job : Job) → Has job s.waiting → IsOwnJob requests job
 
     step_gives : (old new : StationState S) (c : StationCall) → StationStep Runs parked Cuts old c new → WaitsOwn old → GivesOwn c
     step_gives old new (takes (given.Job job)) e own = own job (given_waited old Runs parked Cuts new job e)
@@ -152,19 +152,19 @@ module _ (requests : Key → Request) where
         (later.0, (step_gives old e.0 c e.1 own, later.1))
 
     -- Where each call gives back what was given before, each run is of its key's request.
-    led_own : (all before later : List E) (here t : StationState S) → all ≡ before ++ later → Leads (DeskStep Runs parked Cuts) here later t → WaitsOwn here → ((job : Job) → Has job (given_to before) → IsJobOf requests job)
-        → ((b l : List E) (e : E) → all ≡ b ++ e ∷ l → WereGiven b (jobs_back e.call)) → AllByRecursion (PutsOwn requests) (told later) → AllByRecursion (RunsOwn requests) (told later)
+    led_own : (all before later : List E) (here t : StationState S) → all ≡ before ++ later → Leads (DeskStep Runs parked Cuts) here later t → WaitsOwn here → ((job : Job) → Has job (given_to before) → IsOwnJob requests job)
+        → ((b l : List E) (e : E) → all ≡ b ++ e ∷ l → WereGiven b (jobs_back e.call)) → AllByRecursion (PutsOwn requests) (told_calls later) → AllByRecursion (RunsOwn requests) (told_calls later)
     led_own all before [] here t is leads own given gives puts_own = tt
     led_own all before (e ∷ later) here t is leads own given gives puts_own =
-        let goes = steps_give (told_by e.call e.reply) here leads.0 leads.1.0 own (all_left (PutsOwn requests) (told_by e.call e.reply) (told later) puts_own) in
-        let back : (job : Job) → Has job (jobs_back e.call) → IsJobOf requests job = λ job has. given job (from_contains (given_to before) job (All-contains (Contains (given_to before)) (jobs_back e.call) job (gives before later e is) (to_contains (jobs_back e.call) job has))) in
-        let next : (job : Job) → Has job (given_to (before ++ e ∷ [])) → IsJobOf requests job = λ job has.
+        let goes = steps_give (told_by e.call e.reply) here leads.0 leads.1.0 own (all_left (PutsOwn requests) (told_by e.call e.reply) (told_calls later) puts_own) in
+        let back : (job : Job) → Has job (jobs_back e.call) → IsOwnJob requests job = λ job has. given job (from_contains (given_to before) job (All-contains (Contains (given_to before)) (jobs_back e.call) job (gives before later e is) (to_contains (jobs_back e.call) job has))) in
+        let next : (job : Job) → Has job (given_to (before ++ e ∷ [])) → IsOwnJob requests job = λ job has.
         elim (has_append job (given_to before) (jobs_given e.reply) (subst (Has job) (given_append before (e ∷ []) ∙ ap (λ l. given_to before ++ l) (append-nil (jobs_given e.reply))) has)) [
           | inl earlier ↦ given job earlier
           | inr now ↦ given_own e.call e.reply goes.1 job now
         ] in
-        all_both (RunsOwn requests) (told_by e.call e.reply) (told later) (told_own e.call e.reply back)
-        (led_own all (before ++ e ∷ []) later leads.0 t (is ∙ sym (append_assoc before (e ∷ []) later)) leads.2 goes.0 next gives (all_right (PutsOwn requests) (told_by e.call e.reply) (told later) puts_own))
+        all_both (RunsOwn requests) (told_by e.call e.reply) (told_calls later) (told_own e.call e.reply back)
+        (led_own all (before ++ e ∷ []) later leads.0 t (is ∙ sym (append_assoc before (e ∷ []) later)) leads.2 goes.0 next gives (all_right (PutsOwn requests) (told_by e.call e.reply) (told_calls later) puts_own))
 
 -- what a pass was given was given
 given_among : (number : ℕ) (entries : List E) (job : Job) → Has job (given_to (calls_of number entries)) → Has job (given_to entries)
@@ -187,9 +187,9 @@ whole_gives most entries few gives b l e is =
 
 pub history_own : {S : Type 0} (Runs : S → Planned → ℕ → Step → List End → S → Type 0) (parked : S → List Parked) (Cuts : S → S → Type 0) (requests : Key → Request) (s t : StationState S) (entries : List E) (most : ℕ)
     → Leads (DeskStep Runs parked Cuts) s entries t → All (λ (e : E). e.by ≤ most) entries → ((number : ℕ) → number ≤ most → GivesOwnBack (calls_of number entries))
-    → AllByRecursion (IsJobOf requests) s.waiting → AllByRecursion (PutsOwn requests) (told entries) → AllByRecursion (RunsOwn requests) (told entries)
+    → AllByRecursion (IsOwnJob requests) s.waiting → AllByRecursion (PutsOwn requests) (told_calls entries) → AllByRecursion (RunsOwn requests) (told_calls entries)
 history_own Runs parked Cuts requests s t entries most leads few gives waiting puts_own =
-    led_own requests Runs parked Cuts entries [] entries s t refl leads (all_has (IsJobOf requests) s.waiting waiting) (λ job none. absurd none) (whole_gives most entries few gives) puts_own
+    led_own requests Runs parked Cuts entries [] entries s t refl leads (all_has (IsOwnJob requests) s.waiting waiting) (λ job none. absurd none) (whole_gives most entries few gives) puts_own
 
 -- ---- each key has one job
 
@@ -211,14 +211,14 @@ below_other k key below = by (is_key k key) refl
     by false e = e
 
 abbrev request_in : List Job → Key → Request
-request_in jobs key = option_map_or request_of (find (λ (job : Job). is_key job.key key) jobs) no_request
+request_in jobs key = option_map_or job_request (find (λ (job : Job). is_key job.key key) jobs) no_job_request
 
 -- the job that comes after those of other keys is the one of its key
-found_own : (before later : List Job) (job : Job) → ((j : Job) → Has j before → IsBelow j.key job.key) → IsJobOf (request_in (before ++ job ∷ later)) job
+found_own : (before later : List Job) (job : Job) → ((j : Job) → Has j before → IsBelow j.key job.key) → IsOwnJob (request_in (before ++ job ∷ later)) job
 found_own before later job below =
     let past = find_past job.key before (job ∷ later) (λ j has. below_other j.key job.key (below j has)) in
     let here : find (λ (j : Job). is_key j.key job.key) (job ∷ later) ≡ Some job = ap (λ b. cond {A = Option Job} b (Some job) (find (λ (j : Job). is_key j.key job.key) later)) (key_self job.key) in
-    let is : request_in (before ++ job ∷ later) job.key ≡ request_of job = ap (λ o. option_map_or request_of o no_request) (past ∙ here) in
+    let is : request_in (before ++ job ∷ later) job.key ≡ job_request job = ap (λ o. option_map_or job_request o no_job_request) (past ∙ here) in
     (ap (λ (r : Request). r.file) (sym is), ap (λ (r : Request). r.op) (sym is))
 
 module _ {S : Type 0} (Runs : S → Planned → ℕ → Step → List End → S → Type 0) (parked : S → List Parked) (Cuts : S → S → Type 0) where
@@ -227,7 +227,7 @@ module _ {S : Type 0} (Runs : S → Planned → ℕ → Step → List End → S 
   AreNamed jobs s = (job : Job) → Has job jobs → Has (Came job.key) s.journal
 
   call_own : (all before later : List Job) (old new : StationState S) (c : StationCall) → all ≡ before ++ (job_come c ++ later) → AreNamed before old → StationStep Runs parked Cuts old c new → PutsOwn (request_in all) c
-  call_own all before later old new (puts job None) is named e = subst (λ (jobs : List Job). IsJobOf (request_in jobs) job) (sym is)
+  call_own all before later old new (puts job None) is named e = subst (λ (jobs : List Job). IsOwnJob (request_in jobs) job) (sym is)
       (found_own before later job (λ j has. All-contains (λ entry. IfSome (named_key entry) (λ earlier. IsBelow earlier job.key)) old.journal (Came j.key) e.0.above (to_contains old.journal (Came j.key) (named j has))))
   call_own all before later old new (puts job (Some refusal)) is named e = tt
   call_own all before later old new (announces r) is named e = tt
@@ -255,8 +255,8 @@ module _ {S : Type 0} (Runs : S → Planned → ℕ → Step → List End → S 
 -- So over a new station of a device that a step and a cut compute, the station is tied to its journal by the requests of the jobs that came.
 pub history_tied : {S : Type 0} (Runs : S → Planned → ℕ → Step → List End → S → Type 0) (parked : S → List Parked) (Cuts : S → S → Type 0) (step : S → Key → ℕ → Op → ℕ → Stepped S) (cut : S → Settled S) (device : S) (t : StationState S) (entries : List E)
     (most : ℕ) → IsRunBy step cut Runs parked Cuts → parked device ≡ [] → Leads (DeskStep Runs parked Cuts) (new_station device) entries t → All (λ (e : E). e.by ≤ most) entries
-    → ((number : ℕ) → number ≤ most → GivesOwnBack (calls_of number entries)) → IsTied step cut (request_put (told entries)) device t
+    → ((number : ℕ) → number ≤ most → GivesOwnBack (calls_of number entries)) → IsTied step cut (request_put (told_calls entries)) device t
 history_tied Runs parked Cuts step cut device t entries most by_step nothing leads few gives =
     let steps = led_steps Runs parked Cuts (new_station device) t entries leads in
-    all_tied step cut (request_put (told entries)) Runs parked Cuts by_step device (told entries) t nothing
-    (history_own Runs parked Cuts (request_put (told entries)) (new_station device) t entries most leads few gives tt (puts_are_own Runs parked Cuts (told entries) (new_station device) t steps)) steps
+    all_tied step cut (request_put (told_calls entries)) Runs parked Cuts by_step device (told_calls entries) t nothing
+    (history_own Runs parked Cuts (request_put (told_calls entries)) (new_station device) t entries most leads few gives tt (puts_are_own Runs parked Cuts (told_calls entries) (new_station device) t steps)) steps

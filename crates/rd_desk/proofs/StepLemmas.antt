@@ -20,7 +20,7 @@ use Rattle.rd_desk.specs.declared.calls.DeskCall.{DeskCall}
 use Rattle.rd_desk.specs.declared.calls.DeskCall.TheVariants as call
 use Rattle.rd_desk.specs.declared.calls.DeskReply.{DeskReply}
 use Rattle.rd_desk.specs.declared.calls.DeskReply.TheVariants as reply
-use Rattle.rd_desk.specs.Desk.{DeskStep, applied_calls, taken_calls, told, told_by}
+use Rattle.rd_desk.specs.Desk.{DeskStep, applied_calls, taken_calls, told_calls, told_by}
 
 module _ {S : Type 0} (Runs : S → Planned → ℕ → Step → List End → S → Type 0) (parked : S → List Parked) (Cuts : S → S → Type 0) where
   -- calls after calls
@@ -110,14 +110,14 @@ same_step {S} Runs parked Cuts old old' new new' asked asked' answer answer' o a
 -- ---- histories
 
 module _ {S : Type 0} (Runs : S → Planned → ℕ → Step → List End → S → Type 0) (parked : S → List Parked) (Cuts : S → S → Type 0) where
-  pub led_steps : (s t : StationState S) (entries : List (Entry DeskCall DeskReply)) → Leads (DeskStep Runs parked Cuts) s entries t → StationSteps Runs parked Cuts s (told entries) t
+  pub led_steps : (s t : StationState S) (entries : List (Entry DeskCall DeskReply)) → Leads (DeskStep Runs parked Cuts) s entries t → StationSteps Runs parked Cuts s (told_calls entries) t
   led_steps s t [] leads = sym leads
-  led_steps s t (e ∷ entries) leads = steps_append Runs parked Cuts s leads.0 t (told_by e.call e.reply) (told entries) leads.1.0 (led_steps leads.0 t entries leads.2)
+  led_steps s t (e ∷ entries) leads = steps_append Runs parked Cuts s leads.0 t (told_by e.call e.reply) (told_calls entries) leads.1.0 (led_steps leads.0 t entries leads.2)
 
   pub led_reached : (s t : StationState S) (entries : List (Entry DeskCall DeskReply)) → IsReached Runs parked Cuts s → Leads (DeskStep Runs parked Cuts) s entries t → IsReached Runs parked Cuts t
   led_reached s t entries is leads = record {
     device = is.device;
     nothing = is.nothing;
-    calls = is.calls ++ told entries;
-    steps = steps_append Runs parked Cuts (new_station is.device) s t is.calls (told entries) is.steps (led_steps s t entries leads);
+    calls = is.calls ++ told_calls entries;
+    steps = steps_append Runs parked Cuts (new_station is.device) s t is.calls (told_calls entries) is.steps (led_steps s t entries leads);
   }

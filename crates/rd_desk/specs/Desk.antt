@@ -59,8 +59,8 @@ told_by asked reply.Dropped = drops ∷ []
 told_by asked reply.Ended = ends ∷ []
 
 -- the calls of the station that the entries of a desk's history tell, in their order
-abbrev pub told : List (Entry DeskCall DeskReply) → List StationCall
-told entries = flat_map (λ (e : Entry DeskCall DeskReply). told_by e.call e.reply) entries
+abbrev pub told_calls : List (Entry DeskCall DeskReply) → List StationCall
+told_calls entries = flat_map (λ (e : Entry DeskCall DeskReply). told_by e.call e.reply) entries
 
 -- ---- the calls
 

@@ -19,8 +19,8 @@ ghost use Rattle.rd_desk.specs.declared.calls.DeskCall.{DeskCall};
 ghost use Rattle.rd_desk.specs.declared.calls.DeskCall.TheVariants as Call;
 ghost use Rattle.rd_desk.specs.declared.calls.DeskReply.{DeskReply};
 ghost use Rattle.rd_desk.specs.declared.calls.DeskReply.TheVariants as Reply;
-ghost use Rattle.rd_desk.specs.Desk.{DeskStep, runs_of, told};
-ghost use Rattle.rd_desk.specs.Own.{GivesOwnBack, IsJobOf, PutsOwn, WereGiven, jobs_back, jobs_given, request_put};
+ghost use Rattle.rd_desk.specs.Desk.{DeskStep, runs_of, told_calls};
+ghost use Rattle.rd_desk.specs.Own.{GivesOwnBack, IsOwnJob, PutsOwn, WereGiven, jobs_back, jobs_given, request_put};
 ghost use Rattle.rd_desk.specs.Worked.{five_wait, gave, given, none_wait, one_ran, one_taken, one_waits, run, took};
 
 use rd_drive::Device;
@@ -43,7 +43,7 @@ pub fn desks_are_as_listed()
     ensures unfit { DeskStep counts_run counts_parked counts_cut (with_jobs none_wait (close 1 7 ∷ [])) (Call.Put (close 0 8)) (Reply.Unfit (close 0 8)) (with_jobs none_wait (close 1 7 ∷ [])) }
     ensures other_reply { ¬ (DeskStep counts_run counts_parked counts_cut none_wait Call.Collect (Reply.Removed false) none_wait) }
     // What an entry tells.
-    ensures told { told (took 1 (close 0 7 ∷ []) ∷ []) ≡ takes (Given.Job (close 0 7)) ∷ takes Given.Nothing ∷ [] }
+    ensures tells { told_calls (took 1 (close 0 7 ∷ []) ∷ []) ≡ takes (Given.Job (close 0 7)) ∷ takes Given.Nothing ∷ [] }
     // A pass gives back what it was given before, and nothing else.
     ensures own { GivesOwnBack (took 1 (close 0 7 ∷ []) ∷ gave 1 (close 0 7) ∷ []) }
     ensures not_own { ¬ (GivesOwnBack (took 1 (close 0 7 ∷ []) ∷ gave 1 (close 1 8) ∷ [])) }
@@ -55,7 +55,7 @@ pub fn desks_are_as_listed()
 /// So over a station that is reached another is, and what always holds of a station holds of it, whatever threads made the calls.
 pub fn desks_are_stations<D: Device>()
     ensures steps { (s : StationState D) (t : StationState D) (entries : List (Entry DeskCall DeskReply)) → Leads (DeskStep D.runs D.parked D.cuts) s entries t
-        → StationSteps D.runs D.parked D.cuts s (told entries) t }
+        → StationSteps D.runs D.parked D.cuts s (told_calls entries) t }
     ensures reached { (s : StationState D) (t : StationState D) (entries : List (Entry DeskCall DeskReply)) → IsReached D.runs D.parked D.cuts s → Leads (DeskStep D.runs D.parked D.cuts) s entries t
         → IsReached D.runs D.parked D.cuts t }
     ensures kept { (s : StationState D) (t : StationState D) (entries : List (Entry DeskCall DeskReply)) → IsReached D.runs D.parked D.cuts s → Leads (DeskStep D.runs D.parked D.cuts) s entries t
@@ -68,11 +68,11 @@ pub fn desks_are_stations<D: Device>()
 pub fn jobs_run_as_they_came<D: Device>()
     ensures own { (requests : Key → Request) (s : StationState D) (t : StationState D) (entries : List (Entry DeskCall DeskReply)) (most : ℕ) → Leads (DeskStep D.runs D.parked D.cuts) s entries t
         → All (λ e. e.by ≤ most) entries → ((number : ℕ) → number ≤ most → GivesOwnBack (calls_of number entries))
-        → AllByRecursion (IsJobOf requests) s.waiting → AllByRecursion (PutsOwn requests) (told entries) → AllByRecursion (RunsOwn requests) (told entries) }
+        → AllByRecursion (IsOwnJob requests) s.waiting → AllByRecursion (PutsOwn requests) (told_calls entries) → AllByRecursion (RunsOwn requests) (told_calls entries) }
     ensures put { (calls : List StationCall) (s : StationState D) (t : StationState D) → StationSteps D.runs D.parked D.cuts s calls t → AllByRecursion (PutsOwn (request_put calls)) calls }
     ensures tied { (step : D → Key → ℕ → Op → ℕ → Stepped D) (cut : D → Settled D) (device : D) (t : StationState D) (entries : List (Entry DeskCall DeskReply)) (most : ℕ) → IsRunBy step cut D.runs D.parked D.cuts
         → D.parked device ≡ [] → Leads (DeskStep D.runs D.parked D.cuts) (new_station device) entries t → All (λ e. e.by ≤ most) entries → ((number : ℕ) → number ≤ most → GivesOwnBack (calls_of number entries))
-        → IsTied step cut (request_put (told entries)) device t }
+        → IsTied step cut (request_put (told_calls entries)) device t }
 {}
 
 /// The calls of a pass that made none give back what they were given, and so they do with one more that gives back what earlier ones were given; what

@@ -2,5 +2,7 @@
 #![tactic(auto)]
 
 mod side_by_side;
+#[cfg(test)]
+mod tests;
 
 pub use side_by_side::{run_two, work_side_by_side};

@@ -9,7 +9,7 @@ ghost use Rattle.rd_turn.specs.History.{calls_of, entry};
 ghost use Rattle.rd_turn.specs.Pass.{max_made, Belongs, IsSamePass};
 ghost use Rattle.rd_desk.specs.declared.calls.DeskCall.{DeskCall};
 ghost use Rattle.rd_desk.specs.declared.calls.DeskReply.{DeskReply};
-ghost use Rattle.rd_desk.specs.Desk.{runs_of, told};
+ghost use Rattle.rd_desk.specs.Desk.{runs_of, told_calls};
 ghost use Rattle.rd_desk.specs.Own.{GivesOwnBack, request_put};
 
 use rd_desk::{Batch, Desk, DeskCall, Hand};
@@ -82,7 +82,7 @@ pub fn work_side_by_side<T: Threads + Wait + Sync>(
 }
 
 /// A call that gives nothing back, of which the reply isn't looked at.
-fn tell<T: Wait>(
+pub(crate) fn tell<T: Wait>(
     rt: &T,
     turn: &Turn<Desk<MemoryDrive>>,
     pass: &mut Pass<Desk<MemoryDrive>>,
@@ -107,7 +107,7 @@ pub fn run_two<T: Threads + Wait + Sync>(
     moment: u64,
 ) -> Option<Station<MemoryDrive>>
     requires { drive_parked drive ≡ [] }
-    ensures { IfSome result (λ s. (entries : List (Entry DeskCall DeskReply)) × IsTied drive_step drive_cut (request_put (told entries)) drive s) }
+    ensures { IfSome result (λ s. (entries : List (Entry DeskCall DeskReply)) × IsTied drive_step drive_cut (request_put (told_calls entries)) drive s) }
 {
     let Ok(station) = Station::new(alloc, drive) else {
         return None;

@@ -10,7 +10,7 @@ use Rattle.rd_turn.specs.declared.object.Entry.{Entry}
 use Rattle.rd_turn.specs.History.{Leads, calls_of}
 use Rattle.rd_desk.specs.declared.calls.DeskCall.{DeskCall}
 use Rattle.rd_desk.specs.declared.calls.DeskReply.{DeskReply}
-use Rattle.rd_desk.specs.Desk.{DeskStep, told}
+use Rattle.rd_desk.specs.Desk.{DeskStep, told_calls}
 use Rattle.rd_desk.specs.Own.{GivesOwnBack, request_put}
 use Rattle.rd_desk.proofs.OwnLemmas.{none_back}
 use Rattle.rd_desk.proofs.RunLemmas.{history_tied}
@@ -40,6 +40,6 @@ returns g c =
     let few = subst (λ (n : ℕ). All (λ (e : Entry DeskCall DeskReply). e.by ≤ n) seen) (both.counts.1 ∙ ap (λ n. n + 2) made) (c.close.ensures.numbers both.counts.0) in
     let leads = subst (λ (s : StationState MemoryDrive). Leads (DeskStep drive_runs drive_parked drive_cuts) s seen c.close.result) (c.in-Ok-new.ensures.turn ∙ c.in-Ok.ensures.made) c.close.ensures.leads in (
       seen,
-      subst (λ (s : StationState MemoryDrive). IsTied drive_step drive_cut (request_put (told seen)) c.args.drive s) (sym c.station.view_is)
+      subst (λ (s : StationState MemoryDrive). IsTied drive_step drive_cut (request_put (told_calls seen)) c.args.drive s) (sym c.station.view_is)
           (history_tied drive_runs drive_parked drive_cuts drive_step drive_cut c.args.drive c.close.result seen 2 by_step c.requires leads few (each_of seen own one two)),
     )
