@@ -1,9 +1,9 @@
 //! The desk: a station as an object.
 
-ghost use Rattle.std.specs.Prelude.{◌≡◌, ◌≢◌, ◌++◌, ◌↔◌, [], ◌≤◌, length, IsTrue};
+ghost use Rattle.std.specs.Prelude.{◌≡◌, [], ◌≤◌, length};
 ghost use Rattle.std.specs.VecDeque.{deque_capacity, deque_len};
 ghost use Rattle.rd_station.specs.Station.{StationSteps};
-ghost use Rattle.rd_desk.specs.Desk.{DeskStep, IsWorked, applied_calls, taken_calls, told_by};
+ghost use Rattle.rd_desk.specs.Desk.{DeskStep, applied_calls, taken_calls};
 ghost use Rattle.rd_desk.specs.declared.calls.DeskCall.TheVariants as Call;
 ghost use Rattle.rd_desk.specs.declared.calls.DeskReply.TheVariants as Reply;
 

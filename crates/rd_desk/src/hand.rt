@@ -1,7 +1,7 @@
 //! A hand: a worker's pass of a desk.
 
-ghost use Rattle.std.specs.Prelude.{◌≡◌, ◌++◌, ◌∷◌, []};
-ghost use Rattle.rd_turn.specs.History.{IsLegal, calls_of, entry};
+ghost use Rattle.std.specs.Prelude.{◌≡◌, []};
+ghost use Rattle.rd_turn.specs.History.{calls_of, entry};
 ghost use Rattle.rd_turn.specs.Pass.{Belongs, Called, IsSamePass};
 ghost use Rattle.rd_desk.specs.declared.calls.DeskCall.TheVariants as Call;
 ghost use Rattle.rd_desk.specs.declared.calls.DeskReply.TheVariants as Reply;

@@ -1,11 +1,11 @@
 //! Two hands that work at one desk side by side, and the station afterwards in whatever order their calls came.
 
-ghost use Rattle.std.specs.Prelude.{◌≡◌, ◌+◌, ◌≤◌, ◌++◌, ◌∷◌, [], suc, List, IfSome};
+ghost use Rattle.std.specs.Prelude.{◌≡◌, ◌+◌, ◌≤◌, [], suc, List, IfSome};
 ghost use Rattle.rd_drive.specs.Answered.{drive_parked};
 ghost use Rattle.rd_drive.specs.DriveStep.{drive_cut, drive_step};
 ghost use Rattle.rd_station.specs.Tied.{IsTied};
 ghost use Rattle.rd_turn.specs.declared.object.Entry.{Entry};
-ghost use Rattle.rd_turn.specs.History.{calls_of, entry};
+ghost use Rattle.rd_turn.specs.History.{calls_of};
 ghost use Rattle.rd_turn.specs.Pass.{max_made, Belongs, IsSamePass};
 ghost use Rattle.rd_desk.specs.declared.calls.DeskCall.{DeskCall};
 ghost use Rattle.rd_desk.specs.declared.calls.DeskReply.{DeskReply};
