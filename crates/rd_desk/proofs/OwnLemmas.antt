@@ -4,6 +4,10 @@ use Rattle.std.specs.Prelude.{Contains}
 use Rattle.std.proofs.lemmas.Grind.{flat_map-append}
 use Rattle.std.proofs.lemmas.List.Elements.{All-contains_itself, All-nil, All-weaker, Contains-append_left, Contains-append_right}
 use Rattle.rd_drive.specs.declared.plan.Job.{Job}
+use Rattle.rd_drive.specs.declared.step.Step.{Step}
+use Rattle.rd_drive.specs.declared.step.End.{End}
+use Rattle.rd_drive.specs.Device.{Parked}
+use Rattle.rd_drive.specs.Planned.{Planned}
 use Rattle.rd_station.specs.Station.{StationState}
 use Rattle.rd_turn.specs.declared.object.Entry.{Entry}
 use Rattle.rd_turn.specs.History.{IsLegal, calls_of, entry}
@@ -15,7 +19,7 @@ use Rattle.rd_desk.specs.declared.calls.DeskCall.TheVariants as call
 use Rattle.rd_desk.specs.declared.calls.DeskReply.{DeskReply}
 use Rattle.rd_desk.specs.declared.calls.DeskReply.TheVariants as reply
 use Rattle.rd_desk.specs.Batch.{WorkedState, jobs_of}
-use Rattle.rd_desk.specs.Desk.{Replies, runs_of}
+use Rattle.rd_desk.specs.Desk.{DeskStep, Replies, runs_of}
 use Rattle.rd_desk.specs.Own.{GivesOwnBack, WereGiven, given_to, jobs_back, jobs_given}
 
 abbrev E : Type 0
@@ -70,11 +74,11 @@ last_given own e = All-weaker (Contains (jobs_given e.reply)) (Contains (given_t
 -- ---- what is replied
 
 -- a legal history's last call
-pub last_step : {O C R : Type 0} (steps : O → C → R → O → Type 0) (opening : O) (before : List (Entry C R)) (e : Entry C R) → IsLegal steps opening (before ++ e ∷ []) → (old : O) × (new : O) × steps old e.call e.reply new
+last_step : {O C R : Type 0} (steps : O → C → R → O → Type 0) (opening : O) (before : List (Entry C R)) (e : Entry C R) → IsLegal steps opening (before ++ e ∷ []) → (old : O) × (new : O) × steps old e.call e.reply new
 last_step steps opening before e legal = let parted = Leads-parted steps opening before (e ∷ []) legal.0 legal.1 in (parted.0, parted.2.0, parted.2.1)
 
 -- a hand is given what hands are given
-pub worked_only : {S : Type 0} (runs : List Run) (answer : DeskReply) (new : StationState S) → Replies (call.Work runs) answer new → (w : WorkedState) × (answer ≡ reply.Worked w)
+worked_only : {S : Type 0} (runs : List Run) (answer : DeskReply) (new : StationState S) → Replies (call.Work runs) answer new → (w : WorkedState) × (answer ≡ reply.Worked w)
 worked_only runs (reply.Worked w) new is = (w, refl)
 worked_only runs (reply.Announced r) new is = absurd is
 worked_only runs (reply.Put r) new is = absurd is
@@ -83,6 +87,12 @@ worked_only runs (reply.Collected r) new is = absurd is
 worked_only runs (reply.Removed r) new is = absurd is
 worked_only runs reply.Dropped new is = absurd is
 worked_only runs reply.Ended new is = absurd is
+
+pub reply_worked : {S : Type 0} (Runs : S → Planned → ℕ → Step → List End → S → Type 0) (parked : S → List Parked) (Cuts : S → S → Type 0) (opening : StationState S) (seen before : List E) (number : ℕ) (runs : List Run) (answer : DeskReply)
+    → seen ≡ before ++ entry number (call.Work runs) answer ∷ [] → IsLegal (DeskStep Runs parked Cuts) opening seen → (w : WorkedState) × (answer ≡ reply.Worked w)
+reply_worked Runs parked Cuts opening seen before number runs answer is legal =
+    let step = last_step (DeskStep Runs parked Cuts) opening before (entry number (call.Work runs) answer) (subst (IsLegal (DeskStep Runs parked Cuts) opening) is legal) in
+    worked_only runs answer step.1 step.2.1
 
 -- ---- a pass that makes a call
 

@@ -1,6 +1,7 @@
 //! A desk over a drive in memory, with one hand, and with two in a thread each. Want of memory never comes, as no test takes the memory away.
 
-ghost use Rattle.std.specs.Prelude.{◌≡◌};
+ghost use Rattle.std.specs.Prelude.{◌≡◌, []};
+ghost use Rattle.rd_drive.specs.Answered.{drive_parked};
 ghost use Rattle.rd_turn.specs.Pass.{Belongs};
 
 use crate::side_by_side::{run_two, tell, work_side_by_side};
@@ -62,7 +63,9 @@ fn read(number: u32) -> Job {
 }
 
 /// A drive that is empty.
-fn drive<R: Abort>(rt: &R, alloc: Global) -> MemoryDrive {
+fn drive<R: Abort>(rt: &R, alloc: Global) -> MemoryDrive
+    ensures { drive_parked result ≡ [] }
+{
     MemoryDrive::new(alloc, Units::of(Vec::new(alloc)), Naming::Exact).expect(rt, "a drive")
 }
 
