@@ -1,0 +1,4 @@
+pub mod Batch
+pub mod Desk
+pub mod Own
+pub mod Hand
