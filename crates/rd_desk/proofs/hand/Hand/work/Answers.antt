@@ -21,9 +21,9 @@ unreachable-requires g c =
 pub invariant_of-self : goal.invariant_of-self
 invariant_of-self g c = (
   c.call-reply.ensures.own,
-  call_gives c.self.inside.pass c.call-reply.new.pass c.args.batch c.call-reply.result c.call-reply.ensures.same.0 c.call-reply.ensures.own_calls c.self.invariant.1
+  call_gives c.self.inside.pass c.call-reply.new.pass (call.Work c.args.batch) c.call-reply.result c.call-reply.ensures.same.0 c.call-reply.ensures.own_calls c.self.invariant.1
       (subst (λ (h : HandState g.row.D.Denot). WereGiven (calls_of h.pass.number h.pass.seen) (jobs_of c.args.batch)) (sym c.self.view_is) c.requires),
 )
 
 pub returns-clause-given : goal.returns-clause-given
-returns-clause-given g c = call_given c.self.inside.pass c.call-reply.new.pass c.args.batch c.call-reply.result c.call-reply.ensures.same.0 c.call-reply.ensures.own_calls c.in-Worked.worked c.in-Worked.is
+returns-clause-given g c = call_given c.self.inside.pass c.call-reply.new.pass (call.Work c.args.batch) c.call-reply.result c.call-reply.ensures.same.0 c.call-reply.ensures.own_calls c.in-Worked.worked c.in-Worked.is
