@@ -1,17 +1,20 @@
 -- What a split, a join and a close make of passes.
-use Rattle.std.proofs.Common.{◌≡◌, ◌≢◌, ◌∙◌, refl, sym, ap, subst, ℕ, zero, suc, ◌+◌, ◌-◌, ◌<◌, ◌≤◌, List, [], ◌∷◌, ◌++◌, length, map, arith}
+use Rattle.std.proofs.Common.{◌≡◌, ◌≢◌, ◌∙◌, refl, sym, ap, subst, ℕ, zero, suc, ◌+◌, ◌-◌, ◌<◌, ◌≤◌, List, [], ◌∷◌, ◌++◌, length, get_or, set, map, arith}
 use Rattle.std.specs.Prelude.{All, Contains}
 use Rattle.std.specs.List.{AllZip, zip}
-use Rattle.std.proofs.lemmas.List.Elements.{All-cons, All-contains, All-contains_itself, All-head, All-map, All-tail, All-weaker}
+use Rattle.std.proofs.lemmas.List.Elements.{All-cons, All-contains, All-contains_itself, All-head, All-map, All-nil, All-tail, All-weaker}
+use Rattle.std.proofs.lemmas.Slice.Zip.{all_zipped_more}
 use Rattle.rd_station.specs.Station.{StationState}
 use Rattle.rd_turn.specs.declared.object.Entry.{Entry}
 use Rattle.rd_turn.specs.History.{calls_of}
-use Rattle.rd_turn.specs.Pass.{Belongs, GoesOn, HasAllCalls, after_split, max_made, new_pass}
-use Rattle.rd_turn.proofs.HistoryLemmas.{GoesOn-joined, GoesOn-own}
+use Rattle.rd_turn.specs.Pass.{Belongs, Called, GoesOn, HasAllCalls, IsSamePass, after_split, first_pass, max_made, new_pass}
+use Rattle.rd_turn.proofs.HistoryLemmas.{Called-joined, Called-own, GoesOn-joined, GoesOn-own}
 use Rattle.rd_desk.specs.declared.calls.DeskCall.{DeskCall}
 use Rattle.rd_desk.specs.declared.calls.DeskReply.{DeskReply}
+use Rattle.rd_desk.specs.Desk.{runs_of}
 use Rattle.rd_desk.specs.Own.{GivesOwnBack}
-use Rattle.rd_desk.proofs.OwnLemmas.{none_back}
+use Rattle.rd_desk.proofs.OwnLemmas.{call_idle, none_back}
+use Rattle.rd_pool.proofs.ZipLemmas.{zip_get, zip_set}
 use Rattle.rd_pool.specs.Desks.{DeskPass, DeskTurn, DesksState, IsFirst, IsFresh, IsJoined, IsOther}
 
 abbrev E : Type 0
@@ -58,6 +61,48 @@ module _ {S : Type 0} where
 
   pub is_joined : (turn : DeskTurn S) (p q new : DeskPass S) → Belongs turn p → Belongs turn new → (new.made ≡ p.made) × (suc new.out ≡ p.out) → calls_of q.number new.seen ≡ calls_of q.number q.seen → GoesOn p new → IsJoined (p, q) new
   is_joined turn p q new old own counts calls on = record { turn = (own.0 ∙ sym old.0, own.1 ∙ sym old.1); counts = counts; other_calls = calls; goes_on = on }
+
+  -- the pass that a turn is made with
+  pub made_first : (turn : DeskTurn S) → IsFirst turn (first_pass turn)
+  made_first turn = record { own = (refl, refl); number = refl; gives = none_back [] refl; joined = All-nil (WasJoined (first_pass turn)) }
+
+  pub more_first : (turns turns' : List (DeskTurn S)) (ps ps' : List (DeskPass S)) (turn : DeskTurn S) (p : DeskPass S) → turns' ≡ turns ++ turn ∷ [] → ps' ≡ ps ++ p ∷ [] → p ≡ first_pass turn → AllZip IsFirst turns ps → AllZip IsFirst turns' ps'
+  more_first turns turns' ps ps' turn p t l is first =
+      subst (λ (ts : List (DeskTurn S)). AllZip IsFirst ts ps') (sym t) (subst (λ (qs : List (DeskPass S)). AllZip IsFirst (turns ++ turn ∷ []) qs) (sym l)
+      (all_zipped_more IsFirst turns ps turn p first (subst (λ (q : DeskPass S). IsFirst turn q) (sym is) (made_first turn))))
+
+  -- ---- a call that gives nothing back
+
+  pub still_other : (turn : DeskTurn S) (p q : DeskPass S) (call : DeskCall) (reply : DeskReply) → IsOther turn p → Belongs turn q → IsSamePass p q → Called p call reply q → runs_of call ≡ [] → IsOther turn q
+  still_other turn p q call reply other own same called idle = record {
+    own = own;
+    number = subst (λ (n : ℕ). n ≢ 0) (sym same.0) other.number;
+    gives = call_idle p q call reply same.0 (Called-own p q call reply called) idle other.gives;
+  }
+
+  pub zero_still : (turn : DeskTurn S) (p q : DeskPass S) (call : DeskCall) (reply : DeskReply) → IsFirst turn p → Belongs turn q → IsSamePass p q → Called p call reply q → runs_of call ≡ [] → IsFirst turn q
+  zero_still turn p q call reply first own same called idle = record {
+    own = own;
+    number = same.0 ∙ first.number;
+    gives = subst (λ (n : ℕ). GivesOwnBack (calls_of n q.seen)) (same.0 ∙ first.number) (call_idle p q call reply same.0 (Called-own p q call reply called) idle
+        (subst (λ (n : ℕ). GivesOwnBack (calls_of n p.seen)) (sym first.number) first.gives));
+    joined = subst (All (WasJoined q)) (sym same.3)
+        (All-weaker (λ (j : ℕ × ℕ). Contains p.joined j × WasJoined p j) (WasJoined q) (λ j is. (is.1.0, subst GivesOwnBack (sym (Called-joined p q call reply j.0 j.1 first.number is.1.0 is.0 called)) is.1.1))
+        p.joined (λ k d within. (All-contains_itself p.joined k d within, first.joined k d within)));
+  }
+
+  -- the turn and the pass at a place
+  pub other_at : (turns turns' : List (DeskTurn S)) (ps ps' : List (DeskPass S)) (at : ℕ) (t : DeskTurn S) (p : DeskPass S) → turns' ≡ turns → ps' ≡ ps → t ≡ get_or turns' at t → p ≡ get_or ps' at p → at < length turns → AllZip IsOther turns ps
+      → IsOther t p
+  other_at turns turns' ps ps' at t p ts l here there within others =
+      subst (λ (x : DeskTurn S). IsOther x p) (sym (here ∙ ap (λ (xs : List (DeskTurn S)). get_or xs at t) ts))
+      (subst (λ (x : DeskPass S). IsOther (get_or turns at t) x) (sym (there ∙ ap (λ (xs : List (DeskPass S)). get_or xs at p) l)) (zip_get IsOther turns ps at t p within others))
+
+  pub other_set : (turns turns' : List (DeskTurn S)) (ps ps' : List (DeskPass S)) (at : ℕ) (t : DeskTurn S) (q : DeskPass S) → turns' ≡ turns → ps' ≡ ps → t ≡ get_or turns' at t → IsOther t q → AllZip IsOther turns ps
+      → AllZip IsOther turns (set ps' at q)
+  other_set turns turns' ps ps' at t q ts l here other others =
+      subst (λ (xs : List (DeskPass S)). AllZip IsOther turns (set xs at q)) (sym l)
+      (zip_set IsOther turns ps at t q (subst (λ (x : DeskTurn S). IsOther x q) (here ∙ ap (λ (xs : List (DeskTurn S)). get_or xs at t) ts) other) others)
 
   -- where all were joined, no pass gives back what it wasn't given
   pub all_give : (turn : DeskTurn S) (p : DeskPass S) → IsFirst turn p → HasAllCalls p → (number : ℕ) → number ≤ p.made → GivesOwnBack (calls_of number p.seen)

@@ -91,3 +91,17 @@ pub map_set : {A B : Type 0} (f : A → B) (xs : List A) (at : ℕ) (d y : A) �
 map_set f [] at d y same = refl
 map_set f (x ∷ xs) zero d y same = ap (λ z. z ∷ map f xs) same
 map_set f (x ∷ xs) (suc at) d y same = ap (λ l. f x ∷ l) (map_set f xs at d y same)
+
+-- what goes with the item at a place, and another that goes with it
+pub zip_get : {A B : Type 0} (R : A → B → Type 0) (xs : List A) (ys : List B) (at : ℕ) (d : A) (e : B) → at < length xs → AllZip R xs ys → R (get_or xs at d) (get_or ys at e)
+zip_get R [] ys at d e within zips = absurd (omega (arith, within))
+zip_get R (x ∷ xs) [] at d e within zips = absurd zips
+zip_get R (x ∷ xs) (y ∷ ys) zero d e within zips = zips.0
+zip_get R (x ∷ xs) (y ∷ ys) (suc at) d e within zips = zip_get R xs ys at d e (omega (arith, within)) zips.1
+
+pub zip_set : {A B : Type 0} (R : A → B → Type 0) (xs : List A) (ys : List B) (at : ℕ) (d : A) (y : B) → R (get_or xs at d) y → AllZip R xs ys → AllZip R xs (set ys at y)
+zip_set R [] [] at d y holds zips = tt
+zip_set R [] (z ∷ ys) at d y holds zips = absurd zips
+zip_set R (x ∷ xs) [] at d y holds zips = absurd zips
+zip_set R (x ∷ xs) (z ∷ ys) zero d y holds zips = (holds, zips.1)
+zip_set R (x ∷ xs) (z ∷ ys) (suc at) d y holds zips = (zips.0, zip_set R xs ys at d y holds zips.1)

@@ -1,13 +1,14 @@
 //! Desks, each behind a turn of its own.
 
-ghost use Rattle.std.specs.Prelude.{◌≡◌, ◌<◌, ◌≤◌, ◌++◌, ◌∷◌, [], length, map, All, IfOk, IfErr, IfSome, OnOk, OnErr, slice_get};
+ghost use Rattle.std.specs.Prelude.{◌≡◌, ◌<◌, ◌≤◌, ◌++◌, ◌∷◌, [], length, map, All, IfOk, IfErr, IfSome, OnOk, OnErr, slice_get, slice_index_or, slice_set};
 ghost use Rattle.std.specs.List.{AllZip, zip};
 ghost use Rattle.std.specs.VecDeque.{deque_capacity, deque_len};
-ghost use Rattle.rd_turn.specs.Pass.{after_split, first_pass, max_made, new_pass};
-ghost use Rattle.rd_pool.specs.Desks.{DeskTurn, IsClosed, IsFirst, IsFresh, IsJoined, IsOther};
+ghost use Rattle.rd_turn.specs.Pass.{Called, after_split, first_pass, max_made, new_pass};
+ghost use Rattle.rd_desk.specs.Desk.{runs_of};
+ghost use Rattle.rd_pool.specs.Desks.{DeskPass, DeskTurn, IsClosed, IsFirst, IsFresh, IsJoined, IsOther};
 
 use crate::passes::Passes;
-use rd_desk::Desk;
+use rd_desk::{Desk, DeskCall, DeskReply};
 use rd_drive::Device;
 use rd_station::Station;
 use rd_turn::{Pass, Turn};
@@ -15,6 +16,7 @@ use std::alloc::{AllocError, Global};
 use std::collections::VecDeque;
 use std::marker::Model;
 use std::mem;
+use std::sync::Wait;
 
 /// The desks of some devices, by rising ids, each behind a turn of its own. Contracts see the ids and the turns.
 #[derive(Drop)]
@@ -58,6 +60,8 @@ impl<D: Device + Drop> Desks<D> {
         station: Station<D>,
     ) -> Result<(), Station<D>>
         requires above { All (λ other. other < id) self.old.ids }
+        requires first { AllZip IsFirst self.old.turns passes.old }
+        ensures first { AllZip IsFirst self.new.turns passes.new }
         ensures added { OnOk result ((t : DeskTurn D) × (self.new ≡ record { ids = self.old.ids ++ id ∷ []; turns = self.old.turns ++ t ∷ [] }) × (t.opening ≡ station) × (passes.new ≡ passes.old ++ first_pass t ∷ [])) }
         ensures unchanged { OnErr result ((self.new ≡ self.old) × (passes.new ≡ passes.old)) }
         ensures back { IfErr result (λ back. back ≡ station) }
@@ -97,6 +101,31 @@ impl<D: Device + Drop> Desks<D> {
         ensures { result ≡ slice_get self.now.ids place }
     {
         self.ids.get(place).copied()
+    }
+
+    /// The turn of the desk at a place.
+    pub fn turn(&self, place: usize) -> &Turn<Desk<D>>
+        requires { place < length self.now.turns }
+        ensures { result.now ≡ slice_index_or self.now.turns place result.now }
+    {
+        &self.turns[place]
+    }
+
+    /// Makes a call that gives nothing back at the desk of a place, with the pass of that place. It waits for its turn.
+    pub fn call<T: Wait>(
+        &self,
+        rt: &T,
+        passes: &mut Passes<D>,
+        place: usize,
+        call: DeskCall,
+    ) -> DeskReply
+        requires place { place < length self.now.turns }
+        requires others { AllZip IsOther self.now.turns passes.old }
+        requires idle { runs_of call ≡ [] }
+        ensures others { AllZip IsOther self.now.turns passes.new }
+        ensures called { (p : DeskPass D) × (q : DeskPass D) × (slice_index_or passes.old place p ≡ p) × (passes.new ≡ slice_set passes.old place q) × Called p call result q }
+    {
+        self.turns[place].call(rt, &mut passes.list[place], call)
     }
 
     /// Splits a pass from each of the passes 0. Where there is no memory nothing changes.

@@ -8,8 +8,9 @@ ghost use Rattle.rd_pool.specs.Desks.{IsFirst, IsFresh, IsOther};
 
 use crate::bell::Bell;
 use crate::desks::Desks;
+use crate::outside::Outside;
 use crate::passes::Passes;
-use crate::workers::{Outside, work_at};
+use crate::workers::work_at;
 use rd_desk::{Batch, Desk, Hand};
 use rd_drive::Device;
 use rd_turn::{Pass, Turn};

@@ -4,11 +4,15 @@
 mod bell;
 mod desks;
 mod hands;
+mod laws;
+mod outside;
 mod passes;
 mod workers;
 
 pub use bell::Bell;
 pub use desks::Desks;
 pub use hands::Hands;
+pub use laws::{calls_keep_passes, stations_are_as_their_calls_left_them};
+pub use outside::{AtOnce, Outside};
 pub use passes::Passes;
-pub use workers::{Outside, with_workers};
+pub use workers::with_workers;

@@ -4,25 +4,18 @@ ghost use Rattle.std.specs.Prelude.{◌≡◌, ◌<◌, ◌+◌, ◌-◌, [], le
 ghost use Rattle.std.specs.List.{AllZip};
 ghost use Rattle.std.specs.Thread.{IsSend, IsSync};
 ghost use Rattle.rd_turn.specs.Pass.{after_split, max_made};
-ghost use Rattle.rd_desk.specs.Batch.{jobs_of};
 ghost use Rattle.rd_pool.specs.Desks.{IsFirst, IsOther};
 
 use crate::bell::Bell;
 use crate::desks::Desks;
 use crate::hands::Hands;
+use crate::outside::Outside;
 use crate::passes::Passes;
-use rd_desk::{Batch, Hand, Worked};
+use rd_desk::{Batch, Hand};
 use rd_drive::Device;
 use std::alloc::{AllocError, Global};
 use std::sync::Wait;
 use std::thread::{Threads, join};
-
-/// What a worker does between taking jobs and running them, while others use the desk.
-pub trait Outside {
-    /// The jobs that were given at the desk of this place become plans, with the moment at which they are to be run.
-    fn batch(&self, place: usize, worked: Worked) -> Batch
-        ensures { jobs_of result ≡ worked.jobs };
-}
 
 /// Works at a desk until nothing is given there.
 pub(crate) fn work_at<'a, D: Device, T: Wait, X: Outside>(

@@ -1,6 +1,6 @@
 use Rattle.std.proofs.Common.{rules, ◌≡◌, ◌∙◌, ap, ℕ, List, [], ◌∷◌, ◌++◌}
 use Rattle.rd_pool.specs.Desks.{DeskPass, DeskTurn, DesksState}
-use Rattle.rd_pool.proofs.DeskLemmas.{desks_same}
+use Rattle.rd_pool.proofs.DeskLemmas.{desks_same, more_first}
 use Rattle.rd_pool.proofs.desks.Desks.add.Goals as goal
 
 pub returns-clause-added : goal.returns-clause-added
@@ -14,3 +14,11 @@ returns-clause-added g c =
       c.in-Ok.ensures.turn,
       added ∙ ap (λ (p : DeskPass g.row.D.Denot). c.args.passes.now ++ p ∷ []) c.in-Ok.ensures.pass,
     )
+
+pub returns-clause-first : goal.returns-clause-first
+returns-clause-first g c =
+    let t = c.in-Ok.both.0 in
+    let added : c.add.new.self ≡ c.args.passes.now ++ c.in-Ok.both.1 ∷ [] = search rules in
+    more_first c.args.self.now.turns c.push_back_reserved.new.self.items c.args.passes.now c.add.new.self t c.in-Ok.both.1
+        (c.push_back_reserved.ensures.items ∙ ap (λ (l : List (DeskTurn g.row.D.Denot)). l ++ t ∷ []) (c.reserve-else-is_err.ensures.items ∙ ap (λ (d : DesksState g.row.D.Denot). d.turns) c.self.view_is))
+        added c.in-Ok.ensures.pass c.requires.first
