@@ -119,7 +119,7 @@ module _ {S : Type 0} where
   outs_split [] = refl
   outs_split (p ∷ ps) = ap (λ (l : List ℕ). suc p.out ∷ l) (outs_split ps)
 
-  outs_joined : (turns : List (DeskTurn S)) (old others new : List (DeskPass S)) → AllZip IsFirst turns old → AllZip IsOther turns others → AllZip IsJoined (zip old others) new
+  pub outs_joined : (turns : List (DeskTurn S)) (old others new : List (DeskPass S)) → AllZip IsFirst turns old → AllZip IsOther turns others → AllZip IsJoined (zip old others) new
       → map (λ (p : DeskPass S). suc p.out) new ≡ map (λ (p : DeskPass S). p.out) old
   outs_joined [] [] others [] first other joined = refl
   outs_joined [] [] others (r ∷ rs) first other joined = absurd joined
@@ -144,6 +144,18 @@ module _ {S : Type 0} where
       → AllZip IsFirst turns old → AllZip IsOther turns others → AllZip IsJoined (zip old others) new → map (λ (p : DeskPass S). p.out) new ≡ map (λ (p : DeskPass S). p.out) first
   outs_home turns first split old others new is same firsts other joined =
       outs_same new first (outs_joined turns old others new firsts other joined ∙ (same ∙ (ap (map (λ (p : DeskPass S). p.out)) is ∙ outs_split first)))
+
+  pub none_out : (ps qs : List (DeskPass S)) → map (λ (p : DeskPass S). p.out) qs ≡ map (λ (p : DeskPass S). p.out) ps → All (λ (p : DeskPass S). p.out ≡ 0) ps → All (λ (p : DeskPass S). p.out ≡ 0) qs
+  none_out [] [] same none = All-nil (λ (p : DeskPass S). p.out ≡ 0)
+  none_out [] (q ∷ qs) same none = absurd (cc (same))
+  none_out (p ∷ ps) [] same none = absurd (cc (same))
+  none_out (p ∷ ps) (q ∷ qs) same none =
+      let here : q.out ≡ p.out = cc (same) in
+      All-cons (λ (x : DeskPass S). x.out ≡ 0) q qs (here ∙ All-head (λ (x : DeskPass S). x.out ≡ 0) p ps none) (none_out ps qs (cc (same)) (All-tail (λ (x : DeskPass S). x.out ≡ 0) p ps none))
+
+  pub all_home : (first split old new : List (DeskPass S)) → split ≡ map after_split first → map (λ (p : DeskPass S). p.out) old ≡ map (λ (p : DeskPass S). p.out) split → map (λ (p : DeskPass S). suc p.out) new ≡ map (λ (p : DeskPass S). p.out) old
+      → All (λ (p : DeskPass S). p.out ≡ 0) first → All (λ (p : DeskPass S). p.out ≡ 0) new
+  all_home first split old new is same joined none = none_out first new (outs_same new first (joined ∙ (same ∙ (ap (map (λ (p : DeskPass S). p.out)) is ∙ outs_split first)))) none
 
 -- desks by their parts
 abbrev pub desks_with : {S : Type 0} → List ℕ → List (DeskTurn S) → DesksState S

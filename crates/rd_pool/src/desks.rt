@@ -1,6 +1,6 @@
 //! Desks, each behind a turn of its own.
 
-ghost use Rattle.std.specs.Prelude.{◌≡◌, ◌<◌, ◌≤◌, ◌++◌, ◌∷◌, [], length, map, All, IfOk, IfErr, IfSome, OnOk, OnErr, slice_get, slice_index_or, slice_set};
+ghost use Rattle.std.specs.Prelude.{◌≡◌, ◌<◌, ◌≤◌, ◌++◌, ◌∷◌, [], suc, length, map, All, IfOk, IfErr, IfSome, OnOk, OnErr, slice_get, slice_index_or, slice_set};
 ghost use Rattle.std.specs.List.{AllZip, zip};
 ghost use Rattle.std.specs.VecDeque.{deque_capacity, deque_len};
 ghost use Rattle.rd_turn.specs.Pass.{Called, after_split, first_pass, max_made, new_pass};
@@ -150,6 +150,7 @@ impl<D: Device + Drop> Desks<D> {
         requires others { AllZip IsOther self.now.turns others }
         ensures first { AllZip IsFirst self.now.turns passes.new }
         ensures joined { AllZip IsJoined (zip passes.old others) passes.new }
+        ensures out { map (λ p. suc p.out) passes.new ≡ map (λ p. p.out) passes.old }
     {
         join_all(
             &self.turns,
@@ -214,6 +215,7 @@ fn join_all<D: Device>(
     requires none { to.old.items ≡ [] }
     requires room { deque_len from.old ≤ deque_capacity to.old }
     ensures joined { AllZip IsJoined (zip from.old.items others.old.items) to.new.items }
+    ensures out { map (λ p. suc p.out) to.new.items ≡ map (λ p. p.out) from.old.items }
     ensures first { AllZip IsFirst turns.now.items to.new.items }
     ensures none { from.new.items ≡ [] }
     ensures len { deque_len to.new ≡ deque_len from.old }

@@ -1,6 +1,6 @@
 //! What holds of desks that were closed, and of passes that make calls. These functions do nothing: their clauses are laws.
 
-ghost use Rattle.std.specs.Prelude.{◌≡◌, ℕ, []};
+ghost use Rattle.std.specs.Prelude.{◌≡◌, ℕ, List, [], suc, map, All};
 ghost use Rattle.std.specs.List.{AllByRecursion};
 ghost use Rattle.rd_base.specs.declared.journal.Key.{Key};
 ghost use Rattle.rd_irp.specs.declared.op.Op.{Op};
@@ -8,7 +8,7 @@ ghost use Rattle.rd_irp.specs.declared.request.Request.{Request};
 ghost use Rattle.rd_drive.specs.Stepped.{Settled, Stepped};
 ghost use Rattle.rd_station.specs.Station.{StationState, StationSteps, new_station};
 ghost use Rattle.rd_station.specs.Tied.{IsKept, IsReached, IsRunBy, IsTied, RunsOwn};
-ghost use Rattle.rd_turn.specs.Pass.{Belongs, Called, IsSamePass};
+ghost use Rattle.rd_turn.specs.Pass.{Belongs, Called, IsSamePass, after_split};
 ghost use Rattle.rd_desk.specs.declared.calls.DeskCall.{DeskCall};
 ghost use Rattle.rd_desk.specs.declared.calls.DeskReply.{DeskReply};
 ghost use Rattle.rd_desk.specs.Desk.{runs_of, told_calls};
@@ -34,4 +34,10 @@ pub fn stations_are_as_their_calls_left_them<D: Device>()
 pub fn calls_keep_passes<D: Device>()
     ensures other { (turn : DeskTurn D) (p : DeskPass D) (q : DeskPass D) (call : DeskCall) (reply : DeskReply) → IsOther turn p → Belongs turn q → IsSamePass p q → Called p call reply q → runs_of call ≡ [] → IsOther turn q }
     ensures first { (turn : DeskTurn D) (p : DeskPass D) (q : DeskPass D) (call : DeskCall) (reply : DeskReply) → IsFirst turn p → Belongs turn q → IsSamePass p q → Called p call reply q → runs_of call ≡ [] → IsFirst turn q }
+{}
+
+/// Once passes that were split were joined again, and as many were out before the join as after the split, none is out where none was.
+pub fn passes_come_home<D: Device>()
+    ensures { (first : List (DeskPass D)) (split : List (DeskPass D)) (old : List (DeskPass D)) (new : List (DeskPass D)) → split ≡ map after_split first → map (λ p. p.out) old ≡ map (λ p. p.out) split
+        → map (λ p. suc p.out) new ≡ map (λ p. p.out) old → All (λ p. p.out ≡ 0) first → All (λ p. p.out ≡ 0) new }
 {}

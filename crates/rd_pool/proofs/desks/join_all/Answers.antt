@@ -3,8 +3,8 @@ use Rattle.std.specs.List.{zip}
 use Rattle.std.proofs.lemmas.List.{drop_more}
 use Rattle.rd_turn.specs.Pass.{Belongs}
 use Rattle.rd_pool.specs.Desks.{DeskTurn, IsFirst, IsJoined, IsOther}
-use Rattle.rd_pool.proofs.DeskLemmas.{is_joined, joined_first}
-use Rattle.rd_pool.proofs.ZipLemmas.{both_some, zip_cons, zip_here, zip_within, zips_next}
+use Rattle.rd_pool.proofs.DeskLemmas.{is_joined, joined_first, outs_joined}
+use Rattle.rd_pool.proofs.ZipLemmas.{both_some, zip_cons, zip_here, zip_nothing, zip_within, zips_all, zips_next}
 use Rattle.rd_pool.proofs.desks.join_all.Goals as goal
 
 pub unreachable-requires : goal.unreachable-requires
@@ -42,3 +42,10 @@ loop-pass-preserved g c =
       room = search rules;
       capacity = search rules;
     }
+
+pub returns-clause-out : goal.returns-clause-out
+returns-clause-out g c =
+    let none : c.loop-pass.from.items ≡ [] = search rules in
+    let all = zip c.args.from.now.items c.args.others.now.items in
+    outs_joined c.args.turns.now.items c.args.from.now.items c.args.others.now.items c.loop-pass.to.items c.requires.first c.requires.others
+        (zips_all IsJoined all (zip c.loop-pass.from.items c.loop-pass.others.items) c.loop-pass.to.items (zip_nothing c.loop-pass.from.items c.loop-pass.others.items none) c.loop-pass.invariant.joined)
