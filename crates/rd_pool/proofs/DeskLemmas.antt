@@ -39,6 +39,12 @@ module _ {S : Type 0} where
     all_fresh ts ps first.1 (All-tail MadeNone (new_pass p) (map new_pass ps) none),
   )
 
+  pub all_other : (turns : List (DeskTurn S)) (ps : List (DeskPass S)) → AllZip IsFresh turns ps → AllZip IsOther turns ps
+  all_other [] [] fresh = tt
+  all_other [] (p ∷ ps) fresh = absurd fresh
+  all_other (t ∷ ts) [] fresh = absurd fresh
+  all_other (t ∷ ts) (p ∷ ps) fresh = (record { own = fresh.0.own; number = fresh.0.number; gives = none_back (calls_of p.number p.seen) fresh.0.fresh }, all_other ts ps fresh.1)
+
   -- passes 0 stay so when one is split from each
   pub still_first : (turns : List (DeskTurn S)) (ps : List (DeskPass S)) → AllZip IsFirst turns ps → AllZip IsFirst turns (map after_split ps)
   still_first [] [] first = tt

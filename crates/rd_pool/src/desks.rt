@@ -136,6 +136,7 @@ impl<D: Device + Drop> Desks<D> {
         ensures unchanged { OnErr result (passes.new ≡ passes.old) }
         ensures given { IfOk result (λ new. new ≡ map new_pass passes.old) }
         ensures fresh { IfOk result (λ new. AllZip IsFresh self.now.turns new) }
+        ensures others { IfOk result (λ new. AllZip IsOther self.now.turns new) }
     {
         let mut list = VecDeque::with_capacity(alloc, passes.list.len())?;
         let room = VecDeque::with_capacity(alloc, passes.list.len())?;
@@ -192,6 +193,7 @@ fn split_all<D: Device>(
     ensures kept { to.new.items ≡ map after_split from.old.items }
     ensures given { new.new.items ≡ map new_pass from.old.items }
     ensures fresh { AllZip IsFresh turns.now.items new.new.items }
+    ensures others { AllZip IsOther turns.now.items new.new.items }
     ensures none { from.new.items ≡ [] }
     ensures capacity { (deque_capacity from.new ≡ deque_capacity from.old) × (deque_capacity new.new ≡ deque_capacity new.old) }
 {

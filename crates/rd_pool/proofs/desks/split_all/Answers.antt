@@ -4,7 +4,7 @@ use Rattle.std.specs.List.{AllZip}
 use Rattle.std.proofs.lemmas.List.Elements.{All-rest}
 use Rattle.rd_turn.specs.Pass.{after_split, max_made, new_pass}
 use Rattle.rd_pool.specs.Desks.{DeskPass, IsFirst, IsFresh}
-use Rattle.rd_pool.proofs.DeskLemmas.{MadeNone, all_fresh}
+use Rattle.rd_pool.proofs.DeskLemmas.{MadeNone, all_fresh, all_other}
 use Rattle.rd_pool.proofs.ZipLemmas.{all_next, map_all, map_next, zip_here}
 use Rattle.rd_pool.proofs.desks.split_all.Goals as goal
 
@@ -23,10 +23,16 @@ loop-pass-preserved g c =
       capacity = search rules;
     }
 
-pub returns-clause-fresh : goal.returns-clause-fresh
-returns-clause-fresh g c =
+abbrev is_fresh : goal.returns-clause-fresh
+is_fresh g c =
     let kept = c.loop-pass.invariant in
     let none : c.loop-pass.from.items ≡ [] = search rules in
     let given = map_all new_pass c.args.from.now.items c.loop-pass.from.items c.loop-pass.new.items none kept.given in
     subst (λ (l : List (DeskPass g.row.D.Denot)). AllZip IsFresh c.args.turns.now.items l) (sym given)
     (all_fresh c.args.turns.now.items c.args.from.now.items c.requires.first (subst (λ (l : List (DeskPass g.row.D.Denot)). All MadeNone l) given kept.fresh))
+
+pub returns-clause-fresh : goal.returns-clause-fresh
+returns-clause-fresh g c = is_fresh g c
+
+pub returns-clause-others : goal.returns-clause-others
+returns-clause-others g c = all_other c.args.turns.now.items c.loop-pass.new.items (is_fresh g c)
