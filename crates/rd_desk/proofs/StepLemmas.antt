@@ -1,0 +1,103 @@
+-- A desk's calls as calls of its station, one after the other.
+use Rattle.std.proofs.Common.{◌≡◌, ◌∙◌, refl, sym, ap, subst, ℕ, Bool, true, false, cond, List, [], ◌∷◌, ◌++◌, append_assoc, append-nil, map}
+use Rattle.std.specs.Prelude.{Result, Ok, Err, Some, None, OnOk, IfErr}
+use Rattle.std.proofs.lemmas.List.{map-append}
+use Rattle.rd_drive.specs.declared.plan.Job.{Job}
+use Rattle.rd_drive.specs.declared.step.Step.{Step}
+use Rattle.rd_drive.specs.declared.step.End.{End}
+use Rattle.rd_drive.specs.Device.{Parked}
+use Rattle.rd_drive.specs.Planned.{Planned}
+use Rattle.rd_station.specs.declared.answers.Applied.{Applied}
+use Rattle.rd_station.specs.declared.answers.Given.{Given}
+use Rattle.rd_station.specs.declared.answers.Given.TheVariants as given
+use Rattle.rd_station.specs.declared.refusals.PutNo.{PutNo}
+use Rattle.rd_station.specs.Station.{StationCall, StationState, StationStep, StationSteps, applies, puts, take, take_first, takes}
+use Rattle.rd_desk.specs.declared.batch.Run.{Run}
+use Rattle.rd_desk.specs.declared.calls.DeskCall.TheVariants as call
+use Rattle.rd_desk.specs.declared.calls.DeskReply.TheVariants as reply
+use Rattle.rd_desk.specs.Desk.{applied_calls, told_by}
+
+module _ {S : Type 0} (Runs : S → Planned → ℕ → Step → List End → S → Type 0) (parked : S → List Parked) (Cuts : S → S → Type 0) where
+  -- calls after calls
+  pub steps_append : (old mid new : StationState S) (xs ys : List StationCall) → StationSteps Runs parked Cuts old xs mid → StationSteps Runs parked Cuts mid ys new → StationSteps Runs parked Cuts old (xs ++ ys) new
+  steps_append old mid new [] ys before after = subst (λ (s : StationState S). StationSteps Runs parked Cuts s ys new) before after
+  steps_append old mid new (x ∷ xs) ys before after = (before.0, before.1, steps_append before.0 mid new xs ys before.2 after)
+
+  -- one call
+  pub one_step : (old new : StationState S) (c : StationCall) → StationStep Runs parked Cuts old c new → StationSteps Runs parked Cuts old (c ∷ []) new
+  one_step old new c step = (new, step, refl)
+
+  -- a job that may come, whether it does or not
+  pub put_told : (old new : StationState S) (job : Job) (answer : Result (Unit {0}) PutNo)
+      → OnOk answer (StationStep Runs parked Cuts old (puts job None) new) → IfErr answer (λ no. StationStep Runs parked Cuts old (puts job (Some no)) new)
+      → StationSteps Runs parked Cuts old (told_by (call.Put job) (reply.Put answer)) new
+  put_told old new job (Ok done) came refused = one_step old new (puts job None) came
+  put_told old new job (Err refusal) came refused = one_step old new (puts job (Some refusal)) refused
+
+  -- ---- plans that are given back
+
+  -- Where the plans that are left lead somewhere, those that were given back and then these do.
+  abbrev pub AppliesOn : StationState S → List Run → StationState S → List Run → List Applied → Type 0
+  AppliesOn first all here runs applied = (t : StationState S) (answers : List Applied) → StationSteps Runs parked Cuts here (applied_calls runs answers) t → StationSteps Runs parked Cuts first (applied_calls all (applied ++ answers)) t
+
+  pub applies_none : (first : StationState S) (all : List Run) (applied : List Applied) → applied ≡ [] → AppliesOn first all first all applied
+  applies_none first all applied none t answers steps = subst (λ (l : List Applied). StationSteps Runs parked Cuts first (applied_calls all (l ++ answers)) t) (sym none) steps
+
+  pub applies_next : (first : StationState S) (all : List Run) (here next : StationState S) (runs later : List Run) (run : Run) (applied : List Applied) (answer : Applied) → runs ≡ run ∷ later
+      → StationStep Runs parked Cuts here (applies run.plan run.moment answer) next → AppliesOn first all here runs applied → AppliesOn first all next later (applied ++ answer ∷ [])
+  applies_next first all here next runs later run applied answer is step on t answers steps =
+      subst (λ (l : List Applied). StationSteps Runs parked Cuts first (applied_calls all l) t) (sym (append_assoc applied (answer ∷ []) answers))
+      (on t (answer ∷ answers) (subst (λ (rs : List Run). StationSteps Runs parked Cuts here (applied_calls rs (answer ∷ answers)) t) (sym is) (next, step, steps)))
+
+  pub applies_all : (first : StationState S) (all : List Run) (here : StationState S) (runs : List Run) (applied : List Applied) → runs ≡ [] → AppliesOn first all here runs applied → StationSteps Runs parked Cuts first (applied_calls all applied) here
+  applies_all first all here runs applied none on =
+      subst (λ (l : List Applied). StationSteps Runs parked Cuts first (applied_calls all l) here) (append-nil applied)
+      (on here [] (subst (λ (rs : List Run). StationSteps Runs parked Cuts here (applied_calls rs []) here) (sym none) refl))
+
+  -- ---- jobs that are taken
+
+  -- Where calls lead on from here, the takes of these jobs and then those calls lead from the first station.
+  abbrev pub TakesOn : StationState S → StationState S → List Job → Type 0
+  TakesOn first here jobs = (t : StationState S) (calls : List StationCall) → StationSteps Runs parked Cuts here calls t → StationSteps Runs parked Cuts first (map (λ (job : Job). takes (given.Job job)) jobs ++ calls) t
+
+  pub takes_none : (first : StationState S) (jobs : List Job) → jobs ≡ [] → TakesOn first first jobs
+  takes_none first jobs none t calls steps = subst (λ (js : List Job). StationSteps Runs parked Cuts first (map (λ (job : Job). takes (given.Job job)) js ++ calls) t) (sym none) steps
+
+  pub takes_next : (first here next : StationState S) (jobs : List Job) (job : Job) → StationStep Runs parked Cuts here (takes (given.Job job)) next → TakesOn first here jobs → TakesOn first next (jobs ++ job ∷ [])
+  takes_next first here next jobs job step on t calls steps =
+      subst (λ (cs : List StationCall). StationSteps Runs parked Cuts first cs t) (sym (ap (λ l. l ++ calls) (map-append (λ (j : Job). takes (given.Job j)) jobs (job ∷ [])) ∙ append_assoc (map (λ (j : Job). takes (given.Job j)) jobs) (takes (given.Job job) ∷ []) calls))
+      (on t (takes (given.Job job) ∷ calls) (next, step, steps))
+
+-- a station that gives a job goes on, and so does one that has none to give; it is over where it says so
+pub given_goes_on : {S : Type 0} (old new : StationState S) (job : Job) → take old ≡ (new, given.Job job) → new.ended ≡ false
+given_goes_on {S} old new job is = by old.ended refl is
+  where
+    first : (jobs : List Job) → old.ended ≡ false → take_first old jobs ≡ (new, given.Job job) → new.ended ≡ false
+    first [] goes e = absurd (cc (ap (λ (x : StationState S × Given). x.1) e))
+    first (j ∷ jobs) goes e = sym (ap (λ (x : StationState S × Given). (x.0).ended) e) ∙ goes
+
+    by : (b : Bool) → old.ended ≡ b → cond {A = StationState S × Given} b (old, given.Over) (take_first old old.waiting) ≡ (new, given.Job job) → new.ended ≡ false
+    by true goes e = absurd (cc (ap (λ (x : StationState S × Given). x.1) e))
+    by false goes e = first old.waiting goes e
+
+pub nothing_goes_on : {S : Type 0} (old new : StationState S) → take old ≡ (new, given.Nothing) → new.ended ≡ false
+nothing_goes_on {S} old new is = by old.ended refl is
+  where
+    first : (jobs : List Job) → old.ended ≡ false → take_first old jobs ≡ (new, given.Nothing) → new.ended ≡ false
+    first [] goes e = sym (ap (λ (x : StationState S × Given). (x.0).ended) e) ∙ goes
+    first (j ∷ jobs) goes e = absurd (cc (ap (λ (x : StationState S × Given). x.1) e))
+
+    by : (b : Bool) → old.ended ≡ b → cond {A = StationState S × Given} b (old, given.Over) (take_first old old.waiting) ≡ (new, given.Nothing) → new.ended ≡ false
+    by true goes e = absurd (cc (ap (λ (x : StationState S × Given). x.1) e))
+    by false goes e = first old.waiting goes e
+
+pub over_is_over : {S : Type 0} (old new : StationState S) → take old ≡ (new, given.Over) → new.ended ≡ true
+over_is_over {S} old new is = by old.ended refl is
+  where
+    first : (jobs : List Job) → take_first old jobs ≡ (new, given.Over) → new.ended ≡ true
+    first [] e = absurd (cc (ap (λ (x : StationState S × Given). x.1) e))
+    first (j ∷ jobs) e = absurd (cc (ap (λ (x : StationState S × Given). x.1) e))
+
+    by : (b : Bool) → old.ended ≡ b → cond {A = StationState S × Given} b (old, given.Over) (take_first old old.waiting) ≡ (new, given.Over) → new.ended ≡ true
+    by true over e = sym (ap (λ (x : StationState S × Given). (x.0).ended) e) ∙ over
+    by false over e = first old.waiting e
