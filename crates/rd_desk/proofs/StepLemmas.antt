@@ -1,5 +1,5 @@
 -- A desk's calls as calls of its station, one after the other.
-use Rattle.std.proofs.Common.{◌≡◌, ◌∙◌, refl, sym, ap, subst, ℕ, Bool, true, false, cond, List, [], ◌∷◌, ◌++◌, append_assoc, append-nil, map}
+use Rattle.std.proofs.Common.{◌≡◌, ◌∙◌, refl, sym, ap, subst, ℕ, Bool, true, false, cond, List, [], ◌∷◌, ◌++◌, append_assoc, append-nil, map, length, ◌<◌, ◌≤◌, lt-ltb, le-ltb}
 use Rattle.std.specs.Prelude.{Result, Ok, Err, Some, None, OnOk, IfErr}
 use Rattle.std.proofs.lemmas.List.{map-append}
 use Rattle.rd_drive.specs.declared.plan.Job.{Job}
@@ -13,9 +13,11 @@ use Rattle.rd_station.specs.declared.answers.Given.TheVariants as given
 use Rattle.rd_station.specs.declared.refusals.PutNo.{PutNo}
 use Rattle.rd_station.specs.Station.{StationCall, StationState, StationStep, StationSteps, applies, puts, take, take_first, takes}
 use Rattle.rd_desk.specs.declared.batch.Run.{Run}
+use Rattle.rd_desk.specs.declared.calls.DeskCall.{DeskCall}
 use Rattle.rd_desk.specs.declared.calls.DeskCall.TheVariants as call
+use Rattle.rd_desk.specs.declared.calls.DeskReply.{DeskReply}
 use Rattle.rd_desk.specs.declared.calls.DeskReply.TheVariants as reply
-use Rattle.rd_desk.specs.Desk.{applied_calls, told_by}
+use Rattle.rd_desk.specs.Desk.{DeskStep, applied_calls, taken_calls, told_by}
 
 module _ {S : Type 0} (Runs : S → Planned → ℕ → Step → List End → S → Type 0) (parked : S → List Parked) (Cuts : S → S → Type 0) where
   -- calls after calls
@@ -68,6 +70,19 @@ module _ {S : Type 0} (Runs : S → Planned → ℕ → Step → List End → S 
       subst (λ (cs : List StationCall). StationSteps Runs parked Cuts first cs t) (sym (ap (λ l. l ++ calls) (map-append (λ (j : Job). takes (given.Job j)) jobs (job ∷ [])) ∙ append_assoc (map (λ (j : Job). takes (given.Job j)) jobs) (takes (given.Job job) ∷ []) calls))
       (on t (takes (given.Job job) ∷ calls) (next, step, steps))
 
+  -- the next time none was given
+  pub takes_fewer : (first here new : StationState S) (jobs : List Job) (over : Bool) → length jobs < 4 → StationStep Runs parked Cuts here (takes (cond over given.Over given.Nothing)) new → TakesOn first here jobs
+      → StationSteps Runs parked Cuts first (taken_calls jobs over) new
+  takes_fewer first here new jobs over few step on =
+      subst (λ (b : Bool). StationSteps Runs parked Cuts first (map (λ (job : Job). takes (given.Job job)) jobs ++ cond b (takes (cond over given.Over given.Nothing) ∷ []) []) new) (sym (lt-ltb (length jobs) 4 few))
+      (on new (takes (cond over given.Over given.Nothing) ∷ []) (one_step here new (takes (cond over given.Over given.Nothing)) step))
+
+  -- as many were given as may be
+  pub takes_most : (first here : StationState S) (jobs : List Job) (over : Bool) → 4 ≤ length jobs → TakesOn first here jobs → StationSteps Runs parked Cuts first (taken_calls jobs over) here
+  takes_most first here jobs over many on =
+      subst (λ (b : Bool). StationSteps Runs parked Cuts first (map (λ (job : Job). takes (given.Job job)) jobs ++ cond b (takes (cond over given.Over given.Nothing) ∷ []) []) here) (sym (le-ltb (length jobs) 4 many))
+      (on here [] refl)
+
 -- a station that gives a job goes on, and so does one that has none to give; it is over where it says so
 pub given_goes_on : {S : Type 0} (old new : StationState S) (job : Job) → take old ≡ (new, given.Job job) → new.ended ≡ false
 given_goes_on {S} old new job is = by old.ended refl is
@@ -80,24 +95,11 @@ given_goes_on {S} old new job is = by old.ended refl is
     by true goes e = absurd (cc (ap (λ (x : StationState S × Given). x.1) e))
     by false goes e = first old.waiting goes e
 
-pub nothing_goes_on : {S : Type 0} (old new : StationState S) → take old ≡ (new, given.Nothing) → new.ended ≡ false
-nothing_goes_on {S} old new is = by old.ended refl is
-  where
-    first : (jobs : List Job) → old.ended ≡ false → take_first old jobs ≡ (new, given.Nothing) → new.ended ≡ false
-    first [] goes e = sym (ap (λ (x : StationState S × Given). (x.0).ended) e) ∙ goes
-    first (j ∷ jobs) goes e = absurd (cc (ap (λ (x : StationState S × Given). x.1) e))
-
-    by : (b : Bool) → old.ended ≡ b → cond {A = StationState S × Given} b (old, given.Over) (take_first old old.waiting) ≡ (new, given.Nothing) → new.ended ≡ false
-    by true goes e = absurd (cc (ap (λ (x : StationState S × Given). x.1) e))
-    by false goes e = first old.waiting goes e
-
-pub over_is_over : {S : Type 0} (old new : StationState S) → take old ≡ (new, given.Over) → new.ended ≡ true
-over_is_over {S} old new is = by old.ended refl is
-  where
-    first : (jobs : List Job) → take_first old jobs ≡ (new, given.Over) → new.ended ≡ true
-    first [] e = absurd (cc (ap (λ (x : StationState S × Given). x.1) e))
-    first (j ∷ jobs) e = absurd (cc (ap (λ (x : StationState S × Given). x.1) e))
-
-    by : (b : Bool) → old.ended ≡ b → cond {A = StationState S × Given} b (old, given.Over) (take_first old old.waiting) ≡ (new, given.Over) → new.ended ≡ true
-    by true over e = sym (ap (λ (x : StationState S × Given). (x.0).ended) e) ∙ over
-    by false over e = first old.waiting e
+-- the same call of the same station
+pub same_step : {S : Type 0} (Runs : S → Planned → ℕ → Step → List End → S → Type 0) (parked : S → List Parked) (Cuts : S → S → Type 0) (old old' new new' : StationState S) (asked asked' : DeskCall) (answer answer' : DeskReply)
+    → old' ≡ old → asked' ≡ asked → answer' ≡ answer → new' ≡ new → DeskStep Runs parked Cuts old asked answer new → DeskStep Runs parked Cuts old' asked' answer' new'
+same_step {S} Runs parked Cuts old old' new new' asked asked' answer answer' o a r n step =
+    subst (λ (s : StationState S). DeskStep Runs parked Cuts s asked' answer' new') (sym o)
+    (subst (λ (c : DeskCall). DeskStep Runs parked Cuts old c answer' new') (sym a)
+    (subst (λ (c : DeskReply). DeskStep Runs parked Cuts old asked c new') (sym r)
+    (subst (λ (s : StationState S). DeskStep Runs parked Cuts old asked answer s) (sym n) step)))

@@ -1,5 +1,5 @@
 -- Whose jobs are given back: what each pass was given, and of which request each job is.
-use Rattle.std.specs.Prelude.{◌≡◌, ℕ, List, [], ◌∷◌, ◌++◌, All, Contains, Some, None, find}
+use Rattle.std.specs.Prelude.{◌≡◌, List, [], ◌∷◌, ◌++◌, All, Contains, None, find}
 use Rattle.std.specs.List.{flat_map}
 use Rattle.std.specs.Option.{option_map_or}
 use Rattle.rd_base.specs.declared.journal.Key.{Key}
@@ -8,7 +8,6 @@ use Rattle.rd_irp.specs.declared.request.Request.{Request}
 use Rattle.rd_drive.specs.declared.plan.Job.{Job}
 use Rattle.rd_station.specs.Station.{StationCall, is_key, puts}
 use Rattle.rd_turn.specs.declared.object.Entry.{Entry}
-use Rattle.rd_desk.specs.declared.batch.Run.{Run}
 use Rattle.rd_desk.specs.declared.calls.DeskCall.{DeskCall}
 use Rattle.rd_desk.specs.declared.calls.DeskCall.TheVariants as call
 use Rattle.rd_desk.specs.declared.calls.DeskReply.{DeskReply}
@@ -65,4 +64,4 @@ no_request = record { device = 0; file = 0; completion = 0; op = Close }
 
 -- the request of the first job that came under a key
 abbrev pub request_put : List StationCall → Key → Request
-request_put calls key = option_map_or request_of no_request (find (λ (job : Job). is_key job.key key) (flat_map job_come calls))
+request_put calls key = option_map_or request_of (find (λ (job : Job). is_key job.key key) (flat_map job_come calls)) no_request

@@ -1,4 +1,4 @@
-use Rattle.std.proofs.Common.{◌≡◌, ◌+◌, ◌≤◌, ◌<◌, false}
+use Rattle.std.proofs.Common.{◌≡◌, ◌≤◌, ◌<◌, false}
 use Rattle.std.specs.VecDeque.{deque_capacity, deque_len}
 use Rattle.rd_desk.proofs.StepLemmas.{TakesOn}
 use Rattle.rd_desk.proofs.desk.take_all.Given as goal
