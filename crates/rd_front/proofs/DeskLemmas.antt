@@ -57,7 +57,8 @@ collected_first s after c e = by s.ready refl
     by : (ready : List Completion) → s.ready ≡ ready → (later : List Completion) × (s.ready ≡ c ∷ later)
     by [] none =
         let is : (s, None) ≡ (after, Some c) = sym (ap (collect_first s) none) ∙ e in
-        let no : None ≡ Some c = ap (λ (x : SessionStation × Option Completion). x.1) is in absurd (cc no)
+        let no : None ≡ Some c = ap (λ (x : SessionStation × Option Completion). x.1) is in
+        absurd (cc no)
     by (d ∷ later) some =
         let told : Some d ≡ Some c = ap (λ (x : SessionStation × Option Completion). x.1) (sym (ap (collect_first s) some) ∙ e) in
         let same : d ≡ c = cc in

@@ -1,3 +1,4 @@
 pub mod DeskLemmas
 pub mod EachLemmas
 pub mod FillLemmas
+pub mod TellingLemmas

@@ -160,11 +160,14 @@ ChannelEnds old new = AllZip (EndsBy (end_call false)) old.desks new.desks × (n
 abbrev pub SessionEnds : FrontState → FrontState → Type 0
 SessionEnds old new = AllZip (EndsBy (end_call true)) old.desks new.desks × (new ≡ record (ended old new.desks) { over = true })
 
--- A job doesn't come to its desk. A device that the host was told of has a station that isn't live only where its journal is worn. Where the station is
--- full the job is kept back; and where its completion id is in use, the channel ends.
+-- what a request to a device is answered with whose station isn't live: a device that the host was told of has one only where its journal is worn
+abbrev pub gone_status : FrontState → ℕ → Status
+gone_status s device = if is_told s device then insufficient_resources else no_such_device
+
+-- A job doesn't come to its desk, and is answered without its device where that is gone or its journal is worn. Where the station is full the job is kept back; and where its completion id is in use, the channel ends.
 abbrev pub RefusedPut : FrontState → ℕ → Job → PutWhy → FrontReply → FrontState → Type 0
 RefusedPut old device job why.Gone back new =
-    AnswersDirectly old device job (if is_told old device then insufficient_resources else no_such_device) back new
+    AnswersDirectly old device job (gone_status old device) back new
 RefusedPut old device job (why.Duplicate key) back new = (back ≡ reply.Duplicate key) × ChannelEnds old new
 RefusedPut old device job (why.Full held) back new =
     (back ≡ reply.Kept) × (new ≡ record old { kept = Some (record { device = device; job = job }) })

@@ -90,7 +90,7 @@ impl<'a, T: Wait> Front<'a, T> {
           client = client;
           printers = printers;
           cache = [];
-          desks = desks.items;
+          desks = desks.entry.items;
           kept = None;
           channel = 0;
           on = false;

@@ -2,7 +2,7 @@
 
 ghost use Rattle.std.specs.Prelude.{◌≡◌, ◌≢◌, ◌<◌, length, slice_get, true, IfSome};
 ghost use Rattle.rd_client.specs.Core.{MayHear, hears, may_be_asked};
-ghost use Rattle.rd_front.specs.Front.{Announces, AnnouncesOne, AnswersDirectly, ClientDoes, Each, Follows, FrontStep, Hears, IsPutReply, Learns, Opens, PutBy, PutsAt, Puts, RefusedPut, is_announced, is_ready, may_hear, most_written, place_of};
+ghost use Rattle.rd_front.specs.Front.{Announces, AnnouncesOne, AnswersDirectly, ClientDoes, Each, Follows, FrontStep, Hears, IsPutReply, Learns, Opens, PutBy, PutsAt, Puts, RefusedPut, gone_status, is_announced, is_ready, may_hear, most_written, place_of};
 ghost use Rattle.rd_front.specs.declared.calls.FrontCall.TheVariants as Call;
 
 use crate::calls::FrontReply;
@@ -205,11 +205,7 @@ impl<'a, T: Wait> Front<'a, T> {
     {
         match no.why {
             PutWhy::Gone => {
-                let status = if self.is_told(device) {
-                    INSUFFICIENT_RESOURCES
-                } else {
-                    NO_SUCH_DEVICE
-                };
+                let status = self.gone_status(device);
                 self.answer_directly(device, &no.job, status)
             }
             PutWhy::Duplicate(key) => {
@@ -225,6 +221,18 @@ impl<'a, T: Wait> Front<'a, T> {
             }
             PutWhy::Worn { .. } => self.answer_directly(device, &no.job, INSUFFICIENT_RESOURCES),
             PutWhy::Memory => FrontReply::Memory,
+        }
+    }
+
+    /// What a request to a device is answered with whose station isn't live.
+    fn gone_status(&self, device: u32) -> Status
+        ensures status { result ≡ gone_status self.now device }
+        ensures fault { result.0 ≢ 0 }
+    {
+        if self.is_told(device) {
+            INSUFFICIENT_RESOURCES
+        } else {
+            NO_SUCH_DEVICE
         }
     }
 
