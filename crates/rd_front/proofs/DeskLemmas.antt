@@ -1,6 +1,6 @@
 -- What a desk's reply says of its station, and calls of desks at their places.
-use Rattle.std.proofs.Common.{◌≡◌, ◌∙◌, refl, sym, ap, subst, ℕ, List, [], ◌∷◌, ◌++◌, Some, None, Option}
-use Rattle.std.specs.Prelude.{Ok, Err, All, IfSome}
+use Rattle.std.proofs.Common.{◌≡◌, ◌∙◌, refl, sym, ap, subst, List, [], ◌∷◌, ◌++◌, Some, None, Option}
+use Rattle.std.specs.Prelude.{All}
 use Rattle.std.proofs.lemmas.List.Elements.{All-head}
 use Rattle.rd_desk.specs.declared.calls.DeskCall.{DeskCall}
 use Rattle.rd_desk.specs.declared.calls.DeskCall.TheVariants as desk

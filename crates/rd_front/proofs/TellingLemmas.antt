@@ -1,5 +1,5 @@
 -- A device that may be added may be so when its data is refreshed; and each of some desks is told something.
-use Rattle.std.proofs.Common.{◌≡◌, ◌∙◌, refl, sym, ap, subst, ℕ, ◌+◌, ◌<◌, ◌≤◌, List, [], length, get_or, set, take, Option, Some, None, arith}
+use Rattle.std.proofs.Common.{◌≡◌, ◌∙◌, refl, subst, ℕ, ◌+◌, ◌<◌, ◌≤◌, List, [], length, get_or, set, take, Option, Some, None, arith}
 use Rattle.std.specs.List.{AllZip}
 use Rattle.std.specs.Map.{lookup}
 use Rattle.std.specs.Option.{option_map_or}

@@ -1,5 +1,5 @@
 -- What each call of a front does. No public standard has one: these are this project's own rules.
-use Rattle.std.specs.Prelude.{◌≡◌, ℕ, zero, suc, ◌+◌, ◌-◌, ◌<◌, ◌==◌, ◌&&◌, Bool, true, false, not, nat_le, nat_lt, is_none, if◌then◌else◌, List, [], ◌∷◌, ◌++◌, length, map, position, slice_get, slice_set, Option, Some, None, IfSome, Result, Ok, Err}
+use Rattle.std.specs.Prelude.{◌≡◌, ℕ, zero, suc, ◌+◌, ◌-◌, ◌==◌, ◌&&◌, Bool, true, false, not, nat_le, nat_lt, is_none, if◌then◌else◌, List, [], ◌∷◌, length, position, slice_get, slice_set, Option, Some, None, IfSome, Result, Ok, Err}
 use Rattle.std.specs.declared.alloc.AllocError.{AllocError}
 use Rattle.std.specs.List.{AllZip}
 use Rattle.std.specs.Map.{lookup}
@@ -294,7 +294,7 @@ CutsAt old None new = new ≡ old
 CutsAt old (Some place) new = (answer : DeskReply) × DeskDoes old place desk.Remove answer new
 
 abbrev pub RemovesBy : FrontState → ℕ → Result (Unit {0}) AllocError → FrontReply → FrontState → Type 0
-RemovesBy old device (Ok done) back new = (back ≡ done_at None new) × CutsAt old (place_of old.desks device) new
+RemovesBy old device (Ok done) back new = (back ≡ done_at (place_of old.desks device) new) × CutsAt old (place_of old.desks device) new
 RemovesBy old device (Err error) back new = (back ≡ reply.Memory) × (new ≡ old)
 
 -- The host is told that a device is gone, which is cut off at its desk.

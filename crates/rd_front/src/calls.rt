@@ -30,8 +30,9 @@ pub enum FrontCall {
 pub enum FrontReply {
     /// It is done.
     Done {
-        /// The place of the desk to which a job came, if one did: a hand is to be woken.
-        job_at: Option<usize>,
+        /// The place of the desk that has more to do, if one has: a job came, so a hand is to be woken, or its device was removed, so that completions
+        /// are to be collected there.
+        at: Option<usize>,
         /// Whether 1,024 messages may stand in the core's outbox, so that reading stops.
         full: bool,
     },

@@ -172,11 +172,11 @@ impl<'a, T: Wait> Front<'a, T> {
     }
 
     /// The reply where something is done.
-    pub(crate) fn done(&self, job_at: Option<usize>) -> FrontReply
-        ensures { result ≡ done_at job_at self.now }
+    pub(crate) fn done(&self, at: Option<usize>) -> FrontReply
+        ensures { result ≡ done_at at self.now }
     {
         FrontReply::Done {
-            job_at,
+            at,
             full: self.is_full(),
         }
     }

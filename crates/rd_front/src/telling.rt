@@ -2,7 +2,7 @@
 
 ghost use Rattle.std.specs.Prelude.{◌≡◌, ◌<◌, length, slice_get, IfSome, Ok};
 ghost use Rattle.rd_client.specs.Core.{MayTellAdded, MayTellRemoved, tells_added, tells_removed};
-ghost use Rattle.rd_front.specs.Front.{Adds, AddsBy, Begins, ClientDoes, CutsAt, Each, FrontStep, Refreshes, RefreshesOne, Removes, may_add, may_begin, one_if_done, place_of};
+ghost use Rattle.rd_front.specs.Front.{Adds, AddsBy, Begins, ClientDoes, Each, FrontStep, Refreshes, RefreshesOne, Removes, RemovesBy, may_add, may_begin, one_if_done};
 ghost use Rattle.rd_front.specs.declared.calls.FrontCall.TheVariants as Call;
 
 use crate::calls::FrontReply;
@@ -99,10 +99,7 @@ impl<'a, T: Wait> Front<'a, T> {
         ensures { Removes self.old device result self.new }
     {
         match self.tell_removed(device) {
-            Ok(()) => {
-                self.cut_at(device);
-                self.done(None)
-            }
+            Ok(()) => self.cut(device),
             Err(_) => FrontReply::Memory,
         }
     }
@@ -119,12 +116,14 @@ impl<'a, T: Wait> Front<'a, T> {
     }
 
     /// A device is cut off at its desk, if it has one.
-    fn cut_at(&mut self, device: u32)
-        ensures { CutsAt self.old (place_of self.old.desks device) self.new }
+    fn cut(&mut self, device: u32) -> FrontReply
+        ensures { RemovesBy self.old device (Ok tt) result self.new }
     {
-        if let Some(place) = self.place_of(device) {
+        let at = self.place_of(device);
+        if let Some(place) = at {
             self.call_desk(place, DeskCall::Remove);
         }
+        self.done(at)
     }
 
     /// The host is told that a device is there again, where it may be.

@@ -1,7 +1,5 @@
 use Rattle.std.proofs.Common.{refl, true, Bool, subst}
-use Rattle.rd_client.specs.Core.{ClientCoreState, MayTellAdded}
 use Rattle.rd_front.specs.Front.{Refreshes}
-use Rattle.rd_front.specs.State.{FrontState}
 use Rattle.rd_front.proofs.TellingLemmas.{added_still}
 use Rattle.rd_front.proofs.front.Front.add_device.Goals as goal
 

@@ -1,4 +1,4 @@
-use Rattle.std.proofs.Common.{◌≡◌, ◌<◌, ◌≤◌, ◌∙◌, sym, ap, subst, rules, ℕ, List, ◌++◌, ◌∷◌, [], length, arith}
+use Rattle.std.proofs.Common.{◌<◌, ◌≤◌, ◌∙◌, sym, ap, subst, rules, length, arith}
 use Rattle.rd_front.specs.declared.next.Got.{Got}
 use Rattle.rd_front.specs.declared.next.Got.TheVariants as got
 use Rattle.rd_front.specs.Front.{Gives}
