@@ -17,7 +17,7 @@ use Rattle.rd_turn.proofs.HistoryLemmas.{Leads-keeps_fact, Leads-parted}
 use Rattle.rd_world.specs.Devices.{device_cuts, device_parked, device_runs}
 use Rattle.rd_world.specs.Stations.{IsReachedBy}
 use Rattle.rd_front.specs.Front.{IsCollectReply, IsPutReply}
-use Rattle.rd_front.specs.State.{DeskPass, IsReplied, SessionDeskStep, SessionStation}
+use Rattle.rd_front.specs.State.{DeskPass, IsDeskReply, SessionDeskStep, SessionStation}
 
 -- calls of a station lead from one that came to be by its calls to one that did
 reached_on : (old new : SessionStation) (calls : List StationCall) → IsReachedBy old → StationSteps device_runs device_parked device_cuts old calls new → IsReachedBy new
@@ -27,7 +27,7 @@ reached_on old new (c ∷ calls) reached steps =
 
 -- what a pass has seen after a call ends with a reply that the desk gives there
 pub replied_by : (turn : TurnId SessionStation) (p q : DeskPass) (call : DeskCall) (reply : DeskReply) → IsReachedBy turn.opening → Called p call reply q
-    → IsLegal SessionDeskStep turn.opening q.seen → IsReplied call reply
+    → IsLegal SessionDeskStep turn.opening q.seen → IsDeskReply call reply
 replied_by turn p q call reply reached called legal =
     let added = called.0 in
     let whole = subst (λ es. IsLegal SessionDeskStep turn.opening es) called.1 legal in
@@ -40,7 +40,7 @@ replied_by turn p q call reply reached called legal =
     }
 
 -- a desk replies to a job by taking it or by giving it back
-pub put_reply : (job : Job) (reply : DeskReply) → IsReplied (desk.Put job) reply → IsPutReply reply
+pub put_reply : (job : Job) (reply : DeskReply) → IsDeskReply (desk.Put job) reply → IsPutReply reply
 put_reply job (replied.Announced answer) r = (r.step).1
 put_reply job (replied.Put answer) r = tt
 put_reply job (replied.Unfit back) r = tt
@@ -65,7 +65,7 @@ collected_first s after c e = by s.ready refl
         (later, some ∙ ap (λ (x : Completion). x ∷ later) same)
 
 -- a desk hands out a completion that fits its layout
-pub collect_reply : (reply : DeskReply) → IsReplied desk.Collect reply → IsCollectReply reply
+pub collect_reply : (reply : DeskReply) → IsDeskReply desk.Collect reply → IsCollectReply reply
 collect_reply (replied.Announced answer) r = (r.step).1
 collect_reply (replied.Put answer) r = (r.step).1
 collect_reply (replied.Unfit back) r = (r.step).1

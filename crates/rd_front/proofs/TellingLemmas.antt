@@ -1,4 +1,4 @@
--- A device that may be added may be so when its data is refreshed; and each of some desks is told something.
+-- A device that may be added may be so when its data is renewed; and each of some desks is told something.
 use Rattle.std.proofs.Common.{◌≡◌, ◌∙◌, refl, subst, ℕ, ◌+◌, ◌<◌, ◌≤◌, List, [], length, get_or, set, take, Option, Some, None, arith}
 use Rattle.std.specs.List.{AllZip}
 use Rattle.std.specs.Map.{lookup}
@@ -15,7 +15,7 @@ use Rattle.rd_world.specs.Hearing.{with_client}
 use Rattle.rd_world.specs.Run.{new_world}
 use Rattle.rd_world.specs.World.{WorldState}
 use Rattle.rd_world.proofs.StepLemmas.{refreshed_added}
-use Rattle.rd_front.specs.Front.{refreshed}
+use Rattle.rd_front.specs.Front.{with_new_data}
 use Rattle.rd_front.specs.State.{DeviceDeskState, FrontState}
 
 -- a session with this client and these printers
@@ -33,10 +33,10 @@ module _ (s : FrontState) (device : ℕ) where
   alike None = refl
   alike (Some names) = refl
 
-refreshed_alike : (s : FrontState) (device : ℕ) → (refreshing (session s) device).client ≡ (refreshed s device).client
+refreshed_alike : (s : FrontState) (device : ℕ) → (refreshing (session s) device).client ≡ (with_new_data s device).client
 refreshed_alike s device = alike s device (lookup (is_at (nat_cmp device)) s.printers)
 
-pub added_still : (s : FrontState) (device : ℕ) → MayTellAdded s.client device → MayTellAdded (refreshed s device).client device
+pub added_still : (s : FrontState) (device : ℕ) → MayTellAdded s.client device → MayTellAdded (with_new_data s device).client device
 added_still s device may = subst (λ (c : ClientCoreState). MayTellAdded c device) (refreshed_alike s device) (refreshed_added (session s) device may)
 
 -- one more of some desks was told

@@ -47,20 +47,20 @@ max_unsent = 1024
 
 -- ---- what a call sees
 
-abbrev pub is_full : FrontState → Bool
-is_full s = nat_le max_unsent s.unsent
+abbrev pub is_front_full : FrontState → Bool
+is_front_full s = nat_le max_unsent s.unsent
 
 -- whether the client's opening is over
-abbrev pub is_ready : FrontState → Bool
-is_ready s = is_client_ready ((s.client).core).shake
+abbrev pub is_front_ready : FrontState → Bool
+is_front_ready s = is_client_ready ((s.client).core).shake
 
 -- the place of a device's desk, if it has one
-abbrev pub place_of : List DeviceDeskState → ℕ → Option ℕ
-place_of desks device = position (λ (d : DeviceDeskState). d.id == device) desks
+abbrev pub desk_place : List DeviceDeskState → ℕ → Option ℕ
+desk_place desks device = position (λ (d : DeviceDeskState). d.id == device) desks
 
 -- whether the host was last told that a device is there
-abbrev pub is_told : FrontState → ℕ → Bool
-is_told s device = is_ready s && (has_device s.client device && not (is_gone s.client device))
+abbrev pub is_told_there : FrontState → ℕ → Bool
+is_told_there s device = is_front_ready s && (has_device s.client device && not (is_gone s.client device))
 
 -- a channel may begin where none is on and the session isn't over; its number is above those before
 abbrev pub may_begin : FrontState → ℕ → Bool
@@ -72,20 +72,20 @@ may_hear s = s.on && (is_none s.kept && nat_lt (s.client).asked max_asked)
 
 -- a device may be removed, or added again, where the opening is over
 abbrev pub may_remove : FrontState → ℕ → Bool
-may_remove s device = s.on && is_told s device
+may_remove s device = s.on && is_told_there s device
 
 abbrev pub may_add : FrontState → ℕ → Bool
-may_add s device = s.on && (is_ready s && is_gone s.client device)
+may_add s device = s.on && (is_front_ready s && is_gone s.client device)
 
 -- ---- replies
 
 abbrev pub done_at : Option ℕ → FrontState → FrontReply
-done_at place s = reply.Done place (is_full s)
+done_at place s = reply.Done place (is_front_full s)
 
 -- what is done is done; or no memory was found for it
-abbrev pub done_by : Bool → FrontState → FrontReply
-done_by true s = done_at None s
-done_by false s = reply.Memory
+abbrev pub done_where : Bool → FrontState → FrontReply
+done_where true s = done_at None s
+done_where false s = reply.Memory
 
 abbrev pub done_if : {E : Type 0} → Result (Unit {0}) E → FrontState → FrontReply
 done_if (Ok done) s = done_at None s
@@ -138,8 +138,8 @@ abbrev pub EndsBy : DeskCall → DeviceDeskState → DeviceDeskState → Type 0
 EndsBy does before after = (back : DeskReply) × IsCalled before does back after
 
 -- the channel ended: no job is kept back, and nothing is to be sent
-abbrev pub ended : FrontState → List DeviceDeskState → FrontState
-ended s desks = record s {
+abbrev pub channel_ended : FrontState → List DeviceDeskState → FrontState
+channel_ended s desks = record s {
   client = record s.client { core = record (s.client).core { outbox = [] } };
   desks = desks;
   kept = None;
@@ -154,15 +154,15 @@ end_call false = desk.DropChannel
 
 -- each desk is told that the channel ended
 abbrev pub ChannelEnds : FrontState → FrontState → Type 0
-ChannelEnds old new = AllZip (EndsBy (end_call false)) old.desks new.desks × (new ≡ ended old new.desks)
+ChannelEnds old new = AllZip (EndsBy (end_call false)) old.desks new.desks × (new ≡ channel_ended old new.desks)
 
 -- each desk is told that the session is over
 abbrev pub SessionEnds : FrontState → FrontState → Type 0
-SessionEnds old new = AllZip (EndsBy (end_call true)) old.desks new.desks × (new ≡ record (ended old new.desks) { over = true })
+SessionEnds old new = AllZip (EndsBy (end_call true)) old.desks new.desks × (new ≡ record (channel_ended old new.desks) { over = true })
 
 -- what a request to a device is answered with whose station isn't live: a device that the host was told of has one only where its journal is worn
 abbrev pub gone_status : FrontState → ℕ → Status
-gone_status s device = if is_told s device then insufficient_resources else no_such_device
+gone_status s device = if is_told_there s device then insufficient_resources else no_such_device
 
 -- A job doesn't come to its desk, and is answered without its device where that is gone or its journal is worn. Where the station is full the job is kept back; and where its completion id is in use, the channel ends.
 abbrev pub RefusedPut : FrontState → ℕ → Job → PutWhy → FrontReply → FrontState → Type 0
@@ -193,12 +193,12 @@ PutsIf old device job (Some place) back new = PutsAt old device job place back n
 -- A job goes to its desk, or is answered without its device where there is none.
 abbrev pub Puts : FrontState → ℕ → Job → FrontReply → FrontState → Type 0
 Puts old device job back new =
-    Where (may_be_asked ((old.client).core).shake) reply.Unfit back old new (PutsIf old device job (place_of old.desks device) back new)
+    Where (may_be_asked ((old.client).core).shake) reply.Unfit back old new (PutsIf old device job (desk_place old.desks device) back new)
 
 -- The job that is kept back is tried once more.
-abbrev pub Retries : FrontState → Option Kept → FrontReply → FrontState → Type 0
-Retries old None back new = (back ≡ done_at None old) × (new ≡ old)
-Retries old (Some k) back new = Puts (record old { kept = None }) k.device k.job back new
+abbrev pub FrontRetries : FrontState → Option Kept → FrontReply → FrontState → Type 0
+FrontRetries old None back new = (back ≡ done_at None old) × (new ≡ old)
+FrontRetries old (Some k) back new = Puts (record old { kept = None }) k.device k.job back new
 
 -- a desk's reply to a job is one of these
 abbrev pub IsPutReply : DeskReply → Type 0
@@ -222,7 +222,7 @@ Announces old (Some place) found new =
 -- a device is announced, unless it is removed
 abbrev pub AnnouncesUnless : Bool → FrontState → ℕ → Bool → FrontState → Type 0
 AnnouncesUnless true old device found new = (found ≡ true) × (new ≡ old)
-AnnouncesUnless false old device found new = Announces old (place_of old.desks device) found new
+AnnouncesUnless false old device found new = Announces old (desk_place old.desks device) found new
 
 abbrev pub AnnouncesOne : ClientDevice → FrontState → Bool → FrontState → Type 0
 AnnouncesOne d old found new = AnnouncesUnless d.removed old (d.announce).id found new
@@ -230,46 +230,46 @@ AnnouncesOne d old found new = AnnouncesUnless d.removed old (d.announce).id fou
 -- ---- a message
 
 -- The opening is over by a message: the devices that aren't removed are announced to their desks.
-abbrev pub Opens : Bool → FrontState → FrontReply → FrontState → Type 0
-Opens true old back new = (found : Bool) × Each AnnouncesOne (old.client).devices old found new × (back ≡ done_by found new)
-Opens false old back new = (back ≡ done_at None old) × (new ≡ old)
+abbrev pub OpeningEnds : Bool → FrontState → FrontReply → FrontState → Type 0
+OpeningEnds true old back new = (found : Bool) × Each AnnouncesOne (old.client).devices old found new × (back ≡ done_where found new)
+OpeningEnds false old back new = (back ≡ done_at None old) × (new ≡ old)
 
 -- The host tells of a printer.
-abbrev pub Learns : FrontState → Notice → FrontReply → FrontState → Type 0
-Learns old n back new =
+abbrev pub LearnsNotice : FrontState → Notice → FrontReply → FrontState → Type 0
+LearnsNotice old n back new =
     (answer : Result (Unit {0}) AllocError) × HearsNotice old.cache n answer new.cache × (new ≡ record old { cache = new.cache }) × (back ≡ done_if answer new)
 
 -- what follows from a message, by whether the opening was over before
-abbrev pub Follows : Bool → FrontState → Heard → FrontReply → FrontState → Type 0
-Follows ready old Nothing back new = Opens (not ready && is_ready old) old back new
-Follows ready old (Ask device job) back new = Puts old device job back new
-Follows ready old (Print n) back new = Learns old n back new
+abbrev pub HeardBy : Bool → FrontState → Heard → FrontReply → FrontState → Type 0
+HeardBy ready old Nothing back new = OpeningEnds (not ready && is_front_ready old) old back new
+HeardBy ready old (Ask device job) back new = Puts old device job back new
+HeardBy ready old (Print n) back new = LearnsNotice old n back new
 
 -- what follows from the core's answer
 abbrev pub FollowsFrom : Bool → FrontState → Result Heard EndFault → FrontReply → FrontState → Type 0
 FollowsFrom ready old (Err fault.Memory) back new = (back ≡ reply.Memory) × (new ≡ old)
 FollowsFrom ready old (Err wrong) back new = (back ≡ reply.Wrong wrong) × (new ≡ old)
-FollowsFrom ready old (Ok heard) back new = Follows ready old heard back new
+FollowsFrom ready old (Ok heard) back new = HeardBy ready old heard back new
 
 -- a message of the opening is followed by three at the most
 abbrev pub most_written : Bool → ℕ
 most_written ready = if ready then 0 else 3
 
 -- A message is heard.
-abbrev pub Hears : FrontState → List ℕ → FrontReply → FrontState → Type 0
-Hears old message back new =
-    (answer : Result Heard EndFault) × (next : FrontState) × ClientDoes old (hears message answer) (most_written (is_ready old)) next
-    × FollowsFrom (is_ready old) next answer back new
+abbrev pub FrontHears : FrontState → List ℕ → FrontReply → FrontState → Type 0
+FrontHears old message back new =
+    (answer : Result Heard EndFault) × (next : FrontState) × ClientDoes old (hears message answer) (most_written (is_front_ready old)) next
+    × FollowsFrom (is_front_ready old) next answer back new
 
 -- ---- printers
 
 -- the data of a printer's announcement is that of what is kept for it now; any other device stays as it is
-abbrev pub refreshed : FrontState → ℕ → FrontState
-refreshed s device =
+abbrev pub with_new_data : FrontState → ℕ → FrontState
+with_new_data s device =
     option_map_or (λ (names : PrinterNames). record s { client = client.refresh s.client device (printer_data s.cache names) }) (lookup (is_at (nat_cmp device)) s.printers) s
 
 abbrev pub Refreshes : FrontState → ℕ → Bool → FrontState → Type 0
-Refreshes old device true new = new ≡ refreshed old device
+Refreshes old device true new = new ≡ with_new_data old device
 Refreshes old device false new = new ≡ old
 
 abbrev pub RefreshesOne : ℕ × PrinterNames → FrontState → Bool → FrontState → Type 0
@@ -283,8 +283,8 @@ abbrev pub BeginsIf : Bool → FrontState → ℕ → FrontReply → FrontState 
 BeginsIf true old channel back new = (back ≡ done_at None new) × (new ≡ begun old channel)
 BeginsIf false old channel back new = (back ≡ reply.Memory) × (new ≡ old)
 
-abbrev pub Begins : FrontState → ℕ → FrontReply → FrontState → Type 0
-Begins old channel back new =
+abbrev pub FrontBegins : FrontState → ℕ → FrontReply → FrontState → Type 0
+FrontBegins old channel back new =
     (found : Bool) × (next : FrontState) × Each RefreshesOne old.printers old found next × BeginsIf found next channel back new
 
 -- ---- a device is gone, or there again
@@ -294,17 +294,17 @@ CutsAt old None new = new ≡ old
 CutsAt old (Some place) new = (answer : DeskReply) × DeskDoes old place desk.Remove answer new
 
 abbrev pub RemovesBy : FrontState → ℕ → Result (Unit {0}) AllocError → FrontReply → FrontState → Type 0
-RemovesBy old device (Ok done) back new = (back ≡ done_at (place_of old.desks device) new) × CutsAt old (place_of old.desks device) new
+RemovesBy old device (Ok done) back new = (back ≡ done_at (desk_place old.desks device) new) × CutsAt old (desk_place old.desks device) new
 RemovesBy old device (Err error) back new = (back ≡ reply.Memory) × (new ≡ old)
 
 -- The host is told that a device is gone, which is cut off at its desk.
-abbrev pub Removes : FrontState → ℕ → FrontReply → FrontState → Type 0
-Removes old device back new =
+abbrev pub FrontRemoves : FrontState → ℕ → FrontReply → FrontState → Type 0
+FrontRemoves old device back new =
     (answer : Result (Unit {0}) AllocError) × (next : FrontState) × ClientDoes old (tells_removed device answer) (one_if_done answer) next
     × RemovesBy next device answer back new
 
 abbrev pub AddsBy : FrontState → ℕ → Result (Unit {0}) AllocError → FrontReply → FrontState → Type 0
-AddsBy old device (Ok done) back new = (found : Bool) × Announces old (place_of old.desks device) found new × (back ≡ done_by found new)
+AddsBy old device (Ok done) back new = (found : Bool) × Announces old (desk_place old.desks device) found new × (back ≡ done_where found new)
 AddsBy old device (Err error) back new = (back ≡ reply.Memory) × (new ≡ old)
 
 abbrev pub AddsIf : Bool → FrontState → ℕ → FrontReply → FrontState → Type 0
@@ -314,8 +314,8 @@ AddsIf true old device back new =
 AddsIf false old device back new = (back ≡ reply.Memory) × (new ≡ old)
 
 -- The host is told that a device is there again, with the data of a printer as it is kept now; and its station is live.
-abbrev pub Adds : FrontState → ℕ → FrontReply → FrontState → Type 0
-Adds old device back new = (found : Bool) × (next : FrontState) × Refreshes old device found next × AddsIf found next device back new
+abbrev pub FrontAdds : FrontState → ℕ → FrontReply → FrontState → Type 0
+FrontAdds old device back new = (found : Bool) × (next : FrontState) × Refreshes old device found next × AddsIf found next device back new
 
 -- ---- the writer
 
@@ -359,8 +359,8 @@ Sends old sent new =
     ClientStep old.client (sends sent) new.client × (new ≡ record old { client = new.client; unsent = unsent_after sent old.unsent })
 
 -- One message for the writer: the core's first one, or, where it has none, the completion that was ready first at a place.
-abbrev pub Gives : FrontState → ℕ → Got → FrontState → Type 0
-Gives old place came new =
+abbrev pub GivesNext : FrontState → ℕ → Got → FrontState → Type 0
+GivesNext old place came new =
     (sent : Option Outgoing) × (next : FrontState) × Sends old sent next × GivesBy next place sent came new
 
 -- what follows a message, or that none came
@@ -373,7 +373,7 @@ FillsBy got.Memory old messages left new others = (messages ≡ []) × (left ≡
 abbrev pub Fills : ℕ → FrontState → ℕ → List (List ℕ) → Rest → FrontState → Type 0
 Fills zero old place messages left new = (messages ≡ []) × (left ≡ rest.More) × (new ≡ old)
 Fills (suc most) old place messages left new =
-    (came : Got) × (next : FrontState) × Gives old place came next × FillsBy came next messages left new (λ later. Fills most next place later left new)
+    (came : Got) × (next : FrontState) × GivesNext old place came next × FillsBy came next messages left new (λ later. Fills most next place later left new)
 
 -- ---- the calls
 
@@ -385,15 +385,15 @@ Hands old place room _ new = ⊥
 
 -- The front before a call, and after it.
 abbrev pub FrontStep : FrontState → FrontCall → FrontReply → FrontState → Type 0
-FrontStep old (call.Begin channel) back new = Where (may_begin old channel) reply.Refused back old new (Begins old channel back new)
+FrontStep old (call.Begin channel) back new = Where (may_begin old channel) reply.Refused back old new (FrontBegins old channel back new)
 FrontStep old (call.Hear message) back new =
-    Where (may_hear old) reply.Refused back old new (Where (not (is_full old)) reply.Full back old new (Hears old message back new))
+    Where (may_hear old) reply.Refused back old new (Where (not (is_front_full old)) reply.Full back old new (FrontHears old message back new))
 FrontStep old call.Retry back new =
-    Where old.on reply.Refused back old new (Where (not (is_full old)) reply.Full back old new (Retries old old.kept back new))
+    Where old.on reply.Refused back old new (Where (not (is_front_full old)) reply.Full back old new (FrontRetries old old.kept back new))
 FrontStep old (call.Next place room) back new = Hands old place room back new
 FrontStep old (call.Remove device) back new =
-    Where (may_remove old device) reply.Refused back old new (Where (not (is_full old)) reply.Full back old new (Removes old device back new))
+    Where (may_remove old device) reply.Refused back old new (Where (not (is_front_full old)) reply.Full back old new (FrontRemoves old device back new))
 FrontStep old (call.Add device) back new =
-    Where (may_add old device) reply.Refused back old new (Where (not (is_full old)) reply.Full back old new (Adds old device back new))
+    Where (may_add old device) reply.Refused back old new (Where (not (is_front_full old)) reply.Full back old new (FrontAdds old device back new))
 FrontStep old call.EndChannel back new = Where old.on reply.Refused back old new ((back ≡ done_at None new) × ChannelEnds old new)
 FrontStep old call.EndSession back new = Where (not old.over) reply.Refused back old new ((back ≡ done_at None new) × SessionEnds old new)

@@ -6,10 +6,10 @@ pub record RoomState : Type 0 where
   pub places : ℕ
   pub messages : List (List ℕ)
 
-abbrev pub first_from : RoomState → List (List ℕ) → RoomState × Option (List ℕ)
-first_from room [] = (room, None)
-first_from room (message ∷ messages) = (record room { messages = messages }, Some message)
+abbrev pub first_of_room : RoomState → List (List ℕ) → RoomState × Option (List ℕ)
+first_of_room room [] = (room, None)
+first_of_room room (message ∷ messages) = (record room { messages = messages }, Some message)
 
 -- the message that came first is handed out
-abbrev pub first_message : RoomState → RoomState × Option (List ℕ)
-first_message room = first_from room room.messages
+abbrev pub first_in_room : RoomState → RoomState × Option (List ℕ)
+first_in_room room = first_of_room room room.messages

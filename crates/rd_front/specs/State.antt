@@ -49,7 +49,7 @@ pub record FrontState : Type 0 where
   pub unsent : ℕ
 
 -- A reply is one that a desk gives to a call: its station came to be by its calls, and goes on by this one.
-pub record IsReplied (call : DeskCall) (reply : DeskReply) : Type 0 where
+pub record IsDeskReply (call : DeskCall) (reply : DeskReply) : Type 0 where
   pub before : SessionStation
   pub after : SessionStation
   pub reached : IsReachedBy before
@@ -62,7 +62,7 @@ pub record IsCalled (old : DeviceDeskState) (call : DeskCall) (reply : DeskReply
   pub same : IsSamePass old.pass new.pass
   pub called : Called old.pass call reply new.pass
   pub legal : IsLegal SessionDeskStep (old.turn).opening (new.pass).seen
-  pub replied : IsReplied call reply
+  pub replied : IsDeskReply call reply
 
 -- The front's pass of a desk belongs to its turn, and the station that the turn was made with came to be by its calls.
 pub record KeepsDesk (turn : TurnId SessionStation) (pass : DeskPass) : Type 0 where

@@ -51,7 +51,10 @@ pub enum FrontReply {
     /// The call doesn't fit, so nothing was done.
     Refused,
     /// Messages to be written, in order.
-    Messages { room: Room, rest: Rest },
+    Messages {
+        room: Room,
+        rest: Rest,
+    },
 }
 
 /// Why a writer was given no more messages.

@@ -1,7 +1,7 @@
 //! The front: what the reader and the writer of a client share.
 
 ghost use Rattle.std.specs.Prelude.{◌≡◌, ◌<◌, [], false, length, IfSome, None};
-ghost use Rattle.rd_front.specs.Front.{DeskDoes, done_at, is_full, is_ready, is_told, place_of};
+ghost use Rattle.rd_front.specs.Front.{DeskDoes, done_at, is_front_full, is_front_ready, is_told_there, desk_place};
 
 use crate::calls::{FrontCall, FrontReply};
 use crate::device_desk::DeviceDesk;
@@ -144,7 +144,7 @@ impl<'a, T: Wait> Front<'a, T> {
 
     /// The place of a device's desk, if it has one.
     pub(crate) fn place_of(&self, device: u32) -> Option<usize>
-        ensures place { result ≡ place_of self.now.desks device }
+        ensures place { result ≡ desk_place self.now.desks device }
         ensures within { IfSome result (λ place. place < length self.now.desks) }
     {
         self.desks.iter().position(|desk| desk.id() == device)
@@ -152,21 +152,21 @@ impl<'a, T: Wait> Front<'a, T> {
 
     /// Whether the client's opening is over.
     pub(crate) fn is_ready(&self) -> bool
-        ensures { result ≡ is_ready self.now }
+        ensures { result ≡ is_front_ready self.now }
     {
         self.client.ready()
     }
 
     /// Whether the host was last told that a device is there.
     pub(crate) fn is_told(&self, device: u32) -> bool
-        ensures { result ≡ is_told self.now device }
+        ensures { result ≡ is_told_there self.now device }
     {
         self.client.ready() && self.client.has_device(device) && !self.client.is_gone(device)
     }
 
     /// Whether 1,024 messages may stand in the core's outbox.
     pub(crate) fn is_full(&self) -> bool
-        ensures { result ≡ is_full self.now }
+        ensures { result ≡ is_front_full self.now }
     {
         MAX_UNSENT <= self.unsent
     }

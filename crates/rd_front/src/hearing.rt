@@ -2,7 +2,7 @@
 
 ghost use Rattle.std.specs.Prelude.{◌≡◌, ◌≢◌, ◌<◌, length, slice_get, true, IfSome};
 ghost use Rattle.rd_client.specs.Core.{MayHear, hears, may_be_asked};
-ghost use Rattle.rd_front.specs.Front.{Announces, AnnouncesOne, AnswersDirectly, ClientDoes, Each, Follows, FrontStep, Hears, IsPutReply, Learns, Opens, PutBy, PutsAt, Puts, RefusedPut, gone_status, is_announced, is_ready, may_hear, most_written, place_of};
+ghost use Rattle.rd_front.specs.Front.{Announces, AnnouncesOne, AnswersDirectly, ClientDoes, Each, HeardBy, FrontStep, FrontHears, IsPutReply, LearnsNotice, OpeningEnds, PutBy, PutsAt, Puts, RefusedPut, gone_status, is_announced, is_front_ready, may_hear, most_written, desk_place};
 ghost use Rattle.rd_front.specs.declared.calls.FrontCall.TheVariants as Call;
 
 use crate::calls::FrontReply;
@@ -49,7 +49,7 @@ impl<'a, T: Wait> Front<'a, T> {
     fn hear_message(&mut self, message: &[u8]) -> FrontReply
         requires may { MayHear self.old.client }
         requires few { self.old.unsent < 1024 }
-        ensures { Hears self.old message.now result self.new }
+        ensures { FrontHears self.old message.now result self.new }
     {
         let ready = self.is_ready();
         match self.hear_core(message) {
@@ -63,7 +63,7 @@ impl<'a, T: Wait> Front<'a, T> {
     fn hear_core(&mut self, message: &[u8]) -> Result<Heard, EndFault>
         requires may { MayHear self.old.client }
         requires few { self.old.unsent < 1024 }
-        ensures { ClientDoes self.old (hears message.now result) (most_written (is_ready self.old)) self.new }
+        ensures { ClientDoes self.old (hears message.now result) (most_written (is_front_ready self.old)) self.new }
     {
         if !self.is_ready() {
             self.unsent += 3;
@@ -74,7 +74,7 @@ impl<'a, T: Wait> Front<'a, T> {
     /// What follows from a message, by whether the opening was over before.
     fn follow(&mut self, ready: bool, heard: Heard) -> FrontReply
         requires few { self.old.unsent < 2048 }
-        ensures { Follows ready self.old heard result self.new }
+        ensures { HeardBy ready self.old heard result self.new }
     {
         match heard {
             Heard::Nothing => {
@@ -88,7 +88,7 @@ impl<'a, T: Wait> Front<'a, T> {
 
     /// Where the opening is over, the devices that aren't removed are announced to their desks.
     fn open(&mut self, opens: bool) -> FrontReply
-        ensures { Opens opens self.old result self.new }
+        ensures { OpeningEnds opens self.old result self.new }
     {
         if opens && !self.announce_listed() {
             return FrontReply::Memory;
@@ -98,7 +98,7 @@ impl<'a, T: Wait> Front<'a, T> {
 
     /// The host tells of a printer.
     fn learn(&mut self, notice: &Notice) -> FrontReply
-        ensures { Learns self.old notice.now result self.new }
+        ensures { LearnsNotice self.old notice.now result self.new }
     {
         match self.cache.hear(notice) {
             Ok(()) => self.done(None),
@@ -132,7 +132,7 @@ impl<'a, T: Wait> Front<'a, T> {
 
     /// The host is told of a device from now on. False where its desk found no memory.
     pub(crate) fn announce(&mut self, device: u32) -> bool
-        ensures { Announces self.old (place_of self.old.desks device) result self.new }
+        ensures { Announces self.old (desk_place self.old.desks device) result self.new }
     {
         let Some(place) = self.place_of(device) else {
             return true;

@@ -4,7 +4,7 @@ ghost use Rattle.std.specs.Prelude.{◌≡◌, ◌<◌, [], length, nat_lt, slic
 ghost use Rattle.std.specs.Option.{option_map};
 ghost use Rattle.rd_client.specs.Core.{Outgoing};
 ghost use Rattle.rd_drive.specs.Device.{CompletesKind};
-ghost use Rattle.rd_front.specs.Front.{Collects, CollectsAt, Fills, FrontStep, Gives, GivesCollected, GivesWritten, IsCollectReply, Sends};
+ghost use Rattle.rd_front.specs.Front.{Collects, CollectsAt, Fills, FrontStep, GivesNext, GivesCollected, GivesWritten, IsCollectReply, Sends};
 ghost use Rattle.rd_front.specs.State.{DeviceDeskState};
 ghost use Rattle.rd_front.specs.declared.calls.FrontCall.TheVariants as Call;
 
@@ -55,7 +55,7 @@ impl<'a, T: Wait> Front<'a, T> {
 
     /// One message: the core's first, or where it has none, the completion that was ready first at a place.
     fn give(&mut self, place: usize) -> Got
-        ensures { Gives self.old place result self.new }
+        ensures { GivesNext self.old place result self.new }
     {
         match self.send() {
             Some(message) => Got::Message(message),

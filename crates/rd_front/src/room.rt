@@ -1,7 +1,7 @@
 //! The room for messages that a writer takes at once.
 
 ghost use Rattle.std.specs.Prelude.{◌≡◌, ◌<◌, ◌∷◌, ◌++◌, ◌↔◌, [], length, IfOk, IsTrue};
-ghost use Rattle.rd_front.specs.Room.{first_message};
+ghost use Rattle.rd_front.specs.Room.{first_in_room};
 
 use rd_base::Bytes;
 use std::alloc::{AllocError, Global};
@@ -40,7 +40,7 @@ impl Room {
 
     /// The message that came first, if there is one.
     pub fn pop(&mut self) -> Option<Bytes>
-        ensures { first_message self.old ≡ (self.new, result) }
+        ensures { first_in_room self.old ≡ (self.new, result) }
     {
         self.messages.pop_front()
     }

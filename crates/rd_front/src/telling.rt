@@ -2,7 +2,7 @@
 
 ghost use Rattle.std.specs.Prelude.{◌≡◌, ◌<◌, length, slice_get, IfSome, Ok};
 ghost use Rattle.rd_client.specs.Core.{MayTellAdded, MayTellRemoved, tells_added, tells_removed};
-ghost use Rattle.rd_front.specs.Front.{Adds, AddsBy, Begins, ClientDoes, Each, FrontStep, Refreshes, RefreshesOne, Removes, RemovesBy, may_add, may_begin, one_if_done};
+ghost use Rattle.rd_front.specs.Front.{FrontAdds, AddsBy, FrontBegins, ClientDoes, Each, FrontStep, Refreshes, RefreshesOne, FrontRemoves, RemovesBy, may_add, may_begin, one_if_done};
 ghost use Rattle.rd_front.specs.declared.calls.FrontCall.TheVariants as Call;
 
 use crate::calls::FrontReply;
@@ -31,7 +31,7 @@ impl<'a, T: Wait> Front<'a, T> {
 
     /// The printers get their data, and a channel begins.
     fn begin_channel(&mut self, channel: u32) -> FrontReply
-        ensures { Begins self.old channel result self.new }
+        ensures { FrontBegins self.old channel result self.new }
     {
         if !self.refresh_all() {
             return FrontReply::Memory;
@@ -96,7 +96,7 @@ impl<'a, T: Wait> Front<'a, T> {
     fn remove_device(&mut self, device: u32) -> FrontReply
         requires may { MayTellRemoved self.old.client device }
         requires few { self.old.unsent < 1024 }
-        ensures { Removes self.old device result self.new }
+        ensures { FrontRemoves self.old device result self.new }
     {
         match self.tell_removed(device) {
             Ok(()) => self.cut(device),
@@ -150,7 +150,7 @@ impl<'a, T: Wait> Front<'a, T> {
     fn add_device(&mut self, device: u32) -> FrontReply
         requires may { MayTellAdded self.old.client device }
         requires few { self.old.unsent < 1024 }
-        ensures { Adds self.old device result self.new }
+        ensures { FrontAdds self.old device result self.new }
     {
         if !self.refresh(device) {
             return FrontReply::Memory;

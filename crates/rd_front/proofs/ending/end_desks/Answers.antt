@@ -13,7 +13,7 @@ loop-place-preserved g c =
     let before : DeviceDeskState = get_or c.loop-place.desks c.loop-place.place c.index-desks-place.result in
     let told = subst (λ (k : DeskCall). IsCalled before k c.call.result c.call.new.self) c.end_call.ensures c.call.ensures in
     let one : EndsBy (end_call c.args.over) c.index-desks-place.result c.call.new.self =
-        subst (λ (d : DeviceDeskState). EndsBy (end_call c.args.over) d c.call.new.self) (sym c.index-desks-place.is) (c.call.result, told) in
+    subst (λ (d : DeviceDeskState). EndsBy (end_call c.args.over) d c.call.new.self) (sym c.index-desks-place.is) (c.call.result, told) in
     record {
       told = told_more (EndsBy (end_call c.args.over)) _ _ _ c.index-desks-place.result _ kept.told kept.others kept.same within c.index-desks-place.is one;
       others = λ j d le.

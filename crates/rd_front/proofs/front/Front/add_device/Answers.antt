@@ -6,7 +6,7 @@ use Rattle.rd_front.proofs.front.Front.add_device.Goals as goal
 pub tell_added-requires-clause-may : goal.tell_added-requires-clause-may
 tell_added-requires-clause-may g c =
     let fresh : Refreshes c.args.self.now c.args.device true c.refresh.new.self =
-        subst (λ (b : Bool). Refreshes c.args.self.now c.args.device b c.refresh.new.self) c.if-not-refresh.false c.refresh.ensures in
+    subst (λ (b : Bool). Refreshes c.args.self.now c.args.device b c.refresh.new.self) c.if-not-refresh.false c.refresh.ensures in
     rw fresh (added_still c.args.self.now c.args.device c.requires.may)
 
 pub returns-in-Ok : goal.returns-in-Ok

@@ -17,7 +17,7 @@ pub returns-then-not-announce_at : goal.returns-then-not-announce_at
 returns-then-not-announce_at g c =
     let first : FrontState = c.args.self.now in
     let within : c.loop-place.place < length (first.client).devices =
-        subst (λ (s : FrontState). c.loop-place.place < length (s.client).devices) c.self.view_is (subst (λ (n : ℕ). c.loop-place.place < n) c.len-place-end.ensures c.loop-place-test.true) in
+    subst (λ (s : FrontState). c.loop-place.place < length (s.client).devices) c.self.view_is (subst (λ (n : ℕ). c.loop-place.place < n) c.len-place-end.ensures c.loop-place-test.true) in
     each_stops AnnouncesOne (first.client).devices c.loop-place.place first c.loop-place.self c.announce_at.new.self within
     (one first.client c.loop-place.self c.announce_at.new.self c.loop-place.place c.announce_at.result _ c.if-not-announce_at.true c.loop-place.invariant.client c.announce_at.ensures.announced)
     c.loop-place.invariant.on
@@ -26,7 +26,7 @@ pub loop-place-preserved : goal.loop-place-preserved
 loop-place-preserved g c =
     let first : FrontState = c.args.self.now in
     let within : c.loop-place.place < length (first.client).devices =
-        subst (λ (s : FrontState). c.loop-place.place < length (s.client).devices) c.self.view_is (subst (λ (n : ℕ). c.loop-place.place < n) c.len-place-end.ensures c.loop-place-test.true) in
+    subst (λ (s : FrontState). c.loop-place.place < length (s.client).devices) c.self.view_is (subst (λ (n : ℕ). c.loop-place.place < n) c.len-place-end.ensures c.loop-place-test.true) in
     record {
       on = each_next AnnouncesOne (first.client).devices c.loop-place.place first c.loop-place.self c.announce_at.new.self within
           (one first.client c.loop-place.self c.announce_at.new.self c.loop-place.place c.announce_at.result _ c.if-not-announce_at.false c.loop-place.invariant.client c.announce_at.ensures.announced)

@@ -17,7 +17,7 @@ pub returns-then-not-refresh_at : goal.returns-then-not-refresh_at
 returns-then-not-refresh_at g c =
     let first : FrontState = c.args.self.now in
     let within : c.loop-place.place < length first.printers =
-        subst (λ (s : FrontState). c.loop-place.place < length s.printers) c.self.view_is (subst (λ (n : ℕ). c.loop-place.place < n) c.len-place-end.ensures c.loop-place-test.true) in
+    subst (λ (s : FrontState). c.loop-place.place < length s.printers) c.self.view_is (subst (λ (n : ℕ). c.loop-place.place < n) c.len-place-end.ensures c.loop-place-test.true) in
     each_stops RefreshesOne first.printers c.loop-place.place first c.loop-place.self c.refresh_at.new.self within
     (one first.printers c.loop-place.self c.refresh_at.new.self c.loop-place.place c.refresh_at.result _ c.if-not-refresh_at.true c.loop-place.invariant.printers c.refresh_at.ensures.refreshed)
     c.loop-place.invariant.on
@@ -26,7 +26,7 @@ pub loop-place-preserved : goal.loop-place-preserved
 loop-place-preserved g c =
     let first : FrontState = c.args.self.now in
     let within : c.loop-place.place < length first.printers =
-        subst (λ (s : FrontState). c.loop-place.place < length s.printers) c.self.view_is (subst (λ (n : ℕ). c.loop-place.place < n) c.len-place-end.ensures c.loop-place-test.true) in
+    subst (λ (s : FrontState). c.loop-place.place < length s.printers) c.self.view_is (subst (λ (n : ℕ). c.loop-place.place < n) c.len-place-end.ensures c.loop-place-test.true) in
     record {
       on = each_next RefreshesOne first.printers c.loop-place.place first c.loop-place.self c.refresh_at.new.self within
           (one first.printers c.loop-place.self c.refresh_at.new.self c.loop-place.place c.refresh_at.result _ c.if-not-refresh_at.false c.loop-place.invariant.printers c.refresh_at.ensures.refreshed)

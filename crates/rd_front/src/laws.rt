@@ -1,0 +1,23 @@
+//! What the calls of a front keep. These functions do nothing: their clauses are laws.
+
+ghost use Rattle.std.specs.Prelude.{◌≡◌, ◌<◌, List, false, length};
+ghost use Rattle.rd_turn.specs.declared.object.Entry.{Entry};
+ghost use Rattle.rd_turn.specs.History.{Leads};
+ghost use Rattle.rd_front.specs.declared.calls.FrontCall.{FrontCall};
+ghost use Rattle.rd_front.specs.declared.calls.FrontReply.{FrontReply};
+ghost use Rattle.rd_front.specs.Front.{FrontStep, is_front_full};
+ghost use Rattle.rd_front.specs.Kept.{DesksGoOn, IsCounted};
+ghost use Rattle.rd_front.specs.State.{FrontState};
+
+/// No more messages stand in the core's outbox than a front counts, whatever was called: so where it isn't full, fewer than 1,024 do.
+pub fn fronts_count_messages()
+    ensures kept { (old new : FrontState) (call : FrontCall) (reply : FrontReply) → FrontStep old call reply new → IsCounted old → IsCounted new }
+    ensures always { (old new : FrontState) (entries : List (Entry FrontCall FrontReply)) → Leads FrontStep old entries new → IsCounted old → IsCounted new }
+    ensures few { (s : FrontState) → IsCounted s → is_front_full s ≡ false → length s.client.core.outbox < 1024 }
+{}
+
+/// Each device keeps its id and its turn, and what the front's pass of its desk does is a list of calls that take no jobs and give none back.
+pub fn fronts_call_desks()
+    ensures step { (old new : FrontState) (call : FrontCall) (reply : FrontReply) → FrontStep old call reply new → DesksGoOn old new }
+    ensures always { (old new : FrontState) (entries : List (Entry FrontCall FrontReply)) → Leads FrontStep old entries new → DesksGoOn old new }
+{}
