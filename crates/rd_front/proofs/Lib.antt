@@ -5,3 +5,4 @@ pub mod FillLemmas
 pub mod GoingLemmas
 pub mod StepLemmas
 pub mod TellingLemmas
+pub mod WorkedLemmas

@@ -2,3 +2,4 @@ pub mod Room
 pub mod State
 pub mod Front
 pub mod Kept
+pub mod Worked

@@ -2,12 +2,13 @@
 
 ghost use Rattle.std.specs.Prelude.{◌≡◌, ◌<◌, List, false, length};
 ghost use Rattle.rd_turn.specs.declared.object.Entry.{Entry};
-ghost use Rattle.rd_turn.specs.History.{Leads};
+ghost use Rattle.rd_turn.specs.History.{IsLegal, Leads};
 ghost use Rattle.rd_front.specs.declared.calls.FrontCall.{FrontCall};
 ghost use Rattle.rd_front.specs.declared.calls.FrontReply.{FrontReply};
 ghost use Rattle.rd_front.specs.Front.{FrontStep, is_front_full};
 ghost use Rattle.rd_front.specs.Kept.{DesksGoOn, IsCounted};
 ghost use Rattle.rd_front.specs.State.{FrontState};
+ghost use Rattle.rd_front.specs.Worked.{bare_front, worked_history};
 
 /// No more messages stand in the core's outbox than a front counts, whatever was called: so where it isn't full, fewer than 1,024 do.
 pub fn fronts_count_messages()
@@ -20,4 +21,10 @@ pub fn fronts_count_messages()
 pub fn fronts_call_desks()
     ensures step { (old new : FrontState) (call : FrontCall) (reply : FrontReply) → FrontStep old call reply new → DesksGoOn old new }
     ensures always { (old new : FrontState) (entries : List (Entry FrontCall FrontReply)) → Leads FrontStep old entries new → DesksGoOn old new }
+{}
+
+/// There is a history of a front, so its definitions can be met: a channel begins and opens, a request is answered without its device, the writer takes
+/// what there is, and the channel and the session end.
+pub fn a_front_is_there()
+    ensures { IsLegal FrontStep bare_front worked_history }
 {}
