@@ -24,7 +24,7 @@ fits c = IsFrontCall c.0
 -- ---- one device
 
 stays_put : (d : DeviceDeskState) → DeskGoesOn d d
-stays_put d = record { id = refl; turn = refl; calls = []; fit = All-nil fits; goes = refl }
+stays_put d = record { id = refl; turn = refl; same = (refl, refl, refl, refl); calls = []; fit = All-nil fits; goes = refl }
 
 goes_append : (p q r : DeskPass) (xs ys : List Made) → GoesBy p xs q → GoesBy q ys r → GoesBy p (xs ++ ys) r
 goes_append p q r [] ys first second = subst (λ (x : DeskPass). GoesBy x ys r) first second
@@ -34,6 +34,7 @@ goes_on : (a b c : DeviceDeskState) → DeskGoesOn a b → DeskGoesOn b c → De
 goes_on a b c first second = record {
   id = second.id ∙ first.id;
   turn = second.turn ∙ first.turn;
+  same = ((second.same).0 ∙ (first.same).0, (second.same).1 ∙ (first.same).1, (second.same).2 ∙ (first.same).2, (second.same).3 ∙ (first.same).3);
   calls = first.calls ++ second.calls;
   fit = All-append fits first.calls second.calls first.fit second.fit;
   goes = goes_append a.pass b.pass c.pass first.calls second.calls first.goes second.goes;
@@ -43,6 +44,7 @@ called_on : (a b : DeviceDeskState) (call : DeskCall) (reply : DeskReply) → Is
 called_on a b call reply fit is = record {
   id = is.id;
   turn = is.turn;
+  same = is.same;
   calls = (call, reply) ∷ [];
   fit = All-cons fits (call, reply) [] fit (All-nil fits);
   goes = (b.pass, is.same, is.called, refl);

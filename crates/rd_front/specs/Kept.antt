@@ -21,10 +21,11 @@ abbrev pub GoesBy : DeskPass → List (DeskCall × DeskReply) → DeskPass → T
 GoesBy old [] new = new ≡ old
 GoesBy old (c ∷ calls) new = (next : DeskPass) × IsSamePass old next × Called old c.0 c.1 next × GoesBy next calls new
 
--- A device keeps its id and its turn, and the front's pass goes on by calls that a front makes.
+-- A device keeps its id and its turn, and the front's pass its numbers; it goes on by calls that a front makes.
 pub record DeskGoesOn (old new : DeviceDeskState) : Type 0 where
   pub id : new.id ≡ old.id
   pub turn : new.turn ≡ old.turn
+  pub same : IsSamePass old.pass new.pass
   pub calls : List (DeskCall × DeskReply)
   pub fit : All (λ (c : DeskCall × DeskReply). IsFrontCall c.0) calls
   pub goes : GoesBy old.pass calls new.pass

@@ -17,7 +17,8 @@ pub fn fronts_count_messages()
     ensures few { (s : FrontState) → IsCounted s → is_front_full s ≡ false → length s.client.core.outbox < 1024 }
 {}
 
-/// Each device keeps its id and its turn, and what the front's pass of its desk does is a list of calls that take no jobs and give none back.
+/// Each device keeps its id and its turn, and the front's pass of its desk its numbers; what that pass does is a list of calls that take no jobs and give
+/// none back.
 pub fn fronts_call_desks()
     ensures step { (old new : FrontState) (call : FrontCall) (reply : FrontReply) → FrontStep old call reply new → DesksGoOn old new }
     ensures always { (old new : FrontState) (entries : List (Entry FrontCall FrontReply)) → Leads FrontStep old entries new → DesksGoOn old new }

@@ -1,7 +1,7 @@
 //! A reader and a writer that call one front, each in a thread of its own, and the front and its desk afterwards.
 
 ghost use Rattle.std.specs.Prelude.{◌≡◌, [], IfSome};
-ghost use Rattle.rd_turn.specs.Pass.{Belongs};
+ghost use Rattle.rd_turn.specs.Pass.{Belongs, IsSamePass};
 ghost use Rattle.rd_front.specs.Kept.{DesksGoOn};
 ghost use Rattle.rd_world.specs.Stations.{IsReachedBy};
 
@@ -30,11 +30,7 @@ pub fn call_side_by_side<'a, T: Threads + Wait + Sync>(
     let b = turn.split(&mut a);
     let one = Caller::new(&turn, a);
     let two = Caller::new(&turn, b);
-    let ((first, one), (second, two)) = join(
-        rt,
-        || one.reply(rt, reads),
-        || two.reply(rt, writes),
-    );
+    let ((first, one), (second, two)) = join(rt, || one.reply(rt, reads), || two.reply(rt, writes));
     let mut a = one.into_pass();
     turn.join(&mut a, two.into_pass());
     Some((first, second, turn.close(a)))
@@ -52,6 +48,8 @@ pub fn on_one_desk<'a, T: Threads + Wait + Sync>(
 ) -> Option<(FrontReply, FrontReply, Pass<Desk<SessionDevice>>)>
     requires own { Belongs turn.now pass }
     requires reached { IsReachedBy turn.now.opening }
+    ensures own { IfSome result (λ r. Belongs turn.now r.2) }
+    ensures same { IfSome result (λ r. IsSamePass pass r.2) }
 {
     let mut desks = Vec::new(alloc);
     let Ok(()) = desks.reserve(1) else {

@@ -26,7 +26,7 @@ fn a_channel_begins_beside_the_writer(rt: HostRuntime) -> Result<(), Fail> {
     let client = Client::new(alloc, DeviceList::of(Vec::new(alloc)))?;
     let room = Room::new(alloc, 4)?;
     let next = FrontCall::Next { place: 0, room };
-    let (began, given, _pass) = on_one_desk(
+    let (began, given, pass) = on_one_desk(
         &rt,
         alloc,
         client,
@@ -34,9 +34,26 @@ fn a_channel_begins_beside_the_writer(rt: HostRuntime) -> Result<(), Fail> {
         pass,
         FrontCall::Begin(1),
         next,
-    )
-    .ok_or("there was no memory")?;
-    assert!(rt; matches!(began, FrontReply::Done { at: None, full: false }));
-    assert!(rt; matches!(given, FrontReply::Messages { rest: Rest::Nothing, .. }));
+    ).ok_or("there was no memory")?;
+    assert!(rt;
+        matches!(
+            began,
+            FrontReply::Done {
+                at: None,
+                full: false
+            }
+        )
+    );
+    assert!(rt;
+        matches!(
+            given,
+            FrontReply::Messages {
+                rest: Rest::Nothing,
+                ..
+            }
+        )
+    );
+    let Desk { station } = turn.close(pass);
+    assert!(rt; !station.waits() && !station.has_ready());
     Ok(())
 }
