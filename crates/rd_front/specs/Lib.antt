@@ -1,0 +1,5 @@
+pub mod Room
+pub mod State
+pub mod Front
+pub mod Kept
+pub mod Worked
