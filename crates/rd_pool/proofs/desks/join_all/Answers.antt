@@ -48,4 +48,4 @@ returns-clause-out g c =
     let none : c.loop-pass.from.items ≡ [] = search rules in
     let all = zip c.args.from.now.items c.args.others.now.items in
     outs_joined c.args.turns.now.items c.args.from.now.items c.args.others.now.items c.loop-pass.to.items c.requires.first c.requires.others
-        (zips_all IsJoined all (zip c.loop-pass.from.items c.loop-pass.others.items) c.loop-pass.to.items (zip_nothing c.loop-pass.from.items c.loop-pass.others.items none) c.loop-pass.invariant.joined)
+    (zips_all IsJoined all (zip c.loop-pass.from.items c.loop-pass.others.items) c.loop-pass.to.items (zip_nothing c.loop-pass.from.items c.loop-pass.others.items none) c.loop-pass.invariant.joined)

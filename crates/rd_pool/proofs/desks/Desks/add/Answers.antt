@@ -20,5 +20,5 @@ returns-clause-first g c =
     let t = c.in-Ok.both.0 in
     let added : c.add.new.self ≡ c.args.passes.now ++ c.in-Ok.both.1 ∷ [] = search rules in
     more_first c.args.self.now.turns c.push_back_reserved.new.self.items c.args.passes.now c.add.new.self t c.in-Ok.both.1
-        (c.push_back_reserved.ensures.items ∙ ap (λ (l : List (DeskTurn g.row.D.Denot)). l ++ t ∷ []) (c.reserve-else-is_err.ensures.items ∙ ap (λ (d : DesksState g.row.D.Denot). d.turns) c.self.view_is))
-        added c.in-Ok.ensures.pass c.requires.first
+    (c.push_back_reserved.ensures.items ∙ ap (λ (l : List (DeskTurn g.row.D.Denot)). l ++ t ∷ []) (c.reserve-else-is_err.ensures.items ∙ ap (λ (d : DesksState g.row.D.Denot). d.turns) c.self.view_is))
+    added c.in-Ok.ensures.pass c.requires.first

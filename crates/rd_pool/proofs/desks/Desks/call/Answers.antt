@@ -12,17 +12,17 @@ index_mut-requires g c =
 pub call-requires : goal.call-requires
 call-requires g c =
     let here = other_at c.args.self.now.turns c.self.inside.turns.items c.args.passes.now c.passes.inside.list.items c.args.place c.index.result.now c.index_mut.result.now
-        (ap (λ (d : DesksState g.row.D.Denot). d.turns) c.self.view_is) c.passes.view_is c.index.ensures c.index_mut.ensures.value c.requires.place c.requires.others in
+    (ap (λ (d : DesksState g.row.D.Denot). d.turns) c.self.view_is) c.passes.view_is c.index.ensures c.index_mut.ensures.value c.requires.place c.requires.others in
     record { own = here.own }
 
 pub returns-clause-others : goal.returns-clause-others
 returns-clause-others g c =
     let turns = ap (λ (d : DesksState g.row.D.Denot). d.turns) c.self.view_is in
     let here = other_at c.args.self.now.turns c.self.inside.turns.items c.args.passes.now c.passes.inside.list.items c.args.place c.index.result.now c.index_mut.result.now turns c.passes.view_is
-        c.index.ensures c.index_mut.ensures.value c.requires.place c.requires.others in
+    c.index.ensures c.index_mut.ensures.value c.requires.place c.requires.others in
     let is = c.call.ensures in
     other_set c.args.self.now.turns c.self.inside.turns.items c.args.passes.now c.passes.inside.list.items c.args.place c.index.result.now c.call.new.pass turns c.passes.view_is c.index.ensures
-        (still_other c.index.result.now c.index_mut.result.now c.call.new.pass c.args.call c.call.result here is.own is.same is.called c.requires.idle) c.requires.others
+    (still_other c.index.result.now c.index_mut.result.now c.call.new.pass c.args.call c.call.result here is.own is.same is.called c.requires.idle) c.requires.others
 
 pub returns-clause-called : goal.returns-clause-called
 returns-clause-called g c = (
