@@ -1,2 +1,4 @@
 pub mod StepLemmas
 pub mod OwnLemmas
+pub mod WaitingLemmas
+pub mod RunLemmas

@@ -11,13 +11,16 @@ use Rattle.rd_station.specs.declared.answers.Applied.{Applied}
 use Rattle.rd_station.specs.declared.answers.Given.{Given}
 use Rattle.rd_station.specs.declared.answers.Given.TheVariants as given
 use Rattle.rd_station.specs.declared.refusals.PutNo.{PutNo}
-use Rattle.rd_station.specs.Station.{StationCall, StationState, StationStep, StationSteps, applies, puts, take, take_first, takes}
+use Rattle.rd_station.specs.Station.{StationCall, StationState, StationStep, StationSteps, applies, new_station, puts, take, take_first, takes}
+use Rattle.rd_station.specs.Tied.{IsReached}
+use Rattle.rd_turn.specs.declared.object.Entry.{Entry}
+use Rattle.rd_turn.specs.History.{Leads}
 use Rattle.rd_desk.specs.declared.batch.Run.{Run}
 use Rattle.rd_desk.specs.declared.calls.DeskCall.{DeskCall}
 use Rattle.rd_desk.specs.declared.calls.DeskCall.TheVariants as call
 use Rattle.rd_desk.specs.declared.calls.DeskReply.{DeskReply}
 use Rattle.rd_desk.specs.declared.calls.DeskReply.TheVariants as reply
-use Rattle.rd_desk.specs.Desk.{DeskStep, applied_calls, taken_calls, told_by}
+use Rattle.rd_desk.specs.Desk.{DeskStep, applied_calls, taken_calls, told_calls, told_by}
 
 module _ {S : Type 0} (Runs : S → Planned → ℕ → Step → List End → S → Type 0) (parked : S → List Parked) (Cuts : S → S → Type 0) where
   -- calls after calls
@@ -45,10 +48,10 @@ module _ {S : Type 0} (Runs : S → Planned → ℕ → Step → List End → S 
   pub applies_none : (first : StationState S) (all : List Run) (applied : List Applied) → applied ≡ [] → AppliesOn first all first all applied
   applies_none first all applied none t answers steps = subst (λ (l : List Applied). StationSteps Runs parked Cuts first (applied_calls all (l ++ answers)) t) (sym none) steps
 
-  pub applies_next : (first : StationState S) (all : List Run) (here next : StationState S) (runs later : List Run) (run : Run) (applied : List Applied) (answer : Applied) → runs ≡ run ∷ later
-      → StationStep Runs parked Cuts here (applies run.plan run.moment answer) next → AppliesOn first all here runs applied → AppliesOn first all next later (applied ++ answer ∷ [])
-  applies_next first all here next runs later run applied answer is step on t answers steps =
-      subst (λ (l : List Applied). StationSteps Runs parked Cuts first (applied_calls all l) t) (sym (append_assoc applied (answer ∷ []) answers))
+  pub applies_next : (first : StationState S) (all : List Run) (here next : StationState S) (runs later : List Run) (run : Run) (applied after : List Applied) (answer : Applied) → runs ≡ run ∷ later → after ≡ applied ++ answer ∷ []
+      → StationStep Runs parked Cuts here (applies run.plan run.moment answer) next → AppliesOn first all here runs applied → AppliesOn first all next later after
+  applies_next first all here next runs later run applied after answer is more step on t answers steps =
+      subst (λ (l : List Applied). StationSteps Runs parked Cuts first (applied_calls all l) t) (sym (ap (λ l. l ++ answers) more ∙ append_assoc applied (answer ∷ []) answers))
       (on t (answer ∷ answers) (subst (λ (rs : List Run). StationSteps Runs parked Cuts here (applied_calls rs (answer ∷ answers)) t) (sym is) (next, step, steps)))
 
   pub applies_all : (first : StationState S) (all : List Run) (here : StationState S) (runs : List Run) (applied : List Applied) → runs ≡ [] → AppliesOn first all here runs applied → StationSteps Runs parked Cuts first (applied_calls all applied) here
@@ -65,9 +68,9 @@ module _ {S : Type 0} (Runs : S → Planned → ℕ → Step → List End → S 
   pub takes_none : (first : StationState S) (jobs : List Job) → jobs ≡ [] → TakesOn first first jobs
   takes_none first jobs none t calls steps = subst (λ (js : List Job). StationSteps Runs parked Cuts first (map (λ (job : Job). takes (given.Job job)) js ++ calls) t) (sym none) steps
 
-  pub takes_next : (first here next : StationState S) (jobs : List Job) (job : Job) → StationStep Runs parked Cuts here (takes (given.Job job)) next → TakesOn first here jobs → TakesOn first next (jobs ++ job ∷ [])
-  takes_next first here next jobs job step on t calls steps =
-      subst (λ (cs : List StationCall). StationSteps Runs parked Cuts first cs t) (sym (ap (λ l. l ++ calls) (map-append (λ (j : Job). takes (given.Job j)) jobs (job ∷ [])) ∙ append_assoc (map (λ (j : Job). takes (given.Job j)) jobs) (takes (given.Job job) ∷ []) calls))
+  pub takes_next : (first here next : StationState S) (jobs after : List Job) (job : Job) → after ≡ jobs ++ job ∷ [] → StationStep Runs parked Cuts here (takes (given.Job job)) next → TakesOn first here jobs → TakesOn first next after
+  takes_next first here next jobs after job more step on t calls steps =
+      subst (λ (cs : List StationCall). StationSteps Runs parked Cuts first cs t) (sym (ap (λ l. l ++ calls) (ap (map (λ (j : Job). takes (given.Job j))) more ∙ map-append (λ (j : Job). takes (given.Job j)) jobs (job ∷ [])) ∙ append_assoc (map (λ (j : Job). takes (given.Job j)) jobs) (takes (given.Job job) ∷ []) calls))
       (on t (takes (given.Job job) ∷ calls) (next, step, steps))
 
   -- the next time none was given
@@ -103,3 +106,18 @@ same_step {S} Runs parked Cuts old old' new new' asked asked' answer answer' o a
     (subst (λ (c : DeskCall). DeskStep Runs parked Cuts old c answer' new') (sym a)
     (subst (λ (c : DeskReply). DeskStep Runs parked Cuts old asked c new') (sym r)
     (subst (λ (s : StationState S). DeskStep Runs parked Cuts old asked answer s) (sym n) step)))
+
+-- ---- histories
+
+module _ {S : Type 0} (Runs : S → Planned → ℕ → Step → List End → S → Type 0) (parked : S → List Parked) (Cuts : S → S → Type 0) where
+  pub led_steps : (s t : StationState S) (entries : List (Entry DeskCall DeskReply)) → Leads (DeskStep Runs parked Cuts) s entries t → StationSteps Runs parked Cuts s (told_calls entries) t
+  led_steps s t [] leads = sym leads
+  led_steps s t (e ∷ entries) leads = steps_append Runs parked Cuts s leads.0 t (told_by e.call e.reply) (told_calls entries) leads.1.0 (led_steps leads.0 t entries leads.2)
+
+  pub led_reached : (s t : StationState S) (entries : List (Entry DeskCall DeskReply)) → IsReached Runs parked Cuts s → Leads (DeskStep Runs parked Cuts) s entries t → IsReached Runs parked Cuts t
+  led_reached s t entries is leads = record {
+    device = is.device;
+    nothing = is.nothing;
+    calls = is.calls ++ told_calls entries;
+    steps = steps_append Runs parked Cuts (new_station is.device) s t is.calls (told_calls entries) is.steps (led_steps s t entries leads);
+  }

@@ -5,7 +5,7 @@ use Rattle.rd_station.specs.declared.answers.Applied.{Applied}
 use Rattle.rd_desk.specs.declared.batch.Run.{Run}
 
 -- plans to be run, what came of them, and jobs that were given
-pub record Queues : Type 0 where
+pub record RoomState : Type 0 where
   pub runs : List Run
   pub applied : List Applied
   pub jobs : List Job

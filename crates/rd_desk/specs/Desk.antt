@@ -36,22 +36,31 @@ taken_calls jobs over =
     map (λ (job : Job). takes (given.Job job)) jobs
     ++ (if nat_lt (length jobs) most_given then takes (if over then given.Over else given.Nothing) ∷ [] else [])
 
+-- the job that a call puts, where it puts one
+abbrev pub job_put : DeskCall → List Job
+job_put (call.Put job) = job ∷ []
+job_put _ = []
+
+-- the plans that a call gives back
+abbrev pub runs_of : DeskCall → List Run
+runs_of (call.Work runs) = runs
+runs_of _ = []
+
 -- the calls of the station that a call of the desk makes, by its reply, in their order
 abbrev pub told_by : DeskCall → DeskReply → List StationCall
-told_by call.Announce (reply.Announced answer) = announces answer ∷ []
-told_by (call.Put job) (reply.Put (Ok done)) = puts job None ∷ []
-told_by (call.Put job) (reply.Put (Err refusal)) = puts job (Some refusal) ∷ []
-told_by (call.Put job) (reply.Unfit back) = puts_unfit job back ∷ []
-told_by (call.Work runs) (reply.Worked w) = applied_calls runs w.applied ++ taken_calls w.jobs w.over
-told_by call.Collect (reply.Collected answer) = collects answer ∷ []
-told_by call.Remove (reply.Removed answer) = removes answer ∷ []
-told_by call.DropChannel reply.Dropped = drops ∷ []
-told_by call.End reply.Ended = ends ∷ []
-told_by _ _ = []
+told_by asked (reply.Announced answer) = announces answer ∷ []
+told_by asked (reply.Put (Ok done)) = map (λ (job : Job). puts job None) (job_put asked)
+told_by asked (reply.Put (Err refusal)) = map (λ (job : Job). puts job (Some refusal)) (job_put asked)
+told_by asked (reply.Unfit back) = map (λ (job : Job). puts_unfit job back) (job_put asked)
+told_by asked (reply.Worked w) = applied_calls (runs_of asked) w.applied ++ taken_calls w.jobs w.over
+told_by asked (reply.Collected answer) = collects answer ∷ []
+told_by asked (reply.Removed answer) = removes answer ∷ []
+told_by asked reply.Dropped = drops ∷ []
+told_by asked reply.Ended = ends ∷ []
 
 -- the calls of the station that the entries of a desk's history tell, in their order
-abbrev pub told : List (Entry DeskCall DeskReply) → List StationCall
-told entries = flat_map (λ (e : Entry DeskCall DeskReply). told_by e.call e.reply) entries
+abbrev pub told_calls : List (Entry DeskCall DeskReply) → List StationCall
+told_calls entries = flat_map (λ (e : Entry DeskCall DeskReply). told_by e.call e.reply) entries
 
 -- ---- the calls
 

@@ -1,4 +1,4 @@
--- A hand: a worker's pass of a desk.
+-- A hand: a worker at a desk, by its pass.
 use Rattle.rd_station.specs.Station.{StationState}
 use Rattle.rd_turn.specs.Pass.{PassState, TurnId}
 use Rattle.rd_desk.specs.declared.calls.DeskCall.{DeskCall}

@@ -2,3 +2,4 @@ pub mod Batch
 pub mod Desk
 pub mod Own
 pub mod Hand
+pub mod Worked

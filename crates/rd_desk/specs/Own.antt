@@ -9,17 +9,16 @@ use Rattle.rd_drive.specs.declared.plan.Job.{Job}
 use Rattle.rd_station.specs.Station.{StationCall, is_key, puts}
 use Rattle.rd_turn.specs.declared.object.Entry.{Entry}
 use Rattle.rd_desk.specs.declared.calls.DeskCall.{DeskCall}
-use Rattle.rd_desk.specs.declared.calls.DeskCall.TheVariants as call
 use Rattle.rd_desk.specs.declared.calls.DeskReply.{DeskReply}
 use Rattle.rd_desk.specs.declared.calls.DeskReply.TheVariants as reply
 use Rattle.rd_desk.specs.Batch.{jobs_of}
+use Rattle.rd_desk.specs.Desk.{runs_of}
 
 -- ---- what is given and given back
 
 -- the jobs that a call gives back
 abbrev pub jobs_back : DeskCall → List Job
-jobs_back (call.Work runs) = jobs_of runs
-jobs_back _ = []
+jobs_back asked = jobs_of (runs_of asked)
 
 -- the jobs that a reply gives
 abbrev pub jobs_given : DeskReply → List Job
@@ -35,18 +34,18 @@ abbrev pub WereGiven : List (Entry DeskCall DeskReply) → List Job → Type 0
 WereGiven entries jobs = All (Contains (given_to entries)) jobs
 
 -- The calls of one pass: each job that one of them gives back was given in an earlier one.
-abbrev pub GivesOwnBack : List (Entry DeskCall DeskReply) → Type 0
-GivesOwnBack entries = (before later : List (Entry DeskCall DeskReply)) (e : Entry DeskCall DeskReply) → entries ≡ before ++ e ∷ later → WereGiven before (jobs_back e.call)
+pub record GivesOwnBack (entries : List (Entry DeskCall DeskReply)) : Type 0 where
+  pub each : (before later : List (Entry DeskCall DeskReply)) (e : Entry DeskCall DeskReply) → entries ≡ before ++ e ∷ later → WereGiven before (jobs_back e.call)
 
 -- ---- of which request a job is
 
 -- the job is that of its key's request
-abbrev pub IsJobOf : (Key → Request) → Job → Type 0
-IsJobOf requests job = let r = requests job.key in (job.file ≡ r.file) × (job.op ≡ r.op)
+abbrev pub IsOwnJob : (Key → Request) → Job → Type 0
+IsOwnJob requests job = let r = requests job.key in (job.file ≡ r.file) × (job.op ≡ r.op)
 
 -- a job that comes is that of its key's request
 abbrev pub PutsOwn : (Key → Request) → StationCall → Type 0
-PutsOwn requests (puts job None) = IsJobOf requests job
+PutsOwn requests (puts job None) = IsOwnJob requests job
 PutsOwn requests _ = Unit {0}
 
 -- the job that comes, where one does
@@ -55,13 +54,13 @@ job_come (puts job None) = job ∷ []
 job_come _ = []
 
 -- a job's request, as far as a station knows it
-abbrev pub request_of : Job → Request
-request_of job = record { device = 0; file = job.file; completion = job.completion; op = job.op }
+abbrev pub job_request : Job → Request
+job_request job = record { device = 0; file = job.file; completion = job.completion; op = job.op }
 
 -- what stands for the request of a key under which no job came
-abbrev pub no_request : Request
-no_request = record { device = 0; file = 0; completion = 0; op = Close }
+abbrev pub no_job_request : Request
+no_job_request = record { device = 0; file = 0; completion = 0; op = Close }
 
 -- the request of the first job that came under a key
 abbrev pub request_put : List StationCall → Key → Request
-request_put calls key = option_map_or request_of (find (λ (job : Job). is_key job.key key) (flat_map job_come calls)) no_request
+request_put calls key = option_map_or job_request (find (λ (job : Job). is_key job.key key) (flat_map job_come calls)) no_job_request

@@ -31,9 +31,9 @@ pub(crate) struct Room {
 impl Model for Room {
     ghost use Rattle.std.specs.Prelude.{◌≤◌, length};
     ghost use Rattle.std.specs.VecDeque.{deque_capacity};
-    ghost use Rattle.rd_desk.specs.Batch.{Queues};
+    ghost use Rattle.rd_desk.specs.Batch.{RoomState};
 
-    ghost Value = { Queues };
+    ghost Value = { RoomState };
 
     ghost view = { λ r. record { runs = r.runs.items; applied = r.applied.items; jobs = r.jobs.items } };
 

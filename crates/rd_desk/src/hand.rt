@@ -1,4 +1,4 @@
-//! A hand: a worker's pass of a desk.
+//! A hand: a worker at a desk, by its pass.
 
 ghost use Rattle.std.specs.Prelude.{◌≡◌, ◌++◌, ◌∷◌, []};
 ghost use Rattle.rd_turn.specs.History.{IsLegal, calls_of, entry};
@@ -16,7 +16,7 @@ use rd_turn::{Object, Pass, Turn};
 use std::marker::Model;
 use std::sync::Wait;
 
-/// A worker's pass of a desk. The jobs that its calls give back are those that its calls were given. Contracts see the turn and the pass.
+/// A worker at a desk. The jobs that its calls give back are those that its calls were given. Contracts see the turn and the pass.
 pub struct Hand<'a, D: Device> {
     turn: &'a Turn<Desk<D>>,
     pass: Pass<Desk<D>>,

@@ -1,14 +1,13 @@
-use Rattle.std.proofs.Common.{rules, ◌≡◌, subst, sym, List, ◌∷◌}
-use Rattle.rd_station.specs.declared.answers.Applied.{Applied}
-use Rattle.rd_desk.proofs.StepLemmas.{AppliesOn, applies_all, applies_next}
+use Rattle.std.proofs.Common.{rules, ◌≡◌, ◌∷◌}
+use Rattle.rd_desk.proofs.StepLemmas.{applies_all, applies_next}
 use Rattle.rd_desk.proofs.desk.apply_all.Goals as goal
 
 pub loop-run-preserved : goal.loop-run-preserved
 loop-run-preserved g c =
     let is : c.loop-run.runs.items ≡ c.in-Some.run' ∷ c.pop_front.new.self.items = c.in-Some.ensures.items in
     record {
-      steps = subst (λ (l : List Applied). AppliesOn g.D.Device.runs g.D.Device.parked g.D.Device.cuts c.args.station.now c.args.runs.now.items c.apply.new.self c.pop_front.new.self.items l) (sym {A = List Applied} c.push_back_reserved.ensures.items)
-          (applies_next g.D.Device.runs g.D.Device.parked g.D.Device.cuts c.args.station.now c.args.runs.now.items c.loop-run.station c.apply.new.self c.loop-run.runs.items c.pop_front.new.self.items c.in-Some.run' c.loop-run.applied.items c.apply.result is c.apply.ensures.step c.loop-run.invariant.steps);
+      steps = applies_next g.D.Device.runs g.D.Device.parked g.D.Device.cuts c.args.station.now c.args.runs.now.items c.loop-run.station c.apply.new.self c.loop-run.runs.items c.pop_front.new.self.items c.in-Some.run'
+          c.loop-run.applied.items c.push_back_reserved.new.self.items c.apply.result is c.push_back_reserved.ensures.items c.apply.ensures.step c.loop-run.invariant.steps;
       count = search rules;
       room = search rules;
       capacity = search rules;
