@@ -1,5 +1,5 @@
 -- What a desk's reply says of its station, and calls of desks at their places.
-use Rattle.std.proofs.Common.{◌≡◌, ◌∙◌, refl, sym, ap, subst, List, [], ◌∷◌, ◌++◌, Some, None, Option}
+use Rattle.std.proofs.Common.{◌≡◌, sym, ap, subst, List, [], ◌∷◌, ◌++◌, Some, None, Option}
 use Rattle.std.specs.Prelude.{All}
 use Rattle.std.proofs.lemmas.List.Elements.{All-head}
 use Rattle.rd_desk.specs.declared.calls.DeskCall.{DeskCall}
@@ -52,17 +52,16 @@ put_reply job replied.Ended r = (r.step).1
 
 -- what is collected was ready first
 collected_first : (s after : SessionStation) (c : Completion) → collect s ≡ (after, Some c) → (later : List Completion) × (s.ready ≡ c ∷ later)
-collected_first s after c e = by s.ready refl
+collected_first s after c e = by s.ready e
   where
-    by : (ready : List Completion) → s.ready ≡ ready → (later : List Completion) × (s.ready ≡ c ∷ later)
-    by [] none =
-        let is : (s, None) ≡ (after, Some c) = sym (ap (collect_first s) none) ∙ e in
-        let no : None ≡ Some c = ap (λ (x : SessionStation × Option Completion). x.1) is in
+    by : (ready : List Completion) → collect_first s ready ≡ (after, Some c) → (later : List Completion) × (ready ≡ c ∷ later)
+    by [] told =
+        let no : None ≡ Some c = ap (λ (x : SessionStation × Option Completion). x.1) told in
         absurd (cc no)
-    by (d ∷ later) some =
-        let told : Some d ≡ Some c = ap (λ (x : SessionStation × Option Completion). x.1) (sym (ap (collect_first s) some) ∙ e) in
+    by (d ∷ later) told =
+        let some : Some d ≡ Some c = ap (λ (x : SessionStation × Option Completion). x.1) told in
         let same : d ≡ c = cc in
-        (later, some ∙ ap (λ (x : Completion). x ∷ later) same)
+        (later, ap (λ (x : Completion). x ∷ later) same)
 
 -- a desk hands out a completion that fits its layout
 pub collect_reply : (reply : DeskReply) → IsDeskReply desk.Collect reply → IsCollectReply reply

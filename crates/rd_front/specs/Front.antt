@@ -164,10 +164,10 @@ SessionEnds old new = AllZip (EndsBy (end_call true)) old.desks new.desks × (ne
 abbrev pub gone_status : FrontState → ℕ → Status
 gone_status s device = if is_told_there s device then insufficient_resources else no_such_device
 
--- A job doesn't come to its desk, and is answered without its device where that is gone or its journal is worn. Where the station is full the job is kept back; and where its completion id is in use, the channel ends.
+-- A job doesn't come to its desk, and is answered without its device where that is gone or its journal is worn. Where the station is full the job is kept
+-- back; and where its completion id is in use, the channel ends.
 abbrev pub RefusedPut : FrontState → ℕ → Job → PutWhy → FrontReply → FrontState → Type 0
-RefusedPut old device job why.Gone back new =
-    AnswersDirectly old device job (gone_status old device) back new
+RefusedPut old device job why.Gone back new = AnswersDirectly old device job (gone_status old device) back new
 RefusedPut old device job (why.Duplicate key) back new = (back ≡ reply.Duplicate key) × ChannelEnds old new
 RefusedPut old device job (why.Full held) back new =
     (back ≡ reply.Kept) × (new ≡ record old { kept = Some (record { device = device; job = job }) })

@@ -1,5 +1,5 @@
 -- The one desk of a front.
-use Rattle.std.proofs.Common.{◌≡◌, sym, subst, List, [], ◌∷◌, ◌++◌}
+use Rattle.std.proofs.Common.{◌≡◌, subst, List, [], ◌∷◌, ◌++◌}
 use Rattle.std.specs.List.{AllZip}
 use Rattle.rd_front.specs.Kept.{DeskGoesOn}
 use Rattle.rd_front.specs.State.{DeviceDeskState}
