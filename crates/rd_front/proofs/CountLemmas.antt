@@ -15,13 +15,13 @@ use Rattle.rd_base.specs.Header.{any_header}
 use Rattle.rd_base.specs.Layout.{met}
 use Rattle.rd_base.specs.Position.{Position, at_start}
 use Rattle.rd_client.specs.Core as client
-use Rattle.rd_client.specs.Core.{ClientCoreState, ClientDevice, ClientStep, HostSays, Outgoing, becomes_ready, client_hear, client_hear_made, client_opened, client_side, client_send, hears, listed, notices, plain, replies, requests, sends}
+use Rattle.rd_client.specs.Core.{ClientCoreState, ClientDevice, ClientStep, HostSays, Outgoing, becomes_ready, client_hear, client_hear_made, client_opened, client_side, client_send, hears, listed, notices, plain, replies, requests}
 use Rattle.rd_client.specs.Order.{is_client_ready}
 use Rattle.rd_client.specs.declared.heard.Heard.{Heard}
 use Rattle.rd_core.specs.Core as parts
 use Rattle.rd_core.specs.Core.{CoreState, Did}
 use Rattle.rd_core.specs.Hearing as hearing
-use Rattle.rd_core.specs.Hearing.{Meaning, from_header, from_hello, from_known, from_own, from_packet, hear_said, is_hello, is_read_in, messages_of, nothing, opens, said, says, wrong}
+use Rattle.rd_core.specs.Hearing.{Meaning, from_header, from_hello, from_own, hear_said, is_hello, is_read_in, messages_of, nothing, opens, said, says, wrong}
 use Rattle.rd_hello.specs.declared.client.ClientState.{ClientState}
 use Rattle.rd_hello.specs.declared.client.ClientState.TheVariants.{Start, Named, Confirmed, Offered, Waiting, Ready}
 use Rattle.rd_hello.specs.declared.end_fault.EndFault.{EndFault}

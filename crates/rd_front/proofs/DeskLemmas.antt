@@ -17,7 +17,7 @@ use Rattle.rd_turn.proofs.HistoryLemmas.{Leads-keeps_fact, Leads-parted}
 use Rattle.rd_world.specs.Devices.{device_cuts, device_parked, device_runs}
 use Rattle.rd_world.specs.Stations.{IsReachedBy}
 use Rattle.rd_front.specs.Front.{IsCollectReply, IsPutReply}
-use Rattle.rd_front.specs.State.{DeskPass, IsDeskReply, SessionDeskStep, SessionStation}
+use Rattle.rd_front.specs.State.{SessionPass, IsDeskReply, SessionDeskStep, SessionStation}
 
 -- calls of a station lead from one that came to be by its calls to one that did
 reached_on : (old new : SessionStation) (calls : List StationCall) → IsReachedBy old → StationSteps device_runs device_parked device_cuts old calls new → IsReachedBy new
@@ -26,7 +26,7 @@ reached_on old new (c ∷ calls) reached steps =
     reached_on steps.0 new calls (reached_step device_runs device_parked device_cuts old steps.0 c reached steps.1) steps.2
 
 -- what a pass has seen after a call ends with a reply that the desk gives there
-pub replied_by : (turn : TurnId SessionStation) (p q : DeskPass) (call : DeskCall) (reply : DeskReply) → IsReachedBy turn.opening → Called p call reply q
+pub replied_by : (turn : TurnId SessionStation) (p q : SessionPass) (call : DeskCall) (reply : DeskReply) → IsReachedBy turn.opening → Called p call reply q
     → IsLegal SessionDeskStep turn.opening q.seen → IsDeskReply call reply
 replied_by turn p q call reply reached called legal =
     let added = called.0 in

@@ -12,7 +12,7 @@ use Rattle.rd_desk.specs.declared.calls.DeskReply.{DeskReply}
 use Rattle.rd_world.specs.Devices.{PrinterNames, printer_data}
 use Rattle.rd_front.specs.Front.{EndsBy, end_call, with_new_data}
 use Rattle.rd_front.specs.Kept.{DeskGoesOn, DesksGoOn, GoesBy, IsFrontCall}
-use Rattle.rd_front.specs.State.{DeskPass, DeviceDeskState, FrontState, IsCalled}
+use Rattle.rd_front.specs.State.{SessionPass, DeviceDeskState, FrontState, IsCalled}
 use Rattle.rd_front.proofs.StepLemmas.{Carries}
 
 abbrev Made : Type 0
@@ -26,8 +26,8 @@ fits c = IsFrontCall c.0
 stays_put : (d : DeviceDeskState) → DeskGoesOn d d
 stays_put d = record { id = refl; turn = refl; same = (refl, refl, refl, refl); calls = []; fit = All-nil fits; goes = refl }
 
-goes_append : (p q r : DeskPass) (xs ys : List Made) → GoesBy p xs q → GoesBy q ys r → GoesBy p (xs ++ ys) r
-goes_append p q r [] ys first second = subst (λ (x : DeskPass). GoesBy x ys r) first second
+goes_append : (p q r : SessionPass) (xs ys : List Made) → GoesBy p xs q → GoesBy q ys r → GoesBy p (xs ++ ys) r
+goes_append p q r [] ys first second = subst (λ (x : SessionPass). GoesBy x ys r) first second
 goes_append p q r (x ∷ xs) ys first second = (first.0, first.1, first.2, goes_append first.0 q r xs ys first.3 second)
 
 goes_on : (a b c : DeviceDeskState) → DeskGoesOn a b → DeskGoesOn b c → DeskGoesOn a c

@@ -29,7 +29,7 @@ use Rattle.rd_front.specs.declared.next.Got.{Got}
 use Rattle.rd_front.specs.declared.next.Got.TheVariants as got
 use Rattle.rd_front.specs.Front.{AddsBy, AddsIf, Announces, AnnouncesOne, AnnouncesUnless, AnswersDirectly, BeginsIf, ChannelEnds, ClientDoes, Collects, CutsAt, DeskDoes, Each, EndsBy, Fills, FillsBy, FollowsFrom, FrontAdds, FrontBegins, FrontHears, FrontRemoves, FrontRetries, FrontStep, GivesBy, GivesNext, Hands, HeardBy, OpeningEnds, PutBy, Puts, PutsIf, Refreshes, RefreshesOne, RefusedPut, RemovesBy, Sends, SessionEnds, Then, Where, begun, channel_ended, desk_place, done_at, end_call, is_front_full, is_front_ready, may_add, may_hear, may_remove, most_written, one_if_done, with_new_data}
 use Rattle.rd_front.specs.Kept.{IsFrontCall}
-use Rattle.rd_front.specs.Room.{RoomState}
+use Rattle.rd_front.specs.Room.{MessageRoom}
 use Rattle.rd_front.specs.State.{DeviceDeskState, FrontState}
 
 -- Each part of a call relates the front before it to the front after it, and so does one part after another.
@@ -187,7 +187,7 @@ module _ (R : FrontState → FrontState → Type 0) (by : Carries R) where
       by.joins old did.1 new (gives old place did.0 did.1 did.2)
       (fills_by did.0 did.1 messages left new (λ later. Fills most did.1 place later left new) (λ later. fills most did.1 place later left new) did.3)
 
-  hands : (old : FrontState) (place : ℕ) (room : RoomState) (back : FrontReply) (new : FrontState) → Hands old place room back new → R old new
+  hands : (old : FrontState) (place : ℕ) (room : MessageRoom) (back : FrontReply) (new : FrontState) → Hands old place room back new → R old new
   hands old place room (reply.Messages filled left) new did = fills room.places old place filled.messages left new did.1
   hands old place room (reply.Done at full) new did = absurd did
   hands old place room reply.Kept new did = absurd did

@@ -9,7 +9,7 @@ use Rattle.std.specs.BTreeMap.{is_at}
 use Rattle.rd_base.specs.declared.status.Status.{Status}
 use Rattle.rd_base.specs.Statuses.{insufficient_resources, no_such_device}
 use Rattle.rd_client.specs.Core as client
-use Rattle.rd_client.specs.Core.{ClientCall, ClientCoreState, ClientDevice, ClientStep, Outgoing, begins, directs, has_device, hears, is_gone, max_asked, may_be_asked, sends, tells_added, tells_removed}
+use Rattle.rd_client.specs.Core.{ClientCall, ClientDevice, ClientStep, Outgoing, directs, has_device, hears, is_gone, max_asked, may_be_asked, sends, tells_added, tells_removed}
 use Rattle.rd_client.specs.declared.heard.Heard.{Heard}
 use Rattle.rd_client.specs.declared.heard.Heard.TheVariants.{Nothing, Ask, Print}
 use Rattle.rd_client.specs.Order.{is_client_ready}
@@ -38,7 +38,7 @@ use Rattle.rd_front.specs.declared.calls.Rest.{Rest}
 use Rattle.rd_front.specs.declared.calls.Rest.TheVariants as rest
 use Rattle.rd_front.specs.declared.next.Got.{Got}
 use Rattle.rd_front.specs.declared.next.Got.TheVariants as got
-use Rattle.rd_front.specs.Room.{RoomState}
+use Rattle.rd_front.specs.Room.{MessageRoom}
 use Rattle.rd_front.specs.State.{DeviceDeskState, FrontState, IsCalled}
 
 -- so many messages in the core's outbox, and nothing more is heard, nor told of a device
@@ -378,7 +378,7 @@ Fills (suc most) old place messages left new =
 -- ---- the calls
 
 -- the reply to a call for messages
-abbrev pub Hands : FrontState → ℕ → RoomState → FrontReply → FrontState → Type 0
+abbrev pub Hands : FrontState → ℕ → MessageRoom → FrontReply → FrontState → Type 0
 Hands old place room (reply.Messages filled left) new =
     (filled.places ≡ room.places) × Fills room.places old place filled.messages left new
 Hands old place room _ new = ⊥

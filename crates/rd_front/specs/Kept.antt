@@ -5,7 +5,7 @@ use Rattle.rd_desk.specs.declared.calls.DeskCall.{DeskCall}
 use Rattle.rd_desk.specs.declared.calls.DeskCall.TheVariants as desk
 use Rattle.rd_desk.specs.declared.calls.DeskReply.{DeskReply}
 use Rattle.rd_turn.specs.Pass.{Called, IsSamePass}
-use Rattle.rd_front.specs.State.{DeskPass, DeviceDeskState, FrontState}
+use Rattle.rd_front.specs.State.{SessionPass, DeviceDeskState, FrontState}
 
 -- no more messages stand in the core's outbox than are counted
 abbrev pub IsCounted : FrontState → Type 0
@@ -17,9 +17,9 @@ IsFrontCall (desk.Work runs) = ⊥
 IsFrontCall _ = Unit {0}
 
 -- A pass makes these calls, each with its reply, one after the other.
-abbrev pub GoesBy : DeskPass → List (DeskCall × DeskReply) → DeskPass → Type 0
+abbrev pub GoesBy : SessionPass → List (DeskCall × DeskReply) → SessionPass → Type 0
 GoesBy old [] new = new ≡ old
-GoesBy old (c ∷ calls) new = (next : DeskPass) × IsSamePass old next × Called old c.0 c.1 next × GoesBy next calls new
+GoesBy old (c ∷ calls) new = (next : SessionPass) × IsSamePass old next × Called old c.0 c.1 next × GoesBy next calls new
 
 -- A device keeps its id and its turn, and the front's pass its numbers; it goes on by calls that a front makes.
 pub record DeskGoesOn (old new : DeviceDeskState) : Type 0 where

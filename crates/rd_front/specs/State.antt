@@ -22,14 +22,14 @@ abbrev pub SessionDeskStep : SessionStation → DeskCall → DeskReply → Sessi
 SessionDeskStep = DeskStep device_runs device_parked device_cuts
 
 -- the pass by which a desk is called
-abbrev pub DeskPass : Type 0
-DeskPass = PassState SessionStation DeskCall DeskReply
+abbrev pub SessionPass : Type 0
+SessionPass = PassState SessionStation DeskCall DeskReply
 
 -- A device's id, the turn of its desk, and the front's pass of it.
 pub record DeviceDeskState : Type 0 where
   pub id : ℕ
   pub turn : TurnId SessionStation
-  pub pass : DeskPass
+  pub pass : SessionPass
 
 -- What a front keeps.
 pub record FrontState : Type 0 where
@@ -65,6 +65,6 @@ pub record IsCalled (old : DeviceDeskState) (call : DeskCall) (reply : DeskReply
   pub replied : IsDeskReply call reply
 
 -- The front's pass of a desk belongs to its turn, and the station that the turn was made with came to be by its calls.
-pub record KeepsDesk (turn : TurnId SessionStation) (pass : DeskPass) : Type 0 where
+pub record KeepsDesk (turn : TurnId SessionStation) (pass : SessionPass) : Type 0 where
   pub own : Belongs turn pass
   pub reached : IsReachedBy turn.opening

@@ -12,7 +12,7 @@ use Rattle.rd_front.specs.declared.calls.FrontCall.TheVariants as call
 use Rattle.rd_front.specs.declared.calls.FrontReply.{FrontReply}
 use Rattle.rd_front.specs.declared.calls.FrontReply.TheVariants as reply
 use Rattle.rd_front.specs.declared.calls.Rest.TheVariants as rest
-use Rattle.rd_front.specs.Room.{RoomState}
+use Rattle.rd_front.specs.Room.{MessageRoom}
 use Rattle.rd_front.specs.State.{FrontState}
 
 -- a front over a client with two drives, and no desks
@@ -34,7 +34,7 @@ abbrev pub written_first : List (List ℕ)
 written_first = own_confirm ∷ own_name ∷ own_sets ∷ own_list ∷ direct_bytes (job_of (close 5) 1 0) 1 no_such_device ∷ []
 
 -- room for so many messages
-abbrev pub room_of : List (List ℕ) → RoomState
+abbrev pub room_of : List (List ℕ) → MessageRoom
 room_of messages = record { places = 8; messages = messages }
 
 abbrev pub done : FrontReply

@@ -8,7 +8,7 @@ use std::alloc::{AllocError, Global};
 use std::collections::VecDeque;
 use std::marker::Model;
 
-/// Messages, and how many may stand there. Contracts see a `RoomState`. The places are found where it is made, so no message takes one later.
+/// Messages, and how many may stand there. Contracts see a `MessageRoom`. The places are found where it is made, so no message takes one later.
 #[derive(Drop)]
 pub struct Room {
     places: usize,
@@ -18,9 +18,9 @@ pub struct Room {
 impl Model for Room {
     ghost use Rattle.std.specs.Prelude.{◌≤◌, length};
     ghost use Rattle.std.specs.VecDeque.{deque_capacity};
-    ghost use Rattle.rd_front.specs.Room.{RoomState};
+    ghost use Rattle.rd_front.specs.Room.{MessageRoom};
 
-    ghost Value = { RoomState };
+    ghost Value = { MessageRoom };
 
     ghost view = { λ r. record { places = r.places; messages = r.messages.items } };
 

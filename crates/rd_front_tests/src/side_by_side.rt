@@ -1,6 +1,6 @@
 //! A reader and a writer that call one front, each in a thread of its own, and the front and its desk afterwards.
 
-ghost use Rattle.std.specs.Prelude.{◌≡◌, [], IfSome};
+ghost use Rattle.std.specs.Prelude.{IfSome};
 ghost use Rattle.rd_turn.specs.Pass.{Belongs, IsSamePass};
 ghost use Rattle.rd_front.specs.Kept.{DesksGoOn};
 ghost use Rattle.rd_world.specs.Stations.{IsReachedBy};

@@ -2,7 +2,7 @@ use Rattle.std.proofs.Common.{◌<◌, ◌≤◌, ◌∙◌, sym, ap, subst, rul
 use Rattle.rd_front.specs.declared.next.Got.{Got}
 use Rattle.rd_front.specs.declared.next.Got.TheVariants as got
 use Rattle.rd_front.specs.Front.{GivesNext}
-use Rattle.rd_front.specs.Room.{RoomState}
+use Rattle.rd_front.specs.Room.{MessageRoom}
 use Rattle.rd_front.proofs.FillLemmas.{FillsOn, fills_all, fills_more, fills_nothing, fills_wanting}
 use Rattle.rd_front.proofs.front.Front.fill.Goals as goal
 
@@ -14,9 +14,9 @@ loop-self-preserved g c =
     let gives : GivesNext c.loop-self.self c.args.place (got.Message c.in-Message.message) c.give.new.self =
     subst (λ (x : Got). GivesNext c.loop-self.self c.args.place x c.give.new.self) c.in-Message.is c.give.ensures in
     record {
-      on = subst (λ (r : RoomState). FillsOn c.args.place c.args.room.now.places c.args.self.now c.give.new.self r.messages) (sym c.add.ensures)
+      on = subst (λ (r : MessageRoom). FillsOn c.args.place c.args.room.now.places c.args.self.now c.give.new.self r.messages) (sym c.add.ensures)
           (fills_more c.args.place c.args.room.now.places c.args.self.now c.loop-self.self c.give.new.self c.loop-self.room.messages c.in-Message.message more gives on);
-      places = ap (λ (r : RoomState). r.places) c.add.ensures ∙ c.loop-self.invariant.places;
+      places = ap (λ (r : MessageRoom). r.places) c.add.ensures ∙ c.loop-self.invariant.places;
     }
 
 pub returns-in-Nothing-clause-filled : goal.returns-in-Nothing-clause-filled
