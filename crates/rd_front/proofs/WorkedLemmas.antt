@@ -131,6 +131,10 @@ unfolding component_field header header_among count_to counted counted_bytes two
 hears_close =
     (Ok (Ask 1 (job_of (close 5) 1 0)), asked, ((lit< tt, refl), refl), (Ok tt, (((refl, fault_is), refl), refl), refl))
 
+looks : FrontStep emptied call.Look (reply.Stands true 1) emptied
+unfolding component_field header header_among count_to counted counted_bytes two_fields four_fields version name hello special general other body_of capability sets announce device_list device_reply removal completion_head request_head close_body op_body add_event update_event delete_event rename_event event_body cache_data using_xps notice
+looks = (refl, refl)
+
 refuses_removal : FrontStep emptied (call.Remove 7) reply.Refused emptied
 unfolding component_field header header_among count_to counted counted_bytes two_fields four_fields version name hello special general other body_of capability sets announce device_list device_reply removal completion_head request_head close_body op_body add_event update_event delete_event rename_event event_body cache_data using_xps notice
 refuses_removal = (refl, refl)
@@ -165,14 +169,18 @@ worked = (
                 (refl, takes_all),
                 (
                   emptied,
-                  refuses_removal,
+                  looks,
                   (
-                    closed,
-                    ends_channel,
+                    emptied,
+                    refuses_removal,
                     (
                       closed,
-                      (refl, refl),
-                      (over, (refl, (tt, refl)), refl),
+                      ends_channel,
+                      (
+                        closed,
+                        (refl, refl),
+                        (over, (refl, (tt, refl)), refl),
+                      ),
                     ),
                   ),
                 ),

@@ -82,6 +82,10 @@ may_add s device = s.on && (is_front_ready s && is_gone s.client device)
 abbrev pub done_at : Option ℕ → FrontState → FrontReply
 done_at place s = reply.Done place (is_front_full s)
 
+-- how far the channel is
+abbrev pub standing_of : FrontState → FrontReply
+standing_of s = reply.Stands (s.on && is_front_ready s) (s.client).asked
+
 -- what is done is done; or no memory was found for it
 abbrev pub done_where : Bool → FrontState → FrontReply
 done_where true s = done_at None s
@@ -395,5 +399,6 @@ FrontStep old (call.Remove device) back new =
     Where (may_remove old device) reply.Refused back old new (Where (not (is_front_full old)) reply.Full back old new (FrontRemoves old device back new))
 FrontStep old (call.Add device) back new =
     Where (may_add old device) reply.Refused back old new (Where (not (is_front_full old)) reply.Full back old new (FrontAdds old device back new))
+FrontStep old call.Look back new = (back ≡ standing_of old) × (new ≡ old)
 FrontStep old call.EndChannel back new = Where old.on reply.Refused back old new ((back ≡ done_at None new) × ChannelEnds old new)
 FrontStep old call.EndSession back new = Where (not old.over) reply.Refused back old new ((back ≡ done_at None new) × SessionEnds old new)

@@ -1,6 +1,6 @@
 -- A worked history of a front without desks: a channel begins and opens, a request is answered without its device, the writer takes what there is, and the
 -- channel and the session end.
-use Rattle.std.specs.Prelude.{ℕ, false, List, [], ◌∷◌, None}
+use Rattle.std.specs.Prelude.{ℕ, true, false, List, [], ◌∷◌, None}
 use Rattle.rd_base.specs.Statuses.{no_such_device}
 use Rattle.rd_client.specs.Core.{direct_bytes, new_client}
 use Rattle.rd_client.specs.Worked.{announced, close, close_bytes, confirmed, logged_on, offered, own_confirm, own_devices, own_list, own_name, own_sets}
@@ -50,6 +50,7 @@ worked_history =
     ∷ entry 1 (call.Hear logged_on) done
     ∷ entry 1 (call.Hear (close_bytes 5)) done
     ∷ entry 2 (call.Next 0 (room_of [])) (reply.Messages (room_of written_first) rest.Nothing)
+    ∷ entry 1 call.Look (reply.Stands true 1)
     ∷ entry 1 (call.Remove 7) reply.Refused
     ∷ entry 1 call.EndChannel done
     ∷ entry 1 (call.Hear (close_bytes 5)) reply.Refused

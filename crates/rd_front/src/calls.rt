@@ -19,6 +19,8 @@ pub enum FrontCall {
     Remove(u32),
     /// The host is told that a device is there again.
     Add(u32),
+    /// How far the channel is.
+    Look,
     /// The channel ended.
     EndChannel,
     /// The session is over.
@@ -35,6 +37,13 @@ pub enum FrontReply {
         at: Option<usize>,
         /// Whether 1,024 messages may stand in the core's outbox, so that reading stops.
         full: bool,
+    },
+    /// How far the channel is.
+    Stands {
+        /// Whether its opening is over. None has begun to where no channel is on.
+        ready: bool,
+        /// How many requests were heard on the channel that began last.
+        asked: u64,
     },
     /// The job is kept back, since its desk is full. No message is heard before it has gone.
     Kept,

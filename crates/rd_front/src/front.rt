@@ -1,7 +1,7 @@
 //! The front: what the reader and the writer of a client share.
 
 ghost use Rattle.std.specs.Prelude.{◌≡◌, ◌<◌, [], false, length, IfSome, None};
-ghost use Rattle.rd_front.specs.Front.{DeskDoes, done_at, is_front_full, is_front_ready, is_told_there, desk_place};
+ghost use Rattle.rd_front.specs.Front.{DeskDoes, done_at, is_front_full, is_front_ready, is_told_there, desk_place, standing_of};
 
 use crate::calls::{FrontCall, FrontReply};
 use crate::device_desk::DeviceDesk;
@@ -71,6 +71,7 @@ impl<'a, T: Wait> Object for Front<'a, T> {
             FrontCall::Next { place, room } => self.next(place, room),
             FrontCall::Remove(device) => self.remove(device),
             FrontCall::Add(device) => self.add(device),
+            FrontCall::Look => self.look(),
             FrontCall::EndChannel => self.end_channel(),
             FrontCall::EndSession => self.end_session(),
         }
@@ -169,6 +170,16 @@ impl<'a, T: Wait> Front<'a, T> {
         ensures { result ≡ is_front_full self.now }
     {
         MAX_UNSENT <= self.unsent
+    }
+
+    /// How far the channel is.
+    fn look(&self) -> FrontReply
+        ensures { result ≡ standing_of self.now }
+    {
+        FrontReply::Stands {
+            ready: self.on && self.client.ready(),
+            asked: self.client.asked(),
+        }
     }
 
     /// The reply where something is done.
