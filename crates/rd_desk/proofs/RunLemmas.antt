@@ -1,12 +1,12 @@
--- Each run of a history is of the job that came under its key.
-use Rattle.std.proofs.Common.{◌≡◌, ◌∙◌, refl, sym, ap, subst, inl, inr, ℕ, ◌≤◌, ◌==◌, Bool, true, false, cond, List, [], ◌∷◌, ◌++◌, map, append_assoc, append-nil, arith}
+-- Each run of a history is of the job that came under its key, at the moment that was told.
+use Rattle.std.proofs.Common.{◌≡◌, ◌∙◌, refl, sym, ap, subst, inl, inr, ℕ, ◌≤◌, ◌==◌, Bool, true, false, cond, List, [], ◌∷◌, ◌++◌, map, append_assoc, append-nil, arith, eq-eqb}
 use Rattle.std.specs.Prelude.{All, Contains, Err, IfSome, None, Ok, Option, Some, find, nat_lt, length}
 use Rattle.std.specs.List.{AllByRecursion, flat_map}
 use Rattle.std.specs.Option.{option_map_or}
-use Rattle.std.proofs.lemmas.List.Elements.{All-contains, All-weaker}
+use Rattle.std.proofs.lemmas.List.Elements.{All-contains, All-from_recursion, All-weaker, recursion_from_All}
 use Rattle.rd_base.specs.declared.journal.Item.TheVariants.{Came}
 use Rattle.rd_base.specs.declared.journal.Key.{Key}
-use Rattle.rd_base.specs.Lawful.{IsBelow, named_key}
+use Rattle.rd_base.specs.Lawful.{IsBelow, RunsAt, named_key}
 use Rattle.rd_irp.specs.declared.op.Op.{Op}
 use Rattle.rd_irp.specs.declared.request.Request.{Request}
 use Rattle.rd_drive.specs.declared.plan.Job.{Job}
@@ -19,7 +19,7 @@ use Rattle.rd_station.specs.declared.answers.Applied.{Applied}
 use Rattle.rd_station.specs.declared.answers.Given.TheVariants as given
 use Rattle.rd_station.specs.Station.{StationCall, StationState, StationStep, StationSteps, announces, applies, collects, drops, ends, is_key, new_station, puts, puts_unfit, removes, takes}
 use Rattle.rd_station.specs.Tied.{IsRunBy, IsTied, RunsOwn}
-use Rattle.rd_station.proofs.Members.{Has, from_contains, has_append, has_left, has_right, key_self, same_key, to_contains}
+use Rattle.rd_station.proofs.Members.{Has, all_of, from_contains, has_append, has_left, has_map, has_right, key_self, same_key, to_contains}
 use Rattle.rd_turn.specs.declared.object.Entry.{Entry}
 use Rattle.rd_turn.specs.History.{Leads, calls_of}
 use Rattle.rd_turn.proofs.HistoryLemmas.{by_at, calls_of-at}
@@ -27,13 +27,12 @@ use Rattle.rd_desk.specs.declared.batch.Run.{Run}
 use Rattle.rd_desk.specs.declared.calls.DeskCall.{DeskCall}
 use Rattle.rd_desk.specs.declared.calls.DeskReply.{DeskReply}
 use Rattle.rd_desk.specs.declared.calls.DeskReply.TheVariants as reply
-use Rattle.rd_desk.specs.Batch.{jobs_of}
 use Rattle.rd_desk.specs.Desk.{DeskStep, applied_calls, job_put, most_given, runs_of, taken_calls, told_calls, told_by}
-use Rattle.rd_desk.specs.Own.{GivesOwnBack, IsOwnJob, PutsOwn, WereGiven, given_to, job_come, jobs_back, jobs_given, no_job_request, job_request, request_put}
+use Rattle.rd_desk.specs.Own.{GivesBackAt, GivesOwnBack, HasMoment, IsOwnJob, PutsOwn, WereGiven, given_to, job_come, jobs_back, jobs_given, no_job_request, job_request, request_put}
 use Rattle.rd_station.proofs.Tying.{all_tied}
 use Rattle.rd_desk.proofs.StepLemmas.{led_steps}
 use Rattle.rd_desk.proofs.OwnLemmas.{given_append}
-use Rattle.rd_desk.proofs.WaitingLemmas.{came_now, given_waited, step_goes}
+use Rattle.rd_desk.proofs.WaitingLemmas.{IsThen, came_now, given_waited, moment_of, step_goes}
 
 abbrev E : Type 0
 E = Entry DeskCall DeskReply
@@ -57,6 +56,44 @@ all_has P (y ∷ xs) all x (inl same) = subst P (sym same) all.0
 all_has P (y ∷ xs) all x (inr later) = all_has P xs all.1 x later
 all_has P [] all x none = absurd none
 
+-- ---- what a call of the desk tells
+
+-- a call of a station that gives back no plan
+abbrev IsIdle : StationCall → Type 0
+IsIdle (applies planned moment answer) = ⊥
+IsIdle _ = Unit {0}
+
+-- What holds of each call of a station that gives back no plan, and of each that gives back one of these, holds of each that a call of the desk tells.
+module _ (P : StationCall → Type 0) (idle : (c : StationCall) → IsIdle c → P c) where
+  applies_each : (runs : List Run) (answers : List Applied) → ((run : Run) (answer : Applied) → Has run runs → P (applies run.plan run.moment answer)) → AllByRecursion P (applied_calls runs answers)
+  applies_each [] answers each = tt
+  applies_each (run ∷ runs) [] each = tt
+  applies_each (run ∷ runs) (answer ∷ answers) each = (each run answer (inl refl), applies_each runs answers (λ r a has. each r a (inr has)))
+
+  takes_each : (jobs : List Job) (last : List StationCall) → AllByRecursion P last → AllByRecursion P (map (λ (job : Job). takes (given.Job job)) jobs ++ last)
+  takes_each [] last all = all
+  takes_each (job ∷ jobs) last all = (idle (takes (given.Job job)) tt, takes_each jobs last all)
+
+  last_each : (b over : Bool) → AllByRecursion P (cond b (takes (cond over given.Over given.Nothing) ∷ []) [])
+  last_each true over = (idle (takes (cond over given.Over given.Nothing)) tt, tt)
+  last_each false over = tt
+
+  puts_each : (jobs : List Job) (f : Job → StationCall) → ((job : Job) → IsIdle (f job)) → AllByRecursion P (map f jobs)
+  puts_each [] f each = tt
+  puts_each (job ∷ jobs) f each = (idle (f job) (each job), puts_each jobs f each)
+
+  told_each : (asked : DeskCall) (answer : DeskReply) → ((run : Run) (done : Applied) → Has run (runs_of asked) → P (applies run.plan run.moment done)) → AllByRecursion P (told_by asked answer)
+  told_each asked (reply.Announced r) each = (idle (announces r) tt, tt)
+  told_each asked (reply.Put (Ok done)) each = puts_each (job_put asked) (λ job. puts job None) (λ job. tt)
+  told_each asked (reply.Put (Err refusal)) each = puts_each (job_put asked) (λ job. puts job (Some refusal)) (λ job. tt)
+  told_each asked (reply.Unfit back) each = puts_each (job_put asked) (λ job. puts_unfit job back) (λ job. tt)
+  told_each asked (reply.Worked w) each = all_both P (applied_calls (runs_of asked) w.applied) (taken_calls w.jobs w.over)
+      (applies_each (runs_of asked) w.applied each) (takes_each w.jobs (cond (nat_lt (length w.jobs) most_given) (takes (cond w.over given.Over given.Nothing) ∷ []) []) (last_each (nat_lt (length w.jobs) most_given) w.over))
+  told_each asked (reply.Collected r) each = (idle (collects r) tt, tt)
+  told_each asked (reply.Removed r) each = (idle (removes r) tt, tt)
+  told_each asked reply.Dropped each = (idle drops tt, tt)
+  told_each asked reply.Ended each = (idle ends tt, tt)
+
 module _ (requests : Key → Request) where
   -- a job that comes is its request's
   comes_own : (c : StationCall) → PutsOwn requests c → (job : Job) → Has job (job_come c) → IsOwnJob requests job
@@ -77,36 +114,20 @@ module _ (requests : Key → Request) where
   GivesOwn (takes (given.Job job)) = IsOwnJob requests job
   GivesOwn _ = Unit {0}
 
-  -- plans of such jobs run their requests
-  runs_own : (runs : List Run) (answers : List Applied) → ((job : Job) → Has job (jobs_of runs) → IsOwnJob requests job) → AllByRecursion (RunsOwn requests) (applied_calls runs answers)
-  runs_own [] answers own = tt
-  runs_own (run ∷ runs) [] own = tt
-  runs_own (run ∷ runs) (answer ∷ answers) own = ((λ did. own run.plan.job (inl refl)), runs_own runs answers (λ job has. own job (inr has)))
-
-  takes_run_none : (jobs : List Job) (last : List StationCall) → AllByRecursion (RunsOwn requests) last → AllByRecursion (RunsOwn requests) (map (λ (job : Job). takes (given.Job job)) jobs ++ last)
-  takes_run_none [] last all = all
-  takes_run_none (job ∷ jobs) last all = (tt, takes_run_none jobs last all)
-
-  last_runs_none : (b over : Bool) → AllByRecursion (RunsOwn requests) (cond b (takes (cond over given.Over given.Nothing) ∷ []) [])
-  last_runs_none true over = (tt, tt)
-  last_runs_none false over = tt
-
-  puts_run_none : (jobs : List Job) (f : Job → StationCall) → ((job : Job) → RunsOwn requests (f job)) → AllByRecursion (RunsOwn requests) (map f jobs)
-  puts_run_none [] f each = tt
-  puts_run_none (job ∷ jobs) f each = (each job, puts_run_none jobs f each)
-
   -- so a call of the desk that gives back such jobs runs its requests
+  idle_own : (c : StationCall) → IsIdle c → RunsOwn requests c
+  idle_own (announces r) is = tt
+  idle_own (puts j r) is = tt
+  idle_own (puts_unfit j back) is = tt
+  idle_own (takes r) is = tt
+  idle_own (applies p moment r) is = absurd is
+  idle_own (collects r) is = tt
+  idle_own (removes r) is = tt
+  idle_own drops is = tt
+  idle_own ends is = tt
+
   told_own : (asked : DeskCall) (answer : DeskReply) → ((job : Job) → Has job (jobs_back asked) → IsOwnJob requests job) → AllByRecursion (RunsOwn requests) (told_by asked answer)
-  told_own asked (reply.Announced r) own = (tt, tt)
-  told_own asked (reply.Put (Ok done)) own = puts_run_none (job_put asked) (λ job. puts job None) (λ job. tt)
-  told_own asked (reply.Put (Err refusal)) own = puts_run_none (job_put asked) (λ job. puts job (Some refusal)) (λ job. tt)
-  told_own asked (reply.Unfit back) own = puts_run_none (job_put asked) (λ job. puts_unfit job back) (λ job. tt)
-  told_own asked (reply.Worked w) own = all_both (RunsOwn requests) (applied_calls (runs_of asked) w.applied) (taken_calls w.jobs w.over)
-      (runs_own (runs_of asked) w.applied own) (takes_run_none w.jobs (cond (nat_lt (length w.jobs) most_given) (takes (cond w.over given.Over given.Nothing) ∷ []) []) (last_runs_none (nat_lt (length w.jobs) most_given) w.over))
-  told_own asked (reply.Collected r) own = (tt, tt)
-  told_own asked (reply.Removed r) own = (tt, tt)
-  told_own asked reply.Dropped own = (tt, tt)
-  told_own asked reply.Ended own = (tt, tt)
+  told_own asked answer own = told_each (RunsOwn requests) idle_own asked answer (λ run done has. λ did. own run.plan.job (has_map (λ (r : Run). r.plan.job) run (runs_of asked) has))
 
   -- what the takes of a call give
   takes_give : (jobs : List Job) (last : List StationCall) → AllByRecursion GivesOwn (map (λ (job : Job). takes (given.Job job)) jobs ++ last) → (job : Job) → Has job jobs → IsOwnJob requests job
@@ -260,3 +281,56 @@ history_tied Runs parked Cuts step cut device t entries most by_step nothing lea
     let steps = led_steps Runs parked Cuts (new_station device) t entries leads in
     all_tied step cut (request_put (told_calls entries)) Runs parked Cuts by_step device (told_calls entries) t nothing
     (history_own Runs parked Cuts (request_put (told_calls entries)) (new_station device) t entries most leads few gives tt (puts_are_own Runs parked Cuts (told_calls entries) (new_station device) t steps)) steps
+
+-- ---- at which moment each run is
+
+module _ (told : ℕ) where
+  -- what a call runs it runs at the moment that was told
+  abbrev RunsThen : StationCall → Type 0
+  RunsThen c = IsThen told (moment_of c)
+
+  idle_then : (c : StationCall) → IsIdle c → RunsThen c
+  idle_then (announces r) is = tt
+  idle_then (puts j r) is = tt
+  idle_then (puts_unfit j back) is = tt
+  idle_then (takes r) is = tt
+  idle_then (applies p moment r) is = absurd is
+  idle_then (collects r) is = tt
+  idle_then (removes r) is = tt
+  idle_then drops is = tt
+  idle_then ends is = tt
+
+  told_then : (entries : List E) → AllByRecursion (λ (e : E). All (HasMoment (Some told)) (runs_of e.call)) entries → AllByRecursion RunsThen (told_calls entries)
+  told_then [] at = tt
+  told_then (e ∷ entries) at = all_both RunsThen (told_by e.call e.reply) (told_calls entries)
+      (told_each RunsThen idle_then e.call e.reply (λ run done has. All-contains (HasMoment (Some told)) (runs_of e.call) run at.0 (to_contains (runs_of e.call) run has))) (told_then entries at.1)
+
+  -- what stands in the whole history stands among the calls of its pass
+  among_own : (e : E) (entries : List E) → Has e entries → Has e (calls_of e.by entries)
+  among_own e [] none = absurd none
+  among_own e (x ∷ entries) (inl same) = subst (λ (b : Bool). Has e (cond b (x ∷ calls_of e.by entries) (calls_of e.by entries))) (sym (eq-eqb x.by e.by (ap (λ (y : E). y.by) (sym same)))) (inl same)
+  among_own e (x ∷ entries) (inr later) = by (x.by == e.by) (among_own e entries later)
+    where
+      by : (b : Bool) → Has e (calls_of e.by entries) → Has e (cond b (x ∷ calls_of e.by entries) (calls_of e.by entries))
+      by true among = inr among
+      by false among = among
+
+  -- where each call of each pass gives back at that moment, so does each of the whole history
+  whole_then : (most : ℕ) (entries : List E) → All (λ (e : E). e.by ≤ most) entries → ((number : ℕ) → number ≤ most → GivesBackAt (Some told) (calls_of number entries)) → GivesBackAt (Some told) entries
+  whole_then most entries few at = all_of (λ (e : E). All (HasMoment (Some told)) (runs_of e.call)) entries (λ e has.
+      All-contains (λ (x : E). All (HasMoment (Some told)) (runs_of x.call)) (calls_of e.by entries) e (at e.by (All-contains (λ (x : E). x.by ≤ most) entries e few (to_contains entries e has)))
+      (to_contains (calls_of e.by entries) e (among_own e entries has)))
+
+  module _ {S : Type 0} (Runs : S → Planned → ℕ → Step → List End → S → Type 0) (parked : S → List Parked) (Cuts : S → S → Type 0) where
+    steps_then : (calls : List StationCall) (old new : StationState S) → StationSteps Runs parked Cuts old calls new → AllByRecursion RunsThen calls → AllByRecursion (RunsAt told) old.journal → AllByRecursion (RunsAt told) new.journal
+    steps_then [] old new e at before = subst (λ (s : StationState S). AllByRecursion (RunsAt told) s.journal) (sym e) before
+    steps_then (c ∷ calls) old new e at before =
+        let goes = step_goes old Runs parked Cuts e.0 c e.1 in
+        steps_then calls e.0 new e.2 at.1 (subst (AllByRecursion (RunsAt told)) (sym goes.grows) (all_both (RunsAt told) old.journal goes.more before (goes.runs told at.0)))
+
+    pub history_then : (s t : StationState S) (entries : List E) (most : ℕ) → Leads (DeskStep Runs parked Cuts) s entries t → All (λ (e : E). e.by ≤ most) entries
+        → ((number : ℕ) → number ≤ most → GivesBackAt (Some told) (calls_of number entries)) → All (RunsAt told) s.journal → All (RunsAt told) t.journal
+    history_then s t entries most leads few at before =
+        All-from_recursion (RunsAt told) t.journal (steps_then (told_calls entries) s t (led_steps Runs parked Cuts s t entries leads)
+        (told_then entries (recursion_from_All (λ (e : E). All (HasMoment (Some told)) (runs_of e.call)) entries (whole_then most entries few at)))
+        (recursion_from_All (RunsAt told) s.journal before))

@@ -1,5 +1,5 @@
--- Whose jobs are given back: what each pass was given, and of which request each job is.
-use Rattle.std.specs.Prelude.{◌≡◌, List, [], ◌∷◌, ◌++◌, All, Contains, None, find}
+-- Whose jobs are given back: what each pass was given, at which moment that is to be run, and of which request each job is.
+use Rattle.std.specs.Prelude.{◌≡◌, ℕ, List, [], ◌∷◌, ◌++◌, All, Contains, IfSome, None, Option, find}
 use Rattle.std.specs.List.{flat_map}
 use Rattle.std.specs.Option.{option_map_or}
 use Rattle.rd_base.specs.declared.journal.Key.{Key}
@@ -8,6 +8,7 @@ use Rattle.rd_irp.specs.declared.request.Request.{Request}
 use Rattle.rd_drive.specs.declared.plan.Job.{Job}
 use Rattle.rd_station.specs.Station.{StationCall, is_key, puts}
 use Rattle.rd_turn.specs.declared.object.Entry.{Entry}
+use Rattle.rd_desk.specs.declared.batch.Run.{Run}
 use Rattle.rd_desk.specs.declared.calls.DeskCall.{DeskCall}
 use Rattle.rd_desk.specs.declared.calls.DeskReply.{DeskReply}
 use Rattle.rd_desk.specs.declared.calls.DeskReply.TheVariants as reply
@@ -36,6 +37,16 @@ WereGiven entries jobs = All (Contains (given_to entries)) jobs
 -- The calls of one pass: each job that one of them gives back was given in an earlier one.
 pub record GivesOwnBack (entries : List (Entry DeskCall DeskReply)) : Type 0 where
   pub each : (before later : List (Entry DeskCall DeskReply)) (e : Entry DeskCall DeskReply) → entries ≡ before ++ e ∷ later → WereGiven before (jobs_back e.call)
+
+-- ---- at which moment it is given back
+
+-- the plan is to be run at the moment that was told, where one was
+abbrev pub HasMoment : Option ℕ → Run → Type 0
+HasMoment told run = IfSome told (λ moment. run.moment ≡ moment)
+
+-- each plan that one of these calls gives back is to be run at that moment
+abbrev pub GivesBackAt : Option ℕ → List (Entry DeskCall DeskReply) → Type 0
+GivesBackAt told entries = All (λ (e : Entry DeskCall DeskReply). All (HasMoment told) (runs_of e.call)) entries
 
 -- ---- of which request a job is
 

@@ -1,9 +1,10 @@
 //! What a hand gives back at a desk, and what it is given.
 
-ghost use Rattle.std.specs.Prelude.{◌≡◌, ◌<◌, ◌+◌, ◌≤◌, ◌++◌, ◌∷◌, [], length, map, slice_get, IfOk};
+ghost use Rattle.std.specs.Prelude.{◌≡◌, ◌<◌, ◌+◌, ◌≤◌, ◌++◌, ◌∷◌, [], length, map, option_map, slice_get, IfOk};
 ghost use Rattle.std.specs.VecDeque.{deque_capacity, deque_len};
 ghost use Rattle.rd_desk.specs.Batch.{jobs_of};
 
+use rd_base::Key;
 use rd_drive::{Job, Plan, prepare};
 use rd_station::Applied;
 use std::alloc::{AllocError, Global};
@@ -115,6 +116,13 @@ impl Worked {
         ensures { result ≡ length self.now.jobs }
     {
         self.room.jobs.len()
+    }
+
+    /// The key of the job at a place among those that were given.
+    pub fn key(&self, place: usize) -> Option<Key>
+        ensures { result ≡ option_map (λ job. job.key) (slice_get self.now.jobs place) }
+    {
+        self.room.jobs.get(place).map(|job| job.key)
     }
 
     /// Whether jobs are left that no hand took.

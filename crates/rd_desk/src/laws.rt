@@ -1,8 +1,9 @@
 //! What holds of every history of a desk. These functions do nothing: their clauses are laws.
 
-ghost use Rattle.std.specs.Prelude.{◌≡◌, ◌≤◌, ◌++◌, ◌∷◌, ℕ, List, [], All, true, false, None};
+ghost use Rattle.std.specs.Prelude.{◌≡◌, ◌≤◌, ◌++◌, ◌∷◌, ℕ, List, [], All, true, false, None, Some};
 ghost use Rattle.std.specs.List.{AllByRecursion};
 ghost use Rattle.rd_base.specs.declared.journal.Key.{Key};
+ghost use Rattle.rd_base.specs.Lawful.{RunsAt};
 ghost use Rattle.rd_irp.specs.declared.op.Op.{Op};
 ghost use Rattle.rd_irp.specs.declared.op.Op.TheVariants as Op;
 ghost use Rattle.rd_irp.specs.declared.request.Request.{Request};
@@ -20,7 +21,7 @@ ghost use Rattle.rd_desk.specs.declared.calls.DeskCall.TheVariants as Call;
 ghost use Rattle.rd_desk.specs.declared.calls.DeskReply.{DeskReply};
 ghost use Rattle.rd_desk.specs.declared.calls.DeskReply.TheVariants as Reply;
 ghost use Rattle.rd_desk.specs.Desk.{DeskStep, runs_of, told_calls};
-ghost use Rattle.rd_desk.specs.Own.{GivesOwnBack, IsOwnJob, PutsOwn, WereGiven, jobs_back, jobs_given, request_put};
+ghost use Rattle.rd_desk.specs.Own.{GivesBackAt, GivesOwnBack, IsOwnJob, PutsOwn, WereGiven, jobs_back, jobs_given, request_put};
 ghost use Rattle.rd_desk.specs.Worked.{five_wait, gave, given, none_wait, one_ran, one_taken, one_waits, run, took};
 
 use rd_drive::Device;
@@ -64,7 +65,8 @@ pub fn desks_are_stations<D: Device>()
 
 /// Where the calls of each pass give back jobs that earlier calls of the same pass were given, and no pass has a number above `most`, each run of the whole
 /// history is of its key's request, whatever these are, where each job that comes is. Over a new station they are those of the jobs that came, since
-/// each key has one; so over a device that a step and a cut compute the station is tied to its journal.
+/// each key has one; so over a device that a step and a cut compute the station is tied to its journal. Where the calls of each pass give back at the
+/// moment that was told, each run is at that moment.
 pub fn jobs_run_as_they_came<D: Device>()
     ensures own { (requests : Key → Request) (s : StationState D) (t : StationState D) (entries : List (Entry DeskCall DeskReply)) (most : ℕ) → Leads (DeskStep D.runs D.parked D.cuts) s entries t
         → All (λ e. e.by ≤ most) entries → ((number : ℕ) → number ≤ most → GivesOwnBack (calls_of number entries))
@@ -73,6 +75,8 @@ pub fn jobs_run_as_they_came<D: Device>()
     ensures tied { (step : D → Key → ℕ → Op → ℕ → Stepped D) (cut : D → Settled D) (device : D) (t : StationState D) (entries : List (Entry DeskCall DeskReply)) (most : ℕ) → IsRunBy step cut D.runs D.parked D.cuts
         → D.parked device ≡ [] → Leads (DeskStep D.runs D.parked D.cuts) (new_station device) entries t → All (λ e. e.by ≤ most) entries → ((number : ℕ) → number ≤ most → GivesOwnBack (calls_of number entries))
         → IsTied step cut (request_put (told_calls entries)) device t }
+    ensures moments { (told : ℕ) (s : StationState D) (t : StationState D) (entries : List (Entry DeskCall DeskReply)) (most : ℕ) → Leads (DeskStep D.runs D.parked D.cuts) s entries t → All (λ e. e.by ≤ most) entries
+        → ((number : ℕ) → number ≤ most → GivesBackAt (Some told) (calls_of number entries)) → All (RunsAt told) s.journal → All (RunsAt told) t.journal }
 {}
 
 /// The calls of a pass that made none give back what they were given, and so they do with one more that gives back what earlier ones were given; what

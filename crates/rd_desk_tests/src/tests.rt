@@ -18,13 +18,18 @@ use std::sync::Wait;
 
 type Drives = Desk<MemoryDrive>;
 
+/// The key of a number.
+fn key(number: u32) -> Key {
+    Key {
+        channel: 1,
+        index: u64::from(number),
+    }
+}
+
 /// A request of the file that is opened first, under the key and the completion id of a number.
 fn job(number: u32, op: Op) -> Job {
     Job {
-        key: Key {
-            channel: 1,
-            index: u64::from(number),
-        },
+        key: key(number),
         file: 1,
         completion: number,
         op,
@@ -156,6 +161,7 @@ fn a_hand_works(rt: HostRuntime) {
     assert!(rt; is_unfit(&rt, &mut desk, read(3)));
     let worked = hand.work(&rt, Batch::new(alloc).expect(&rt, "a batch"));
     assert!(rt; says(&worked, 4, true, false, false));
+    assert!(rt; worked.key(3) == Some(key(3)) && worked.key(4).is_none());
     let worked = hand.work(&rt, worked.into_batch(alloc, 5));
     assert!(rt; says(&worked, 1, false, true, false));
     assert!(rt; worked.applied(3) == Some(Applied::Ran));

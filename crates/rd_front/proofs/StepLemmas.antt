@@ -211,7 +211,7 @@ module _ (R : FrontState → FrontState → Type 0) (by : Carries R) where
       by.joins old d.1 new (by.removes_by old d.1 device d.0 d.2) (removes d.1 device d.0 back new d.3)) (may_remove old device) did
   one_call old (call.Add device) back new did = unless_full old back new _ (λ (d : FrontAdds old device back new).
       by.joins old d.1 new (refreshes old device d.0 d.1 d.2) (adds_if d.0 d.1 device back new d.3)) (may_add old device) did
-  one_call old call.Look back new did = to old old new (sym did.1) (by.stays old)
+  one_call old call.Look back new did = to old old new did.1 (by.stays old)
   one_call old call.EndChannel back new did = where_fits old.on reply.Refused back old new _ (λ (d : (back ≡ done_at None new) × ChannelEnds old new). channel_ends old new d.1) did
   one_call old call.EndSession back new did = where_fits (not old.over) reply.Refused back old new _ (λ (d : (back ≡ done_at None new) × SessionEnds old new). session_ends old new d.1) did
 

@@ -6,6 +6,11 @@ use rd_base::Key;
 /// test can have jobs run in the order that it wants.
 pub trait Gate {
     fn pass(&self, key: Key);
+
+    /// Whether it may hold a worker up. Where it doesn't, whoever isn't a worker may pass it too.
+    fn holds(&self) -> bool {
+        true
+    }
 }
 
 /// A gate that holds nobody up.
@@ -14,4 +19,8 @@ pub struct NoGate {}
 
 impl Gate for NoGate {
     fn pass(&self, _key: Key) {}
+
+    fn holds(&self) -> bool {
+        false
+    }
 }

@@ -16,9 +16,9 @@ pub trait Hang: Sink {
 
 /// Where channels come from, one after the other.
 pub trait Linker {
-    type In: Source + Send;
+    type In: Source + Send + Drop;
 
-    type Out: Hang + Send;
+    type Out: Hang + Send + Drop;
 
     /// The settled channels and those that are out, where it can tell.
     ghost linked: { Self → Option Links };

@@ -4,7 +4,6 @@ use Rattle.std.specs.Prelude.{All, Contains}
 use Rattle.std.specs.List.{AllZip, zip}
 use Rattle.std.proofs.lemmas.List.Elements.{All-cons, All-contains, All-contains_itself, All-head, All-map, All-nil, All-tail, All-weaker}
 use Rattle.std.proofs.lemmas.Slice.Zip.{all_zipped_more}
-use Rattle.rd_station.specs.Station.{StationState}
 use Rattle.rd_turn.specs.declared.object.Entry.{Entry}
 use Rattle.rd_turn.specs.History.{calls_of}
 use Rattle.rd_turn.specs.Pass.{Belongs, Called, GoesOn, HasAllCalls, IsSamePass, after_split, first_pass, max_made, new_pass}
@@ -65,8 +64,9 @@ module _ {S : Type 0} where
         p.joined (λ k d within. (All-contains_itself p.joined k d within, first.joined k d within))));
   }
 
-  pub is_joined : (turn : DeskTurn S) (p q new : DeskPass S) → Belongs turn p → Belongs turn new → (new.made ≡ p.made) × (suc new.out ≡ p.out) → calls_of q.number new.seen ≡ calls_of q.number q.seen → GoesOn p new → IsJoined (p, q) new
-  is_joined turn p q new old own counts calls on = record { turn = (own.0 ∙ sym old.0, own.1 ∙ sym old.1); counts = counts; other_calls = calls; goes_on = on }
+  pub is_joined : (turn : DeskTurn S) (p q new : DeskPass S) → Belongs turn p → Belongs turn new → (new.number ≡ 0) × (new.made ≡ p.made) × (suc new.out ≡ p.out)
+      → new.joined ≡ (q.number, length (calls_of q.number q.seen)) ∷ p.joined → calls_of q.number new.seen ≡ calls_of q.number q.seen → GoesOn p new → IsJoined (p, q) new
+  is_joined turn p q new old own counts joined calls on = record { turn = (own.0 ∙ sym old.0, own.1 ∙ sym old.1); counts = counts; joined = joined; other_calls = calls; goes_on = on }
 
   -- the pass that a turn is made with
   pub made_first : (turn : DeskTurn S) → IsFirst turn (first_pass turn)
@@ -134,7 +134,7 @@ module _ {S : Type 0} where
   outs_joined (t ∷ ts) (p ∷ ps) [] new first other joined = absurd other
   outs_joined (t ∷ ts) (p ∷ ps) (q ∷ qs) [] first other joined = absurd joined
   outs_joined (t ∷ ts) (p ∷ ps) (q ∷ qs) (r ∷ rs) first other joined =
-      let here = joined.0.counts.1 in let later = outs_joined ts ps qs rs first.1 other.1 joined.1 in cc (here, later)
+      let here = joined.0.counts.2 in let later = outs_joined ts ps qs rs first.1 other.1 joined.1 in cc (here, later)
 
   outs_same : (xs ys : List (DeskPass S)) → map (λ (p : DeskPass S). suc p.out) xs ≡ map (λ (p : DeskPass S). suc p.out) ys → map (λ (p : DeskPass S). p.out) xs ≡ map (λ (p : DeskPass S). p.out) ys
   outs_same [] [] same = refl

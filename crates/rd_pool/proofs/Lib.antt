@@ -1,2 +1,3 @@
 pub mod ZipLemmas
 pub mod DeskLemmas
+pub mod MomentLemmas

@@ -1,5 +1,5 @@
 -- Some desks, and passes of them place by place.
-use Rattle.std.specs.Prelude.{◌≡◌, ◌≢◌, ℕ, suc, ◌≤◌, List, [], All}
+use Rattle.std.specs.Prelude.{◌≡◌, ◌≢◌, ℕ, suc, ◌≤◌, List, [], ◌∷◌, length, All, Option}
 use Rattle.rd_drive.specs.declared.step.Step.{Step}
 use Rattle.rd_drive.specs.declared.step.End.{End}
 use Rattle.rd_drive.specs.Device.{Parked}
@@ -10,7 +10,7 @@ use Rattle.rd_turn.specs.Pass.{Belongs, GoesOn, HasAllCalls, PassState, TurnId}
 use Rattle.rd_desk.specs.declared.calls.DeskCall.{DeskCall}
 use Rattle.rd_desk.specs.declared.calls.DeskReply.{DeskReply}
 use Rattle.rd_desk.specs.Desk.{DeskStep}
-use Rattle.rd_desk.specs.Own.{GivesOwnBack}
+use Rattle.rd_desk.specs.Own.{GivesBackAt, GivesOwnBack}
 
 -- the turn of a desk over a device with states of the type S, and a pass of it
 abbrev pub DeskTurn : Type 0 → Type 0
@@ -44,16 +44,24 @@ module _ {S : Type 0} where
     pub number : p.number ≢ 0
     pub fresh : calls_of p.number p.seen ≡ []
 
+  -- Each plan that a call of the pass gives back is to be run at the moment that was told, where one was; and so is each that a pass gave back which was
+  -- joined to it, if it is pass 0.
+  pub record KeepsMoment (told : Option ℕ) (p : DeskPass S) : Type 0 where
+    pub own : GivesBackAt told (calls_of p.number p.seen)
+    pub joined : p.number ≡ 0 → All (λ j. (j.0 ≢ 0) × GivesBackAt told (calls_of j.0 p.seen)) p.joined
+
   -- pass 0 of the same turn, to which the other was joined: its list has all calls of the other, and goes on from its own
   pub record IsJoined (both : DeskPass S × DeskPass S) (new : DeskPass S) : Type 0 where
     pub turn : (new.table ≡ both.0.table) × (new.opening ≡ both.0.opening)
-    pub counts : (new.made ≡ both.0.made) × (suc new.out ≡ both.0.out)
+    pub counts : (new.number ≡ 0) × (new.made ≡ both.0.made) × (suc new.out ≡ both.0.out)
+    pub joined : new.joined ≡ (both.1.number, length (calls_of both.1.number both.1.seen)) ∷ both.0.joined
     pub other_calls : calls_of both.1.number new.seen ≡ calls_of both.1.number both.1.seen
     pub goes_on : GoesOn both.0 new
 
   -- What a turn leaves that is closed with its pass 0: the station is where the whole history leads it. The numbers of its calls are of passes that were
   -- made, and none of these gives back a job that it wasn't given.
   pub record IsClosed (Runs : S → Planned → ℕ → Step → List End → S → Type 0) (parked : S → List Parked) (Cuts : S → S → Type 0) (both : DeskTurn S × DeskPass S) (station : StationState S) : Type 0 where
+    pub number : both.1.number ≡ 0
     pub leads : Leads (DeskStep Runs parked Cuts) both.0.opening both.1.seen station
     pub all : HasAllCalls both.1
     pub numbers : All (λ e. e.by ≤ both.1.made) both.1.seen

@@ -1,11 +1,11 @@
 //! Desks, each behind a turn of its own.
 
-ghost use Rattle.std.specs.Prelude.{◌≡◌, ◌<◌, ◌≤◌, ◌++◌, ◌∷◌, [], suc, length, map, All, IfOk, IfErr, IfSome, OnOk, OnErr, slice_get, slice_index_or, slice_set};
+ghost use Rattle.std.specs.Prelude.{◌≡◌, ◌<◌, ◌≤◌, ◌++◌, ◌∷◌, ℕ, Option, [], suc, length, map, All, IfOk, IfErr, OnOk, OnErr, slice_get, slice_index_or, slice_set};
 ghost use Rattle.std.specs.List.{AllZip, zip};
 ghost use Rattle.std.specs.VecDeque.{deque_capacity, deque_len};
 ghost use Rattle.rd_turn.specs.Pass.{Called, after_split, first_pass, max_made, new_pass};
 ghost use Rattle.rd_desk.specs.Desk.{runs_of};
-ghost use Rattle.rd_pool.specs.Desks.{DeskPass, DeskTurn, IsClosed, IsFirst, IsFresh, IsJoined, IsOther};
+ghost use Rattle.rd_pool.specs.Desks.{DeskPass, DeskTurn, IsClosed, IsFirst, IsFresh, IsJoined, IsOther, KeepsMoment};
 
 use crate::passes::Passes;
 use rd_desk::{Desk, DeskCall, DeskReply};
@@ -65,6 +65,7 @@ impl<D: Device + Drop> Desks<D> {
         ensures added { OnOk result ((t : DeskTurn D) × (self.new ≡ record { ids = self.old.ids ++ id ∷ []; turns = self.old.turns ++ t ∷ [] }) × (t.opening ≡ station) × (passes.new ≡ passes.old ++ first_pass t ∷ [])) }
         ensures unchanged { OnErr result ((self.new ≡ self.old) × (passes.new ≡ passes.old)) }
         ensures back { IfErr result (λ back. back ≡ station) }
+        ensures moments { (told : Option ℕ) → All (KeepsMoment told) passes.old → All (KeepsMoment told) passes.new }
     {
         let more = self.turns.len() + 1;
         if self.ids.reserve(1).is_err()
@@ -124,6 +125,7 @@ impl<D: Device + Drop> Desks<D> {
         requires idle { runs_of call ≡ [] }
         ensures others { AllZip IsOther self.now.turns passes.new }
         ensures called { (p : DeskPass D) × (q : DeskPass D) × (slice_index_or passes.old place p ≡ p) × (passes.new ≡ slice_set passes.old place q) × Called p call result q }
+        ensures moments { (told : Option ℕ) → All (KeepsMoment told) passes.old → All (KeepsMoment told) passes.new }
     {
         self.turns[place].call(rt, &mut passes.list[place], call)
     }
@@ -137,6 +139,8 @@ impl<D: Device + Drop> Desks<D> {
         ensures given { IfOk result (λ new. new ≡ map new_pass passes.old) }
         ensures fresh { IfOk result (λ new. AllZip IsFresh self.now.turns new) }
         ensures others { IfOk result (λ new. AllZip IsOther self.now.turns new) }
+        ensures moments { (told : Option ℕ) → All (KeepsMoment told) passes.old → All (KeepsMoment told) passes.new }
+        ensures new_moments { IfOk result (λ new. (told : Option ℕ) → All (KeepsMoment told) new) }
     {
         let mut list = VecDeque::with_capacity(alloc, passes.list.len())?;
         let room = VecDeque::with_capacity(alloc, passes.list.len())?;
@@ -152,6 +156,7 @@ impl<D: Device + Drop> Desks<D> {
         ensures first { AllZip IsFirst self.now.turns passes.new }
         ensures joined { AllZip IsJoined (zip passes.old others) passes.new }
         ensures out { map (λ p. suc p.out) passes.new ≡ map (λ p. p.out) passes.old }
+        ensures moments { (told : Option ℕ) → All (KeepsMoment told) passes.old → All (KeepsMoment told) others → All (KeepsMoment told) passes.new }
     {
         join_all(
             &self.turns,

@@ -1,10 +1,10 @@
 //! A worker's hands: one at each desk.
 
-ghost use Rattle.std.specs.Prelude.{◌≡◌, ◌≢◌, ◌<◌, ◌≤◌, [], length, map, All, IfOk, OnOk, OnErr};
+ghost use Rattle.std.specs.Prelude.{◌≡◌, ◌≢◌, ◌<◌, ◌≤◌, ℕ, Option, [], length, map, All, IfOk, OnOk, OnErr};
 ghost use Rattle.std.specs.List.{AllZip};
 ghost use Rattle.std.specs.VecDeque.{deque_capacity, deque_len};
 ghost use Rattle.rd_turn.specs.Pass.{after_split, max_made, new_pass};
-ghost use Rattle.rd_pool.specs.Desks.{IsFirst, IsFresh, IsOther};
+ghost use Rattle.rd_pool.specs.Desks.{IsFirst, IsFresh, IsOther, KeepsMoment};
 
 use crate::bell::Bell;
 use crate::desks::Desks;
@@ -53,6 +53,8 @@ impl<'a, D: Device + Drop> Hands<'a, D> {
         ensures unchanged { OnErr result (passes.new ≡ passes.old) }
         ensures turns { IfOk result (λ hands. map (λ hand. hand.turn) hands ≡ desks.now.turns) }
         ensures given { IfOk result (λ hands. map (λ hand. hand.pass) hands ≡ map new_pass passes.old) }
+        ensures moments { (told : Option ℕ) → All (KeepsMoment told) passes.old → All (KeepsMoment told) passes.new }
+        ensures new_moments { IfOk result (λ hands. (told : Option ℕ) → All (KeepsMoment told) (map (λ hand. hand.pass) hands)) }
     {
         let mut list = VecDeque::with_capacity(alloc, passes.list.len())?;
         let Passes {
@@ -63,8 +65,10 @@ impl<'a, D: Device + Drop> Hands<'a, D> {
         Ok(Hands { list, home, room })
     }
 
-    /// Works at the desk of a place until nothing is given there.
-    pub(crate) fn work<T: Wait, X: Outside>(
+    /// Works at the desk of a place until nothing is given there. After each call of the desk it rings the bell for the place where jobs are left, so that
+    /// another hand comes, and the writer's bell where a completion can be collected. A worker does this wherever its bell says; the reader may do
+    /// it too, where no thread works or one job came alone.
+    pub fn work<T: Wait, X: Outside>(
         &mut self,
         rt: &T,
         outside: &X,
@@ -77,6 +81,7 @@ impl<'a, D: Device + Drop> Hands<'a, D> {
         requires place { (place < length self.old) × (place < bell.now) × (place < writer.now) }
         ensures none { result ≡ [] }
         ensures turns { map (λ hand. hand.turn) self.new ≡ map (λ hand. hand.turn) self.old }
+        ensures moments { All (KeepsMoment (X.moment outside.now)) (map (λ hand. hand.pass) self.old) → All (KeepsMoment (X.moment outside.now)) (map (λ hand. hand.pass) self.new) }
     {
         work_at(
             rt,
@@ -91,7 +96,8 @@ impl<'a, D: Device + Drop> Hands<'a, D> {
 
     /// The passes, so that they can be joined.
     pub fn into_passes(self) -> Passes<D>
-        ensures { AllZip IsOther (map (λ hand. hand.turn) self.entry) result }
+        ensures same { result ≡ map (λ hand. hand.pass) self.entry }
+        ensures others { AllZip IsOther (map (λ hand. hand.turn) self.entry) result }
     {
         let Hands {
             list,
@@ -130,6 +136,7 @@ fn leave_all<'a, D: Device>(mut hands: VecDeque<Hand<'a, D>>, passes: &mut VecDe
     requires others { All (λ hand. hand.pass.number ≢ 0) hands.items }
     requires none { passes.old.items ≡ [] }
     requires room { deque_len hands ≤ deque_capacity passes.old }
+    ensures same { passes.new.items ≡ map (λ hand. hand.pass) hands.entry.items }
     ensures passes { AllZip IsOther (map (λ hand. hand.turn) hands.entry.items) passes.new.items }
     ensures capacity { deque_capacity passes.new ≡ deque_capacity passes.old }
     ensures len { deque_len passes.new ≡ deque_len hands.entry }

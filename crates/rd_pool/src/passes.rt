@@ -1,6 +1,6 @@
 //! Passes of desks, in the order of the desks.
 
-ghost use Rattle.std.specs.Prelude.{◌≡◌, ◌++◌, ◌∷◌, [], IfOk, IfErr, OnOk, OnErr};
+ghost use Rattle.std.specs.Prelude.{◌≡◌, ◌++◌, ◌∷◌, [], IfErr, OnOk, OnErr};
 ghost use Rattle.std.specs.Option.{option_to_list};
 
 use rd_desk::Desk;

@@ -1,10 +1,10 @@
 //! Workers: each has a hand at every desk, and works where it is rung for.
 
-ghost use Rattle.std.specs.Prelude.{◌≡◌, ◌<◌, ◌+◌, ◌-◌, [], length, map, All, IfOk, OnOk, OnErr};
+ghost use Rattle.std.specs.Prelude.{◌≡◌, ◌<◌, ◌≤◌, ◌+◌, ◌-◌, ℕ, Option, [], length, map, All, IfOk, OnOk, OnErr};
 ghost use Rattle.std.specs.List.{AllZip};
 ghost use Rattle.std.specs.Thread.{IsSend, IsSync};
 ghost use Rattle.rd_turn.specs.Pass.{after_split, max_made};
-ghost use Rattle.rd_pool.specs.Desks.{IsFirst, IsOther};
+ghost use Rattle.rd_pool.specs.Desks.{IsFirst, IsOther, KeepsMoment};
 
 use crate::bell::Bell;
 use crate::desks::Desks;
@@ -32,6 +32,7 @@ pub(crate) fn work_at<'a, D: Device, T: Wait, X: Outside>(
     ensures none { result ≡ [] }
     ensures turn { hand.new.turn ≡ hand.old.turn }
     ensures number { hand.new.pass.number ≡ hand.old.pass.number }
+    ensures moments { KeepsMoment (X.moment outside.now) hand.old.pass → KeepsMoment (X.moment outside.now) hand.new.pass }
 {
     let mut batch = batch;
     for _ in rt.forever() {
@@ -61,8 +62,10 @@ fn work<'a, D: Device + Drop, T: Wait, X: Outside>(
     batch: Batch,
 ) -> Passes<D>
     requires none { batch ≡ [] }
-    requires places { (bell.now ≡ length hands) × (writer.now ≡ length hands) }
-    ensures { AllZip IsOther (map (λ hand. hand.turn) hands.entry) result }
+    requires places { (bell.now ≡ length hands) × (length hands ≤ writer.now) }
+    requires moments { All (KeepsMoment (X.moment outside.now)) (map (λ hand. hand.pass) hands) }
+    ensures others { AllZip IsOther (map (λ hand. hand.turn) hands.entry) result }
+    ensures moments { All (KeepsMoment (X.moment outside.entry.now)) result }
 {
     let mut hands = hands;
     let mut batch = batch;
@@ -85,6 +88,8 @@ fn begin<'a, D: Device + Drop>(
     ensures unchanged { OnErr result (passes.new ≡ passes.old) }
     ensures turns { IfOk result (λ both. map (λ hand. hand.turn) both.0 ≡ desks.now.turns) }
     ensures none { IfOk result (λ both. both.1 ≡ []) }
+    ensures moments { (told : Option ℕ) → All (KeepsMoment told) passes.old → All (KeepsMoment told) passes.new }
+    ensures new_moments { IfOk result (λ both. (told : Option ℕ) → All (KeepsMoment told) (map (λ hand. hand.pass) both.0)) }
 {
     let batch = Batch::new(alloc)?;
     let hands = Hands::new(alloc, desks, passes)?;
@@ -112,11 +117,12 @@ pub fn with_workers<
 ) -> (B, Passes<D>)
     requires first { AllZip IsFirst desks.now.turns passes }
     requires few { All (λ p. p.made + workers < max_made) passes }
-    requires places { (bell.now ≡ length desks.now.turns) × (writer.now ≡ length desks.now.turns) }
+    requires places { (bell.now ≡ length desks.now.turns) × (length desks.now.turns ≤ writer.now) }
     requires part { F.pre part }
     ensures part { F.post part result.0 }
     ensures first { AllZip IsFirst desks.now.turns result.1 }
     ensures out { map (λ p. p.out) result.1 ≡ map (λ p. p.out) passes }
+    ensures moments { All (KeepsMoment (X.moment outside.now)) passes → All (KeepsMoment (X.moment outside.now)) result.1 }
 {
     if workers == 0 {
         return (part(), passes);
@@ -128,12 +134,13 @@ pub fn with_workers<
     let (others, (value, mut passes)) = join(
         rt,
         || -> Passes<D>
-            requires { IsSync R.row × IsSync X.row × IsSend D.row × (batch ≡ []) × (bell.now ≡ length hands) × (writer.now ≡ length hands) }
-            ensures { AllZip IsOther (map (λ hand. hand.turn) hands.entry) result }
+            requires { IsSync R.row × IsSync X.row × IsSend D.row × (batch ≡ []) × (bell.now ≡ length hands) × (length hands ≤ writer.now) × All (KeepsMoment (X.moment outside.now)) (map (λ hand. hand.pass) hands) }
+            ensures { AllZip IsOther (map (λ hand. hand.turn) hands.entry) result × All (KeepsMoment (X.moment outside.entry.now)) result }
         { work(rt, outside, bell, writer, hands, batch) },
         || -> (B, Passes<D>)
-            requires { IsSync R.row × IsSync X.row × IsSend D.row × AllZip IsFirst desks.now.turns passes × All (λ p. p.made + (workers - 1) < max_made) passes × (bell.now ≡ length desks.now.turns) × (writer.now ≡ length desks.now.turns) × F.pre part × (0 < workers) }
-            ensures { F.post part result.0 × AllZip IsFirst desks.entry.now.turns result.1 × (map (λ p. p.out) result.1 ≡ map (λ p. p.out) passes) }
+            requires { IsSync R.row × IsSync X.row × IsSend D.row × AllZip IsFirst desks.now.turns passes × All (λ p. p.made + (workers - 1) < max_made) passes × (bell.now ≡ length desks.now.turns) × (length desks.now.turns ≤ writer.now) × F.pre part × (0 < workers) }
+            ensures { F.post part result.0 × AllZip IsFirst desks.entry.now.turns result.1 × (map (λ p. p.out) result.1 ≡ map (λ p. p.out) passes)
+                × (All (KeepsMoment (X.moment outside.entry.now)) passes → All (KeepsMoment (X.moment outside.entry.now)) result.1) }
         {
             with_workers(
                 rt,

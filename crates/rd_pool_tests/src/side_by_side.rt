@@ -1,6 +1,6 @@
 //! Two drives with a job each, and two workers, of which the one at the first drive is held up until what the other did was collected.
 
-ghost use Rattle.std.specs.Prelude.{◌≡◌, suc, length, map, ◌<◌, All, IfOk, OnOk, IfSome};
+ghost use Rattle.std.specs.Prelude.{◌≡◌, suc, length, map, ◌<◌, All, IfOk, OnOk, IfSome, Some};
 ghost use Rattle.std.specs.List.{AllZip};
 ghost use Rattle.rd_turn.specs.Pass.{after_split, max_made};
 ghost use Rattle.rd_pool.specs.Desks.{IsFirst, IsOther};
@@ -18,7 +18,7 @@ use std::thread;
 use std::thread::Threads;
 
 /// How often anybody looks at most, with a yield after each look.
-const LOOKS: u32 = 1_000_000;
+pub(crate) const LOOKS: u32 = 1_000_000;
 
 /// Holds up whoever took a job at the first desk, until it is told to go on.
 #[derive(Drop)]
@@ -28,6 +28,8 @@ pub struct Held {
 }
 
 impl Outside for Held {
+    ghost moment = { λ held. Some 5 };
+
     fn batch(&self, place: usize, worked: Worked) -> Batch {
         if place == 0 && worked.count() > 0 {
             for _ in 0..LOOKS {

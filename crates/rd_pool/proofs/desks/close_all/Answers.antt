@@ -1,11 +1,10 @@
-use Rattle.std.proofs.Common.{rules, ◌≡◌, ◌∙◌, ap, subst, sym, List, [], ◌∷◌}
-use Rattle.std.specs.Prelude.{All}
-use Rattle.std.specs.List.{AllZip, zip}
-use Rattle.std.proofs.lemmas.List.Elements.{All-head, All-same, All-tail}
+use Rattle.std.proofs.Common.{rules, ◌≡◌, subst, sym, [], ◌∷◌}
+use Rattle.std.specs.List.{zip}
+use Rattle.std.proofs.lemmas.List.Elements.{All-same, All-tail}
 use Rattle.rd_station.specs.Station.{StationState}
 use Rattle.rd_turn.specs.History.{Leads}
 use Rattle.rd_desk.specs.Desk.{DeskStep}
-use Rattle.rd_pool.specs.Desks.{DeskPass, DeskTurn, IsClosed, IsFirst}
+use Rattle.rd_pool.specs.Desks.{DeskPass, IsClosed, IsFirst}
 use Rattle.rd_pool.proofs.DeskLemmas.{all_give}
 use Rattle.rd_pool.proofs.ZipLemmas.{zip_cons, zip_first, zip_nothing, zip_some, zips_all, zips_next}
 use Rattle.rd_pool.proofs.desks.close_all.Goals as goal
@@ -31,7 +30,7 @@ loop-turn-preserved g c =
     record {
       closed = zips_next (IsClosed g.D.Device.runs g.D.Device.parked g.D.Device.cuts) (zip c.args.turns.items c.args.passes.items) (zip c.loop-turn.turns.items c.loop-turn.passes.items) (zip ts ps) c.loop-turn.stations.items c.push_back_reserved.new.self.items
           (t, p) c.station.inside.station (zip_cons t ts c.loop-turn.turns.items p ps c.loop-turn.passes.items turns passes) c.push_back_reserved.ensures.items
-          (record { leads = leads; all = c.close.ensures.all; numbers = c.close.ensures.numbers first.0.number; gives = all_give t p first.0 c.close.ensures.all }) kept.closed;
+          (record { number = first.0.number; leads = leads; all = c.close.ensures.all; numbers = c.close.ensures.numbers first.0.number; gives = all_give t p first.0 c.close.ensures.all }) kept.closed;
       first = first.1;
       home = All-tail (λ (q : DeskPass g.row.D.Denot). q.out ≡ 0) p ps (All-same (λ (q : DeskPass g.row.D.Denot). q.out ≡ 0) (p ∷ ps) c.loop-turn.passes.items (sym passes) kept.home);
       room = search rules;

@@ -1,10 +1,11 @@
-use Rattle.std.proofs.Common.{subst}
+use Rattle.std.proofs.Common.{subst, Some}
 use Rattle.rd_station.specs.Station.{StationState}
 use Rattle.rd_station.proofs.Calls.{reached_kept}
 use Rattle.rd_turn.specs.History.{Leads}
 use Rattle.rd_desk.specs.Desk.{DeskStep}
 use Rattle.rd_desk.proofs.StepLemmas.{led_reached, led_steps}
-use Rattle.rd_desk.proofs.RunLemmas.{history_own, history_tied}
+use Rattle.rd_desk.proofs.RunLemmas.{history_own, history_then, history_tied}
+use Rattle.rd_pool.proofs.MomentLemmas.{all_keep}
 use Rattle.rd_pool.proofs.laws.stations_are_as_their_calls_left_them.Goals as goal
 
 pub returns-clause-steps : goal.returns-clause-steps
@@ -23,3 +24,6 @@ pub returns-clause-tied : goal.returns-clause-tied
 returns-clause-tied g c step cut device turn p s by none opened is =
     history_tied g.D.Device.runs g.D.Device.parked g.D.Device.cuts step cut device s p.seen p.made by none
     (subst (λ (o : StationState g.row.D.Denot). Leads (DeskStep g.D.Device.runs g.D.Device.parked g.D.Device.cuts) o p.seen s) opened is.leads) is.numbers is.gives
+
+pub returns-clause-moments : goal.returns-clause-moments
+returns-clause-moments g c told turn p s is keeps = history_then told g.D.Device.runs g.D.Device.parked g.D.Device.cuts turn.opening s p.seen p.made is.leads is.numbers (all_keep (Some told) p is.number keeps is.all)

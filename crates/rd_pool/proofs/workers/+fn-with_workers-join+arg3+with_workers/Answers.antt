@@ -1,11 +1,11 @@
-use Rattle.std.proofs.Common.{rules, ◌≡◌, ◌≢◌, ◌∙◌, ◌+◌, ◌-◌, ◌<◌, ap, subst, sym, List, length, map, arith}
+use Rattle.std.proofs.Common.{rules, ◌≡◌, ◌∙◌, ◌+◌, ◌-◌, ◌<◌, ap, subst, sym, List, length, map}
 use Rattle.std.specs.Prelude.{All}
 use Rattle.std.specs.List.{AllZip}
 use Rattle.std.proofs.lemmas.List.{length-map}
 use Rattle.std.proofs.lemmas.List.Elements.{All-same}
 use Rattle.rd_turn.specs.Pass.{after_split, max_made}
 use Rattle.rd_desk.specs.Hand.{HandState}
-use Rattle.rd_pool.specs.Desks.{DeskPass, DeskTurn, IsFirst, IsOther}
+use Rattle.rd_pool.specs.Desks.{DeskPass, DeskTurn, IsFirst, IsOther, KeepsMoment}
 use Rattle.rd_pool.proofs.DeskLemmas.{outs_home, still_few, still_first}
 use Rattle.rd_pool.proofs.workers.+fn-with_workers-join+arg3+with_workers.Goals as goal
 
@@ -19,6 +19,7 @@ join-others-requires-after_bounds g n c =
     let few : All (λ (p : DeskPass g.row.D.Denot). p.made + (c.args.workers - 1) < max_made) passes =
     All-same (λ (p : DeskPass g.row.D.Denot). p.made + (c.args.workers - 1) < max_made) passes (map after_split c.args.passes) kept (still_few c.args.workers c.args.passes some c.requires.few) in
     let hands : length turns ≡ length c.in-Ok.both.0 = sym (ap length c.in-Ok.ensures.turns) ∙ length-map c.in-Ok.both.0 (λ (hand : HandState g.row.D.Denot). hand.turn) in
+    let moments : All (KeepsMoment (g.X.Outside.moment c.args.outside.now)) (map (λ (hand : HandState g.row.D.Denot). hand.pass) c.in-Ok.both.0) = c.in-Ok.ensures.new_moments (g.X.Outside.moment c.args.outside.now) in
     search rules
 
 pub returns-clause-out : goal.returns-clause-out
@@ -32,3 +33,10 @@ returns-clause-out g n c =
     let left : AllZip IsOther (map (λ (hand : HandState g.row.D.Denot). hand.turn) c.in-Ok.both.0) others = search rules in
     let other : AllZip IsOther turns others = subst (λ (l : List (DeskTurn g.row.D.Denot)). AllZip IsOther l others) c.in-Ok.ensures.turns left in
     outs_home turns c.args.passes c.begin.new.passes home others c.join.new.passes kept same first other c.join.ensures.joined
+
+pub returns-clause-moments : goal.returns-clause-moments
+returns-clause-moments g n c keeps =
+    let told = g.X.Outside.moment c.args.outside.now in
+    let others : All (KeepsMoment told) c.join-others.result.0 = search rules in
+    let home : All (KeepsMoment told) c.begin.new.passes → All (KeepsMoment told) c.join-others.result.1.1 = search rules in
+    c.join.ensures.moments told (home (c.begin.ensures.moments told keeps)) others

@@ -1,6 +1,7 @@
 use Rattle.std.proofs.Common.{rules, ◌≡◌, ◌∙◌, ap, ℕ, List, [], ◌∷◌, ◌++◌}
 use Rattle.rd_pool.specs.Desks.{DeskPass, DeskTurn, DesksState}
 use Rattle.rd_pool.proofs.DeskLemmas.{desks_same, more_first}
+use Rattle.rd_pool.proofs.MomentLemmas.{first_keeps}
 use Rattle.rd_pool.proofs.desks.Desks.add.Goals as goal
 
 pub returns-clause-added : goal.returns-clause-added
@@ -22,3 +23,8 @@ returns-clause-first g c =
     more_first c.args.self.now.turns c.push_back_reserved.new.self.items c.args.passes.now c.add.new.self t c.in-Ok.both.1
     (c.push_back_reserved.ensures.items ∙ ap (λ (l : List (DeskTurn g.row.D.Denot)). l ++ t ∷ []) (c.reserve-else-is_err.ensures.items ∙ ap (λ (d : DesksState g.row.D.Denot). d.turns) c.self.view_is))
     added c.in-Ok.ensures.pass c.requires.first
+
+pub returns-clause-moments : goal.returns-clause-moments
+returns-clause-moments g c told =
+    let added : c.add.new.self ≡ c.args.passes.now ++ c.in-Ok.both.1 ∷ [] = search rules in
+    first_keeps told c.in-Ok.both.0 c.args.passes.now c.add.new.self c.in-Ok.both.1 added c.in-Ok.ensures.pass

@@ -1,7 +1,9 @@
-use Rattle.std.proofs.Common.{rules, ◌≡◌, ◌∙◌, ap, sym, List, length, get_or, set}
+use Rattle.std.proofs.Common.{rules, ◌≡◌, ◌∙◌, ap, subst, sym, ℕ, ◌<◌, List, length, get_or, set}
+use Rattle.std.proofs.lemmas.List.Elements.{All-same, All-set}
 use Rattle.std.proofs.lemmas.Slice.Zip.{AllZip-long}
-use Rattle.rd_pool.specs.Desks.{DeskPass, DesksState, IsOther}
+use Rattle.rd_pool.specs.Desks.{DeskPass, DesksState, IsOther, KeepsMoment}
 use Rattle.rd_pool.proofs.DeskLemmas.{other_at, other_set, still_other}
+use Rattle.rd_pool.proofs.MomentLemmas.{idle_keeps}
 use Rattle.rd_pool.proofs.desks.Desks.call.Goals as goal
 
 pub index_mut-requires : goal.index_mut-requires
@@ -32,3 +34,13 @@ returns-clause-called g c = (
   ap (λ (l : List (DeskPass g.row.D.Denot)). set l c.args.place c.call.new.pass) c.passes.view_is,
   c.call.ensures.called,
 )
+
+pub returns-clause-moments : goal.returns-clause-moments
+returns-clause-moments g c told keeps =
+    let p = c.index_mut.result.now in
+    let q = c.call.new.pass in
+    let len : length c.args.passes.now ≡ length c.args.self.now.turns = AllZip-long IsOther c.args.self.now.turns c.args.passes.now c.requires.others in
+    let here : get_or c.args.passes.now c.args.place p ≡ p = sym (c.index_mut.ensures.value ∙ ap (λ (l : List (DeskPass g.row.D.Denot)). get_or l c.args.place p) c.passes.view_is) in
+    let before : KeepsMoment told p = subst (KeepsMoment told) here (keeps c.args.place p (subst (λ (n : ℕ). c.args.place < n) (sym len) c.requires.place)) in
+    All-set (KeepsMoment told) c.passes.inside.list.items c.args.place q (idle_keeps told p q c.args.call c.call.result c.call.ensures.same c.call.ensures.called c.requires.idle before)
+    (All-same (KeepsMoment told) c.passes.inside.list.items c.args.passes.now c.passes.view_is keeps)

@@ -1,0 +1,2 @@
+pub mod IncomingLemmas
+pub mod OutgoingLemmas

@@ -1,0 +1,13 @@
+pub mod AskedLemmas
+pub mod CauseLemmas
+pub mod ChannelLemmas
+pub mod ComesLemmas
+pub mod DeedLemmas
+pub mod HeldLemmas
+pub mod KeyLemmas
+pub mod LiftLemmas
+pub mod OrderLemmas
+pub mod StandingLemmas
+pub mod StationLemmas
+pub mod WalkLemmas
+pub mod WorkLemmas

@@ -1,0 +1,4 @@
+pub mod Served
+pub mod Parts
+pub mod Histories
+pub mod Deeds
