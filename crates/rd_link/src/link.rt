@@ -29,6 +29,14 @@ pub trait Linker {
     /// How many faults settled halves had. The count stands still at 2^64 - 1.
     ghost trouble: { Self → ℕ };
 
+    /// How many calls of `connect` failed.
+    fn count_failures(&self) -> u64
+        ensures { result ≡ failures self.now };
+
+    /// How many faults settled halves had.
+    fn count_trouble(&self) -> u64
+        ensures { result ≡ trouble self.now };
+
     /// Gives the two halves of the next channel, which had no fault yet. It may wait for the other side. A call that fails counts in
     /// `failures`.
     fn connect(&mut self) -> Result<(Self::In, Self::Out), Failed>

@@ -143,6 +143,14 @@ impl Linker for MemLinker {
 
     ghost trouble = { λ l. l.trouble };
 
+    fn count_failures(&self) -> u64 {
+        self.failures
+    }
+
+    fn count_trouble(&self) -> u64 {
+        self.trouble
+    }
+
     /// Fails where its number is one of those that fail, and where no channel is left.
     fn connect(&mut self) -> Result<(MemIn, MemOut), Failed>
         ensures failures { CountsFault result self.old.failures self.new.failures }

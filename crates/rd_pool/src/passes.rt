@@ -1,6 +1,6 @@
 //! Passes of desks, in the order of the desks.
 
-ghost use Rattle.std.specs.Prelude.{◌≡◌, ◌++◌, ◌∷◌, [], IfErr, OnOk, OnErr};
+ghost use Rattle.std.specs.Prelude.{◌≡◌, ◌++◌, ◌∷◌, [], IfErr, IfNone, OnErr, OnOk};
 ghost use Rattle.std.specs.Option.{option_to_list};
 
 use rd_desk::Desk;
@@ -43,7 +43,8 @@ impl<D: Device> Passes<D> {
 
     /// The first pass, without the others.
     pub fn next(&mut self) -> Option<Pass<Desk<D>>>
-        ensures { self.old ≡ option_to_list result ++ self.new }
+        ensures first { self.old ≡ option_to_list result ++ self.new }
+        ensures none { IfNone result (self.old ≡ []) }
     {
         self.list.pop_front()
     }

@@ -51,6 +51,13 @@ impl Faults {
         }
     }
 
+    /// How many there were. The count stands still at 2^64 - 1.
+    pub fn count(&self) -> u64
+        ensures { result ≡ self.now }
+    {
+        self.count
+    }
+
     pub fn last(&self) -> Option<&Error> {
         self.last.as_ref()
     }

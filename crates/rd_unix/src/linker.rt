@@ -96,6 +96,14 @@ impl<R: Files + Net> Linker for UnixLinker<'_, R> {
 
     ghost trouble = { λ l. l.trouble };
 
+    fn count_failures(&self) -> u64 {
+        self.failures.count()
+    }
+
+    fn count_trouble(&self) -> u64 {
+        self.trouble.count()
+    }
+
     fn connect(&mut self) -> Result<(UnixIn, UnixOut), Failed> {
         match self.place.stream(self.rt).and_then(halves_of) {
             Ok(halves) => Ok(halves),

@@ -1,0 +1,8 @@
+use Rattle.std.proofs.Common.{◌≡◌}
+use Rattle.rd_workers.proofs.reader.Reader.do_all.Given as goal
+
+abbrev pub invariant-loop : goal.invariant-loop
+invariant-loop g l = l.self ≡ l.fn.self
+
+abbrev pub invariant-loop-2 : goal.invariant-loop-2
+invariant-loop-2 g l = l.self ≡ l.fn.self

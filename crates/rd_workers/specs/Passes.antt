@@ -1,0 +1,49 @@
+-- What the calls of a client's threads leave as it is, so that all passes come home at the end.
+use Rattle.std.specs.Prelude.{◌≡◌, ℕ, List, All}
+use Rattle.rd_front.specs.State.{DeviceDeskState, SessionPass}
+use Rattle.rd_pool.specs.Desks.{DeskPass, DeskTurn}
+use Rattle.rd_turn.specs.Pass.{Belongs, PassState, TurnId}
+use Rattle.rd_world.specs.declared.device.SessionDevice.{SessionDevice}
+
+-- a turn and a pass of it: the pass's number, how many passes were split from it, and how many of these weren't joined
+pub record CallerId (O : Type 0) : Type 0 where
+  pub turn : TurnId O
+  pub number : ℕ
+  pub made : ℕ
+  pub out : ℕ
+
+abbrev pub caller_id : {O C R : Type 0} → TurnId O → PassState O C R → CallerId O
+caller_id turn p = record { turn = turn; number = p.number; made = p.made; out = p.out }
+
+-- what a writer calls the front by
+pub record WriterState (F : Type 0) : Type 0 where
+  pub front : CallerId F
+
+-- what a reader calls the front and the writer by, and the turns of the desks that it has hands at
+pub record ReaderState (F : Type 0) : Type 0 where
+  pub front : CallerId F
+  pub writer : CallerId (WriterState F)
+  pub desks : List (DeskTurn SessionDevice)
+
+-- no passes were split from these
+abbrev pub AreNew : {S : Type 0} → List (DeskPass S) → Type 0
+AreNew passes = All (λ p. (p.made ≡ 0) × (p.out ≡ 0)) passes
+
+-- a pass 0 from which none was split
+abbrev pub IsUnused : {O C R : Type 0} → PassState O C R → Type 0
+IsUnused p = (p.number ≡ 0) × (p.made ≡ 0) × (p.out ≡ 0)
+
+-- a pass 0 to which all others were joined
+abbrev pub IsHome : {O C R : Type 0} → PassState O C R → Type 0
+IsHome p = (p.number ≡ 0) × (p.out ≡ 0)
+
+-- A pass of a turn comes back from whoever called by it.
+pub record ComesBack {O C R : Type 0} (turn : TurnId O) (old new : PassState O C R) : Type 0 where
+  pub own : Belongs turn new
+  pub number : new.number ≡ old.number
+  pub made : new.made ≡ old.made
+  pub out : new.out ≡ old.out
+
+-- a pass is that of a desk, and belongs to its turn
+abbrev pub IsPassOf : DeviceDeskState → SessionPass → Type 0
+IsPassOf d p = Belongs d.turn p × (p ≡ d.pass)

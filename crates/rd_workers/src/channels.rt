@@ -1,0 +1,162 @@
+//! One channel after the other.
+
+ghost use Rattle.std.specs.Prelude.{◌≡◌, ◌<◌, ◌≤◌, length, IfErr, IfOk, IfSome};
+ghost use Rattle.rd_workers.specs.Faults.{Counts, EndsSession, IsOtherEnd, TellsFaults, is_unread};
+ghost use Rattle.rd_world.specs.Opening.{AreDeclared};
+
+use crate::due::Due;
+use crate::reader::{Ending, Reader};
+use rd_carry::{Ended, Incoming, Outgoing};
+use rd_front::{FrontCall, FrontReply};
+use rd_link::Linker;
+use rd_pool::Outside;
+use rd_script::{Line, NumberedLine};
+use rd_turn::Object;
+use rd_world::settings_of;
+use std::alloc::Global;
+use std::sync::Wait;
+
+/// What a client does, by its script.
+#[derive(Clone, Copy)]
+pub(crate) struct Plan<'s> {
+    pub(crate) lines: &'s [NumberedLine],
+    /// How many channels it serves.
+    pub(crate) channels: u32,
+    pub(crate) workers: u32,
+}
+
+/// What these lines make a client do.
+pub(crate) fn plan_of<'s>(lines: &'s [NumberedLine]) -> Plan<'s>
+    requires { AreDeclared lines.now }
+    ensures lines { result.lines.now ≡ lines.now }
+    ensures few { result.workers ≤ 16 }
+{
+    Plan {
+        lines,
+        channels: channels_of(lines),
+        workers: settings_of(lines).hands,
+    }
+}
+
+/// How many channels lines are for: as many as the last of them that says it.
+fn channels_of(lines: &[NumberedLine]) -> u32 {
+    let mut channels = 1;
+    for line in lines {
+        if let Line::Channels { count } = &line.line {
+            channels = *count;
+        }
+    }
+    channels
+}
+
+/// Serves one channel after the other, with this buffer for what is read.
+pub(crate) fn serve_channels<
+    's,
+    'w,
+    'f,
+    'g,
+    'a,
+    F: Object<Call = FrontCall, Reply = FrontReply>,
+    T: Wait,
+    L: Linker,
+    X: Outside,
+>(
+    alloc: Global,
+    plan: Plan<'_>,
+    linker: &mut L,
+    reader: &mut Reader<'s, 'w, 'f, 'g, 'a, F, T, L::Out, X>,
+    buffer: Vec<u8>,
+) -> Ended
+    requires { 0 < length buffer.items }
+    ensures kept { reader.new ≡ reader.old }
+    ensures faults { TellsFaults result (L.failures linker.old) (L.failures linker.new) (L.trouble linker.old) (L.trouble linker.new) }
+{
+    let mut due = Due::new(plan.lines);
+    let mut buffer = buffer;
+    let mut troubled = false;
+    for channel in 1..=plan.channels {
+        match serve_channel(alloc, channel, linker, reader, &mut due, buffer) {
+            Ok((back, fault)) => {
+                buffer = back;
+                troubled |= fault;
+            }
+            Err(ended) => return ended,
+        }
+    }
+    if troubled { Ended::Link } else { Ended::Over }
+}
+
+/// Serves the next channel. Gives the buffer back, and whether a read or a write failed; or what ends the session.
+fn serve_channel<
+    's,
+    'w,
+    'f,
+    'g,
+    'a,
+    F: Object<Call = FrontCall, Reply = FrontReply>,
+    T: Wait,
+    L: Linker,
+    X: Outside,
+>(
+    alloc: Global,
+    channel: u32,
+    linker: &mut L,
+    reader: &mut Reader<'s, 'w, 'f, 'g, 'a, F, T, L::Out, X>,
+    due: &mut Due<'_>,
+    buffer: Vec<u8>,
+) -> Result<(Vec<u8>, bool), Ended>
+    requires { 0 < length buffer.items }
+    ensures kept { reader.new ≡ reader.old }
+    ensures room { IfOk result (λ given. 0 < length given.0.items) }
+    ensures connected { IfOk result (λ given. L.failures linker.new ≡ L.failures linker.old) }
+    ensures counted { IfOk result (λ given. Counts given.1 (L.trouble linker.old) (L.trouble linker.new)) }
+    ensures ended { IfErr result (λ ended. EndsSession ended (L.failures linker.old) (L.failures linker.new)) }
+{
+    let Ok((input, output)) = linker.connect() else {
+        return Err(Ended::Link);
+    };
+    let output = Outgoing::new(output, Vec::new(alloc));
+    if let Err(output) = reader.begin(channel, output) {
+        let (output, _frames) = output.into_parts();
+        linker.settle(input, output);
+        return Err(Ended::Memory);
+    }
+    let mut incoming = Incoming::new(alloc, input, buffer);
+    let ending = reader.read(channel, due, &mut incoming);
+    let (input, buffer) = incoming.into_parts();
+    let (output, starved) = reader.end();
+    let Some(output) = output else {
+        return Err(Ended::Memory);
+    };
+    let failed = output.failed();
+    let (output, _frames) = output.into_parts();
+    linker.settle(input, output);
+    match ended_by(channel, ending, starved) {
+        Some(ended) => Err(ended),
+        None => Ok((buffer, failed || is_unread(ending))),
+    }
+}
+
+/// Whether a channel is read no further since a read failed.
+fn is_unread(ending: Ending) -> bool
+    ensures { result ≡ is_unread ending }
+{
+    matches!(ending, Ending::Unread)
+}
+
+/// What ends the session, where a channel's end does.
+fn ended_by(channel: u32, ending: Ending, starved: bool) -> Option<Ended>
+    ensures { IfSome result IsOtherEnd }
+{
+    match ending {
+        Ending::Fault { at, message, why } => Some(Ended::Channel {
+            channel,
+            at,
+            message,
+            why,
+        }),
+        Ending::Long => Some(Ended::Long),
+        Ending::Memory => Some(Ended::Memory),
+        _ => { if starved { Some(Ended::Memory) } else { None } }
+    }
+}

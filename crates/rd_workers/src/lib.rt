@@ -1,0 +1,14 @@
+//! A client over sockets: the thread that calls it reads, one beside it writes, and workers run the requests of its devices.
+#![tactic(auto)]
+
+mod bells;
+mod channels;
+mod counted;
+mod due;
+mod places;
+mod reader;
+mod session;
+mod storing;
+mod writer;
+
+pub use session::serve_client;
