@@ -85,6 +85,12 @@ two_items (x ∷ []) d e least below = absurd (omega (arith, least))
 two_items (x ∷ y ∷ []) d e least below = refl
 two_items (x ∷ y ∷ z ∷ xs) d e least below = absurd (omega (arith, below))
 
+pub two_words : {X : Type 0} (bytes : X → List ℕ) (xs : List X) (x y : X) (first second : List ℕ) → 2 ≤ length xs → length xs < 3 → x ≡ get_or xs 0 x → y ≡ get_or xs 1 y → bytes x ≡ first → bytes y ≡ second
+    → map bytes xs ≡ first ∷ second ∷ []
+two_words bytes xs x y first second least below is_x is_y named said =
+    let both : xs ≡ x ∷ y ∷ [] = two_items xs x y least below ∙ ap₂ (λ (a b : _). a ∷ b ∷ []) (sym is_x) (sym is_y) in
+    ap (map bytes) both ∙ ap₂ (λ (a b : List ℕ). a ∷ b ∷ []) named said
+
 pub found_words : {X : Type 0} (bytes : X → List ℕ) (xs : List X) (x y : X) (found : Option ℕ) → 2 ≤ length xs → length xs < 3 → x ≡ get_or xs 0 x → y ≡ get_or xs 1 y → bytes x ≡ codes "load"
     → FindsLoadNumber (bytes y) found → FindsLoad (map bytes xs) found
 found_words bytes xs x y found least below first second named is =

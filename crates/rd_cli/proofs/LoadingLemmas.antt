@@ -32,6 +32,8 @@ stopped_script number output recording recording_after books (stop.Line line cau
 stopped_script number output recording recording_after books stop.Input other = absurd other
 stopped_script number output recording recording_after books stop.Output other = absurd other
 stopped_script number output recording recording_after books (stop.Fault fault) other = absurd other
+stopped_script number output recording recording_after books (stop.Channel channel at message why) other = absurd other
+stopped_script number output recording recording_after books stop.Link other = absurd other
 stopped_script number output recording recording_after books stop.Long other = absurd other
 
 pub stopped_loading : {K R : Type 0} (number : ℕ) (script : Script) (output : Stream K) (recording recording_after : Stream R) (books : List (ℕ × History)) (s : Stop)
@@ -56,6 +58,8 @@ printed {T} number output output_after recording recording_after books script to
     by (Err stop.Input) own prints = absurd prints
     by (Err stop.Recording) own prints = absurd prints
     by (Err (stop.Fault fault)) own prints = absurd prints
+    by (Err (stop.Channel channel at message why)) own prints = absurd prints
+    by (Err stop.Link) own prints = absurd prints
     by (Err stop.Long) own prints = absurd prints
 
 -- ---- the end, by the status
@@ -103,4 +107,6 @@ stopped_end number output middle output_after recording recording_after books st
 stopped_end number output middle output_after recording recording_after books (stop.Line line cause) status stopped said = absurd stopped
 stopped_end number output middle output_after recording recording_after books stop.Input status stopped said = absurd stopped
 stopped_end number output middle output_after recording recording_after books (stop.Fault fault) status stopped said = absurd stopped
+stopped_end number output middle output_after recording recording_after books (stop.Channel channel at message why) status stopped said = absurd stopped
+stopped_end number output middle output_after recording recording_after books stop.Link status stopped said = absurd stopped
 stopped_end number output middle output_after recording recording_after books stop.Long status stopped said = absurd stopped

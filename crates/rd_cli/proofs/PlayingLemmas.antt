@@ -1,15 +1,12 @@
 -- How the command `both` ends, from how it came out.
-use Rattle.std.proofs.Common.{◌≡◌, ◌≤◌, ℕ, List, [], ◌++◌, length, Option, Some, None, refl, sym, ap, subst, ◌∙◌, append-nil, inl, inr, arith}
-use Rattle.std.proofs.lemmas.Bool.{cases_lt}
+use Rattle.std.proofs.Common.{◌≡◌, ℕ, List, [], refl, sym, ap, subst, ◌∙◌, append-nil, inl, inr, arith}
 use Rattle.std.specs.Prelude.{◌⊎◌, Result, Ok, Err, IfErr, IsErrAnd}
-use Rattle.std.specs.Io.KnownBytes.{Consumes, IsAtEnd}
-use Rattle.std.proofs.lemmas.Option.{same_Some}
 use Rattle.rd_base.specs.History.{History}
 use Rattle.rd_script.specs.declared.outcome.Outcomes.{Outcomes}
 use Rattle.rd_script.specs.declared.script.Script.{Script}
 use Rattle.rd_script.specs.Report.{report_of}
 use Rattle.rd_script.specs.declared.keyword.Mode.TheVariants as mode
-use Rattle.rd_script.specs.Script.{BadLine, max_bytes, script_of}
+use Rattle.rd_script.specs.Script.{BadLine}
 use Rattle.rd_ended.proofs.CutRuns.{cut_off}
 use Rattle.rd_headline.proofs.SessionLemmas.{runs_are_whole}
 use Rattle.rd_loads.specs.AllPremises.{MeetPremises}
@@ -20,13 +17,14 @@ use Rattle.rd_world.specs.Wire.{CountsWire, IsCutRun}
 use Rattle.rd_world.specs.World.{WorldState}
 use Rattle.rd_world.specs.declared.event.StepNo.{StepNo}
 use Rattle.rd_world.specs.declared.event.StepNo.TheVariants as no
-use Rattle.rd_cli.proofs.LimitLemmas.{script_cut, script_short}
+use Rattle.rd_cli.proofs.ReadingLemmas.{script_not_bad, whole_not_bad}
 use Rattle.rd_cli.specs.declared.stop.Stop.{Stop}
 use Rattle.rd_cli.specs.declared.stop.Stop.TheVariants as stop
-use Rattle.rd_cli.specs.Outside.{IsFaultless, Outside, Read, ReadToEnd, Stream, Wrote}
+use Rattle.rd_cli.specs.Outside.{IsFaultless, Outside, Stream, Wrote}
 use Rattle.rd_cli.specs.Headline.{Played, PlayedToEnd}
+use Rattle.rd_cli.specs.Reading.{ReadsBadLine, ReadsScript, StopsForScript}
 use Rattle.rd_cli.specs.Stops.{Prints, StopsWith, early_stop}
-use Rattle.rd_cli.specs.Playing.{ComesOutOfBoth, IsEndOfBoth, FailedToReport, GivesBadLine, GivesScript, HasRead, ReadsBadLine, ReadsScript, RefusesScript, Starved, StarvedAfterSession, StarvedPlaying, StoppedEarly, StoppedPlaying, StopsForRecording}
+use Rattle.rd_cli.specs.Playing.{ComesOutOfBoth, IsEndOfBoth, FailedToReport, RefusesScript, Starved, StarvedAfterSession, StarvedPlaying, StoppedEarly, StoppedPlaying, StopsForRecording}
 
 -- what holds of the one error that a result may be
 pub err_is : {T E : Type 0} (r : Result T E) (e : E) (P : E → Type 0) → IsErrAnd r (λ s. s ≡ e) → P e → IfErr r P
@@ -38,9 +36,27 @@ pub stopped_with : {T S K R : Type 0} (before after : Outside S K R) (books : Li
 stopped_with before after books (Ok x) s is stopped = absurd is
 stopped_with before after books (Err e) s is stopped = subst (λ (e : Stop). StoppedPlaying before after books e) (sym is) stopped
 
--- a script that is short enough to be one was read to the input's end
-pub read_whole : {S : Type 0} (before after : Stream S) (text : List ℕ) (script : Script) → Read before after text → (length text ≤ max_bytes → IsAtEnd after.bytes) → script_of mode.Both text ≡ Ok script → ReadsScript before after script
-read_whole before after text script read whole is = record { text = text; read = record { read = read; ended = whole (script_short mode.Both text script is) }; script_is = is }
+-- want of memory before a script was played
+pub starved_unplayed : {S K R : Type 0} (before after : Outside S K R) (books : List (ℕ × History)) → IsFaultless before.input after.input → after.output ≡ before.output → after.recording ≡ before.recording → books ≡ [] → Starved before after books
+starved_unplayed before after books input silent unrecorded unstored = record {
+  faultless = record { input = input; output = ap (λ (o : Stream _). o.faults) silent; recording = ap (λ (o : Stream _). o.faults) unrecorded };
+  unprinted = silent;
+  recording = inl (unrecorded, unstored);
+}
+
+-- a stop of the reading of a script, where nothing else was touched
+pub stopped_reading : {S K R : Type 0} (before after : Outside S K R) (books : List (ℕ × History)) (s : Stop) → StopsForScript mode.Both before.input after.input s → after.output ≡ before.output → after.recording ≡ before.recording → books ≡ []
+    → StoppedPlaying before after books s
+stopped_reading before after books (stop.Line line cause) reads silent unrecorded unstored = (reads, silent, unrecorded, unstored)
+stopped_reading before after books stop.Input failed silent unrecorded unstored = (failed, silent, unrecorded, unstored)
+stopped_reading before after books stop.Memory faultless silent unrecorded unstored = starved_unplayed before after books faultless silent unrecorded unstored
+stopped_reading before after books stop.Words other silent unrecorded unstored = absurd other
+stopped_reading before after books stop.Output other silent unrecorded unstored = absurd other
+stopped_reading before after books stop.Recording other silent unrecorded unstored = absurd other
+stopped_reading before after books (stop.Fault fault) other silent unrecorded unstored = absurd other
+stopped_reading before after books (stop.Channel channel at message why) other silent unrecorded unstored = absurd other
+stopped_reading before after books stop.Link other silent unrecorded unstored = absurd other
+stopped_reading before after books stop.Long other silent unrecorded unstored = absurd other
 
 -- a session that stopped early
 pub stopped_early : {R : Type 0} (script : Script) (before after : Stream R) (books : List (ℕ × History)) (cause : StepNo) → MeetPremises script.lines
@@ -56,21 +72,13 @@ stopped_early {R} script before after books cause premises (x, cut) counted unst
     by no.Memory counted = inr (inl (record { stopped = stopped; faultless = counted; unstored = unstored }))
     by (no.Disabled event) counted = absurd counted
 
--- want of memory before a script was played
-pub starved_unplayed : {S K R : Type 0} (before after : Outside S K R) (books : List (ℕ × History)) → IsFaultless before.input after.input → after.output ≡ before.output → after.recording ≡ before.recording → books ≡ [] → Starved before after books
-starved_unplayed before after books input silent unrecorded unstored = record {
-  faultless = record { input = input; output = ap (λ (o : Stream _). o.faults) silent; recording = ap (λ (o : Stream _). o.faults) unrecorded };
-  unprinted = silent;
-  recording = inl (unrecorded, unstored);
-}
-
 -- want of memory in the midst of a session or after it counted no fault
 starved_faultless : {R : Type 0} (before after : Stream R) (books : List (ℕ × History)) (script : Script) → StarvedPlaying script before after books → IsFaultless before after
 starved_faultless before after books script (inl cut) = cut.faultless
 starved_faultless before after books script (inr ended) = ended.recorded.faultless
 
 -- want of memory while a script was played that was read, or after that
-starved_playing : {S K R : Type 0} (before after : Outside S K R) (books : List (ℕ × History)) (script : Script) → ReadsScript before.input after.input script → after.output ≡ before.output
+starved_playing : {S K R : Type 0} (before after : Outside S K R) (books : List (ℕ × History)) (script : Script) → ReadsScript mode.Both before.input after.input script → after.output ≡ before.output
     → StarvedPlaying script before.recording after.recording books → Starved before after books
 starved_playing before after books script reads silent starved = record {
   faultless = record {
@@ -106,7 +114,7 @@ played_starved script before after books told p =
     same = ((p.whole).run).did
 
 -- a stop of the playing of a script that was read
-pub stopped_playing : {S K R : Type 0} (before after : Outside S K R) (books : List (ℕ × History)) (script : Script) (s : Stop) → ReadsScript before.input after.input script → after.output ≡ before.output
+pub stopped_playing : {S K R : Type 0} (before after : Outside S K R) (books : List (ℕ × History)) (script : Script) (s : Stop) → ReadsScript mode.Both before.input after.input script → after.output ≡ before.output
     → StopsForRecording script before.recording after.recording books s → StoppedPlaying before after books s
 stopped_playing before after books script stop.Recording reads silent (failed, none) = (script, reads, failed, silent, none)
 stopped_playing before after books script stop.Memory reads silent (inl unplayed) = starved_unplayed before after books reads.read.read.faultless silent unplayed.0 unplayed.1
@@ -116,10 +124,12 @@ stopped_playing before after books script (stop.Line line cause) reads silent ot
 stopped_playing before after books script stop.Input reads silent other = absurd other
 stopped_playing before after books script stop.Output reads silent other = absurd other
 stopped_playing before after books script (stop.Fault fault) reads silent other = absurd other
+stopped_playing before after books script (stop.Channel channel at message why) reads silent other = absurd other
+stopped_playing before after books script stop.Link reads silent other = absurd other
 stopped_playing before after books script stop.Long reads silent other = absurd other
 
 -- how the command came out whose script was played, by what came of the printing of its report
-pub printed : {T S K R : Type 0} (before after : Outside S K R) (books : List (ℕ × History)) (script : Script) (told : Outcomes) (r : Result T Stop) → ReadsScript before.input after.input script
+pub printed : {T S K R : Type 0} (before after : Outside S K R) (books : List (ℕ × History)) (script : Script) (told : Outcomes) (r : Result T Stop) → ReadsScript mode.Both before.input after.input script
     → Played script before.recording after.recording books told → Prints (report_of script told books) before.output after.output r → ComesOutOfBoth before after books r
 printed before after books script told (Ok done) reads played prints =
     record { text = reads.text; script = script; told = told; read = reads.read; script_is = reads.script_is; played = played; reported = prints }
@@ -131,38 +141,9 @@ printed before after books script told (Err (stop.Line line cause)) reads played
 printed before after books script told (Err stop.Input) reads played prints = absurd prints
 printed before after books script told (Err stop.Recording) reads played prints = absurd prints
 printed before after books script told (Err (stop.Fault fault)) reads played prints = absurd prints
+printed before after books script told (Err (stop.Channel channel at message why)) reads played prints = absurd prints
+printed before after books script told (Err stop.Link) reads played prints = absurd prints
 printed before after books script told (Err stop.Long) reads played prints = absurd prints
-
--- ---- scripts and bad lines
--- No text is both.
-never_both : (text : List ℕ) (script : Script) (bad : BadLine) → script_of mode.Both text ≡ Ok script → script_of mode.Both text ≡ Err bad → ⊥
-never_both text script bad is refused = cc (is, refused)
-
--- A text that was read of a script has no line that is refused.
-script_not_bad : {S : Type 0} (before after : Stream S) (text : List ℕ) (bad : BadLine) → HasRead before after text → script_of mode.Both text ≡ Err bad → GivesScript before.bytes → ⊥
-script_not_bad before after text bad read refused (whole, script, is, played) = go before.bytes after.bytes is read.read.taken read.whole
-  where
-    go : (left rest : Option (List ℕ)) → left ≡ Some whole → Consumes left rest text → (length text ≤ max_bytes → IsAtEnd rest) → ⊥
-    go None rest is taken ended = absurd (cc)
-    go (Some xs) None is taken ended = absurd taken
-    go (Some xs) (Some ys) is taken ended =
-        let same : xs ≡ whole = same_Some _ _ is in
-        let parts : whole ≡ text ++ ys = sym same ∙ taken in
-        elim (cases_lt max_bytes (length text)) [
-          | inl long ↦ never_both whole script bad played (ap (script_of mode.Both) parts ∙ script_cut mode.Both text ys long ∙ refused)
-          | inr short ↦ never_both text script bad (ap (script_of mode.Both) (sym (parts ∙ ap (λ (l : List ℕ). text ++ l) (ended short) ∙ append-nil text)) ∙ played) refused
-        ]
-
--- A script that was read to the input's end is all of the input, of which then no line is refused.
-whole_not_bad : {S : Type 0} (before after : Stream S) (text : List ℕ) (script : Script) (bad : BadLine) → ReadToEnd before after text → script_of mode.Both text ≡ Ok script → GivesBadLine before.bytes bad → ⊥
-whole_not_bad before after text script bad read played (whole, is, refused) = go before.bytes after.bytes is read.read.taken read.ended
-  where
-    go : (left rest : Option (List ℕ)) → left ≡ Some whole → Consumes left rest text → IsAtEnd rest → ⊥
-    go None rest is taken ended = absurd (cc)
-    go (Some xs) None is taken ended = absurd taken
-    go (Some xs) (Some ys) is taken ended =
-        let text_is : whole ≡ text = sym (same_Some _ _ is) ∙ taken ∙ ap (λ (l : List ℕ). text ++ l) ended ∙ append-nil text in
-        never_both text script bad played (ap (script_of mode.Both) (sym text_is) ∙ refused)
 
 -- ---- the end, by the status
 -- A session that came to its end ends with 0.
@@ -174,7 +155,7 @@ played_end before after books played = record {
   unread = λ two. absurd (omega (arith, two));
   unwritten = λ three. absurd (omega (arith, three));
   starved = λ six. absurd (omega (arith, six));
-  refuses = λ bad gives. absurd (whole_not_bad before.input after.input played.text played.script bad played.read played.script_is gives);
+  refuses = λ bad gives. absurd (whole_not_bad mode.Both before.input after.input played.text played.script bad played.read played.script_is gives);
   completes = λ script. inl refl;
 }
 
@@ -201,7 +182,7 @@ refused_end before after books status is refused = record {
   unwritten = λ three. absurd (omega (arith, three, is));
   starved = λ six. absurd (omega (arith, six, is));
   refuses = λ bad gives. inl is;
-  completes = λ script. absurd (script_not_bad before.input after.input refused.reads.0 refused.bad refused.reads.1 refused.reads.2 script);
+  completes = λ script. absurd (script_not_bad mode.Both before.input after.input refused.reads.0 refused.bad refused.reads.1 refused.reads.2 script);
 }
 
 -- a failed read ends with 2
@@ -218,7 +199,7 @@ unread_end before after books status is stopped = record {
 }
 
 -- a failed write ends with 3
-unwritten_end : {S K R : Type 0} (before after : Outside S K R) (books : List (ℕ × History)) (status : ℕ) (script : Script) → status ≡ 3 → ReadsScript before.input after.input script
+unwritten_end : {S K R : Type 0} (before after : Outside S K R) (books : List (ℕ × History)) (status : ℕ) (script : Script) → status ≡ 3 → ReadsScript mode.Both before.input after.input script
     → StoppedPlaying before after books stop.Recording ⊎ StoppedPlaying before after books stop.Output → IsEndOfBoth before after books status
 unwritten_end before after books status script is reads stopped = record {
   known = inr (inr (inr (inl is)));
@@ -227,7 +208,7 @@ unwritten_end before after books status script is reads stopped = record {
   unread = λ two. absurd (omega (arith, two, is));
   unwritten = λ three. stopped;
   starved = λ six. absurd (omega (arith, six, is));
-  refuses = λ bad gives. absurd (whole_not_bad before.input after.input reads.text script bad reads.read reads.script_is gives);
+  refuses = λ bad gives. absurd (whole_not_bad mode.Both before.input after.input reads.text script bad reads.read reads.script_is gives);
   completes = λ gives. inr (inr (inl is));
 }
 
@@ -248,7 +229,7 @@ still_starved before middle output books starved same = record {
 }
 
 -- A refused line, which is said, or can't be put together.
-line_end : {S K R : Type 0} (before middle : Outside S K R) (output : Stream K) (books : List (ℕ × History)) (bad : BadLine) (status : ℕ) → ReadsBadLine before.input middle.input bad → middle.output ≡ before.output → middle.recording ≡ before.recording → books ≡ []
+line_end : {S K R : Type 0} (before middle : Outside S K R) (output : Stream K) (books : List (ℕ × History)) (bad : BadLine) (status : ℕ) → ReadsBadLine mode.Both before.input middle.input bad → middle.output ≡ before.output → middle.recording ≡ before.recording → books ≡ []
     → StopsWith (stop.Line bad.line bad.why) middle.output output status → IsEndOfBoth before (with_output middle output) books status
 line_end before middle output books bad status reads silent unrecorded unstored (inl said) =
     let says = subst (λ (o : Stream _). StopsWith (stop.Line bad.line bad.why) o output 1) silent (inl (refl, said.1)) in
@@ -269,4 +250,6 @@ stopped_end before middle output books stop.Output status stopped said =
 stopped_end before middle output books stop.Memory status stopped said = starved_end before (with_output middle output) books status said.0 (still_starved before middle output books stopped said.1)
 stopped_end before middle output books stop.Words status stopped said = absurd stopped
 stopped_end before middle output books (stop.Fault fault) status stopped said = absurd stopped
+stopped_end before middle output books (stop.Channel channel at message why) status stopped said = absurd stopped
+stopped_end before middle output books stop.Link status stopped said = absurd stopped
 stopped_end before middle output books stop.Long status stopped said = absurd stopped

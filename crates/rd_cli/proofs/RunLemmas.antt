@@ -1,62 +1,89 @@
--- How a run ends whose words came to no command.
+-- How a run ends whose words came to no command, or to a command of two words.
 use Rattle.std.proofs.Common.{◌≡◌, ◌∙◌, ℕ, List, [], ◌∷◌, length, get_or, refl, sym, ap, subst, inl, inr, arith}
-use Rattle.std.specs.Prelude.{codes}
+use Rattle.std.specs.Prelude.{codes, decimal}
 use Rattle.std.proofs.lemmas.Fmt.{decimal_injective}
 use Rattle.rd_base.specs.History.{History}
-use Rattle.rd_cli.specs.Outside.{Outside, Stream}
-use Rattle.rd_cli.specs.Shapes.{HasShape, StopsForWords}
+use Rattle.rd_cli.specs.Outside.{Linked, Outside, Stream}
+use Rattle.rd_cli.specs.Shapes.{HasShape, IsClient, StopsForWords}
 use Rattle.rd_cli.specs.Stops.{StopsWith}
+use Rattle.rd_cli.specs.Client.{IsEndOfClient}
 use Rattle.rd_cli.specs.Ends.{EndsCommand, IsEnd}
 use Rattle.rd_cli.specs.declared.words.Command.{Command}
 use Rattle.rd_cli.specs.declared.words.Command.TheVariants as command
 use Rattle.rd_cli.specs.declared.stop.Stop.{Stop}
 use Rattle.rd_cli.specs.declared.stop.Stop.TheVariants as stop
 use Rattle.rd_cli.proofs.PlayingLemmas.{starved_end, starved_unplayed, with_output}
+use Rattle.rd_cli.proofs.ClientLemmas as client
 use Rattle.rd_cli.proofs.DecodingLemmas as decoding
 use Rattle.rd_cli.proofs.LoadingLemmas as loading
 
 -- want of memory, before anything was touched, may end each command
-starved : {S K R : Type 0} (before : Outside S K R) (output : Stream K) (books : List (ℕ × History)) (status : ℕ) → status ≡ 6 → output ≡ before.output → books ≡ [] → (c : Command) → EndsCommand c before (with_output before output) books status
-starved before output books status is silent unstored command.Both =
-    starved_end before (with_output before output) books status is (starved_unplayed before (with_output before output) books refl silent refl unstored)
-starved before output books status is silent unstored command.Decode = (decoding.starved_end before.input before.input before.output output status is (decoding.untouched before.input before.output output silent), refl, unstored)
-starved before output books status is silent unstored (command.Load number) =
-    (loading.starved_end number before.output output before.recording before.recording books status is silent (inl (refl, unstored)), refl)
+starved : {S K R L : Type 0} (before : Outside S K R) (output : Stream K) (linked : Linked L) (books : List (ℕ × History)) (status : ℕ) → status ≡ 6 → output ≡ before.output → books ≡ [] → (c : Command)
+    → EndsCommand c before (with_output before output) linked linked books status
+starved before output linked books status is silent unstored command.Both =
+    (starved_end before (with_output before output) books status is (starved_unplayed before (with_output before output) books refl silent refl unstored), refl)
+starved before output linked books status is silent unstored command.Decode =
+    (decoding.starved_end before.input before.input before.output output status is (decoding.untouched before.input before.output output silent), refl, unstored, refl)
+starved before output linked books status is silent unstored (command.Load number) =
+    (loading.starved_end number before.output output before.recording before.recording books status is silent (inl (refl, unstored)), refl, refl)
+starved before output linked books status is silent unstored (command.Client path) =
+    (client.starved_end before.input before.input before.output output linked linked books status is (record { faultless = refl; unprinted = silent; session = inl (refl, unstored) }), refl)
 
 -- How a run ends, from why its words came to no command and what was said of it.
-pub no_command : {S K R : Type 0} (words : List (List ℕ)) (before : Outside S K R) (output : Stream K) (books : List (ℕ × History)) (s : Stop) (status : ℕ)
-    → StopsForWords words s → books ≡ [] → StopsWith s before.output output status → IsEnd words before (with_output before output) books status
-no_command words before output books stop.Words status bad unstored said = record {
-  refuses = λ none. record { says = said; unread = refl; unrecorded = refl; unstored = unstored };
+pub no_command : {S K R L : Type 0} (words : List (List ℕ)) (before : Outside S K R) (output : Stream K) (linked : Linked L) (books : List (ℕ × History)) (s : Stop) (status : ℕ)
+    → StopsForWords words s → books ≡ [] → StopsWith s before.output output status → IsEnd words before (with_output before output) linked linked books status
+no_command words before output linked books stop.Words status bad unstored said = record {
+  refuses = λ none. record { says = said; unread = refl; unrecorded = refl; unlinked = refl; unstored = unstored };
   runs = λ c shape. absurd (bad c shape);
 }
-no_command words before output books stop.Memory status bad unstored said = record {
-  refuses = λ none. record { says = inr (said.0, said.1); unread = refl; unrecorded = refl; unstored = unstored };
-  runs = λ c shape. starved before output books status said.0 said.1 unstored c;
+no_command words before output linked books stop.Memory status bad unstored said = record {
+  refuses = λ none. record { says = inr (said.0, said.1); unread = refl; unrecorded = refl; unlinked = refl; unstored = unstored };
+  runs = λ c shape. starved before output linked books status said.0 said.1 unstored c;
 }
-no_command words before output books (stop.Line line cause) status bad unstored said = absurd bad
-no_command words before output books stop.Input status bad unstored said = absurd bad
-no_command words before output books stop.Output status bad unstored said = absurd bad
-no_command words before output books stop.Recording status bad unstored said = absurd bad
-no_command words before output books (stop.Fault fault) status bad unstored said = absurd bad
-no_command words before output books stop.Long status bad unstored said = absurd bad
+no_command words before output linked books (stop.Line line cause) status bad unstored said = absurd bad
+no_command words before output linked books stop.Input status bad unstored said = absurd bad
+no_command words before output linked books stop.Output status bad unstored said = absurd bad
+no_command words before output linked books stop.Recording status bad unstored said = absurd bad
+no_command words before output linked books (stop.Fault fault) status bad unstored said = absurd bad
+no_command words before output linked books (stop.Channel channel at message why) status bad unstored said = absurd bad
+no_command words before output linked books stop.Link status bad unstored said = absurd bad
+no_command words before output linked books stop.Long status bad unstored said = absurd bad
 
--- ---- a load
+-- ---- two words
 
--- words of a load are no other command's, and of no other number
+-- two words aren't one
+one_word : (words : List (List ℕ)) (first second word : List ℕ) → words ≡ first ∷ second ∷ [] → words ≡ word ∷ [] → ⊥
+one_word words first second word own is = let two : 2 ≡ 1 = ap (λ (ws : List (List ℕ)). length ws) (sym own ∙ is) in absurd (omega (arith, two))
+
+-- words of a load are no client
+load_no_client : (words : List (List ℕ)) (number : ℕ) (path : List ℕ) → HasShape words (command.Load number) → IsClient words path → ⊥
+load_no_client words number path own its =
+    let same : codes "load" ≡ codes "client" = ap (λ (ws : List (List ℕ)). get_or ws 0 []) (sym own.0 ∙ its.0) in absurd (cc same)
+
+-- words of a load are of no other number
 same_load : (words : List (List ℕ)) (number other : ℕ) → HasShape words (command.Load number) → HasShape words (command.Load other) → number ≡ other
 same_load words number other own its =
     decimal_injective number other (omega (arith, own.1.1)) (omega (arith, its.1.1)) (ap (λ (ws : List (List ℕ)). get_or ws 1 []) (sym own.0 ∙ its.0))
 
-one_word : (words : List (List ℕ)) (number : ℕ) (word : List ℕ) → HasShape words (command.Load number) → words ≡ word ∷ [] → ⊥
-one_word words number word own is = let two : 2 ≡ 1 = ap (λ (ws : List (List ℕ)). length ws) (sym own.0 ∙ is) in absurd (omega (arith, two))
-
 -- How a run ends whose words are a load.
-pub load_runs : {S K R : Type 0} (words : List (List ℕ)) (before after : Outside S K R) (books : List (ℕ × History)) (number status : ℕ)
-    → HasShape words (command.Load number) → EndsCommand (command.Load number) before after books status → IsEnd words before after books status
-load_runs words before after books number status shape ends = record { refuses = λ none. absurd (none (command.Load number) shape); runs = by }
+pub load_runs : {S K R L : Type 0} (words : List (List ℕ)) (before after : Outside S K R) (linked linked_after : Linked L) (books : List (ℕ × History)) (number status : ℕ)
+    → HasShape words (command.Load number) → EndsCommand (command.Load number) before after linked linked_after books status → IsEnd words before after linked linked_after books status
+load_runs words before after linked linked_after books number status shape ends = record { refuses = λ none. absurd (none (command.Load number) shape); runs = by }
   where
-    by : (c : Command) → HasShape words c → EndsCommand c before after books status
-    by command.Both own = absurd (one_word words number (codes "both") shape own)
-    by command.Decode own = absurd (one_word words number (codes "decode") shape own)
-    by (command.Load other) own = subst (λ (n : ℕ). EndsCommand (command.Load n) before after books status) (same_load words number other shape own) ends
+    by : (c : Command) → HasShape words c → EndsCommand c before after linked linked_after books status
+    by command.Both own = absurd (one_word words (codes "load") (decimal number) (codes "both") shape.0 own)
+    by command.Decode own = absurd (one_word words (codes "load") (decimal number) (codes "decode") shape.0 own)
+    by (command.Load other) own = subst (λ (n : ℕ). EndsCommand (command.Load n) before after linked linked_after books status) (same_load words number other shape own) ends
+    by (command.Client path) own = absurd (load_no_client words number path.now shape own)
+
+-- How a run ends whose words are a client. It is the same for each path.
+pub client_runs : {S K R L : Type 0} (words : List (List ℕ)) (before after : Outside S K R) (linked linked_after : Linked L) (books : List (ℕ × History)) (path : List ℕ) (own : Command) (status : ℕ)
+    → HasShape words own → IsClient words path → IsEndOfClient before.input after.input before.output after.output linked linked_after books status → after.recording ≡ before.recording
+    → IsEnd words before after linked linked_after books status
+client_runs words before after linked linked_after books path own status shape is ends unrecorded = record { refuses = λ none. absurd (none own shape); runs = by }
+  where
+    by : (c : Command) → HasShape words c → EndsCommand c before after linked linked_after books status
+    by command.Both other = absurd (one_word words (codes "client") path (codes "both") is.0 other)
+    by command.Decode other = absurd (one_word words (codes "client") path (codes "decode") is.0 other)
+    by (command.Load number) other = absurd (load_no_client words number path other is)
+    by (command.Client p) other = (ends, unrecorded)

@@ -1,6 +1,6 @@
 -- The words that the parser takes are those of a command.
 use Rattle.std.proofs.Common.{◌≡◌, ◌⊎◌, ℕ, ◌<◌, arith, get_or, Bool, true, false, List, [], ◌∷◌, Option, Some, None, refl, sym, ap, ap₂, subst, ◌∙◌, inl, inr}
-use Rattle.std.specs.Prelude.{if◌then◌else◌, ◌||◌, decimal, Box, IfErr, IfOk, Result, Ok, Err, codes, find, fold, option_map}
+use Rattle.std.specs.Prelude.{if◌then◌else◌, ◌||◌, ◌==◌, not, decimal, Box, IfErr, IfOk, Result, Ok, Err, codes, find, fold, option_map}
 use Rattle.std.specs.Box.{box_value}
 use Rattle.std.specs.List.{list_any}
 use Rattle.std.specs.Str.{bytes_eq}
@@ -22,7 +22,7 @@ use Rattle.clap.proofs.FaultLemmas.{stopped_fault}
 use Rattle.clap.proofs.OnLiterals.{clap_on_literals}
 use Rattle.rd_cli.specs.declared.words.Command.{Command}
 use Rattle.rd_cli.specs.declared.words.Command.TheVariants as command
-use Rattle.rd_cli.specs.Shapes.{HasShape, StopsForWords, is_flag}
+use Rattle.rd_cli.specs.Shapes.{HasShape, IsClient, StopsForWords, is_flag, is_path}
 use Rattle.rd_cli.specs.declared.stop.Stop.{Stop}
 use Rattle.rd_cli.specs.declared.stop.Stop.TheVariants as stop
 use Rattle.rd_cli.specs.Parser.{IsNameOf, commands}
@@ -139,6 +139,15 @@ digit_no_flag : (word : Text) → 48 < get_or word 0 0 → is_flag word ≡ fals
 digit_no_flag [] above = absurd (omega (arith, above))
 digit_no_flag (byte ∷ word) above = grind (arith, nat_tests)
 
+not_true : (b : Bool) → not b ≡ true → b ≡ false
+not_true true is = absurd (cc)
+not_true false is = refl
+
+-- a client's path
+path_no_flag : (word : Text) → is_path word ≡ true → is_flag word ≡ false
+path_no_flag [] good = absurd (cc)
+path_no_flag (byte ∷ word) good = not_true (byte == 45) good
+
 -- Words of a command have no flag among them.
 pub plain_words : (words : List Text) (c : Command) → HasShape words c → list_any is_flag words ≡ false
 plain_words words command.Both is = ap (λ ws. list_any is_flag ws) is
@@ -146,6 +155,7 @@ plain_words words command.Decode is = ap (λ ws. list_any is_flag ws) is
 plain_words words (command.Load number) (is, within) =
     let above : 48 < get_or (decimal number) 0 0 = first_decimal number (omega (arith, within.0)) (omega (arith, within.1)) in
     ap (λ ws. list_any is_flag ws) is ∙ ap (λ (b : Bool). b || false) (digit_no_flag (decimal number) above)
+plain_words words (command.Client path) (is, good) = ap (λ ws. list_any is_flag ws) is ∙ ap (λ (b : Bool). b || false) (path_no_flag path.now good)
 
 -- ---- what a parse gives
 -- The subcommand's name is that of its rows.
@@ -179,6 +189,7 @@ pub met_shape : (words : List Text) (name : Option Text) (r : Result Command Sto
 met_shape words name (Ok command.Both) meeting said = met_word words name (codes "both") meeting said
 met_shape words name (Ok command.Decode) meeting said = met_word words name (codes "decode") meeting said
 met_shape words name (Ok (command.Load number)) meeting said = absurd said
+met_shape words name (Ok (command.Client path)) meeting said = absurd said
 met_shape words name (Err s) meeting said = tt
 
 named : (name : Option Text) (c : Plain) → name ≡ Some (name_of c) → IsNameOf name (command_of c)
@@ -190,10 +201,10 @@ met_none words name (Ok c) meeting said = tt
 met_none words name (Err s) meeting said = absurd (said.1 (command_of meeting.command) (named name meeting.command meeting.named))
 
 -- An `Err` that isn't for memory is for words that are no command.
-pub refused : (app : App) (words : List Text) (s : Stop) → app ≡ commands → ((number : ℕ) → ¬ (HasShape words (command.Load number))) → (takes app words ≡ true → s ≡ stop.Memory)
+pub refused : (app : App) (words : List Text) (s : Stop) → app ≡ commands → ((path : List ℕ) → ¬ (IsClient words path)) → ((number : ℕ) → ¬ (HasShape words (command.Load number))) → (takes app words ≡ true → s ≡ stop.Memory)
     → (s ≡ stop.Words) ⊎ (s ≡ stop.Memory) → StopsForWords words s
-refused app words s is no_load passes (inr memory) = subst (λ s. StopsForWords words s) (sym memory) tt
-refused app words s is no_load passes (inl bad) = subst (λ s. StopsForWords words s) (sym bad) none
+refused app words s is no_client no_load passes (inr memory) = subst (λ s. StopsForWords words s) (sym memory) tt
+refused app words s is no_client no_load passes (inl bad) = subst (λ s. StopsForWords words s) (sym bad) none
   where
     not_both : stop.Words ≡ stop.Memory → ⊥
     not_both is = absurd (cc)
@@ -205,3 +216,4 @@ refused app words s is no_load passes (inl bad) = subst (λ s. StopsForWords wor
     none command.Both shape = not_named both shape
     none command.Decode shape = not_named decode shape
     none (command.Load number) shape = no_load number shape
+    none (command.Client path) shape = no_client path.now shape

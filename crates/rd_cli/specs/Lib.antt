@@ -3,9 +3,11 @@ pub mod Headline
 pub mod Shapes
 pub mod Parser
 pub mod Stops
+pub mod Reading
 pub mod Playing
 pub mod Summary
 pub mod Worked
 pub mod Loading
 pub mod Decoding
+pub mod Client
 pub mod Ends

@@ -18,3 +18,13 @@ pub record AreFaultless {S K R : Type 0} (before after : Outside S K R) : Type 0
   pub input : IsFaultless before.input after.input
   pub output : IsFaultless before.output after.output
   pub recording : IsFaultless before.recording after.recording
+
+-- What gives the channels of a client: itself, and its counts of channels that couldn't be had, and of faults on channels.
+pub record Linked (L : Type 0) : Type 0 where
+  pub itself : L
+  pub failures : ℕ
+  pub trouble : ℕ
+
+-- what gives the channels, by what its trait tells of it
+abbrev pub linked_by : {L : Type 0} → (L → ℕ) → (L → ℕ) → L → Linked L
+linked_by failures trouble itself = record { itself = itself; failures = failures itself; trouble = trouble itself }

@@ -9,6 +9,7 @@ abbrev pub IsNameOf : Option (List ℕ) → Command → Type 0
 IsNameOf name command.Both = name ≡ Some (codes "both")
 IsNameOf name command.Decode = name ≡ Some (codes "decode")
 IsNameOf name (command.Load number) = ⊥
+IsNameOf name (command.Client path) = ⊥
 
 -- no command
 abbrev pub no_command : App

@@ -1,36 +1,22 @@
 -- How the command `both` ends: with which status, what it has done by then, and which event, the first, gave the status.
-use Rattle.std.specs.Prelude.{◌≡◌, ℕ, ◌≤◌, ◌⊎◌, List, [], length, Option, Some, Result, Ok, Err}
+use Rattle.std.specs.Prelude.{◌≡◌, ℕ, ◌⊎◌, List, [], Result, Ok, Err}
 use Rattle.rd_base.specs.History.{History}
-use Rattle.std.specs.Io.KnownBytes.{Appends, IsAtEnd}
+use Rattle.std.specs.Io.KnownBytes.{Appends}
 use Rattle.rd_script.specs.declared.keyword.Mode.TheVariants as mode
 use Rattle.rd_script.specs.declared.outcome.Outcomes.{Outcomes}
 use Rattle.rd_script.specs.declared.script.Script.{Script}
 use Rattle.rd_script.specs.Report.{report_of}
-use Rattle.rd_script.specs.Script.{BadLine, max_bytes, script_of}
+use Rattle.rd_script.specs.Script.{BadLine}
 use Rattle.rd_world.specs.Recording.{recording_of_deeds}
 use Rattle.rd_world.specs.Run.{WorldRun}
 use Rattle.rd_world.specs.Session.{IsCutOff, StoresSome}
 use Rattle.rd_world.specs.World.{WorldState, journals_in}
-use Rattle.rd_cli.specs.Outside.{AreFaultless, FailedToWrite, HasOneFault, IsFaultless, Outside, Read, ReadToEnd, Stream, Wrote}
+use Rattle.rd_cli.specs.Outside.{AreFaultless, FailedToWrite, HasOneFault, IsFaultless, Outside, Stream, Wrote}
 use Rattle.rd_cli.specs.Headline.{Played, PlayedToEnd}
+use Rattle.rd_cli.specs.Reading.{GivesBadLine, GivesScript, ReadsBadLine, ReadsScript}
 use Rattle.rd_cli.specs.Stops.{StopsWith}
 use Rattle.rd_cli.specs.declared.stop.Stop.{Stop}
 use Rattle.rd_cli.specs.declared.stop.Stop.TheVariants as stop
-
--- This text was read. It is all of the input, unless it is longer than a script may be.
-pub record HasRead {S : Type 0} (before after : Stream S) (text : List ℕ) : Type 0 where
-  pub read : Read before after text
-  pub whole : length text ≤ max_bytes → IsAtEnd after.bytes
-
--- The input was read to its end and is a script.
-pub record ReadsScript {S : Type 0} (before after : Stream S) (script : Script) : Type 0 where
-  pub text : List ℕ
-  pub read : ReadToEnd before after text
-  pub script_is : script_of mode.Both text ≡ Ok script
-
--- This line of what was read is the first that is refused, for this reason.
-abbrev pub ReadsBadLine : {S : Type 0} → (before after : Stream S) → BadLine → Type 0
-ReadsBadLine before after bad = (text : List ℕ) × HasRead before after text × (script_of mode.Both text ≡ Err bad)
 
 -- The session of the script stopped early: what was written of its recording is a beginning of what the script's session comes to, where some runs found no
 -- memory.
@@ -78,32 +64,20 @@ pub record Starved {S K R : Type 0} (before after : Outside S K R) (books : List
   pub faultless : AreFaultless before after
   pub unprinted : after.output ≡ before.output
   pub recording : IsUnplayed before.recording after.recording books
-      ⊎ ((script : Script) × ReadsScript before.input after.input script × StarvedPlaying script before.recording after.recording books)
+      ⊎ ((script : Script) × ReadsScript mode.Both before.input after.input script × StarvedPlaying script before.recording after.recording books)
 
 -- What the command has done when it stopped, before a last line says so: the first event that stops it ends it.
 abbrev pub StoppedPlaying : {S K R : Type 0} → (before after : Outside S K R) → List (ℕ × History) → Stop → Type 0
 StoppedPlaying before after books (stop.Line line cause) =
-    ReadsBadLine before.input after.input (record { line = line; why = cause }) × (after.output ≡ before.output) × (after.recording ≡ before.recording) × (books ≡ [])
+    ReadsBadLine mode.Both before.input after.input (record { line = line; why = cause }) × (after.output ≡ before.output) × (after.recording ≡ before.recording) × (books ≡ [])
 StoppedPlaying before after books stop.Input =
     HasOneFault before.input after.input × (after.output ≡ before.output) × (after.recording ≡ before.recording) × (books ≡ [])
 StoppedPlaying before after books stop.Recording =
-    (script : Script) × ReadsScript before.input after.input script × FailedToRecord script before.recording after.recording × (after.output ≡ before.output) × (books ≡ [])
+    (script : Script) × ReadsScript mode.Both before.input after.input script × FailedToRecord script before.recording after.recording × (after.output ≡ before.output) × (books ≡ [])
 StoppedPlaying before after books stop.Output =
-    (script : Script) × ReadsScript before.input after.input script × FailedToReport script before after books
+    (script : Script) × ReadsScript mode.Both before.input after.input script × FailedToReport script before after books
 StoppedPlaying before after books stop.Memory = Starved before after books
 StoppedPlaying before after books _ = ⊥
-
--- a stop of the reading of an input: for its first fault, or for want of memory
-abbrev pub StopsForInput : {S : Type 0} → (before after : Stream S) → Stop → Type 0
-StopsForInput before after stop.Input = HasOneFault before after
-StopsForInput before after stop.Memory = IsFaultless before after
-StopsForInput before after _ = ⊥
-
--- a stop of the reading of a script: for its first refused line, or for want of memory
-abbrev pub StopsForText : List ℕ → Stop → Type 0
-StopsForText text (stop.Line line cause) = script_of mode.Both text ≡ Err (record { line = line; why = cause })
-StopsForText text stop.Memory = Unit {0}
-StopsForText text _ = ⊥
 
 -- a stop of the playing of a script: for the recording, when no journal was stored, or for want of memory, before its session, in it or after it
 abbrev pub StopsForRecording : {R : Type 0} → Script → (before after : Stream R) → List (ℕ × History) → Stop → Type 0
@@ -116,18 +90,10 @@ abbrev pub ComesOutOfBoth : {T S K R : Type 0} → (before after : Outside S K R
 ComesOutOfBoth before after books (Ok done) = PlayedToEnd before after books
 ComesOutOfBoth before after books (Err s) = StoppedPlaying before after books s
 
--- What the input has left can be told and is a script.
-abbrev pub GivesScript : Option (List ℕ) → Type 0
-GivesScript left = (text : List ℕ) × (script : Script) × (left ≡ Some text) × (script_of mode.Both text ≡ Ok script)
-
--- What the input has left can be told, and this is its first line that is refused, and why.
-abbrev pub GivesBadLine : Option (List ℕ) → BadLine → Type 0
-GivesBadLine left bad = (text : List ℕ) × (left ≡ Some text) × (script_of mode.Both text ≡ Err bad)
-
 -- The script was refused for a line, and nothing was recorded. The output says so, unless the write of that failed.
 pub record RefusesScript {S K R : Type 0} (before after : Outside S K R) (books : List (ℕ × History)) : Type 0 where
   pub bad : BadLine
-  pub reads : ReadsBadLine before.input after.input bad
+  pub reads : ReadsBadLine mode.Both before.input after.input bad
   pub says : StopsWith (stop.Line bad.line bad.why) before.output after.output 1
   pub unrecorded : after.recording ≡ before.recording
   pub unstored : books ≡ []
@@ -147,6 +113,6 @@ pub record IsEndOfBoth {S K R : Type 0} (before after : Outside S K R) (books : 
   -- 6: memory ran out before any fault, and nothing was printed
   pub starved : status ≡ 6 → Starved before after books
   -- A bad line is refused, unless a read fails or memory runs out.
-  pub refuses : (bad : BadLine) → GivesBadLine before.input.bytes bad → (status ≡ 1) ⊎ ((status ≡ 2) ⊎ (status ≡ 6))
+  pub refuses : (bad : BadLine) → GivesBadLine mode.Both before.input.bytes bad → (status ≡ 1) ⊎ ((status ≡ 2) ⊎ (status ≡ 6))
   -- A script comes to its end, unless a read or a write fails or memory runs out. It is never refused.
-  pub completes : GivesScript before.input.bytes → (status ≡ 0) ⊎ ((status ≡ 2) ⊎ ((status ≡ 3) ⊎ (status ≡ 6)))
+  pub completes : GivesScript mode.Both before.input.bytes → (status ≡ 0) ⊎ ((status ≡ 2) ⊎ ((status ≡ 3) ⊎ (status ≡ 6)))

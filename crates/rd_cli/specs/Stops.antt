@@ -2,11 +2,15 @@
 use Rattle.std.specs.Prelude.{◌≡◌, ℕ, ◌⊎◌, List, ◌++◌, Option, Some, None, Result, Ok, Err, codes, decimal}
 use Rattle.rd_base.specs.declared.bad.Why.{Why}
 use Rattle.rd_base.specs.declared.bad.Why.TheVariants as field
+use Rattle.rd_carry.specs.declared.ended.EndWhy.{EndWhy}
+use Rattle.rd_carry.specs.declared.ended.EndWhy.TheVariants as end
 use Rattle.rd_chunk.specs.declared.fault.ChunkWhy.{ChunkWhy}
 use Rattle.rd_chunk.specs.declared.fault.ChunkWhy.TheVariants as chunk
 use Rattle.rd_decode.specs.declared.fault.Fault.{Fault}
 use Rattle.rd_decode.specs.declared.fault.FaultWhy.{FaultWhy}
 use Rattle.rd_decode.specs.declared.fault.FaultWhy.TheVariants as fault
+use Rattle.rd_hello.specs.declared.end_fault.EndFault.{EndFault}
+use Rattle.rd_hello.specs.declared.end_fault.EndFault.TheVariants as message
 use Rattle.rd_script.specs.declared.why.LineWhy.{LineWhy}
 use Rattle.rd_script.specs.declared.why.LineWhy.TheVariants as why
 use Rattle.rd_world.specs.declared.event.StepNo.{StepNo}
@@ -29,6 +33,8 @@ status_of stop.Input = 2
 status_of stop.Output = 3
 status_of stop.Recording = 3
 status_of (stop.Fault fault) = 4
+status_of (stop.Channel channel at message cause) = 4
+status_of stop.Link = 5
 status_of stop.Memory = 6
 status_of stop.Long = 7
 
@@ -64,6 +70,29 @@ why_word fault.Stray = codes "Stray"
 abbrev pub fault_line : Fault → List ℕ
 fault_line f = codes "fault at " ++ decimal f.at ++ codes " " ++ why_word f.why ++ codes "\n"
 
+-- the word for what is wrong with a message
+abbrev pub message_word : EndFault → List ℕ
+message_word (message.Order state packet) = codes "Order"
+message_word (message.Grammar bad) = field_word bad.why
+message_word message.Memory = codes "Memory"
+
+-- the word for what is wrong with what the host sent
+abbrev pub end_word : EndWhy → List ℕ
+end_word (end.Chunk cause) = chunk_word cause
+end_word (end.Message fault) = message_word fault
+end_word end.Stray = codes "Stray"
+end_word (end.BodyBad cause) = codes "BodyBad"
+end_word end.Duplicate = codes "Duplicate"
+
+-- the end of the line of a fault: in which message it is, counted from 0; one of the frames is in none
+abbrev pub in_message : ℕ → EndWhy → List ℕ
+in_message n (end.Chunk cause) = codes "\n"
+in_message n _ = codes " in " ++ decimal n ++ codes "\n"
+
+-- the line for what is wrong with what the host sent on a channel
+abbrev pub channel_line : (channel at message : ℕ) → EndWhy → List ℕ
+channel_line channel at n cause = codes "channel " ++ decimal channel ++ codes " at " ++ decimal at ++ codes " " ++ end_word cause ++ in_message n cause
+
 -- the word for what is wrong with a line of a script
 abbrev pub line_word : LineWhy → List ℕ
 line_word why.Words = codes "words"
@@ -78,7 +107,7 @@ line_word why.Many = codes "many"
 abbrev pub refused_line : ℕ → LineWhy → List ℕ
 refused_line line cause = codes "line " ++ decimal line ++ codes " " ++ line_word cause ++ codes "\n"
 
--- the line for a recording past the limit
+-- the line for a recording, or a channel, past the limit
 abbrev pub long_line : List ℕ
 long_line = codes "long\n"
 
@@ -87,6 +116,7 @@ abbrev pub last_line : Stop → Option (List ℕ)
 last_line stop.Words = Some (codes "bad words\n")
 last_line (stop.Line line cause) = Some (refused_line line cause)
 last_line (stop.Fault fault) = Some (fault_line fault)
+last_line (stop.Channel channel at message cause) = Some (channel_line channel at message cause)
 last_line stop.Long = Some long_line
 last_line _ = None
 

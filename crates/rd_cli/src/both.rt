@@ -1,21 +1,18 @@
 //! The command `both`: a script, read whole, is played by both ends of one session.
 
-ghost use Rattle.std.specs.Prelude.{◌≡◌, [], IfErr, IfOk, Ok};
+ghost use Rattle.std.specs.Prelude.{◌≡◌, []};
 ghost use Rattle.rd_cli.specs.Outside.{outside, stream};
-ghost use Rattle.rd_cli.specs.Playing.{ComesOutOfBoth, IsEndOfBoth, StopsForText};
+ghost use Rattle.rd_cli.specs.Playing.{ComesOutOfBoth, IsEndOfBoth};
 ghost use Rattle.rd_cli.specs.Stops.{Prints};
 ghost use Rattle.rd_script.specs.Report.{AreCountable, report_of};
-ghost use Rattle.rd_script.specs.Script.{script_of};
-ghost use Rattle.rd_script.specs.declared.keyword.Mode.TheVariants as mode;
 
 use crate::ending::end;
 use crate::idle_notes::note_idle;
-use crate::input::read_all;
-use crate::notes::note_line;
+use crate::input::input_script;
 use crate::playing::play;
 use crate::stop::Stop;
 use rd_base::{Books, Sink, Source, write_all};
-use rd_script::{MAX_BYTES, Mode, Outcomes, Script, ScriptNo, read_script, report};
+use rd_script::{Mode, Outcomes, Script, report};
 use std::alloc::Global;
 
 /// Plays the script of the input, and returns the exit status.
@@ -52,26 +49,10 @@ fn report_script<S: Source, K: Sink, R: Sink, N: Sink>(
         (outside S.left S.faults K.held K.faults R.held R.faults input.old output.old recording.old)
         (outside S.left S.faults K.held K.faults R.held R.faults input.new output.new recording.new) books.new result }
 {
-    let text = read_all(alloc, input, MAX_BYTES)?;
-    let script = script_in(alloc, text, notes)?;
+    let script = input_script(alloc, Mode::Both, input, notes)?;
     let told = play(alloc, &script, recording, books)?;
     note_idle(alloc, notes, script.lines.as_slice(), told.idle.as_slice());
     print_report(alloc, &script, &told, books, output)
-}
-
-/// The script that a text is. Of the first line that is refused the notes say what is wrong with it.
-fn script_in<N: Sink>(alloc: Global, text: Vec<u8>, notes: &mut N) -> Result<Script, Stop>
-    ensures script { IfOk result (λ script. script_of mode.Both text.items ≡ Ok script) }
-    ensures err { IfErr result (StopsForText text.items) }
-{
-    match read_script(alloc, Mode::Both, text.as_slice()) {
-        Ok(script) => Ok(script),
-        Err(ScriptNo::BadLine { line, why }) => {
-            note_line(alloc, notes, text.as_slice(), line);
-            Err(Stop::Line { line, why })
-        }
-        Err(ScriptNo::Memory) => Err(Stop::Memory),
-    }
 }
 
 /// Writes the report of a script that was played.

@@ -2,12 +2,14 @@
 
 ghost use Rattle.std.specs.Prelude.{◌≡◌, IfOk, IsErr, IsSome, option_map, string_bytes};
 ghost use Rattle.rd_cli.specs.Outside.{stream};
-ghost use Rattle.rd_cli.specs.Stops.{StopsWith, chunk_word, fault_line, field_word, last_line, line_word, refused_line, why_word};
+ghost use Rattle.rd_cli.specs.Stops.{StopsWith, channel_line, chunk_word, end_word, fault_line, field_word, in_message, last_line, line_word, message_word, refused_line, why_word};
 
 use crate::stop::Stop;
 use rd_base::{Sink, Why, write_all};
+use rd_carry::EndWhy;
 use rd_chunk::ChunkWhy;
 use rd_decode::{Fault, FaultWhy};
+use rd_hello::EndFault;
 use rd_script::LineWhy;
 use std::alloc::{AllocError, Global};
 
@@ -26,7 +28,7 @@ pub fn end<K: Sink>(alloc: Global, output: &mut K, stop: Stop) -> u8
 }
 
 /// The last line on the output, if any.
-fn last_line(alloc: Global, stop: &Stop) -> Result<Option<String>, AllocError>
+pub fn last_line(alloc: Global, stop: &Stop) -> Result<Option<String>, AllocError>
     ensures line { IfOk result (λ line. option_map string_bytes line ≡ last_line stop.now) }
     ensures err { IsErr result → IsSome (last_line stop.now) }
 {
@@ -35,7 +37,13 @@ fn last_line(alloc: Global, stop: &Stop) -> Result<Option<String>, AllocError>
         Stop::Line { line, why } => Ok(Some(refused_line(alloc, *line, *why)?)),
         Stop::Fault(fault) => Ok(Some(fault_line(alloc, *fault)?)),
         Stop::Long => Ok(Some(String::from_str(alloc, "long\n")?)),
-        Stop::Input | Stop::Output | Stop::Recording | Stop::Memory => Ok(None),
+        Stop::Channel {
+            channel,
+            at,
+            message,
+            why,
+        } => Ok(Some(channel_line(alloc, *channel, *at, *message, *why)?)),
+        Stop::Input | Stop::Output | Stop::Recording | Stop::Link | Stop::Memory => Ok(None),
     }
 }
 
@@ -79,6 +87,55 @@ fn why_word(why: FaultWhy) -> &'static str
         FaultWhy::Chunk(why) => chunk_word(why),
         FaultWhy::Field(why) => field_word(why),
         FaultWhy::Stray => "Stray",
+    }
+}
+
+/// The line for what is wrong with what the host sent on a channel.
+fn channel_line(
+    alloc: Global,
+    channel: u32,
+    at: u64,
+    message: u64,
+    why: EndWhy,
+) -> Result<String, AllocError>
+    ensures { IfOk result (λ line. string_bytes line ≡ channel_line channel at message why) }
+{
+    let word = end_word(why);
+    let place = in_message(alloc, message, why)?;
+    format!(in alloc; "channel {channel} at {at} {word}{place}")
+}
+
+/// The end of such a line: a fault of the frames is in no message.
+fn in_message(alloc: Global, message: u64, why: EndWhy) -> Result<String, AllocError>
+    ensures { IfOk result (λ place. string_bytes place ≡ in_message message why) }
+{
+    match why {
+        EndWhy::Chunk(_) => String::from_str(alloc, "\n"),
+        _ => format!(in alloc; " in {message}\n"),
+    }
+}
+
+/// The word for what is wrong with what the host sent.
+fn end_word(why: EndWhy) -> &'static str
+    ensures { result.now ≡ end_word why }
+{
+    match why {
+        EndWhy::Chunk(why) => chunk_word(why),
+        EndWhy::Message(fault) => message_word(fault),
+        EndWhy::Stray => "Stray",
+        EndWhy::BodyBad(_) => "BodyBad",
+        EndWhy::Duplicate => "Duplicate",
+    }
+}
+
+/// The word for what is wrong with a message.
+fn message_word(fault: EndFault) -> &'static str
+    ensures { result.now ≡ message_word fault }
+{
+    match fault {
+        EndFault::Order { .. } => "Order",
+        EndFault::Grammar(bad) => field_word(bad.why),
+        EndFault::Memory => "Memory",
     }
 }
 

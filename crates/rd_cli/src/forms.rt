@@ -1,11 +1,12 @@
 //! The forms of a script's lines, and what their words stand for.
 
-/// Each form of a line that `both` reads. A word that begins with a capital letter stands for what may be chosen.
-pub const FORMS: [&str; 41] = [
+/// Each form of a line that `both` or `client` reads: of these `client` reads `workers` to `printer`, and those with `at`. A word that begins with a capital letter stands for what may be chosen.
+pub const FORMS: [&str; 45] = [
     "seed NUM",
     "clock NUM",
     "piece NUM",
     "workers NUM",
+    "channels NUM",
     "drive D NAME",
     "drivefold D NAME",
     "real D NAME PLACE",
@@ -13,6 +14,9 @@ pub const FORMS: [&str; 41] = [
     "file D PATH HEX",
     "fill D PATH LENGTH BYTE",
     "printer D NAME TEXT TEXT",
+    "at C N remove D",
+    "at C N add D",
+    "at C N drop",
     "settle",
     "remove D",
     "add D",
@@ -46,9 +50,13 @@ pub const FORMS: [&str; 41] = [
 ];
 
 /// What the words in capitals stand for; any other is a number below 2^32.
-const MEANINGS: [(&str, &str); 12] = [
+const MEANINGS: [(&str, &str); 13] = [
     ("A", "an application: a number from 1 to 64"),
     ("D", "the id of a device: a number from 1 on"),
+    (
+        "N",
+        "how many requests were read on the channel: a number below 2^64",
+    ),
     ("H", "a handle: 1 to 8 letters a to z or digits"),
     ("NAME", "1 to 7 visible ASCII characters"),
     ("PORT", "1 to 7 visible ASCII characters"),

@@ -17,6 +17,9 @@ usage: rdr both < SCRIPT
        rdr load N
          plays a session with N blocks in each of four files, N from 1 to 1000, prints what came of it in one line, and leaves the frames in
          rdr.rec
+       rdr client PATH < SCRIPT
+         serves the devices of a client's script over the channels that it dials at the socket PATH, one after the other, and prints how many
+         requests each of them ran
        rdr decode < RECORDING
          prints a line for each message of a recording, and names the first fault (docs/RECORDING.md)
 ";
@@ -27,8 +30,8 @@ pub fn note_usage<N: Sink>(notes: &mut N) {
 }
 
 /// Says what is wrong with the line with this number, counted from 1: which of its words, and what is expected there.
-pub fn note_line<N: Sink>(alloc: Global, notes: &mut N, text: &[u8], number: u32) {
-    match bad_word(alloc, Mode::Both, text) {
+pub fn note_line<N: Sink>(alloc: Global, notes: &mut N, mode: Mode, text: &[u8], number: u32) {
+    match bad_word(alloc, mode, text) {
         Some(bad) if bad.line == number => note_bad_line(alloc, notes, bad),
         _ => {}
     }

@@ -4,6 +4,7 @@ ghost use Rattle.std.specs.Prelude.{◌≡◌};
 ghost use Rattle.rd_cli.specs.Stops.{early_stop};
 ghost use Rattle.rd_cli.specs.declared.stop.Stop.TheVariants as stop;
 
+use rd_carry::EndWhy;
 use rd_decode::Fault;
 use rd_script::LineWhy;
 use rd_world::StepNo;
@@ -14,7 +15,10 @@ pub enum Stop {
     /// The words are no command.
     Words,
     /// This line of the script, counted from 1, is the first that is refused.
-    Line { line: u32, why: LineWhy },
+    Line {
+        line: u32,
+        why: LineWhy,
+    },
     /// A read of the input failed.
     Input,
     /// A write to the output failed.
@@ -23,7 +27,16 @@ pub enum Stop {
     Recording,
     /// This is the first fault of the recording that was to be printed.
     Fault(Fault),
-    /// The recording has 2^40 bytes or more.
+    /// What the host sent on a client's channel is wrong. The fields are those of `Ended::Channel`.
+    Channel {
+        channel: u32,
+        at: u64,
+        message: u64,
+        why: EndWhy,
+    },
+    /// A client's channel couldn't be had, or failed.
+    Link,
+    /// The recording, or what came on a client's channel, has 2^40 bytes or more.
     Long,
     Memory,
 }
@@ -39,7 +52,8 @@ impl Stop {
             Stop::Words | Stop::Line { .. } => 1,
             Stop::Input => 2,
             Stop::Output | Stop::Recording => 3,
-            Stop::Fault(_) => 4,
+            Stop::Fault(_) | Stop::Channel { .. } => 4,
+            Stop::Link => 5,
             Stop::Memory => 6,
             Stop::Long => 7,
         }

@@ -3,9 +3,10 @@
 ghost use Rattle.std.specs.Prelude.{◌≡◌, [], IfOk, IsErr, map, string_bytes};
 ghost use Rattle.std.specs.Process.{exit_status};
 ghost use Rattle.rd_cli.specs.Ends.{EndsProgram, EndsUntouched, IsEnd};
-ghost use Rattle.rd_cli.specs.Outside.{outside};
+ghost use Rattle.rd_cli.specs.Outside.{linked_by, outside};
 
 use crate::both::both;
+use crate::client::client;
 use crate::decoding::decode;
 use crate::ending::end;
 use crate::load::load;
@@ -13,46 +14,69 @@ use crate::notes::note_usage;
 use crate::stop::Stop;
 use crate::words::{Command, command_of};
 use rd_base::{Books, Sink, Source, write_all};
+use rd_link::{Clock, Gate, Linker};
 use std::alloc::{AllocError, Global};
 use std::process::ExitCode;
+use std::sync::Wait;
+use std::thread::Threads;
 
 /// Runs a command and returns the exit status.
 ///
 /// `words` are the command's words without the program's name. `both` reads a script from `input` to its end, plays it, writes a
 /// recording of all frames to `recording` meanwhile, and then the report to `output`. `load` does the same with the script of its
 /// number, reads no input, and writes a summary of one line in the report's place. `decode` reads a recording from `input` and prints its lines to
-/// `output`. `books` is to be empty; a session that comes to its end stores its devices' journals there. `notes` is for people: it gets the usage
-/// where the words are no command, what is wrong with a line of a script, and why lines did nothing.
+/// `output`. `client` reads a client's script from `input` to its end, serves its devices on one channel of `linker` after the other, and then writes
+/// to `output` how many requests each of them ran; `linker` is to dial the path, `clock` tells the moments of the requests, and each worker passes
+/// `gate`. No other command uses these. `books` is to be empty; a session that comes to its end stores its devices' journals there. `notes` is for
+/// people: it gets the usage where the words are no command, what is wrong with a line of a script or on a channel, and why lines did nothing.
 ///
 /// | status | comes where |
 /// |---|---|
-/// | 0 | the script, or that of the load, was played to its end; the input is a recording |
+/// | 0 | the script, or that of the load, was played to its end; the client's channels came to their ends; the input is a recording |
 /// | 1 | the words are no command (`bad words` on `output`), or a line of the script is refused (`line N WHY`) |
 /// | 2 | a read of the input failed |
 /// | 3 | a write to the output or the recording failed |
-/// | 4 | what should be a recording has a fault (`fault at A WHY`) |
+/// | 4 | what should be a recording has a fault (`fault at A WHY`), or what came on a client's channel (`channel C at A WHY`) |
+/// | 5 | a client's channel couldn't be had, or a read or a write on it failed |
 /// | 6 | memory ran out |
-/// | 7 | what should be a recording has 2^40 bytes or more (`long`) |
+/// | 7 | what should be a recording, or came on a channel, has 2^40 bytes or more (`long`) |
 ///
 /// The first of these events ends the run. A last line that can't be written leaves the status as it is.
-pub fn run<S: Source, K: Sink, R: Sink, N: Sink>(
+pub fn run<
+    S: Source,
+    K: Sink,
+    R: Sink,
+    N: Sink,
+    T: Threads + Wait + Sync,
+    L: Linker,
+    C: Clock + Sync,
+    G: Gate + Sync,
+>(
+    rt: &T,
     alloc: Global,
     words: &[String],
     input: &mut S,
     output: &mut K,
     recording: &mut R,
     notes: &mut N,
+    linker: &mut L,
+    clock: &C,
+    gate: &G,
     books: &mut Books,
 ) -> u8
     requires { books.old ≡ [] }
     ensures { IsEnd (map string_bytes words.now)
         (outside S.left S.faults K.held K.faults R.held R.faults input.old output.old recording.old)
-        (outside S.left S.faults K.held K.faults R.held R.faults input.new output.new recording.new) books.new result }
+        (outside S.left S.faults K.held K.faults R.held R.faults input.new output.new recording.new)
+        (linked_by L.failures L.trouble linker.old) (linked_by L.failures L.trouble linker.new) books.new result }
 {
     match command_of(alloc, words) {
         Ok(Command::Both) => both(alloc, input, output, recording, notes, books),
         Ok(Command::Decode) => decode(alloc, input, output),
         Ok(Command::Load(number)) => load(alloc, number, output, recording, books),
+        Ok(Command::Client(_)) => client(
+            rt, alloc, input, output, notes, linker, clock, gate, books,
+        ),
         Err(stop) => {
             if let Stop::Words = stop {
                 note_usage(notes);
@@ -64,31 +88,40 @@ pub fn run<S: Source, K: Sink, R: Sink, N: Sink>(
 
 /// Runs the command that the words are, once, and returns the program's exit status (`run` has the table). `words` are an error where no
 /// memory was found for them: then nothing is read or written but a note.
-pub fn program<S: Source, K: Sink, R: Sink, N: Sink>(
+pub fn program<
+    S: Source,
+    K: Sink,
+    R: Sink,
+    N: Sink,
+    T: Threads + Wait + Sync,
+    L: Linker,
+    C: Clock + Sync,
+    G: Gate + Sync,
+>(
+    rt: &T,
     alloc: Global,
-    words: Result<Vec<String>, AllocError>,
+    words: Result<&[String], AllocError>,
     input: &mut S,
     output: &mut K,
     recording: &mut R,
     notes: &mut N,
+    linker: &mut L,
+    clock: &C,
+    gate: &G,
 ) -> ExitCode
-    ensures ends { IfOk words (λ words. EndsProgram (map string_bytes words.items)
+    ensures ends { IfOk words.entry (λ words. EndsProgram (map string_bytes words.now)
         (outside S.left S.faults K.held K.faults R.held R.faults input.old output.old recording.old)
-        (outside S.left S.faults K.held K.faults R.held R.faults input.new output.new recording.new) (exit_status result)) }
-    ensures untouched { IsErr words → EndsUntouched
+        (outside S.left S.faults K.held K.faults R.held R.faults input.new output.new recording.new)
+        (linked_by L.failures L.trouble linker.old) (linked_by L.failures L.trouble linker.new) (exit_status result)) }
+    ensures untouched { IsErr words.entry → EndsUntouched
         (outside S.left S.faults K.held K.faults R.held R.faults input.old output.old recording.old)
-        (outside S.left S.faults K.held K.faults R.held R.faults input.new output.new recording.new) (exit_status result) }
+        (outside S.left S.faults K.held K.faults R.held R.faults input.new output.new recording.new)
+        (linked_by L.failures L.trouble linker.old) (linked_by L.failures L.trouble linker.new) (exit_status result) }
 {
     let mut books = Books::new(alloc);
     let status = match words {
         Ok(words) => run(
-            alloc,
-            words.as_slice(),
-            input,
-            output,
-            recording,
-            notes,
-            &mut books,
+            rt, alloc, words, input, output, recording, notes, linker, clock, gate, &mut books,
         ),
         Err(_) => Stop::Memory.status(),
     };

@@ -1,9 +1,9 @@
 //! The command that the words are.
 
-ghost use Rattle.std.specs.Prelude.{◌≡◌, ◌⊎◌, ℕ, false, IfOk, IfErr, get_or, map, nat_lt, option_map, string_bytes};
+ghost use Rattle.std.specs.Prelude.{◌≡◌, ◌⊎◌, ℕ, false, List, IfOk, IfErr, get_or, map, nat_lt, option_map, string_bytes};
 ghost use Rattle.std.specs.List.{list_any};
 ghost use Rattle.clap.specs.Words.{app_of};
-ghost use Rattle.rd_cli.specs.Shapes.{FindsLoad, FindsLoadNumber, HasShape, StopsForWords, is_flag};
+ghost use Rattle.rd_cli.specs.Shapes.{FindsClient, FindsLoad, FindsLoadNumber, HasShape, IsClient, StopsForWords, is_flag, is_path};
 ghost use Rattle.rd_cli.specs.declared.words.Command.{Command};
 ghost use Rattle.rd_cli.specs.Parser.{IsNameOf, commands};
 
@@ -17,20 +17,25 @@ const MAX_LOAD: u32 = 1000;
 
 /// What `rdr` is asked to do.
 #[derive(Clone, Copy, Debug, PartialEq, Eq)]
-pub enum Command {
+pub enum Command<'a> {
     Both,
     Decode,
     /// The load of this number, which is from 1 to 1000.
     Load(u32),
+    /// The client of the host that listens at this path.
+    Client(&'a str),
 }
 
 /// The command whose shape the words have.
-pub fn command_of(alloc: Global, words: &[String]) -> Result<Command, Stop>
+pub fn command_of(alloc: Global, words: &[String]) -> Result<Command<'_>, Stop>
     ensures command { IfOk result (HasShape (map string_bytes words.now)) }
     ensures err { IfErr result (StopsForWords (map string_bytes words.now)) }
 {
     if has_flag(words) {
         return Err(Stop::Words);
+    }
+    if let Some(path) = path_of(words) {
+        return Ok(Command::Client(path));
     }
     match load_of(words) {
         Some(number) => Ok(Command::Load(number)),
@@ -52,6 +57,32 @@ fn is_flag(word: &String) -> bool
     match word.as_bytes() {
         [] => false,
         [byte, ..] => *byte == b'-',
+    }
+}
+
+/// The path of the client that the words are, if they are one.
+pub fn path_of(words: &[String]) -> Option<&str>
+    ensures { FindsClient (map string_bytes words.now) (option_map (λ path. path.now) result) }
+{
+    match words {
+        [name, path] => {
+            if name.as_str() == "client" && is_path(path.as_bytes()) {
+                Some(path.as_str())
+            } else {
+                None
+            }
+        }
+        _ => None,
+    }
+}
+
+/// Whether a word may be a client's path: it isn't empty, and no flag.
+fn is_path(word: &[u8]) -> bool
+    ensures { result ≡ is_path word.now }
+{
+    match word {
+        [] => false,
+        [byte, ..] => *byte != b'-',
     }
 }
 
@@ -99,8 +130,9 @@ fn is_above_zero(word: &[u8]) -> bool
 }
 
 /// The command of one word that the parser finds in words of which none begins with a hyphen.
-fn parsed(alloc: Global, words: &[String]) -> Result<Command, Stop>
+fn parsed<'a>(alloc: Global, words: &[String]) -> Result<Command<'a>, Stop>
     requires plain { list_any is_flag (map string_bytes words.now) ≡ false }
+    requires no_client { (path : List ℕ) → ¬ (IsClient (map string_bytes words.now) path) }
     requires no_load { (number : ℕ) → ¬ (HasShape (map string_bytes words.now) (Command.Load number)) }
     ensures command { IfOk result (HasShape (map string_bytes words.now)) }
     ensures err { IfErr result (StopsForWords (map string_bytes words.now)) }
@@ -138,7 +170,7 @@ fn parser<'a>(alloc: Global) -> Result<Parser<'a>, AllocError>
 }
 
 /// The command with this name.
-fn named(name: Option<&str>) -> Result<Command, Stop>
+fn named<'a>(name: Option<&str>) -> Result<Command<'a>, Stop>
     ensures command { IfOk result (IsNameOf (option_map (λ s. s.now) name.entry)) }
     ensures err { IfErr result (λ stop. (stop ≡ Stop.Words) × ((command : Command) → ¬ (IsNameOf (option_map (λ s. s.now) name.entry) command))) }
 {

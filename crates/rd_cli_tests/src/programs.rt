@@ -1,13 +1,16 @@
 //! The program over real files: its exit status, what it prints, and the recording that it leaves in the current folder.
 use rd_base::{Bytes, Calls, FileSink, MemSink, MemSource, Sink, StdSink};
 use rd_cli::{program, words_of};
+use rd_link::{FixedClock, MemLinker, NoGate};
 use std::alloc::{AllocError, Global};
 use std::env::FillError;
 use std::fs;
 use std::io::ErrorKind;
 use std::process::{Abort, ExitCode};
-use std::rt::Env;
+use std::rt::{Env, Files};
+use std::sync::Wait;
 use std::test::Fail;
+use std::thread::Threads;
 
 /// What is reported of the long script.
 const LONG_REPORT: &[u8] =
@@ -23,7 +26,7 @@ fn never(alloc: Global) -> Calls {
 
 /// Runs the program over an input, with its recording in a file. The output is any sink.
 fn ended<K: Sink>(
-    rt: &HostRuntime,
+    rt: &(impl Threads + Wait + Sync + Files + AllocGlobal),
     path: &str,
     word: &str,
     input: &[u8],
@@ -34,19 +37,24 @@ fn ended<K: Sink>(
     let mut input = MemSource::new(Bytes::of(input.to_vec(alloc)?), never(alloc));
     let mut recording = FileSink::new(rt, path);
     let mut notes = MemSink::new(alloc, never(alloc));
+    let mut linker = MemLinker::new(alloc, Vec::new(alloc), never(alloc))?;
     Ok(program(
+        rt,
         alloc,
-        Ok(words),
+        Ok(words.as_slice()),
         &mut input,
         output,
         &mut recording,
         &mut notes,
+        &mut linker,
+        &FixedClock(0),
+        &NoGate {},
     ))
 }
 
 /// The exit status of the program over an input, and what it prints.
 fn printed(
-    rt: &HostRuntime,
+    rt: &(impl Threads + Wait + Sync + Files + AllocGlobal),
     path: &str,
     word: &str,
     input: &[u8],
@@ -124,22 +132,28 @@ fn ends_with_3_on_a_full_disk(rt: HostRuntime) -> Result<(), Fail> {
 
 /// Want of memory for the words.
 #[test]
-fn ends_with_6_without_memory_for_its_words(rt: HostRuntime) {
+fn ends_with_6_without_memory_for_its_words(rt: HostRuntime) -> Result<(), Fail> {
     let alloc = rt.alloc();
     let mut input = MemSource::new(Bytes::of(Vec::new(alloc)), never(alloc));
     let mut output = MemSink::new(alloc, never(alloc));
     let mut recording = MemSink::new(alloc, never(alloc));
     let mut notes = MemSink::new(alloc, never(alloc));
+    let mut linker = MemLinker::new(alloc, Vec::new(alloc), never(alloc))?;
     let code = program(
+        &rt,
         alloc,
         Err(AllocError),
         &mut input,
         &mut output,
         &mut recording,
         &mut notes,
+        &mut linker,
+        &FixedClock(0),
+        &NoGate {},
     );
     assert!(rt; code == ExitCode::from(6));
     assert_eq!(rt; notes.bytes(), b"rdr: out of memory\n".as_slice());
+    Ok(())
 }
 
 /// A system with these words after the program's name.

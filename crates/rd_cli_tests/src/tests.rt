@@ -1,9 +1,12 @@
 //! What ends a command, and what it leaves: the report, the recording, the journal and the notes.
 use rd_base::{Books, Bytes, Calls, Cause, Item, Key, MemSink, MemSource};
 use rd_cli::run;
+use rd_link::{FixedClock, MemLinker, NoGate};
 use std::alloc::{AllocError, Global};
 use std::process::Abort;
+use std::sync::Wait;
 use std::test::Fail;
+use std::thread::Threads;
 
 /// A file is opened, read and closed.
 const SCRIPT: &[u8] =
@@ -74,27 +77,33 @@ struct Remains {
     journal: Vec<Item>,
 }
 
-/// A command over a script. The reads, the writes to the output and those to the recording with these numbers fail.
+/// A command over a script, with no channel. The reads, the writes to the output and those to the recording with these numbers fail.
 fn command(
-    alloc: Global,
+    rt: &(impl Threads + Wait + Sync + AllocGlobal),
     words: &[&str],
     script: &[u8],
     fails: [&[u64]; 3],
 ) -> Result<Remains, AllocError> {
+    let alloc = rt.alloc();
     let [reads, outputs, recordings] = fails;
     let words = strings(alloc, words)?;
     let mut input = source(alloc, script, reads)?;
     let mut output = sink(alloc, outputs)?;
     let mut recording = sink(alloc, recordings)?;
     let mut notes = sink(alloc, &[])?;
+    let mut linker = MemLinker::new(alloc, Vec::new(alloc), Calls::of(Vec::new(alloc)))?;
     let mut books = Books::new(alloc);
     let status = run(
+        rt,
         alloc,
         words.as_slice(),
         &mut input,
         &mut output,
         &mut recording,
         &mut notes,
+        &mut linker,
+        &FixedClock(0),
+        &NoGate {},
         &mut books,
     );
     copies_of(alloc, status, [&output, &recording, &notes], &books)
@@ -144,14 +153,13 @@ fn entries(books: &Books) -> &[Item] {
 
 /// A command ends with this status, this output and this recording.
 fn ends(
-    rt: &impl Abort,
-    alloc: Global,
+    rt: &(impl Abort + Threads + Wait + Sync + AllocGlobal),
     words: &[&str],
     script: &[u8],
     fails: [&[u64]; 3],
     wanted: (u8, &[u8], &[u8]),
 ) -> Result<(), Fail> {
-    let left = command(alloc, words, script, fails)?;
+    let left = command(rt, words, script, fails)?;
     assert_eq!(rt;
         (
             left.status,
@@ -169,7 +177,7 @@ fn ends(
 fn finds_memory(rt: HostRuntime) -> Result<(), Fail> {
     let recording = hex::decode(rt.alloc(), RECORDING)?;
     let wanted = (0, REPORT, recording.as_slice());
-    ends(&rt, rt.alloc(), &["both"], SCRIPT, NEVER, wanted)
+    ends(&rt, &["both"], SCRIPT, NEVER, wanted)
 }
 
 /// The entries of a request that ran.
@@ -186,7 +194,7 @@ fn completed(index: u64) -> [Item; 3] {
 
 #[test]
 fn keeps_a_journal(rt: HostRuntime) -> Result<(), Fail> {
-    let left = command(rt.alloc(), &["both"], SCRIPT, NEVER)?;
+    let left = command(&rt, &["both"], SCRIPT, NEVER)?;
     let entries = [completed(0), completed(1), completed(2)];
     assert_eq!(rt; left.journal.as_slice(), entries.as_flattened());
     Ok(())
@@ -205,20 +213,19 @@ fn ends_where_the_outside_fails(rt: HostRuntime) -> Result<(), Fail> {
     ] {
         let prefix = recording.get(..recorded).unwrap_or_default();
         let wanted = (status, b"".as_slice(), prefix);
-        ends(&rt, rt.alloc(), &["both"], SCRIPT, fails, wanted)?;
+        ends(&rt, &["both"], SCRIPT, fails, wanted)?;
     }
     Ok(())
 }
 
 /// A command comes to this status, and writes this to the output.
 fn comes_to(
-    rt: &impl Abort,
-    alloc: Global,
+    rt: &(impl Abort + Threads + Wait + Sync + AllocGlobal),
     words: &[&str],
     script: &[u8],
     wanted: (u8, &[u8]),
 ) -> Result<Remains, Fail> {
-    let left = command(alloc, words, script, NEVER)?;
+    let left = command(rt, words, script, NEVER)?;
     assert_eq!(rt; (left.status, left.output.as_slice()), wanted, "{words:?}");
     Ok(left)
 }
@@ -253,7 +260,7 @@ document 2.1 6869
 
 #[test]
 fn plays_whole_sessions(rt: HostRuntime) -> Result<(), Fail> {
-    let left = comes_to(&rt, rt.alloc(), &["both"], WHOLE, (0, WHOLE_REPORT))?;
+    let left = comes_to(&rt, &["both"], WHOLE, (0, WHOLE_REPORT))?;
     // The drive's journal ends with the removal.
     assert!(rt; matches!(left.journal.as_slice(), [.., Item::Cut(Cause::Removed)]));
     // The channel's end is what is recorded last.
@@ -267,14 +274,14 @@ const LOAD: &[u8] = b"load 2 accepted 24 done 24 lost 0 bytes 32768 sum 98304\n"
 #[test]
 fn plays_a_load(rt: HostRuntime) -> Result<(), Fail> {
     let words = ["load", "2"];
-    let left = comes_to(&rt, rt.alloc(), &words, b"nothing is read", (0, LOAD))?;
+    let left = comes_to(&rt, &words, b"nothing is read", (0, LOAD))?;
     assert_eq!(rt; left.recording.len(), 68_855);
     // What is recorded goes out in pieces: where the first can't be written, the second isn't.
     let first = [[1].as_slice(), &[], &[1]];
-    ends(&rt, rt.alloc(), &words, b"", first, (3, b"", b""))?;
+    ends(&rt, &words, b"", first, (3, b"", b""))?;
     // Where the second can't be, the first has been.
     let second = [[1].as_slice(), &[], &[2]];
-    let cut = command(rt.alloc(), &words, b"", second)?;
+    let cut = command(&rt, &words, b"", second)?;
     let written = cut.recording.len();
     assert_eq!(rt; (cut.status, cut.output.as_slice()), (3, b"".as_slice()));
     assert!(rt; 65_536 <= written && written < 68_855, "{written}");
@@ -292,9 +299,9 @@ fn reads_no_more_than_the_input(rt: HostRuntime) -> Result<(), Fail> {
     let recording = hex::decode(rt.alloc(), RECORDING)?;
     let third = [[3].as_slice(), &[], &[]];
     let played = (0, REPORT, recording.as_slice());
-    ends(&rt, rt.alloc(), &["both"], SCRIPT, third, played)?;
+    ends(&rt, &["both"], SCRIPT, third, played)?;
     let printed = (0, ANNOUNCE_LINE, b"".as_slice());
-    ends(&rt, rt.alloc(), &["decode"], ANNOUNCE, third, printed)
+    ends(&rt, &["decode"], ANNOUNCE, third, printed)
 }
 
 /// A recording of so many messages of four bytes.
@@ -311,7 +318,7 @@ fn long_recording(alloc: Global, messages: usize) -> Result<Vec<u8>, AllocError>
 fn writes_lines_in_pieces(rt: HostRuntime) -> Result<(), Fail> {
     let recording = long_recording(rt.alloc(), 8000)?;
     let second = [[].as_slice(), &[2], &[]];
-    let left = command(rt.alloc(), &["decode"], recording.as_slice(), second)?;
+    let left = command(&rt, &["decode"], recording.as_slice(), second)?;
     assert_eq!(rt; left.status, 3);
     let written = left.output.len();
     assert!(rt; 0 < written && written < 200_000, "{written}");
@@ -320,13 +327,12 @@ fn writes_lines_in_pieces(rt: HostRuntime) -> Result<(), Fail> {
 
 /// Words, or a script, are refused with this line, and nothing is recorded.
 fn refuses(
-    rt: &impl Abort,
-    alloc: Global,
+    rt: &(impl Abort + Threads + Wait + Sync + AllocGlobal),
     words: &[&str],
     script: &[u8],
     line: &[u8],
 ) -> Result<(), Fail> {
-    ends(rt, alloc, words, script, NEVER, (1, line, b""))
+    ends(rt, words, script, NEVER, (1, line, b""))
 }
 
 #[test]
@@ -342,7 +348,7 @@ fn names_the_first_line_that_is_refused(rt: HostRuntime) -> Result<(), Fail> {
         (b"drive 1 DATA\nfile 1 \\.. 61", b"line 2 path\n"),
         (b"drive 1 DATA\n1 read h 01 5", b"line 2 number\n"),
         (b"drive 1 DATA\n\xff", b"line 2 words\n"),
-        // Lines of a client's script, and of a host's.
+        // Lines of a client's script alone, and of a host's.
         (b"drive 1 DATA\nat 1 5 remove 1", b"line 2 words\n"),
         (b"devices 3", b"line 1 words\n"),
         // Of two the earlier is named.
@@ -351,7 +357,7 @@ fn names_the_first_line_that_is_refused(rt: HostRuntime) -> Result<(), Fail> {
             b"line 2 number\n",
         ),
     ] {
-        refuses(&rt, rt.alloc(), &["both"], script, line)?;
+        refuses(&rt, &["both"], script, line)?;
     }
     Ok(())
 }
@@ -363,7 +369,7 @@ fn holds_scripts_to_their_most_lines(rt: HostRuntime) -> Result<(), Fail> {
         (1_000_000, (0, b"")),
     ] {
         let script = vec![in rt.alloc(); b'\n'; lines]?;
-        let left = comes_to(&rt, rt.alloc(), &["both"], script.as_slice(), wanted)?;
+        let left = comes_to(&rt, &["both"], script.as_slice(), wanted)?;
         assert_eq!(rt; left.recording.is_empty(), left.status != 0);
     }
     Ok(())
@@ -397,12 +403,17 @@ fn knows_each_command_by_its_words(rt: HostRuntime) -> Result<(), Fail> {
         &["load", "-1"],
         &["load", "1", "2"],
         &["1", "load"],
+        &["client"],
+        &["client", ""],
+        &["client", "-"],
+        &["client", "a", "b"],
+        &["a", "client"],
     ] {
-        refuses(&rt, rt.alloc(), words, SCRIPT, b"bad words\n")?;
+        refuses(&rt, words, SCRIPT, b"bad words\n")?;
     }
     // The line can't be written, and the status stays. Nothing is read.
     let unsaid = [[1].as_slice(), &[1], &[]];
-    ends(&rt, rt.alloc(), &["help"], SCRIPT, unsaid, (1, b"", b""))
+    ends(&rt, &["help"], SCRIPT, unsaid, (1, b"", b""))
 }
 
 /// A recording in which the host announces itself, and what is printed of it.
@@ -429,7 +440,7 @@ fn decodes_a_recording(rt: HostRuntime) -> Result<(), Fail> {
         (ANNOUNCE, [&[], &[], &[1]], 0, ANNOUNCE_LINE),
     ] {
         let wanted = (status, output, b"".as_slice());
-        ends(&rt, rt.alloc(), &["decode"], recording, fails, wanted)?;
+        ends(&rt, &["decode"], recording, fails, wanted)?;
     }
     Ok(())
 }
@@ -440,6 +451,7 @@ fn tells_people_what_is_wrong(rt: HostRuntime) -> Result<(), Fail> {
         (["--help"], SCRIPT, "usage: rdr both < SCRIPT"),
         (["help"], SCRIPT, "rdr decode < RECORDING"),
         (["help"], SCRIPT, "rdr load N"),
+        (["help"], SCRIPT, "rdr client PATH < SCRIPT"),
         (["decode"], CUT, ""),
         (
             ["both"],
@@ -459,7 +471,7 @@ fn tells_people_what_is_wrong(rt: HostRuntime) -> Result<(), Fail> {
         ),
         (["both"], SCRIPT, ""),
     ] {
-        let left = command(rt.alloc(), &words, script, NEVER)?;
+        let left = command(&rt, &words, script, NEVER)?;
         let notes = std::str::from_utf8(left.notes.as_slice())?;
         assert!(rt;
             notes.contains(told) && notes.is_empty() == told.is_empty(),

@@ -1,10 +1,13 @@
 //! `rdr`: both ends of Remote Desktop drive redirection.
 //!
-//! It makes the real input, output, recording and notes, a line each, and leaves the rest to `rd_cli::program`.
+//! It makes the real input, output, recording, notes, linker and clock, a line each, and leaves the rest to `rd_cli::program`.
 #![tactic(auto)]
 
 use rd_base::{FileSink, StdSink, StdSource};
-use rd_cli::{program, words_of};
+use rd_cli::{path_of, program, words_of};
+use rd_link::NoGate;
+use rd_unix::{SystemClock, UnixLinker};
+use std::alloc::AllocError;
 use std::fs::File;
 use std::io;
 use std::process::ExitCode;
@@ -20,21 +23,37 @@ fn main(rt: HostRuntime) -> ExitCode {
     // be neither read nor written.
     let _closed = [ROOT; 3].map(|path| File::open(&rt, path));
     let words = words_of(&rt);
+    let words = match &words {
+        Ok(words) => Ok(words.as_slice()),
+        Err(_) => Err(AllocError),
+    };
+    // Words that are no client connect nothing.
+    let path = match words {
+        Ok(words) => path_of(words).unwrap_or_default(),
+        Err(_) => "",
+    };
     let mut input = StdSource::new(rt.reader());
     let mut output = StdSink::new(io::writer(&rt));
     let mut recording = FileSink::new(&rt, RECORDING);
     let mut notes = StdSink::new(rt.stderr());
+    let mut linker = UnixLinker::dial(&rt, path);
+    let clock = SystemClock::new(&rt);
     let code = program(
+        &rt,
         rt.alloc(),
         words,
         &mut input,
         &mut output,
         &mut recording,
         &mut notes,
+        &mut linker,
+        &clock,
+        &NoGate {},
     );
     say_why(&rt, "standard input", input.last_error());
     say_why(&rt, "standard output", output.last_error());
     say_why(&rt, RECORDING, recording.last_error());
+    say_why(&rt, path, linker.last_error());
     code
 }
 

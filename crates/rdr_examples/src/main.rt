@@ -8,8 +8,12 @@
 
 use anyhow::{Context, Result, bail};
 use rd_base::{Books, Bytes, Calls, MemSink, MemSource, PlainSink};
+use rd_link::{FixedClock, MemLinker, NoGate};
 use std::fs;
 use std::io::ErrorKind;
+use std::rt::Files;
+use std::sync::Wait;
+use std::thread::Threads;
 
 fn main(rt: HostRuntime) -> Result<()> {
     let mut differ = 0u64;
@@ -59,7 +63,10 @@ struct Remains {
 }
 
 /// The first thing in which a script's session differs from what stands beside it.
-fn played(rt: &HostRuntime, name: &String) -> Result<Option<&'static str>> {
+fn played<R: Threads + Wait + Sync + Files + AllocGlobal>(
+    rt: &R,
+    name: &String,
+) -> Result<Option<&'static str>> {
     let left = left_by(rt, &["both"], read(rt, name, "script")?)?;
     if left.status != status_of(rt, name)? {
         return Ok(Some("another STATUS"));
@@ -77,7 +84,10 @@ fn played(rt: &HostRuntime, name: &String) -> Result<Option<&'static str>> {
 }
 
 /// The first thing in which a command without an input differs from what stands beside its words.
-fn obeyed(rt: &HostRuntime, name: &String) -> Result<Option<&'static str>> {
+fn obeyed<R: Threads + Wait + Sync + Files + AllocGlobal>(
+    rt: &R,
+    name: &String,
+) -> Result<Option<&'static str>> {
     let line = text(rt, name, "words")?;
     let words: Vec<&str> = line.trim().split(' ').collect(rt.alloc())?;
     let left = left_by(rt, words.as_slice(), Vec::new(rt.alloc()))?;
@@ -91,7 +101,10 @@ fn obeyed(rt: &HostRuntime, name: &String) -> Result<Option<&'static str>> {
 }
 
 /// Whether `decode` finds a fault in what was recorded.
-fn fault_in(rt: &HostRuntime, recording: &MemSink) -> Result<Option<&'static str>> {
+fn fault_in<R: Threads + Wait + Sync + Files + AllocGlobal>(
+    rt: &R,
+    recording: &MemSink,
+) -> Result<Option<&'static str>> {
     let left = left_by(rt, &["decode"], recording.bytes().to_vec(rt.alloc())?)?;
     match left.status {
         0 => Ok(None),
@@ -100,7 +113,10 @@ fn fault_in(rt: &HostRuntime, recording: &MemSink) -> Result<Option<&'static str
 }
 
 /// The first thing in which what `decode` says of a recording differs from what stands beside it.
-fn decoded(rt: &HostRuntime, name: &String) -> Result<Option<&'static str>> {
+fn decoded<R: Threads + Wait + Sync + Files + AllocGlobal>(
+    rt: &R,
+    name: &String,
+) -> Result<Option<&'static str>> {
     let left = left_by(rt, &["decode"], read(rt, name, "rec")?)?;
     let status = match exists(rt, name, "script")? {
         true => 0,
@@ -119,7 +135,11 @@ fn decoded(rt: &HostRuntime, name: &String) -> Result<Option<&'static str>> {
 }
 
 /// Runs a command over an input.
-fn left_by(rt: &HostRuntime, words: &[&str], input: Vec<u8>) -> Result<Remains> {
+fn left_by<R: Threads + Wait + Sync + Files + AllocGlobal>(
+    rt: &R,
+    words: &[&str],
+    input: Vec<u8>,
+) -> Result<Remains> {
     let words: Vec<String> = words
         .iter()
         .map(|word| String::from_str(rt.alloc(), word))
@@ -127,15 +147,21 @@ fn left_by(rt: &HostRuntime, words: &[&str], input: Vec<u8>) -> Result<Remains> 
     let never = Calls::of(Vec::new(rt.alloc()));
     let mut input = MemSource::new(Bytes::of(input), never.copy()?);
     let mut output = MemSink::new(rt.alloc(), never.copy()?);
-    let mut recording = MemSink::new(rt.alloc(), never);
+    let mut recording = MemSink::new(rt.alloc(), never.copy()?);
     let mut books = Books::new(rt.alloc());
+    // No example is a client, so nothing is connected.
+    let mut linker = MemLinker::new(rt.alloc(), Vec::new(rt.alloc()), never)?;
     let status = rd_cli::run(
+        rt,
         rt.alloc(),
         words.as_slice(),
         &mut input,
         &mut output,
         &mut recording,
         &mut PlainSink::new(),
+        &mut linker,
+        &FixedClock(0),
+        &NoGate {},
         &mut books,
     );
     Ok(Remains {
@@ -146,7 +172,7 @@ fn left_by(rt: &HostRuntime, words: &[&str], input: Vec<u8>) -> Result<Remains> 
 }
 
 /// The exit status of an example: 0 where it has no file that says another.
-fn status_of(rt: &HostRuntime, name: &String) -> Result<u8> {
+fn status_of<R: Files + AllocGlobal>(rt: &R, name: &String) -> Result<u8> {
     if !exists(rt, name, "status")? {
         return Ok(0);
     }
@@ -154,14 +180,14 @@ fn status_of(rt: &HostRuntime, name: &String) -> Result<u8> {
 }
 
 /// The text of `NAME.ENDING`.
-fn text(rt: &HostRuntime, name: &String, ending: &str) -> Result<String> {
+fn text<R: Files + AllocGlobal>(rt: &R, name: &String, ending: &str) -> Result<String> {
     let path = format!(in rt.alloc(); "{name}.{ending}")?;
     let text = fs::read_to_string(rt, path.as_str()).context(format_args!("reading {path}"))?;
     Ok(text)
 }
 
 /// Whether there is a `NAME.ENDING`.
-fn exists(rt: &HostRuntime, name: &String, ending: &str) -> Result<bool> {
+fn exists<R: Files + AllocGlobal>(rt: &R, name: &String, ending: &str) -> Result<bool> {
     let path = format!(in rt.alloc(); "{name}.{ending}")?;
     match fs::metadata(rt, path.as_str()) {
         Ok(_) => Ok(true),
@@ -171,7 +197,7 @@ fn exists(rt: &HostRuntime, name: &String, ending: &str) -> Result<bool> {
 }
 
 /// The bytes of `NAME.ENDING`.
-fn read(rt: &HostRuntime, name: &String, ending: &str) -> Result<Vec<u8>> {
+fn read<R: Files + AllocGlobal>(rt: &R, name: &String, ending: &str) -> Result<Vec<u8>> {
     let path = format!(in rt.alloc(); "{name}.{ending}")?;
     let bytes = fs::read(rt, path.as_str()).context(format_args!("reading {path}"))?;
     Ok(bytes)
