@@ -48,12 +48,20 @@ lifted d e does back last is at =
     let before : AreHands (d.pass).number ((d.pass).seen ++ added) = All-prefix (λ (x : E). x.by ≢ (d.pass).number → IsHandCall x.call) ((d.pass).seen ++ added) own hands in
     let whole = Leads-parted SessionDeskStep (d.turn).opening ((d.pass).seen ++ added) own last leads in
     let start = Leads-parted SessionDeskStep (d.turn).opening (d.pass).seen added whole.0 whole.1 in
-    let works = hands_work start.0 added whole.0 (others_work (d.pass).number added ((is.called).2).0 (All-after (λ (x : E). x.by ≢ (d.pass).number → IsHandCall x.call) (d.pass).seen added before)) start.2 in
+    let others : All (λ (x : E). IsHandCall x.call) added = others_work (d.pass).number added ((is.called).2).0 (All-after (λ (x : E). x.by ≢ (d.pass).number → IsHandCall x.call) (d.pass).seen added before) in
+    let works = hands_work start.0 added whole.0 others start.2 in
     let step : SessionDeskStep whole.0 does back last = subst (λ (s : Of). SessionDeskStep whole.0 does back s) (whole.2).2 (whole.2).1 in
     let longer = longer_on start.0 whole.0 last (works_longer start.0 whole.0 works) (call_longer whole.0 last does back step) in
     record {
       first = start.0;
       at = record { leads = start.1; hands = All-prefix (λ (x : E). x.by ≢ (d.pass).number → IsHandCall x.call) (d.pass).seen added before };
       items = longer.items;
-      called = record { id = is.id; middle = whole.0; works = works; step = step; stored = longer.stored };
+      called = record {
+        id = is.id;
+        middle = whole.0;
+        works = works;
+        sees = record { turn = is.turn; number = number; others = added; hands = others; leads = start.2; seen = (is.called).1 };
+        step = step;
+        stored = longer.stored;
+      };
     }

@@ -1,5 +1,5 @@
 -- Each call of a front is its parts, with the stations that its desks have then.
-use Rattle.std.proofs.Common.{◌≡◌, ◌∙◌, refl, sym, ap, subst, inl, inr, ℕ, zero, suc, ◌<◌, ◌+◌, Bool, true, false, not, ◌&&◌, List, [], ◌∷◌, ◌++◌, Option, Some, None, length, nat_lt, slice_get, slice_set}
+use Rattle.std.proofs.Common.{◌≡◌, ◌∙◌, refl, sym, ap, subst, inl, inr, ℕ, zero, suc, ◌<◌, ◌+◌, ◌==◌, Bool, true, false, not, ◌&&◌, List, [], ◌∷◌, ◌++◌, Option, Some, None, length, nat_lt, slice_get, slice_set, eqb-true}
 use Rattle.std.specs.Prelude.{Result, Ok, Err, filter_map}
 use Rattle.std.specs.declared.alloc.AllocError.{AllocError}
 use Rattle.std.specs.List.{AllZip}
@@ -9,17 +9,21 @@ use Rattle.std.specs.Ordering.{nat_cmp}
 use Rattle.std.specs.BTreeMap.{is_at}
 use Rattle.std.proofs.lemmas.Bool.{ltb-true}
 use Rattle.std.proofs.lemmas.List.Elements.{filter_map-append}
+use Rattle.std.proofs.lemmas.List.Quantifiers.{position-Some}
+use Rattle.std.proofs.lemmas.Option.{get_or_from_slice_get}
 use Rattle.rd_base.specs.declared.journal.Item.{Item}
 use Rattle.rd_base.specs.declared.journal.Key.{Key}
 use Rattle.rd_base.specs.declared.status.Status.{Status}
 use Rattle.rd_client.specs.Core as client
-use Rattle.rd_client.specs.Core.{Outgoing, may_be_asked}
+use Rattle.rd_client.specs.Core.{ClientCoreState, Outgoing, may_be_asked, plain}
 use Rattle.rd_client.specs.declared.heard.Heard.{Heard}
 use Rattle.rd_client.specs.declared.heard.Heard.TheVariants.{Nothing, Ask, Print}
+use Rattle.rd_core.specs.Core as core
 use Rattle.rd_desk.specs.declared.calls.DeskCall.{DeskCall}
 use Rattle.rd_desk.specs.declared.calls.DeskCall.TheVariants as desk
 use Rattle.rd_desk.specs.declared.calls.DeskReply.{DeskReply}
 use Rattle.rd_desk.specs.declared.calls.DeskReply.TheVariants as replied
+use Rattle.rd_devices.specs.Removal.{removal_bytes}
 use Rattle.rd_drive.specs.declared.plan.Job.{Job}
 use Rattle.rd_front.specs.Front.{AddsBy, AddsIf, Announces, AnnouncesOne, AnnouncesUnless, AnswersDirectly, BeginsIf, ChannelEnds, ClientDoes, Collects, CutsAt, DeskDoes, Each, EndsBy, Fills, FillsBy, FollowsFrom, FrontAdds, FrontBegins, FrontHears, FrontRemoves, FrontRetries, FrontStep, GivesBy, GivesCollected, GivesNext, Hands, HeardBy, OpeningEnds, PutBy, Puts, PutsIf, Refreshes, RefreshesOne, RefusedPut, RemovesBy, Sends, SessionEnds, Then, Where, begun, desk_place, done_at, done_if, done_where, end_call, is_front_full, is_front_ready, may_add, may_begin, may_hear, may_remove, most_written, one_if_done, with_new_data}
 use Rattle.rd_front.specs.Room.{MessageRoom}
@@ -42,9 +46,10 @@ use Rattle.rd_turn.specs.declared.object.Entry.{Entry}
 use Rattle.rd_turn.specs.History.{Leads}
 use Rattle.rd_world.specs.Devices.{PrinterNames, printer_data}
 use Rattle.rd_world.specs.Events.{completion_message}
+use Rattle.rd_world.specs.Talk.{Has}
 use Rattle.rd_world.specs.World.{Kept}
 use Rattle.rd_served.specs.Histories.{Among, AreStationed, CallGoes, HearsAs, HistoryGoes, IsHeardBy, RanOut, handed_out}
-use Rattle.rd_served.specs.Parts.{AsksBy, Comes, EndsEach, IsDirect, IsOpenCall, MayForget, Part, PartGoes, PartsGo, asked_by, begins, calls, directs, duplicate_by, duplicate_of, ended_front, ends, forgets, handed_by, heard_by, hears, is_lost, is_unfit, keeps, learns, misplaces, refreshes, sends, tells_gone, tells_there, tries, unwritten, writes}
+use Rattle.rd_served.specs.Parts.{AsksBy, Comes, EndsEach, FitsCall, IsDirect, IsOpenCall, MayForget, Part, PartGoes, PartsGo, asked_by, begins, calls, directs, duplicate_by, duplicate_of, ended_front, ends, forgets, handed_by, heard_by, hears, is_lost, is_unfit, keeps, learns, misplaces, refreshes, sends, tells_gone, tells_there, tries, unwritten, writes}
 use Rattle.rd_served.specs.Served.{Asking, IsStationed, Served, asks, hands, idle, refused}
 use Rattle.rd_served.proofs.LiftLemmas.{lifted}
 
@@ -211,7 +216,7 @@ at_place (x ∷ ds) (suc place) d after (s ∷ ss) there at =
 
 -- A desk is called.
 module _ (p q : FrontState) (a b : Asking) (place : ℕ) (does : DeskCall) (back : DeskReply) (own : IsOpenCall does) (did : DeskDoes p place does back q)
-    (asking : (stations : List Of) → AsksBy (served p a stations) place (did.before).id does back b) where
+    (asking : (stations : List Of) → AsksBy (served p a stations) place (did.before).id does back b) (fits : (stations : List Of) → FitsCall (served p a stations) (did.before).id does) where
   abbrev called_came : (after : List Of) → AreStationed q.desks after → (items : List Item) × Came p a [] [] q b after
   called_came after at =
       let found = at_place p.desks place did.before did.after after did.there (subst (λ (s : FrontState). AreStationed s.desks after) did.put_back at) in
@@ -232,6 +237,7 @@ module _ (p q : FrontState) (a b : Asking) (place : ℕ) (does : DeskCall) (back
               has = found.there up.first;
               id_is = refl;
               own = own;
+              fits = fits (slice_set after place up.first);
               called = up.called;
               front_is = did.put_back;
               stations_are = found.again up.first;
@@ -342,24 +348,24 @@ module _ (p q : FrontState) (k : Kept) (place : ℕ) (at : desk_place p.desks k.
       let ended : Does next (refused k (why.Duplicate key)) [] [] q idle =
       joins next next q (refused k (why.Duplicate key)) idle idle [] [] [] [] (forgotten next k (why.Duplicate key) tt) (channel_ends next q follows.1) in
       joins_first p next q (asks k) (refused k refusal.why) idle back [] []
-      (called_tells p next (asks k) (refused k refusal.why) place (desk.Put k.job) (replied.Put (Err refusal)) tt did (λ stations. (comes stations, refl)) back
+      (called_tells p next (asks k) (refused k refusal.why) place (desk.Put k.job) (replied.Put (Err refusal)) tt did (λ stations. (comes stations, refl)) (λ stations. tt) back
       (λ items said. absurd (let e : reply.Duplicate key ≡ reply.Unfit = sym follows.0 ∙ said in cc (e)))
       (λ items other said. let e : reply.Duplicate key ≡ reply.Duplicate other = sym follows.0 ∙ said in let f : key ≡ other = cc in ap (λ (w : PutWhy). duplicate_by w) is ∙ ap (λ (l : Key). Some l) f)
       (ap handed_out follows.0))
       (subst (λ (w : PutWhy). Does next (refused k w) [] [] q idle) (sym is) ended)
   put_refused next refusal back did cause is follows =
-      joins_last p next q (asks k) (refused k refusal.why) idle back [] [] (called p next (asks k) (refused k refusal.why) place (desk.Put k.job) (replied.Put (Err refusal)) tt did (λ stations. (comes stations, refl)))
+      joins_last p next q (asks k) (refused k refusal.why) idle back [] [] (called p next (asks k) (refused k refusal.why) place (desk.Put k.job) (replied.Put (Err refusal)) tt did (λ stations. (comes stations, refl)) (λ stations. tt))
       (subst (λ (w : PutWhy). Answers next (refused k w) back [] q idle) (sym is) (after_refusal next k cause back q (λ key same. cc (same)) follows))
 
   put_by : (next : FrontState) (answer : DeskReply) (back : FrontReply) → DeskDoes p place (desk.Put k.job) answer next → PutBy next k.device place answer back q → Answers p (asks k) back [] q idle
   put_by next (replied.Put (Ok done)) back did follows =
-      joins_last p next q (asks k) idle idle back [] [] (called p next (asks k) idle place (desk.Put k.job) (replied.Put (Ok done)) tt did (λ stations. (comes stations, refl)))
+      joins_last p next q (asks k) idle idle back [] [] (called p next (asks k) idle place (desk.Put k.job) (replied.Put (Ok done)) tt did (λ stations. (comes stations, refl)) (λ stations. tt))
       (quiet next q idle idle back [] (quiet_as back _ follows.0 (done_quiet (Some place) next)) (same next q idle follows.1))
   put_by next (replied.Put (Err refusal)) back did follows =
       put_refused next refusal back did refusal.why refl (subst (λ (j : Job). RefusedPut next k.device j refusal.why back q) (same_job k.job refusal did.before did.after did.called) follows)
   put_by next (replied.Unfit job) back did follows =
       joins_first p next q (asks k) idle idle back [] []
-      (called_tells p next (asks k) idle place (desk.Put k.job) (replied.Unfit job) tt did (λ stations. (comes stations, refl)) back (λ items said. refl) (λ items key said. absurd (let e : reply.Unfit ≡ reply.Duplicate key = sym follows.0 ∙ said in cc (e)))
+      (called_tells p next (asks k) idle place (desk.Put k.job) (replied.Unfit job) tt did (λ stations. (comes stations, refl)) (λ stations. tt) back (λ items said. refl) (λ items key said. absurd (let e : reply.Unfit ≡ reply.Duplicate key = sym follows.0 ∙ said in cc (e)))
       (ap handed_out follows.0))
       (same next q idle follows.1)
   put_by next (replied.Announced answer) back did follows = absurd follows
@@ -391,12 +397,12 @@ retries p (Some k) is on back q did =
 
 -- ---- announcements
 
-plain_call : (p q : FrontState) (place : ℕ) (does : DeskCall) (back : DeskReply) → IsOpenCall does → (did : DeskDoes p place does back q) → ((stations : List Of) → AsksBy (served p idle stations) place (did.before).id does back idle) → Does p idle [] [] q idle
-plain_call p q place does back own did asking = called p q idle idle place does back own did asking
+plain_call : (p q : FrontState) (place : ℕ) (does : DeskCall) (back : DeskReply) → IsOpenCall does → (did : DeskDoes p place does back q) → ((stations : List Of) → AsksBy (served p idle stations) place (did.before).id does back idle) → ((stations : List Of) → FitsCall (served p idle stations) (did.before).id does) → Does p idle [] [] q idle
+plain_call p q place does back own did asking fits = called p q idle idle place does back own did asking fits
 
 announces : (p : FrontState) (place : Option ℕ) (found : Bool) (q : FrontState) → Announces p place found q → Does p idle [] [] q idle
 announces p None found q did = same p q idle did.1
-announces p (Some place) found q did = plain_call p q place desk.Announce did.0 tt did.1 (λ stations. refl)
+announces p (Some place) found q did = plain_call p q place desk.Announce did.0 tt did.1 (λ stations. refl) (λ stations. tt)
 
 announces_unless : (removed : Bool) (p : FrontState) (device : ℕ) (found : Bool) (q : FrontState) → AnnouncesUnless removed p device found q → Does p idle [] [] q idle
 announces_unless true p device found q did = same p q idle did.1
@@ -494,19 +500,39 @@ begins_all p channel may back q did =
 
 -- ---- a device is gone, or there again
 
-cuts : (p : FrontState) (place : Option ℕ) (q : FrontState) → CutsAt p place q → Does p idle [] [] q idle
-cuts p None q did = same p q idle did
-cuts p (Some place) q did = plain_call p q place desk.Remove did.0 tt did.1 (λ stations. refl)
+-- the desk of a device is the device's
+desk_of : (ds : List DeviceDeskState) (place device : ℕ) (d : DeviceDeskState) → desk_place ds device ≡ Some place → slice_get ds place ≡ Some d → device ≡ d.id
+desk_of ds place device d is there =
+    let found = position-Some (λ (e : DeviceDeskState). e.id == device) ds place d is in
+    let here = get_or_from_slice_get ds place d d there in
+    sym (eqb-true d.id device (ap (λ (e : DeviceDeskState). e.id == device) (sym here) ∙ found.1))
 
-removes_by : (p : FrontState) (device : ℕ) (answer : Result (Unit {0}) AllocError) (back : FrontReply) (q : FrontState) → RemovesBy p device answer back q → Answers p idle back [] q idle
-removes_by p device (Ok done) back q did = quiet p q idle idle back [] (quiet_as back _ did.0 (done_quiet (desk_place p.desks device) q)) (cuts p (desk_place p.desks device) q did.1)
-removes_by p device (Err error) back q did = quiet p q idle idle back [] (quiet_as back reply.Memory did.0 memory_quiet) (same p q idle did.1)
+-- that a device is gone is to be written
+abbrev IsToldGone : FrontState → ℕ → Type 0
+IsToldGone s device = Has (plain (removal_bytes (device ∷ []))) ((s.client).core).outbox
+
+cuts : (p : FrontState) (device : ℕ) (place : Option ℕ) (q : FrontState) → IsToldGone p device → desk_place p.desks device ≡ place → CutsAt p place q → Does p idle [] [] q idle
+cuts p device None q told is did = same p q idle did
+cuts p device (Some place) q told is did =
+    plain_call p q place desk.Remove did.0 tt did.1 (λ stations. refl) (λ stations. (refl, subst (IsToldGone p) (desk_of p.desks place device (did.1).before is (did.1).there) told))
+
+last_has : {A : Type 0} (x : A) (xs : List A) → Has x (xs ++ x ∷ [])
+last_has x [] = inl refl
+last_has x (y ∷ xs) = inr (last_has x xs)
+
+told_gone : (p q : FrontState) (device : ℕ) → q.client ≡ client.tell_removed p.client device → IsToldGone q device
+told_gone p q device is = subst (λ (c : ClientCoreState). Has (plain (removal_bytes (device ∷ []))) (c.core).outbox) (sym is) (last_has (plain (removal_bytes (device ∷ []))) ((p.client).core).outbox)
+
+removes_by : (first p : FrontState) (device : ℕ) (answer : Result (Unit {0}) AllocError) (back : FrontReply) (q : FrontState) → core.Did answer (client.tell_removed first.client device) first.client p.client → RemovesBy p device answer back q → Answers p idle back [] q idle
+removes_by first p device (Ok done) back q told did =
+    quiet p q idle idle back [] (quiet_as back _ did.0 (done_quiet (desk_place p.desks device) q)) (cuts p device (desk_place p.desks device) q (told_gone first p device told) refl did.1)
+removes_by first p device (Err error) back q told did = quiet p q idle idle back [] (quiet_as back reply.Memory did.0 memory_quiet) (same p q idle did.1)
 
 removes_all : (p : FrontState) (device : ℕ) (back : FrontReply) (q : FrontState) → FrontRemoves p device back q → Answers p idle back [] q idle
 removes_all p device back q did =
     joins_last p did.1 q idle idle idle back [] []
     (beside p did.1 idle idle (tells_gone device did.0) [] [] (core_desks p did.1 (p.unsent + one_if_done did.0) (did.2).1) refl refl (λ stations. (did.2, refl, refl)))
-    (removes_by did.1 device did.0 back q did.3)
+    (removes_by p did.1 device did.0 back q ((did.2).0).1 did.3)
 
 adds_by : (p : FrontState) (device : ℕ) (answer : Result (Unit {0}) AllocError) (back : FrontReply) (q : FrontState) → AddsBy p device answer back q → Answers p idle back [] q idle
 adds_by p device (Ok done) back q did = quiet p q idle idle back [] (quiet_as back (done_where did.0 q) did.2 (where_quiet did.0 q)) (announces p (desk_place p.desks device) did.0 q did.1)
@@ -545,29 +571,37 @@ lost p device c = beside p p (hands device c) idle (unwritten device c) (None �
 one_desk : (ds : List DeviceDeskState) (place : ℕ) (d e : DeviceDeskState) → slice_get ds place ≡ Some d → slice_get ds place ≡ Some e → d ≡ e
 one_desk ds place d e one two = let both : Some d ≡ Some e = sym one ∙ two in cc (both)
 
-collected : (p q : FrontState) (place : ℕ) (d : DeviceDeskState) (answer : DeskReply) (came : Got) → slice_get p.desks place ≡ Some d → DeskDoes p place desk.Collect answer q → GivesCollected d.id answer came → Does p idle (message_of came) [] q idle
-collected p q place d (replied.Collected None) came there did gives =
-    subst (λ (g : Got). Does p idle (message_of g) [] q idle) (sym gives) (called p q idle idle place desk.Collect (replied.Collected None) tt did (λ stations. refl))
-collected p q place d (replied.Collected (Some c)) (got.Message message) there did gives =
-    joins p q q idle (hands (did.before).id c) idle [] (Some message ∷ []) [] [] (called p q idle (hands (did.before).id c) place desk.Collect (replied.Collected (Some c)) tt did (λ stations. (refl, refl)))
+collected : (p q : FrontState) (place : ℕ) (d : DeviceDeskState) (answer : DeskReply) (came : Got) → (((p.client).core).outbox ≡ []) → slice_get p.desks place ≡ Some d → DeskDoes p place desk.Collect answer q → GivesCollected d.id answer came → Does p idle (message_of came) [] q idle
+collected p q place d (replied.Collected None) came none there did gives =
+    subst (λ (g : Got). Does p idle (message_of g) [] q idle) (sym gives) (called p q idle idle place desk.Collect (replied.Collected None) tt did (λ stations. refl) (λ stations. none))
+collected p q place d (replied.Collected (Some c)) (got.Message message) none there did gives =
+    joins p q q idle (hands (did.before).id c) idle [] (Some message ∷ []) [] [] (called p q idle (hands (did.before).id c) place desk.Collect (replied.Collected (Some c)) tt did (λ stations. (refl, refl)) (λ stations. none))
     (written q (did.before).id c message (subst (λ (x : DeviceDeskState). message ≡ completion_message x.id c) (one_desk p.desks place d did.before there did.there) gives))
-collected p q place d (replied.Collected (Some c)) got.Memory there did gives =
-    joins p q q idle (hands (did.before).id c) idle [] (None ∷ []) [] [] (called p q idle (hands (did.before).id c) place desk.Collect (replied.Collected (Some c)) tt did (λ stations. (refl, refl))) (lost q (did.before).id c)
-collected p q place d (replied.Collected (Some c)) got.Nothing there did gives = absurd gives
-collected p q place d (replied.Announced answer) came there did gives = absurd gives
-collected p q place d (replied.Put answer) came there did gives = absurd gives
-collected p q place d (replied.Unfit job) came there did gives = absurd gives
-collected p q place d (replied.Worked w) came there did gives = absurd gives
-collected p q place d (replied.Removed answer) came there did gives = absurd gives
-collected p q place d replied.Dropped came there did gives = absurd gives
-collected p q place d replied.Ended came there did gives = absurd gives
+collected p q place d (replied.Collected (Some c)) got.Memory none there did gives =
+    joins p q q idle (hands (did.before).id c) idle [] (None ∷ []) [] [] (called p q idle (hands (did.before).id c) place desk.Collect (replied.Collected (Some c)) tt did (λ stations. (refl, refl)) (λ stations. none)) (lost q (did.before).id c)
+collected p q place d (replied.Collected (Some c)) got.Nothing none there did gives = absurd gives
+collected p q place d (replied.Announced answer) came none there did gives = absurd gives
+collected p q place d (replied.Put answer) came none there did gives = absurd gives
+collected p q place d (replied.Unfit job) came none there did gives = absurd gives
+collected p q place d (replied.Worked w) came none there did gives = absurd gives
+collected p q place d (replied.Removed answer) came none there did gives = absurd gives
+collected p q place d replied.Dropped came none there did gives = absurd gives
+collected p q place d replied.Ended came none there did gives = absurd gives
 
-collects : (there : Bool) (p : FrontState) (place : ℕ) (came : Got) (q : FrontState) → Collects there p place came q → Does p idle (message_of came) [] q idle
-collects true p place came q did = collected p q place did.1 did.0 came did.2 did.3 did.4
-collects false p place came q did = subst (λ (g : Got). Does p idle (message_of g) [] q idle) (sym did.0) (same p q idle did.1)
+collects : (there : Bool) (p : FrontState) (place : ℕ) (came : Got) (q : FrontState) → (((p.client).core).outbox ≡ []) → Collects there p place came q → Does p idle (message_of came) [] q idle
+collects true p place came q none did = collected p q place did.1 did.0 came none did.2 did.3 did.4
+collects false p place came q none did = subst (λ (g : Got). Does p idle (message_of g) [] q idle) (sym did.0) (same p q idle did.1)
 
 core_sends : (p q : FrontState) (sent : Option Outgoing) → Sends p sent q → (w : Marks) → filter_map marked_by (sends p.channel sent ∷ []) ≡ w → Does p idle w [] q idle
 core_sends p q sent did w is = beside p q idle idle (sends p.channel sent) w [] (ap (λ (s : FrontState). s.desks) did.1) is refl (λ stations. (refl, did, refl, refl))
+
+-- where the core hands nothing out, it has nothing to write
+none_left : (c new : ClientCoreState) → client.client_send c ≡ (new, None) → (new.core).outbox ≡ []
+none_left c new is = by (c.core).outbox refl is
+  where
+    by : (os : List Outgoing) → (c.core).outbox ≡ os → (let r : ClientCoreState × Option Outgoing = let x = core.send_from c.core os in (record c { core = x.0 }, x.1) in r ≡ (new, None)) → (new.core).outbox ≡ []
+    by [] empty e = ap (λ (r : ClientCoreState × Option Outgoing). ((r.0).core).outbox) (sym e) ∙ empty
+    by (o ∷ os) empty e = let some : Some o ≡ None = ap (λ (r : ClientCoreState × Option Outgoing). r.1) e in absurd (cc (some))
 
 gives : (p : FrontState) (place : ℕ) (came : Got) (q : FrontState) → GivesNext p place came q → Does p idle (message_of came) [] q idle
 gives p place came q did = by did.0 did.2 did.3
@@ -576,7 +610,7 @@ gives p place came q did = by did.0 did.2 did.3
     by (Some o) sends_it on =
         subst (λ (g : Got). Does p idle (message_of g) [] q idle) (sym on.0)
         (joins p did.1 q idle idle idle (Some o.message ∷ []) [] [] [] (core_sends p did.1 (Some o) sends_it (Some o.message ∷ []) refl) (same did.1 q idle on.1))
-    by None sends_none on = joins p did.1 q idle idle idle [] (message_of came) [] [] (core_sends p did.1 None sends_none [] refl) (collects (nat_lt place (length (did.1).desks)) did.1 place came q on)
+    by None sends_none on = joins p did.1 q idle idle idle [] (message_of came) [] [] (core_sends p did.1 None sends_none [] refl) (collects (nat_lt place (length (did.1).desks)) did.1 place came q (none_left p.client (did.1).client (sends_none.0)) on)
 
 -- one message, if one came, and then others
 filled : (p next q : FrontState) (place : ℕ) (came : Got) (messages : Messages) (left : Rest) (others : Messages → Type 0) → ((later : Messages) → others later → Does next idle (marks_of later left) [] q idle)

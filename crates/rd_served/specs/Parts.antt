@@ -6,13 +6,14 @@ use Rattle.rd_base.specs.declared.journal.Key.{Key}
 use Rattle.rd_base.specs.declared.status.Status.{Status}
 use Rattle.rd_base.specs.Statuses.{insufficient_resources, no_such_device}
 use Rattle.rd_client.specs.Core as client
-use Rattle.rd_client.specs.Core.{Outgoing, may_be_asked}
+use Rattle.rd_client.specs.Core.{Outgoing, may_be_asked, plain}
 use Rattle.rd_client.specs.declared.heard.Heard.{Heard}
 use Rattle.rd_client.specs.declared.heard.Heard.TheVariants.{Ask}
 use Rattle.rd_desk.specs.declared.calls.DeskCall.{DeskCall}
 use Rattle.rd_desk.specs.declared.calls.DeskCall.TheVariants as desk
 use Rattle.rd_desk.specs.declared.calls.DeskReply.{DeskReply}
 use Rattle.rd_desk.specs.declared.calls.DeskReply.TheVariants as replied
+use Rattle.rd_devices.specs.Removal.{removal_bytes}
 use Rattle.rd_drive.specs.declared.plan.Job.{Job}
 use Rattle.rd_front.specs.Front.{ClientDoes, Sends, begun, channel_ended, desk_place, end_call, gone_status, is_front_ready, may_hear, most_written, one_if_done, with_new_data}
 use Rattle.rd_front.specs.State.{DeviceDeskState, FrontState, SessionStation}
@@ -24,6 +25,7 @@ use Rattle.rd_station.specs.declared.answers.Completion.{Completion}
 use Rattle.rd_station.specs.declared.refusals.PutWhy.{PutWhy}
 use Rattle.rd_station.specs.declared.refusals.PutWhy.TheVariants as why
 use Rattle.rd_world.specs.Events.{completion_message}
+use Rattle.rd_world.specs.Talk.{Has}
 use Rattle.rd_world.specs.World.{Kept}
 use Rattle.rd_served.specs.Served.{Asking, CallsDesk, Served, asks, hands, idle, refused}
 
@@ -95,6 +97,12 @@ IsOpenCall desk.DropChannel = ⊥
 IsOpenCall desk.End = ⊥
 IsOpenCall _ = Unit {0}
 
+-- A completion is collected where the core has nothing to write. A device is cut off once the core has to write that it is gone, while nothing is under way.
+abbrev pub FitsCall : Served → ℕ → DeskCall → Type 0
+FitsCall s id desk.Collect = (((s.front).client).core).outbox ≡ []
+FitsCall s id desk.Remove = (s.asking ≡ idle) × Has (plain (removal_bytes (id ∷ []))) (((s.front).client).core).outbox
+FitsCall s id _ = Unit {0}
+
 -- The desk at a place is called.
 pub record CallsAt (old : Served) (place id : ℕ) (does : DeskCall) (back : DeskReply) (items : List Item) (new : Served) : Type 0 where
   pub before : DeviceDeskState
@@ -105,6 +113,7 @@ pub record CallsAt (old : Served) (place id : ℕ) (does : DeskCall) (back : Des
   pub has : slice_get old.stations place ≡ Some first
   pub id_is : before.id ≡ id
   pub own : IsOpenCall does
+  pub fits : FitsCall old id does
   pub called : CallsDesk before after first does back items last
   pub front_is : new.front ≡ record old.front { desks = slice_set (old.front).desks place after }
   pub stations_are : new.stations ≡ slice_set old.stations place last

@@ -1,5 +1,5 @@
 -- A front with the station of each of its desks, as the front's pass saw it last.
-use Rattle.std.specs.Prelude.{◌≡◌, ◌≢◌, ◌++◌, ℕ, List, All}
+use Rattle.std.specs.Prelude.{◌≡◌, ◌≢◌, ◌∷◌, ◌++◌, ℕ, List, [], All}
 use Rattle.std.specs.List.{AllByRecursion}
 use Rattle.rd_base.specs.declared.journal.Item.{Item}
 use Rattle.rd_desk.specs.declared.calls.DeskCall.{DeskCall}
@@ -10,7 +10,7 @@ use Rattle.rd_station.specs.Station.{StationCall, StationSteps, applies, takes}
 use Rattle.rd_station.specs.declared.answers.Completion.{Completion}
 use Rattle.rd_station.specs.declared.refusals.PutWhy.{PutWhy}
 use Rattle.rd_turn.specs.declared.object.Entry.{Entry}
-use Rattle.rd_turn.specs.History.{Leads}
+use Rattle.rd_turn.specs.History.{Leads, entry}
 use Rattle.rd_world.specs.Devices.{device_cuts, device_parked, device_runs}
 use Rattle.rd_world.specs.World.{Kept}
 
@@ -44,11 +44,21 @@ pub record IsStationed (d : DeviceDeskState) (s : SessionStation) : Type 0 where
   pub leads : Leads SessionDeskStep (d.turn).opening (d.pass).seen s
   pub hands : AreHands (d.pass).number (d.pass).seen
 
+-- What the front's pass of a desk sees by a call: what hands did there since its call before, which leads the station on, and then the call itself.
+pub record Sees (before after : DeviceDeskState) (first : SessionStation) (does : DeskCall) (back : DeskReply) (middle : SessionStation) : Type 0 where
+  pub turn : after.turn ≡ before.turn
+  pub number : (after.pass).number ≡ (before.pass).number
+  pub others : List (Entry DeskCall DeskReply)
+  pub hands : All (λ (e : Entry DeskCall DeskReply). IsHandCall e.call) others
+  pub leads : Leads SessionDeskStep first others middle
+  pub seen : (after.pass).seen ≡ ((before.pass).seen ++ others) ++ entry (before.pass).number does back ∷ []
+
 -- The front calls a desk: from what the pass saw last the station went on by what hands did, and then by this call. All in all it stored these entries.
 pub record CallsDesk (before after : DeviceDeskState) (first : SessionStation) (does : DeskCall) (back : DeskReply) (items : List Item) (last : SessionStation) : Type 0 where
   pub id : after.id ≡ before.id
   pub middle : SessionStation
   pub works : Works first middle
+  pub sees : Sees before after first does back middle
   pub step : SessionDeskStep middle does back last
   pub stored : last.journal ≡ first.journal ++ items
 

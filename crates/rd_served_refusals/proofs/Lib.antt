@@ -1,0 +1,4 @@
+pub mod BytesLemmas
+pub mod InLineLemmas
+pub mod LineLemmas
+pub mod PointLemmas

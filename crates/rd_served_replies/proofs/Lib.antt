@@ -1,0 +1,14 @@
+pub mod GivenLemmas
+pub mod LedLemmas
+pub mod FollowLemmas
+pub mod BeginLemmas
+pub mod JobLemmas
+pub mod PutLemmas
+pub mod QuietLemmas
+pub mod HandedLemmas
+pub mod AnswerLemmas
+pub mod ReadLemmas
+pub mod MildLemmas
+pub mod GoneLemmas
+pub mod HostLemmas
+pub mod EachLemmas
