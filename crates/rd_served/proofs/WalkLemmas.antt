@@ -15,7 +15,7 @@ use Rattle.rd_base.specs.declared.journal.Item.{Item}
 use Rattle.rd_base.specs.declared.journal.Key.{Key}
 use Rattle.rd_base.specs.declared.status.Status.{Status}
 use Rattle.rd_client.specs.Core as client
-use Rattle.rd_client.specs.Core.{ClientCoreState, Outgoing, may_be_asked, plain}
+use Rattle.rd_client.specs.Core.{ClientCoreState, Outgoing, is_gone, may_be_asked, plain}
 use Rattle.rd_client.specs.declared.heard.Heard.{Heard}
 use Rattle.rd_client.specs.declared.heard.Heard.TheVariants.{Nothing, Ask, Print}
 use Rattle.rd_core.specs.Core as core
@@ -25,7 +25,7 @@ use Rattle.rd_desk.specs.declared.calls.DeskReply.{DeskReply}
 use Rattle.rd_desk.specs.declared.calls.DeskReply.TheVariants as replied
 use Rattle.rd_devices.specs.Removal.{removal_bytes}
 use Rattle.rd_drive.specs.declared.plan.Job.{Job}
-use Rattle.rd_front.specs.Front.{AddsBy, AddsIf, Announces, AnnouncesOne, AnnouncesUnless, AnswersDirectly, BeginsIf, ChannelEnds, ClientDoes, Collects, CutsAt, DeskDoes, Each, EndsBy, Fills, FillsBy, FollowsFrom, FrontAdds, FrontBegins, FrontHears, FrontRemoves, FrontRetries, FrontStep, GivesBy, GivesCollected, GivesNext, Hands, HeardBy, OpeningEnds, PutBy, Puts, PutsIf, Refreshes, RefreshesOne, RefusedPut, RemovesBy, Sends, SessionEnds, Then, Where, begun, desk_place, done_at, done_if, done_where, end_call, is_front_full, is_front_ready, may_add, may_begin, may_hear, may_remove, most_written, one_if_done, with_new_data}
+use Rattle.rd_front.specs.Front.{AddsBy, AddsIf, Announces, AnnouncesOne, AnnouncesUnless, AnswersDirectly, BeginsIf, ChannelEnds, ClientDoes, Collects, CutsAt, DeskDoes, Each, EndsBy, Fills, FillsBy, FollowsFrom, FrontAdds, FrontBegins, FrontHears, FrontRemoves, FrontRetries, FrontStep, GivesBy, GivesCollected, GivesNext, Hands, HeardBy, OpeningEnds, PutBy, Puts, PutsIf, Refreshes, RefreshesOne, RefusedPut, RemovesBy, Sends, SessionEnds, Then, Where, begun, desk_place, done_at, done_if, done_where, end_call, is_front_full, is_front_ready, is_told_there, may_add, may_begin, may_hear, may_remove, most_written, one_if_done, with_new_data}
 use Rattle.rd_front.specs.Room.{MessageRoom}
 use Rattle.rd_front.specs.State.{DeviceDeskState, FrontState, IsCalled, SessionStation}
 use Rattle.rd_front.specs.declared.calls.FrontCall.{FrontCall}
@@ -528,25 +528,32 @@ removes_by first p device (Ok done) back q told did =
     quiet p q idle idle back [] (quiet_as back _ did.0 (done_quiet (desk_place p.desks device) q)) (cuts p device (desk_place p.desks device) q (told_gone first p device told) refl did.1)
 removes_by first p device (Err error) back q told did = quiet p q idle idle back [] (quiet_as back reply.Memory did.0 memory_quiet) (same p q idle did.1)
 
-removes_all : (p : FrontState) (device : ℕ) (back : FrontReply) (q : FrontState) → FrontRemoves p device back q → Answers p idle back [] q idle
-removes_all p device back q did =
+-- a channel is on where a device may be told of
+on_of : (on rest : Bool) → (on && rest) ≡ true → on ≡ true
+on_of true rest is = refl
+on_of false rest is = absurd (cc (is))
+
+removes_all : (p : FrontState) (device : ℕ) → p.on ≡ true → (back : FrontReply) (q : FrontState) → FrontRemoves p device back q → Answers p idle back [] q idle
+removes_all p device on back q did =
     joins_last p did.1 q idle idle idle back [] []
-    (beside p did.1 idle idle (tells_gone device did.0) [] [] (core_desks p did.1 (p.unsent + one_if_done did.0) (did.2).1) refl refl (λ stations. (did.2, refl, refl)))
+    (beside p did.1 idle idle (tells_gone device did.0) [] [] (core_desks p did.1 (p.unsent + one_if_done did.0) (did.2).1) refl refl (λ stations. (did.2, refl, refl, on)))
     (removes_by p did.1 device did.0 back q ((did.2).0).1 did.3)
 
 adds_by : (p : FrontState) (device : ℕ) (answer : Result (Unit {0}) AllocError) (back : FrontReply) (q : FrontState) → AddsBy p device answer back q → Answers p idle back [] q idle
 adds_by p device (Ok done) back q did = quiet p q idle idle back [] (quiet_as back (done_where did.0 q) did.2 (where_quiet did.0 q)) (announces p (desk_place p.desks device) did.0 q did.1)
 adds_by p device (Err error) back q did = quiet p q idle idle back [] (quiet_as back reply.Memory did.0 memory_quiet) (same p q idle did.1)
 
-adds_if : (found : Bool) (p : FrontState) (device : ℕ) (back : FrontReply) (q : FrontState) → AddsIf found p device back q → Answers p idle back [] q idle
-adds_if true p device back q did =
+adds_if : (found : Bool) (p : FrontState) (device : ℕ) → p.on ≡ true → (back : FrontReply) (q : FrontState) → AddsIf found p device back q → Answers p idle back [] q idle
+adds_if true p device on back q did =
     joins_last p did.1 q idle idle idle back [] []
-    (beside p did.1 idle idle (tells_there device did.0) [] [] (core_desks p did.1 (p.unsent + one_if_done did.0) (did.2).1) refl refl (λ stations. (did.2, refl, refl)))
+    (beside p did.1 idle idle (tells_there device did.0) [] [] (core_desks p did.1 (p.unsent + one_if_done did.0) (did.2).1) refl refl (λ stations. (did.2, refl, refl, on)))
     (adds_by did.1 device did.0 back q did.3)
-adds_if false p device back q did = quiet p q idle idle back [] (quiet_as back reply.Memory did.0 memory_quiet) (same p q idle did.1)
+adds_if false p device on back q did = quiet p q idle idle back [] (quiet_as back reply.Memory did.0 memory_quiet) (same p q idle did.1)
 
-adds_all : (p : FrontState) (device : ℕ) (back : FrontReply) (q : FrontState) → FrontAdds p device back q → Answers p idle back [] q idle
-adds_all p device back q did = joins_last p did.1 q idle idle idle back [] [] (refreshes_one p device did.0 did.1 did.2) (adds_if did.0 did.1 device back q did.3)
+adds_all : (p : FrontState) (device : ℕ) → p.on ≡ true → (back : FrontReply) (q : FrontState) → FrontAdds p device back q → Answers p idle back [] q idle
+adds_all p device on back q did =
+    let still = still_one p device did.0 did.1 did.2 in
+    joins_last p did.1 q idle idle idle back [] [] (refreshes_one p device did.0 did.1 did.2) (adds_if did.0 did.1 device (still.0 ∙ on) back q did.3)
 
 -- ---- the writer
 
@@ -867,8 +874,8 @@ call_goes p (call.Begin channel) back q did after at =
 call_goes p (call.Hear message) back q did after at = hears_call p message back q did after at
 call_goes p call.Retry back q did after at = silent p call.Retry back q (λ h is. is) (unless_full p back q _ p.on (λ on does. retries p p.kept refl on back q does) did) after at
 call_goes p (call.Next place room) back q did after at = hands_call p place room back q did after at
-call_goes p (call.Remove device) back q did after at = silent p (call.Remove device) back q (λ h is. is) (unless_full p back q _ (may_remove p device) (λ may does. removes_all p device back q does) did) after at
-call_goes p (call.Add device) back q did after at = silent p (call.Add device) back q (λ h is. is) (unless_full p back q _ (may_add p device) (λ may does. adds_all p device back q does) did) after at
+call_goes p (call.Remove device) back q did after at = silent p (call.Remove device) back q (λ h is. is) (unless_full p back q _ (may_remove p device) (λ may does. removes_all p device (on_of p.on (is_told_there p device) may) back q does) did) after at
+call_goes p (call.Add device) back q did after at = silent p (call.Add device) back q (λ h is. is) (unless_full p back q _ (may_add p device) (λ may does. adds_all p device (on_of p.on (is_front_ready p && is_gone p.client device) may) back q does) did) after at
 call_goes p call.Look back q did after at =
     silent p call.Look back q (λ h is. is) (quiet p q idle idle back [] (quiet_as back _ did.0 (λ is. cc (is), λ key is. cc (is), refl)) (same p q idle did.1)) after at
 call_goes p call.EndChannel back q did after at =

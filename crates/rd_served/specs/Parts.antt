@@ -38,7 +38,7 @@ pub data Part : Type 0 where
   directs : Status → Result (Unit {0}) AllocError → Part
   -- the desk at a place is called, of the device with this id; its station stored these entries since the call before
   calls : ℕ → ℕ → DeskCall → DeskReply → List Item → Part
-  -- the host is told that a device is gone, or there again
+  -- the host is told that a device is gone, or there again, while a channel is on
   tells_gone tells_there : ℕ → Result (Unit {0}) AllocError → Part
   -- the core's first message on a channel is handed out
   sends : ℕ → Option Outgoing → Part
@@ -146,9 +146,9 @@ PartGoes old (directs st answer) new =
     (k : Kept) × IsDirect old k st × ClientDoes old.front (client.directs k.job k.device st answer) (one_if_done answer) new.front × (new.asking ≡ idle) × (new.stations ≡ old.stations)
 PartGoes old (calls place id does back items) new = CallsAt old place id does back items new
 PartGoes old (tells_gone device answer) new =
-    ClientDoes old.front (client.tells_removed device answer) (one_if_done answer) new.front × (new.asking ≡ old.asking) × (new.stations ≡ old.stations)
+    ClientDoes old.front (client.tells_removed device answer) (one_if_done answer) new.front × (new.asking ≡ old.asking) × (new.stations ≡ old.stations) × ((old.front).on ≡ true)
 PartGoes old (tells_there device answer) new =
-    ClientDoes old.front (client.tells_added device answer) (one_if_done answer) new.front × (new.asking ≡ old.asking) × (new.stations ≡ old.stations)
+    ClientDoes old.front (client.tells_added device answer) (one_if_done answer) new.front × (new.asking ≡ old.asking) × (new.stations ≡ old.stations) × ((old.front).on ≡ true)
 PartGoes old (sends channel sent) new =
     (channel ≡ (old.front).channel) × Sends old.front sent new.front × (new.asking ≡ old.asking) × (new.stations ≡ old.stations)
 PartGoes old (writes device c) new = (old.asking ≡ hands device c) × (new ≡ record old { asking = idle })

@@ -20,7 +20,6 @@ use Rattle.rd_core.proofs.KeptLemmas.{sent_fault}
 use Rattle.rd_desk.specs.declared.calls.DeskCall.{DeskCall}
 use Rattle.rd_desk.specs.declared.calls.DeskCall.TheVariants as desk
 use Rattle.rd_desk.specs.declared.calls.DeskReply.{DeskReply}
-use Rattle.rd_desk.specs.declared.calls.DeskReply.TheVariants as replied
 use Rattle.rd_devices.specs.declared.list.Announce.{Announce}
 use Rattle.rd_front.specs.Front.{begun, with_new_data}
 use Rattle.rd_front.specs.State.{FrontState}
@@ -41,13 +40,13 @@ use Rattle.rd_world.specs.Printers.{AreShortNames}
 use Rattle.rd_world.specs.Talk.{Deed, Has, client_moves, client_reads, client_writes, completes, is_removed, journal, on, stores}
 use Rattle.rd_served.specs.Deeds.{AreOnChannel, EachOnChannel, PartsOnChannel, deeds_after, deeds_of, deeds_of_calls, sent_by, stored, stored_each}
 use Rattle.rd_served.specs.Histories.{HistoryGoes}
-use Rattle.rd_served.specs.Parts.{CallsAt, Part, PartGoes, PartsGo, asked_by, begins, calls, directs, ended_front, ends, forgets, keeps, learns, misplaces, refreshes, sends, tells_gone, tells_there, tries, unwritten, writes}
+use Rattle.rd_served.specs.Parts.{CallsAt, FitsCall, Part, PartGoes, PartsGo, asked_by, begins, calls, directs, ended_front, ends, forgets, keeps, learns, misplaces, refreshes, sends, tells_gone, tells_there, tries, unwritten, writes}
 use Rattle.rd_served.specs.Parts as part
 use Rattle.rd_served.specs.Served.{Asking, Served, asks, hands, idle}
 use Rattle.rd_served.proofs.CauseLemmas.{other_id}
 use Rattle.rd_served.proofs.KeyLemmas.{both_true, ended_is, has_at}
 use Rattle.rd_served.proofs.StandingLemmas.{IsKnownAt, came_here, direct_under, ended_outbox, part_known, parts_known, sent_first, sent_none}
-use Rattle.rd_served_order.specs.Orders.{AreMovesInOrder, BeginsWith, EachTimely, IsTimely, PartsTimely, none_until, until_after, until_by, until_calls}
+use Rattle.rd_served_order.specs.Orders.{AreMovesInOrder, BeginsWith, none_until, until_after, until_by, until_calls}
 use Rattle.rd_served_order.proofs.HeadLemmas.{head_met}
 use Rattle.rd_served_order.proofs.NowLemmas.{NowIn, begins_stand, completed_now, heard_now, now_are, owes_none, quiet_now, same_now, sent_now, wrong_now}
 use Rattle.rd_served_order.proofs.OwnLemmas.{IsOwn, asked_never, each_keeps, hands_from, idle_never, named_one, never_by, part_own, stored_keeps}
@@ -168,8 +167,8 @@ module _ (devices : List Announce) where
 
   -- a desk is called
   called_ordered : (p q : Served) (place id : ℕ) (does : DeskCall) (back : DeskReply) (items : List Item) (deeds : List Deed) (until : ℕ → List Deed) → CallsAt p place id does back items q
-      → IsTimely p (calls place id does back items) → IsOrdered p deeds until → IsOrdered q (stored id items ++ deeds) until
-  called_ordered p q place id does back items deeds until at timely is =
+      → IsOrdered p deeds until → IsOrdered q (stored id items ++ deeds) until
+  called_ordered p q place id does back items deeds until at is =
       quiet p q deeds (stored id items ++ deeds) until (λ x. stored_keeps (client_moves x) (kept_moves x) id (reverse items) deeds) (ap (λ (s : FrontState). s.channel) at.front_is) (λ now. sym still ∙ now)
       (λ off. ap (λ (s : FrontState). ((s.client).core).outbox) at.front_is ∙ is.off (sym still ∙ off))
       (λ now moves n. subst (λ (c : ClientCoreState). NowIn devices (Gone until (p.front).channel) moves c q.asking) (sym (ap (λ (s : FrontState). s.client) at.front_is)) (record {
@@ -178,15 +177,15 @@ module _ (devices : List Announce) where
         right = n.right;
         clear = λ device x e. elim (hands_from p place id does back q.asking at.asking_is device x e) [
           | inl was ↦ n.clear device x was
-          | inr here ↦ owes_none devices (Gone until (p.front).channel) moves (p.front).client p.asking n (empty x here.0 here.1)
+          | inr here ↦ owes_none devices (Gone until (p.front).channel) moves (p.front).client p.asking n (empty here.0)
         ];
       })) is
     where
       still : (q.front).on ≡ (p.front).on
       still = ap (λ (s : FrontState). s.on) at.front_is
 
-      empty : (x : Completion) → does ≡ desk.Collect → back ≡ replied.Collected (Some x) → outbox_of p ≡ []
-      empty x collects handed = subst (λ (w : DeskCall). IsTimely p (calls place id w (replied.Collected (Some x)) items)) collects (subst (λ (b : DeskReply). IsTimely p (calls place id does b items)) handed timely)
+      empty : does ≡ desk.Collect → outbox_of p ≡ []
+      empty collects = subst (FitsCall p id) collects at.fits
 
   -- the core does something by which nothing is read or written
   did_ordered : (p q : Served) (deeds more : List Deed) (until : ℕ → List Deed) (call : client.ClientCall) (unsent : ℕ) → ((x : ℕ) → client_moves x more ≡ client_moves x deeds) → (client_call_moves call ≡ []) × client.KeepsClientChannel call → client.ClientStep (p.front).client call (q.front).client
@@ -291,77 +290,77 @@ module _ (devices : List Announce) where
 
   -- ---- each part
 
-  pub part_ordered : AreWritable devices → (p q : Served) (x : Part) (deeds : List Deed) (until : ℕ → List Deed) → PartGoes p x q → IsTimely p x → AreOnChannel (p.front).channel (deeds_of x) → IsKnownAt p deeds → IsOwn devices p deeds → IsOrdered p deeds until
+  pub part_ordered : AreWritable devices → (p q : Served) (x : Part) (deeds : List Deed) (until : ℕ → List Deed) → PartGoes p x q → AreOnChannel (p.front).channel (deeds_of x) → IsKnownAt p deeds → IsOwn devices p deeds → IsOrdered p deeds until
       → IsOrdered q (deeds_of x ++ deeds) (until_by x deeds until)
-  part_ordered writable p q (part.hears channel m answer) deeds until goes timely here known own is = heard_ordered p q channel m answer deeds until goes is
-  part_ordered writable p q tries deeds until goes timely here known own is =
+  part_ordered writable p q (part.hears channel m answer) deeds until goes here known own is = heard_ordered p q channel m answer deeds until goes is
+  part_ordered writable p q tries deeds until goes here known own is =
       light p q deeds until (ap (λ (s : Served). (s.front).client) goes.4) (ap (λ (s : Served). (s.front).channel) goes.4) (ap (λ (s : Served). (s.front).on) goes.4)
       (λ d x e. absurd (never_by q.asking (asks goes.0) (ap (λ (s : Served). s.asking) goes.4) (λ f y g. cc (g)) d x e)) is
-  part_ordered writable p q keeps deeds until goes timely here known own is =
+  part_ordered writable p q keeps deeds until goes here known own is =
       light p q deeds until (ap (λ (s : Served). (s.front).client) goes.3) (ap (λ (s : Served). (s.front).channel) goes.3) (ap (λ (s : Served). (s.front).on) goes.3)
       (λ d x e. absurd (never_by q.asking idle (ap (λ (s : Served). s.asking) goes.3) idle_never d x e)) is
-  part_ordered writable p q forgets deeds until goes timely here known own is =
+  part_ordered writable p q forgets deeds until goes here known own is =
       light p q deeds until (ap (λ (s : Served). (s.front).client) goes.4) (ap (λ (s : Served). (s.front).channel) goes.4) (ap (λ (s : Served). (s.front).on) goes.4)
       (λ d x e. absurd (never_by q.asking idle (ap (λ (s : Served). s.asking) goes.4) idle_never d x e)) is
-  part_ordered writable p q misplaces deeds until goes timely here known own is =
+  part_ordered writable p q misplaces deeds until goes here known own is =
       light p q deeds until (ap (λ (s : Served). (s.front).client) goes.3) (ap (λ (s : Served). (s.front).channel) goes.3) (ap (λ (s : Served). (s.front).on) goes.3)
       (λ d x e. absurd (never_by q.asking idle (ap (λ (s : Served). s.asking) goes.3) idle_never d x e)) is
-  part_ordered writable p q (directs st answer) deeds until goes timely here known own is =
+  part_ordered writable p q (directs st answer) deeds until goes here known own is =
       did_ordered p q deeds deeds until (client.directs (goes.0).job (goes.0).device st answer) _ (λ x. refl) (refl, tt) (goes.2).0 (goes.2).1 (known.keyed.asking goes.0 (direct_under p goes.0 st goes.1)).on
       (did_fault answer (client.direct (p.front).client (goes.0).job (goes.0).device st) (p.front).client (q.front).client ((goes.2).0).1 refl) (λ d x e. absurd (never_by q.asking idle goes.3 idle_never d x e)) is
-  part_ordered writable p q (calls place id does back items) deeds until goes timely here known own is = called_ordered p q place id does back items deeds until goes timely is
-  part_ordered writable p q (tells_gone device (Ok done)) deeds until goes timely here known own is =
-      did_ordered p q deeds (deeds_of (tells_gone device (Ok done)) ++ deeds) until (client.tells_removed device (Ok done)) _ (λ x. refl) (refl, tt) (goes.0).0 (goes.0).1 timely
+  part_ordered writable p q (calls place id does back items) deeds until goes here known own is = called_ordered p q place id does back items deeds until goes is
+  part_ordered writable p q (tells_gone device (Ok done)) deeds until goes here known own is =
+      did_ordered p q deeds (deeds_of (tells_gone device (Ok done)) ++ deeds) until (client.tells_removed device (Ok done)) _ (λ x. refl) (refl, tt) (goes.0).0 (goes.0).1 goes.3
       (did_fault (Ok done) (client.tell_removed (p.front).client device) (p.front).client (q.front).client ((goes.0).0).1 refl) (λ d x e. sym goes.1 ∙ e) is
-  part_ordered writable p q (tells_gone device (Err error)) deeds until goes timely here known own is =
-      did_ordered p q deeds deeds until (client.tells_removed device (Err error)) _ (λ x. refl) (refl, tt) (goes.0).0 (goes.0).1 timely
+  part_ordered writable p q (tells_gone device (Err error)) deeds until goes here known own is =
+      did_ordered p q deeds deeds until (client.tells_removed device (Err error)) _ (λ x. refl) (refl, tt) (goes.0).0 (goes.0).1 goes.3
       (did_fault (Err error) (client.tell_removed (p.front).client device) (p.front).client (q.front).client ((goes.0).0).1 refl) (λ d x e. sym goes.1 ∙ e) is
-  part_ordered writable p q (tells_there device (Ok done)) deeds until goes timely here known own is =
-      did_ordered p q deeds (deeds_of (tells_there device (Ok done)) ++ deeds) until (client.tells_added device (Ok done)) _ (λ x. refl) (refl, tt) (goes.0).0 (goes.0).1 timely
+  part_ordered writable p q (tells_there device (Ok done)) deeds until goes here known own is =
+      did_ordered p q deeds (deeds_of (tells_there device (Ok done)) ++ deeds) until (client.tells_added device (Ok done)) _ (λ x. refl) (refl, tt) (goes.0).0 (goes.0).1 goes.3
       (did_fault (Ok done) (client.tell_added (p.front).client device) (p.front).client (q.front).client ((goes.0).0).1 refl) (λ d x e. sym goes.1 ∙ e) is
-  part_ordered writable p q (tells_there device (Err error)) deeds until goes timely here known own is =
-      did_ordered p q deeds deeds until (client.tells_added device (Err error)) _ (λ x. refl) (refl, tt) (goes.0).0 (goes.0).1 timely
+  part_ordered writable p q (tells_there device (Err error)) deeds until goes here known own is =
+      did_ordered p q deeds deeds until (client.tells_added device (Err error)) _ (λ x. refl) (refl, tt) (goes.0).0 (goes.0).1 goes.3
       (did_fault (Err error) (client.tell_added (p.front).client device) (p.front).client (q.front).client ((goes.0).0).1 refl) (λ d x e. sym goes.1 ∙ e) is
-  part_ordered writable p q (sends channel None) deeds until goes timely here known own is =
+  part_ordered writable p q (sends channel None) deeds until goes here known own is =
       quiet p q deeds deeds until (λ x. refl) (ap (λ (s : FrontState). s.channel) (goes.1).1) (λ now. sym (ap (λ (s : FrontState). s.on) (goes.1).1) ∙ now)
       (λ off. sent_none (p.front).client (q.front).client (goes.1).0 ∙ is.off (sym (ap (λ (s : FrontState). s.on) (goes.1).1) ∙ off))
       (λ now moves n. quiet_now devices (Gone until (p.front).channel) moves (p.front).client (q.front).client p.asking q.asking (client.sends None) refl tt (goes.1).0
       (send_fault (p.front).client (q.front).client None (goes.1).0) (λ d x e. sym goes.2 ∙ e) n) is
-  part_ordered writable p q (sends channel (Some o)) deeds until goes timely here known own is = sends_ordered p q channel o deeds until goes here is
-  part_ordered writable p q (writes device c) deeds until goes timely here known own is =
+  part_ordered writable p q (sends channel (Some o)) deeds until goes here known own is = sends_ordered p q channel o deeds until goes here is
+  part_ordered writable p q (writes device c) deeds until goes here known own is =
       subst (λ (s : Served). IsOrdered s (completes c.key (completion_message device c) ∷ deeds) until) (sym goes.1) (writes_ordered p device c deeds until goes.0 here.0 known own is)
-  part_ordered writable p q (unwritten device c) deeds until goes timely here known own is =
+  part_ordered writable p q (unwritten device c) deeds until goes here known own is =
       light p q deeds until (ap (λ (s : Served). (s.front).client) goes.1) (ap (λ (s : Served). (s.front).channel) goes.1) (ap (λ (s : Served). (s.front).on) goes.1)
       (λ d x e. absurd (never_by q.asking idle (ap (λ (s : Served). s.asking) goes.1) idle_never d x e)) is
-  part_ordered writable p q (learns n answer) deeds until goes timely here known own is =
+  part_ordered writable p q (learns n answer) deeds until goes here known own is =
       light p q deeds until (ap (λ (s : Served). (s.front).client) goes.1) (ap (λ (s : Served). (s.front).channel) goes.1) (ap (λ (s : Served). (s.front).on) goes.1)
       (λ d x e. sym (ap (λ (s : Served). s.asking) goes.1) ∙ e) is
-  part_ordered writable p q (refreshes device) deeds until goes timely here known own is =
+  part_ordered writable p q (refreshes device) deeds until goes here known own is =
       subst (λ (s : Served). IsOrdered s deeds until) (sym goes) (refreshes_ordered p device deeds until own is)
-  part_ordered writable p q (begins channel) deeds until goes timely here known own is =
+  part_ordered writable p q (begins channel) deeds until goes here known own is =
       subst (λ (s : Served). IsOrdered s deeds (until_by (begins channel) deeds until)) (sym goes.3) (begins_ordered p channel deeds until goes.0 goes.2 own.fine.fits.kept.devices writable own is)
-  part_ordered writable p q (ends over told) deeds until goes timely here known own is =
+  part_ordered writable p q (ends over told) deeds until goes here known own is =
       let state = ended_is over p.front (q.front).desks in
       let off : (q.front).on ≡ false = ap (λ (s : FrontState). s.on) goes.2 ∙ state.0 in
       quiet p q deeds (stored_each told ++ deeds) until (λ x. each_keeps (client_moves x) (kept_moves x) told deeds) (ap (λ (s : FrontState). s.channel) goes.2 ∙ state.1) (λ now. absurd (cc (off, now)))
       (λ same. ap (λ (s : FrontState). ((s.client).core).outbox) goes.2 ∙ ended_outbox over p.front (q.front).desks)
       (λ now moves n. absurd (cc (off, now))) is
 
-  pub parts_ordered : AreWritable devices → (ps : List Part) (p q : Served) (goes : PartsGo p ps q) (deeds : List Deed) (until : ℕ → List Deed) → PartsTimely p ps q goes → PartsOnChannel p ps q goes → IsKnownAt p deeds → IsOwn devices p deeds → IsOrdered p deeds until
+  pub parts_ordered : AreWritable devices → (ps : List Part) (p q : Served) (goes : PartsGo p ps q) (deeds : List Deed) (until : ℕ → List Deed) → PartsOnChannel p ps q goes → IsKnownAt p deeds → IsOwn devices p deeds → IsOrdered p deeds until
       → IsOwn devices q (deeds_after ps deeds) × IsOrdered q (deeds_after ps deeds) (until_after ps deeds until)
-  parts_ordered writable [] p q goes deeds until timely here known own is = (subst (λ (s : Served). IsOwn devices s deeds) (sym goes) own, subst (λ (s : Served). IsOrdered s deeds until) (sym goes) is)
-  parts_ordered writable (x ∷ ps) p q goes deeds until timely here known own is =
-      parts_ordered writable ps goes.0 q goes.2 (deeds_of x ++ deeds) (until_by x deeds until) timely.1 here.1 (part_known p goes.0 x deeds goes.1 known) (part_own devices p goes.0 x deeds goes.1 known.keyed own)
-      (part_ordered writable p goes.0 x deeds until goes.1 timely.0 here.0 known own is)
+  parts_ordered writable [] p q goes deeds until here known own is = (subst (λ (s : Served). IsOwn devices s deeds) (sym goes) own, subst (λ (s : Served). IsOrdered s deeds until) (sym goes) is)
+  parts_ordered writable (x ∷ ps) p q goes deeds until here known own is =
+      parts_ordered writable ps goes.0 q goes.2 (deeds_of x ++ deeds) (until_by x deeds until) here.1 (part_known p goes.0 x deeds goes.1 known) (part_own devices p goes.0 x deeds goes.1 known.keyed own)
+      (part_ordered writable p goes.0 x deeds until goes.1 here.0 known own is)
 
-  pub history_ordered : AreWritable devices → (entries : List (Entry FrontCall FrontReply)) (parts : List (List Part)) (p q : Served) (goes : HistoryGoes p entries parts q) (deeds : List Deed) (until : ℕ → List Deed) → EachTimely p entries parts q goes
+  pub history_ordered : AreWritable devices → (entries : List (Entry FrontCall FrontReply)) (parts : List (List Part)) (p q : Served) (goes : HistoryGoes p entries parts q) (deeds : List Deed) (until : ℕ → List Deed)
       → EachOnChannel p entries parts q goes → IsKnownAt p deeds → IsOwn devices p deeds → IsOrdered p deeds until → IsOrdered q (deeds_of_calls parts deeds) (until_calls parts deeds until)
-  history_ordered writable [] [] p q goes deeds until timely here known own is = subst (λ (s : Served). IsOrdered s deeds until) (sym goes) is
-  history_ordered writable [] (ps ∷ parts) p q goes deeds until timely here known own is = absurd goes
-  history_ordered writable (e ∷ entries) [] p q goes deeds until timely here known own is = absurd goes
-  history_ordered writable (e ∷ entries) (ps ∷ parts) p q goes deeds until timely here known own is =
-      let after = parts_ordered writable ps p goes.0 (goes.1).goes deeds until timely.0 here.0 known own is in
-      history_ordered writable entries parts goes.0 q goes.2 (deeds_after ps deeds) (until_after ps deeds until) timely.1 here.1 (parts_known ps p goes.0 deeds (goes.1).goes known) after.0 after.1
+  history_ordered writable [] [] p q goes deeds until here known own is = subst (λ (s : Served). IsOrdered s deeds until) (sym goes) is
+  history_ordered writable [] (ps ∷ parts) p q goes deeds until here known own is = absurd goes
+  history_ordered writable (e ∷ entries) [] p q goes deeds until here known own is = absurd goes
+  history_ordered writable (e ∷ entries) (ps ∷ parts) p q goes deeds until here known own is =
+      let after = parts_ordered writable ps p goes.0 (goes.1).goes deeds until here.0 known own is in
+      history_ordered writable entries parts goes.0 q goes.2 (deeds_after ps deeds) (until_after ps deeds until) here.1 (parts_known ps p goes.0 deeds (goes.1).goes known) after.0 after.1
 
   pub begins_order : (p : Served) → BeginsWith devices p → IsOrdered p [] none_until
   begins_order p start = record {

@@ -44,7 +44,7 @@ use Rattle.rd_served.specs.Parts as part
 use Rattle.rd_served.specs.Served.{Served}
 use Rattle.rd_served.proofs.KeyLemmas.{both_true, ended_is, refreshed_calm, sent_calm}
 use Rattle.rd_served.proofs.StandingLemmas.{IsKnownAt, part_known, parts_known, refreshed_more, sent_first, sent_none}
-use Rattle.rd_served_order.specs.Orders.{BeginsWith, EachTimely, IsTimely, PartsTimely, none_until, until_after, until_by, until_calls}
+use Rattle.rd_served_order.specs.Orders.{BeginsWith, none_until, until_after, until_by, until_calls}
 use Rattle.rd_served_order.specs.Tellings.{SaysAct, TellsReady, acts_on, part_acts, parts_acts}
 use Rattle.rd_served_order.proofs.OrderLemmas.{Gone, IsOrdered, moved_else, moved_here, other_number, part_ordered, parts_ordered, same_number}
 use Rattle.rd_served_order.proofs.OwnLemmas.{IsOwn, each_keeps, part_own, stored_keeps}
@@ -243,9 +243,9 @@ module _ (devices : List Announce) where
 
   -- ---- each part
 
-  part_telling : AreWritable devices → (p q : Served) (x : Part) (deeds : List Deed) (until : ℕ → List Deed) (acts : ℕ → List Act) → PartGoes p x q → IsTimely p x → AreOnChannel (p.front).channel (deeds_of x) → IsKnownAt p deeds → IsOwn devices p deeds → IsOrdered devices p deeds until
+  part_telling : AreWritable devices → (p q : Served) (x : Part) (deeds : List Deed) (until : ℕ → List Deed) (acts : ℕ → List Act) → PartGoes p x q → AreOnChannel (p.front).channel (deeds_of x) → IsKnownAt p deeds → IsOwn devices p deeds → IsOrdered devices p deeds until
       → IsTelling p deeds until acts → IsTelling q (deeds_of x ++ deeds) (until_by x deeds until) (λ y. acts y ++ part_acts y p x)
-  part_telling writable p q (part.hears channel m answer) deeds until acts goes timely here known own ordered is = unacted q _ until acts (by answer ((goes.3).0).1)
+  part_telling writable p q (part.hears channel m answer) deeds until acts goes here known own ordered is = unacted q _ until acts (by answer ((goes.3).0).1)
     where
       on_before : (p.front).on ≡ true
       on_before = (both_true (p.front).on _ goes.2).0
@@ -266,15 +266,15 @@ module _ (devices : List Announce) where
       by (Err (fault.Order state packet)) did = read _ did
       by (Err (fault.Grammar bad)) did = read _ did
       by (Ok h) did = read _ did
-  part_telling writable p q tries deeds until acts goes timely here known own ordered is =
+  part_telling writable p q tries deeds until acts goes here known own ordered is =
       unacted q deeds until acts (light p q deeds until acts (ap (λ (s : Served). (s.front).client) goes.4) (ap (λ (s : Served). (s.front).channel) goes.4) (ap (λ (s : Served). (s.front).on) goes.4) is)
-  part_telling writable p q keeps deeds until acts goes timely here known own ordered is =
+  part_telling writable p q keeps deeds until acts goes here known own ordered is =
       unacted q deeds until acts (light p q deeds until acts (ap (λ (s : Served). (s.front).client) goes.3) (ap (λ (s : Served). (s.front).channel) goes.3) (ap (λ (s : Served). (s.front).on) goes.3) is)
-  part_telling writable p q forgets deeds until acts goes timely here known own ordered is =
+  part_telling writable p q forgets deeds until acts goes here known own ordered is =
       unacted q deeds until acts (light p q deeds until acts (ap (λ (s : Served). (s.front).client) goes.4) (ap (λ (s : Served). (s.front).channel) goes.4) (ap (λ (s : Served). (s.front).on) goes.4) is)
-  part_telling writable p q misplaces deeds until acts goes timely here known own ordered is =
+  part_telling writable p q misplaces deeds until acts goes here known own ordered is =
       unacted q deeds until acts (light p q deeds until acts (ap (λ (s : Served). (s.front).client) goes.3) (ap (λ (s : Served). (s.front).channel) goes.3) (ap (λ (s : Served). (s.front).on) goes.3) is)
-  part_telling writable p q (directs st answer) deeds until acts goes timely here known own ordered is =
+  part_telling writable p q (directs st answer) deeds until acts goes here known own ordered is =
       unacted q deeds until acts (quiet p q deeds deeds until acts (λ x. refl) (by answer ((goes.2).0).1) (ap (λ (s : FrontState). s.channel) (goes.2).1) (λ now. sym (ap (λ (s : FrontState). s.on) (goes.2).1) ∙ now)
       (ready answer ((goes.2).0).1) is)
     where
@@ -287,29 +287,29 @@ module _ (devices : List Announce) where
       ready : (a : Result (Unit {0}) AllocError) → core.Did a (client.direct (p.front).client (goes.0).job (goes.0).device st) (p.front).client (q.front).client → ready_of q ≡ ready_of p
       ready (Ok u) did = ap (λ (c : ClientCoreState). is_client_ready (c.core).shake) did
       ready (Err error) did = ap (λ (c : ClientCoreState). is_client_ready (c.core).shake) did
-  part_telling writable p q (calls place id does back items) deeds until acts goes timely here known own ordered is =
+  part_telling writable p q (calls place id does back items) deeds until acts goes here known own ordered is =
       unacted q (stored id items ++ deeds) until acts
       (quiet p q deeds (stored id items ++ deeds) until acts (λ x. stored_keeps (tellings_on x) (kept_tellings x) id (reverse items) deeds) (ap (λ (s : FrontState). tellings_waiting ((s.client).core).outbox) goes.front_is) (ap (λ (s : FrontState). s.channel) goes.front_is)
       (λ now. sym (ap (λ (s : FrontState). s.on) goes.front_is) ∙ now) (ap (λ (s : FrontState). is_client_ready ((s.client).core).shake) goes.front_is) is)
-  part_telling writable p q (tells_gone device (Ok done)) deeds until acts goes timely here known own ordered is =
+  part_telling writable p q (tells_gone device (Ok done)) deeds until acts goes here known own ordered is =
       let did = ((goes.0).0).1 in
       let ready : ready_of p ≡ true = ap is_client_ready ((goes.0).0).0.0 in
-      one_more p q deeds (removes device ∷ deeds) until acts (removal_bytes (device ∷ [])) (removed device) (λ x. refl) (ap (λ (c : ClientCoreState). (c.core).outbox) did) (removal_telling device) refl (ap (λ (s : FrontState). s.channel) (goes.0).1) timely ready
+      one_more p q deeds (removes device ∷ deeds) until acts (removal_bytes (device ∷ [])) (removed device) (λ x. refl) (ap (λ (c : ClientCoreState). (c.core).outbox) did) (removal_telling device) refl (ap (λ (s : FrontState). s.channel) (goes.0).1) goes.3 ready
       (ap (λ (c : ClientCoreState). is_client_ready (c.core).shake) did ∙ ready) is
-  part_telling writable p q (tells_gone device (Err error)) deeds until acts goes timely here known own ordered is =
+  part_telling writable p q (tells_gone device (Err error)) deeds until acts goes here known own ordered is =
       unacted q deeds until acts (light p q deeds until acts ((goes.0).0).1 (ap (λ (s : FrontState). s.channel) (goes.0).1) (ap (λ (s : FrontState). s.on) (goes.0).1) is)
-  part_telling writable p q (tells_there device (Ok done)) deeds until acts goes timely here known own ordered is =
+  part_telling writable p q (tells_there device (Ok done)) deeds until acts goes here known own ordered is =
       let did = ((goes.0).0).1 in
       let ready : ready_of p ≡ true = ap is_client_ready ((goes.0).0).0.0 in
       one_more p q deeds (adds device ∷ deeds) until acts (list_bytes (listed_one (p.front).client device)) (added device) (λ x. refl) (ap (λ (c : ClientCoreState). (c.core).outbox) did) (one_telling (listed_one (p.front).client device))
-      (added_says (Gone until (p.front).channel) (p.front).client device own.fine.same own.fine.fits.kept.devices ((goes.0).0).0.1) (ap (λ (s : FrontState). s.channel) (goes.0).1) timely ready
+      (added_says (Gone until (p.front).channel) (p.front).client device own.fine.same own.fine.fits.kept.devices ((goes.0).0).0.1) (ap (λ (s : FrontState). s.channel) (goes.0).1) goes.3 ready
       (ap (λ (c : ClientCoreState). is_client_ready (c.core).shake) did ∙ ready) is
-  part_telling writable p q (tells_there device (Err error)) deeds until acts goes timely here known own ordered is =
+  part_telling writable p q (tells_there device (Err error)) deeds until acts goes here known own ordered is =
       unacted q deeds until acts (light p q deeds until acts ((goes.0).0).1 (ap (λ (s : FrontState). s.channel) (goes.0).1) (ap (λ (s : FrontState). s.on) (goes.0).1) is)
-  part_telling writable p q (sends channel None) deeds until acts goes timely here known own ordered is =
+  part_telling writable p q (sends channel None) deeds until acts goes here known own ordered is =
       unacted q deeds until acts (quiet p q deeds deeds until acts (λ x. refl) (ap tellings_waiting (sent_none (p.front).client (q.front).client (goes.1).0)) (ap (λ (s : FrontState). s.channel) (goes.1).1) (λ now. sym (ap (λ (s : FrontState). s.on) (goes.1).1) ∙ now)
       (send_ready (p.front).client (q.front).client None (goes.1).0) is)
-  part_telling writable p q (sends channel (Some o)) deeds until acts goes timely here known own ordered is =
+  part_telling writable p q (sends channel (Some o)) deeds until acts goes here known own ordered is =
       let (rest, first, left) = sent_first (p.front).client (q.front).client o (goes.1).0 in
       unacted q (sent_by channel o.message o.answers ++ deeds) until acts
       (moved p q channel o rest deeds until acts here first left (ap (λ (s : FrontState). s.channel) (goes.1).1) (on_before (p.front).on refl first) (send_ready (p.front).client (q.front).client (Some o) (goes.1).0) is)
@@ -317,20 +317,20 @@ module _ (devices : List Announce) where
       on_before : {rest : List Outgoing} (b : Bool) → (p.front).on ≡ b → outbox_of p ≡ o ∷ rest → (p.front).on ≡ true
       on_before true e first = e
       on_before false e first = let none = ordered.off e in absurd (cc (none, first))
-  part_telling writable p q (writes device c) deeds until acts goes timely here known own ordered is =
+  part_telling writable p q (writes device c) deeds until acts goes here known own ordered is =
       unacted q (deeds_of (writes device c) ++ deeds) until acts
       (quiet p q deeds (deeds_of (writes device c) ++ deeds) until acts (λ x. completes_tell x c.key (completion_message device c) deeds (completion_untold c.kind _ _)) (ap (λ (s : Served). tellings_waiting (outbox_of s)) goes.1)
       (ap (λ (s : Served). (s.front).channel) goes.1) (λ now. sym (ap (λ (s : Served). (s.front).on) goes.1) ∙ now) (ap ready_of goes.1) is)
-  part_telling writable p q (unwritten device c) deeds until acts goes timely here known own ordered is =
+  part_telling writable p q (unwritten device c) deeds until acts goes here known own ordered is =
       unacted q deeds until acts (light p q deeds until acts (ap (λ (s : Served). (s.front).client) goes.1) (ap (λ (s : Served). (s.front).channel) goes.1) (ap (λ (s : Served). (s.front).on) goes.1) is)
-  part_telling writable p q (learns n answer) deeds until acts goes timely here known own ordered is =
+  part_telling writable p q (learns n answer) deeds until acts goes here known own ordered is =
       unacted q deeds until acts (light p q deeds until acts (ap (λ (s : Served). (s.front).client) goes.1) (ap (λ (s : Served). (s.front).channel) goes.1) (ap (λ (s : Served). (s.front).on) goes.1) is)
-  part_telling writable p q (refreshes device) deeds until acts goes timely here known own ordered is =
+  part_telling writable p q (refreshes device) deeds until acts goes here known own ordered is =
       let more = refreshed_more p.front device in
       let calm = refreshed_calm p.front device in
       unacted q deeds until acts (quiet p q deeds deeds until acts (λ x. refl) (ap (λ (s : Served). tellings_waiting (outbox_of s)) goes ∙ ap (λ c. tellings_waiting c.outbox) more.1) (ap (λ (s : Served). (s.front).channel) goes ∙ calm.0.channel)
       (λ now. sym (ap (λ (s : Served). (s.front).on) goes ∙ calm.0.on) ∙ now) (ap ready_of goes ∙ ap (λ c. is_client_ready c.shake) more.1) is)
-  part_telling writable p q (begins channel) deeds until acts goes timely here known own ordered is =
+  part_telling writable p q (begins channel) deeds until acts goes here known own ordered is =
       unacted q deeds (until_by (begins channel) deeds until) acts (subst (λ (s : Served). IsTelling s deeds (until_by (begins channel) deeds until) acts) (sym goes.3) (record {
         each = λ x. elim (cases_eq x channel) [
           | inl same ↦ subst (λ (ms : List (List ℕ)). SayFirst (SaysAct devices (λ device. is_removed device (if channel == x then deeds else until x))) ms (begun x ∷ acts x)) (sym (is.above x (omega (arith, goes.2, same))).0) tt
@@ -339,7 +339,7 @@ module _ (devices : List Announce) where
         above = λ x higher. is.above x (omega (arith, goes.2, higher));
         now = λ now. let none = is.above channel goes.2 in (append-nil (tellings_on channel deeds) ∙ none.0, none.1);
       }))
-  part_telling writable p q (ends over told) deeds until acts goes timely here known own ordered is =
+  part_telling writable p q (ends over told) deeds until acts goes here known own ordered is =
       let state = ended_is over p.front (q.front).desks in
       let off : (q.front).on ≡ false = ap (λ (s : FrontState). s.on) goes.2 ∙ state.0 in
       let channel : (q.front).channel ≡ (p.front).channel = ap (λ (s : FrontState). s.channel) goes.2 ∙ state.1 in
@@ -353,25 +353,25 @@ module _ (devices : List Announce) where
   grown_acts : (q : Served) (deeds : List Deed) (until : ℕ → List Deed) (acts more others : ℕ → List Act) → IsTelling q deeds until (λ x. (acts x ++ more x) ++ others x) → IsTelling q deeds until (λ x. acts x ++ (more x ++ others x))
   grown_acts q deeds until acts more others is = subst (IsTelling q deeds until) (λ i x. append_assoc (acts x) (more x) (others x) i) is
 
-  parts_telling : AreWritable devices → (ps : List Part) (p q : Served) (goes : PartsGo p ps q) (deeds : List Deed) (until : ℕ → List Deed) (acts : ℕ → List Act) → PartsTimely p ps q goes → PartsOnChannel p ps q goes → IsKnownAt p deeds → IsOwn devices p deeds
+  parts_telling : AreWritable devices → (ps : List Part) (p q : Served) (goes : PartsGo p ps q) (deeds : List Deed) (until : ℕ → List Deed) (acts : ℕ → List Act) → PartsOnChannel p ps q goes → IsKnownAt p deeds → IsOwn devices p deeds
       → IsOrdered devices p deeds until → IsTelling p deeds until acts → IsTelling q (deeds_after ps deeds) (until_after ps deeds until) (λ x. acts x ++ parts_acts x p ps q goes)
-  parts_telling writable [] p q goes deeds until acts timely here known own ordered is = unacted q deeds until acts (subst (λ (s : Served). IsTelling s deeds until acts) (sym goes) is)
-  parts_telling writable (x ∷ ps) p q goes deeds until acts timely here known own ordered is =
+  parts_telling writable [] p q goes deeds until acts here known own ordered is = unacted q deeds until acts (subst (λ (s : Served). IsTelling s deeds until acts) (sym goes) is)
+  parts_telling writable (x ∷ ps) p q goes deeds until acts here known own ordered is =
       grown_acts q (deeds_after ps (deeds_of x ++ deeds)) (until_after ps (deeds_of x ++ deeds) (until_by x deeds until)) acts (λ y. part_acts y p x) (λ y. parts_acts y goes.0 ps q goes.2)
-      (parts_telling writable ps goes.0 q goes.2 (deeds_of x ++ deeds) (until_by x deeds until) (λ y. acts y ++ part_acts y p x) timely.1 here.1 (part_known p goes.0 x deeds goes.1 known) (part_own devices p goes.0 x deeds goes.1 known.keyed own)
-      (part_ordered devices writable p goes.0 x deeds until goes.1 timely.0 here.0 known own ordered) (part_telling writable p goes.0 x deeds until acts goes.1 timely.0 here.0 known own ordered is))
+      (parts_telling writable ps goes.0 q goes.2 (deeds_of x ++ deeds) (until_by x deeds until) (λ y. acts y ++ part_acts y p x) here.1 (part_known p goes.0 x deeds goes.1 known) (part_own devices p goes.0 x deeds goes.1 known.keyed own)
+      (part_ordered devices writable p goes.0 x deeds until goes.1 here.0 known own ordered) (part_telling writable p goes.0 x deeds until acts goes.1 here.0 known own ordered is))
 
-  pub history_telling : AreWritable devices → (entries : List (Entry FrontCall FrontReply)) (parts : List (List Part)) (p q : Served) (goes : HistoryGoes p entries parts q) (deeds : List Deed) (until : ℕ → List Deed) (acts : ℕ → List Act) → EachTimely p entries parts q goes
+  pub history_telling : AreWritable devices → (entries : List (Entry FrontCall FrontReply)) (parts : List (List Part)) (p q : Served) (goes : HistoryGoes p entries parts q) (deeds : List Deed) (until : ℕ → List Deed) (acts : ℕ → List Act)
       → EachOnChannel p entries parts q goes → IsKnownAt p deeds → IsOwn devices p deeds → IsOrdered devices p deeds until → IsTelling p deeds until acts
       → IsTelling q (deeds_of_calls parts deeds) (until_calls parts deeds until) (λ x. acts x ++ acts_on x p entries parts q goes)
-  history_telling writable [] [] p q goes deeds until acts timely here known own ordered is = unacted q deeds until acts (subst (λ (s : Served). IsTelling s deeds until acts) (sym goes) is)
-  history_telling writable [] (ps ∷ parts) p q goes deeds until acts timely here known own ordered is = absurd goes
-  history_telling writable (e ∷ entries) [] p q goes deeds until acts timely here known own ordered is = absurd goes
-  history_telling writable (e ∷ entries) (ps ∷ parts) p q goes deeds until acts timely here known own ordered is =
-      let after = parts_ordered devices writable ps p goes.0 (goes.1).goes deeds until timely.0 here.0 known own ordered in
+  history_telling writable [] [] p q goes deeds until acts here known own ordered is = unacted q deeds until acts (subst (λ (s : Served). IsTelling s deeds until acts) (sym goes) is)
+  history_telling writable [] (ps ∷ parts) p q goes deeds until acts here known own ordered is = absurd goes
+  history_telling writable (e ∷ entries) [] p q goes deeds until acts here known own ordered is = absurd goes
+  history_telling writable (e ∷ entries) (ps ∷ parts) p q goes deeds until acts here known own ordered is =
+      let after = parts_ordered devices writable ps p goes.0 (goes.1).goes deeds until here.0 known own ordered in
       grown_acts q (deeds_of_calls parts (deeds_after ps deeds)) (until_calls parts (deeds_after ps deeds) (until_after ps deeds until)) acts (λ x. parts_acts x p ps goes.0 (goes.1).goes) (λ x. acts_on x goes.0 entries parts q goes.2)
-      (history_telling writable entries parts goes.0 q goes.2 (deeds_after ps deeds) (until_after ps deeds until) (λ x. acts x ++ parts_acts x p ps goes.0 (goes.1).goes) timely.1 here.1 (parts_known ps p goes.0 deeds (goes.1).goes known) after.0 after.1
-      (parts_telling writable ps p goes.0 (goes.1).goes deeds until acts timely.0 here.0 known own ordered is))
+      (history_telling writable entries parts goes.0 q goes.2 (deeds_after ps deeds) (until_after ps deeds until) (λ x. acts x ++ parts_acts x p ps goes.0 (goes.1).goes) here.1 (parts_known ps p goes.0 deeds (goes.1).goes known) after.0 after.1
+      (parts_telling writable ps p goes.0 (goes.1).goes deeds until acts here.0 known own ordered is))
 
   pub begins_telling : (p : Served) → BeginsWith devices p → IsTelling p [] none_until (λ x. [])
   begins_telling p start = record {

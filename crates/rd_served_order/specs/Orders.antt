@@ -1,23 +1,18 @@
 -- In which order a client reads and writes on a channel, by the parts of a front's history.
-use Rattle.std.specs.Prelude.{◌≡◌, ◌⊎◌, ℕ, ◌==◌, Bool, true, false, if◌then◌else◌, List, [], ◌∷◌, ◌++◌, reverse, filter, Some, None}
+use Rattle.std.specs.Prelude.{◌≡◌, ◌⊎◌, ℕ, ◌==◌, Bool, true, false, if◌then◌else◌, List, [], ◌∷◌, ◌++◌, reverse, filter, None}
 use Rattle.std.specs.List.{AllByRecursion}
 use Rattle.rd_client.specs.Core.{AreDevices, new_client}
 use Rattle.rd_client.specs.Events.{AreWritable}
 use Rattle.rd_client.specs.Order.{ClientOrder, client_at_first, stand_after}
-use Rattle.rd_desk.specs.declared.calls.DeskCall.TheVariants as desk
-use Rattle.rd_desk.specs.declared.calls.DeskReply.TheVariants as replied
 use Rattle.rd_devices.specs.declared.list.Announce.{Announce}
-use Rattle.rd_front.specs.declared.calls.FrontCall.{FrontCall}
-use Rattle.rd_front.specs.declared.calls.FrontReply.{FrontReply}
 use Rattle.rd_hello.specs.Moves.{Move, reads, writes}
-use Rattle.rd_turn.specs.declared.object.Entry.{Entry}
 use Rattle.rd_world.specs.Devices.{PrinterNames}
 use Rattle.rd_world.specs.Opening.{AreShort}
 use Rattle.rd_world.specs.Printers.{AreShortNames}
 use Rattle.rd_world.specs.Talk.{Deed, is_removed}
 use Rattle.rd_served.specs.Deeds.{deeds_after, deeds_of}
-use Rattle.rd_served.specs.Histories.{BeginsNew, HistoryGoes}
-use Rattle.rd_served.specs.Parts.{Part, PartsGo, begins, calls, tells_gone, tells_there}
+use Rattle.rd_served.specs.Histories.{BeginsNew}
+use Rattle.rd_served.specs.Parts.{Part, begins}
 use Rattle.rd_served.specs.Served.{Served}
 
 -- ---- where a history begins
@@ -30,25 +25,6 @@ pub record BeginsWith (devices : List Announce) (s : Served) : Type 0 where
   pub short : AreShort devices
   pub writable : AreWritable devices
   pub names : AllByRecursion (λ (p : ℕ × PrinterNames). AreShortNames p.1) (s.front).printers
-
--- ---- when parts come
-
--- What a front sees to before a part, which the part doesn't say of itself: a device is told of while a channel is on, and a desk hands out a completion
--- where the core has nothing to write.
-abbrev pub IsTimely : Served → Part → Type 0
-IsTimely old (tells_gone device answer) = (old.front).on ≡ true
-IsTimely old (tells_there device answer) = (old.front).on ≡ true
-IsTimely old (calls place id desk.Collect (replied.Collected (Some c)) items) = (((old.front).client).core).outbox ≡ []
-IsTimely old _ = Unit {0}
-
-abbrev pub PartsTimely : (old : Served) (ps : List Part) (new : Served) → PartsGo old ps new → Type 0
-PartsTimely old [] new goes = Unit {0}
-PartsTimely old (p ∷ ps) new goes = IsTimely old p × PartsTimely goes.0 ps new goes.2
-
-abbrev pub EachTimely : (old : Served) (entries : List (Entry FrontCall FrontReply)) (parts : List (List Part)) (new : Served) → HistoryGoes old entries parts new → Type 0
-EachTimely old [] [] new goes = Unit {0}
-EachTimely old (e ∷ es) (ps ∷ pss) new goes = PartsTimely old ps goes.0 (goes.1).goes × EachTimely goes.0 es pss new goes.2
-EachTimely old _ _ new goes = ⊥
 
 -- ---- what was done before a channel
 

@@ -9,15 +9,15 @@ use Rattle.rd_served_order.proofs.TellingLemmas.{begins_telling, history_telling
 use Rattle.rd_served_order.proofs.laws.tellings_are_those_of_calls.Goals as goal
 
 pub returns-clause-first : goal.returns-clause-first
-returns-clause-first c devices old new entries parts begins goes timely n =
+returns-clause-first c devices old new entries parts begins goes n =
     let is = begins.new in
-    (history_telling devices begins.writable entries parts old new goes [] none_until (λ x. []) timely
+    (history_telling devices begins.writable entries parts old new goes [] none_until (λ x. [])
     (history_on entries parts old new goes (begins_at old is.new is.stationed is.idle_is) (begins_here old is.new.nothing is.idle_is))
     (begins_known old is.new is.apart is.stationed is.idle_is) (begins_own devices old begins) (begins_order devices old begins) (begins_telling devices old begins)).each n
 
 pub returns-clause-all : goal.returns-clause-all
-returns-clause-all c devices old new entries parts begins goes timely on =
+returns-clause-all c devices old new entries parts begins goes on =
     let is = begins.new in
-    (history_telling devices begins.writable entries parts old new goes [] none_until (λ x. []) timely
+    (history_telling devices begins.writable entries parts old new goes [] none_until (λ x. [])
     (history_on entries parts old new goes (begins_at old is.new is.stationed is.idle_is) (begins_here old is.new.nothing is.idle_is))
     (begins_known old is.new is.apart is.stationed is.idle_is) (begins_own devices old begins) (begins_order devices old begins) (begins_telling devices old begins)).now on
