@@ -50,7 +50,7 @@ use Rattle.rd_journals.proofs.HeldLemmas.{stored_unread, turned_has}
 use Rattle.rd_journals.proofs.WorkLemmas.{Grown, grown_more}
 use Rattle.rd_served.specs.Deeds.{AreCaused, HasCause, IsCaused, IsDuplicate, deeds_after, deeds_of, deeds_of_calls, sent_by, stored, stored_each}
 use Rattle.rd_served.specs.Histories.{AreApart, Among, AreStationed, HistoryGoes, IsNewDesk, IsNewFront}
-use Rattle.rd_served.specs.Parts.{AsksBy, CallsAt, Comes, EndsEach, IsOpenCall, Part, PartGoes, PartsGo, asked_by, begins, calls, directs, duplicate_by, duplicate_of, ended_front, ends, forgets, keeps, learns, misplaces, refreshes, sends, tells_gone, tells_there, tries, unwritten, writes}
+use Rattle.rd_served.specs.Parts.{AsksBy, CallsAt, Comes, EndsEach, IsOpenCall, FrontPart, PartGoes, PartsGo, asking_by, begins, calls, directs, duplicate_by, duplicate_of, ended_front, ends, forgets, keeps, learns, misplaces, refreshes, sends, tells_gone, tells_there, tries, unwritten, writes}
 use Rattle.rd_served.specs.Parts as part
 use Rattle.rd_served.specs.Served.{Asking, CallsDesk, IsStationed, Served, asks, idle}
 use Rattle.rd_served.proofs.HeldLemmas.{HeldIn, drop_none, end_none, found_in_use, held_came, held_less, held_unsent, put_more, work_less}
@@ -243,7 +243,7 @@ asked_job channel old new m device job deeds here (same, asked, one, fault_same,
 
 -- where it was heard
 heard_told : (p q : Served) (deeds : List Deed) (m : List ℕ) (answer : Result Heard EndFault) → IsKeyed p → IsTold p deeds → (p.front).on ≡ true → q.front ≡ record p.front { client = (q.front).client; unsent = (q.front).unsent } → q.stations ≡ p.stations
-    → HeardAs (p.front).client m ((q.front).client, answer) → q.asking ≡ asked_by answer → IsTold q (client_reads (p.front).channel m ∷ deeds)
+    → HeardAs (p.front).client m ((q.front).client, answer) → q.asking ≡ asking_by answer → IsTold q (client_reads (p.front).channel m ∷ deeds)
 heard_told p q deeds m answer keyed told on is stations heard asking = record {
   apart = subst AreApart (sym desks) told.apart;
   tied = λ place d s at. told.tied place d s (before place d s at);
@@ -270,7 +270,7 @@ heard_told p q deeds m answer keyed told on is stations heard asking = record {
     before : (place : ℕ) (d : DeviceDeskState) (s : Of) → At q place d s → At p place d s
     before place d s at = (ap (λ (ds : List DeviceDeskState). slice_get ds place) (sym desks) ∙ at.0, ap (λ (ss : List Of). slice_get ss place) (sym stations) ∙ at.1)
 
-    asked : (a : Result Heard EndFault) → HeardAs (p.front).client m ((q.front).client, a) → (k : Kept) → IsUnder (asked_by a) k → IsJobAt (client_reads (p.front).channel m ∷ deeds) k
+    asked : (a : Result Heard EndFault) → HeardAs (p.front).client m ((q.front).client, a) → (k : Kept) → IsUnder (asking_by a) k → IsJobAt (client_reads (p.front).channel m ∷ deeds) k
     asked (Ok (Ask device job)) h k under = subst (IsJobAt (client_reads (p.front).channel m ∷ deeds)) under (asked_job (p.front).channel (p.front).client (q.front).client m device job deeds (keyed.same on) h (told.counted on))
     asked (Ok Nothing) h k under = absurd under
     asked (Ok (Print n)) h k under = absurd under
@@ -289,10 +289,10 @@ hears_told p q deeds channel m answer goes keyed told = by answer ((goes.3).0).1
     is : q.front ≡ record p.front { client = (q.front).client; unsent = (q.front).unsent }
     is = (goes.3).1 ∙ ap (λ (n : ℕ). record p.front { client = (q.front).client; unsent = n }) (sym (ap (λ (s : FrontState). s.unsent) (goes.3).1))
 
-    heard : (a : Result Heard EndFault) → client_hear (p.front).client m ≡ ((q.front).client, a) → q.asking ≡ asked_by a → IsTold q (client_reads channel m ∷ deeds)
+    heard : (a : Result Heard EndFault) → client_hear (p.front).client m ≡ ((q.front).client, a) → q.asking ≡ asking_by a → IsTold q (client_reads channel m ∷ deeds)
     heard a e asking = subst (λ (c : ℕ). IsTold q (client_reads c m ∷ deeds)) (sym goes.0) (heard_told p q deeds m a keyed told on is goes.5 (subst (HeardAs (p.front).client m) e (hears (p.front).client m)) asking)
 
-    by : (a : Result Heard EndFault) → hearing.Hears client_side (λ (c : ClientCoreState). c.core) client_hear (p.front).client m a (q.front).client → q.asking ≡ asked_by a → IsTold q (deeds_of (part.hears channel m a) ++ deeds)
+    by : (a : Result Heard EndFault) → hearing.Hears client_side (λ (c : ClientCoreState). c.core) client_hear (p.front).client m a (q.front).client → q.asking ≡ asking_by a → IsTold q (deeds_of (part.hears channel m a) ++ deeds)
     by (Err fault.Memory) did asking =
         let same = client_left p.front q.front (q.front).unsent is (ap (λ (c : ClientCoreState). c.asked) did.1, ap (λ (c : ClientCoreState). (c.core).fault) did.1) in
         told_idle p q deeds [] told (none_silent p deeds) same.0 goes.5 asking same.1
@@ -634,7 +634,7 @@ sent_silent : (p : Served) (deeds : List Deed) (channel : ℕ) (message : List �
 sent_silent p deeds channel message None = record { journals = λ d. refl; reads = λ c. refl }
 sent_silent p deeds channel message (Some key) = record { journals = λ d. refl; reads = λ c. refl }
 
-pub part_told : (p q : Served) (x : Part) (deeds : List Deed) → PartGoes p x q → IsKeyed p → IsTold p deeds → IsTold q (deeds_of x ++ deeds)
+pub part_told : (p q : Served) (x : FrontPart) (deeds : List Deed) → PartGoes p x q → IsKeyed p → IsTold p deeds → IsTold q (deeds_of x ++ deeds)
 part_told p q (part.hears channel m answer) deeds goes keyed told = hears_told p q deeds channel m answer goes keyed told
 part_told p q tries deeds goes keyed told = subst (λ (s : Served). IsTold s deeds) (sym goes.4) (told_silent p (record p { front = record p.front { kept = None }; asking = asks goes.0 }) deeds [] told (none_silent p deeds)
     (record { desks = refl; on = refl; channel = refl; asked = refl; fault = refl }) refl (λ k same. subst (IsJobAt deeds) same (told.kept goes.0 goes.1)) (λ k some. absurd (cc (some))))
@@ -683,14 +683,14 @@ part_told p q (refreshes device) deeds goes keyed told =
 part_told p q (begins channel) deeds goes keyed told = begins_told p q channel deeds told goes
 part_told p q (ends over told_each) deeds goes keyed told = ends_told p q over told_each deeds told goes
 
-pub parts_told : (ps : List Part) (p q : Served) (deeds : List Deed) → PartsGo p ps q → IsKeyed p → IsTold p deeds → IsTold q (deeds_after ps deeds)
+pub parts_told : (ps : List FrontPart) (p q : Served) (deeds : List Deed) → PartsGo p ps q → IsKeyed p → IsTold p deeds → IsTold q (deeds_after ps deeds)
 parts_told [] p q deeds is keyed told = subst (λ (s : Served). IsTold s deeds) (sym is) told
 parts_told (x ∷ ps) p q deeds goes keyed told = parts_told ps goes.0 q (deeds_of x ++ deeds) goes.2 (part_keyed p goes.0 x goes.1 keyed) (part_told p goes.0 x deeds goes.1 keyed told)
 
 -- ---- a call that says that a completion id is in use
 
 -- the part that says it
-duplicate_at : (p q : Served) (x : Part) (key : Key) (deeds : List Deed) → PartGoes p x q → IsKeyed p → IsTold p deeds → duplicate_of x ≡ Some key → (ps : List Part) → IsDuplicate key deeds (x ∷ ps)
+duplicate_at : (p q : Served) (x : FrontPart) (key : Key) (deeds : List Deed) → PartGoes p x q → IsKeyed p → IsTold p deeds → duplicate_of x ≡ Some key → (ps : List FrontPart) → IsDuplicate key deeds (x ∷ ps)
 duplicate_at p q (calls place id does (replied.Put (Err refusal)) items) key deeds goes keyed told is ps =
     let (job, put, cause) = caused p q place id does refusal items key deeds keyed told goes (by refusal.why is) in
     record {
@@ -735,7 +735,7 @@ duplicate_at p q (refreshes device) key deeds goes keyed told is ps = absurd (cc
 duplicate_at p q (begins channel) key deeds goes keyed told is ps = absurd (cc (is))
 duplicate_at p q (ends over each) key deeds goes keyed told is ps = absurd (cc (is))
 
-duplicate_in : (ps : List Part) (p q : Served) (key : Key) (deeds : List Deed) → PartsGo p ps q → IsKeyed p → IsTold p deeds → Among (λ x. duplicate_of x ≡ Some key) ps → IsDuplicate key deeds ps
+duplicate_in : (ps : List FrontPart) (p q : Served) (key : Key) (deeds : List Deed) → PartsGo p ps q → IsKeyed p → IsTold p deeds → Among (λ x. duplicate_of x ≡ Some key) ps → IsDuplicate key deeds ps
 duplicate_in [] p q key deeds goes keyed told none = absurd none
 duplicate_in (x ∷ ps) p q key deeds goes keyed told (inl here) = duplicate_at p goes.0 x key deeds goes.1 keyed told here ps
 duplicate_in (x ∷ ps) p q key deeds goes keyed told (inr later) =
@@ -748,11 +748,11 @@ duplicate_in (x ∷ ps) p q key deeds goes keyed told (inr later) =
       job = found.job;
       refusal = found.refusal;
       items = found.items;
-      parts_are = ap (λ (xs : List Part). x ∷ xs) found.parts_are;
+      parts_are = ap (λ (xs : List FrontPart). x ∷ xs) found.parts_are;
       cause = found.cause;
     }
 
-is_caused : (back : FrontReply) (ps : List Part) (p q : Served) (deeds : List Deed) → PartsGo p ps q → IsKeyed p → IsTold p deeds → ((key : Key) → back ≡ reply.Duplicate key → Among (λ x. duplicate_of x ≡ Some key) ps) → IsCaused deeds back ps
+is_caused : (back : FrontReply) (ps : List FrontPart) (p q : Served) (deeds : List Deed) → PartsGo p ps q → IsKeyed p → IsTold p deeds → ((key : Key) → back ≡ reply.Duplicate key → Among (λ x. duplicate_of x ≡ Some key) ps) → IsCaused deeds back ps
 is_caused (reply.Duplicate key) ps p q deeds goes keyed told says = duplicate_in ps p q key deeds goes keyed told (says key refl)
 is_caused (reply.Done at full) ps p q deeds goes keyed told says = tt
 is_caused (reply.Stands ready asked) ps p q deeds goes keyed told says = tt
@@ -764,7 +764,7 @@ is_caused reply.Full ps p q deeds goes keyed told says = tt
 is_caused reply.Refused ps p q deeds goes keyed told says = tt
 is_caused (reply.Messages filled left) ps p q deeds goes keyed told says = tt
 
-pub history_caused : (entries : List (Entry FrontCall FrontReply)) (parts : List (List Part)) (p q : Served) (deeds : List Deed) → HistoryGoes p entries parts q → IsKeyed p → IsTold p deeds → AreCaused deeds entries parts
+pub history_caused : (entries : List (Entry FrontCall FrontReply)) (parts : List (List FrontPart)) (p q : Served) (deeds : List Deed) → HistoryGoes p entries parts q → IsKeyed p → IsTold p deeds → AreCaused deeds entries parts
 history_caused [] [] p q deeds goes keyed told = tt
 history_caused [] (ps ∷ parts) p q deeds goes keyed told = absurd goes
 history_caused (e ∷ entries) [] p q deeds goes keyed told = absurd goes
@@ -799,7 +799,7 @@ begins_told_well p is apart at none = record {
 
 -- ---- whole histories
 
-pub history_told : (entries : List (Entry FrontCall FrontReply)) (parts : List (List Part)) (p q : Served) (deeds : List Deed) → HistoryGoes p entries parts q → IsKeyed p → IsTold p deeds → IsTold q (deeds_of_calls parts deeds)
+pub history_told : (entries : List (Entry FrontCall FrontReply)) (parts : List (List FrontPart)) (p q : Served) (deeds : List Deed) → HistoryGoes p entries parts q → IsKeyed p → IsTold p deeds → IsTold q (deeds_of_calls parts deeds)
 history_told [] [] p q deeds goes keyed told = subst (λ (s : Served). IsTold s deeds) (sym goes) told
 history_told [] (ps ∷ parts) p q deeds goes keyed told = absurd goes
 history_told (e ∷ entries) [] p q deeds goes keyed told = absurd goes

@@ -34,7 +34,7 @@ use Rattle.rd_journals.specs.Stations.{IsIdle, IsOn}
 use Rattle.rd_journals.proofs.WritingLemmas.{AddsOwn, adds_own, hear_adds, list_own, removal_own}
 use Rattle.rd_served.specs.Deeds.{AreOnChannel, EachOnChannel, PartsOnChannel, deeds_of, sent_by, stored, stored_each}
 use Rattle.rd_served.specs.Histories.{HistoryGoes}
-use Rattle.rd_served.specs.Parts.{CallsAt, Part, PartGoes, PartsGo, begins, calls, directs, ended_front, ends, forgets, keeps, learns, misplaces, refreshes, sends, tells_gone, tells_there, tries, unwritten, writes}
+use Rattle.rd_served.specs.Parts.{CallsAt, FrontPart, PartGoes, PartsGo, begins, calls, directs, ended_front, ends, forgets, keeps, learns, misplaces, refreshes, sends, tells_gone, tells_there, tries, unwritten, writes}
 use Rattle.rd_served.specs.Parts as part
 use Rattle.rd_served.specs.Served.{Asking, Served, asks, hands, idle}
 use Rattle.rd_served.proofs.HeldLemmas.{HeldIn, ready_held}
@@ -121,12 +121,12 @@ calls_here p q place id desk.DropChannel back items at keyed is device c same = 
 calls_here p q place id desk.End back items at keyed is device c same = absurd at.own
 
 hears_here : (p q : Served) (channel : ℕ) (m : List ℕ) (answer : Result Heard EndFault) → PartGoes p (part.hears channel m answer) q → IsHere p → IsHere q
-hears_here p q channel m answer goes is = record { out = by answer ((goes.3).0).1; handed = no_hands p q (part.asked_by answer) goes.4 (never answer) }
+hears_here p q channel m answer goes is = record { out = by answer ((goes.3).0).1; handed = no_hands p q (part.asking_by answer) goes.4 (never answer) }
   where
     same_channel : (q.front).channel ≡ (p.front).channel
     same_channel = ap (λ (s : FrontState). s.channel) (goes.3).1
 
-    never : (a : Result Heard EndFault) (device : ℕ) (c : Completion) → part.asked_by a ≡ hands device c → ⊥
+    never : (a : Result Heard EndFault) (device : ℕ) (c : Completion) → part.asking_by a ≡ hands device c → ⊥
     never (Ok (Ask d job)) device c e = cc (e)
     never (Ok Nothing) device c e = cc (e)
     never (Ok (Print n)) device c e = cc (e)
@@ -158,7 +158,7 @@ told_here p q answer done m unsent did own front asking is = record { out = by a
     by (Ok fine) e = out_own p q (subst (λ (c : ClientCoreState). AddsOwn (outbox_of p) (c.core).outbox) (sym e) own) (client_channel p.front q.front unsent front) is
     by (Err error) e = out_same p q (ap (λ (c : ClientCoreState). (c.core).outbox) e) (client_channel p.front q.front unsent front) is
 
-part_here : (p q : Served) (x : Part) → PartGoes p x q → IsKeyed p → IsHere p → IsHere q
+part_here : (p q : Served) (x : FrontPart) → PartGoes p x q → IsKeyed p → IsHere p → IsHere q
 part_here p q (part.hears channel m answer) goes keyed is = hears_here p q channel m answer goes is
 part_here p q tries goes keyed is = light_here p q (asks goes.0) is (ap outbox_of goes.4) (ap (λ (s : Served). (s.front).channel) goes.4) (ap (λ (s : Served). s.asking) goes.4) (λ d c e. cc (e))
 part_here p q keeps goes keyed is = light_here p q idle is (ap outbox_of goes.3) (ap (λ (s : Served). (s.front).channel) goes.3) (ap (λ (s : Served). s.asking) goes.3) idle_never
@@ -226,7 +226,7 @@ each_on : (c : ℕ) (told : List (ℕ × List Item)) → AreOnChannel c (stored_
 each_on c [] = tt
 each_on c (t ∷ told) = both_on c (stored_each told) (stored t.0 t.1) (each_on c told) (stored_on c t.0 (reverse t.1))
 
-part_on : (p q : Served) (x : Part) → PartGoes p x q → IsHere p → AreOnChannel (p.front).channel (deeds_of x)
+part_on : (p q : Served) (x : FrontPart) → PartGoes p x q → IsHere p → AreOnChannel (p.front).channel (deeds_of x)
 part_on p q (part.hears channel m (Err fault.Memory)) goes is = tt
 part_on p q (part.hears channel m (Err (fault.Order state packet))) goes is = (goes.0, tt)
 part_on p q (part.hears channel m (Err (fault.Grammar bad))) goes is = (goes.0, tt)
@@ -256,15 +256,15 @@ part_on p q (refreshes device) goes is = tt
 part_on p q (begins channel) goes is = tt
 part_on p q (ends over told) goes is = each_on (p.front).channel told
 
-parts_on : (ps : List Part) (p q : Served) (goes : PartsGo p ps q) → IsKeyed p → IsHere p → PartsOnChannel p ps q goes
+parts_on : (ps : List FrontPart) (p q : Served) (goes : PartsGo p ps q) → IsKeyed p → IsHere p → PartsOnChannel p ps q goes
 parts_on [] p q goes keyed is = tt
 parts_on (x ∷ ps) p q goes keyed is = (part_on p goes.0 x goes.1 is, parts_on ps goes.0 q goes.2 (part_keyed p goes.0 x goes.1 keyed) (part_here p goes.0 x goes.1 keyed is))
 
-parts_here : (ps : List Part) (p q : Served) → PartsGo p ps q → IsKeyed p → IsHere p → IsHere q
+parts_here : (ps : List FrontPart) (p q : Served) → PartsGo p ps q → IsKeyed p → IsHere p → IsHere q
 parts_here [] p q same keyed is = subst IsHere (sym same) is
 parts_here (x ∷ ps) p q goes keyed is = parts_here ps goes.0 q goes.2 (part_keyed p goes.0 x goes.1 keyed) (part_here p goes.0 x goes.1 keyed is)
 
-pub history_on : (entries : List (Entry FrontCall FrontReply)) (parts : List (List Part)) (p q : Served) (goes : HistoryGoes p entries parts q) → IsKeyed p → IsHere p → EachOnChannel p entries parts q goes
+pub history_on : (entries : List (Entry FrontCall FrontReply)) (parts : List (List FrontPart)) (p q : Served) (goes : HistoryGoes p entries parts q) → IsKeyed p → IsHere p → EachOnChannel p entries parts q goes
 history_on [] [] p q goes keyed is = tt
 history_on [] (ps ∷ parts) p q goes keyed is = absurd goes
 history_on (e ∷ entries) [] p q goes keyed is = absurd goes

@@ -24,7 +24,7 @@ use Rattle.rd_journals.specs.Reads.{ComesRead, IsRead}
 use Rattle.rd_journals.proofs.HeldLemmas.{stored_unread, turned_has}
 use Rattle.rd_served.specs.Deeds.{deeds_after, deeds_of, deeds_of_calls, sent_by, stored, stored_each}
 use Rattle.rd_served.specs.Histories.{HistoryGoes}
-use Rattle.rd_served.specs.Parts.{CallsAt, EndsEach, Part, PartGoes, PartsGo, begins, calls, directs, ends, forgets, keeps, learns, misplaces, refreshes, sends, tells_gone, tells_there, tries, unwritten, writes}
+use Rattle.rd_served.specs.Parts.{CallsAt, EndsEach, FrontPart, PartGoes, PartsGo, begins, calls, directs, ends, forgets, keeps, learns, misplaces, refreshes, sends, tells_gone, tells_there, tries, unwritten, writes}
 use Rattle.rd_served.specs.Parts as part
 use Rattle.rd_served.specs.Served.{CallsDesk, IsWork, Served}
 use Rattle.rd_served.proofs.CauseLemmas.{IsTold, job_told, part_told, parts_told}
@@ -179,7 +179,7 @@ ends_read over (d ∷ ds) (s ∷ ss) (t ∷ ts) (e ∷ es) (u ∷ us) deeds ende
     (stored_reads t.0 (reverse t.1) deeds (λ key has. absurd (end_comes_none over ended.0 (ended.2).middle u (ended.2).step key (called_comes d e s u (end_call over) ended.0 t.1 ended.2 key (turned_has (Came key) t.1 has)))) each))
 ends_read over ds ss ts es us deeds ended each = absurd ended
 
-pub part_read : (p q : Served) (x : Part) (deeds : List Deed) → PartGoes p x q → IsKeyed p → IsTold p deeds → EachAfter ComesRead deeds → EachAfter ComesRead (deeds_of x ++ deeds)
+pub part_read : (p q : Served) (x : FrontPart) (deeds : List Deed) → PartGoes p x q → IsKeyed p → IsTold p deeds → EachAfter ComesRead deeds → EachAfter ComesRead (deeds_of x ++ deeds)
 part_read p q (part.hears channel m (Err fault.Memory)) deeds goes keyed told each = each
 part_read p q (part.hears channel m (Err (fault.Order state packet))) deeds goes keyed told each = (tt, each)
 part_read p q (part.hears channel m (Err (fault.Grammar bad))) deeds goes keyed told each = (tt, each)
@@ -208,12 +208,12 @@ part_read p q (refreshes device) deeds goes keyed told each = each
 part_read p q (begins channel) deeds goes keyed told each = each
 part_read p q (ends over ts) deeds goes keyed told each = ends_read over (p.front).desks p.stations ts (q.front).desks q.stations deeds goes.1 each
 
-pub parts_read : (ps : List Part) (p q : Served) (deeds : List Deed) → PartsGo p ps q → IsKeyed p → IsTold p deeds → EachAfter ComesRead deeds → EachAfter ComesRead (deeds_after ps deeds)
+pub parts_read : (ps : List FrontPart) (p q : Served) (deeds : List Deed) → PartsGo p ps q → IsKeyed p → IsTold p deeds → EachAfter ComesRead deeds → EachAfter ComesRead (deeds_after ps deeds)
 parts_read [] p q deeds goes keyed told each = each
 parts_read (x ∷ ps) p q deeds goes keyed told each =
     parts_read ps goes.0 q (deeds_of x ++ deeds) goes.2 (part_keyed p goes.0 x goes.1 keyed) (part_told p goes.0 x deeds goes.1 keyed told) (part_read p goes.0 x deeds goes.1 keyed told each)
 
-pub history_read : (entries : List (Entry FrontCall FrontReply)) (parts : List (List Part)) (p q : Served) (deeds : List Deed) → HistoryGoes p entries parts q → IsKeyed p → IsTold p deeds → EachAfter ComesRead deeds → EachAfter ComesRead (deeds_of_calls parts deeds)
+pub history_read : (entries : List (Entry FrontCall FrontReply)) (parts : List (List FrontPart)) (p q : Served) (deeds : List Deed) → HistoryGoes p entries parts q → IsKeyed p → IsTold p deeds → EachAfter ComesRead deeds → EachAfter ComesRead (deeds_of_calls parts deeds)
 history_read [] [] p q deeds goes keyed told each = each
 history_read [] (ps ∷ parts) p q deeds goes keyed told each = absurd goes
 history_read (e ∷ entries) [] p q deeds goes keyed told each = absurd goes

@@ -9,7 +9,7 @@ use Rattle.rd_base.specs.declared.journal.Key.{Key}
 use Rattle.rd_hello.specs.declared.end_fault.EndFault.TheVariants as fault
 use Rattle.rd_world.specs.Talk.{Deed, stores}
 use Rattle.rd_served.specs.Deeds.{deeds_after, deeds_of, message_read, message_written, sent_by, stored, stored_each}
-use Rattle.rd_served.specs.Parts.{Part, begins, calls, directs, ends, forgets, handed_by, heard_by, keeps, learns, misplaces, refreshes, sends, tells_gone, tells_there, tries, unwritten, writes}
+use Rattle.rd_served.specs.Parts.{FrontPart, begins, calls, directs, ends, forgets, handed_by, heard_in, keeps, learns, misplaces, refreshes, sends, tells_gone, tells_there, tries, unwritten, writes}
 use Rattle.rd_served.specs.Parts as part
 
 -- ---- the messages
@@ -23,12 +23,12 @@ module _ (tells : Deed → Option (List ℕ)) (quiet : (device : ℕ) (x : Item)
   each_silent [] = refl
   each_silent (t ∷ told) = filter_map-append tells (stored_each told) (stored t.0 t.1) ∙ (λ i. each_silent told i ++ stored_silent t.0 (reverse t.1) i)
 
-  module _ (told_by_part : Part → Option (List ℕ)) (same : (x : Part) → filter_map tells (deeds_of x) ≡ cons_option (told_by_part x) []) where
+  module _ (told_by_part : FrontPart → Option (List ℕ)) (same : (x : FrontPart) → filter_map tells (deeds_of x) ≡ cons_option (told_by_part x) []) where
     turned : (o : Option (List ℕ)) (later : List (List ℕ)) → reverse (cons_option o later) ≡ reverse later ++ cons_option o []
     turned None later = sym (append-nil (reverse later))
     turned (Some m) later = reverse-append (m ∷ []) later
 
-    pub messages_are : (ps : List Part) (before : List Deed) → filter_map tells (deeds_after ps before) ≡ reverse (filter_map told_by_part ps) ++ filter_map tells before
+    pub messages_are : (ps : List FrontPart) (before : List Deed) → filter_map tells (deeds_after ps before) ≡ reverse (filter_map told_by_part ps) ++ filter_map tells before
     messages_are [] before = refl
     messages_are (x ∷ ps) before =
         messages_are ps (deeds_of x ++ before)
@@ -36,7 +36,7 @@ module _ (tells : Deed → Option (List ℕ)) (quiet : (device : ℕ) (x : Item)
         ∙ sym (append_assoc (reverse (filter_map told_by_part ps)) (cons_option (told_by_part x) []) (filter_map tells before))
         ∙ ap (λ (ms : List (List ℕ)). ms ++ filter_map tells before) (sym (turned (told_by_part x) (filter_map told_by_part ps)))
 
-read_same : (x : Part) → filter_map message_read (deeds_of x) ≡ cons_option (heard_by x) []
+read_same : (x : FrontPart) → filter_map message_read (deeds_of x) ≡ cons_option (heard_in x) []
 read_same (part.hears channel message (Err fault.Memory)) = refl
 read_same (part.hears channel message (Err (fault.Order state packet))) = refl
 read_same (part.hears channel message (Err (fault.Grammar bad))) = refl
@@ -64,7 +64,7 @@ read_same (refreshes device) = refl
 read_same (begins channel) = refl
 read_same (ends over told) = each_silent message_read (λ device x. refl) told
 
-written_same : (x : Part) → filter_map message_written (deeds_of x) ≡ cons_option (handed_by x) []
+written_same : (x : FrontPart) → filter_map message_written (deeds_of x) ≡ cons_option (handed_by x) []
 written_same (part.hears channel message (Err fault.Memory)) = refl
 written_same (part.hears channel message (Err (fault.Order state packet))) = refl
 written_same (part.hears channel message (Err (fault.Grammar bad))) = refl
@@ -92,8 +92,8 @@ written_same (refreshes device) = refl
 written_same (begins channel) = refl
 written_same (ends over told) = each_silent message_written (λ device x. refl) told
 
-pub reads_told : (ps : List Part) (before : List Deed) → filter_map message_read (deeds_after ps before) ≡ reverse (filter_map heard_by ps) ++ filter_map message_read before
-reads_told = messages_are message_read (λ device x. refl) heard_by read_same
+pub reads_told : (ps : List FrontPart) (before : List Deed) → filter_map message_read (deeds_after ps before) ≡ reverse (filter_map heard_in ps) ++ filter_map message_read before
+reads_told = messages_are message_read (λ device x. refl) heard_in read_same
 
-pub writes_told : (ps : List Part) (before : List Deed) → filter_map message_written (deeds_after ps before) ≡ reverse (filter_map handed_by ps) ++ filter_map message_written before
+pub writes_told : (ps : List FrontPart) (before : List Deed) → filter_map message_written (deeds_after ps before) ≡ reverse (filter_map handed_by ps) ++ filter_map message_written before
 writes_told = messages_are message_written (λ device x. refl) handed_by written_same

@@ -43,7 +43,7 @@ use Rattle.rd_journals.specs.Stations.{IsOn}
 use Rattle.rd_journals.proofs.AskingLemmas.{HeardAs, hears}
 use Rattle.rd_journals.proofs.CallLemmas.{NoKey, may_put, new_on}
 use Rattle.rd_served.specs.Histories.{Among, AreStationed, HistoryGoes, IsNewDesk, IsNewFront}
-use Rattle.rd_served.specs.Parts.{AsksBy, CallsAt, Comes, EndsEach, IsOpenCall, Part, PartGoes, PartsGo, asked_by, begins, calls, directs, ended_front, ends, forgets, is_unfit, keeps, learns, misplaces, refreshes, sends, tells_gone, tells_there, tries, unwritten, writes}
+use Rattle.rd_served.specs.Parts.{AsksBy, CallsAt, Comes, EndsEach, IsOpenCall, FrontPart, PartGoes, PartsGo, asking_by, begins, calls, directs, ended_front, ends, forgets, is_unfit, keeps, learns, misplaces, refreshes, sends, tells_gone, tells_there, tries, unwritten, writes}
 use Rattle.rd_served.specs.Parts as part
 use Rattle.rd_served.specs.Served.{Asking, CallsDesk, IsStationed, Served, asks, hands, idle, refused}
 use Rattle.rd_served.proofs.AskedLemmas.{asked_may}
@@ -196,8 +196,8 @@ AskedAs old new _ = Unit {0}
 abbrev pub HeardFacts : ClientCoreState → ClientCoreState → Result Heard EndFault → Type 0
 HeardFacts old new answer = (new.channel ≡ old.channel) × (old.asked ≤ new.asked) × AskedAs old new answer
 
-heard_by : (old new : ClientCoreState) (m : List ℕ) (answer : Result Heard EndFault) → client_hear old m ≡ (new, answer) → HeardFacts old new answer
-heard_by old new m answer is = by answer is (subst (HeardAs old m) is (hears old m))
+heard_in : (old new : ClientCoreState) (m : List ℕ) (answer : Result Heard EndFault) → client_hear old m ≡ (new, answer) → HeardFacts old new answer
+heard_in old new m answer is = by answer is (subst (HeardAs old m) is (hears old m))
   where
     by : (a : Result Heard EndFault) → client_hear old m ≡ (new, a) → HeardAs old m (new, a) → HeardFacts old new a
     by (Err cause) e (channel, asked, wrong) = (channel, omega (arith, asked), tt)
@@ -208,9 +208,9 @@ heard_by old new m answer is = by answer is (subst (HeardAs old m) is (hears old
 
 pub heard_facts : (old new : ClientCoreState) (m : List ℕ) (answer : Result Heard EndFault) → hearing.Hears client_side (λ (c : ClientCoreState). c.core) client_hear old m answer new → HeardFacts old new answer
 heard_facts old new m (Err fault.Memory) did = (ap (λ (c : ClientCoreState). c.channel) did.1, (let e = ap (λ (c : ClientCoreState). c.asked) did.1 in omega (arith, e)), tt)
-heard_facts old new m (Err (fault.Order state packet)) did = heard_by old new m _ did
-heard_facts old new m (Err (fault.Grammar bad)) did = heard_by old new m _ did
-heard_facts old new m (Ok h) did = heard_by old new m _ did
+heard_facts old new m (Err (fault.Order state packet)) did = heard_in old new m _ did
+heard_facts old new m (Err (fault.Grammar bad)) did = heard_in old new m _ did
+heard_facts old new m (Ok h) did = heard_in old new m _ did
 
 pub both_true : (a b : Bool) → (a && b) ≡ true → (a ≡ true) × (b ≡ true)
 both_true true b is = (refl, is)
@@ -267,7 +267,7 @@ hears_keyed p q channel m answer goes keyed = record {
       may = is.3;
     }
 
-    asked : (a : Result Heard EndFault) → AskedAs (p.front).client (q.front).client a → (k : Kept) → IsUnder (asked_by a) k → IsNextJob q.front q.stations k
+    asked : (a : Result Heard EndFault) → AskedAs (p.front).client (q.front).client a → (k : Kept) → IsUnder (asking_by a) k → IsNextJob q.front q.stations k
     asked (Ok (Ask device job)) is k under = subst (IsNextJob q.front q.stations) under (next device job is)
     asked (Ok Nothing) is k under = absurd under
     asked (Ok (Print n)) is k under = absurd under
@@ -530,7 +530,7 @@ begins_keyed p q channel goes keyed = subst IsKeyed (sym goes.3) (record {
 
 -- ---- each part
 
-pub part_keyed : (p q : Served) (x : Part) → PartGoes p x q → IsKeyed p → IsKeyed q
+pub part_keyed : (p q : Served) (x : FrontPart) → PartGoes p x q → IsKeyed p → IsKeyed q
 part_keyed p q (part.hears channel m answer) goes keyed = hears_keyed p q channel m answer goes keyed
 part_keyed p q tries goes keyed = subst IsKeyed (sym goes.4) (keyed_calm p (record p { front = record p.front { kept = None }; asking = asks goes.0 }) keyed
     (record { on = refl; channel = refl; client_channel = refl; asked = refl; may = λ may. may }) (stations_same p p.stations refl keyed)
@@ -567,7 +567,7 @@ part_keyed p q (refreshes device) goes keyed =
 part_keyed p q (begins channel) goes keyed = begins_keyed p q channel goes keyed
 part_keyed p q (ends over told) goes keyed = ends_keyed p q over told goes keyed
 
-pub parts_keyed : (ps : List Part) (p q : Served) → PartsGo p ps q → IsKeyed p → IsKeyed q
+pub parts_keyed : (ps : List FrontPart) (p q : Served) → PartsGo p ps q → IsKeyed p → IsKeyed q
 parts_keyed [] p q is keyed = subst IsKeyed (sym is) keyed
 parts_keyed (x ∷ ps) p q goes keyed = parts_keyed ps goes.0 q goes.2 (part_keyed p goes.0 x goes.1 keyed)
 
@@ -589,7 +589,7 @@ unfit_at p q place id (desk.Work runs) back items at keyed = absurd at.own
 unfit_at p q place id desk.DropChannel back items at keyed = absurd at.own
 unfit_at p q place id desk.End back items at keyed = absurd at.own
 
-unfit_never : (p q : Served) (x : Part) → PartGoes p x q → IsKeyed p → is_unfit x ≡ true → ⊥
+unfit_never : (p q : Served) (x : FrontPart) → PartGoes p x q → IsKeyed p → is_unfit x ≡ true → ⊥
 unfit_never p q misplaces goes keyed unfit =
     let may = (keyed.asking goes.0 (subst (λ (a : Asking). IsUnder a goes.0) (sym goes.1) refl)).may in cc (may, goes.2)
 unfit_never p q (calls place id does (replied.Unfit job) items) goes keyed unfit = unfit_at p q place id does job items goes keyed
@@ -615,12 +615,12 @@ unfit_never p q (refreshes device) goes keyed unfit = cc (unfit)
 unfit_never p q (begins channel) goes keyed unfit = cc (unfit)
 unfit_never p q (ends over told) goes keyed unfit = cc (unfit)
 
-none_unfit : (ps : List Part) (p q : Served) → PartsGo p ps q → IsKeyed p → Among (λ x. is_unfit x ≡ true) ps → ⊥
+none_unfit : (ps : List FrontPart) (p q : Served) → PartsGo p ps q → IsKeyed p → Among (λ x. is_unfit x ≡ true) ps → ⊥
 none_unfit [] p q goes keyed none = none
 none_unfit (x ∷ ps) p q goes keyed (inl here) = unfit_never p goes.0 x goes.1 keyed here
 none_unfit (x ∷ ps) p q goes keyed (inr later) = none_unfit ps goes.0 q goes.2 (part_keyed p goes.0 x goes.1 keyed) later
 
-pub history_fits : (entries : List (Entry FrontCall FrontReply)) (parts : List (List Part)) (p q : Served) → HistoryGoes p entries parts q → IsKeyed p → All (λ (e : Entry FrontCall FrontReply). e.reply ≢ reply.Unfit) entries
+pub history_fits : (entries : List (Entry FrontCall FrontReply)) (parts : List (List FrontPart)) (p q : Served) → HistoryGoes p entries parts q → IsKeyed p → All (λ (e : Entry FrontCall FrontReply). e.reply ≢ reply.Unfit) entries
 history_fits [] [] p q goes keyed = All-nil (λ (e : Entry FrontCall FrontReply). e.reply ≢ reply.Unfit)
 history_fits [] (ps ∷ parts) p q goes keyed = absurd goes
 history_fits (e ∷ entries) [] p q goes keyed = absurd goes
@@ -658,7 +658,7 @@ begins_at p is at none = record {
 pub begins_well : (s : FrontState) (stations : List Of) → IsNewFront s → AreStationed s.desks stations → IsKeyed (record { front = s; asking = idle; stations = stations })
 begins_well s stations is at = begins_at (record { front = s; asking = idle; stations = stations }) is at refl
 
-pub history_keyed : (entries : List (Entry FrontCall FrontReply)) (parts : List (List Part)) (p q : Served) → HistoryGoes p entries parts q → IsKeyed p → IsKeyed q
+pub history_keyed : (entries : List (Entry FrontCall FrontReply)) (parts : List (List FrontPart)) (p q : Served) → HistoryGoes p entries parts q → IsKeyed p → IsKeyed q
 history_keyed [] [] p q goes keyed = subst IsKeyed (sym goes) keyed
 history_keyed [] (ps ∷ parts) p q goes keyed = absurd goes
 history_keyed (e ∷ entries) [] p q goes keyed = absurd goes

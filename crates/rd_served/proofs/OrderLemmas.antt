@@ -29,7 +29,7 @@ use Rattle.rd_world.specs.Events.{completion_message}
 use Rattle.rd_world.specs.Joining.{Stands}
 use Rattle.rd_journals.specs.Standing.{IsOut}
 use Rattle.rd_served.specs.Histories.{Among, HistoryGoes, RanOut}
-use Rattle.rd_served.specs.Parts.{CallsAt, EndsEach, Part, PartGoes, PartsGo, asked_by, begins, calls, directs, forgets, is_lost, keeps, learns, misplaces, refreshes, sends, tells_gone, tells_there, tries, unwritten, writes}
+use Rattle.rd_served.specs.Parts.{CallsAt, EndsEach, FrontPart, PartGoes, PartsGo, asking_by, begins, calls, directs, forgets, is_lost, keeps, learns, misplaces, refreshes, sends, tells_gone, tells_there, tries, unwritten, writes}
 use Rattle.rd_served.specs.Parts as part
 use Rattle.rd_served.proofs.ComesLemmas.{cancel}
 use Rattle.rd_irp.specs.Fits.{kind_of}
@@ -289,7 +289,7 @@ steps_unsent (call ∷ others) old new own steps =
 -- ---- each part
 
 -- no completion that was collected was lost
-abbrev pub AreWritten : List (List Part) → Type 0
+abbrev pub AreWritten : List (List FrontPart) → Type 0
 AreWritten parts = AllByRecursion (λ ps. AllByRecursion (λ p. is_lost p ≡ false) ps) parts
 
 abbrev NotHands : Asking → Type 0
@@ -438,17 +438,17 @@ ends_order a over (d ∷ ds) (s ∷ ss) (t ∷ ts) (e ∷ es) (u ∷ us) deeds e
     (order_stored a t.0 t.1 deeds (called_unsent d e s u (end_call over) ended.0 t.1 ended.2 (end_no_collections over ended.0 (ended.2).middle u (ended.2).step)) (each_tail Stands (stored_each ts) (stored t.0 t.1 ++ deeds) stand) is))
 ends_order a over ds ss ts es us deeds ended each is = absurd ended
 
-asked_not : (answer : Result Heard EndFault) → NotHands (asked_by answer)
+asked_not : (answer : Result Heard EndFault) → NotHands (asking_by answer)
 asked_not (Ok (Ask device job)) = tt
 asked_not (Ok Nothing) = tt
 asked_not (Ok (Print n)) = tt
 asked_not (Err cause) = tt
 
-part_order : (p q : Served) (x : Part) (deeds : List Deed) → is_lost x ≡ false → PartGoes p x q → IsKnownAt p deeds → EachAfter Stands (deeds_of x ++ deeds) → InOrderBut p.asking deeds → InOrderBut q.asking (deeds_of x ++ deeds)
+part_order : (p q : Served) (x : FrontPart) (deeds : List Deed) → is_lost x ≡ false → PartGoes p x q → IsKnownAt p deeds → EachAfter Stands (deeds_of x ++ deeds) → InOrderBut p.asking deeds → InOrderBut q.asking (deeds_of x ++ deeds)
 part_order p q (part.hears channel m answer) deeds kept goes known each is = by answer
   where
     so : InOrderBut q.asking deeds
-    so = turns p.asking q.asking idle (asked_by answer) deeds goes.1 goes.4 tt (asked_not answer) is
+    so = turns p.asking q.asking idle (asking_by answer) deeds goes.1 goes.4 tt (asked_not answer) is
 
     by : (a : Result Heard EndFault) → InOrderBut q.asking (deeds_of (part.hears channel m a) ++ deeds)
     by (Err fault.Memory) = so
@@ -488,13 +488,13 @@ part_order p q (begins channel) deeds kept goes known each is = subst (λ (z : A
 part_order p q (part.ends over told) deeds kept goes known each is =
     turns p.asking q.asking idle idle (stored_each told ++ deeds) goes.0 goes.3 tt tt (ends_order p.asking over (p.front).desks p.stations told (q.front).desks q.stations deeds goes.1 each is)
 
-parts_order : (ps : List Part) (p q : Served) (deeds : List Deed) → AllByRecursion (λ (x : Part). is_lost x ≡ false) ps → PartsGo p ps q → IsKnownAt p deeds → InOrderBut p.asking deeds → InOrderBut q.asking (deeds_after ps deeds)
+parts_order : (ps : List FrontPart) (p q : Served) (deeds : List Deed) → AllByRecursion (λ (x : FrontPart). is_lost x ≡ false) ps → PartsGo p ps q → IsKnownAt p deeds → InOrderBut p.asking deeds → InOrderBut q.asking (deeds_after ps deeds)
 parts_order [] p q deeds kept goes known is = subst (λ (s : Served). InOrderBut s.asking deeds) (sym goes) is
 parts_order (x ∷ ps) p q deeds kept goes known is =
     let next = part_known p goes.0 x deeds goes.1 known in
     parts_order ps goes.0 q (deeds_of x ++ deeds) kept.1 goes.2 next (part_order p goes.0 x deeds kept.0 goes.1 known next.standing.stand is)
 
-pub history_order : (entries : List (Entry FrontCall FrontReply)) (parts : List (List Part)) (p q : Served) (deeds : List Deed) → AreWritten parts → HistoryGoes p entries parts q → IsKnownAt p deeds → p.asking ≡ idle → InOrderBut idle deeds → InOrderBut idle (deeds_of_calls parts deeds)
+pub history_order : (entries : List (Entry FrontCall FrontReply)) (parts : List (List FrontPart)) (p q : Served) (deeds : List Deed) → AreWritten parts → HistoryGoes p entries parts q → IsKnownAt p deeds → p.asking ≡ idle → InOrderBut idle deeds → InOrderBut idle (deeds_of_calls parts deeds)
 history_order [] [] p q deeds kept goes known none is = is
 history_order [] (ps ∷ parts) p q deeds kept goes known none is = absurd goes
 history_order (e ∷ entries) [] p q deeds kept goes known none is = absurd goes
@@ -503,7 +503,7 @@ history_order (e ∷ entries) (ps ∷ parts) p q deeds kept goes known none is =
     history_order entries parts goes.0 q (deeds_after ps deeds) kept.1 goes.2 (parts_known ps p goes.0 deeds (goes.1).goes known) (goes.1).after (subst (λ (z : Asking). InOrderBut z (deeds_after ps deeds)) (goes.1).after after)
 
 -- where no reply says that memory was wanting, no completion was lost
-none_lost : (ps : List Part) → (Among (λ p. is_lost p ≡ true) ps → ⊥) → AllByRecursion (λ (x : Part). is_lost x ≡ false) ps
+none_lost : (ps : List FrontPart) → (Among (λ p. is_lost p ≡ true) ps → ⊥) → AllByRecursion (λ (x : FrontPart). is_lost x ≡ false) ps
 none_lost [] none = tt
 none_lost (x ∷ ps) none = (by (is_lost x) refl, none_lost ps (λ some. none (inr some)))
   where
@@ -511,7 +511,7 @@ none_lost (x ∷ ps) none = (by (is_lost x) refl, none_lost ps (λ some. none (i
     by true e = absurd (none (inl e))
     by false e = e
 
-pub all_written : (entries : List (Entry FrontCall FrontReply)) (parts : List (List Part)) (p q : Served) → HistoryGoes p entries parts q → AllByRecursion (λ (e : Entry FrontCall FrontReply). ¬ (RanOut e.reply)) entries → AreWritten parts
+pub all_written : (entries : List (Entry FrontCall FrontReply)) (parts : List (List FrontPart)) (p q : Served) → HistoryGoes p entries parts q → AllByRecursion (λ (e : Entry FrontCall FrontReply). ¬ (RanOut e.reply)) entries → AreWritten parts
 all_written [] [] p q goes none = tt
 all_written [] (ps ∷ parts) p q goes none = absurd goes
 all_written (e ∷ entries) [] p q goes none = absurd goes

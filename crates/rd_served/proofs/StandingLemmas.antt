@@ -54,7 +54,7 @@ use Rattle.rd_journals.proofs.WorkLemmas.{grown_more}
 use Rattle.rd_journals.proofs.WritingLemmas.{AddsOwn, adds_own, hear_adds, list_own, removal_own}
 use Rattle.rd_served.specs.Deeds.{deeds_after, deeds_of, deeds_of_calls, sent_by, stored, stored_each}
 use Rattle.rd_served.specs.Histories.{AreApart, AreStationed, HistoryGoes, IsNewFront}
-use Rattle.rd_served.specs.Parts.{AsksBy, CallsAt, Comes, EndsEach, Part, PartGoes, PartsGo, asked_by, begins, calls, directs, ended_front, ends, forgets, keeps, learns, misplaces, refreshes, sends, tells_gone, tells_there, tries, unwritten, writes}
+use Rattle.rd_served.specs.Parts.{AsksBy, CallsAt, Comes, EndsEach, FrontPart, PartGoes, PartsGo, asking_by, begins, calls, directs, ended_front, ends, forgets, keeps, learns, misplaces, refreshes, sends, tells_gone, tells_there, tries, unwritten, writes}
 use Rattle.rd_served.specs.Parts as part
 use Rattle.rd_served.specs.Served.{Asking, CallsDesk, Served, asks, hands, idle}
 use Rattle.rd_served.proofs.CauseLemmas.{At, IsTold, begins_told_well, get_set, part_told, stored_elsewhere, stored_here, tied_then, to_turned}
@@ -251,7 +251,7 @@ client_front p q unsent is = (ap (λ (s : FrontState). s.desks) is, ap (λ (s : 
 -- ---- a message is heard
 
 -- a request that is asked for is none that was given
-asked_other : (p q : Served) (answer : Result Heard EndFault) → IsKeyed p → (p.front).on ≡ true → AskedAs (p.front).client (q.front).client answer → q.asking ≡ asked_by answer → (key : Key) → IsGiven (p.front).channel ((p.front).client).asked key → (k : Kept) → IsUnder q.asking k → k.job.key ≢ key
+asked_other : (p q : Served) (answer : Result Heard EndFault) → IsKeyed p → (p.front).on ≡ true → AskedAs (p.front).client (q.front).client answer → q.asking ≡ asking_by answer → (key : Key) → IsGiven (p.front).channel ((p.front).client).asked key → (k : Kept) → IsUnder q.asking k → k.job.key ≢ key
 asked_other p q answer keyed on is asking key given k under = by answer is (subst (λ (a : Asking). IsUnder a k) asking under)
   where
     differs : (job : Job) → job.key.channel ≡ ((p.front).client).channel → job.key.index ≡ ((p.front).client).asked → job.key ≢ key
@@ -260,7 +260,7 @@ asked_other p q answer keyed on is asking key given k under = by answer is (subs
         let i = ap (λ (x : Key). x.index) same in
         elim given [ inl less ↦ omega (arith, c, channel, keyed.same on, less) | inr here ↦ omega (arith, i, index, here.1) ]
 
-    by : (a : Result Heard EndFault) → AskedAs (p.front).client (q.front).client a → IsUnder (asked_by a) k → k.job.key ≢ key
+    by : (a : Result Heard EndFault) → AskedAs (p.front).client (q.front).client a → IsUnder (asking_by a) k → k.job.key ≢ key
     by (Ok (Ask device job)) (more, channel, index, may) same = subst (λ (x : Kept). x.job.key ≢ key) same (differs job channel index)
     by (Ok Nothing) is none = absurd none
     by (Ok (Print n)) is none = absurd none
@@ -290,7 +290,7 @@ hears_standing p q deeds channel m answer goes keyed is = by answer ((goes.3).0)
     none : (device : ℕ) (c : Completion) → q.asking ≡ hands device c → ⊥
     none device c same = never answer (sym goes.4 ∙ same)
       where
-        never : (a : Result Heard EndFault) → asked_by a ≡ hands device c → ⊥
+        never : (a : Result Heard EndFault) → asking_by a ≡ hands device c → ⊥
         never (Ok (Ask d job)) e = cc (e)
         never (Ok Nothing) e = cc (e)
         never (Ok (Print n)) e = cc (e)
@@ -835,7 +835,7 @@ sent_none c new is = by (c.core).outbox refl is
     by (x ∷ rest) e f = absurd (let g : Some x ≡ None = ap (λ (r : ClientCoreState × Option Outgoing). r.1) f in cc (g))
 
 -- a job that is answered without its device is under way
-pub direct_under : (p : Served) (k : Kept) (st : Status) → part.IsDirect p k st → IsUnder p.asking k
+pub direct_under : (p : Served) (k : Kept) (st : Status) → part.MayBeDirect p k st → IsUnder p.asking k
 direct_under p k st (inl absent) = subst (λ (a : Asking). IsUnder a k) (sym absent.0) refl
 direct_under p k st (inr (inl gone)) = subst (λ (a : Asking). IsUnder a k) (sym gone.0) refl
 direct_under p k st (inr (inr worn)) = subst (λ (a : Asking). IsUnder a k) (sym worn.1) refl
@@ -847,7 +847,7 @@ refreshed_more s device = go (lookup (is_at (nat_cmp device)) s.printers)
     go None = (refl, refl)
     go (Some names) = (refl, refl)
 
-pub part_standing : (p q : Served) (x : Part) (deeds : List Deed) → PartGoes p x q → IsKnownAt p deeds → AreStanding q (deeds_of x ++ deeds)
+pub part_standing : (p q : Served) (x : FrontPart) (deeds : List Deed) → PartGoes p x q → IsKnownAt p deeds → AreStanding q (deeds_of x ++ deeds)
 part_standing p q (part.hears channel m answer) deeds goes known = hears_standing p q deeds channel m answer goes known.keyed known.standing
 part_standing p q tries deeds goes known = subst (λ (s : Served). AreStanding s deeds) (sym goes.4)
     (light_standing p (record p { front = record p.front { kept = None }; asking = asks goes.0 }) deeds known.standing refl refl refl refl
@@ -920,7 +920,7 @@ part_standing p q (refreshes device) deeds goes known =
 part_standing p q (begins channel) deeds goes known = begins_standing p q deeds channel known.keyed known.standing goes
 part_standing p q (ends over told_each) deeds goes known = ends_standing p q deeds over told_each known goes
 
-pub part_known : (p q : Served) (x : Part) (deeds : List Deed) → PartGoes p x q → IsKnownAt p deeds → IsKnownAt q (deeds_of x ++ deeds)
+pub part_known : (p q : Served) (x : FrontPart) (deeds : List Deed) → PartGoes p x q → IsKnownAt p deeds → IsKnownAt q (deeds_of x ++ deeds)
 part_known p q x deeds goes known = record {
   keyed = part_keyed p q x goes known.keyed;
   told = part_told p q x deeds goes known.keyed known.told;
@@ -928,11 +928,11 @@ part_known p q x deeds goes known = record {
   standing = part_standing p q x deeds goes known;
 }
 
-pub parts_known : (ps : List Part) (p q : Served) (deeds : List Deed) → PartsGo p ps q → IsKnownAt p deeds → IsKnownAt q (deeds_after ps deeds)
+pub parts_known : (ps : List FrontPart) (p q : Served) (deeds : List Deed) → PartsGo p ps q → IsKnownAt p deeds → IsKnownAt q (deeds_after ps deeds)
 parts_known [] p q deeds is known = subst (λ (s : Served). IsKnownAt s deeds) (sym is) known
 parts_known (x ∷ ps) p q deeds goes known = parts_known ps goes.0 q (deeds_of x ++ deeds) goes.2 (part_known p goes.0 x deeds goes.1 known)
 
-pub history_known : (entries : List (Entry FrontCall FrontReply)) (parts : List (List Part)) (p q : Served) (deeds : List Deed) → HistoryGoes p entries parts q → IsKnownAt p deeds → IsKnownAt q (deeds_of_calls parts deeds)
+pub history_known : (entries : List (Entry FrontCall FrontReply)) (parts : List (List FrontPart)) (p q : Served) (deeds : List Deed) → HistoryGoes p entries parts q → IsKnownAt p deeds → IsKnownAt q (deeds_of_calls parts deeds)
 history_known [] [] p q deeds goes known = subst (λ (s : Served). IsKnownAt s deeds) (sym goes) known
 history_known [] (ps ∷ parts) p q deeds goes known = absurd goes
 history_known (e ∷ entries) [] p q deeds goes known = absurd goes

@@ -49,7 +49,7 @@ use Rattle.rd_world.specs.Events.{completion_message}
 use Rattle.rd_world.specs.Talk.{Has}
 use Rattle.rd_world.specs.World.{Kept}
 use Rattle.rd_served.specs.Histories.{Among, AreStationed, CallGoes, HearsAs, HistoryGoes, IsHeardBy, RanOut, handed_out}
-use Rattle.rd_served.specs.Parts.{AsksBy, Comes, EndsEach, FitsCall, IsDirect, IsOpenCall, MayForget, Part, PartGoes, PartsGo, asked_by, begins, calls, directs, duplicate_by, duplicate_of, ended_front, ends, forgets, handed_by, heard_by, hears, is_lost, is_unfit, keeps, learns, misplaces, refreshes, sends, tells_gone, tells_there, tries, unwritten, writes}
+use Rattle.rd_served.specs.Parts.{AsksBy, Comes, EndsEach, FitsCall, MayBeDirect, IsOpenCall, MayForget, FrontPart, PartGoes, PartsGo, asking_by, begins, calls, directs, duplicate_by, duplicate_of, ended_front, ends, forgets, handed_by, heard_in, hears, is_lost, is_unfit, keeps, learns, misplaces, refreshes, sends, tells_gone, tells_there, tries, unwritten, writes}
 use Rattle.rd_served.specs.Served.{Asking, IsStationed, Served, asks, hands, idle, refused}
 use Rattle.rd_served.proofs.LiftLemmas.{lifted}
 
@@ -63,7 +63,7 @@ Messages = List (List ℕ)
 abbrev Marks : Type 0
 Marks = List (Option (List ℕ))
 
-abbrev pub marked_by : Part → Option (Option (List ℕ))
+abbrev pub marked_by : FrontPart → Option (Option (List ℕ))
 marked_by (sends channel (Some o)) = Some (Some o.message)
 marked_by (writes device c) = Some (Some (completion_message device c))
 marked_by (unwritten device c) = Some None
@@ -76,16 +76,16 @@ served s asking stations = record { front = s; asking = asking; stations = stati
 pub record Came (p : FrontState) (a : Asking) (written : Marks) (heard : Messages) (q : FrontState) (b : Asking) (after : List Of) : Type 0 where
   pub stations : List Of
   pub at : AreStationed p.desks stations
-  pub parts : List Part
+  pub parts : List FrontPart
   pub goes : PartsGo (served p a stations) parts (served q b after)
   pub writes : filter_map marked_by parts ≡ written
-  pub hears : filter_map heard_by parts ≡ heard
+  pub hears : filter_map heard_in parts ≡ heard
 
 abbrev pub Does : FrontState → Asking → Marks → Messages → FrontState → Asking → Type 0
 Does p a written heard q b = (after : List Of) → AreStationed q.desks after → Came p a written heard q b after
 
 -- what a reply says of unfit jobs and of completion ids that are in use
-pub record Says (back : FrontReply) (parts : List Part) : Type 0 where
+pub record Says (back : FrontReply) (parts : List FrontPart) : Type 0 where
   pub unfit : back ≡ reply.Unfit → Among (λ p. is_unfit p ≡ true) parts
   pub duplicate : (key : Key) → back ≡ reply.Duplicate key → Among (λ p. duplicate_of p ≡ Some key) parts
 
@@ -94,16 +94,16 @@ Answers p a back heard q b = (after : List Of) → AreStationed q.desks after �
 
 -- ---- parts after parts
 
-parts_append : (p q r : Served) (xs ys : List Part) → PartsGo p xs q → PartsGo q ys r → PartsGo p (xs ++ ys) r
+parts_append : (p q r : Served) (xs ys : List FrontPart) → PartsGo p xs q → PartsGo q ys r → PartsGo p (xs ++ ys) r
 parts_append p q r [] ys first second = subst (λ (s : Served). PartsGo s ys r) first second
 parts_append p q r (x ∷ xs) ys first second = (first.0, first.1, parts_append first.0 q r xs ys first.2 second)
 
-among_left : (P : Part → Type 0) (xs ys : List Part) → Among P xs → Among P (xs ++ ys)
+among_left : (P : FrontPart → Type 0) (xs ys : List FrontPart) → Among P xs → Among P (xs ++ ys)
 among_left P [] ys none = absurd none
 among_left P (x ∷ xs) ys (inl here) = inl here
 among_left P (x ∷ xs) ys (inr later) = inr (among_left P xs ys later)
 
-among_right : (P : Part → Type 0) (xs ys : List Part) → Among P ys → Among P (xs ++ ys)
+among_right : (P : FrontPart → Type 0) (xs ys : List FrontPart) → Among P ys → Among P (xs ++ ys)
 among_right P [] ys there = there
 among_right P (x ∷ xs) ys there = inr (among_right P xs ys there)
 
@@ -114,7 +114,7 @@ came_on p q r a b c w v h g after second first = record {
   parts = first.parts ++ second.parts;
   goes = parts_append (served p a first.stations) (served q b second.stations) (served r c after) first.parts second.parts first.goes second.goes;
   writes = filter_map-append marked_by first.parts second.parts ∙ (λ i. first.writes i ++ second.writes i);
-  hears = filter_map-append heard_by first.parts second.parts ∙ (λ i. first.hears i ++ second.hears i);
+  hears = filter_map-append heard_in first.parts second.parts ∙ (λ i. first.hears i ++ second.hears i);
 }
 
 joins : (p q r : FrontState) (a b c : Asking) (w v : Marks) (h g : Messages) → Does p a w h q b → Does q b v g r c → Does p a (w ++ v) (h ++ g) r c
@@ -186,7 +186,7 @@ same : (p q : FrontState) (a : Asking) → q ≡ p → Does p a [] [] q a
 same p q a is = to p p q a a [] [] is (stays p a)
 
 -- a part that calls no desk
-abbrev beside : (p q : FrontState) (a b : Asking) (part : Part) (w : Marks) (h : Messages) → q.desks ≡ p.desks → filter_map marked_by (part ∷ []) ≡ w → filter_map heard_by (part ∷ []) ≡ h
+abbrev beside : (p q : FrontState) (a b : Asking) (part : FrontPart) (w : Marks) (h : Messages) → q.desks ≡ p.desks → filter_map marked_by (part ∷ []) ≡ w → filter_map heard_in (part ∷ []) ≡ h
     → ((stations : List Of) → PartGoes (served p a stations) part (served q b stations)) → Does p a w h q b
 beside p q a b part w h desks handed heard goes after at =
     record { stations = after; at = subst (λ (ds : List DeviceDeskState). AreStationed ds after) desks at; parts = part ∷ []; goes = (served q b after, goes after, refl); writes = handed; hears = heard }
@@ -316,7 +316,7 @@ each does one (x ∷ xs) p found q did =
 
 -- ---- a job
 
-answers : (p : FrontState) (a : Asking) (k : Kept) (st : Status) (back : FrontReply) (q : FrontState) → ((stations : List Of) → IsDirect (served p a stations) k st) → AnswersDirectly p k.device k.job st back q → Answers p a back [] q idle
+answers : (p : FrontState) (a : Asking) (k : Kept) (st : Status) (back : FrontReply) (q : FrontState) → ((stations : List Of) → MayBeDirect (served p a stations) k st) → AnswersDirectly p k.device k.job st back q → Answers p a back [] q idle
 answers p a k st back q direct did =
     quiet p q a idle back [] (quiet_as back (done_if did.0 q) did.2 (if_quiet did.0 q))
     (beside p q a idle (directs st did.0) [] [] (core_desks p q (p.unsent + one_if_done did.0) (did.1).1) refl refl (λ stations. (k, direct stations, did.1, refl, refl)))
@@ -418,29 +418,29 @@ opens false p back q did = quiet p q idle idle back [] (quiet_as back _ did.0 (d
 
 -- what was heard, and what follows from it
 hears_one : (p next : FrontState) (message : List ℕ) (answer : Result Heard EndFault) → may_hear p ≡ true → ClientDoes p (client.hears message answer) (most_written (is_front_ready p)) next
-    → Does p idle [] (filter_map heard_by (hears p.channel message answer ∷ [])) next (asked_by answer)
+    → Does p idle [] (filter_map heard_in (hears p.channel message answer ∷ [])) next (asking_by answer)
 hears_one p next message answer may did =
-    beside p next idle (asked_by answer) (hears p.channel message answer) [] _ (core_desks p next (p.unsent + most_written (is_front_ready p)) did.1) refl refl (λ stations. (refl, refl, may, did, refl, refl))
+    beside p next idle (asking_by answer) (hears p.channel message answer) [] _ (core_desks p next (p.unsent + most_written (is_front_ready p)) did.1) refl refl (λ stations. (refl, refl, may, did, refl, refl))
 
 wrong_quiet : (cause : EndFault) → IsQuiet (reply.Wrong cause)
 wrong_quiet cause = (λ is. cc (is), λ key is. cc (is), refl)
 
-heard : (ready : Bool) (p : FrontState) (h : Heard) (back : FrontReply) (q : FrontState) → HeardBy ready p h back q → Answers p (asked_by (Ok h)) back [] q idle
+heard : (ready : Bool) (p : FrontState) (h : Heard) (back : FrontReply) (q : FrontState) → HeardBy ready p h back q → Answers p (asking_by (Ok h)) back [] q idle
 heard ready p Nothing back q did = opens (not ready && is_front_ready p) p back q did
 heard ready p (Ask device job) back q did = put p (record { device = device; job = job }) back q did
 heard ready p (Print n) back q did =
     quiet p q idle idle back [] (quiet_as back (done_if did.0 q) did.3 (if_quiet did.0 q))
     (beside p q idle idle (learns n did.0) [] [] (ap (λ (s : FrontState). s.desks) did.2) refl refl (λ stations. (did.1, ap (λ (s : FrontState). served s idle stations) did.2)))
 
-follows : (ready : Bool) (p : FrontState) (answer : Result Heard EndFault) (back : FrontReply) (q : FrontState) → FollowsFrom ready p answer back q → Answers p (asked_by answer) back [] q idle
+follows : (ready : Bool) (p : FrontState) (answer : Result Heard EndFault) (back : FrontReply) (q : FrontState) → FollowsFrom ready p answer back q → Answers p (asking_by answer) back [] q idle
 follows ready p (Err fault.Memory) back q did = quiet p q idle idle back [] (quiet_as back reply.Memory did.0 memory_quiet) (same p q idle did.1)
 follows ready p (Err (fault.Order state packet)) back q did = quiet p q idle idle back [] (quiet_as back _ did.0 (wrong_quiet (fault.Order state packet))) (same p q idle did.1)
 follows ready p (Err (fault.Grammar bad)) back q did = quiet p q idle idle back [] (quiet_as back _ did.0 (wrong_quiet (fault.Grammar bad))) (same p q idle did.1)
 follows ready p (Ok h) back q did = heard ready p h back q did
 
-hears_all : (p : FrontState) (message : List ℕ) → may_hear p ≡ true → (back : FrontReply) (q : FrontState) (did : FrontHears p message back q) → Answers p idle back (filter_map heard_by (hears p.channel message did.0 ∷ []) ++ []) q idle
+hears_all : (p : FrontState) (message : List ℕ) → may_hear p ≡ true → (back : FrontReply) (q : FrontState) (did : FrontHears p message back q) → Answers p idle back (filter_map heard_in (hears p.channel message did.0 ∷ []) ++ []) q idle
 hears_all p message may back q did =
-    joins_last p did.1 q idle (asked_by did.0) idle back (filter_map heard_by (hears p.channel message did.0 ∷ [])) [] (hears_one p did.1 message did.0 may did.2) (follows (is_front_ready p) did.1 did.0 back q did.3)
+    joins_last p did.1 q idle (asking_by did.0) idle back (filter_map heard_in (hears p.channel message did.0 ∷ [])) [] (hears_one p did.1 message did.0 may did.2) (follows (is_front_ready p) did.1 did.0 back q did.3)
 
 -- ---- a channel begins
 
@@ -636,7 +636,7 @@ fills (suc most) p place messages left q did =
     filled p did.1 q place did.0 messages left (λ later. Fills most did.1 place later left q) (λ later. fills most did.1 place later left q) did.2 did.3
 
 -- what was handed out, by what is marked
-one_handed : (x : Part) (ps : List Part) → filter_map handed_by ps ≡ filter_map (λ (o : Option (List ℕ)). o) (filter_map marked_by ps) → filter_map handed_by (x ∷ ps) ≡ filter_map (λ (o : Option (List ℕ)). o) (filter_map marked_by (x ∷ ps))
+one_handed : (x : FrontPart) (ps : List FrontPart) → filter_map handed_by ps ≡ filter_map (λ (o : Option (List ℕ)). o) (filter_map marked_by ps) → filter_map handed_by (x ∷ ps) ≡ filter_map (λ (o : Option (List ℕ)). o) (filter_map marked_by (x ∷ ps))
 one_handed (sends channel (Some o)) ps later = ap (λ (ms : Messages). o.message ∷ ms) later
 one_handed (sends channel None) ps later = later
 one_handed (writes device c) ps later = ap (λ (ms : Messages). completion_message device c ∷ ms) later
@@ -655,7 +655,7 @@ one_handed (refreshes device) ps later = later
 one_handed (begins channel) ps later = later
 one_handed (ends over told) ps later = later
 
-handed_as : (ps : List Part) → filter_map handed_by ps ≡ filter_map (λ (o : Option (List ℕ)). o) (filter_map marked_by ps)
+handed_as : (ps : List FrontPart) → filter_map handed_by ps ≡ filter_map (λ (o : Option (List ℕ)). o) (filter_map marked_by ps)
 handed_as [] = refl
 handed_as (x ∷ ps) = one_handed x ps (handed_as ps)
 
@@ -665,7 +665,7 @@ HasNone [] = ⊥
 HasNone (None ∷ marks) = Unit {0}
 HasNone (Some m ∷ marks) = HasNone marks
 
-one_lost : (x : Part) (ps : List Part) → (Among (λ p. is_lost p ≡ true) ps → HasNone (filter_map marked_by ps)) → Among (λ p. is_lost p ≡ true) (x ∷ ps) → HasNone (filter_map marked_by (x ∷ ps))
+one_lost : (x : FrontPart) (ps : List FrontPart) → (Among (λ p. is_lost p ≡ true) ps → HasNone (filter_map marked_by ps)) → Among (λ p. is_lost p ≡ true) (x ∷ ps) → HasNone (filter_map marked_by (x ∷ ps))
 one_lost (unwritten device c) ps later some = tt
 one_lost (sends channel (Some o)) ps later (inl here) = absurd (cc (here))
 one_lost (sends channel (Some o)) ps later (inr there) = later there
@@ -700,7 +700,7 @@ one_lost (begins channel) ps later (inr there) = later there
 one_lost (ends over told) ps later (inl here) = absurd (cc (here))
 one_lost (ends over told) ps later (inr there) = later there
 
-lost_marked : (ps : List Part) → Among (λ p. is_lost p ≡ true) ps → HasNone (filter_map marked_by ps)
+lost_marked : (ps : List FrontPart) → Among (λ p. is_lost p ≡ true) ps → HasNone (filter_map marked_by ps)
 lost_marked [] none = none
 lost_marked (x ∷ ps) some = one_lost x ps (lost_marked ps) some
 
@@ -722,14 +722,14 @@ ran_out (m ∷ messages) left some = ran_out messages left some
 pub record Called (p : FrontState) (does : FrontCall) (back : FrontReply) (q : FrontState) (after : List Of) : Type 0 where
   pub stations : List Of
   pub at : AreStationed p.desks stations
-  pub parts : List Part
+  pub parts : List FrontPart
   pub goes : CallGoes (served p idle stations) does back parts (served q idle after)
 
 -- the same without a message
 silent : (p : FrontState) (does : FrontCall) (back : FrontReply) (q : FrontState) → ((h : Messages) → h ≡ [] → HearsAs does back h) → Answers p idle back [] q idle → (after : List Of) → AreStationed q.desks after → Called p does back q after
 silent p does back q none answer after at =
     let (c, tells, nothing) = answer after at in
-    record { stations = c.stations; at = c.at; parts = c.parts; goes = record { before = refl; goes = c.goes; after = refl; handed = handed_as c.parts ∙ ap (λ (ms : Marks). filter_map (λ (o : Option (List ℕ)). o) ms) c.writes ∙ sym nothing; heard = none (filter_map heard_by c.parts) c.hears; tells = record { unfit = tells.unfit; duplicate = tells.duplicate; lost = λ some. absurd (subst HasNone c.writes (lost_marked c.parts some)) } } }
+    record { stations = c.stations; at = c.at; parts = c.parts; goes = record { before = refl; goes = c.goes; after = refl; handed = handed_as c.parts ∙ ap (λ (ms : Marks). filter_map (λ (o : Option (List ℕ)). o) ms) c.writes ∙ sym nothing; heard = none (filter_map heard_in c.parts) c.hears; tells = record { unfit = tells.unfit; duplicate = tells.duplicate; lost = λ some. absurd (subst HasNone c.writes (lost_marked c.parts some)) } } }
 
 heard_one : (message : List ℕ) (back : FrontReply) (h : Messages) → (back ≡ reply.Refused → ⊥) → (back ≡ reply.Full → ⊥) → h ≡ message ∷ [] → IsHeardBy message back h
 heard_one message (reply.Done at full) h a b is = is
@@ -807,7 +807,7 @@ follows_said ready p (Ok (Print n)) back q did = said_as back (done_if did.0 q) 
 
 -- what is heard is the message, unless no memory was found for it
 heard_as : (channel : ℕ) (message : List ℕ) (answer : Result Heard EndFault) (back : FrontReply) (h : Messages) (next q : FrontState) (ready : Bool) → FollowsFrom ready next answer back q → (back ≡ reply.Refused → ⊥) → (back ≡ reply.Full → ⊥)
-    → h ≡ filter_map heard_by (hears channel message answer ∷ []) ++ [] → IsHeardBy message back h
+    → h ≡ filter_map heard_in (hears channel message answer ∷ []) ++ [] → IsHeardBy message back h
 heard_as channel message (Err fault.Memory) back h next q ready did a b is = subst (λ (r : FrontReply). IsHeardBy message r h) (sym did.0) (inl is)
 heard_as channel message (Err (fault.Order state packet)) back h next q ready did a b is = heard_one message back h a b is
 heard_as channel message (Err (fault.Grammar bad)) back h next q ready did a b is = heard_one message back h a b is
@@ -838,7 +838,7 @@ hears_call p message back q did after at = by (may_hear p) refl did
     here may does =
         let said = follows_said (is_front_ready p) does.1 does.0 back q does.3 in
         let (c, tells, nothing) = hears_all p message may back q does after at in
-        record { stations = c.stations; at = c.at; parts = c.parts; goes = record { before = refl; goes = c.goes; after = refl; handed = handed_as c.parts ∙ ap (λ (ms : Marks). filter_map (λ (o : Option (List ℕ)). o) ms) c.writes ∙ sym nothing; heard = heard_as p.channel message does.0 back (filter_map heard_by c.parts) does.1 q (is_front_ready p) does.3 said.0 said.1 c.hears; tells = record { unfit = tells.unfit; duplicate = tells.duplicate; lost = λ some. absurd (subst HasNone c.writes (lost_marked c.parts some)) } } }
+        record { stations = c.stations; at = c.at; parts = c.parts; goes = record { before = refl; goes = c.goes; after = refl; handed = handed_as c.parts ∙ ap (λ (ms : Marks). filter_map (λ (o : Option (List ℕ)). o) ms) c.writes ∙ sym nothing; heard = heard_as p.channel message does.0 back (filter_map heard_in c.parts) does.1 q (is_front_ready p) does.3 said.0 said.1 c.hears; tells = record { unfit = tells.unfit; duplicate = tells.duplicate; lost = λ some. absurd (subst HasNone c.writes (lost_marked c.parts some)) } } }
 
     less : (b : Bool) → may_hear p ≡ true → Where b reply.Full back p q (FrontHears p message back q) → Called p (call.Hear message) back q after
     less true may does = here may does
@@ -889,7 +889,7 @@ call_goes p call.EndSession back q did after at =
 pub record History (p : FrontState) (entries : List (Entry FrontCall FrontReply)) (q : FrontState) (after : List Of) : Type 0 where
   pub stations : List Of
   pub at : AreStationed p.desks stations
-  pub parts : List (List Part)
+  pub parts : List (List FrontPart)
   pub goes : HistoryGoes (served p idle stations) entries parts (served q idle after)
 
 pub history_goes : (p : FrontState) (entries : List (Entry FrontCall FrontReply)) (q : FrontState) → Leads FrontStep p entries q → (after : List Of) → AreStationed q.desks after → History p entries q after

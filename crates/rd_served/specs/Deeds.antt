@@ -21,7 +21,7 @@ use Rattle.rd_world.specs.Talk.{Deed, Has, adds, client_read, client_reads, clie
 use Rattle.rd_world.specs.Told.{came, sent}
 use Rattle.rd_served.specs.Histories.{HistoryGoes}
 use Rattle.rd_served.specs.Served.{Served}
-use Rattle.rd_served.specs.Parts.{Part, PartsGo, calls, ends, hears, sends, tells_gone, tells_there, writes}
+use Rattle.rd_served.specs.Parts.{FrontPart, PartsGo, calls, ends, hears, sends, tells_gone, tells_there, writes}
 
 -- ---- deeds
 
@@ -39,7 +39,7 @@ sent_by channel message (Some key) = completes key message ∷ []
 sent_by channel message None = client_writes channel message ∷ []
 
 -- what the client did by a part
-abbrev pub deeds_of : Part → List Deed
+abbrev pub deeds_of : FrontPart → List Deed
 deeds_of (hears channel message (Err fault.Memory)) = []
 deeds_of (hears channel message answer) = client_reads channel message ∷ []
 deeds_of (calls place id does back items) = stored id items
@@ -51,7 +51,7 @@ deeds_of (ends over told) = stored_each told
 deeds_of _ = []
 
 -- what it had done after parts
-abbrev pub deeds_after : List Part → List Deed → List Deed
+abbrev pub deeds_after : List FrontPart → List Deed → List Deed
 deeds_after [] before = before
 deeds_after (p ∷ ps) before = deeds_after ps (deeds_of p ++ before)
 
@@ -74,9 +74,9 @@ pub record HasCause (device : ℕ) (job : Job) (key : Key) (deeds : List Deed) :
   pub unsent : ¬ (Has (Sent key) (journal device deeds))
 
 -- A call that replies so has the cause among its parts: a job was refused by its desk.
-pub record IsDuplicate (key : Key) (before : List Deed) (parts : List Part) : Type 0 where
-  pub first : List Part
-  pub last : List Part
+pub record IsDuplicate (key : Key) (before : List Deed) (parts : List FrontPart) : Type 0 where
+  pub first : List FrontPart
+  pub last : List FrontPart
   pub place : ℕ
   pub device : ℕ
   pub job : Job
@@ -85,12 +85,12 @@ pub record IsDuplicate (key : Key) (before : List Deed) (parts : List Part) : Ty
   pub parts_are : parts ≡ first ++ calls place device (desk.Put job) (replied.Put (Err refusal)) items ∷ last
   pub cause : HasCause device job key (stored device items ++ deeds_after first before)
 
-abbrev pub IsCaused : List Deed → FrontReply → List Part → Type 0
+abbrev pub IsCaused : List Deed → FrontReply → List FrontPart → Type 0
 IsCaused before (reply.Duplicate key) parts = IsDuplicate key before parts
 IsCaused before _ parts = Unit {0}
 
 -- Each call of a history that says that a completion id is in use has its cause.
-abbrev pub AreCaused : List Deed → List (Entry FrontCall FrontReply) → List (List Part) → Type 0
+abbrev pub AreCaused : List Deed → List (Entry FrontCall FrontReply) → List (List FrontPart) → Type 0
 AreCaused before [] [] = Unit {0}
 AreCaused before (e ∷ es) (ps ∷ pss) = IsCaused before e.reply ps × AreCaused (deeds_after ps before) es pss
 AreCaused before _ _ = ⊥
@@ -98,7 +98,7 @@ AreCaused before _ _ = ⊥
 -- ---- the whole history
 
 -- what the client had done after all calls of a history
-abbrev pub deeds_of_calls : List (List Part) → List Deed → List Deed
+abbrev pub deeds_of_calls : List (List FrontPart) → List Deed → List Deed
 deeds_of_calls [] before = before
 deeds_of_calls (ps ∷ pss) before = deeds_of_calls pss (deeds_after ps before)
 
@@ -139,11 +139,11 @@ abbrev pub AreOnChannel : ℕ → List Deed → Type 0
 AreOnChannel c deeds = AllByRecursion (IsOnChannel c) deeds
 
 -- By each part messages are read and written on the channel that began last before it, and so by each call of a history.
-abbrev pub PartsOnChannel : (old : Served) (ps : List Part) (new : Served) → PartsGo old ps new → Type 0
+abbrev pub PartsOnChannel : (old : Served) (ps : List FrontPart) (new : Served) → PartsGo old ps new → Type 0
 PartsOnChannel old [] new goes = Unit {0}
 PartsOnChannel old (p ∷ ps) new goes = AreOnChannel (old.front).channel (deeds_of p) × PartsOnChannel goes.0 ps new goes.2
 
-abbrev pub EachOnChannel : (old : Served) (entries : List (Entry FrontCall FrontReply)) (parts : List (List Part)) (new : Served) → HistoryGoes old entries parts new → Type 0
+abbrev pub EachOnChannel : (old : Served) (entries : List (Entry FrontCall FrontReply)) (parts : List (List FrontPart)) (new : Served) → HistoryGoes old entries parts new → Type 0
 EachOnChannel old [] [] new goes = Unit {0}
 EachOnChannel old (e ∷ es) (ps ∷ pss) new goes = PartsOnChannel old ps goes.0 (goes.1).goes × EachOnChannel goes.0 es pss new goes.2
 EachOnChannel old _ _ new goes = ⊥

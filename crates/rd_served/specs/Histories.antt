@@ -13,7 +13,7 @@ use Rattle.rd_station.specs.Station.{new_station}
 use Rattle.rd_turn.specs.declared.object.Entry.{Entry}
 use Rattle.rd_world.specs.Devices.{device_parked}
 use Rattle.rd_world.specs.declared.device.SessionDevice.{SessionDevice}
-use Rattle.rd_served.specs.Parts.{Part, PartsGo, duplicate_of, handed_by, heard_by, is_lost, is_unfit}
+use Rattle.rd_served.specs.Parts.{FrontPart, PartsGo, duplicate_of, handed_by, heard_in, is_lost, is_unfit}
 use Rattle.rd_served.specs.Served.{IsStationed, Served, idle}
 
 -- the messages that a reply hands out
@@ -33,7 +33,7 @@ HearsAs (call.Hear message) back heard = IsHeardBy message back heard
 HearsAs _ back heard = heard ≡ []
 
 -- one of these parts is so
-abbrev pub Among : (Part → Type 0) → List Part → Type 0
+abbrev pub Among : (FrontPart → Type 0) → List FrontPart → Type 0
 Among P [] = ⊥
 Among P (p ∷ ps) = P p ⊎ Among P ps
 
@@ -43,22 +43,22 @@ RanOut (reply.Messages filled rest.Memory) = Unit {0}
 RanOut _ = ⊥
 
 -- what a reply says of the parts
-pub record Tells (back : FrontReply) (parts : List Part) : Type 0 where
+pub record TellsParts (back : FrontReply) (parts : List FrontPart) : Type 0 where
   pub unfit : back ≡ reply.Unfit → Among (λ p. is_unfit p ≡ true) parts
   pub duplicate : (key : Key) → back ≡ reply.Duplicate key → Among (λ p. duplicate_of p ≡ Some key) parts
   pub lost : Among (λ p. is_lost p ≡ true) parts → RanOut back
 
 -- A call's parts: they lead from the front before it to the front after it, between which nothing is under way.
-pub record CallGoes (old : Served) (does : FrontCall) (back : FrontReply) (parts : List Part) (new : Served) : Type 0 where
+pub record CallGoes (old : Served) (does : FrontCall) (back : FrontReply) (parts : List FrontPart) (new : Served) : Type 0 where
   pub before : old.asking ≡ idle
   pub goes : PartsGo old parts new
   pub after : new.asking ≡ idle
   pub handed : filter_map handed_by parts ≡ handed_out back
-  pub heard : HearsAs does back (filter_map heard_by parts)
-  pub tells : Tells back parts
+  pub heard : HearsAs does back (filter_map heard_in parts)
+  pub tells : TellsParts back parts
 
 -- The calls of a history, each with its parts.
-abbrev pub HistoryGoes : Served → List (Entry FrontCall FrontReply) → List (List Part) → Served → Type 0
+abbrev pub HistoryGoes : Served → List (Entry FrontCall FrontReply) → List (List FrontPart) → Served → Type 0
 HistoryGoes old [] [] new = new ≡ old
 HistoryGoes old (e ∷ es) (ps ∷ pss) new = (next : Served) × CallGoes old e.call e.reply ps next × HistoryGoes next es pss new
 HistoryGoes old _ _ new = ⊥

@@ -29,32 +29,32 @@ use Rattle.rd_world.specs.Talk.{Has}
 use Rattle.rd_world.specs.World.{Kept}
 use Rattle.rd_served.specs.Served.{Asking, CallsDesk, Served, asks, hands, idle, refused}
 
-pub data Part : Type 0 where
+pub data FrontPart : Type 0 where
   -- the core heard a message on a channel
-  hears : ℕ → List ℕ → Result Heard EndFault → Part
+  hears : ℕ → List ℕ → Result Heard EndFault → FrontPart
   -- the job that is kept back is to come to its desk; one is kept back; one is given up; one is asked while the client may not be asked
-  tries keeps forgets misplaces : Part
+  tries keeps forgets misplaces : FrontPart
   -- a job is answered without its device
-  directs : Status → Result (Unit {0}) AllocError → Part
+  directs : Status → Result (Unit {0}) AllocError → FrontPart
   -- the desk at a place is called, of the device with this id; its station stored these entries since the call before
-  calls : ℕ → ℕ → DeskCall → DeskReply → List Item → Part
+  calls : ℕ → ℕ → DeskCall → DeskReply → List Item → FrontPart
   -- the host is told that a device is gone, or there again, while a channel is on
-  tells_gone tells_there : ℕ → Result (Unit {0}) AllocError → Part
+  tells_gone tells_there : ℕ → Result (Unit {0}) AllocError → FrontPart
   -- the core's first message on a channel is handed out
-  sends : ℕ → Option Outgoing → Part
+  sends : ℕ → Option Outgoing → FrontPart
   -- the completion that was collected of a device is handed out, or no memory is found for it
-  writes unwritten : ℕ → Completion → Part
-  learns : Notice → Result (Unit {0}) AllocError → Part
-  refreshes begins : ℕ → Part
+  writes unwritten : ℕ → Completion → FrontPart
+  learns : Notice → Result (Unit {0}) AllocError → FrontPart
+  refreshes begins : ℕ → FrontPart
   -- the channel ends, or the session; the station of each device stored these entries
-  ends : Bool → List (ℕ × List Item) → Part
+  ends : Bool → List (ℕ × List Item) → FrontPart
 
 -- ---- what each part does
 
 -- the job that a message asks for
-abbrev pub asked_by : Result Heard EndFault → Asking
-asked_by (Ok (Ask device job)) = asks (record { device = device; job = job })
-asked_by _ = idle
+abbrev pub asking_by : Result Heard EndFault → Asking
+asking_by (Ok (Ask device job)) = asks (record { device = device; job = job })
+asking_by _ = idle
 
 -- a job that was refused so is given up
 abbrev pub MayForget : PutWhy → Type 0
@@ -63,8 +63,8 @@ MayForget why.Memory = Unit {0}
 MayForget _ = ⊥
 
 -- A job is answered with this status without its device.
-abbrev pub IsDirect : Served → Kept → Status → Type 0
-IsDirect s k st =
+abbrev pub MayBeDirect : Served → Kept → Status → Type 0
+MayBeDirect s k st =
     ((s.asking ≡ asks k) × (desk_place (s.front).desks k.device ≡ None) × (st ≡ no_such_device))
     ⊎ (((s.asking ≡ refused k why.Gone) × (st ≡ gone_status s.front k.device))
     ⊎ ((count : ℕ) × (s.asking ≡ refused k (why.Worn count)) × (st ≡ insufficient_resources)))
@@ -78,15 +78,15 @@ pub record Comes (s : Served) (place : ℕ) (job : Job) : Type 0 where
   pub may : may_be_asked (((s.front).client).core).shake ≡ true
 
 -- what is under way after a job came, or didn't
-abbrev pub ComesTo : (s : Served) (place : ℕ) (job : Job) → Comes s place job → DeskReply → Asking → Type 0
-ComesTo s place job c (replied.Put (Ok done)) then = then ≡ idle
-ComesTo s place job c (replied.Put (Err refusal)) then = (then ≡ refused c.kept refusal.why)
-ComesTo s place job c (replied.Unfit back) then = then ≡ idle
-ComesTo s place job c _ then = ⊥
+abbrev pub AsksAfter : (s : Served) (place : ℕ) (job : Job) → Comes s place job → DeskReply → Asking → Type 0
+AsksAfter s place job c (replied.Put (Ok done)) then = then ≡ idle
+AsksAfter s place job c (replied.Put (Err refusal)) then = (then ≡ refused c.kept refusal.why)
+AsksAfter s place job c (replied.Unfit back) then = then ≡ idle
+AsksAfter s place job c _ then = ⊥
 
 -- what is under way after a call of a desk
 abbrev pub AsksBy : Served → ℕ → ℕ → DeskCall → DeskReply → Asking → Type 0
-AsksBy s place id (desk.Put job) back then = (c : Comes s place job) × ComesTo s place job c back then
+AsksBy s place id (desk.Put job) back then = (c : Comes s place job) × AsksAfter s place job c back then
 AsksBy s place id desk.Collect (replied.Collected (Some c)) then = (s.asking ≡ idle) × (then ≡ hands id c)
 AsksBy s place id does back then = then ≡ s.asking
 
@@ -131,10 +131,10 @@ ended_front true s desks = record (channel_ended s desks) { over = true }
 ended_front false s desks = channel_ended s desks
 
 -- The front and its stations before a part, and after it.
-abbrev pub PartGoes : Served → Part → Served → Type 0
+abbrev pub PartGoes : Served → FrontPart → Served → Type 0
 PartGoes old (hears channel message answer) new =
     (channel ≡ (old.front).channel) × (old.asking ≡ idle) × (may_hear old.front ≡ true)
-    × ClientDoes old.front (client.hears message answer) (most_written (is_front_ready old.front)) new.front × (new.asking ≡ asked_by answer) × (new.stations ≡ old.stations)
+    × ClientDoes old.front (client.hears message answer) (most_written (is_front_ready old.front)) new.front × (new.asking ≡ asking_by answer) × (new.stations ≡ old.stations)
 PartGoes old tries new =
     (k : Kept) × ((old.front).kept ≡ Some k) × (old.asking ≡ idle) × ((old.front).on ≡ true)
     × (new ≡ record old { front = record old.front { kept = None }; asking = asks k })
@@ -143,7 +143,7 @@ PartGoes old keeps new =
 PartGoes old forgets new = (k : Kept) × (cause : PutWhy) × (old.asking ≡ refused k cause) × MayForget cause × (new ≡ record old { asking = idle })
 PartGoes old misplaces new = (k : Kept) × (old.asking ≡ asks k) × (may_be_asked (((old.front).client).core).shake ≡ false) × (new ≡ record old { asking = idle })
 PartGoes old (directs st answer) new =
-    (k : Kept) × IsDirect old k st × ClientDoes old.front (client.directs k.job k.device st answer) (one_if_done answer) new.front × (new.asking ≡ idle) × (new.stations ≡ old.stations)
+    (k : Kept) × MayBeDirect old k st × ClientDoes old.front (client.directs k.job k.device st answer) (one_if_done answer) new.front × (new.asking ≡ idle) × (new.stations ≡ old.stations)
 PartGoes old (calls place id does back items) new = CallsAt old place id does back items new
 PartGoes old (tells_gone device answer) new =
     ClientDoes old.front (client.tells_removed device answer) (one_if_done answer) new.front × (new.asking ≡ old.asking) × (new.stations ≡ old.stations) × ((old.front).on ≡ true)
@@ -162,25 +162,25 @@ PartGoes old (ends over told) new =
     × (new.front ≡ ended_front over old.front (new.front).desks) × (new.asking ≡ idle)
 
 -- parts, one after the other
-abbrev pub PartsGo : Served → List Part → Served → Type 0
+abbrev pub PartsGo : Served → List FrontPart → Served → Type 0
 PartsGo old [] new = new ≡ old
 PartsGo old (p ∷ ps) new = (next : Served) × PartGoes old p next × PartsGo next ps new
 
 -- ---- what a call's parts tell
 
 -- the message that was heard, and the one that was handed out
-abbrev pub heard_by : Part → Option (List ℕ)
-heard_by (hears channel message (Err fault.Memory)) = None
-heard_by (hears channel message answer) = Some message
-heard_by _ = None
+abbrev pub heard_in : FrontPart → Option (List ℕ)
+heard_in (hears channel message (Err fault.Memory)) = None
+heard_in (hears channel message answer) = Some message
+heard_in _ = None
 
-abbrev pub handed_by : Part → Option (List ℕ)
+abbrev pub handed_by : FrontPart → Option (List ℕ)
 handed_by (sends channel (Some o)) = Some o.message
 handed_by (writes device c) = Some (completion_message device c)
 handed_by _ = None
 
 -- a job that may not come was put, or was asked for too early
-abbrev pub is_unfit : Part → Bool
+abbrev pub is_unfit : FrontPart → Bool
 is_unfit (calls place id does (replied.Unfit back) items) = true
 is_unfit misplaces = true
 is_unfit _ = false
@@ -190,11 +190,11 @@ abbrev pub duplicate_by : PutWhy → Option Key
 duplicate_by (why.Duplicate key) = Some key
 duplicate_by _ = None
 
-abbrev pub duplicate_of : Part → Option Key
+abbrev pub duplicate_of : FrontPart → Option Key
 duplicate_of (calls place id does (replied.Put (Err refusal)) items) = duplicate_by refusal.why
 duplicate_of _ = None
 
 -- a completion that was collected wasn't written, since no memory was found for it
-abbrev pub is_lost : Part → Bool
+abbrev pub is_lost : FrontPart → Bool
 is_lost (unwritten device c) = true
 is_lost _ = false

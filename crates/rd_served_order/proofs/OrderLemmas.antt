@@ -40,7 +40,7 @@ use Rattle.rd_world.specs.Printers.{AreShortNames}
 use Rattle.rd_world.specs.Talk.{Deed, Has, client_moves, client_reads, client_writes, completes, is_removed, journal, on, stores}
 use Rattle.rd_served.specs.Deeds.{AreOnChannel, EachOnChannel, PartsOnChannel, deeds_after, deeds_of, deeds_of_calls, sent_by, stored, stored_each}
 use Rattle.rd_served.specs.Histories.{HistoryGoes}
-use Rattle.rd_served.specs.Parts.{CallsAt, FitsCall, Part, PartGoes, PartsGo, asked_by, begins, calls, directs, ended_front, ends, forgets, keeps, learns, misplaces, refreshes, sends, tells_gone, tells_there, tries, unwritten, writes}
+use Rattle.rd_served.specs.Parts.{CallsAt, FitsCall, FrontPart, PartGoes, PartsGo, asking_by, begins, calls, directs, ended_front, ends, forgets, keeps, learns, misplaces, refreshes, sends, tells_gone, tells_there, tries, unwritten, writes}
 use Rattle.rd_served.specs.Parts as part
 use Rattle.rd_served.specs.Served.{Asking, Served, asks, hands, idle}
 use Rattle.rd_served.proofs.CauseLemmas.{other_id}
@@ -154,7 +154,7 @@ module _ (devices : List Announce) where
           loud p q deeds (client_reads channel m ∷ deeds) until (reads m) (moved_here (p.front).channel channel (reads m) (client_moves (p.front).channel deeds) goes.0)
           (λ x other. moved_else (p.front).channel channel x (reads m) (client_moves x deeds) goes.0 other) same_channel on_before (still ∙ on_before) go is
 
-      by : (a : Result Heard EndFault) → client.ClientStep (p.front).client (client.hears m a) (q.front).client → q.asking ≡ asked_by a → IsOrdered q (deeds_of (part.hears channel m a) ++ deeds) until
+      by : (a : Result Heard EndFault) → client.ClientStep (p.front).client (client.hears m a) (q.front).client → q.asking ≡ asking_by a → IsOrdered q (deeds_of (part.hears channel m a) ++ deeds) until
       by (Err fault.Memory) step asked =
           quiet p q deeds deeds until (λ x. refl) same_channel (λ now. sym still ∙ now) (λ off. absurd (let on = still ∙ on_before in cc (on, off)))
           (λ now moves n. same_now devices (Gone until (p.front).channel) moves (p.front).client (q.front).client p.asking q.asking (step.1).1 (λ d x e. absurd (never_by q.asking idle asked idle_never d x e)) n) is
@@ -163,7 +163,7 @@ module _ (devices : List Announce) where
       by (Err (fault.Grammar bad)) step asked =
           read (λ moves n. wrong_now devices (Gone until (p.front).channel) moves (p.front).client (q.front).client p.asking q.asking m (fault.Grammar bad) refl step step.1 (never_by q.asking idle asked idle_never) n)
       by (Ok h) step asked =
-          read (λ moves n. heard_now devices (Gone until (p.front).channel) moves (p.front).client (q.front).client p.asking q.asking m h step step.1 (never_by q.asking (asked_by (Ok h)) asked (asked_never (Ok h))) n)
+          read (λ moves n. heard_now devices (Gone until (p.front).channel) moves (p.front).client (q.front).client p.asking q.asking m h step step.1 (never_by q.asking (asking_by (Ok h)) asked (asked_never (Ok h))) n)
 
   -- a desk is called
   called_ordered : (p q : Served) (place id : ℕ) (does : DeskCall) (back : DeskReply) (items : List Item) (deeds : List Deed) (until : ℕ → List Deed) → CallsAt p place id does back items q
@@ -290,7 +290,7 @@ module _ (devices : List Announce) where
 
   -- ---- each part
 
-  pub part_ordered : AreWritable devices → (p q : Served) (x : Part) (deeds : List Deed) (until : ℕ → List Deed) → PartGoes p x q → AreOnChannel (p.front).channel (deeds_of x) → IsKnownAt p deeds → IsOwn devices p deeds → IsOrdered p deeds until
+  pub part_ordered : AreWritable devices → (p q : Served) (x : FrontPart) (deeds : List Deed) (until : ℕ → List Deed) → PartGoes p x q → AreOnChannel (p.front).channel (deeds_of x) → IsKnownAt p deeds → IsOwn devices p deeds → IsOrdered p deeds until
       → IsOrdered q (deeds_of x ++ deeds) (until_by x deeds until)
   part_ordered writable p q (part.hears channel m answer) deeds until goes here known own is = heard_ordered p q channel m answer deeds until goes is
   part_ordered writable p q tries deeds until goes here known own is =
@@ -346,14 +346,14 @@ module _ (devices : List Announce) where
       (λ same. ap (λ (s : FrontState). ((s.client).core).outbox) goes.2 ∙ ended_outbox over p.front (q.front).desks)
       (λ now moves n. absurd (cc (off, now))) is
 
-  pub parts_ordered : AreWritable devices → (ps : List Part) (p q : Served) (goes : PartsGo p ps q) (deeds : List Deed) (until : ℕ → List Deed) → PartsOnChannel p ps q goes → IsKnownAt p deeds → IsOwn devices p deeds → IsOrdered p deeds until
+  pub parts_ordered : AreWritable devices → (ps : List FrontPart) (p q : Served) (goes : PartsGo p ps q) (deeds : List Deed) (until : ℕ → List Deed) → PartsOnChannel p ps q goes → IsKnownAt p deeds → IsOwn devices p deeds → IsOrdered p deeds until
       → IsOwn devices q (deeds_after ps deeds) × IsOrdered q (deeds_after ps deeds) (until_after ps deeds until)
   parts_ordered writable [] p q goes deeds until here known own is = (subst (λ (s : Served). IsOwn devices s deeds) (sym goes) own, subst (λ (s : Served). IsOrdered s deeds until) (sym goes) is)
   parts_ordered writable (x ∷ ps) p q goes deeds until here known own is =
       parts_ordered writable ps goes.0 q goes.2 (deeds_of x ++ deeds) (until_by x deeds until) here.1 (part_known p goes.0 x deeds goes.1 known) (part_own devices p goes.0 x deeds goes.1 known.keyed own)
       (part_ordered writable p goes.0 x deeds until goes.1 here.0 known own is)
 
-  pub history_ordered : AreWritable devices → (entries : List (Entry FrontCall FrontReply)) (parts : List (List Part)) (p q : Served) (goes : HistoryGoes p entries parts q) (deeds : List Deed) (until : ℕ → List Deed)
+  pub history_ordered : AreWritable devices → (entries : List (Entry FrontCall FrontReply)) (parts : List (List FrontPart)) (p q : Served) (goes : HistoryGoes p entries parts q) (deeds : List Deed) (until : ℕ → List Deed)
       → EachOnChannel p entries parts q goes → IsKnownAt p deeds → IsOwn devices p deeds → IsOrdered p deeds until → IsOrdered q (deeds_of_calls parts deeds) (until_calls parts deeds until)
   history_ordered writable [] [] p q goes deeds until here known own is = subst (λ (s : Served). IsOrdered s deeds until) (sym goes) is
   history_ordered writable [] (ps ∷ parts) p q goes deeds until here known own is = absurd goes

@@ -53,7 +53,7 @@ use Rattle.rd_world.specs.Opening.{AreShort}
 use Rattle.rd_world.specs.Printers.{AreShortNames}
 use Rattle.rd_world.specs.Talk.{Deed, Has, adds, client_reads, is_removed, removes, stores}
 use Rattle.rd_served.specs.Deeds.{deeds_of, sent_by, stored, stored_each}
-use Rattle.rd_served.specs.Parts.{AsksBy, CallsAt, Comes, Part, PartGoes, asked_by, begins, calls, directs, ended_front, ends, forgets, keeps, learns, misplaces, refreshes, sends, tells_gone, tells_there, tries, unwritten, writes}
+use Rattle.rd_served.specs.Parts.{AsksBy, CallsAt, Comes, FrontPart, PartGoes, asking_by, begins, calls, directs, ended_front, ends, forgets, keeps, learns, misplaces, refreshes, sends, tells_gone, tells_there, tries, unwritten, writes}
 use Rattle.rd_served.specs.Parts as part
 use Rattle.rd_served.specs.Served.{Asking, Served, asks, hands, idle}
 use Rattle.rd_served.proofs.AskedLemmas.{asked_may}
@@ -279,7 +279,7 @@ pub call_as : (p q : Served) (place id : ℕ) (does other : DeskCall) (back said
 call_as p q place id does other back said items same same_too at =
     subst (λ (w : DeskCall). CallsAt p place id w said items q) same (subst (λ (b : DeskReply). CallsAt p place id does b items q) same_too at)
 
-pub asked_never : (a : Result Heard EndFault) (device : ℕ) (c : Completion) → asked_by a ≡ hands device c → ⊥
+pub asked_never : (a : Result Heard EndFault) (device : ℕ) (c : Completion) → asking_by a ≡ hands device c → ⊥
 asked_never (Ok (Ask d job)) device c e = cc (e)
 asked_never (Ok Nothing) device c e = cc (e)
 asked_never (Ok (Print n)) device c e = cc (e)
@@ -375,7 +375,7 @@ module _ (devices : List Announce) where
   ended_front_is true s desks = (refl, refl)
   ended_front_is false s desks = (refl, refl)
 
-  pub part_own : (p q : Served) (x : Part) (deeds : List Deed) → PartGoes p x q → IsKeyed p → IsOwn devices p deeds → IsOwn devices q (deeds_of x ++ deeds)
+  pub part_own : (p q : Served) (x : FrontPart) (deeds : List Deed) → PartGoes p x q → IsKeyed p → IsOwn devices p deeds → IsOwn devices q (deeds_of x ++ deeds)
   part_own p q (part.hears channel m answer) deeds goes keyed is = by answer
     where
       on : (q.front).on ≡ (p.front).on
@@ -384,7 +384,7 @@ module _ (devices : List Announce) where
       so : IsOwn devices q deeds
       so = own_with p q deeds (fine_heard devices (p.front).client (q.front).client m answer deeds ((goes.3).0).1 is.fine) (ap (λ (s : FrontState). s.printers) (goes.3).1)
           (λ now. asked_heard (p.front).client (q.front).client m answer ((goes.3).0).1 (is.asked (sym on ∙ now)))
-          (λ device x e. absurd (never_by q.asking (asked_by answer) goes.4 (asked_never answer) device x e)) is.names
+          (λ device x e. absurd (never_by q.asking (asking_by answer) goes.4 (asked_never answer) device x e)) is.names
 
       by : (a : Result Heard EndFault) → IsOwn devices q (deeds_of (part.hears channel m a) ++ deeds)
       by (Err fault.Memory) = so

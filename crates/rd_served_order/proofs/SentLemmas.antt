@@ -20,7 +20,7 @@ use Rattle.rd_world.specs.Talk.{Deed, EachAfter, Has, completes, is_completion_o
 use Rattle.rd_world.specs.Told.{came, is_of_device, told}
 use Rattle.rd_served.specs.Deeds.{completed, deeds_after, deeds_of, deeds_of_calls, sent_by, stored, stored_each}
 use Rattle.rd_served.specs.Histories.{HistoryGoes}
-use Rattle.rd_served.specs.Parts.{CallsAt, EndsEach, Part, PartGoes, PartsGo, begins, calls, directs, ended_front, ends, forgets, keeps, learns, misplaces, refreshes, sends, tells_gone, tells_there, tries, unwritten, writes}
+use Rattle.rd_served.specs.Parts.{CallsAt, EndsEach, FrontPart, PartGoes, PartsGo, begins, calls, directs, ended_front, ends, forgets, keeps, learns, misplaces, refreshes, sends, tells_gone, tells_there, tries, unwritten, writes}
 use Rattle.rd_served.specs.Parts as part
 use Rattle.rd_served.specs.Served.{Served}
 use Rattle.rd_served.proofs.CauseLemmas.{get_set}
@@ -55,7 +55,7 @@ ended_desks : (over : Bool) (s : FrontState) (desks : List DeviceDeskState) → 
 ended_desks true s desks = refl
 ended_desks false s desks = refl
 
-part_room : (p q : Served) (x : Part) → PartGoes p x q → RoomAt p → RoomAt q
+part_room : (p q : Served) (x : FrontPart) → PartGoes p x q → RoomAt p → RoomAt q
 part_room p q (part.hears channel m answer) goes room = same_room p q (ap (λ (s : FrontState). s.desks) (goes.3).1) room
 part_room p q tries goes room = same_room p q (ap (λ (s : Served). (s.front).desks) goes.4) room
 part_room p q keeps goes room = same_room p q (ap (λ (s : Served). (s.front).desks) goes.3) room
@@ -93,7 +93,7 @@ each_tells : (ts : List (ℕ × List Item)) (deeds : List Deed) → EachAfter Te
 each_tells [] deeds each = each
 each_tells (t ∷ ts) deeds each = subst (EachAfter TellsDevice) (sym (append_assoc (stored_each ts) (stored t.0 t.1) deeds)) (each_tells ts (stored t.0 t.1 ++ deeds) (stored_tells t.0 (reverse t.1) deeds each))
 
-part_tells : (p q : Served) (x : Part) (deeds : List Deed) → PartGoes p x q → IsKnownAt p deeds → RoomAt p → EachAfter TellsDevice deeds → EachAfter TellsDevice (deeds_of x ++ deeds)
+part_tells : (p q : Served) (x : FrontPart) (deeds : List Deed) → PartGoes p x q → IsKnownAt p deeds → RoomAt p → EachAfter TellsDevice deeds → EachAfter TellsDevice (deeds_of x ++ deeds)
 part_tells p q (part.hears channel m (Err fault.Memory)) deeds goes known room each = each
 part_tells p q (part.hears channel m (Err (fault.Order state packet))) deeds goes known room each = (tt, each)
 part_tells p q (part.hears channel m (Err (fault.Grammar bad))) deeds goes known room each = (tt, each)
@@ -127,12 +127,12 @@ part_tells p q (refreshes device) deeds goes known room each = each
 part_tells p q (begins channel) deeds goes known room each = each
 part_tells p q (ends over ts) deeds goes known room each = each_tells ts deeds each
 
-parts_tell : (ps : List Part) (p q : Served) (deeds : List Deed) → PartsGo p ps q → IsKnownAt p deeds → RoomAt p → EachAfter TellsDevice deeds → RoomAt q × EachAfter TellsDevice (deeds_after ps deeds)
+parts_tell : (ps : List FrontPart) (p q : Served) (deeds : List Deed) → PartsGo p ps q → IsKnownAt p deeds → RoomAt p → EachAfter TellsDevice deeds → RoomAt q × EachAfter TellsDevice (deeds_after ps deeds)
 parts_tell [] p q deeds goes known room each = (subst RoomAt (sym goes) room, each)
 parts_tell (x ∷ ps) p q deeds goes known room each =
     parts_tell ps goes.0 q (deeds_of x ++ deeds) goes.2 (part_known p goes.0 x deeds goes.1 known) (part_room p goes.0 x goes.1 room) (part_tells p goes.0 x deeds goes.1 known room each)
 
-pub history_tells : (entries : List (Entry FrontCall FrontReply)) (parts : List (List Part)) (p q : Served) (deeds : List Deed) → HistoryGoes p entries parts q → IsKnownAt p deeds → RoomAt p → EachAfter TellsDevice deeds → EachAfter TellsDevice (deeds_of_calls parts deeds)
+pub history_tells : (entries : List (Entry FrontCall FrontReply)) (parts : List (List FrontPart)) (p q : Served) (deeds : List Deed) → HistoryGoes p entries parts q → IsKnownAt p deeds → RoomAt p → EachAfter TellsDevice deeds → EachAfter TellsDevice (deeds_of_calls parts deeds)
 history_tells [] [] p q deeds goes known room each = each
 history_tells [] (ps ∷ parts) p q deeds goes known room each = absurd goes
 history_tells (e ∷ entries) [] p q deeds goes known room each = absurd goes

@@ -39,7 +39,7 @@ use Rattle.rd_world.specs.Events.{completion_message}
 use Rattle.rd_world.specs.Talk.{Deed, client_reads, client_wrote, is_removed, on, removes, adds, stores}
 use Rattle.rd_served.specs.Deeds.{AreOnChannel, EachOnChannel, PartsOnChannel, deeds_after, deeds_of, deeds_of_calls, sent_by, stored, stored_each}
 use Rattle.rd_served.specs.Histories.{HistoryGoes}
-use Rattle.rd_served.specs.Parts.{CallsAt, Part, PartGoes, PartsGo, begins, calls, directs, ends, forgets, keeps, learns, misplaces, refreshes, sends, tells_gone, tells_there, tries, unwritten, writes}
+use Rattle.rd_served.specs.Parts.{CallsAt, FrontPart, PartGoes, PartsGo, begins, calls, directs, ends, forgets, keeps, learns, misplaces, refreshes, sends, tells_gone, tells_there, tries, unwritten, writes}
 use Rattle.rd_served.specs.Parts as part
 use Rattle.rd_served.specs.Served.{Served}
 use Rattle.rd_served.proofs.KeyLemmas.{both_true, ended_is, refreshed_calm, sent_calm}
@@ -243,7 +243,7 @@ module _ (devices : List Announce) where
 
   -- ---- each part
 
-  part_telling : AreWritable devices → (p q : Served) (x : Part) (deeds : List Deed) (until : ℕ → List Deed) (acts : ℕ → List Act) → PartGoes p x q → AreOnChannel (p.front).channel (deeds_of x) → IsKnownAt p deeds → IsOwn devices p deeds → IsOrdered devices p deeds until
+  part_telling : AreWritable devices → (p q : Served) (x : FrontPart) (deeds : List Deed) (until : ℕ → List Deed) (acts : ℕ → List Act) → PartGoes p x q → AreOnChannel (p.front).channel (deeds_of x) → IsKnownAt p deeds → IsOwn devices p deeds → IsOrdered devices p deeds until
       → IsTelling p deeds until acts → IsTelling q (deeds_of x ++ deeds) (until_by x deeds until) (λ y. acts y ++ part_acts y p x)
   part_telling writable p q (part.hears channel m answer) deeds until acts goes here known own ordered is = unacted q _ until acts (by answer ((goes.3).0).1)
     where
@@ -353,7 +353,7 @@ module _ (devices : List Announce) where
   grown_acts : (q : Served) (deeds : List Deed) (until : ℕ → List Deed) (acts more others : ℕ → List Act) → IsTelling q deeds until (λ x. (acts x ++ more x) ++ others x) → IsTelling q deeds until (λ x. acts x ++ (more x ++ others x))
   grown_acts q deeds until acts more others is = subst (IsTelling q deeds until) (λ i x. append_assoc (acts x) (more x) (others x) i) is
 
-  parts_telling : AreWritable devices → (ps : List Part) (p q : Served) (goes : PartsGo p ps q) (deeds : List Deed) (until : ℕ → List Deed) (acts : ℕ → List Act) → PartsOnChannel p ps q goes → IsKnownAt p deeds → IsOwn devices p deeds
+  parts_telling : AreWritable devices → (ps : List FrontPart) (p q : Served) (goes : PartsGo p ps q) (deeds : List Deed) (until : ℕ → List Deed) (acts : ℕ → List Act) → PartsOnChannel p ps q goes → IsKnownAt p deeds → IsOwn devices p deeds
       → IsOrdered devices p deeds until → IsTelling p deeds until acts → IsTelling q (deeds_after ps deeds) (until_after ps deeds until) (λ x. acts x ++ parts_acts x p ps q goes)
   parts_telling writable [] p q goes deeds until acts here known own ordered is = unacted q deeds until acts (subst (λ (s : Served). IsTelling s deeds until acts) (sym goes) is)
   parts_telling writable (x ∷ ps) p q goes deeds until acts here known own ordered is =
@@ -361,7 +361,7 @@ module _ (devices : List Announce) where
       (parts_telling writable ps goes.0 q goes.2 (deeds_of x ++ deeds) (until_by x deeds until) (λ y. acts y ++ part_acts y p x) here.1 (part_known p goes.0 x deeds goes.1 known) (part_own devices p goes.0 x deeds goes.1 known.keyed own)
       (part_ordered devices writable p goes.0 x deeds until goes.1 here.0 known own ordered) (part_telling writable p goes.0 x deeds until acts goes.1 here.0 known own ordered is))
 
-  pub history_telling : AreWritable devices → (entries : List (Entry FrontCall FrontReply)) (parts : List (List Part)) (p q : Served) (goes : HistoryGoes p entries parts q) (deeds : List Deed) (until : ℕ → List Deed) (acts : ℕ → List Act)
+  pub history_telling : AreWritable devices → (entries : List (Entry FrontCall FrontReply)) (parts : List (List FrontPart)) (p q : Served) (goes : HistoryGoes p entries parts q) (deeds : List Deed) (until : ℕ → List Deed) (acts : ℕ → List Act)
       → EachOnChannel p entries parts q goes → IsKnownAt p deeds → IsOwn devices p deeds → IsOrdered devices p deeds until → IsTelling p deeds until acts
       → IsTelling q (deeds_of_calls parts deeds) (until_calls parts deeds until) (λ x. acts x ++ acts_on x p entries parts q goes)
   history_telling writable [] [] p q goes deeds until acts here known own ordered is = unacted q deeds until acts (subst (λ (s : Served). IsTelling s deeds until acts) (sym goes) is)

@@ -12,7 +12,7 @@ use Rattle.rd_world.specs.Printers.{AreShortNames}
 use Rattle.rd_world.specs.Talk.{Deed, is_removed}
 use Rattle.rd_served.specs.Deeds.{deeds_after, deeds_of}
 use Rattle.rd_served.specs.Histories.{BeginsNew}
-use Rattle.rd_served.specs.Parts.{Part, begins}
+use Rattle.rd_served.specs.Parts.{FrontPart, begins}
 use Rattle.rd_served.specs.Served.{Served}
 
 -- ---- where a history begins
@@ -29,15 +29,15 @@ pub record BeginsWith (devices : List Announce) (s : Served) : Type 0 where
 -- ---- what was done before a channel
 
 -- What the client had done when each channel began, by a part, by parts and by the parts of calls; before them it had done that.
-abbrev pub until_by : Part → List Deed → (ℕ → List Deed) → ℕ → List Deed
+abbrev pub until_by : FrontPart → List Deed → (ℕ → List Deed) → ℕ → List Deed
 until_by (begins channel) before until c = if channel == c then before else until c
 until_by _ before until c = until c
 
-abbrev pub until_after : List Part → List Deed → (ℕ → List Deed) → ℕ → List Deed
+abbrev pub until_after : List FrontPart → List Deed → (ℕ → List Deed) → ℕ → List Deed
 until_after [] before until = until
 until_after (p ∷ ps) before until = until_after ps (deeds_of p ++ before) (until_by p before until)
 
-abbrev pub until_calls : List (List Part) → List Deed → (ℕ → List Deed) → ℕ → List Deed
+abbrev pub until_calls : List (List FrontPart) → List Deed → (ℕ → List Deed) → ℕ → List Deed
 until_calls [] before until = until
 until_calls (ps ∷ pss) before until = until_calls pss (deeds_after ps before) (until_after ps before until)
 
@@ -46,7 +46,7 @@ abbrev pub none_until : ℕ → List Deed
 none_until c = []
 
 -- whether a device was removed, and not added since, when a channel began
-abbrev pub is_gone_until : List (List Part) → ℕ → ℕ → Bool
+abbrev pub is_gone_until : List (List FrontPart) → ℕ → ℕ → Bool
 is_gone_until parts c device = is_removed device (until_calls parts [] none_until c)
 
 -- ---- the order

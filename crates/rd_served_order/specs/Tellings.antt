@@ -13,23 +13,23 @@ use Rattle.rd_world.specs.Acts.{tellings_on}
 use Rattle.rd_world.specs.Control.{Act, added, begun, removed}
 use Rattle.rd_world.specs.Talk.{Deed}
 use Rattle.rd_served.specs.Histories.{HistoryGoes}
-use Rattle.rd_served.specs.Parts.{Part, PartsGo, tells_gone, tells_there}
+use Rattle.rd_served.specs.Parts.{FrontPart, PartsGo, tells_gone, tells_there}
 use Rattle.rd_served.specs.Served.{Served}
 
 -- ---- what is to be told on a channel
 
 -- A device is told of on the channel that is on, where memory was found for it.
-abbrev pub part_acts : ℕ → Served → Part → List Act
+abbrev pub part_acts : ℕ → Served → FrontPart → List Act
 part_acts c old (tells_gone device (Ok done)) = if (old.front).channel == c then removed device ∷ [] else []
 part_acts c old (tells_there device (Ok done)) = if (old.front).channel == c then added device ∷ [] else []
 part_acts c old _ = []
 
-abbrev pub parts_acts : (c : ℕ) (old : Served) (ps : List Part) (new : Served) → PartsGo old ps new → List Act
+abbrev pub parts_acts : (c : ℕ) (old : Served) (ps : List FrontPart) (new : Served) → PartsGo old ps new → List Act
 parts_acts c old [] new goes = []
 parts_acts c old (p ∷ ps) new goes = part_acts c old p ++ parts_acts c goes.0 ps new goes.2
 
 -- by the calls of a history, the oldest first
-abbrev pub acts_on : (c : ℕ) (old : Served) (entries : List (Entry FrontCall FrontReply)) (parts : List (List Part)) (new : Served) → HistoryGoes old entries parts new → List Act
+abbrev pub acts_on : (c : ℕ) (old : Served) (entries : List (Entry FrontCall FrontReply)) (parts : List (List FrontPart)) (new : Served) → HistoryGoes old entries parts new → List Act
 acts_on c old [] [] new goes = []
 acts_on c old (e ∷ es) (ps ∷ pss) new goes = parts_acts c old ps goes.0 (goes.1).goes ++ acts_on c goes.0 es pss new goes.2
 acts_on c old _ _ new goes = []

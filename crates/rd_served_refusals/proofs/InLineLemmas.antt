@@ -51,7 +51,7 @@ use Rattle.rd_served.proofs.KeyLemmas.{IsKeyed, IsUnder, both_true, ended_is, no
 use Rattle.rd_served.proofs.StandingLemmas.{IsKnownAt, direct_under, ended_outbox, part_known, parts_known, refreshed_more, sent_first, sent_none}
 use Rattle.rd_served.specs.Deeds.{deeds_after, deeds_of, deeds_of_calls, stored, stored_each}
 use Rattle.rd_served.specs.Histories.{HearsAs, HistoryGoes, IsHeardBy, IsNewFront}
-use Rattle.rd_served.specs.Parts.{AsksBy, CallsAt, Comes, Part, PartGoes, PartsGo, asked_by, begins, calls, directs, ended_front, ends, forgets, heard_by, keeps, learns, misplaces, refreshes, sends, tells_gone, tells_there, tries, unwritten, writes}
+use Rattle.rd_served.specs.Parts.{AsksBy, CallsAt, Comes, FrontPart, PartGoes, PartsGo, asking_by, begins, calls, directs, ended_front, ends, forgets, heard_in, keeps, learns, misplaces, refreshes, sends, tells_gone, tells_there, tries, unwritten, writes}
 use Rattle.rd_served.specs.Parts as part
 use Rattle.rd_served.specs.Served.{Asking, Served, asks, hands, idle, refused}
 use Rattle.rd_served_refusals.proofs.BytesLemmas.{is_of_own}
@@ -130,8 +130,8 @@ client_said s p q deeds unsent m client_is asking out is =
 
 -- ---- a message is heard
 
-abbrev PartInRoom : Part → Type 0
-PartInRoom x = (m : List ℕ) → heard_by x ≡ Some m → NamesInRoom m
+abbrev PartInRoom : FrontPart → Type 0
+PartInRoom x = (m : List ℕ) → heard_in x ≡ Some m → NamesInRoom m
 
 module _ (s : Bool) (p q : Served) (deeds : List Deed) (m : List ℕ) (room : NamesInRoom m) (going : s ≡ false) (keyed : IsKeyed p) (told : IsTold p deeds) (is : IsInLine s p deeds) (unsent : ℕ) (client_is : IsClientsOf p q unsent)
     (none : p.asking ≡ idle) (kept : (p.front).kept ≡ None) (on : (p.front).on ≡ true) where
@@ -182,7 +182,7 @@ hears_line s p q deeds channel m answer goes known before room is = by answer ((
     here : (t : Bool) → IsInLine t q (client_reads (p.front).channel m ∷ deeds) → IsInLine t q (client_reads channel m ∷ deeds)
     here t so = subst (λ (c : ℕ). IsInLine t q (client_reads c m ∷ deeds)) (sym goes.0) so
 
-    by : (a : Result Heard EndFault) → hearing.Hears client_side (λ (c : ClientCoreState). c.core) client_hear (p.front).client m a (q.front).client → q.asking ≡ asked_by a → HearsBefore s (part.hears channel m a) → PartInRoom (part.hears channel m a)
+    by : (a : Result Heard EndFault) → hearing.Hears client_side (λ (c : ClientCoreState). c.core) client_hear (p.front).client m a (q.front).client → q.asking ≡ asking_by a → HearsBefore s (part.hears channel m a) → PartInRoom (part.hears channel m a)
         → IsInLine (stopped_by s (part.hears channel m a)) q (deeds_of (part.hears channel m a) ++ deeds)
     by (Err fault.Memory) did asking going roomy = client_same s p q deeds _ (goes.3).1 (asking ∙ sym goes.1) (ap (λ (c : ClientCoreState). (c.core).outbox) did.1) is
     by (Err (fault.Order state packet)) did asking going roomy =
@@ -370,7 +370,7 @@ ends_line s p q over told deeds goes is =
     ended : let t = ended_front over p.front (q.front).desks in (t.on ≡ false) × (t.channel ≡ (p.front).channel) × ((t.client).asked ≡ ((p.front).client).asked) × (t.kept ≡ None)
     ended = ended_is over p.front (q.front).desks
 
-pub part_line : (s : Bool) (p q : Served) (x : Part) (deeds : List Deed) → PartGoes p x q → IsKnownAt p deeds → HearsBefore s x → PartInRoom x → IsInLine s p deeds → IsInLine (stopped_by s x) q (deeds_of x ++ deeds)
+pub part_line : (s : Bool) (p q : Served) (x : FrontPart) (deeds : List Deed) → PartGoes p x q → IsKnownAt p deeds → HearsBefore s x → PartInRoom x → IsInLine s p deeds → IsInLine (stopped_by s x) q (deeds_of x ++ deeds)
 part_line s p q (part.hears channel m answer) deeds goes known before room is = hears_line s p q deeds channel m answer goes known before room is
 part_line s p q tries deeds goes known before room is = subst (λ (v : Served). IsInLine s v deeds) (sym goes.4)
     (lines_as s (point_of p) (Some goes.0) deeds (λ i. in_wait (goes.2 i) (goes.1 i)) is)
@@ -409,17 +409,17 @@ part_line s p q (ends over told) deeds goes known before room is = ends_line s p
 
 -- ---- histories
 
-pub parts_line : (ps : List Part) (s : Bool) (p q : Served) (deeds : List Deed) → PartsGo p ps q → IsKnownAt p deeds → HearBefore s ps → AllByRecursion PartInRoom ps → IsInLine s p deeds → IsInLine (stopped_after s ps) q (deeds_after ps deeds)
+pub parts_line : (ps : List FrontPart) (s : Bool) (p q : Served) (deeds : List Deed) → PartsGo p ps q → IsKnownAt p deeds → HearBefore s ps → AllByRecursion PartInRoom ps → IsInLine s p deeds → IsInLine (stopped_after s ps) q (deeds_after ps deeds)
 parts_line [] s p q deeds goes known before room is = subst (λ (v : Served). IsInLine s v deeds) (sym goes) is
 parts_line (x ∷ ps) s p q deeds goes known before room is =
     parts_line ps (stopped_by s x) goes.0 q (deeds_of x ++ deeds) goes.2 (part_known p goes.0 x deeds goes.1 known) before.1 room.1 (part_line s p goes.0 x deeds goes.1 known before.0 room.0 is)
 
 -- a channel that ends passed over none
-part_heeded : (s : Bool) (p : Served) (x : Part) (deeds : List Deed) → IsInLine s p deeds → EndsHeeded p deeds x
+part_heeded : (s : Bool) (p : Served) (x : FrontPart) (deeds : List Deed) → IsInLine s p deeds → EndsHeeded p deeds x
 part_heeded s p (ends over told) deeds is = λ on. passes_now s (point_of p) deeds on is
 part_heeded s p _ deeds is = tt
 
-parts_heeded : (ps : List Part) (s : Bool) (p q : Served) (deeds : List Deed) (goes : PartsGo p ps q) → IsKnownAt p deeds → HearBefore s ps → AllByRecursion PartInRoom ps → IsInLine s p deeds → PartsEndHeeded p deeds ps q goes
+parts_heeded : (ps : List FrontPart) (s : Bool) (p q : Served) (deeds : List Deed) (goes : PartsGo p ps q) → IsKnownAt p deeds → HearBefore s ps → AllByRecursion PartInRoom ps → IsInLine s p deeds → PartsEndHeeded p deeds ps q goes
 parts_heeded [] s p q deeds goes known before room is = tt
 parts_heeded (x ∷ ps) s p q deeds goes known before room is = (
   part_heeded s p x deeds is,
@@ -427,15 +427,15 @@ parts_heeded (x ∷ ps) s p q deeds goes known before room is = (
 )
 
 -- what is heard is the call's message
-rooms : (ps : List Part) → ((m : List ℕ) → Has m (filter_map heard_by ps) → NamesInRoom m) → AllByRecursion PartInRoom ps
+rooms : (ps : List FrontPart) → ((m : List ℕ) → Has m (filter_map heard_in ps) → NamesInRoom m) → AllByRecursion PartInRoom ps
 rooms [] room = tt
-rooms (x ∷ ps) room = (λ m is. by (heard_by x) m is room, rooms ps (λ m has. later (heard_by x) m has room))
+rooms (x ∷ ps) room = (λ m is. by (heard_in x) m is room, rooms ps (λ m has. later (heard_in x) m has room))
   where
-    by : (o : Option (List ℕ)) (m : List ℕ) → o ≡ Some m → ((y : List ℕ) → Has y (cons_option o (filter_map heard_by ps)) → NamesInRoom y) → NamesInRoom m
+    by : (o : Option (List ℕ)) (m : List ℕ) → o ≡ Some m → ((y : List ℕ) → Has y (cons_option o (filter_map heard_in ps)) → NamesInRoom y) → NamesInRoom m
     by None m e all = absurd (cc (e))
     by (Some y) m e all = all m (inl (let same : y ≡ m = cc (e) in sym same))
 
-    later : (o : Option (List ℕ)) (m : List ℕ) → Has m (filter_map heard_by ps) → ((y : List ℕ) → Has y (cons_option o (filter_map heard_by ps)) → NamesInRoom y) → NamesInRoom m
+    later : (o : Option (List ℕ)) (m : List ℕ) → Has m (filter_map heard_in ps) → ((y : List ℕ) → Has y (cons_option o (filter_map heard_in ps)) → NamesInRoom y) → NamesInRoom m
     later None m has all = all m has
     later (Some y) m has all = all m (inr has)
 
@@ -453,21 +453,21 @@ call_rooms : (does : FrontCall) (back : FrontReply) (h : List (List ℕ)) → He
 call_rooms (call.Hear message) back h room is m has = one_room message h room (heard_one message back h is) m has
 call_rooms does back h room none m has = absurd (subst (Has m) none has)
 
-pub history_line : (entries : List (Entry FrontCall FrontReply)) (parts : List (List Part)) (s : Bool) (p q : Served) (deeds : List Deed) → HistoryGoes p entries parts q → IsKnownAt p deeds → HearInRoom entries → CallsHearBefore s parts → IsInLine s p deeds
+pub history_line : (entries : List (Entry FrontCall FrontReply)) (parts : List (List FrontPart)) (s : Bool) (p q : Served) (deeds : List Deed) → HistoryGoes p entries parts q → IsKnownAt p deeds → HearInRoom entries → CallsHearBefore s parts → IsInLine s p deeds
     → (t : Bool) × IsInLine t q (deeds_of_calls parts deeds)
 history_line [] [] s p q deeds goes known room before is = (s, subst (λ (v : Served). IsInLine s v deeds) (sym goes) is)
 history_line [] (ps ∷ parts) s p q deeds goes known room before is = absurd goes
 history_line (e ∷ entries) [] s p q deeds goes known room before is = absurd goes
 history_line (e ∷ entries) (ps ∷ parts) s p q deeds goes known room before is =
     history_line entries parts (stopped_after s ps) goes.0 q (deeds_after ps deeds) goes.2 (parts_known ps p goes.0 deeds (goes.1).goes known) room.1 before.1
-    (parts_line ps s p goes.0 deeds (goes.1).goes known before.0 (rooms ps (call_rooms e.call e.reply (filter_map heard_by ps) room.0 (goes.1).heard)) is)
+    (parts_line ps s p goes.0 deeds (goes.1).goes known before.0 (rooms ps (call_rooms e.call e.reply (filter_map heard_in ps) room.0 (goes.1).heard)) is)
 
-pub history_heeded : (entries : List (Entry FrontCall FrontReply)) (parts : List (List Part)) (s : Bool) (p q : Served) (deeds : List Deed) (goes : HistoryGoes p entries parts q) → IsKnownAt p deeds → HearInRoom entries → CallsHearBefore s parts → IsInLine s p deeds → EachEndsHeeded p deeds entries parts q goes
+pub history_heeded : (entries : List (Entry FrontCall FrontReply)) (parts : List (List FrontPart)) (s : Bool) (p q : Served) (deeds : List Deed) (goes : HistoryGoes p entries parts q) → IsKnownAt p deeds → HearInRoom entries → CallsHearBefore s parts → IsInLine s p deeds → EachEndsHeeded p deeds entries parts q goes
 history_heeded [] [] s p q deeds goes known room before is = tt
 history_heeded [] (ps ∷ parts) s p q deeds goes known room before is = absurd goes
 history_heeded (e ∷ entries) [] s p q deeds goes known room before is = absurd goes
 history_heeded (e ∷ entries) (ps ∷ parts) s p q deeds goes known room before is =
-    let rooms_in : AllByRecursion PartInRoom ps = rooms ps (call_rooms e.call e.reply (filter_map heard_by ps) room.0 (goes.1).heard) in (
+    let rooms_in : AllByRecursion PartInRoom ps = rooms ps (call_rooms e.call e.reply (filter_map heard_in ps) room.0 (goes.1).heard) in (
       parts_heeded ps s p goes.0 deeds (goes.1).goes known before.0 rooms_in is,
       history_heeded entries parts (stopped_after s ps) goes.0 q (deeds_after ps deeds) goes.2 (parts_known ps p goes.0 deeds (goes.1).goes known) room.1 before.1 (parts_line ps s p goes.0 deeds (goes.1).goes known before.0 rooms_in is),
     )

@@ -15,7 +15,7 @@ use Rattle.rd_world.specs.Talk.{Deed, EndsWith, client_read, request_in}
 use Rattle.rd_world.specs.Told.{IsLeft, requests_to, told, unserved, without_last}
 use Rattle.rd_served.specs.Deeds.{deeds_after, deeds_of}
 use Rattle.rd_served.specs.Histories.{HistoryGoes}
-use Rattle.rd_served.specs.Parts.{Part, PartsGo, begins, calls, directs, ends, forgets, hears, misplaces}
+use Rattle.rd_served.specs.Parts.{FrontPart, PartsGo, begins, calls, directs, ends, forgets, hears, misplaces}
 use Rattle.rd_served.specs.Served.{Served}
 
 -- ---- what is taken of a history
@@ -32,7 +32,7 @@ abbrev pub HearInRoom : List (Entry FrontCall FrontReply) → Type 0
 HearInRoom entries = AllByRecursion (λ (e : Entry FrontCall FrontReply). HearsInRoom e.call) entries
 
 -- Nothing is to be heard any more on the channel: what was heard is wrong, or a request is given up, or no memory was found for its answer.
-abbrev pub stops : Part → Bool
+abbrev pub stops : FrontPart → Bool
 stops (hears channel message (Err fault.Memory)) = false
 stops (hears channel message (Err wrong)) = true
 stops forgets = true
@@ -42,25 +42,25 @@ stops (calls place id does (replied.Unfit job) items) = true
 stops _ = false
 
 -- whether that was so since the channel began
-abbrev pub stopped_by : Bool → Part → Bool
+abbrev pub stopped_by : Bool → FrontPart → Bool
 stopped_by was (begins channel) = false
 stopped_by was part = stops part || was
 
-abbrev pub stopped_after : Bool → List Part → Bool
+abbrev pub stopped_after : Bool → List FrontPart → Bool
 stopped_after was [] = was
 stopped_after was (p ∷ ps) = stopped_after (stopped_by was p) ps
 
 -- a message is heard only before that
-abbrev pub HearsBefore : Bool → Part → Type 0
+abbrev pub HearsBefore : Bool → FrontPart → Type 0
 HearsBefore was (hears channel message (Err fault.Memory)) = Unit {0}
 HearsBefore was (hears channel message answer) = was ≡ false
 HearsBefore was _ = Unit {0}
 
-abbrev pub HearBefore : Bool → List Part → Type 0
+abbrev pub HearBefore : Bool → List FrontPart → Type 0
 HearBefore was [] = Unit {0}
 HearBefore was (p ∷ ps) = HearsBefore was p × HearBefore (stopped_by was p) ps
 
-abbrev pub CallsHearBefore : Bool → List (List Part) → Type 0
+abbrev pub CallsHearBefore : Bool → List (List FrontPart) → Type 0
 CallsHearBefore was [] = Unit {0}
 CallsHearBefore was (ps ∷ pss) = HearBefore was ps × CallsHearBefore (stopped_after was ps) pss
 
@@ -88,15 +88,15 @@ pub record PassesNone (c : ℕ) (deeds rest : List Deed) : Type 0 where
       EndsWith (unserved c device deeds (told c device (rest ++ deeds))) (unserved c device deeds (requests_to device (without_last (client_read c deeds))))
 
 -- so it is where a channel ends, by what stands in the outbox before it
-abbrev pub EndsHeeded : Served → List Deed → Part → Type 0
+abbrev pub EndsHeeded : Served → List Deed → FrontPart → Type 0
 EndsHeeded p deeds (ends over told) = (p.front).on ≡ true → PassesNone (p.front).channel deeds (left_by p.front)
 EndsHeeded p deeds _ = Unit {0}
 
-abbrev pub PartsEndHeeded : (old : Served) (deeds : List Deed) (ps : List Part) (new : Served) → PartsGo old ps new → Type 0
+abbrev pub PartsEndHeeded : (old : Served) (deeds : List Deed) (ps : List FrontPart) (new : Served) → PartsGo old ps new → Type 0
 PartsEndHeeded old deeds [] new goes = Unit {0}
 PartsEndHeeded old deeds (p ∷ ps) new goes = EndsHeeded old deeds p × PartsEndHeeded goes.0 (deeds_of p ++ deeds) ps new goes.2
 
-abbrev pub EachEndsHeeded : (old : Served) (deeds : List Deed) (entries : List (Entry FrontCall FrontReply)) (parts : List (List Part)) (new : Served) → HistoryGoes old entries parts new → Type 0
+abbrev pub EachEndsHeeded : (old : Served) (deeds : List Deed) (entries : List (Entry FrontCall FrontReply)) (parts : List (List FrontPart)) (new : Served) → HistoryGoes old entries parts new → Type 0
 EachEndsHeeded old deeds [] [] new goes = Unit {0}
 EachEndsHeeded old deeds (e ∷ es) (ps ∷ pss) new goes = PartsEndHeeded old deeds ps goes.0 (goes.1).goes × EachEndsHeeded goes.0 (deeds_after ps deeds) es pss new goes.2
 EachEndsHeeded old deeds _ _ new goes = ⊥

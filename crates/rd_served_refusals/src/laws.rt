@@ -8,7 +8,7 @@ ghost use Rattle.rd_turn.specs.declared.object.Entry.{Entry};
 ghost use Rattle.rd_world.specs.Talk.{Deed};
 ghost use Rattle.rd_served.specs.Deeds.{deeds_of_calls};
 ghost use Rattle.rd_served.specs.Histories.{BeginsNew, HistoryGoes};
-ghost use Rattle.rd_served.specs.Parts.{Part};
+ghost use Rattle.rd_served.specs.Parts.{FrontPart};
 ghost use Rattle.rd_served.specs.Served.{Served};
 ghost use Rattle.rd_served_refusals.specs.Heeding.{AreDirectInOrder, CallsHearBefore, EachEndsHeeded, HearInRoom, NamesInRoom, PassesNone, left_by};
 
@@ -19,16 +19,16 @@ pub fn messages_of_bytes_name_in_room()
 
 /// Where nothing is heard on a channel once a request was given up there: of each device on each channel the answers to requests that never came to its station are in the order of reading, up to some.
 pub fn fronts_answer_in_order()
-    ensures { (old new : Served) (entries : List (Entry FrontCall FrontReply)) (parts : List (List Part)) → BeginsNew old → HistoryGoes old entries parts new
+    ensures { (old new : Served) (entries : List (Entry FrontCall FrontReply)) (parts : List (List FrontPart)) → BeginsNew old → HistoryGoes old entries parts new
         → HearInRoom entries → CallsHearBefore false parts → AreDirectInOrder (deeds_of_calls parts []) }
 {}
 
 /// And each request on it that never came, but for the last that was read there, was answered: where the channel ended by what was written or stood in the outbox then, and while it is on by what was written or stands there now. So there is such a rest of each channel.
 pub fn fronts_pass_over_none()
-    ensures ended { (old new : Served) (entries : List (Entry FrontCall FrontReply)) (parts : List (List Part)) → BeginsNew old → (goes : HistoryGoes old entries parts new)
+    ensures ended { (old new : Served) (entries : List (Entry FrontCall FrontReply)) (parts : List (List FrontPart)) → BeginsNew old → (goes : HistoryGoes old entries parts new)
         → HearInRoom entries → CallsHearBefore false parts → EachEndsHeeded old [] entries parts new goes }
-    ensures now { (old new : Served) (entries : List (Entry FrontCall FrontReply)) (parts : List (List Part)) → BeginsNew old → HistoryGoes old entries parts new
+    ensures now { (old new : Served) (entries : List (Entry FrontCall FrontReply)) (parts : List (List FrontPart)) → BeginsNew old → HistoryGoes old entries parts new
         → HearInRoom entries → CallsHearBefore false parts → new.front.on ≡ true → PassesNone new.front.channel (deeds_of_calls parts []) (left_by new.front) }
-    ensures each { (old new : Served) (entries : List (Entry FrontCall FrontReply)) (parts : List (List Part)) → BeginsNew old → HistoryGoes old entries parts new
+    ensures each { (old new : Served) (entries : List (Entry FrontCall FrontReply)) (parts : List (List FrontPart)) → BeginsNew old → HistoryGoes old entries parts new
         → HearInRoom entries → CallsHearBefore false parts → (c : ℕ) → (rest : List Deed) × PassesNone c (deeds_of_calls parts []) rest }
 {}

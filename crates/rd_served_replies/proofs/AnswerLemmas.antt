@@ -41,7 +41,7 @@ use Rattle.rd_world.specs.Told.{CompletesWith, Replies, came}
 use Rattle.rd_world.specs.World.{Kept}
 use Rattle.rd_served.specs.Deeds.{deeds_after, deeds_of, deeds_of_calls, sent_by, stored, stored_each}
 use Rattle.rd_served.specs.Histories.{HistoryGoes}
-use Rattle.rd_served.specs.Parts.{AsksBy, CallsAt, Part, PartGoes, PartsGo, begins, calls, directs, ends, sends, writes}
+use Rattle.rd_served.specs.Parts.{AsksBy, CallsAt, FrontPart, PartGoes, PartsGo, begins, calls, directs, ends, sends, writes}
 use Rattle.rd_served.specs.Parts as part
 use Rattle.rd_served.specs.Served.{Asking, Served, hands, idle}
 use Rattle.rd_served.proofs.CauseLemmas.{AnyRequest}
@@ -62,7 +62,7 @@ pub record AreReplied (replies : Replies) (p : Served) (deeds : List Deed) : Typ
 
 -- ---- a refusal
 
-refusal_status : (p : Served) (k : Kept) (st : Status) → part.IsDirect p k st → (st ≡ no_such_device) ⊎ (st ≡ insufficient_resources)
+refusal_status : (p : Served) (k : Kept) (st : Status) → part.MayBeDirect p k st → (st ≡ no_such_device) ⊎ (st ≡ insufficient_resources)
 refusal_status p k st (inl absent) = inl absent.2
 refusal_status p k st (inr (inl gone)) = by (is_told_there p.front k.device) gone.1
   where
@@ -122,7 +122,7 @@ module _ (replies : Replies) where
 
   -- ---- each part
 
-  quiet_replied : (p q : Served) (x : Part) (deeds : List Deed) → Quiet p x q → AreReplied replies p deeds → AreReplied replies q (deeds_of x ++ deeds)
+  quiet_replied : (p q : Served) (x : FrontPart) (deeds : List Deed) → Quiet p x q → AreReplied replies p deeds → AreReplied replies q (deeds_of x ++ deeds)
   quiet_replied p q x deeds quiet is = record {
     out = λ o has key answers. let (more, same, own) = quiet.own in
         elim (has_append o (outbox_of p) more (subst (Has o) same has)) [
@@ -265,11 +265,11 @@ hands_from p place id desk.End back after is device c same = inl (sym is ∙ sam
 
 -- ---- the whole
 
-pub grown_after : (ps : List Part) (deeds : List Deed) → Grown deeds (deeds_after ps deeds)
+pub grown_after : (ps : List FrontPart) (deeds : List Deed) → Grown deeds (deeds_after ps deeds)
 grown_after [] deeds c k r read = read
 grown_after (x ∷ ps) deeds c k r read = grown_after ps (deeds_of x ++ deeds) c k r (grown_more (deeds_of x) deeds c k r read)
 
-pub grown_calls : (parts : List (List Part)) (deeds : List Deed) → Grown deeds (deeds_of_calls parts deeds)
+pub grown_calls : (parts : List (List FrontPart)) (deeds : List Deed) → Grown deeds (deeds_of_calls parts deeds)
 grown_calls [] deeds c k r read = read
 grown_calls (ps ∷ parts) deeds c k r read = grown_calls parts (deeds_after ps deeds) c k r (grown_after ps deeds c k r read)
 
@@ -287,7 +287,7 @@ module _ (devices : List (ℕ × Declared)) (fit : AreFit devices) (final : List
             (subst (λ (d : DeskCall). CallsAt p place id d (replied.Collected (Some c)) items q) collects (subst (λ (r : DeskReply). CallsAt p place id does r items q) came at)) gives grown)
       ]) is
 
-  pub part_replied : (p q : Served) (x : Part) (deeds : List Deed) → PartGoes p x q → IsKnownAt p deeds → IsFollowed (IsOneOf devices) p deeds → GiveOwn (q.front).desks → Grown (deeds_of x ++ deeds) final
+  pub part_replied : (p q : Served) (x : FrontPart) (deeds : List Deed) → PartGoes p x q → IsKnownAt p deeds → IsFollowed (IsOneOf devices) p deeds → GiveOwn (q.front).desks → Grown (deeds_of x ++ deeds) final
       → AreReplied (replies_read devices final) p deeds → AreReplied (replies_read devices final) q (deeds_of x ++ deeds)
   part_replied p q (calls place id does back items) deeds goes known follows gives grown is = called_replied p q place id does back items deeds goes known follows gives grown is
   part_replied p q (directs st (Ok done)) deeds goes known follows gives grown is =
@@ -301,14 +301,14 @@ module _ (devices : List (ℕ × Declared)) (fit : AreFit devices) (final : List
   part_replied p q (ends over told) deeds goes known follows gives grown is = ends_replied (replies_read devices final) p q over told deeds goes is
   part_replied p q x deeds goes known follows gives grown is = quiet_replied (replies_read devices final) p q x deeds (part_quiet p q x tt goes) is
 
-  parts_replied : (ps : List Part) (p q : Served) (deeds : List Deed) → PartsGo p ps q → IsKnownAt p deeds → IsFollowed (IsOneOf devices) p deeds → GiveOwn (q.front).desks → Grown (deeds_after ps deeds) final
+  parts_replied : (ps : List FrontPart) (p q : Served) (deeds : List Deed) → PartsGo p ps q → IsKnownAt p deeds → IsFollowed (IsOneOf devices) p deeds → GiveOwn (q.front).desks → Grown (deeds_after ps deeds) final
       → AreReplied (replies_read devices final) p deeds → AreReplied (replies_read devices final) q (deeds_after ps deeds)
   parts_replied [] p q deeds same known follows gives grown is = subst (λ (s : Served). AreReplied (replies_read devices final) s deeds) (sym same) is
   parts_replied (x ∷ ps) p q deeds goes known follows gives grown is =
       parts_replied ps goes.0 q (deeds_of x ++ deeds) goes.2 (part_known p goes.0 x deeds goes.1 known) (part_followed (IsOneOf devices) p goes.0 x deeds goes.1 known.keyed known.told follows) gives grown
       (part_replied p goes.0 x deeds goes.1 known follows (parts_give ps goes.0 q goes.2 gives) (λ c k r read. grown c k r (grown_after ps (deeds_of x ++ deeds) c k r read)) is)
 
-  pub history_replied : (entries : List (Entry FrontCall FrontReply)) (parts : List (List Part)) (p q : Served) (deeds : List Deed) → HistoryGoes p entries parts q → IsKnownAt p deeds → IsFollowed (IsOneOf devices) p deeds → GiveOwn (q.front).desks → Grown (deeds_of_calls parts deeds) final
+  pub history_replied : (entries : List (Entry FrontCall FrontReply)) (parts : List (List FrontPart)) (p q : Served) (deeds : List Deed) → HistoryGoes p entries parts q → IsKnownAt p deeds → IsFollowed (IsOneOf devices) p deeds → GiveOwn (q.front).desks → Grown (deeds_of_calls parts deeds) final
       → AreReplied (replies_read devices final) p deeds → AreReplied (replies_read devices final) q (deeds_of_calls parts deeds)
   history_replied [] [] p q deeds same known follows gives grown is = subst (λ (s : Served). AreReplied (replies_read devices final) s deeds) (sym same) is
   history_replied [] (ps ∷ parts) p q deeds goes known follows gives grown is = absurd goes

@@ -20,7 +20,7 @@ use Rattle.rd_world.specs.Session.{replies_read}
 use Rattle.rd_world.specs.Talk.{Deed, EachAfter, Has, journal}
 use Rattle.rd_served.specs.Deeds.{deeds_of_calls}
 use Rattle.rd_served.specs.Histories.{BeginsNew, HistoryGoes}
-use Rattle.rd_served.specs.Parts.{Part}
+use Rattle.rd_served.specs.Parts.{FrontPart}
 use Rattle.rd_served.specs.Served.{Served}
 use Rattle.rd_served.proofs.KeyLemmas.{keyed_lawful}
 use Rattle.rd_served.proofs.StandingLemmas.{IsKnownAt, history_known}
@@ -38,7 +38,7 @@ replied_first devices final p begins = record {
   each = tt;
 }
 
-pub all_replied : (devices : List (ℕ × Declared)) (old new : Served) (entries : List (Entry FrontCall FrontReply)) (parts : List (List Part)) → BeginsNew old → AreOpened devices (old.front).desks → HistoryGoes old entries parts new → GiveOwn (new.front).desks
+pub all_replied : (devices : List (ℕ × Declared)) (old new : Served) (entries : List (Entry FrontCall FrontReply)) (parts : List (List FrontPart)) → BeginsNew old → AreOpened devices (old.front).desks → HistoryGoes old entries parts new → GiveOwn (new.front).desks
     → AllByRecursion IsOfBytes (deeds_of_calls parts []) → EachAfter (AnswersBy (replies_read devices (deeds_of_calls parts []))) (deeds_of_calls parts [])
 all_replied devices old new entries parts begins opened goes gives bytes =
     (history_replied devices opened.fit (deeds_of_calls parts []) (all_fine (deeds_of_calls parts []) bytes) entries parts old new [] goes (known_first old begins) (first_of devices old begins opened) gives
@@ -51,7 +51,7 @@ gone_first p begins = record {
   each = tt;
 }
 
-pub all_told : (old new : Served) (entries : List (Entry FrontCall FrontReply)) (parts : List (List Part)) → BeginsNew old → HistoryGoes old entries parts new → AllByRecursion IsOfBytes (deeds_of_calls parts []) → EachAfter TellsGone (deeds_of_calls parts [])
+pub all_told : (old new : Served) (entries : List (Entry FrontCall FrontReply)) (parts : List (List FrontPart)) → BeginsNew old → HistoryGoes old entries parts new → AllByRecursion IsOfBytes (deeds_of_calls parts []) → EachAfter TellsGone (deeds_of_calls parts [])
 all_told old new entries parts begins goes bytes =
     (history_gone (deeds_of_calls parts []) (all_fine (deeds_of_calls parts []) bytes) entries parts old new [] goes (known_first old begins) (grown_more [] (deeds_of_calls parts [])) (gone_first old begins)).each
 
@@ -69,7 +69,7 @@ lawful_journals p deeds known device = by (journal device deeds) refl
         let told : journal device deeds ≡ reverse s.journal = ap (λ (n : ℕ). journal n deeds) (sym named) ∙ known.told.tied place d s at in
         subst (λ (js : List Item). IsLawful (reverse js)) (sym told) (subst IsLawful (sym (reverse-reverse s.journal)) (keyed_lawful p known.keyed place s at.1))
 
-pub all_answered : (devices : List (ℕ × Declared)) (old new : Served) (entries : List (Entry FrontCall FrontReply)) (parts : List (List Part)) → BeginsNew old → AreOpened devices (old.front).desks → HistoryGoes old entries parts new → GiveOwn (new.front).desks
+pub all_answered : (devices : List (ℕ × Declared)) (old new : Served) (entries : List (Entry FrontCall FrontReply)) (parts : List (List FrontPart)) → BeginsNew old → AreOpened devices (old.front).desks → HistoryGoes old entries parts new → GiveOwn (new.front).desks
     → AllByRecursion IsOfBytes (deeds_of_calls parts []) → EachAfter (AnswersSince (replies_read devices (deeds_of_calls parts []))) (deeds_of_calls parts [])
 all_answered devices old new entries parts begins opened goes gives bytes =
     since_read devices (deeds_of_calls parts []) opened.fit (calls_host parts [] tt)

@@ -24,7 +24,7 @@ use Rattle.rd_turn.proofs.HistoryLemmas.{Leads-append}
 use Rattle.rd_world.specs.Talk.{Deed}
 use Rattle.rd_served.specs.Deeds.{deeds_after, deeds_of, deeds_of_calls, stored, stored_each}
 use Rattle.rd_served.specs.Histories.{HistoryGoes}
-use Rattle.rd_served.specs.Parts.{AsksBy, CallsAt, Comes, EndsEach, Part, PartGoes, PartsGo, begins, calls, directs, ended_front, ends, forgets, hears, keeps, learns, misplaces, refreshes, sends, tells_gone, tells_there, tries, unwritten, writes}
+use Rattle.rd_served.specs.Parts.{AsksBy, CallsAt, Comes, EndsEach, FrontPart, PartGoes, PartsGo, begins, calls, directs, ended_front, ends, forgets, hears, keeps, learns, misplaces, refreshes, sends, tells_gone, tells_there, tries, unwritten, writes}
 use Rattle.rd_served.specs.Served.{AreHands, Asking, CallsDesk, IsHandCall, IsStationed, Served}
 use Rattle.rd_served.proofs.CauseLemmas.{AnyRequest, At, IsTold, get_set, job_told}
 use Rattle.rd_served.proofs.KeyLemmas.{IsKeyed}
@@ -146,12 +146,12 @@ pub record IsFollowed (Open : ℕ → Of → Type 0) (p : Served) (deeds : List 
   pub puts : (place : ℕ) (d : DeviceDeskState) → slice_get (p.front).desks place ≡ Some d → AllByRecursion (PutOf (IsJobOf AnyRequest deeds d.id)) (told_calls (d.pass).seen)
 
 -- the part leaves desks and stations as they are
-abbrev IsStill : Part → Type 0
+abbrev IsStill : FrontPart → Type 0
 IsStill (calls place id does back items) = ⊥
 IsStill (ends over told) = ⊥
 IsStill _ = Unit {0}
 
-part_still : (p q : Served) (x : Part) → IsStill x → PartGoes p x q → ((q.front).desks ≡ (p.front).desks) × (q.stations ≡ p.stations)
+part_still : (p q : Served) (x : FrontPart) → IsStill x → PartGoes p x q → ((q.front).desks ≡ (p.front).desks) × (q.stations ≡ p.stations)
 part_still p q (hears channel m answer) is goes = (ap (λ (s : FrontState). s.desks) (goes.3).1, goes.5)
 part_still p q tries is goes = (ap (λ (s : Served). (s.front).desks) goes.4, ap (λ (s : Served). s.stations) goes.4)
 part_still p q keeps is goes = (ap (λ (s : Served). (s.front).desks) goes.3, ap (λ (s : Served). s.stations) goes.3)
@@ -203,16 +203,16 @@ ended_gives p q over told goes gives place d there =
     let (s, t, e, u, at, one) = ended_on over (p.front).desks p.stations told (q.front).desks q.stations goes.1 place d there in
     gave d e s u (end_call over) one.back t.1 one.called (gives place e at)
 
-pub part_gives : (p q : Served) (x : Part) → PartGoes p x q → GiveOwn (q.front).desks → GiveOwn (p.front).desks
+pub part_gives : (p q : Served) (x : FrontPart) → PartGoes p x q → GiveOwn (q.front).desks → GiveOwn (p.front).desks
 part_gives p q (calls place id does back items) goes gives = called_gives p q place id does back items goes gives
 part_gives p q (ends over told) goes gives = ended_gives p q over told goes gives
 part_gives p q x goes gives = subst GiveOwn (part_still p q x tt goes).0 gives
 
-pub parts_give : (ps : List Part) (p q : Served) → PartsGo p ps q → GiveOwn (q.front).desks → GiveOwn (p.front).desks
+pub parts_give : (ps : List FrontPart) (p q : Served) → PartsGo p ps q → GiveOwn (q.front).desks → GiveOwn (p.front).desks
 parts_give [] p q is gives = subst (λ (s : Served). GiveOwn (s.front).desks) is gives
 parts_give (x ∷ ps) p q goes gives = part_gives p goes.0 x goes.1 (parts_give ps goes.0 q goes.2 gives)
 
-pub history_gives : (entries : List (Entry FrontCall FrontReply)) (parts : List (List Part)) (p q : Served) → HistoryGoes p entries parts q → GiveOwn (q.front).desks → GiveOwn (p.front).desks
+pub history_gives : (entries : List (Entry FrontCall FrontReply)) (parts : List (List FrontPart)) (p q : Served) → HistoryGoes p entries parts q → GiveOwn (q.front).desks → GiveOwn (p.front).desks
 history_gives [] [] p q is gives = subst (λ (s : Served). GiveOwn (s.front).desks) is gives
 history_gives [] (ps ∷ parts) p q goes gives = absurd goes
 history_gives (e ∷ entries) [] p q goes gives = absurd goes
@@ -304,18 +304,18 @@ module _ (Open : ℕ → Of → Type 0) where
         (puts_on d e s v (end_call over) one.back t.1 one.called (IsJobOf AnyRequest deeds d.id) (is.puts place d at) (λ done same job none. absurd (end_puts over job none))));
   }
 
-  pub part_followed : (p q : Served) (x : Part) (deeds : List Deed) → PartGoes p x q → IsKeyed p → IsTold p deeds → IsFollowed Open p deeds → IsFollowed Open q (deeds_of x ++ deeds)
+  pub part_followed : (p q : Served) (x : FrontPart) (deeds : List Deed) → PartGoes p x q → IsKeyed p → IsTold p deeds → IsFollowed Open p deeds → IsFollowed Open q (deeds_of x ++ deeds)
   part_followed p q (calls place id does back items) deeds goes keyed told is = calls_followed p q place id does back items deeds goes keyed told is
   part_followed p q (ends over told_each) deeds goes keyed told is = ends_followed p q over told_each deeds goes is
   part_followed p q x deeds goes keyed told is =
       let still = part_still p q x tt goes in followed_same p q deeds (deeds_of x ++ deeds) (grown_more (deeds_of x) deeds) still.0 still.1 is
 
-  pub parts_followed : (ps : List Part) (p q : Served) (deeds : List Deed) → PartsGo p ps q → IsKnownAt p deeds → IsFollowed Open p deeds → IsFollowed Open q (deeds_after ps deeds)
+  pub parts_followed : (ps : List FrontPart) (p q : Served) (deeds : List Deed) → PartsGo p ps q → IsKnownAt p deeds → IsFollowed Open p deeds → IsFollowed Open q (deeds_after ps deeds)
   parts_followed [] p q deeds same known is = subst (λ (s : Served). IsFollowed Open s deeds) (sym same) is
   parts_followed (x ∷ ps) p q deeds goes known is =
       parts_followed ps goes.0 q (deeds_of x ++ deeds) goes.2 (part_known p goes.0 x deeds goes.1 known) (part_followed p goes.0 x deeds goes.1 known.keyed known.told is)
 
-  pub history_followed : (entries : List (Entry FrontCall FrontReply)) (parts : List (List Part)) (p q : Served) (deeds : List Deed) → HistoryGoes p entries parts q → IsKnownAt p deeds → IsFollowed Open p deeds → IsFollowed Open q (deeds_of_calls parts deeds)
+  pub history_followed : (entries : List (Entry FrontCall FrontReply)) (parts : List (List FrontPart)) (p q : Served) (deeds : List Deed) → HistoryGoes p entries parts q → IsKnownAt p deeds → IsFollowed Open p deeds → IsFollowed Open q (deeds_of_calls parts deeds)
   history_followed [] [] p q deeds same known is = subst (λ (s : Served). IsFollowed Open s deeds) (sym same) is
   history_followed [] (ps ∷ parts) p q deeds goes known is = absurd goes
   history_followed (e ∷ entries) [] p q deeds goes known is = absurd goes

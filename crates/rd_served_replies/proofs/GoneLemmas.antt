@@ -44,7 +44,7 @@ use Rattle.rd_world.specs.Events.{completion_message}
 use Rattle.rd_world.specs.Talk.{Deed, EachAfter, Has, adds, client_reads, client_writes, completes, host_begins, host_ends, host_reads, host_writes, journal, removed_in, removes, request_at, stores, submits, takes, tells}
 use Rattle.rd_served.specs.Deeds.{deeds_after, deeds_of, deeds_of_calls, sent_by, stored, stored_each}
 use Rattle.rd_served.specs.Histories.{HistoryGoes}
-use Rattle.rd_served.specs.Parts.{CallsAt, FitsCall, IsOpenCall, Part, PartGoes, PartsGo, begins, calls, directs, ends, sends, writes}
+use Rattle.rd_served.specs.Parts.{CallsAt, FitsCall, IsOpenCall, FrontPart, PartGoes, PartsGo, begins, calls, directs, ends, sends, writes}
 use Rattle.rd_served.specs.Served.{Served, hands, idle}
 use Rattle.rd_served.proofs.CauseLemmas.{stored_elsewhere, stored_here}
 use Rattle.rd_served.proofs.HeldLemmas.{HeldIn, ready_held}
@@ -178,7 +178,7 @@ pub record AreGone (p : Served) (deeds : List Deed) : Type 0 where
   pub handing : (device : ℕ) (c : Completion) → p.asking ≡ hands device c → (d : ℕ) → IsCutSince (journal d deeds) c.key → IsGoneSince d c.key deeds
   pub each : EachAfter TellsGone deeds
 
-quiet_gone : (p q : Served) (x : Part) (deeds : List Deed) → Quiet p x q → AreGone p deeds → AreGone q (deeds_of x ++ deeds)
+quiet_gone : (p q : Served) (x : FrontPart) (deeds : List Deed) → Quiet p x q → AreGone p deeds → AreGone q (deeds_of x ++ deeds)
 quiet_gone p q x deeds quiet is = record {
   soon = λ device key on at since. let (more, same, own) = quiet.own in
       elim (is.soon device key (sym quiet.on ∙ on) (at ∙ quiet.channel) (subst (λ (xs : List Item). IsCutSince xs key) (light_journal device (deeds_of x) deeds quiet.light) since)) [
@@ -382,7 +382,7 @@ module _ (p q : Served) (place id : ℕ) (does : DeskCall) (back : DeskReply) (i
 -- ---- each part, and every history
 
 module _ (final : List Deed) (fines : AreFine FitsCompletion final) where
-  pub part_gone : (p q : Served) (x : Part) (deeds : List Deed) → PartGoes p x q → IsKnownAt p deeds → Grown deeds final → AreGone p deeds → AreGone q (deeds_of x ++ deeds)
+  pub part_gone : (p q : Served) (x : FrontPart) (deeds : List Deed) → PartGoes p x q → IsKnownAt p deeds → Grown deeds final → AreGone p deeds → AreGone q (deeds_of x ++ deeds)
   part_gone p q (calls place id does back items) deeds goes known grown is = called_gone p q place id does back items deeds known goes is
   part_gone p q (directs st (Ok done)) deeds goes known grown is =
       let k = goes.0 in
@@ -396,13 +396,13 @@ module _ (final : List Deed) (fines : AreFine FitsCompletion final) where
   part_gone p q (ends over told) deeds goes known grown is = ends_gone p q over told deeds goes is
   part_gone p q x deeds goes known grown is = quiet_gone p q x deeds (part_quiet p q x tt goes) is
 
-  parts_gone : (ps : List Part) (p q : Served) (deeds : List Deed) → PartsGo p ps q → IsKnownAt p deeds → Grown (deeds_after ps deeds) final → AreGone p deeds → AreGone q (deeds_after ps deeds)
+  parts_gone : (ps : List FrontPart) (p q : Served) (deeds : List Deed) → PartsGo p ps q → IsKnownAt p deeds → Grown (deeds_after ps deeds) final → AreGone p deeds → AreGone q (deeds_after ps deeds)
   parts_gone [] p q deeds same known grown is = subst (λ (s : Served). AreGone s deeds) (sym same) is
   parts_gone (x ∷ ps) p q deeds goes known grown is =
       parts_gone ps goes.0 q (deeds_of x ++ deeds) goes.2 (part_known p goes.0 x deeds goes.1 known) grown
       (part_gone p goes.0 x deeds goes.1 known (λ c k r read. grown c k r (grown_after (x ∷ ps) deeds c k r read)) is)
 
-  pub history_gone : (entries : List (Entry FrontCall FrontReply)) (parts : List (List Part)) (p q : Served) (deeds : List Deed) → HistoryGoes p entries parts q → IsKnownAt p deeds → Grown (deeds_of_calls parts deeds) final → AreGone p deeds → AreGone q (deeds_of_calls parts deeds)
+  pub history_gone : (entries : List (Entry FrontCall FrontReply)) (parts : List (List FrontPart)) (p q : Served) (deeds : List Deed) → HistoryGoes p entries parts q → IsKnownAt p deeds → Grown (deeds_of_calls parts deeds) final → AreGone p deeds → AreGone q (deeds_of_calls parts deeds)
   history_gone [] [] p q deeds same known grown is = subst (λ (s : Served). AreGone s deeds) (sym same) is
   history_gone [] (ps ∷ parts) p q deeds goes known grown is = absurd goes
   history_gone (e ∷ entries) [] p q deeds goes known grown is = absurd goes

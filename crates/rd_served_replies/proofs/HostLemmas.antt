@@ -22,7 +22,7 @@ use Rattle.rd_world.specs.Session.{replies_in, replies_read}
 use Rattle.rd_world.specs.Talk.{Deed, EachAfter, client_read, client_reads, host_writes, host_wrote, journal, request_at, stores}
 use Rattle.rd_world.specs.Told.{Replies}
 use Rattle.rd_served.specs.Deeds.{deeds_after, deeds_of, deeds_of_calls, sent_by, stored, stored_each}
-use Rattle.rd_served.specs.Parts.{Part, begins, calls, directs, ends, forgets, hears, keeps, learns, misplaces, refreshes, sends, tells_gone, tells_there, tries, unwritten, writes}
+use Rattle.rd_served.specs.Parts.{FrontPart, begins, calls, directs, ends, forgets, hears, keeps, learns, misplaces, refreshes, sends, tells_gone, tells_there, tries, unwritten, writes}
 
 -- a host that wrote what was read
 hosted : List Deed → List Deed
@@ -81,7 +81,7 @@ told_host : (told : List (ℕ × List Item)) → AllByRecursion NoHost (stored_e
 told_host [] = tt
 told_host (t ∷ told) = all_append NoHost (stored_each told) (stored t.0 t.1) (told_host told) (items_host t.0 (reverse t.1))
 
-part_host : (x : Part) → AllByRecursion NoHost (deeds_of x)
+part_host : (x : FrontPart) → AllByRecursion NoHost (deeds_of x)
 part_host (hears channel m (Err fault.Memory)) = tt
 part_host (hears channel m (Err (fault.Order state packet))) = (tt, tt)
 part_host (hears channel m (Err (fault.Grammar bad))) = (tt, tt)
@@ -109,10 +109,10 @@ part_host (refreshes device) = tt
 part_host (begins channel) = tt
 part_host (ends over told) = told_host told
 
-parts_host : (ps : List Part) (deeds : List Deed) → AllByRecursion NoHost deeds → AllByRecursion NoHost (deeds_after ps deeds)
+parts_host : (ps : List FrontPart) (deeds : List Deed) → AllByRecursion NoHost deeds → AllByRecursion NoHost (deeds_after ps deeds)
 parts_host [] deeds none = none
 parts_host (x ∷ ps) deeds none = parts_host ps (deeds_of x ++ deeds) (all_append NoHost (deeds_of x) deeds (part_host x) none)
 
-pub calls_host : (parts : List (List Part)) (deeds : List Deed) → AllByRecursion NoHost deeds → AllByRecursion NoHost (deeds_of_calls parts deeds)
+pub calls_host : (parts : List (List FrontPart)) (deeds : List Deed) → AllByRecursion NoHost deeds → AllByRecursion NoHost (deeds_of_calls parts deeds)
 calls_host [] deeds none = none
 calls_host (ps ∷ parts) deeds none = calls_host parts (deeds_after ps deeds) (parts_host ps deeds none)

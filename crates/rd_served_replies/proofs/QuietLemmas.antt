@@ -16,7 +16,7 @@ use Rattle.rd_station.specs.declared.answers.Completion.{Completion}
 use Rattle.rd_world.specs.Talk.{Deed, adds, client_reads, removes}
 use Rattle.rd_journals.proofs.WritingLemmas.{AddsOwn, adds_own, hear_adds, list_own, removal_own}
 use Rattle.rd_served.specs.Deeds.{deeds_of}
-use Rattle.rd_served.specs.Parts.{Part, PartGoes, asked_by, begins, calls, directs, ends, forgets, hears, keeps, learns, misplaces, refreshes, sends, tells_gone, tells_there, tries, unwritten, writes}
+use Rattle.rd_served.specs.Parts.{FrontPart, PartGoes, asking_by, begins, calls, directs, ends, forgets, hears, keeps, learns, misplaces, refreshes, sends, tells_gone, tells_there, tries, unwritten, writes}
 use Rattle.rd_served.specs.Served.{Asking, Served, asks, hands, idle}
 use Rattle.rd_served.proofs.StandingLemmas.{refreshed_more, sent_none}
 use Rattle.std.specs.Map.{lookup}
@@ -35,7 +35,7 @@ IsLight (removes device) = Unit {0}
 IsLight (adds device) = Unit {0}
 IsLight _ = ⊥
 
-abbrev pub IsQuiet : Part → Type 0
+abbrev pub IsQuiet : FrontPart → Type 0
 IsQuiet (directs st (Ok done)) = ⊥
 IsQuiet (calls place id does back items) = ⊥
 IsQuiet (sends channel (Some o)) = ⊥
@@ -44,7 +44,7 @@ IsQuiet (begins channel) = ⊥
 IsQuiet (ends over told) = ⊥
 IsQuiet _ = Unit {0}
 
-pub record Quiet (p : Served) (x : Part) (q : Served) : Type 0 where
+pub record Quiet (p : Served) (x : FrontPart) (q : Served) : Type 0 where
   pub channel : (q.front).channel ≡ (p.front).channel
   pub on : (q.front).on ≡ (p.front).on
   pub own : AddsOwn (outbox_of p) (outbox_of q)
@@ -62,7 +62,7 @@ NotHands _ = Unit {0}
 not_hands : (a b : Asking) → a ≡ b → NotHands b → (device : ℕ) (c : Completion) → a ≡ hands device c → ⊥
 not_hands a b is none device c same = subst NotHands (sym is ∙ same) none
 
-asked_not : (a : Result Heard EndFault) → NotHands (asked_by a)
+asked_not : (a : Result Heard EndFault) → NotHands (asking_by a)
 asked_not (Ok (Ask device job)) = tt
 asked_not (Ok Nothing) = tt
 asked_not (Ok (Print n)) = tt
@@ -73,7 +73,7 @@ hears_quiet p q channel m answer goes = record {
   channel = ap (λ (s : FrontState). s.channel) (goes.3).1;
   on = ap (λ (s : FrontState). s.on) (goes.3).1;
   own = more answer ((goes.3).0).1;
-  handing = λ device c same. absurd (not_hands q.asking (asked_by answer) goes.4 (asked_not answer) device c same);
+  handing = λ device c same. absurd (not_hands q.asking (asking_by answer) goes.4 (asked_not answer) device c same);
   light = light answer;
 }
   where
@@ -93,10 +93,10 @@ hears_quiet p q channel m answer goes = record {
     light (Ok h) = (tt, tt)
 
 -- the same front but for what is under way and kept back
-same_client : (p q : Served) (x : Part) → (q.front).channel ≡ (p.front).channel → (q.front).on ≡ (p.front).on → outbox_of q ≡ outbox_of p → ((device : ℕ) (c : Completion) → q.asking ≡ hands device c → p.asking ≡ hands device c) → AllByRecursion IsLight (deeds_of x) → Quiet p x q
+same_client : (p q : Served) (x : FrontPart) → (q.front).channel ≡ (p.front).channel → (q.front).on ≡ (p.front).on → outbox_of q ≡ outbox_of p → ((device : ℕ) (c : Completion) → q.asking ≡ hands device c → p.asking ≡ hands device c) → AllByRecursion IsLight (deeds_of x) → Quiet p x q
 same_client p q x channel on outbox handing light = record { channel = channel; on = on; own = none_more (outbox_of p) (outbox_of q) outbox; handing = handing; light = light }
 
-client_quiet : (p q : Served) (x : Part) (unsent : ℕ) → q.front ≡ record p.front { client = (q.front).client; unsent = unsent } → AddsOwn (outbox_of p) (outbox_of q) → ((device : ℕ) (c : Completion) → q.asking ≡ hands device c → p.asking ≡ hands device c)
+client_quiet : (p q : Served) (x : FrontPart) (unsent : ℕ) → q.front ≡ record p.front { client = (q.front).client; unsent = unsent } → AddsOwn (outbox_of p) (outbox_of q) → ((device : ℕ) (c : Completion) → q.asking ≡ hands device c → p.asking ≡ hands device c)
     → AllByRecursion IsLight (deeds_of x) → Quiet p x q
 client_quiet p q x unsent is own handing light = record { channel = ap (λ (s : FrontState). s.channel) is; on = ap (λ (s : FrontState). s.on) is; own = own; handing = handing; light = light }
 
@@ -107,7 +107,7 @@ refreshed_on s device = go (lookup (is_at (nat_cmp device)) s.printers)
     go None = (refl, refl)
     go (Some names) = (refl, refl)
 
-pub part_quiet : (p q : Served) (x : Part) → IsQuiet x → PartGoes p x q → Quiet p x q
+pub part_quiet : (p q : Served) (x : FrontPart) → IsQuiet x → PartGoes p x q → Quiet p x q
 part_quiet p q (hears channel m answer) is goes = hears_quiet p q channel m answer goes
 part_quiet p q tries is goes = same_client p q tries (ap (λ (s : Served). (s.front).channel) goes.4) (ap (λ (s : Served). (s.front).on) goes.4) (ap outbox_of goes.4)
     (λ device c same. absurd (not_hands q.asking (asks goes.0) (ap (λ (s : Served). s.asking) goes.4) tt device c same)) tt

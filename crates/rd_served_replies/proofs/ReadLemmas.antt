@@ -18,7 +18,7 @@ use Rattle.rd_turn.specs.declared.object.Entry.{Entry}
 use Rattle.rd_world.specs.Talk.{Deed, Has, client_read, client_reads, is_request, request_at, request_in, stores}
 use Rattle.rd_served.specs.Deeds.{deeds_after, deeds_of, deeds_of_calls, sent_by, stored, stored_each}
 use Rattle.rd_served.specs.Histories.{HearsAs, HistoryGoes, IsHeardBy}
-use Rattle.rd_served.specs.Parts.{Part, begins, calls, directs, ends, forgets, heard_by, hears, keeps, learns, misplaces, refreshes, sends, tells_gone, tells_there, tries, unwritten, writes}
+use Rattle.rd_served.specs.Parts.{FrontPart, begins, calls, directs, ends, forgets, heard_in, hears, keeps, learns, misplaces, refreshes, sends, tells_gone, tells_there, tries, unwritten, writes}
 use Rattle.rd_served.specs.Served.{Served}
 use Rattle.rd_served_replies.specs.Premises.{HearBytes, HearsBytes}
 
@@ -65,7 +65,7 @@ told_bytes [] = tt
 told_bytes (t ∷ told) = all_append IsOfBytes (stored_each told) (stored t.0 t.1) (told_bytes told) (items_bytes t.0 (reverse t.1))
 
 -- a part reads what it heard
-part_bytes : (x : Part) (ps : List Part) → AreAllBytes (filter_map heard_by (x ∷ ps)) → AllByRecursion IsOfBytes (deeds_of x) × AreAllBytes (filter_map heard_by ps)
+part_bytes : (x : FrontPart) (ps : List FrontPart) → AreAllBytes (filter_map heard_in (x ∷ ps)) → AllByRecursion IsOfBytes (deeds_of x) × AreAllBytes (filter_map heard_in ps)
 part_bytes (hears channel m (Err fault.Memory)) ps are = (tt, are)
 part_bytes (hears channel m (Err (fault.Order state packet))) ps are = ((are.0, tt), are.1)
 part_bytes (hears channel m (Err (fault.Grammar bad))) ps are = ((are.0, tt), are.1)
@@ -93,7 +93,7 @@ part_bytes (refreshes device) ps are = (tt, are)
 part_bytes (begins channel) ps are = (tt, are)
 part_bytes (ends over told) ps are = (told_bytes told, are)
 
-parts_bytes : (ps : List Part) (deeds : List Deed) → AreAllBytes (filter_map heard_by ps) → AllByRecursion IsOfBytes deeds → AllByRecursion IsOfBytes (deeds_after ps deeds)
+parts_bytes : (ps : List FrontPart) (deeds : List Deed) → AreAllBytes (filter_map heard_in ps) → AllByRecursion IsOfBytes deeds → AllByRecursion IsOfBytes (deeds_after ps deeds)
 parts_bytes [] deeds are before = before
 parts_bytes (x ∷ ps) deeds are before =
     let (own, later) = part_bytes x ps are in parts_bytes ps (deeds_of x ++ deeds) later (all_append IsOfBytes (deeds_of x) deeds own before)
@@ -121,10 +121,10 @@ call_bytes call.Look back messages are is = subst AreAllBytes (sym is) tt
 call_bytes call.EndChannel back messages are is = subst AreAllBytes (sym is) tt
 call_bytes call.EndSession back messages are is = subst AreAllBytes (sym is) tt
 
-pub history_bytes : (entries : List (Entry FrontCall FrontReply)) (parts : List (List Part)) (p q : Served) (deeds : List Deed) → HistoryGoes p entries parts q → HearBytes entries → AllByRecursion IsOfBytes deeds
+pub history_bytes : (entries : List (Entry FrontCall FrontReply)) (parts : List (List FrontPart)) (p q : Served) (deeds : List Deed) → HistoryGoes p entries parts q → HearBytes entries → AllByRecursion IsOfBytes deeds
     → AllByRecursion IsOfBytes (deeds_of_calls parts deeds)
 history_bytes [] [] p q deeds goes are before = before
 history_bytes [] (ps ∷ parts) p q deeds goes are before = absurd goes
 history_bytes (e ∷ entries) [] p q deeds goes are before = absurd goes
 history_bytes (e ∷ entries) (ps ∷ parts) p q deeds goes are before =
-    history_bytes entries parts goes.0 q (deeds_after ps deeds) goes.2 are.1 (parts_bytes ps deeds (call_bytes e.call e.reply (filter_map heard_by ps) are.0 (goes.1).heard) before)
+    history_bytes entries parts goes.0 q (deeds_after ps deeds) goes.2 are.1 (parts_bytes ps deeds (call_bytes e.call e.reply (filter_map heard_in ps) are.0 (goes.1).heard) before)

@@ -27,28 +27,28 @@ ghost use Rattle.rd_replied.specs.Since.{AnswersSince};
 ghost use Rattle.rd_refused.specs.Refused.{RefusesDirectly};
 ghost use Rattle.rd_served.specs.Deeds.{deeds_of_calls};
 ghost use Rattle.rd_served.specs.Histories.{BeginsNew, HistoryGoes};
-ghost use Rattle.rd_served.specs.Parts.{Part};
+ghost use Rattle.rd_served.specs.Parts.{FrontPart};
 ghost use Rattle.rd_served.specs.Served.{IsStationed, Served};
 ghost use Rattle.rd_served_replies.specs.Premises.{AreOpened, GiveOwn, GivesOwn, HearBytes, NamesAlike};
 
 /// All that the front's pass of each desk has seen leads to the desk's station, and the turn of each desk opened as it did.
 pub fn passes_lead_stations()
-    ensures stationed { (old new : Served) (entries : List (Entry FrontCall FrontReply)) (parts : List (List Part)) → BeginsNew old
+    ensures stationed { (old new : Served) (entries : List (Entry FrontCall FrontReply)) (parts : List (List FrontPart)) → BeginsNew old
         → HistoryGoes old entries parts new → (place : ℕ) (d : DeviceDeskState) (s : SessionStation) → slice_get (new.front).desks place ≡ Some d → slice_get new.stations place ≡ Some s → IsStationed d s }
-    ensures opened { (devices : List (ℕ × Declared)) (old new : Served) (entries : List (Entry FrontCall FrontReply)) (parts : List (List Part)) → BeginsNew old → AreOpened devices (old.front).desks
+    ensures opened { (devices : List (ℕ × Declared)) (old new : Served) (entries : List (Entry FrontCall FrontReply)) (parts : List (List FrontPart)) → BeginsNew old → AreOpened devices (old.front).desks
         → HistoryGoes old entries parts new → AreOpened devices (new.front).desks }
 {}
 
 /// Each job that came to a desk is that of its key's request, as it was read; also where calls follow by which none comes. Where each pass gives back its own, each run is of its key's request.
 pub fn jobs_come_as_read()
-    ensures put { (old new : Served) (entries : List (Entry FrontCall FrontReply)) (parts : List (List Part)) → BeginsNew old
+    ensures put { (old new : Served) (entries : List (Entry FrontCall FrontReply)) (parts : List (List FrontPart)) → BeginsNew old
         → HistoryGoes old entries parts new → (place : ℕ) (d : DeviceDeskState) → slice_get (new.front).desks place ≡ Some d
         → AllByRecursion (PutsOwn (request_read (deeds_of_calls parts []))) (told_calls (d.pass).seen) }
-    ensures later { (old new : Served) (entries : List (Entry FrontCall FrontReply)) (parts : List (List Part)) → BeginsNew old
+    ensures later { (old new : Served) (entries : List (Entry FrontCall FrontReply)) (parts : List (List FrontPart)) → BeginsNew old
         → HistoryGoes old entries parts new → (place : ℕ) (d : DeviceDeskState) → slice_get (new.front).desks place ≡ Some d
         → (later : List (Entry DeskCall DeskReply)) → All (λ (e : Entry DeskCall DeskReply). job_put e.call ≡ []) later
         → AllByRecursion (PutsOwn (request_read (deeds_of_calls parts []))) (told_calls ((d.pass).seen ++ later)) }
-    ensures run { (old new : Served) (entries : List (Entry FrontCall FrontReply)) (parts : List (List Part)) → BeginsNew old
+    ensures run { (old new : Served) (entries : List (Entry FrontCall FrontReply)) (parts : List (List FrontPart)) → BeginsNew old
         → HistoryGoes old entries parts new → GiveOwn (new.front).desks → (place : ℕ) (d : DeviceDeskState) (s : SessionStation) → slice_get (new.front).desks place ≡ Some d → slice_get new.stations place ≡ Some s
         → AllByRecursion (RunsOwn (request_read (deeds_of_calls parts []))) (told_calls (d.pass).seen) }
 {}
@@ -56,7 +56,7 @@ pub fn jobs_come_as_read()
 /// The requests that are read off the jobs which were put at a desk name the same file and the same operation as those that the client read, for each key that came there;
 /// also where calls follow by which none comes.
 pub fn requests_put_were_read()
-    ensures { (old new : Served) (entries : List (Entry FrontCall FrontReply)) (parts : List (List Part)) → BeginsNew old
+    ensures { (old new : Served) (entries : List (Entry FrontCall FrontReply)) (parts : List (List FrontPart)) → BeginsNew old
         → HistoryGoes old entries parts new → (place : ℕ) (d : DeviceDeskState) → slice_get (new.front).desks place ≡ Some d
         → (later : List (Entry DeskCall DeskReply)) (s : SessionStation) → All (λ (e : Entry DeskCall DeskReply). job_put e.call ≡ []) later → Leads SessionDeskStep (d.turn).opening ((d.pass).seen ++ later) s
         → (key : Key) → Has (Came key) s.journal → NamesAlike (request_put (told_calls ((d.pass).seen ++ later))) (request_read (deeds_of_calls parts [])) key }
@@ -70,7 +70,7 @@ pub fn passes_gave_their_own()
 
 /// So each station is tied to its journal by the requests that were read.
 pub fn stations_are_tied()
-    ensures { (devices : List (ℕ × Declared)) (old new : Served) (entries : List (Entry FrontCall FrontReply)) (parts : List (List Part)) → BeginsNew old → AreOpened devices (old.front).desks
+    ensures { (devices : List (ℕ × Declared)) (old new : Served) (entries : List (Entry FrontCall FrontReply)) (parts : List (List FrontPart)) → BeginsNew old → AreOpened devices (old.front).desks
         → HistoryGoes old entries parts new → GiveOwn (new.front).desks → (place : ℕ) (d : DeviceDeskState) (s : SessionStation) (x : Declared) → slice_get (new.front).desks place ≡ Some d → slice_get new.stations place ≡ Some s
         → lookup (is_at (nat_cmp d.id)) devices ≡ Some x → IsTied device_step device_cut (request_read (deeds_of_calls parts [])) x.state s }
 {}
@@ -78,7 +78,7 @@ pub fn stations_are_tied()
 /// Each completion that was written completes in bytes the request of its key, which had been read, and tells the reply that the device's journal gives to the key by what it says before
 /// the key was sent; or CANCELLED, where the journal says so; or the key never came, and it is a refusal.
 pub fn completions_are_replied()
-    ensures { (devices : List (ℕ × Declared)) (old new : Served) (entries : List (Entry FrontCall FrontReply)) (parts : List (List Part)) → BeginsNew old → AreOpened devices (old.front).desks
+    ensures { (devices : List (ℕ × Declared)) (old new : Served) (entries : List (Entry FrontCall FrontReply)) (parts : List (List FrontPart)) → BeginsNew old → AreOpened devices (old.front).desks
         → HistoryGoes old entries parts new → GiveOwn (new.front).desks → HearBytes entries
         → EachAfter (AnswersBy (replies_read devices (deeds_of_calls parts []))) (deeds_of_calls parts []) }
 {}
@@ -86,20 +86,20 @@ pub fn completions_are_replied()
 /// Where a device was cut off, since it was removed, after a key came, the key's completion is written after that was told: the removal is written on the key's channel
 /// after the read of its request.
 pub fn removals_are_told()
-    ensures { (old new : Served) (entries : List (Entry FrontCall FrontReply)) (parts : List (List Part)) → BeginsNew old
+    ensures { (old new : Served) (entries : List (Entry FrontCall FrontReply)) (parts : List (List FrontPart)) → BeginsNew old
         → HistoryGoes old entries parts new → HearBytes entries → EachAfter TellsGone (deeds_of_calls parts []) }
 {}
 
 /// Each completion is replied so, and where a cut alone gives its reply, or its request was cancelled, the device was removed since, as is told.
 pub fn completions_are_answered()
-    ensures { (devices : List (ℕ × Declared)) (old new : Served) (entries : List (Entry FrontCall FrontReply)) (parts : List (List Part)) → BeginsNew old → AreOpened devices (old.front).desks
+    ensures { (devices : List (ℕ × Declared)) (old new : Served) (entries : List (Entry FrontCall FrontReply)) (parts : List (List FrontPart)) → BeginsNew old → AreOpened devices (old.front).desks
         → HistoryGoes old entries parts new → GiveOwn (new.front).desks → HearBytes entries
         → EachAfter (AnswersSince (replies_read devices (deeds_of_calls parts []))) (deeds_of_calls parts []) }
 {}
 
 /// Where each refusal of a request that never came is the one that its device's removal or journal calls for, each completion is the answer to its key.
 pub fn answers_are_complete()
-    ensures { (devices : List (ℕ × Declared)) (old new : Served) (entries : List (Entry FrontCall FrontReply)) (parts : List (List Part)) → BeginsNew old → AreOpened devices (old.front).desks
+    ensures { (devices : List (ℕ × Declared)) (old new : Served) (entries : List (Entry FrontCall FrontReply)) (parts : List (List FrontPart)) → BeginsNew old → AreOpened devices (old.front).desks
         → HistoryGoes old entries parts new → GiveOwn (new.front).desks → HearBytes entries
         → EachAfter RefusesDirectly (deeds_of_calls parts []) → EachAfter (Answers (replies_read devices (deeds_of_calls parts []))) (deeds_of_calls parts []) }
 {}
