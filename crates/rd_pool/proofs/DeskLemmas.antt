@@ -6,7 +6,7 @@ use Rattle.std.proofs.lemmas.List.Elements.{All-cons, All-contains, All-contains
 use Rattle.std.proofs.lemmas.Slice.Zip.{all_zipped_more}
 use Rattle.rd_turn.specs.declared.object.Entry.{Entry}
 use Rattle.rd_turn.specs.History.{calls_of}
-use Rattle.rd_turn.specs.Pass.{Belongs, Called, GoesOn, HasAllCalls, IsSamePass, after_split, first_pass, max_made, new_pass}
+use Rattle.rd_turn.specs.Pass.{Belongs, Called, GoesOn, HasAllCalls, IsLongerOf, IsSamePass, after_split, first_pass, max_made, new_pass}
 use Rattle.rd_turn.proofs.HistoryLemmas.{Called-joined, Called-own, GoesOn-joined, GoesOn-own}
 use Rattle.rd_desk.specs.declared.calls.DeskCall.{DeskCall}
 use Rattle.rd_desk.specs.declared.calls.DeskReply.{DeskReply}
@@ -65,8 +65,9 @@ module _ {S : Type 0} where
   }
 
   pub is_joined : (turn : DeskTurn S) (p q new : DeskPass S) → Belongs turn p → Belongs turn new → (new.number ≡ 0) × (new.made ≡ p.made) × (suc new.out ≡ p.out)
-      → new.joined ≡ (q.number, length (calls_of q.number q.seen)) ∷ p.joined → calls_of q.number new.seen ≡ calls_of q.number q.seen → GoesOn p new → IsJoined (p, q) new
-  is_joined turn p q new old own counts joined calls on = record { turn = (own.0 ∙ sym old.0, own.1 ∙ sym old.1); counts = counts; joined = joined; other_calls = calls; goes_on = on }
+      → new.joined ≡ (q.number, length (calls_of q.number q.seen)) ∷ p.joined → IsLongerOf p.seen q.seen new.seen → calls_of q.number new.seen ≡ calls_of q.number q.seen → GoesOn p new → IsJoined (p, q) new
+  is_joined turn p q new old own counts joined longer calls on =
+      record { turn = (own.0 ∙ sym old.0, own.1 ∙ sym old.1); counts = counts; joined = joined; longer = longer; other_calls = calls; goes_on = on }
 
   -- the pass that a turn is made with
   pub made_first : (turn : DeskTurn S) → IsFirst turn (first_pass turn)

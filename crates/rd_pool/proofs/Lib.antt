@@ -1,3 +1,4 @@
 pub mod ZipLemmas
 pub mod DeskLemmas
+pub mod CallsLemmas
 pub mod MomentLemmas

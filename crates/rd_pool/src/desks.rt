@@ -1,11 +1,11 @@
 //! Desks, each behind a turn of its own.
 
-ghost use Rattle.std.specs.Prelude.{◌≡◌, ◌<◌, ◌≤◌, ◌++◌, ◌∷◌, ℕ, Option, [], suc, length, map, All, IfOk, IfErr, OnOk, OnErr, slice_get, slice_index_or, slice_set};
+ghost use Rattle.std.specs.Prelude.{◌≡◌, ◌<◌, ◌≤◌, ◌++◌, ◌∷◌, ℕ, List, Option, [], suc, length, map, All, IfOk, IfErr, OnOk, OnErr, slice_get, slice_index_or, slice_set};
 ghost use Rattle.std.specs.List.{AllZip, zip};
 ghost use Rattle.std.specs.VecDeque.{deque_capacity, deque_len};
 ghost use Rattle.rd_turn.specs.Pass.{Called, after_split, first_pass, max_made, new_pass};
 ghost use Rattle.rd_desk.specs.Desk.{runs_of};
-ghost use Rattle.rd_pool.specs.Desks.{DeskPass, DeskTurn, IsClosed, IsFirst, IsFresh, IsJoined, IsOther, KeepsMoment};
+ghost use Rattle.rd_pool.specs.Desks.{AllByHandBut, CameHome, DeskPass, DeskTurn, IsClosed, IsFirst, IsFresh, IsJoined, IsOther, KeepsMoment};
 
 use crate::passes::Passes;
 use rd_desk::{Desk, DeskCall, DeskReply};
@@ -66,6 +66,7 @@ impl<D: Device + Drop> Desks<D> {
         ensures unchanged { OnErr result ((self.new ≡ self.old) × (passes.new ≡ passes.old)) }
         ensures back { IfErr result (λ back. back ≡ station) }
         ensures moments { (told : Option ℕ) → All (KeepsMoment told) passes.old → All (KeepsMoment told) passes.new }
+        ensures by_hand { (number : ℕ) → All (AllByHandBut number) passes.old → All (AllByHandBut number) passes.new }
     {
         let more = self.turns.len() + 1;
         if self.ids.reserve(1).is_err()
@@ -140,6 +141,7 @@ impl<D: Device + Drop> Desks<D> {
         ensures fresh { IfOk result (λ new. AllZip IsFresh self.now.turns new) }
         ensures others { IfOk result (λ new. AllZip IsOther self.now.turns new) }
         ensures moments { (told : Option ℕ) → All (KeepsMoment told) passes.old → All (KeepsMoment told) passes.new }
+        ensures by_hand { (number : ℕ) → All (AllByHandBut number) passes.old → All (AllByHandBut number) passes.new }
         ensures new_moments { IfOk result (λ new. (told : Option ℕ) → All (KeepsMoment told) new) }
     {
         let mut list = VecDeque::with_capacity(alloc, passes.list.len())?;
@@ -155,8 +157,11 @@ impl<D: Device + Drop> Desks<D> {
         requires others { AllZip IsOther self.now.turns others }
         ensures first { AllZip IsFirst self.now.turns passes.new }
         ensures joined { AllZip IsJoined (zip passes.old others) passes.new }
+        ensures home { AllZip CameHome passes.new others }
+        ensures still_home { (earlier : List (DeskPass D)) → AllZip CameHome passes.old earlier → AllZip CameHome passes.new earlier }
         ensures out { map (λ p. suc p.out) passes.new ≡ map (λ p. p.out) passes.old }
         ensures moments { (told : Option ℕ) → All (KeepsMoment told) passes.old → All (KeepsMoment told) others → All (KeepsMoment told) passes.new }
+        ensures by_hand { (number : ℕ) → All (AllByHandBut number) passes.old → All (AllByHandBut number) others → All (AllByHandBut number) passes.new }
     {
         join_all(
             &self.turns,

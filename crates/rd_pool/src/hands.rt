@@ -4,7 +4,7 @@ ghost use Rattle.std.specs.Prelude.{◌≡◌, ◌≢◌, ◌<◌, ◌≤◌, �
 ghost use Rattle.std.specs.List.{AllZip};
 ghost use Rattle.std.specs.VecDeque.{deque_capacity, deque_len};
 ghost use Rattle.rd_turn.specs.Pass.{after_split, max_made, new_pass};
-ghost use Rattle.rd_pool.specs.Desks.{IsFirst, IsFresh, IsOther, KeepsMoment};
+ghost use Rattle.rd_pool.specs.Desks.{AllByHand, AllByHandBut, IsFirst, IsFresh, IsOther, KeepsMoment};
 
 use crate::bell::Bell;
 use crate::desks::Desks;
@@ -32,12 +32,13 @@ impl<'a, D: Device> Model for Hands<'a, D> {
     ghost use Rattle.std.specs.Prelude.{◌≡◌, ◌≢◌, ◌≤◌, List, [], All};
     ghost use Rattle.std.specs.VecDeque.{deque_capacity, deque_len};
     ghost use Rattle.rd_desk.specs.Hand.{HandState};
+    ghost use Rattle.rd_pool.specs.Desks.{AllByHand};
 
     ghost Value = { List (HandState D) };
 
     ghost view = { λ h. h.list.items };
 
-    ghost invariant = { λ h. (h.home.items ≡ []) × (h.room.items ≡ []) × (deque_len h.list ≤ deque_capacity h.home) × (deque_len h.list ≤ deque_capacity h.room) × All (λ hand. hand.pass.number ≢ 0) h.list.items };
+    ghost invariant = { λ h. (h.home.items ≡ []) × (h.room.items ≡ []) × (deque_len h.list ≤ deque_capacity h.home) × (deque_len h.list ≤ deque_capacity h.room) × All (λ hand. hand.pass.number ≢ 0) h.list.items × All (λ hand. AllByHand hand.pass) h.list.items };
 }
 
 impl<'a, D: Device + Drop> Hands<'a, D> {
@@ -54,6 +55,7 @@ impl<'a, D: Device + Drop> Hands<'a, D> {
         ensures turns { IfOk result (λ hands. map (λ hand. hand.turn) hands ≡ desks.now.turns) }
         ensures given { IfOk result (λ hands. map (λ hand. hand.pass) hands ≡ map new_pass passes.old) }
         ensures moments { (told : Option ℕ) → All (KeepsMoment told) passes.old → All (KeepsMoment told) passes.new }
+        ensures by_hand { (number : ℕ) → All (AllByHandBut number) passes.old → All (AllByHandBut number) passes.new }
         ensures new_moments { IfOk result (λ hands. (told : Option ℕ) → All (KeepsMoment told) (map (λ hand. hand.pass) hands)) }
     {
         let mut list = VecDeque::with_capacity(alloc, passes.list.len())?;
@@ -98,6 +100,7 @@ impl<'a, D: Device + Drop> Hands<'a, D> {
     pub fn into_passes(self) -> Passes<D>
         ensures same { result ≡ map (λ hand. hand.pass) self.entry }
         ensures others { AllZip IsOther (map (λ hand. hand.turn) self.entry) result }
+        ensures by_hand { (number : ℕ) → All (AllByHandBut number) result }
     {
         let Hands {
             list,
@@ -121,6 +124,7 @@ fn take_all<'a, D: Device>(
     ensures turns { map (λ hand. hand.turn) hands.new.items ≡ turns.now.items }
     ensures passes { map (λ hand. hand.pass) hands.new.items ≡ passes.old.items }
     ensures others { All (λ hand. hand.pass.number ≢ 0) hands.new.items }
+    ensures by_hand { All (λ hand. AllByHand hand.pass) hands.new.items }
     ensures none { passes.new.items ≡ [] }
     ensures capacity { deque_capacity passes.new ≡ deque_capacity passes.old }
 {

@@ -4,7 +4,7 @@ ghost use Rattle.std.specs.Prelude.{◌≡◌, ◌<◌, ◌≤◌, ◌+◌, ◌-
 ghost use Rattle.std.specs.List.{AllZip};
 ghost use Rattle.std.specs.Thread.{IsSend, IsSync};
 ghost use Rattle.rd_turn.specs.Pass.{after_split, max_made};
-ghost use Rattle.rd_pool.specs.Desks.{IsFirst, IsOther, KeepsMoment};
+ghost use Rattle.rd_pool.specs.Desks.{AllByHand, AllByHandBut, IsFirst, IsOther, KeepsMoment};
 
 use crate::bell::Bell;
 use crate::desks::Desks;
@@ -33,6 +33,7 @@ pub(crate) fn work_at<'a, D: Device, T: Wait, X: Outside>(
     ensures turn { hand.new.turn ≡ hand.old.turn }
     ensures number { hand.new.pass.number ≡ hand.old.pass.number }
     ensures moments { KeepsMoment (X.moment outside.now) hand.old.pass → KeepsMoment (X.moment outside.now) hand.new.pass }
+    ensures by_hand { AllByHand hand.old.pass → AllByHand hand.new.pass }
 {
     let mut batch = batch;
     for _ in rt.forever() {
@@ -66,6 +67,7 @@ fn work<'a, D: Device + Drop, T: Wait, X: Outside>(
     requires moments { All (KeepsMoment (X.moment outside.now)) (map (λ hand. hand.pass) hands) }
     ensures others { AllZip IsOther (map (λ hand. hand.turn) hands.entry) result }
     ensures moments { All (KeepsMoment (X.moment outside.entry.now)) result }
+    ensures by_hand { (number : ℕ) → All (AllByHandBut number) result }
 {
     let mut hands = hands;
     let mut batch = batch;
@@ -89,6 +91,7 @@ fn begin<'a, D: Device + Drop>(
     ensures turns { IfOk result (λ both. map (λ hand. hand.turn) both.0 ≡ desks.now.turns) }
     ensures none { IfOk result (λ both. both.1 ≡ []) }
     ensures moments { (told : Option ℕ) → All (KeepsMoment told) passes.old → All (KeepsMoment told) passes.new }
+    ensures by_hand { (number : ℕ) → All (AllByHandBut number) passes.old → All (AllByHandBut number) passes.new }
     ensures new_moments { IfOk result (λ both. (told : Option ℕ) → All (KeepsMoment told) (map (λ hand. hand.pass) both.0)) }
 {
     let batch = Batch::new(alloc)?;
@@ -123,6 +126,7 @@ pub fn with_workers<
     ensures first { AllZip IsFirst desks.now.turns result.1 }
     ensures out { map (λ p. p.out) result.1 ≡ map (λ p. p.out) passes }
     ensures moments { All (KeepsMoment (X.moment outside.now)) passes → All (KeepsMoment (X.moment outside.now)) result.1 }
+    ensures by_hand { (number : ℕ) → All (AllByHandBut number) passes → All (AllByHandBut number) result.1 }
 {
     if workers == 0 {
         return (part(), passes);
@@ -135,12 +139,13 @@ pub fn with_workers<
         rt,
         || -> Passes<D>
             requires { IsSync R.row × IsSync X.row × IsSend D.row × (batch ≡ []) × (bell.now ≡ length hands) × (length hands ≤ writer.now) × All (KeepsMoment (X.moment outside.now)) (map (λ hand. hand.pass) hands) }
-            ensures { AllZip IsOther (map (λ hand. hand.turn) hands.entry) result × All (KeepsMoment (X.moment outside.entry.now)) result }
+            ensures { AllZip IsOther (map (λ hand. hand.turn) hands.entry) result × All (KeepsMoment (X.moment outside.entry.now)) result × ((number : ℕ) → All (AllByHandBut number) result) }
         { work(rt, outside, bell, writer, hands, batch) },
         || -> (B, Passes<D>)
             requires { IsSync R.row × IsSync X.row × IsSend D.row × AllZip IsFirst desks.now.turns passes × All (λ p. p.made + (workers - 1) < max_made) passes × (bell.now ≡ length desks.now.turns) × (length desks.now.turns ≤ writer.now) × F.pre part × (0 < workers) }
             ensures { F.post part result.0 × AllZip IsFirst desks.entry.now.turns result.1 × (map (λ p. p.out) result.1 ≡ map (λ p. p.out) passes)
-                × (All (KeepsMoment (X.moment outside.entry.now)) passes → All (KeepsMoment (X.moment outside.entry.now)) result.1) }
+                × (All (KeepsMoment (X.moment outside.entry.now)) passes → All (KeepsMoment (X.moment outside.entry.now)) result.1)
+                × ((number : ℕ) → All (AllByHandBut number) passes → All (AllByHandBut number) result.1) }
         {
             with_workers(
                 rt,

@@ -32,7 +32,7 @@ loop-pass-preserved g c =
     record {
       joined = zips_next IsJoined (zip c.args.from.now.items c.args.others.now.items) (zip c.loop-pass.from.items c.loop-pass.others.items) (zip ps qs) c.loop-pass.to.items c.push_back_reserved.new.self.items
           (p, q) c.join.new.pass (zip_cons p ps c.loop-pass.from.items q qs c.loop-pass.others.items passes others) c.push_back_reserved.ensures.items
-          (is_joined t p q c.join.new.pass first.0.own own c.join.ensures.counts c.join.ensures.joined c.join.ensures.other_calls c.join.ensures.goes_on) kept.joined;
+          (is_joined t p q c.join.new.pass first.0.own own c.join.ensures.counts c.join.ensures.joined c.join.ensures.longer c.join.ensures.other_calls c.join.ensures.goes_on) kept.joined;
       ready = zips_next IsFirst turns (drop at turns) (drop (at + 1) turns) c.loop-pass.to.items c.push_back_reserved.new.self.items t c.join.new.pass
           (drop_more turns at c.index.result.now (zip_within IsFirst turns at p ps c.loop-pass.from.items passes kept.first)) c.push_back_reserved.ensures.items
           (joined_first t p q c.join.new.pass first.0 other.0 own c.join.ensures.counts.0 c.join.ensures.joined c.join.ensures.other_calls c.join.ensures.goes_on) kept.ready;

@@ -1,7 +1,8 @@
 use Rattle.std.proofs.Common.{rules, ◌≡◌, ◌≢◌, ◌∙◌, subst, sym, ◌+◌, [], ◌∷◌, drop, get_or}
 use Rattle.std.proofs.lemmas.List.{drop_more}
 use Rattle.rd_desk.specs.Hand.{HandState}
-use Rattle.rd_pool.specs.Desks.{DeskPass, IsFresh}
+use Rattle.rd_pool.specs.Desks.{DeskPass, IsFresh, IsByHand, AllByHand}
+use Rattle.rd_pool.proofs.CallsLemmas.{new_holds}
 use Rattle.rd_pool.proofs.ZipLemmas.{all_next, mapped_all, mapped_next, zip_here, zip_none, zip_within}
 use Rattle.rd_pool.proofs.hands.take_all.Goals as goal
 
@@ -24,6 +25,8 @@ loop-pass-preserved g c =
       fresh = first.1;
       others = all_next (λ (hand : HandState g.row.D.Denot). hand.pass.number ≢ 0) hands next c.new.result c.push_back_reserved.ensures.items
           (subst (λ (q : DeskPass g.row.D.Denot). q.number ≢ 0) (sym c.new.ensures.1) first.0.number) kept.others;
+      by_hand = all_next (λ (hand : HandState g.row.D.Denot). AllByHand hand.pass) hands next c.new.result c.push_back_reserved.ensures.items
+          (subst AllByHand (sym c.new.ensures.1) (new_holds IsByHand (get_or turns at d) p first.0)) kept.by_hand;
       room = search rules;
       capacity = search rules;
     }

@@ -5,7 +5,8 @@ use Rattle.rd_turn.specs.History.{Leads}
 use Rattle.rd_desk.specs.Desk.{DeskStep}
 use Rattle.rd_desk.proofs.StepLemmas.{led_reached, led_steps}
 use Rattle.rd_desk.proofs.RunLemmas.{history_own, history_then, history_tied}
-use Rattle.rd_pool.proofs.MomentLemmas.{all_keep}
+use Rattle.rd_pool.specs.Desks.{GivesThen}
+use Rattle.rd_pool.proofs.CallsLemmas.{all_hold}
 use Rattle.rd_pool.proofs.laws.stations_are_as_their_calls_left_them.Goals as goal
 
 pub returns-clause-steps : goal.returns-clause-steps
@@ -26,4 +27,4 @@ returns-clause-tied g c step cut device turn p s by none opened is =
     (subst (λ (o : StationState g.row.D.Denot). Leads (DeskStep g.D.Device.runs g.D.Device.parked g.D.Device.cuts) o p.seen s) opened is.leads) is.numbers is.gives
 
 pub returns-clause-moments : goal.returns-clause-moments
-returns-clause-moments g c told turn p s is keeps = history_then told g.D.Device.runs g.D.Device.parked g.D.Device.cuts turn.opening s p.seen p.made is.leads is.numbers (all_keep (Some told) p is.number keeps is.all)
+returns-clause-moments g c told turn p s is keeps = history_then told g.D.Device.runs g.D.Device.parked g.D.Device.cuts turn.opening s p.seen p.made is.leads is.numbers (all_hold (GivesThen (Some told)) p is.number keeps is.all)

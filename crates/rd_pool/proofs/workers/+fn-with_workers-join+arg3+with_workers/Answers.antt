@@ -5,7 +5,7 @@ use Rattle.std.proofs.lemmas.List.{length-map}
 use Rattle.std.proofs.lemmas.List.Elements.{All-same}
 use Rattle.rd_turn.specs.Pass.{after_split, max_made}
 use Rattle.rd_desk.specs.Hand.{HandState}
-use Rattle.rd_pool.specs.Desks.{DeskPass, DeskTurn, IsFirst, IsOther, KeepsMoment}
+use Rattle.rd_pool.specs.Desks.{DeskPass, DeskTurn, IsFirst, IsOther, KeepsMoment, AllByHandBut}
 use Rattle.rd_pool.proofs.DeskLemmas.{outs_home, still_few, still_first}
 use Rattle.rd_pool.proofs.workers.+fn-with_workers-join+arg3+with_workers.Goals as goal
 
@@ -40,3 +40,9 @@ returns-clause-moments g n c keeps =
     let others : All (KeepsMoment told) c.join-others.result.0 = search rules in
     let home : All (KeepsMoment told) c.begin.new.passes → All (KeepsMoment told) c.join-others.result.1.1 = search rules in
     c.join.ensures.moments told (home (c.begin.ensures.moments told keeps)) others
+
+pub returns-clause-by_hand : goal.returns-clause-by_hand
+returns-clause-by_hand g n c number puts =
+    let others : All (AllByHandBut number) c.join-others.result.0 = c.join-others.ensures.first.2 number in
+    let home : All (AllByHandBut number) c.begin.new.passes → All (AllByHandBut number) c.join-others.result.1.1 = c.join-others.ensures.second.4 number in
+    c.join.ensures.by_hand number (home (c.begin.ensures.by_hand number puts)) others

@@ -3,7 +3,7 @@ use Rattle.std.specs.Prelude.{All}
 use Rattle.rd_turn.specs.History.{calls_of}
 use Rattle.rd_desk.specs.Batch.{jobs_of}
 use Rattle.rd_desk.specs.Own.{HasMoment, WereGiven}
-use Rattle.rd_pool.specs.Desks.{KeepsMoment}
+use Rattle.rd_pool.specs.Desks.{KeepsMoment, AllByHand}
 use Rattle.rd_pool.proofs.workers.work_at.Given as goal
 
 abbrev pub invariant-loop : goal.invariant-loop
@@ -13,4 +13,5 @@ invariant-loop g l = record {
   number : l.hand.pass.number ≡ l.initial.hand.pass.number;
   batch : All (HasMoment (g.X.Outside.moment l.outside)) l.batch;
   moments : KeepsMoment (g.X.Outside.moment l.outside) l.initial.hand.pass → KeepsMoment (g.X.Outside.moment l.outside) l.hand.pass;
+  by_hand : AllByHand l.initial.hand.pass → AllByHand l.hand.pass;
 }

@@ -1,7 +1,7 @@
 use Rattle.std.proofs.Common.{rules, ◌≡◌, ◌∙◌, ap, ℕ, List, [], ◌∷◌, ◌++◌}
-use Rattle.rd_pool.specs.Desks.{DeskPass, DeskTurn, DesksState}
+use Rattle.rd_pool.specs.Desks.{DeskPass, DeskTurn, DesksState, GivesThen, IsByHandBut}
 use Rattle.rd_pool.proofs.DeskLemmas.{desks_same, more_first}
-use Rattle.rd_pool.proofs.MomentLemmas.{first_keeps}
+use Rattle.rd_pool.proofs.CallsLemmas.{first_holds}
 use Rattle.rd_pool.proofs.desks.Desks.add.Goals as goal
 
 pub returns-clause-added : goal.returns-clause-added
@@ -27,4 +27,9 @@ returns-clause-first g c =
 pub returns-clause-moments : goal.returns-clause-moments
 returns-clause-moments g c told =
     let added : c.add.new.self ≡ c.args.passes.now ++ c.in-Ok.both.1 ∷ [] = search rules in
-    first_keeps told c.in-Ok.both.0 c.args.passes.now c.add.new.self c.in-Ok.both.1 added c.in-Ok.ensures.pass
+    first_holds (GivesThen told) c.in-Ok.both.0 c.args.passes.now c.add.new.self c.in-Ok.both.1 added c.in-Ok.ensures.pass
+
+pub returns-clause-by_hand : goal.returns-clause-by_hand
+returns-clause-by_hand g c number =
+    let added : c.add.new.self ≡ c.args.passes.now ++ c.in-Ok.both.1 ∷ [] = search rules in
+    first_holds (IsByHandBut number) c.in-Ok.both.0 c.args.passes.now c.add.new.self c.in-Ok.both.1 added c.in-Ok.ensures.pass

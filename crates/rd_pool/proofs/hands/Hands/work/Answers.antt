@@ -1,11 +1,30 @@
-use Rattle.std.proofs.Common.{◌≡◌, ◌∙◌, ap, subst, sym, ℕ, ◌<◌, List, length, get_or, set, map}
+use Rattle.std.proofs.Common.{◌≡◌, ◌≢◌, ◌∙◌, ap, subst, sym, ℕ, ◌<◌, List, length, get_or, set, map}
 use Rattle.std.specs.Prelude.{All}
 use Rattle.std.proofs.lemmas.List.{get_or-map, length-map, map-set}
 use Rattle.std.proofs.lemmas.List.Elements.{All-same, All-set}
 use Rattle.rd_desk.specs.Hand.{HandState}
-use Rattle.rd_pool.specs.Desks.{KeepsMoment}
+use Rattle.rd_pool.specs.Desks.{AllByHand, KeepsMoment}
 use Rattle.rd_pool.proofs.ZipLemmas.{map_set}
 use Rattle.rd_pool.proofs.hands.Hands.work.Goals as goal
+
+pub invariant_of-self : goal.invariant_of-self
+invariant_of-self g c =
+    let Other = λ (hand : HandState g.row.D.Denot). hand.pass.number ≢ 0 in
+    let Hands = λ (hand : HandState g.row.D.Denot). AllByHand hand.pass in
+    let kept = c.self.invariant in
+    let hands = c.self.inside.list.items in
+    let at = c.args.place in
+    let hand = c.index_mut.result.now in
+    let within : at < length hands = subst (λ (l : List (HandState g.row.D.Denot)). at < length l) (sym c.self.view_is) c.requires.place.0 in
+    let other : Other hand = subst Other (sym c.index_mut.ensures.value) (kept.4 at hand within) in
+    let by_hand : AllByHand hand.pass = subst Hands (sym c.index_mut.ensures.value) (kept.5 at hand within) in (
+      kept.0,
+      kept.1,
+      kept.2,
+      kept.3,
+      All-set Other hands at c.work_at.new.hand (subst (λ (n : ℕ). n ≢ 0) (sym c.work_at.ensures.number) other) kept.4,
+      All-set Hands hands at c.work_at.new.hand (c.work_at.ensures.by_hand by_hand) kept.5,
+    )
 
 pub returns-clause-turns : goal.returns-clause-turns
 returns-clause-turns g c =
