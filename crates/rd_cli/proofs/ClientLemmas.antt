@@ -12,7 +12,7 @@ use Rattle.rd_cli.specs.Reading.{GivesBadLine, StopsForScript}
 use Rattle.rd_cli.specs.Stops.{StopsWith, long_line}
 use Rattle.rd_cli.specs.declared.stop.Stop.{Stop}
 use Rattle.rd_cli.specs.declared.stop.Stop.TheVariants as stop
-use Rattle.rd_cli.specs.Client.{EndsServed, FailedToReadClient, FailedToTell, IsEndOfClient, IsUnserved, RefusesClient, SaysChannel, ServedAndPrinted, ServedAndSaid, ServedScript, StarvedServing}
+use Rattle.rd_cli.specs.Client.{EndsServed, FailedToReadClient, FailedToTell, IsEndOfClient, ServedNothing, RefusesClient, SaysChannel, ServedAndPrinted, ServedAndSaid, ServedScript, StarvedServing}
 use Rattle.rd_cli.proofs.ReadingLemmas.{script_not_bad, whole_not_bad}
 
 -- ---- the end, by the status
@@ -172,7 +172,7 @@ module _ {S K L : Type 0} (input input_after : Stream S) (output output_after : 
   served_end ended.Memory session starved = after_session ended.Memory session starved.0 starved.1
 
   -- How the command ends where there was no session, from why its script wasn't read and what was said of that.
-  pub stopped_end : (s : Stop) → StopsForScript mode.Client input input_after s → IsUnserved linked linked_after books → StopsWith s output output_after status
+  pub stopped_end : (s : Stop) → StopsForScript mode.Client input input_after s → ServedNothing linked linked_after books → StopsWith s output output_after status
       → IsEndOfClient input input_after output output_after linked linked_after books status
   stopped_end (stop.Line line cause) reads unserved (inl said) =
       refused_end said.0 (record { bad = record { line = line; why = cause }; reads = reads; says = inl (refl, said.1); unserved = unserved })

@@ -9,7 +9,9 @@ use Rattle.rd_script.specs.declared.keyword.Mode.TheVariants as mode
 use Rattle.rd_script.specs.declared.script.Script.{Script}
 use Rattle.rd_script.specs.Report.{device_lines}
 use Rattle.rd_script.specs.Script.{BadLine}
+use Rattle.rd_workers.specs.Books.{AreLawfulBooks}
 use Rattle.rd_workers.specs.Faults.{TellsFaults}
+use Rattle.rd_workers.specs.Served.{HasServedLines}
 use Rattle.rd_cli.specs.Outside.{FailedToWrite, HasOneFault, IsFaultless, Linked, Stream, Wrote}
 use Rattle.rd_cli.specs.Reading.{GivesBadLine, GivesScript, ReadsBadLine, ReadsScript}
 use Rattle.rd_cli.specs.Stops.{Says, StopsWith, channel_line, last_line, long_line, status_of}
@@ -57,6 +59,9 @@ EndsServed lines e before after status = EndsPrinted (lines ++ line_after (stop_
 
 -- What holds of a session of a script's devices that came to this end, and of the books that it left.
 pub record Served {L : Type 0} (script : Script) (linked linked_after : Linked L) (books : List (ℕ × History)) (e : Ended) : Type 0 where
+  -- by one history of the front over the script's devices: what was read on each channel was heard, and what was handed out is what was written
+  pub channels : HasServedLines script.lines e linked.links linked_after.links
+  pub lawful : AreLawfulBooks books
   pub faults : TellsFaults e linked.failures linked_after.failures linked.trouble linked_after.trouble
 
 -- The input was read to its end and is a client's script, whose devices were served, to this end.
@@ -91,27 +96,27 @@ pub record SaysChannel {S K L : Type 0} (input input_after : Stream S) (output o
 -- ---- the end
 
 -- nothing was connected, and no journal was stored
-abbrev pub IsUnserved : {L : Type 0} → (linked linked_after : Linked L) → List (ℕ × History) → Type 0
-IsUnserved linked linked_after books = (linked_after ≡ linked) × (books ≡ [])
+abbrev pub ServedNothing : {L : Type 0} → (linked linked_after : Linked L) → List (ℕ × History) → Type 0
+ServedNothing linked linked_after books = (linked_after ≡ linked) × (books ≡ [])
 
 -- The script was refused for a line, and nothing was connected. The output says so, unless the write of that failed.
 pub record RefusesClient {S K L : Type 0} (input input_after : Stream S) (output output_after : Stream K) (linked linked_after : Linked L) (books : List (ℕ × History)) : Type 0 where
   pub bad : BadLine
   pub reads : ReadsBadLine mode.Client input input_after bad
   pub says : StopsWith (stop.Line bad.line bad.why) output output_after 1
-  pub unserved : IsUnserved linked linked_after books
+  pub unserved : ServedNothing linked linked_after books
 
 -- The input failed, and nothing else was done.
 pub record FailedToReadClient {S K L : Type 0} (input input_after : Stream S) (output output_after : Stream K) (linked linked_after : Linked L) (books : List (ℕ × History)) : Type 0 where
   pub fault : HasOneFault input input_after
   pub unprinted : output_after ≡ output
-  pub unserved : IsUnserved linked linked_after books
+  pub unserved : ServedNothing linked linked_after books
 
 -- Memory ran out, and nothing was printed: before anything was connected, or after the script was read, in its session or behind it.
 pub record StarvedServing {S K L : Type 0} (input input_after : Stream S) (output output_after : Stream K) (linked linked_after : Linked L) (books : List (ℕ × History)) : Type 0 where
   pub faultless : IsFaultless input input_after
   pub unprinted : output_after ≡ output
-  pub session : IsUnserved linked linked_after books ⊎ ((e : Ended) × ServedScript input input_after linked linked_after books e)
+  pub session : ServedNothing linked linked_after books ⊎ ((e : Ended) × ServedScript input input_after linked linked_after books e)
 
 -- How the command ends with a status. The first of these events ends it, and nothing else gives its status.
 pub record IsEndOfClient {S K L : Type 0} (input input_after : Stream S) (output output_after : Stream K) (linked linked_after : Linked L) (books : List (ℕ × History)) (status : ℕ) : Type 0 where

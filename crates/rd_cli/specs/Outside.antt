@@ -1,5 +1,6 @@
 -- What a command works on outside the program.
 use Rattle.std.specs.Prelude.{ℕ, List, Option}
+use Rattle.rd_link.specs.Links.{Links}
 pub use Rattle.rd_decode.specs.Streams.{FailedToWrite, HasOneFault, IsFaultless, Read, ReadToEnd, Stream, Wrote, stream}
 
 -- an input, an output and a recording
@@ -19,12 +20,13 @@ pub record AreFaultless {S K R : Type 0} (before after : Outside S K R) : Type 0
   pub output : IsFaultless before.output after.output
   pub recording : IsFaultless before.recording after.recording
 
--- What gives the channels of a client: itself, and its counts of channels that couldn't be had, and of faults on channels.
+-- What gives the channels of a client: itself, what it tells of them, where it can, and its counts of channels that couldn't be had, and of faults on channels.
 pub record Linked (L : Type 0) : Type 0 where
   pub itself : L
+  pub links : Option Links
   pub failures : ℕ
   pub trouble : ℕ
 
 -- what gives the channels, by what its trait tells of it
-abbrev pub linked_by : {L : Type 0} → (L → ℕ) → (L → ℕ) → L → Linked L
-linked_by failures trouble itself = record { itself = itself; failures = failures itself; trouble = trouble itself }
+abbrev pub linked_by : {L : Type 0} → (L → Option Links) → (L → ℕ) → (L → ℕ) → L → Linked L
+linked_by links failures trouble itself = record { itself = itself; links = links itself; failures = failures itself; trouble = trouble itself }

@@ -1,5 +1,5 @@
 -- What each part of a call does, a call does.
-use Rattle.std.proofs.Common.{◌≡◌, sym, subst, ℕ, zero, suc, Bool, true, false, not, ◌&&◌, List, [], ◌∷◌, Option, Some, None, length, nat_lt}
+use Rattle.std.proofs.Common.{◌≡◌, sym, subst, ℕ, zero, suc, ◌==◌, Bool, true, false, not, ◌&&◌, List, [], ◌∷◌, Option, Some, None, length, nat_lt}
 use Rattle.std.specs.Prelude.{Result, Ok, Err}
 use Rattle.std.specs.declared.alloc.AllocError.{AllocError}
 use Rattle.std.specs.List.{AllZip}
@@ -206,7 +206,7 @@ module _ (R : FrontState → FrontState → Type 0) (by : Carries R) where
   one_call old (call.Hear message) back new did = unless_full old back new _ (λ (d : FrontHears old message back new).
       by.joins old d.1 new (by.hears_by old d.1 message d.0 d.2) (follows_from (is_front_ready old) d.1 d.0 back new d.3)) (may_hear old) did
   one_call old call.Retry back new did = unless_full old back new _ (retries old old.kept back new) old.on did
-  one_call old (call.Next place room) back new did = hands old place room back new did
+  one_call old (call.Next channel place room) back new did = where_fits (channel == old.channel) _ back old new _ (hands old place room back new) did
   one_call old (call.Remove device) back new did = unless_full old back new _ (λ (d : FrontRemoves old device back new).
       by.joins old d.1 new (by.removes_by old d.1 device d.0 d.2) (removes d.1 device d.0 back new d.3)) (may_remove old device) did
   one_call old (call.Add device) back new did = unless_full old back new _ (λ (d : FrontAdds old device back new).

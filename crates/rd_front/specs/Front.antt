@@ -387,6 +387,10 @@ Hands old place room (reply.Messages filled left) new =
     (filled.places ≡ room.places) × Fills room.places old place filled.messages left new
 Hands old place room _ new = ⊥
 
+-- the reply where another channel began last: no messages
+abbrev pub none_for : MessageRoom → FrontReply
+none_for room = reply.Messages (record room { messages = [] }) rest.Nothing
+
 -- The front before a call, and after it.
 abbrev pub FrontStep : FrontState → FrontCall → FrontReply → FrontState → Type 0
 FrontStep old (call.Begin channel) back new = Where (may_begin old channel) reply.Refused back old new (FrontBegins old channel back new)
@@ -394,7 +398,7 @@ FrontStep old (call.Hear message) back new =
     Where (may_hear old) reply.Refused back old new (Where (not (is_front_full old)) reply.Full back old new (FrontHears old message back new))
 FrontStep old call.Retry back new =
     Where old.on reply.Refused back old new (Where (not (is_front_full old)) reply.Full back old new (FrontRetries old old.kept back new))
-FrontStep old (call.Next place room) back new = Hands old place room back new
+FrontStep old (call.Next channel place room) back new = Where (channel == old.channel) (none_for room) back old new (Hands old place room back new)
 FrontStep old (call.Remove device) back new =
     Where (may_remove old device) reply.Refused back old new (Where (not (is_front_full old)) reply.Full back old new (FrontRemoves old device back new))
 FrontStep old (call.Add device) back new =

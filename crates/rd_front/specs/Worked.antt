@@ -49,7 +49,7 @@ worked_history =
     ∷ entry 1 (call.Hear confirmed) done
     ∷ entry 1 (call.Hear logged_on) done
     ∷ entry 1 (call.Hear (close_bytes 5)) done
-    ∷ entry 2 (call.Next 0 (room_of [])) (reply.Messages (room_of written_first) rest.Nothing)
+    ∷ entry 2 (call.Next 1 0 (room_of [])) (reply.Messages (room_of written_first) rest.Nothing)
     ∷ entry 1 call.Look (reply.Stands true 1)
     ∷ entry 1 (call.Remove 7) reply.Refused
     ∷ entry 1 call.EndChannel done

@@ -13,8 +13,13 @@ pub enum FrontCall {
     Hear(Bytes),
     /// The job that is kept back is tried once more.
     Retry,
-    /// Messages to be written, as many as there is room for: those of the core first, and then completions of the desk at this place.
-    Next { place: usize, room: Room },
+    /// Messages to be written on the channel of this number, as many as there is room for: those of the core first, and then completions of the desk at
+    /// this place. There are none where another channel began last.
+    Next {
+        channel: u32,
+        place: usize,
+        room: Room,
+    },
     /// The host is told that a device is gone.
     Remove(u32),
     /// The host is told that a device is there again.

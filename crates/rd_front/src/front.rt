@@ -68,7 +68,11 @@ impl<'a, T: Wait> Object for Front<'a, T> {
             FrontCall::Begin(channel) => self.begin(channel),
             FrontCall::Hear(message) => self.hear(message.as_slice()),
             FrontCall::Retry => self.retry(),
-            FrontCall::Next { place, room } => self.next(place, room),
+            FrontCall::Next {
+                channel,
+                place,
+                room,
+            } => self.next(channel, place, room),
             FrontCall::Remove(device) => self.remove(device),
             FrontCall::Add(device) => self.add(device),
             FrontCall::Look => self.look(),

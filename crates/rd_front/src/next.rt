@@ -28,11 +28,17 @@ pub enum Got {
 }
 
 impl<'a, T: Wait> Front<'a, T> {
-    /// Messages to be written, as many as there is room for.
-    pub(crate) fn next(&mut self, place: usize, mut room: Room) -> FrontReply
-        ensures { FrontStep self.old (Call.Next place room) result self.new }
+    /// Messages to be written on a channel, as many as there is room for.
+    pub(crate) fn next(&mut self, channel: u32, place: usize, mut room: Room) -> FrontReply
+        ensures { FrontStep self.old (Call.Next channel place room) result self.new }
     {
         room.clear();
+        if channel != self.channel {
+            return FrontReply::Messages {
+                room,
+                rest: Rest::Nothing,
+            };
+        }
         let rest = self.fill(place, &mut room);
         FrontReply::Messages { room, rest }
     }

@@ -25,7 +25,11 @@ fn a_channel_begins_beside_the_writer(rt: HostRuntime) -> Result<(), Fail> {
     };
     let client = Client::new(alloc, DeviceList::of(Vec::new(alloc)))?;
     let room = Room::new(alloc, 4)?;
-    let next = FrontCall::Next { place: 0, room };
+    let next = FrontCall::Next {
+        channel: 1,
+        place: 0,
+        room,
+    };
     let (began, given, pass) = on_one_desk(
         &rt,
         alloc,

@@ -775,7 +775,7 @@ history_caused (e ∷ entries) (ps ∷ parts) p q deeds goes keyed told = (
 
 -- ---- the beginning
 
-new_at : (ds : List DeviceDeskState) (ss : List Of) → AllByRecursion IsNewDesk ds → AreStationed ds ss → (place : ℕ) (d : DeviceDeskState) (s : Of) → slice_get ds place ≡ Some d → slice_get ss place ≡ Some s → (is : IsNewDesk d) × (s ≡ new_station is.device)
+pub new_at : (ds : List DeviceDeskState) (ss : List Of) → AllByRecursion IsNewDesk ds → AreStationed ds ss → (place : ℕ) (d : DeviceDeskState) (s : Of) → slice_get ds place ≡ Some d → slice_get ss place ≡ Some s → (is : IsNewDesk d) × (s ≡ new_station is.device)
 new_at [] [] is at place d s there has = absurd (cc (there))
 new_at [] (t ∷ ss) is at place d s there has = absurd at
 new_at (e ∷ ds) [] is at place d s there has = absurd at

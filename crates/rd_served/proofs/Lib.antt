@@ -3,6 +3,7 @@ pub mod CauseLemmas
 pub mod ChannelLemmas
 pub mod ComesLemmas
 pub mod DeedLemmas
+pub mod DeviceLemmas
 pub mod HeldLemmas
 pub mod KeyLemmas
 pub mod LiftLemmas

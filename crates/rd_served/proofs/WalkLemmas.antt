@@ -1,8 +1,8 @@
 -- Each call of a front is its parts, with the stations that its desks have then.
-use Rattle.std.proofs.Common.{◌≡◌, ◌∙◌, refl, sym, ap, subst, inl, inr, ℕ, zero, suc, ◌<◌, ◌+◌, ◌==◌, Bool, true, false, not, ◌&&◌, List, [], ◌∷◌, ◌++◌, Option, Some, None, length, nat_lt, slice_get, slice_set, eqb-true}
-use Rattle.std.specs.Prelude.{Result, Ok, Err, filter_map}
+use Rattle.std.proofs.Common.{◌≡◌, ◌⊎◌, ◌∙◌, refl, sym, ap, subst, inl, inr, ℕ, zero, suc, ◌<◌, ◌+◌, ◌==◌, Bool, true, false, not, ◌&&◌, ◌||◌, List, [], ◌∷◌, ◌++◌, Option, Some, None, length, nat_lt, slice_get, slice_set, eq-eqb, eqb-true}
+use Rattle.std.specs.Prelude.{Result, Ok, Err, cond, filter_map, is_none}
 use Rattle.std.specs.declared.alloc.AllocError.{AllocError}
-use Rattle.std.specs.List.{AllZip}
+use Rattle.std.specs.List.{AllByRecursion, AllZip, cons_option, list_any}
 use Rattle.std.specs.Map.{lookup}
 use Rattle.std.specs.Option.{option_map_or}
 use Rattle.std.specs.Ordering.{nat_cmp}
@@ -15,7 +15,8 @@ use Rattle.rd_base.specs.declared.journal.Item.{Item}
 use Rattle.rd_base.specs.declared.journal.Key.{Key}
 use Rattle.rd_base.specs.declared.status.Status.{Status}
 use Rattle.rd_client.specs.Core as client
-use Rattle.rd_client.specs.Core.{ClientCoreState, Outgoing, is_gone, may_be_asked, plain}
+use Rattle.rd_client.specs.Order.{is_client_ready}
+use Rattle.rd_client.specs.Core.{ClientCoreState, ClientDevice, Outgoing, has_device, is_device, is_gone, max_asked, may_be_asked, plain, tell_added, tell_removed}
 use Rattle.rd_client.specs.declared.heard.Heard.{Heard}
 use Rattle.rd_client.specs.declared.heard.Heard.TheVariants.{Nothing, Ask, Print}
 use Rattle.rd_core.specs.Core as core
@@ -25,7 +26,7 @@ use Rattle.rd_desk.specs.declared.calls.DeskReply.{DeskReply}
 use Rattle.rd_desk.specs.declared.calls.DeskReply.TheVariants as replied
 use Rattle.rd_devices.specs.Removal.{removal_bytes}
 use Rattle.rd_drive.specs.declared.plan.Job.{Job}
-use Rattle.rd_front.specs.Front.{AddsBy, AddsIf, Announces, AnnouncesOne, AnnouncesUnless, AnswersDirectly, BeginsIf, ChannelEnds, ClientDoes, Collects, CutsAt, DeskDoes, Each, EndsBy, Fills, FillsBy, FollowsFrom, FrontAdds, FrontBegins, FrontHears, FrontRemoves, FrontRetries, FrontStep, GivesBy, GivesCollected, GivesNext, Hands, HeardBy, OpeningEnds, PutBy, Puts, PutsIf, Refreshes, RefreshesOne, RefusedPut, RemovesBy, Sends, SessionEnds, Then, Where, begun, desk_place, done_at, done_if, done_where, end_call, is_front_full, is_front_ready, is_told_there, may_add, may_begin, may_hear, may_remove, most_written, one_if_done, with_new_data}
+use Rattle.rd_front.specs.Front.{AddsBy, AddsIf, Announces, AnnouncesOne, AnnouncesUnless, AnswersDirectly, BeginsIf, ChannelEnds, ClientDoes, Collects, CutsAt, DeskDoes, Each, EndsBy, Fills, FillsBy, FollowsFrom, FrontAdds, FrontBegins, FrontHears, FrontRemoves, FrontRetries, FrontStep, GivesBy, GivesCollected, GivesNext, Hands, HeardBy, OpeningEnds, PutBy, Puts, PutsIf, Refreshes, RefreshesOne, RefusedPut, RemovesBy, Sends, SessionEnds, Then, Where, begun, desk_place, done_at, done_if, done_where, end_call, is_announced, is_front_full, is_front_ready, is_told_there, may_add, may_begin, may_hear, may_remove, most_written, none_for, one_if_done, with_new_data}
 use Rattle.rd_front.specs.Room.{MessageRoom}
 use Rattle.rd_front.specs.State.{DeviceDeskState, FrontState, IsCalled, SessionStation}
 use Rattle.rd_front.specs.declared.calls.FrontCall.{FrontCall}
@@ -48,9 +49,10 @@ use Rattle.rd_world.specs.Devices.{PrinterNames, printer_data}
 use Rattle.rd_world.specs.Events.{completion_message}
 use Rattle.rd_world.specs.Talk.{Has}
 use Rattle.rd_world.specs.World.{Kept}
-use Rattle.rd_served.specs.Histories.{Among, AreStationed, CallGoes, HearsAs, HistoryGoes, IsHeardBy, RanOut, handed_out}
-use Rattle.rd_served.specs.Parts.{AsksBy, Comes, EndsEach, FitsCall, MayBeDirect, IsOpenCall, MayForget, FrontPart, PartGoes, PartsGo, asking_by, begins, calls, directs, duplicate_by, duplicate_of, ended_front, ends, forgets, handed_by, heard_in, hears, is_lost, is_unfit, keeps, learns, misplaces, refreshes, sends, tells_gone, tells_there, tries, unwritten, writes}
+use Rattle.rd_served.specs.Histories.{Among, AreFollowed, AreStationed, CallGoes, FollowsAt, HearBefore, HearsAs, HearsBefore, HistoryGoes, IsFollowed, IsHeardBy, OpensEach, RanOut, StartsBy, handed_out, hinders, may_start, stopped_by}
+use Rattle.rd_served.specs.Parts.{AsksBy, Comes, EndsEach, FitsCall, MayBeDirect, IsOpenCall, MayForget, FrontPart, PartGoes, PartsGo, announced_by, asking_by, begins, begun_by, calls, cut_by, directs, duplicate_by, duplicate_of, ended_front, ends, forgets, handed_by, heard_in, hears, is_lost, is_present_as, is_start, tells_device, is_unfit, keeps, learns, misplaces, refreshes, sends, stops, tells_gone, tells_there, tries, unwritten, writes}
 use Rattle.rd_served.specs.Served.{Asking, IsStationed, Served, asks, hands, idle, refused}
+use Rattle.rd_served.proofs.DeviceLemmas.{gone_marked, place_same, present_marked}
 use Rattle.rd_served.proofs.LiftLemmas.{lifted}
 
 abbrev Of : Type 0
@@ -72,17 +74,38 @@ marked_by _ = None
 abbrev pub served : FrontState → Asking → List Of → Served
 served s asking stations = record { front = s; asking = asking; stations = stations }
 
--- What was done between two fronts, by the stations after it.
-pub record Came (p : FrontState) (a : Asking) (written : Marks) (heard : Messages) (q : FrontState) (b : Asking) (after : List Of) : Type 0 where
+-- What was done between two fronts, by the stations after it. This holds of each part.
+pub record Came (Only : FrontPart → Type 0) (p : FrontState) (a : Asking) (written : Marks) (heard : Messages) (q : FrontState) (b : Asking) (after : List Of) : Type 0 where
   pub stations : List Of
   pub at : AreStationed p.desks stations
   pub parts : List FrontPart
   pub goes : PartsGo (served p a stations) parts (served q b after)
   pub writes : filter_map marked_by parts ≡ written
   pub hears : filter_map heard_in parts ≡ heard
+  pub each : AllByRecursion Only parts
 
+abbrev pub DoesIf : (FrontPart → Type 0) → FrontState → Asking → Marks → Messages → FrontState → Asking → Type 0
+DoesIf Only p a written heard q b = (after : List Of) → AreStationed q.desks after → Came Only p a written heard q b after
+
+-- nothing more is to be heard
+abbrev Hinders : FrontReply → Type 0
+Hinders back = hinders back ≡ true
+
+-- A part stops the channel only with such a reply.
+abbrev MayStop : FrontReply → FrontPart → Type 0
+MayStop back x = stops x ≡ true → Hinders back
+
+-- It begins nothing besides, and tells nothing of a device.
+abbrev IsFine : FrontReply → FrontPart → Type 0
+IsFine back x = (stops x ≡ true → Hinders back) × (tells_device x ≡ false) × (is_start x ≡ false)
+
+-- It does none of that.
+abbrev IsPlain : FrontPart → Type 0
+IsPlain x = (stops x ≡ false) × (tells_device x ≡ false) × (is_start x ≡ false)
+
+-- all parts are so
 abbrev pub Does : FrontState → Asking → Marks → Messages → FrontState → Asking → Type 0
-Does p a written heard q b = (after : List Of) → AreStationed q.desks after → Came p a written heard q b after
+Does p a written heard q b = DoesIf IsPlain p a written heard q b
 
 -- what a reply says of unfit jobs and of completion ids that are in use
 pub record Says (back : FrontReply) (parts : List FrontPart) : Type 0 where
@@ -90,7 +113,7 @@ pub record Says (back : FrontReply) (parts : List FrontPart) : Type 0 where
   pub duplicate : (key : Key) → back ≡ reply.Duplicate key → Among (λ p. duplicate_of p ≡ Some key) parts
 
 abbrev pub Answers : FrontState → Asking → FrontReply → Messages → FrontState → Asking → Type 0
-Answers p a back heard q b = (after : List Of) → AreStationed q.desks after → (c : Came p a [] heard q b after) × Says back c.parts × (handed_out back ≡ [])
+Answers p a back heard q b = (after : List Of) → AreStationed q.desks after → (c : Came (IsFine back) p a [] heard q b after) × Says back c.parts × (handed_out back ≡ [])
 
 -- ---- parts after parts
 
@@ -107,24 +130,53 @@ among_right : (P : FrontPart → Type 0) (xs ys : List FrontPart) → Among P ys
 among_right P [] ys there = there
 among_right P (x ∷ xs) ys there = inr (among_right P xs ys there)
 
-abbrev came_on : (p q r : FrontState) (a b c : Asking) (w v : Marks) (h g : Messages) (after : List Of) → (second : Came q b v g r c after) → Came p a w h q b second.stations → Came p a (w ++ v) (h ++ g) r c after
-came_on p q r a b c w v h g after second first = record {
+all_append : (P : FrontPart → Type 0) (xs ys : List FrontPart) → AllByRecursion P xs → AllByRecursion P ys → AllByRecursion P (xs ++ ys)
+all_append P [] ys first second = second
+all_append P (x ∷ xs) ys first second = (first.0, all_append P xs ys first.1 second)
+
+all_as : (P Q : FrontPart → Type 0) → ((x : FrontPart) → P x → Q x) → (xs : List FrontPart) → AllByRecursion P xs → AllByRecursion Q xs
+all_as P Q follows [] all = tt
+all_as P Q follows (x ∷ xs) all = (follows x all.0, all_as P Q follows xs all.1)
+
+plain_fine : (back : FrontReply) (x : FrontPart) → IsPlain x → IsFine back x
+plain_fine back x plain = (λ is. let going = plain.0 in absurd (cc (is, going)), plain.1, plain.2)
+
+fine_stops : (back : FrontReply) (x : FrontPart) → IsFine back x → MayStop back x
+fine_stops back x fine = fine.0
+
+plain_stops : (back : FrontReply) (x : FrontPart) → IsPlain x → MayStop back x
+plain_stops back x plain = λ is. let going = plain.0 in absurd (cc (is, going))
+
+-- what follows from this holds of each part too
+abbrev came_as : (Only As : FrontPart → Type 0) (p q : FrontState) (a b : Asking) (w : Marks) (h : Messages) (after : List Of) → ((x : FrontPart) → Only x → As x) → Came Only p a w h q b after → Came As p a w h q b after
+came_as Only As p q a b w h after follows c =
+    record { stations = c.stations; at = c.at; parts = c.parts; goes = c.goes; writes = c.writes; hears = c.hears; each = all_as Only As follows c.parts c.each }
+
+does_as : (back : FrontReply) (p q : FrontState) (a b : Asking) (w : Marks) (h : Messages) → Does p a w h q b → DoesIf (IsFine back) p a w h q b
+does_as back p q a b w h does after at = came_as IsPlain (IsFine back) p q a b w h after (plain_fine back) (does after at)
+
+abbrev came_on : (Only : FrontPart → Type 0) (p q r : FrontState) (a b c : Asking) (w v : Marks) (h g : Messages) (after : List Of) → (second : Came Only q b v g r c after) → Came Only p a w h q b second.stations → Came Only p a (w ++ v) (h ++ g) r c after
+came_on Only p q r a b c w v h g after second first = record {
   stations = first.stations;
   at = first.at;
   parts = first.parts ++ second.parts;
   goes = parts_append (served p a first.stations) (served q b second.stations) (served r c after) first.parts second.parts first.goes second.goes;
   writes = filter_map-append marked_by first.parts second.parts ∙ (λ i. first.writes i ++ second.writes i);
   hears = filter_map-append heard_in first.parts second.parts ∙ (λ i. first.hears i ++ second.hears i);
+  each = all_append Only first.parts second.parts first.each second.each;
 }
 
+joins_if : (Only : FrontPart → Type 0) (p q r : FrontState) (a b c : Asking) (w v : Marks) (h g : Messages) → DoesIf Only p a w h q b → DoesIf Only q b v g r c → DoesIf Only p a (w ++ v) (h ++ g) r c
+joins_if Only p q r a b c w v h g first second after at = let then = second after at in came_on Only p q r a b c w v h g after then (first then.stations then.at)
+
 joins : (p q r : FrontState) (a b c : Asking) (w v : Marks) (h g : Messages) → Does p a w h q b → Does q b v g r c → Does p a (w ++ v) (h ++ g) r c
-joins p q r a b c w v h g first second after at = let then = second after at in came_on p q r a b c w v h g after then (first then.stations then.at)
+joins p q r a b c w v h g first second = joins_if IsPlain p q r a b c w v h g first second
 
 joins_last : (p q r : FrontState) (a b c : Asking) (back : FrontReply) (h g : Messages) → Does p a [] h q b → Answers q b back g r c → Answers p a back (h ++ g) r c
 joins_last p q r a b c back h g first second after at =
     let (then, tells, none) = second after at in
     let before = first then.stations then.at in (
-      came_on p q r a b c [] [] h g after then before,
+      came_on (IsFine back) p q r a b c [] [] h g after then (came_as IsPlain (IsFine back) p q a b [] h then.stations (plain_fine back) before),
       record {
         unfit = λ is. among_right (λ x. is_unfit x ≡ true) before.parts then.parts (tells.unfit is);
         duplicate = λ key is. among_right (λ x. duplicate_of x ≡ Some key) before.parts then.parts (tells.duplicate key is);
@@ -132,11 +184,11 @@ joins_last p q r a b c back h g first second after at =
       none,
     )
 
-joins_first : (p q r : FrontState) (a b c : Asking) (back : FrontReply) (h g : Messages) → Answers p a back h q b → Does q b [] g r c → Answers p a back (h ++ g) r c
+joins_first : (p q r : FrontState) (a b c : Asking) (back : FrontReply) (h g : Messages) → Answers p a back h q b → DoesIf (IsFine back) q b [] g r c → Answers p a back (h ++ g) r c
 joins_first p q r a b c back h g first second after at =
     let then = second after at in
     let (before, tells, none) = first then.stations then.at in (
-      came_on p q r a b c [] [] h g after then before,
+      came_on (IsFine back) p q r a b c [] [] h g after then before,
       record {
         unfit = λ is. among_left (λ x. is_unfit x ≡ true) before.parts then.parts (tells.unfit is);
         duplicate = λ key is. among_left (λ x. duplicate_of x ≡ Some key) before.parts then.parts (tells.duplicate key is);
@@ -148,8 +200,14 @@ joins_first p q r a b c back h g first second after at =
 abbrev IsQuiet : FrontReply → Type 0
 IsQuiet back = (back ≡ reply.Unfit → ⊥) × ((key : Key) → back ≡ reply.Duplicate key → ⊥) × (handed_out back ≡ [])
 
+quiet_says : (back : FrontReply) (parts : List FrontPart) → IsQuiet back → Says back parts
+quiet_says back parts none = record { unfit = λ is. absurd (none.0 is); duplicate = λ key is. absurd (none.1 key is) }
+
+quiet_if : (p q : FrontState) (a b : Asking) (back : FrontReply) (h : Messages) → IsQuiet back → DoesIf (IsFine back) p a [] h q b → Answers p a back h q b
+quiet_if p q a b back h none does after at = let c = does after at in (c, quiet_says back c.parts none, none.2)
+
 quiet : (p q : FrontState) (a b : Asking) (back : FrontReply) (h : Messages) → IsQuiet back → Does p a [] h q b → Answers p a back h q b
-quiet p q a b back h none does after at = (does after at, record { unfit = λ is. absurd (none.0 is); duplicate = λ key is. absurd (none.1 key is) }, none.2)
+quiet p q a b back h none does = quiet_if p q a b back h none (does_as back p q a b [] h does)
 
 quiet_as : (back said : FrontReply) → back ≡ said → IsQuiet said → IsQuiet back
 quiet_as back said is none = subst IsQuiet (sym is) none
@@ -177,19 +235,26 @@ full_quiet = (λ is. cc (is), λ key is. cc (is), refl)
 -- ---- single parts
 
 stays : (p : FrontState) (a : Asking) → Does p a [] [] p a
-stays p a after at = record { stations = after; at = at; parts = []; goes = refl; writes = refl; hears = refl }
+stays p a after at = record { stations = after; at = at; parts = []; goes = refl; writes = refl; hears = refl; each = tt }
+
+to_if : (Only : FrontPart → Type 0) (p made q : FrontState) (a b : Asking) (w : Marks) (h : Messages) → q ≡ made → DoesIf Only p a w h made b → DoesIf Only p a w h q b
+to_if Only p made q a b w h is does = subst (λ (s : FrontState). DoesIf Only p a w h s b) (sym is) does
 
 to : (p made q : FrontState) (a b : Asking) (w : Marks) (h : Messages) → q ≡ made → Does p a w h made b → Does p a w h q b
-to p made q a b w h is does = subst (λ (s : FrontState). Does p a w h s b) (sym is) does
+to p made q a b w h is does = to_if IsPlain p made q a b w h is does
 
 same : (p q : FrontState) (a : Asking) → q ≡ p → Does p a [] [] q a
 same p q a is = to p p q a a [] [] is (stays p a)
 
 -- a part that calls no desk
-abbrev beside : (p q : FrontState) (a b : Asking) (part : FrontPart) (w : Marks) (h : Messages) → q.desks ≡ p.desks → filter_map marked_by (part ∷ []) ≡ w → filter_map heard_in (part ∷ []) ≡ h
+abbrev beside_if : (Only : FrontPart → Type 0) (p q : FrontState) (a b : Asking) (part : FrontPart) (w : Marks) (h : Messages) → Only part → q.desks ≡ p.desks → filter_map marked_by (part ∷ []) ≡ w → filter_map heard_in (part ∷ []) ≡ h
+    → ((stations : List Of) → PartGoes (served p a stations) part (served q b stations)) → DoesIf Only p a w h q b
+beside_if Only p q a b part w h holds desks handed heard goes after at =
+    record { stations = after; at = subst (λ (ds : List DeviceDeskState). AreStationed ds after) desks at; parts = part ∷ []; goes = (served q b after, goes after, refl); writes = handed; hears = heard; each = (holds, tt) }
+
+abbrev beside : (p q : FrontState) (a b : Asking) (part : FrontPart) (w : Marks) (h : Messages) → IsPlain part → q.desks ≡ p.desks → filter_map marked_by (part ∷ []) ≡ w → filter_map heard_in (part ∷ []) ≡ h
     → ((stations : List Of) → PartGoes (served p a stations) part (served q b stations)) → Does p a w h q b
-beside p q a b part w h desks handed heard goes after at =
-    record { stations = after; at = subst (λ (ds : List DeviceDeskState). AreStationed ds after) desks at; parts = part ∷ []; goes = (served q b after, goes after, refl); writes = handed; hears = heard }
+beside p q a b part w h plain desks handed heard goes = beside_if IsPlain p q a b part w h plain desks handed heard goes
 
 -- the desks are the same where only the core did something
 core_desks : (p q : FrontState) (unsent : ℕ) → q ≡ record p { client = q.client; unsent = unsent } → q.desks ≡ p.desks
@@ -215,9 +280,10 @@ at_place (x ∷ ds) (suc place) d after (s ∷ ss) there at =
     record { last = later.last; at = later.at; back_to = λ first is. (at.0, later.back_to first is); again = λ first. ap (λ (ys : List Of). s ∷ ys) (later.again first); there = later.there }
 
 -- A desk is called.
-module _ (p q : FrontState) (a b : Asking) (place : ℕ) (does : DeskCall) (back : DeskReply) (own : IsOpenCall does) (did : DeskDoes p place does back q)
-    (asking : (stations : List Of) → AsksBy (served p a stations) place (did.before).id does back b) (fits : (stations : List Of) → FitsCall (served p a stations) (did.before).id does) where
-  abbrev called_came : (after : List Of) → AreStationed q.desks after → (items : List Item) × Came p a [] [] q b after
+module _ (Only : FrontPart → Type 0) (p q : FrontState) (a b : Asking) (place : ℕ) (does : DeskCall) (back : DeskReply) (own : IsOpenCall does) (did : DeskDoes p place does back q)
+    (asking : (stations : List Of) → AsksBy (served p a stations) place (did.before).id does back b) (fits : (stations : List Of) → FitsCall (served p a stations) (did.before).id does)
+    (holds : (items : List Item) → Only (calls place (did.before).id does back items)) where
+  abbrev called_came : (after : List Of) → AreStationed q.desks after → (items : List Item) × Came Only p a [] [] q b after
   called_came after at =
       let found = at_place p.desks place did.before did.after after did.there (subst (λ (s : FrontState). AreStationed s.desks after) did.put_back at) in
       let up = lifted did.before did.after does back found.last did.called found.at in (
@@ -247,19 +313,20 @@ module _ (p q : FrontState) (a b : Asking) (place : ℕ) (does : DeskCall) (back
           );
           writes = refl;
           hears = refl;
+          each = (holds up.items, tt);
         },
       )
 
-  abbrev called : Does p a [] [] q b
+  abbrev called : DoesIf Only p a [] [] q b
   called after at = (called_came after at).1
 
   -- where the reply is said by the part itself
-  called_tells : (said : FrontReply) → ((items : List Item) → said ≡ reply.Unfit → is_unfit (calls place (did.before).id does back items) ≡ true)
+  called_tells : (said : FrontReply) → ((x : FrontPart) → Only x → IsFine said x) → ((items : List Item) → said ≡ reply.Unfit → is_unfit (calls place (did.before).id does back items) ≡ true)
       → ((items : List Item) (key : Key) → said ≡ reply.Duplicate key → duplicate_of (calls place (did.before).id does back items) ≡ Some key) → handed_out said ≡ [] → Answers p a said [] q b
-  called_tells said unfit duplicate none after at =
+  called_tells said follows unfit duplicate none after at =
       let found = at_place p.desks place did.before did.after after did.there (subst (λ (s : FrontState). AreStationed s.desks after) did.put_back at) in
       let up = lifted did.before did.after does back found.last did.called found.at in
-      (called after at, record { unfit = λ is. inl (unfit up.items is); duplicate = λ key is. inl (duplicate up.items key is) }, none)
+      (came_as Only (IsFine said) p q a b [] [] after follows (called after at), record { unfit = λ is. inl (unfit up.items is); duplicate = λ key is. inl (duplicate up.items key is) }, none)
 
 -- ---- the ends
 
@@ -283,7 +350,7 @@ all_ended over (d ∷ ds) (e ∷ es) (u ∷ after) ended at =
 ends_all : (p q : FrontState) (over : Bool) → AllZip (EndsBy (end_call over)) p.desks q.desks → q ≡ ended_front over p q.desks → Does p idle [] [] q idle
 ends_all p q over ended is after at =
     let e = all_ended over p.desks q.desks after ended at in
-    record { stations = e.stations; at = e.at; parts = ends over e.told ∷ []; goes = (served q idle after, (refl, e.goes, is, refl), refl); writes = refl; hears = refl }
+    record { stations = e.stations; at = e.at; parts = ends over e.told ∷ []; goes = (served q idle after, (refl, e.goes, is, refl), refl); writes = refl; hears = refl; each = ((refl, refl, refl), tt) }
 
 channel_ends : (p q : FrontState) → ChannelEnds p q → Does p idle [] [] q idle
 channel_ends p q did = ends_all p q false did.0 did.1
@@ -297,13 +364,6 @@ session_ends p q did = ends_all p q true did.0 did.1
 not_done : (other back : FrontReply) (p q : FrontState) → IsQuiet other → (back ≡ other) × (q ≡ p) → Answers p idle back [] q idle
 not_done other back p q none did = quiet p q idle idle back [] (quiet_as back other did.0 none) (same p q idle did.1)
 
-where_on : (b : Bool) (other back : FrontReply) (p q : FrontState) (does : Type 0) → IsQuiet other → (b ≡ true → does → Answers p idle back [] q idle) → Where b other back p q does → Answers p idle back [] q idle
-where_on true other back p q does none on did = on refl did
-where_on false other back p q does none on did = not_done other back p q none did
-
-unless_full : (p : FrontState) (back : FrontReply) (q : FrontState) (does : Type 0) (fits : Bool) → (fits ≡ true → does → Answers p idle back [] q idle) → Where fits reply.Refused back p q (Where (not (is_front_full p)) reply.Full back p q does) → Answers p idle back [] q idle
-unless_full p back q does fits on did = where_on fits reply.Refused back p q _ refused_quiet (λ is d. where_on (not (is_front_full p)) reply.Full back p q does full_quiet (λ less. on is) d) did
-
 then_goes : (went found : Bool) (p q : FrontState) (does : Type 0) → (does → Does p idle [] [] q idle) → Then went found p q does → Does p idle [] [] q idle
 then_goes true found p q does on did = on did
 then_goes false found p q does on did = same p q idle did.1
@@ -316,13 +376,18 @@ each does one (x ∷ xs) p found q did =
 
 -- ---- a job
 
+-- no memory was found for an answer
+direct_hinders : (st : Status) (answer : Result (Unit {0}) AllocError) (q : FrontState) → stops (directs st answer) ≡ true → Hinders (done_if answer q)
+direct_hinders st (Ok done) q is = absurd (cc (is))
+direct_hinders st (Err error) q is = refl
+
 answers : (p : FrontState) (a : Asking) (k : Kept) (st : Status) (back : FrontReply) (q : FrontState) → ((stations : List Of) → MayBeDirect (served p a stations) k st) → AnswersDirectly p k.device k.job st back q → Answers p a back [] q idle
 answers p a k st back q direct did =
-    quiet p q a idle back [] (quiet_as back (done_if did.0 q) did.2 (if_quiet did.0 q))
-    (beside p q a idle (directs st did.0) [] [] (core_desks p q (p.unsent + one_if_done did.0) (did.1).1) refl refl (λ stations. (k, direct stations, did.1, refl, refl)))
+    quiet_if p q a idle back [] (quiet_as back (done_if did.0 q) did.2 (if_quiet did.0 q))
+    (beside_if (IsFine back) p q a idle (directs st did.0) [] [] (λ is. ap hinders did.2 ∙ direct_hinders st did.0 q is, refl, refl) (core_desks p q (p.unsent + one_if_done did.0) (did.1).1) refl refl (λ stations. (k, direct stations, did.1, refl, refl)))
 
-forgotten : (p : FrontState) (k : Kept) (cause : PutWhy) → MayForget cause → Does p (refused k cause) [] [] p idle
-forgotten p k cause may = beside p p (refused k cause) idle forgets [] [] refl refl refl (λ stations. (k, cause, refl, may, refl))
+forgotten : (back : FrontReply) (p : FrontState) (k : Kept) (cause : PutWhy) → MayForget cause → Hinders back → DoesIf (IsFine back) p (refused k cause) [] [] p idle
+forgotten back p k cause may hindered = beside_if (IsFine back) p p (refused k cause) idle forgets [] [] (λ is. hindered, refl, refl) refl refl refl (λ stations. (k, cause, refl, may, refl))
 
 -- what follows where a job was refused; where its completion id is in use, the part before says the reply
 after_refusal : (p : FrontState) (k : Kept) (cause : PutWhy) (back : FrontReply) (q : FrontState) → ((key : Key) → cause ≡ why.Duplicate key → ⊥) → RefusedPut p k.device k.job cause back q → Answers p (refused k cause) back [] q idle
@@ -330,10 +395,11 @@ after_refusal p k why.Gone back q other did = answers p (refused k why.Gone) k _
 after_refusal p k (why.Duplicate key) back q other did = absurd (other key refl)
 after_refusal p k (why.Full held) back q other did =
     quiet p q (refused k (why.Full held)) idle back [] (quiet_as back reply.Kept did.0 (λ is. cc (is), λ key is. cc (is), refl))
-    (to p _ q (refused k (why.Full held)) idle [] [] did.1 (beside p _ (refused k (why.Full held)) idle keeps [] [] refl refl refl (λ stations. (k, held, refl, refl))))
+    (to p _ q (refused k (why.Full held)) idle [] [] did.1 (beside p _ (refused k (why.Full held)) idle keeps [] [] (refl, refl, refl) refl refl refl (λ stations. (k, held, refl, refl))))
 after_refusal p k (why.Worn count) back q other did = answers p (refused k (why.Worn count)) k _ back q (λ stations. inr (inr (count, refl, refl))) did
 after_refusal p k why.Memory back q other did =
-    quiet p q (refused k why.Memory) idle back [] (quiet_as back reply.Memory did.0 memory_quiet) (to p p q (refused k why.Memory) idle [] [] did.1 (forgotten p k why.Memory tt))
+    quiet_if p q (refused k why.Memory) idle back [] (quiet_as back reply.Memory did.0 memory_quiet)
+    (to_if (IsFine back) p p q (refused k why.Memory) idle [] [] did.1 (forgotten back p k why.Memory tt (ap hinders did.0)))
 
 -- a desk that refuses a job gives that one back
 same_job : (job : Job) (refusal : PutNo) (d e : DeviceDeskState) → IsCalled d (desk.Put job) (replied.Put (Err refusal)) e → refusal.job ≡ job
@@ -345,29 +411,31 @@ module _ (p q : FrontState) (k : Kept) (place : ℕ) (at : desk_place p.desks k.
 
   put_refused : (next : FrontState) (refusal : PutNo) (back : FrontReply) → DeskDoes p place (desk.Put k.job) (replied.Put (Err refusal)) next → (cause : PutWhy) → refusal.why ≡ cause → RefusedPut next k.device k.job cause back q → Answers p (asks k) back [] q idle
   put_refused next refusal back did (why.Duplicate key) is follows =
-      let ended : Does next (refused k (why.Duplicate key)) [] [] q idle =
-      joins next next q (refused k (why.Duplicate key)) idle idle [] [] [] [] (forgotten next k (why.Duplicate key) tt) (channel_ends next q follows.1) in
+      let ended : DoesIf (IsFine back) next (refused k (why.Duplicate key)) [] [] q idle =
+      joins_if (IsFine back) next next q (refused k (why.Duplicate key)) idle idle [] [] [] [] (forgotten back next k (why.Duplicate key) tt (ap hinders follows.0))
+      (does_as back next q idle idle [] [] (channel_ends next q follows.1)) in
       joins_first p next q (asks k) (refused k refusal.why) idle back [] []
-      (called_tells p next (asks k) (refused k refusal.why) place (desk.Put k.job) (replied.Put (Err refusal)) tt did (λ stations. (comes stations, refl)) (λ stations. tt) back
+      (called_tells IsPlain p next (asks k) (refused k refusal.why) place (desk.Put k.job) (replied.Put (Err refusal)) tt did (λ stations. (comes stations, refl)) (λ stations. tt) (λ items. (refl, refl, refl)) back (plain_fine back)
       (λ items said. absurd (let e : reply.Duplicate key ≡ reply.Unfit = sym follows.0 ∙ said in cc (e)))
       (λ items other said. let e : reply.Duplicate key ≡ reply.Duplicate other = sym follows.0 ∙ said in let f : key ≡ other = cc in ap (λ (w : PutWhy). duplicate_by w) is ∙ ap (λ (l : Key). Some l) f)
       (ap handed_out follows.0))
-      (subst (λ (w : PutWhy). Does next (refused k w) [] [] q idle) (sym is) ended)
+      (subst (λ (w : PutWhy). DoesIf (IsFine back) next (refused k w) [] [] q idle) (sym is) ended)
   put_refused next refusal back did cause is follows =
-      joins_last p next q (asks k) (refused k refusal.why) idle back [] [] (called p next (asks k) (refused k refusal.why) place (desk.Put k.job) (replied.Put (Err refusal)) tt did (λ stations. (comes stations, refl)) (λ stations. tt))
+      joins_last p next q (asks k) (refused k refusal.why) idle back [] []
+      (called IsPlain p next (asks k) (refused k refusal.why) place (desk.Put k.job) (replied.Put (Err refusal)) tt did (λ stations. (comes stations, refl)) (λ stations. tt) (λ items. (refl, refl, refl)))
       (subst (λ (w : PutWhy). Answers next (refused k w) back [] q idle) (sym is) (after_refusal next k cause back q (λ key same. cc (same)) follows))
 
   put_by : (next : FrontState) (answer : DeskReply) (back : FrontReply) → DeskDoes p place (desk.Put k.job) answer next → PutBy next k.device place answer back q → Answers p (asks k) back [] q idle
   put_by next (replied.Put (Ok done)) back did follows =
-      joins_last p next q (asks k) idle idle back [] [] (called p next (asks k) idle place (desk.Put k.job) (replied.Put (Ok done)) tt did (λ stations. (comes stations, refl)) (λ stations. tt))
+      joins_last p next q (asks k) idle idle back [] [] (called IsPlain p next (asks k) idle place (desk.Put k.job) (replied.Put (Ok done)) tt did (λ stations. (comes stations, refl)) (λ stations. tt) (λ items. (refl, refl, refl)))
       (quiet next q idle idle back [] (quiet_as back _ follows.0 (done_quiet (Some place) next)) (same next q idle follows.1))
   put_by next (replied.Put (Err refusal)) back did follows =
       put_refused next refusal back did refusal.why refl (subst (λ (j : Job). RefusedPut next k.device j refusal.why back q) (same_job k.job refusal did.before did.after did.called) follows)
   put_by next (replied.Unfit job) back did follows =
       joins_first p next q (asks k) idle idle back [] []
-      (called_tells p next (asks k) idle place (desk.Put k.job) (replied.Unfit job) tt did (λ stations. (comes stations, refl)) (λ stations. tt) back (λ items said. refl) (λ items key said. absurd (let e : reply.Unfit ≡ reply.Duplicate key = sym follows.0 ∙ said in cc (e)))
+      (called_tells (IsFine back) p next (asks k) idle place (desk.Put k.job) (replied.Unfit job) tt did (λ stations. (comes stations, refl)) (λ stations. tt) (λ items. (λ is. ap hinders follows.0, refl, refl)) back (λ x fine. fine) (λ items said. refl) (λ items key said. absurd (let e : reply.Unfit ≡ reply.Duplicate key = sym follows.0 ∙ said in cc (e)))
       (ap handed_out follows.0))
-      (same next q idle follows.1)
+      (does_as back next q idle idle [] [] (same next q idle follows.1))
   put_by next (replied.Announced answer) back did follows = absurd follows
   put_by next (replied.Worked w) back did follows = absurd follows
   put_by next (replied.Collected answer) back did follows = absurd follows
@@ -385,62 +453,355 @@ put p k back q did = by (may_be_asked ((p.client).core).shake) refl did
     by : (b : Bool) → may_be_asked ((p.client).core).shake ≡ b → Where b reply.Unfit back p q (PutsIf p k.device k.job (desk_place p.desks k.device) back q) → Answers p (asks k) back [] q idle
     by true may does = puts_if p k (desk_place p.desks k.device) refl may back q does
     by false not_asked does = λ after at.
-        let part = beside p q (asks k) idle misplaces [] [] (ap (λ (s : FrontState). s.desks) does.1) refl refl (λ stations. (k, refl, not_asked, ap (λ (s : FrontState). served s idle stations) does.1)) after at in
+        let part = beside_if (IsFine back) p q (asks k) idle misplaces [] [] (λ is. ap hinders does.0, refl, refl) (ap (λ (s : FrontState). s.desks) does.1) refl refl (λ stations. (k, refl, not_asked, ap (λ (s : FrontState). served s idle stations) does.1)) after at in
         (part, record { unfit = λ said. inl refl; duplicate = λ key said. absurd (let e : reply.Unfit ≡ reply.Duplicate key = sym does.0 ∙ said in cc (e)) }, ap handed_out does.0)
 
+-- ---- what a whole call tells
+
+-- What is said of the parts of a call beside its reply, by whether it may hear a message or try a job again.
+pub record Whole (starts : Bool) (p : FrontState) (back : FrontReply) (h : Messages) (q : FrontState) (after : List Of) : Type 0 where
+  pub came : Came (MayStop back) p idle [] h q idle after
+  pub says : Says back came.parts
+  pub nothing : handed_out back ≡ []
+  pub before : HearBefore false came.parts
+  pub first : StartsBy starts came.parts
+  pub follows : hinders back ≡ false → AreFollowed p.desks came.parts
+  pub opens : hinders back ≡ false → OpensEach (served p idle came.stations) came.parts (served q idle after) came.goes
+
+-- ---- what is heard before the channel stops
+
+none_first : (o : Option (List ℕ)) (ms : Messages) → cons_option o ms ≡ [] → (o ≡ None) × (ms ≡ [])
+none_first None ms is = (refl, is)
+none_first (Some m) ms is = absurd (cc (is))
+
+one_unheard : (was : Bool) (x : FrontPart) → heard_in x ≡ None → HearsBefore was x
+one_unheard was (hears channel message (Err fault.Memory)) is = tt
+one_unheard was (hears channel message (Err (fault.Order state packet))) is = absurd (cc (is))
+one_unheard was (hears channel message (Err (fault.Grammar bad))) is = absurd (cc (is))
+one_unheard was (hears channel message (Ok h)) is = absurd (cc (is))
+one_unheard was tries is = tt
+one_unheard was keeps is = tt
+one_unheard was forgets is = tt
+one_unheard was misplaces is = tt
+one_unheard was (directs st answer) is = tt
+one_unheard was (calls place id does back items) is = tt
+one_unheard was (tells_gone device answer) is = tt
+one_unheard was (tells_there device answer) is = tt
+one_unheard was (sends channel sent) is = tt
+one_unheard was (writes device c) is = tt
+one_unheard was (unwritten device c) is = tt
+one_unheard was (learns n answer) is = tt
+one_unheard was (refreshes device) is = tt
+one_unheard was (begins channel) is = tt
+one_unheard was (ends over told) is = tt
+
+-- where nothing is heard, nothing is heard too late
+pub none_before : (was : Bool) (ps : List FrontPart) → filter_map heard_in ps ≡ [] → HearBefore was ps
+none_before was [] none = tt
+none_before was (x ∷ ps) none = let both = none_first (heard_in x) (filter_map heard_in ps) none in (one_unheard was x both.0, none_before (stopped_by was x) ps both.1)
+
+-- what is heard first is heard in time
+first_before : (channel : ℕ) (message : List ℕ) (answer : Result Heard EndFault) → HearsBefore false (hears channel message answer)
+first_before channel message (Err fault.Memory) = tt
+first_before channel message (Err (fault.Order state packet)) = refl
+first_before channel message (Err (fault.Grammar bad)) = refl
+first_before channel message (Ok h) = refl
+
+-- where nothing is begun
+none_start : (starts : Bool) (xs : List FrontPart) → AllByRecursion (λ x. is_start x ≡ false) xs → StartsBy starts xs
+none_start false xs all = all
+none_start true [] all = tt
+none_start true (x ∷ xs) all = all.1
+
+pub none_opens : (old new : Served) (ps : List FrontPart) (goes : PartsGo old ps new) → AllByRecursion (λ x. is_start x ≡ false) ps → OpensEach old ps new goes
+none_opens old new [] goes all = tt
+none_opens old new (hears channel message answer ∷ ps) goes all = absurd (let never = all.0 in cc (never))
+none_opens old new (x ∷ ps) goes all = tt
+
+-- where nothing is told of a device
+one_untold : (desks : List DeviceDeskState) (x : FrontPart) (later : List FrontPart) → tells_device x ≡ false → IsFollowed desks x later
+one_untold desks (tells_gone device (Ok done)) later is = absurd (cc (is))
+one_untold desks (tells_there device (Ok done)) later is = absurd (cc (is))
+one_untold desks (tells_gone device (Err error)) later is = tt
+one_untold desks (tells_there device (Err error)) later is = tt
+one_untold desks x later is = tt
+
+none_told : (desks : List DeviceDeskState) (xs ys : List FrontPart) → AllByRecursion (λ x. tells_device x ≡ false) xs → AreFollowed desks ys → AreFollowed desks (xs ++ ys)
+none_told desks [] ys all followed = followed
+none_told desks (x ∷ xs) ys all followed = (one_untold desks x (xs ++ ys) all.0, none_told desks xs ys all.1 followed)
+
+all_untold : (desks : List DeviceDeskState) (xs : List FrontPart) → AllByRecursion (λ x. tells_device x ≡ false) xs → AreFollowed desks xs
+all_untold desks [] all = tt
+all_untold desks (x ∷ xs) all = (one_untold desks x xs all.0, all_untold desks xs all.1)
+
+unstarted : (back : FrontReply) (xs : List FrontPart) → AllByRecursion (IsFine back) xs → AllByRecursion (λ x. is_start x ≡ false) xs
+unstarted back xs all = all_as (IsFine back) (λ x. is_start x ≡ false) (λ x fine. fine.2) xs all
+
+untold : (back : FrontReply) (xs : List FrontPart) → AllByRecursion (IsFine back) xs → AllByRecursion (λ x. tells_device x ≡ false) xs
+untold back xs all = all_as (IsFine back) (λ x. tells_device x ≡ false) (λ x fine. fine.1) xs all
+
+-- a call whose parts are fine
+abbrev whole_of : (starts : Bool) (p q : FrontState) (back : FrontReply) (after : List Of) (c : Came (IsFine back) p idle [] [] q idle after) → Says back c.parts → handed_out back ≡ [] → Whole starts p back [] q after
+whole_of starts p q back after c says nothing =
+    let started = unstarted back c.parts c.each in
+    record {
+      came = came_as (IsFine back) (MayStop back) p q idle idle [] [] after (fine_stops back) c;
+      says = says;
+      nothing = nothing;
+      before = none_before false c.parts c.hears;
+      first = none_start starts c.parts started;
+      follows = λ found. all_untold p.desks c.parts (untold back c.parts c.each);
+      opens = λ found. none_opens (served p idle c.stations) (served q idle after) c.parts c.goes started;
+    }
+
+whole : (starts : Bool) (p q : FrontState) (back : FrontReply) → Answers p idle back [] q idle → (after : List Of) → AreStationed q.desks after → Whole starts p back [] q after
+whole starts p q back answer after at = let (c, says, nothing) = answer after at in whole_of starts p q back after c says nothing
+
 -- the job that is kept back is tried once more
-retries : (p : FrontState) (kept : Option Kept) → p.kept ≡ kept → p.on ≡ true → (back : FrontReply) (q : FrontState) → FrontRetries p kept back q → Answers p idle back [] q idle
-retries p None is on back q did = quiet p q idle idle back [] (quiet_as back _ did.0 (done_quiet None p)) (same p q idle did.1)
-retries p (Some k) is on back q did =
+retries : (p : FrontState) (kept : Option Kept) → p.kept ≡ kept → p.on ≡ true → (back : FrontReply) (q : FrontState) → FrontRetries p kept back q → (after : List Of) → AreStationed q.desks after → Whole true p back [] q after
+retries p None is on back q did after at = whole true p q back (quiet p q idle idle back [] (quiet_as back _ did.0 (done_quiet None p)) (same p q idle did.1)) after at
+retries p (Some k) is on back q did after at =
     let without : FrontState = record p { kept = None } in
-    joins_last p without q idle (asks k) idle back [] [] (beside p without idle (asks k) tries [] [] refl refl refl (λ stations. (k, is, refl, on, refl))) (put without k back q did)
+    let (then, says, nothing) = put without k back q did after at in
+    let begun_at = beside_if (MayStop back) p without idle (asks k) tries [] [] (λ never. absurd (cc (never))) refl refl refl (λ stations. (k, is, refl, on, refl)) then.stations then.at in
+    record {
+      came = came_on (MayStop back) p without q idle (asks k) idle [] [] [] [] after (came_as (IsFine back) (MayStop back) without q (asks k) idle [] [] after (fine_stops back) then) begun_at;
+      says = record { unfit = λ said. inr (says.unfit said); duplicate = λ key said. inr (says.duplicate key said) };
+      nothing = nothing;
+      before = (tt, none_before false then.parts then.hears);
+      first = unstarted back then.parts then.each;
+      follows = λ found. (tt, all_untold p.desks then.parts (untold back then.parts then.each));
+      opens = λ found. tt;
+    }
 
 -- ---- announcements
 
-plain_call : (p q : FrontState) (place : ℕ) (does : DeskCall) (back : DeskReply) → IsOpenCall does → (did : DeskDoes p place does back q) → ((stations : List Of) → AsksBy (served p idle stations) place (did.before).id does back idle) → ((stations : List Of) → FitsCall (served p idle stations) (did.before).id does) → Does p idle [] [] q idle
-plain_call p q place does back own did asking fits = called p q idle idle place does back own did asking fits
+-- an announcement, or a call by which a device is cut off, isn't unfit
+announce_fit : (back : DeskReply) (d e : DeviceDeskState) → IsCalled d desk.Announce back e → (place id : ℕ) (items : List Item) → IsPlain (calls place id desk.Announce back items)
+announce_fit (replied.Unfit job) d e did place id items = absurd ((did.replied).step).1
+announce_fit (replied.Announced answer) d e did place id items = (refl, refl, refl)
+announce_fit (replied.Put answer) d e did place id items = (refl, refl, refl)
+announce_fit (replied.Worked w) d e did place id items = (refl, refl, refl)
+announce_fit (replied.Collected answer) d e did place id items = (refl, refl, refl)
+announce_fit (replied.Removed answer) d e did place id items = (refl, refl, refl)
+announce_fit replied.Dropped d e did place id items = (refl, refl, refl)
+announce_fit replied.Ended d e did place id items = (refl, refl, refl)
 
-announces : (p : FrontState) (place : Option ℕ) (found : Bool) (q : FrontState) → Announces p place found q → Does p idle [] [] q idle
-announces p None found q did = same p q idle did.1
-announces p (Some place) found q did = plain_call p q place desk.Announce did.0 tt did.1 (λ stations. refl) (λ stations. tt)
+remove_fit : (back : DeskReply) (d e : DeviceDeskState) → IsCalled d desk.Remove back e → (place id : ℕ) (items : List Item) → IsPlain (calls place id desk.Remove back items)
+remove_fit (replied.Unfit job) d e did place id items = absurd ((did.replied).step).1
+remove_fit (replied.Announced answer) d e did place id items = (refl, refl, refl)
+remove_fit (replied.Put answer) d e did place id items = (refl, refl, refl)
+remove_fit (replied.Worked w) d e did place id items = (refl, refl, refl)
+remove_fit (replied.Collected answer) d e did place id items = (refl, refl, refl)
+remove_fit (replied.Removed answer) d e did place id items = (refl, refl, refl)
+remove_fit replied.Dropped d e did place id items = (refl, refl, refl)
+remove_fit replied.Ended d e did place id items = (refl, refl, refl)
 
-announces_unless : (removed : Bool) (p : FrontState) (device : ℕ) (found : Bool) (q : FrontState) → AnnouncesUnless removed p device found q → Does p idle [] [] q idle
-announces_unless true p device found q did = same p q idle did.1
-announces_unless false p device found q did = announces p (desk_place p.desks device) found q did
+-- the desk of a device is the device's
+pub desk_of : (ds : List DeviceDeskState) (place device : ℕ) (d : DeviceDeskState) → desk_place ds device ≡ Some place → slice_get ds place ≡ Some d → device ≡ d.id
+desk_of ds place device d is there =
+    let found = position-Some (λ (e : DeviceDeskState). e.id == device) ds place d is in
+    let here = get_or_from_slice_get ds place d d there in
+    sym (eqb-true d.id device (ap (λ (e : DeviceDeskState). e.id == device) (sym here) ∙ found.1))
 
-opens : (opening : Bool) (p : FrontState) (back : FrontReply) (q : FrontState) → OpeningEnds opening p back q → Answers p idle back [] q idle
-opens true p back q did =
-    quiet p q idle idle back [] (quiet_as back (done_where did.0 q) did.2 (where_quiet did.0 q))
-    (each AnnouncesOne (λ d a found b one. announces_unless d.removed a (d.announce).id found b one) (p.client).devices p did.0 q did.1)
-opens false p back q did = quiet p q idle idle back [] (quiet_as back _ did.0 (done_quiet None p)) (same p q idle did.1)
+-- the host is told that a device is there
+abbrev IsThere : FrontState → ℕ → Type 0
+IsThere p device = (p.on ≡ true) × (is_front_ready p ≡ true) × (list_any (is_present_as device) (p.client).devices ≡ true)
+
+-- A device is announced to its desk, where it has one.
+abbrev AnnouncedTo : FrontState → ℕ → Bool → FrontState → Type 0
+AnnouncedTo p device found q = (after : List Of) → AreStationed q.desks after → (c : Came IsPlain p idle [] [] q idle after) × (found ≡ true → FollowsAt p.desks device announced_by c.parts)
+
+announces : (p : FrontState) (place : Option ℕ) (device : ℕ) (found : Bool) (q : FrontState) → desk_place p.desks device ≡ place → IsThere p device → Announces p place found q → AnnouncedTo p device found q
+announces p None device found q is there did after at = (same p q idle did.1 after at, λ t. inl is)
+announces p (Some place) device found q is there did after at =
+    let id : device ≡ ((did.1).before).id = desk_of p.desks place device (did.1).before is (did.1).there in
+    let c = called IsPlain p q idle idle place desk.Announce did.0 tt did.1 (λ stations. refl) (λ stations. (refl, there.0, there.1, subst (λ (n : ℕ). list_any (is_present_as n) (p.client).devices ≡ true) id there.2))
+    (λ items. announce_fit did.0 (did.1).before (did.1).after (did.1).called place ((did.1).before).id items) after at in
+    (c, λ t. let was : is_announced did.0 ≡ true = sym did.2 ∙ t in inr (inl (ap (λ (b : Bool). cond b (Some ((did.1).before).id) None) was ∙ ap (λ (n : ℕ). Some n) (sym id))))
+
+-- announcements leave the client, and the places of desks
+announced_client : (p : FrontState) (place : Option ℕ) (found : Bool) (q : FrontState) → Announces p place found q → (q.client ≡ p.client) × ((device : ℕ) → desk_place q.desks device ≡ desk_place p.desks device) × (q.on ≡ p.on)
+announced_client p None found q did = (ap (λ (s : FrontState). s.client) did.1, λ device. ap (λ (s : FrontState). desk_place s.desks device) did.1, ap (λ (s : FrontState). s.on) did.1)
+announced_client p (Some place) found q did = (
+  ap (λ (s : FrontState). s.client) (did.1).put_back,
+  λ device. ap (λ (s : FrontState). desk_place s.desks device) (did.1).put_back
+      ∙ place_same (λ (d : DeviceDeskState). d.id == device) p.desks place (did.1).after (did.1).before (did.1).there (ap (λ (n : ℕ). n == device) ((did.1).called).id),
+  ap (λ (s : FrontState). s.on) (did.1).put_back,
+)
+
+unless_client : (removed : Bool) (p : FrontState) (device : ℕ) (found : Bool) (q : FrontState) → AnnouncesUnless removed p device found q → (q.client ≡ p.client) × ((e : ℕ) → desk_place q.desks e ≡ desk_place p.desks e) × (q.on ≡ p.on)
+unless_client true p device found q did = (ap (λ (s : FrontState). s.client) did.1, λ e. ap (λ (s : FrontState). desk_place s.desks e) did.1, ap (λ (s : FrontState). s.on) did.1)
+unless_client false p device found q did = announced_client p (desk_place p.desks device) found q did
+
+announces_unless : (removed : Bool) (p : FrontState) (device : ℕ) (found : Bool) (q : FrontState) → (removed ≡ false → IsThere p device) → AnnouncesUnless removed p device found q
+    → (after : List Of) → AreStationed q.desks after → (c : Came IsPlain p idle [] [] q idle after) × (removed ≡ false → found ≡ true → FollowsAt p.desks device announced_by c.parts)
+announces_unless true p device found q there did after at = (same p q idle did.1 after at, λ is. absurd (cc (is)))
+announces_unless false p device found q there did after at = let (c, follows) = announces p (desk_place p.desks device) device found q refl (there refl) did after at in (c, λ is. follows)
+
+-- a channel is on where a message may be heard, or a device told of
+on_of : (on rest : Bool) → (on && rest) ≡ true → on ≡ true
+on_of true rest is = refl
+on_of false rest is = absurd (cc (is))
+
+-- ---- the devices of a list
+
+abbrev HasOf : ℕ → List ClientDevice → Bool
+HasOf device ds = list_any (is_device device) ds
+
+abbrev GoneOf : ℕ → List ClientDevice → Bool
+GoneOf device ds = list_any (λ x. is_device device x && x.removed) ds
+
+later_true : (a b : Bool) → b ≡ true → (a || b) ≡ true
+later_true true b is = refl
+later_true false b is = is
+
+first_false : (a b : Bool) → (a || b) ≡ false → (a ≡ false) × (b ≡ false)
+first_false true b is = absurd (cc (is))
+first_false false b is = (refl, is)
+
+second_true : (a b : Bool) → (a && b) ≡ true → b ≡ true
+second_true true b is = is
+second_true false b is = absurd (cc (is))
+
+told_as : (r h g : Bool) → (r && (h && not g)) ≡ true → (h ≡ true) × (g ≡ false)
+told_as true true true is = absurd (cc (is))
+told_as true true false is = (refl, refl)
+told_as true false g is = absurd (cc (is))
+told_as false h g is = absurd (cc (is))
+
+-- where one is there, it is the first or one of the others
+one_there : (x : ClientDevice) (ds : List ClientDevice) (device : ℕ) → HasOf device (x ∷ ds) ≡ true → GoneOf device (x ∷ ds) ≡ false → (((x.announce).id ≡ device) × (x.removed ≡ false)) ⊎ ((HasOf device ds ≡ true) × (GoneOf device ds ≡ false))
+one_there x ds device has gone = by (is_device device x) refl has gone
+  where
+    by : (b : Bool) → is_device device x ≡ b → (b || HasOf device ds) ≡ true → ((b && x.removed) || GoneOf device ds) ≡ false → (((x.announce).id ≡ device) × (x.removed ≡ false)) ⊎ ((HasOf device ds ≡ true) × (GoneOf device ds ≡ false))
+    by true is some none = inl (eqb-true (x.announce).id device is, (first_false x.removed (GoneOf device ds) none).0)
+    by false is some none = inr (some, none)
+
+-- the device itself
+own_there : (x : ClientDevice) (ds : List ClientDevice) → x.removed ≡ false → list_any (is_present_as (x.announce).id) (x ∷ ds) ≡ true
+own_there x ds is = λ i. (eq-eqb (x.announce).id (x.announce).id refl i && not (is i)) || list_any (is_present_as (x.announce).id) ds
+
+follows_left : (desks : List DeviceDeskState) (device : ℕ) (by : FrontPart → Option ℕ) (xs ys : List FrontPart) → FollowsAt desks device by xs → FollowsAt desks device by (xs ++ ys)
+follows_left desks device by xs ys (inl none) = inl none
+follows_left desks device by xs ys (inr some) = inr (among_left (λ x. by x ≡ Some device) xs ys some)
+
+follows_right : (desks : List DeviceDeskState) (device : ℕ) (by : FrontPart → Option ℕ) (xs ys : List FrontPart) → FollowsAt desks device by ys → FollowsAt desks device by (xs ++ ys)
+follows_right desks device by xs ys (inl none) = inl none
+follows_right desks device by xs ys (inr some) = inr (among_right (λ x. by x ≡ Some device) xs ys some)
+
+follows_as : (old new : List DeviceDeskState) (device : ℕ) (by : FrontPart → Option ℕ) (xs : List FrontPart) → desk_place new device ≡ desk_place old device → FollowsAt new device by xs → FollowsAt old device by xs
+follows_as old new device by xs same (inl none) = inl (sym same ∙ none)
+follows_as old new device by xs same (inr some) = inr some
+
+-- Those of a list of devices that aren't removed are announced, where memory was found for each.
+abbrev AnnouncesAll : List ClientDevice → FrontState → Bool → FrontState → Type 0
+AnnouncesAll ds p found q = (after : List Of) → AreStationed q.desks after
+    → (c : Came IsPlain p idle [] [] q idle after) × (found ≡ true → (device : ℕ) → HasOf device ds ≡ true → GoneOf device ds ≡ false → FollowsAt p.desks device announced_by c.parts)
+
+abbrev ListsAll : List ClientDevice → FrontState → Type 0
+ListsAll ds p = (device : ℕ) → list_any (is_present_as device) ds ≡ true → list_any (is_present_as device) (p.client).devices ≡ true
+
+each_step : (x : ClientDevice) (ds : List ClientDevice) (p : FrontState) (found : Bool) (q : FrontState) → p.on ≡ true → is_front_ready p ≡ true → ListsAll (x ∷ ds) p → (went : Bool) (next : FrontState) → AnnouncesOne x p went next → Then went found next q (Each AnnouncesOne ds next found q)
+    → ((s : FrontState) → s.on ≡ true → is_front_ready s ≡ true → ListsAll ds s → Each AnnouncesOne ds s found q → AnnouncesAll ds s found q) → AnnouncesAll (x ∷ ds) p found q
+each_step x ds p found q on_now ready there true next did rest on after at =
+    let still = unless_client x.removed p (x.announce).id true next did in
+    let (later, follow) = on next (still.2 ∙ on_now) (ap (λ (c : ClientCoreState). is_client_ready (c.core).shake) still.0 ∙ ready)
+    (λ device is. ap (λ (c : ClientCoreState). list_any (is_present_as device) c.devices) still.0 ∙ there device (later_true (is_present_as device x) (list_any (is_present_as device) ds) is)) rest after at in
+    let (first, own) = announces_unless x.removed p (x.announce).id true next (λ is. (on_now, ready, there (x.announce).id (own_there x ds is))) did later.stations later.at in (
+      came_on IsPlain p next q idle idle idle [] [] [] [] after later first,
+      λ t device has gone. elim (one_there x ds device has gone) [
+        | inl here ↦ follows_left p.desks device announced_by first.parts later.parts (subst (λ (n : ℕ). FollowsAt p.desks n announced_by first.parts) here.0 (own here.1 refl))
+        | inr others ↦ follows_right p.desks device announced_by first.parts later.parts (follows_as p.desks next.desks device announced_by later.parts (still.1 device) (follow t device others.0 others.1))
+      ],
+    )
+each_step x ds p found q on_now ready there false next did rest on after at = subst (λ (s : FrontState). AnnouncesAll (x ∷ ds) p found s) (sym rest.1) now after at
+  where
+    now : AnnouncesAll (x ∷ ds) p found next
+    now later_on stationed = ((announces_unless x.removed p (x.announce).id false next (λ is. (on_now, ready, there (x.announce).id (own_there x ds is))) did later_on stationed).0, λ t. absurd (let f = rest.0 in cc (t, f)))
+
+each_announced : (ds : List ClientDevice) (p : FrontState) (found : Bool) (q : FrontState) → p.on ≡ true → is_front_ready p ≡ true → ListsAll ds p → Each AnnouncesOne ds p found q → AnnouncesAll ds p found q
+each_announced [] p found q on_now ready there did = λ after at. (same p q idle did.1 after at, λ t device has. absurd (cc (has)))
+each_announced (x ∷ ds) p found q on_now ready there did = each_step x ds p found q on_now ready there did.0 did.1 did.2 did.3 (λ s. each_announced ds s found q)
+
+-- ---- what follows from a message
+
+-- Where the opening is over by it, each device that the host is told of is announced to its desk.
+abbrev OpensBy : Bool → Result Heard EndFault → FrontReply → FrontState → List FrontPart → Type 0
+OpensBy ready answer back p parts = answer ≡ Ok Nothing → ready ≡ false → is_front_ready p ≡ true → hinders back ≡ false → (device : ℕ) → is_told_there p device ≡ true → FollowsAt p.desks device announced_by parts
+
+abbrev AnswersHeard : Bool → FrontState → Result Heard EndFault → FrontReply → FrontState → Type 0
+AnswersHeard ready p answer back q = (after : List Of) → AreStationed q.desks after → (c : Came (IsFine back) p (asking_by answer) [] [] q idle after) × Says back c.parts × (handed_out back ≡ []) × OpensBy ready answer back p c.parts
+
+other_heard : (ready : Bool) (p : FrontState) (answer : Result Heard EndFault) (back : FrontReply) (q : FrontState) → (answer ≡ Ok Nothing → ⊥) → Answers p (asking_by answer) back [] q idle → AnswersHeard ready p answer back q
+other_heard ready p answer back q other does after at = let (c, says, nothing) = does after at in (c, says, nothing, λ is. absurd (other is))
+
+found_of : (found : Bool) (q : FrontState) → hinders (done_where found q) ≡ false → found ≡ true
+found_of true q is = refl
+found_of false q is = absurd (cc (is))
+
+opens : (ready opening : Bool) (p : FrontState) (back : FrontReply) (q : FrontState) → p.on ≡ true → (not ready && is_front_ready p) ≡ opening → OpeningEnds opening p back q → AnswersHeard ready p (Ok Nothing) back q
+opens ready true p back q on_now is did after at =
+    let none : IsQuiet back = quiet_as back (done_where did.0 q) did.2 (where_quiet did.0 q) in
+    let (c, follow) = each_announced (p.client).devices p did.0 q on_now (second_true (not ready) (is_front_ready p) is) (λ device there. there) did.1 after at in (
+      came_as IsPlain (IsFine back) p q idle idle [] [] after (plain_fine back) c,
+      quiet_says back c.parts none,
+      none.2,
+      λ e first then found device told.
+          let parts = told_as (is_front_ready p) (has_device p.client device) (is_gone p.client device) told in
+          follow (found_of did.0 q (sym (ap hinders did.2) ∙ found)) device parts.0 parts.1,
+    )
+opens ready false p back q on_now is did after at =
+    let (c, says, nothing) = quiet p q idle idle back [] (quiet_as back _ did.0 (done_quiet None p)) (same p q idle did.1) after at in
+    (c, says, nothing, λ e first then. absurd (let t : (not ready && is_front_ready p) ≡ true = λ i. not (first i) && then i in cc (t, is)))
 
 -- ---- a message
-
--- what was heard, and what follows from it
-hears_one : (p next : FrontState) (message : List ℕ) (answer : Result Heard EndFault) → may_hear p ≡ true → ClientDoes p (client.hears message answer) (most_written (is_front_ready p)) next
-    → Does p idle [] (filter_map heard_in (hears p.channel message answer ∷ [])) next (asking_by answer)
-hears_one p next message answer may did =
-    beside p next idle (asking_by answer) (hears p.channel message answer) [] _ (core_desks p next (p.unsent + most_written (is_front_ready p)) did.1) refl refl (λ stations. (refl, refl, may, did, refl, refl))
 
 wrong_quiet : (cause : EndFault) → IsQuiet (reply.Wrong cause)
 wrong_quiet cause = (λ is. cc (is), λ key is. cc (is), refl)
 
-heard : (ready : Bool) (p : FrontState) (h : Heard) (back : FrontReply) (q : FrontState) → HeardBy ready p h back q → Answers p (asking_by (Ok h)) back [] q idle
-heard ready p Nothing back q did = opens (not ready && is_front_ready p) p back q did
-heard ready p (Ask device job) back q did = put p (record { device = device; job = job }) back q did
-heard ready p (Print n) back q did =
-    quiet p q idle idle back [] (quiet_as back (done_if did.0 q) did.3 (if_quiet did.0 q))
-    (beside p q idle idle (learns n did.0) [] [] (ap (λ (s : FrontState). s.desks) did.2) refl refl (λ stations. (did.1, ap (λ (s : FrontState). served s idle stations) did.2)))
+heard : (ready : Bool) (p : FrontState) (h : Heard) (back : FrontReply) (q : FrontState) → p.on ≡ true → HeardBy ready p h back q → AnswersHeard ready p (Ok h) back q
+heard ready p Nothing back q on_now did = opens ready (not ready && is_front_ready p) p back q on_now refl did
+heard ready p (Ask device job) back q on_now did = other_heard ready p (Ok (Ask device job)) back q (λ is. cc (is)) (put p (record { device = device; job = job }) back q did)
+heard ready p (Print n) back q on_now did =
+    other_heard ready p (Ok (Print n)) back q (λ is. cc (is))
+    (quiet p q idle idle back [] (quiet_as back (done_if did.0 q) did.3 (if_quiet did.0 q))
+    (beside p q idle idle (learns n did.0) [] [] (refl, refl, refl) (ap (λ (s : FrontState). s.desks) did.2) refl refl (λ stations. (did.1, ap (λ (s : FrontState). served s idle stations) did.2))))
 
-follows : (ready : Bool) (p : FrontState) (answer : Result Heard EndFault) (back : FrontReply) (q : FrontState) → FollowsFrom ready p answer back q → Answers p (asking_by answer) back [] q idle
-follows ready p (Err fault.Memory) back q did = quiet p q idle idle back [] (quiet_as back reply.Memory did.0 memory_quiet) (same p q idle did.1)
-follows ready p (Err (fault.Order state packet)) back q did = quiet p q idle idle back [] (quiet_as back _ did.0 (wrong_quiet (fault.Order state packet))) (same p q idle did.1)
-follows ready p (Err (fault.Grammar bad)) back q did = quiet p q idle idle back [] (quiet_as back _ did.0 (wrong_quiet (fault.Grammar bad))) (same p q idle did.1)
-follows ready p (Ok h) back q did = heard ready p h back q did
+follows : (ready : Bool) (p : FrontState) (answer : Result Heard EndFault) (back : FrontReply) (q : FrontState) → p.on ≡ true → FollowsFrom ready p answer back q → AnswersHeard ready p answer back q
+follows ready p (Err fault.Memory) back q on_now did =
+    other_heard ready p (Err fault.Memory) back q (λ is. cc (is)) (quiet p q idle idle back [] (quiet_as back reply.Memory did.0 memory_quiet) (same p q idle did.1))
+follows ready p (Err (fault.Order state packet)) back q on_now did =
+    other_heard ready p (Err (fault.Order state packet)) back q (λ is. cc (is)) (quiet p q idle idle back [] (quiet_as back _ did.0 (wrong_quiet (fault.Order state packet))) (same p q idle did.1))
+follows ready p (Err (fault.Grammar bad)) back q on_now did =
+    other_heard ready p (Err (fault.Grammar bad)) back q (λ is. cc (is)) (quiet p q idle idle back [] (quiet_as back _ did.0 (wrong_quiet (fault.Grammar bad))) (same p q idle did.1))
+follows ready p (Ok h) back q on_now did = heard ready p h back q on_now did
 
-hears_all : (p : FrontState) (message : List ℕ) → may_hear p ≡ true → (back : FrontReply) (q : FrontState) (did : FrontHears p message back q) → Answers p idle back (filter_map heard_in (hears p.channel message did.0 ∷ []) ++ []) q idle
-hears_all p message may back q did =
-    joins_last p did.1 q idle (asking_by did.0) idle back (filter_map heard_in (hears p.channel message did.0 ∷ [])) [] (hears_one p did.1 message did.0 may did.2) (follows (is_front_ready p) did.1 did.0 back q did.3)
+-- what is wrong hinders
+wrong_hinders : (ready : Bool) (p : FrontState) (channel : ℕ) (message : List ℕ) (answer : Result Heard EndFault) (back : FrontReply) (q : FrontState) → FollowsFrom ready p answer back q → stops (hears channel message answer) ≡ true → Hinders back
+wrong_hinders ready p channel message (Err fault.Memory) back q did is = absurd (cc (is))
+wrong_hinders ready p channel message (Err (fault.Order state packet)) back q did is = ap hinders did.0
+wrong_hinders ready p channel message (Err (fault.Grammar bad)) back q did is = ap hinders did.0
+wrong_hinders ready p channel message (Ok h) back q did is = absurd (cc (is))
+
+-- a message is heard, and the rest follows
+hears_all : (p : FrontState) (message : List ℕ) → may_hear p ≡ true → (back : FrontReply) (q : FrontState) (did : FrontHears p message back q) → (after : List Of) → AreStationed q.desks after
+    → Whole true p back (filter_map heard_in (hears p.channel message did.0 ∷ []) ++ []) q after
+unfolding parts_append
+hears_all p message may back q did after at =
+    let (then, says, nothing, opened) = follows (is_front_ready p) did.1 did.0 back q (ap (λ (s : FrontState). s.on) (did.2).1 ∙ on_of p.on (is_none p.kept && nat_lt (p.client).asked max_asked) may) did.3 after at in
+    let part : FrontPart = hears p.channel message did.0 in
+    let first = beside_if (MayStop back) p did.1 idle (asking_by did.0) part [] _ (wrong_hinders (is_front_ready p) did.1 p.channel message did.0 back q did.3) (core_desks p did.1 (p.unsent + most_written (is_front_ready p)) (did.2).1) refl refl (λ stations. (refl, refl, may, did.2, refl, refl)) then.stations then.at in
+    let desks : (did.1).desks ≡ p.desks = core_desks p did.1 (p.unsent + most_written (is_front_ready p)) (did.2).1 in
+    record {
+      came = came_on (MayStop back) p did.1 q idle (asking_by did.0) idle [] [] (filter_map heard_in (part ∷ [])) [] after (came_as (IsFine back) (MayStop back) did.1 q (asking_by did.0) idle [] [] after (fine_stops back) then) first;
+      says = record { unfit = λ is. inr (says.unfit is); duplicate = λ key is. inr (says.duplicate key is) };
+      nothing = nothing;
+      before = (first_before p.channel message did.0, none_before (stopped_by false part) then.parts then.hears);
+      first = unstarted back then.parts then.each;
+      follows = λ found. (tt, all_untold p.desks then.parts (untold back then.parts then.each));
+      opens = λ found answer was now device told. subst (λ (ds : List DeviceDeskState). FollowsAt ds device announced_by then.parts) desks (opened answer was now found device told);
+    }
 
 -- ---- a channel begins
 
@@ -453,7 +814,7 @@ refreshed_desks p device = go (lookup (is_at (nat_cmp device)) p.printers)
     go (Some names) = (refl, refl, refl)
 
 refreshes_one : (p : FrontState) (device : ℕ) (found : Bool) (q : FrontState) → Refreshes p device found q → Does p idle [] [] q idle
-refreshes_one p device true q did = to p _ q idle idle [] [] did (beside p (with_new_data p device) idle idle (refreshes device) [] [] (refreshed_desks p device).0 refl refl (λ stations. refl))
+refreshes_one p device true q did = to p _ q idle idle [] [] did (beside p (with_new_data p device) idle idle (refreshes device) [] [] (refl, refl, refl) (refreshed_desks p device).0 refl refl (λ stations. refl))
 refreshes_one p device false q did = same p q idle did
 
 -- what a channel's begin looks at stays the same
@@ -478,82 +839,183 @@ still_all (n ∷ names) p found q did =
     let later = still_then did.0 found did.1 q (Each RefreshesOne names did.1 found q) (still_all names did.1 found q) did.3 in
     (later.0 ∙ first.0, later.1 ∙ first.1)
 
-begins_one : (found : Bool) (p : FrontState) (channel : ℕ) (back : FrontReply) (q : FrontState) → p.on ≡ false → p.channel < channel → BeginsIf found p channel back q → Answers p idle back [] q idle
-begins_one true p channel back q off later did =
-    quiet p q idle idle back [] (quiet_as back _ did.0 (done_quiet None q))
-    (to p (begun p channel) q idle idle [] [] did.1 (beside p (begun p channel) idle idle (begins channel) [] [] refl refl refl (λ stations. (refl, off, later, refl))))
-begins_one false p channel back q off later did = quiet p q idle idle back [] (quiet_as back reply.Memory did.0 memory_quiet) (same p q idle did.1)
+-- a channel begins where that is done
+abbrev HasBegun : ℕ → FrontReply → List FrontPart → Type 0
+HasBegun channel back parts = (at : Option ℕ) (full : Bool) → back ≡ reply.Done at full → Among (λ x. begun_by x ≡ Some channel) parts
+
+abbrev Begins : FrontState → ℕ → FrontReply → FrontState → Type 0
+Begins p channel back q = (after : List Of) → AreStationed q.desks after → (c : Came (IsFine back) p idle [] [] q idle after) × Says back c.parts × (handed_out back ≡ []) × HasBegun channel back c.parts
+
+-- what doesn't say so
+begins_not : (p : FrontState) (channel : ℕ) (back : FrontReply) (q : FrontState) → ((at : Option ℕ) (full : Bool) → back ≡ reply.Done at full → ⊥) → Answers p idle back [] q idle → Begins p channel back q
+begins_not p channel back q not_done answer after at = let (c, tells, none) = answer after at in (c, tells, none, λ place full is. absurd (not_done place full is))
+
+begins_one : (found : Bool) (p : FrontState) (channel : ℕ) (back : FrontReply) (q : FrontState) → p.on ≡ false → p.channel < channel → BeginsIf found p channel back q → Begins p channel back q
+begins_one true p channel back q off later did = subst (λ (s : FrontState). Begins p channel back s) (sym did.1) now
+  where
+    none : IsQuiet back
+    none = quiet_as back _ did.0 (done_quiet None q)
+
+    now : Begins p channel back (begun p channel)
+    now after at = (
+      beside_if (IsFine back) p (begun p channel) idle idle (begins channel) [] [] (λ is. absurd (cc (is)), refl, refl) refl refl refl (λ stations. (refl, off, later, refl)) after at,
+      quiet_says back (begins channel ∷ []) none,
+      none.2,
+      λ place full is. inl refl,
+    )
+begins_one false p channel back q off later did =
+    begins_not p channel back q (λ place full is. let e : reply.Memory ≡ reply.Done place full = sym did.0 ∙ is in cc (e)) (quiet p q idle idle back [] (quiet_as back reply.Memory did.0 memory_quiet) (same p q idle did.1))
 
 -- a channel may begin where none is on, above those before
 off_of : (on : Bool) (rest : Bool) → (not on && rest) ≡ true → (on ≡ false) × (rest ≡ true)
 off_of true rest is = absurd (cc (is))
 off_of false rest is = (refl, is)
 
-begins_all : (p : FrontState) (channel : ℕ) → may_begin p channel ≡ true → (back : FrontReply) (q : FrontState) → FrontBegins p channel back q → Answers p idle back [] q idle
-begins_all p channel may back q did =
+begins_all : (p : FrontState) (channel : ℕ) → may_begin p channel ≡ true → (back : FrontReply) (q : FrontState) → FrontBegins p channel back q → Begins p channel back q
+begins_all p channel may back q did after at =
     let still = still_all p.printers p did.0 did.1 did.2 in
     let off = off_of p.on (not p.over && nat_lt p.channel channel) may in
     let above = off_of p.over (nat_lt p.channel channel) off.1 in
     let later : p.channel < channel = ltb-true p.channel channel above.1 in
-    joins_last p did.1 q idle idle idle back [] [] (each RefreshesOne (λ n a found b one. refreshes_one a n.0 found b one) p.printers p did.0 did.1 did.2)
-    (begins_one did.0 did.1 channel back q (still.0 ∙ off.0) (subst (λ (n : ℕ). n < channel) (sym still.1) later) did.3)
+    let (then, tells, none, begun_there) = begins_one did.0 did.1 channel back q (still.0 ∙ off.0) (subst (λ (n : ℕ). n < channel) (sym still.1) later) did.3 after at in
+    let before = does_as back p did.1 idle idle [] [] (each RefreshesOne (λ n a found b one. refreshes_one a n.0 found b one) p.printers p did.0 did.1 did.2) then.stations then.at in (
+      came_on (IsFine back) p did.1 q idle idle idle [] [] [] [] after then before,
+      record {
+        unfit = λ is. among_right (λ x. is_unfit x ≡ true) before.parts then.parts (tells.unfit is);
+        duplicate = λ key is. among_right (λ x. duplicate_of x ≡ Some key) before.parts then.parts (tells.duplicate key is);
+      },
+      none,
+      λ place full is. among_right (λ x. begun_by x ≡ Some channel) before.parts then.parts (begun_there place full is),
+    )
+
+-- where it may
+begins_where : (p : FrontState) (channel : ℕ) (back : FrontReply) (q : FrontState) (may : Bool) → may_begin p channel ≡ may → Where may reply.Refused back p q (FrontBegins p channel back q) → Begins p channel back q
+begins_where p channel back q true may did = begins_all p channel may back q did
+begins_where p channel back q false may did =
+    begins_not p channel back q (λ place full is. let e : reply.Refused ≡ reply.Done place full = sym did.0 ∙ is in cc (e)) (not_done reply.Refused back p q refused_quiet did)
 
 -- ---- a device is gone, or there again
-
--- the desk of a device is the device's
-desk_of : (ds : List DeviceDeskState) (place device : ℕ) (d : DeviceDeskState) → desk_place ds device ≡ Some place → slice_get ds place ≡ Some d → device ≡ d.id
-desk_of ds place device d is there =
-    let found = position-Some (λ (e : DeviceDeskState). e.id == device) ds place d is in
-    let here = get_or_from_slice_get ds place d d there in
-    sym (eqb-true d.id device (ap (λ (e : DeviceDeskState). e.id == device) (sym here) ∙ found.1))
 
 -- that a device is gone is to be written
 abbrev IsToldGone : FrontState → ℕ → Type 0
 IsToldGone s device = Has (plain (removal_bytes (device ∷ []))) ((s.client).core).outbox
 
-cuts : (p : FrontState) (device : ℕ) (place : Option ℕ) (q : FrontState) → IsToldGone p device → desk_place p.desks device ≡ place → CutsAt p place q → Does p idle [] [] q idle
-cuts p device None q told is did = same p q idle did
-cuts p device (Some place) q told is did =
-    plain_call p q place desk.Remove did.0 tt did.1 (λ stations. refl) (λ stations. (refl, subst (IsToldGone p) (desk_of p.desks place device (did.1).before is (did.1).there) told))
+-- It is cut off at its desk, where it has one.
+cuts : (p : FrontState) (device : ℕ) (place : Option ℕ) (q : FrontState) → IsToldGone p device → is_told_there p device ≡ false → desk_place p.desks device ≡ place → CutsAt p place q
+    → (after : List Of) → AreStationed q.desks after → (c : Came IsPlain p idle [] [] q idle after) × FollowsAt p.desks device cut_by c.parts
+cuts p device None q told off is did after at = (same p q idle did after at, inl is)
+cuts p device (Some place) q told off is did after at =
+    let id : device ≡ ((did.1).before).id = desk_of p.desks place device (did.1).before is (did.1).there in
+    let c = called IsPlain p q idle idle place desk.Remove did.0 tt did.1 (λ stations. refl) (λ stations. (refl, subst (IsToldGone p) id told, subst (λ (n : ℕ). is_told_there p n ≡ false) id off))
+    (λ items. remove_fit did.0 (did.1).before (did.1).after (did.1).called place ((did.1).before).id items) after at in
+    (c, inr (inl (ap (λ (n : ℕ). Some n) (sym id))))
 
 last_has : {A : Type 0} (x : A) (xs : List A) → Has x (xs ++ x ∷ [])
 last_has x [] = inl refl
 last_has x (y ∷ xs) = inr (last_has x xs)
 
-told_gone : (p q : FrontState) (device : ℕ) → q.client ≡ client.tell_removed p.client device → IsToldGone q device
+told_gone : (p q : FrontState) (device : ℕ) → q.client ≡ tell_removed p.client device → IsToldGone q device
 told_gone p q device is = subst (λ (c : ClientCoreState). Has (plain (removal_bytes (device ∷ []))) (c.core).outbox) (sym is) (last_has (plain (removal_bytes (device ∷ []))) ((p.client).core).outbox)
 
-removes_by : (first p : FrontState) (device : ℕ) (answer : Result (Unit {0}) AllocError) (back : FrontReply) (q : FrontState) → core.Did answer (client.tell_removed first.client device) first.client p.client → RemovesBy p device answer back q → Answers p idle back [] q idle
-removes_by first p device (Ok done) back q told did =
-    quiet p q idle idle back [] (quiet_as back _ did.0 (done_quiet (desk_place p.desks device) q)) (cuts p device (desk_place p.desks device) q (told_gone first p device told) refl did.1)
-removes_by first p device (Err error) back q told did = quiet p q idle idle back [] (quiet_as back reply.Memory did.0 memory_quiet) (same p q idle did.1)
+never_both : (r h g : Bool) → g ≡ h → (r && (h && not g)) ≡ false
+never_both true true true is = refl
+never_both true true false is = absurd (cc (is))
+never_both true false g is = refl
+never_both false h g is = refl
 
--- a channel is on where a device may be told of
-on_of : (on rest : Bool) → (on && rest) ≡ true → on ≡ true
-on_of true rest is = refl
-on_of false rest is = absurd (cc (is))
+-- the host isn't told any more that it is there
+told_off : (p q : FrontState) (device : ℕ) → q.client ≡ tell_removed p.client device → is_told_there q device ≡ false
+told_off p q device is =
+    subst (λ (c : ClientCoreState). (is_client_ready (c.core).shake && (has_device c device && not (is_gone c device))) ≡ false) (sym is)
+    (never_both (is_client_ready ((tell_removed p.client device).core).shake) (has_device (tell_removed p.client device) device) (is_gone (tell_removed p.client device) device) (gone_marked device (p.client).devices))
 
-removes_all : (p : FrontState) (device : ℕ) → p.on ≡ true → (back : FrontReply) (q : FrontState) → FrontRemoves p device back q → Answers p idle back [] q idle
-removes_all p device on back q did =
-    joins_last p did.1 q idle idle idle back [] []
-    (beside p did.1 idle idle (tells_gone device did.0) [] [] (core_desks p did.1 (p.unsent + one_if_done did.0) (did.2).1) refl refl (λ stations. (did.2, refl, refl, on)))
-    (removes_by p did.1 device did.0 back q ((did.2).0).1 did.3)
+abbrev Wholes : Bool → FrontState → FrontReply → FrontState → Type 0
+Wholes starts p back q = (after : List Of) → AreStationed q.desks after → Whole starts p back [] q after
 
-adds_by : (p : FrontState) (device : ℕ) (answer : Result (Unit {0}) AllocError) (back : FrontReply) (q : FrontState) → AddsBy p device answer back q → Answers p idle back [] q idle
-adds_by p device (Ok done) back q did = quiet p q idle idle back [] (quiet_as back (done_where did.0 q) did.2 (where_quiet did.0 q)) (announces p (desk_place p.desks device) did.0 q did.1)
-adds_by p device (Err error) back q did = quiet p q idle idle back [] (quiet_as back reply.Memory did.0 memory_quiet) (same p q idle did.1)
+removes_by : (p next : FrontState) (device : ℕ) (answer : Result (Unit {0}) AllocError) → p.on ≡ true → ClientDoes p (client.tells_removed device answer) (one_if_done answer) next → (back : FrontReply) (q : FrontState) → RemovesBy next device answer back q → Wholes false p back q
+removes_by p next device (Ok done) on told back q did after at =
+    let none : IsQuiet back = quiet_as back _ did.0 (done_quiet (desk_place next.desks device) q) in
+    let desks : next.desks ≡ p.desks = core_desks p next (p.unsent + 1) told.1 in
+    let (c, follow) = cuts next device (desk_place next.desks device) q (told_gone p next device (told.0).1) (told_off p next device (told.0).1) refl did.1 after at in
+    let first = beside_if (MayStop back) p next idle idle (tells_gone device (Ok done)) [] [] (λ never. absurd (cc (never))) desks refl refl (λ stations. (told, refl, refl, on, refl)) c.stations c.at in
+    record {
+      came = came_on (MayStop back) p next q idle idle idle [] [] [] [] after (came_as IsPlain (MayStop back) next q idle idle [] [] after (plain_stops back) c) first;
+      says = quiet_says back (tells_gone device (Ok done) ∷ c.parts) none;
+      nothing = none.2;
+      before = (tt, none_before false c.parts c.hears);
+      first = (refl, all_as IsPlain (λ x. is_start x ≡ false) (λ x plain. plain.2) c.parts c.each);
+      follows = λ found. (subst (λ (ds : List DeviceDeskState). FollowsAt ds device cut_by c.parts) desks follow, all_untold p.desks c.parts (all_as IsPlain (λ x. tells_device x ≡ false) (λ x plain. plain.1) c.parts c.each));
+      opens = λ found. tt;
+    }
+removes_by p next device (Err error) on told back q did after at =
+    whole false p q back (joins_last p next q idle idle idle back [] []
+    (beside p next idle idle (tells_gone device (Err error)) [] [] (refl, refl, refl) (core_desks p next (p.unsent + 0) told.1) refl refl (λ stations. (told, refl, refl, on, refl)))
+    (quiet next q idle idle back [] (quiet_as back reply.Memory did.0 memory_quiet) (same next q idle did.1))) after at
 
-adds_if : (found : Bool) (p : FrontState) (device : ℕ) → p.on ≡ true → (back : FrontReply) (q : FrontState) → AddsIf found p device back q → Answers p idle back [] q idle
-adds_if true p device on back q did =
-    joins_last p did.1 q idle idle idle back [] []
-    (beside p did.1 idle idle (tells_there device did.0) [] [] (core_desks p did.1 (p.unsent + one_if_done did.0) (did.2).1) refl refl (λ stations. (did.2, refl, refl, on)))
-    (adds_by did.1 device did.0 back q did.3)
-adds_if false p device on back q did = quiet p q idle idle back [] (quiet_as back reply.Memory did.0 memory_quiet) (same p q idle did.1)
+removes_all : (p : FrontState) (device : ℕ) → p.on ≡ true → (back : FrontReply) (q : FrontState) → FrontRemoves p device back q → Wholes false p back q
+removes_all p device on back q did = removes_by p did.1 device did.0 on did.2 back q did.3
 
-adds_all : (p : FrontState) (device : ℕ) → p.on ≡ true → (back : FrontReply) (q : FrontState) → FrontAdds p device back q → Answers p idle back [] q idle
+-- a device that was gone is there
+there_again : (p q : FrontState) (device : ℕ) → q.on ≡ true → client.MayTellAdded p.client device → q.client ≡ tell_added p.client device → IsThere q device
+there_again p q device on may is = (
+  on,
+  ap (λ (c : ClientCoreState). is_client_ready (c.core).shake) is ∙ ap is_client_ready may.0,
+  ap (λ (c : ClientCoreState). list_any (is_present_as device) c.devices) is ∙ present_marked device (p.client).devices may.1,
+)
+
+adds_by : (p next then : FrontState) (device : ℕ) (answer : Result (Unit {0}) AllocError) → p.on ≡ true → next.on ≡ p.on → next.desks ≡ p.desks → Does p idle [] [] next idle → ClientDoes next (client.tells_added device answer) (one_if_done answer) then
+    → (back : FrontReply) (q : FrontState) → AddsBy then device answer back q → Wholes false p back q
+adds_by p next then device (Ok done) on still desks before told back q did after at =
+    let none : IsQuiet back = quiet_as back (done_where did.0 q) did.2 (where_quiet did.0 q) in
+    let same_desks : then.desks ≡ next.desks = core_desks next then (next.unsent + 1) told.1 in
+    let (c, follow) = announces then (desk_place then.desks device) device did.0 q refl (there_again next then device (ap (λ (s : FrontState). s.on) told.1 ∙ still ∙ on) (told.0).0 (told.0).1) did.1 after at in
+    let untold_then = all_as IsPlain (λ x. tells_device x ≡ false) (λ x plain. plain.1) c.parts c.each in
+    let unstarted_then = all_as IsPlain (λ x. is_start x ≡ false) (λ x plain. plain.2) c.parts c.each in
+    let part = beside_if (MayStop back) next then idle idle (tells_there device (Ok done)) [] [] (λ never. absurd (cc (never))) same_desks refl refl (λ stations. (told, refl, refl, still ∙ on, refl)) c.stations c.at in
+    let later = came_on (MayStop back) next then q idle idle idle [] [] [] [] after (came_as IsPlain (MayStop back) then q idle idle [] [] after (plain_stops back) c) part in
+    let first = before later.stations later.at in
+    let came_all = came_on (MayStop back) p next q idle idle idle [] [] [] [] after later (came_as IsPlain (MayStop back) p next idle idle [] [] later.stations (plain_stops back) first) in
+    let started : AllByRecursion (λ x. is_start x ≡ false) (first.parts ++ tells_there device (Ok done) ∷ c.parts) =
+    all_append (λ x. is_start x ≡ false) first.parts (tells_there device (Ok done) ∷ c.parts) (all_as IsPlain (λ x. is_start x ≡ false) (λ x plain. plain.2) first.parts first.each) (refl, unstarted_then) in
+    record {
+      came = came_all;
+      says = quiet_says back came_all.parts none;
+      nothing = none.2;
+      before = none_before false came_all.parts came_all.hears;
+      first = started;
+      follows = λ found. none_told p.desks first.parts (tells_there device (Ok done) ∷ c.parts) (all_as IsPlain (λ x. tells_device x ≡ false) (λ x plain. plain.1) first.parts first.each) (
+        subst (λ (ds : List DeviceDeskState). FollowsAt ds device announced_by c.parts) (same_desks ∙ desks) (follow (found_of did.0 q (sym (ap hinders did.2) ∙ found))),
+        all_untold p.desks c.parts untold_then,
+      );
+      opens = λ found. none_opens (served p idle came_all.stations) (served q idle after) came_all.parts came_all.goes started;
+    }
+adds_by p next then device (Err error) on still desks before told back q did after at =
+    whole false p q back (joins_last p next q idle idle idle back [] [] before (joins_last next then q idle idle idle back [] []
+    (beside next then idle idle (tells_there device (Err error)) [] [] (refl, refl, refl) (core_desks next then (next.unsent + 0) told.1) refl refl (λ stations. (told, refl, refl, still ∙ on, refl)))
+    (quiet then q idle idle back [] (quiet_as back reply.Memory did.0 memory_quiet) (same then q idle did.1)))) after at
+
+adds_if : (found : Bool) (p next : FrontState) (device : ℕ) → p.on ≡ true → next.on ≡ p.on → next.desks ≡ p.desks → Does p idle [] [] next idle → (back : FrontReply) (q : FrontState) → AddsIf found next device back q → Wholes false p back q
+adds_if true p next device on still desks before back q did = adds_by p next did.1 device did.0 on still desks before did.2 back q did.3
+adds_if false p next device on still desks before back q did =
+    whole false p q back (joins_last p next q idle idle idle back [] [] before (quiet next q idle idle back [] (quiet_as back reply.Memory did.0 memory_quiet) (same next q idle did.1)))
+
+-- a device's data leaves the desks
+refreshed_still : (p : FrontState) (device : ℕ) (found : Bool) (q : FrontState) → Refreshes p device found q → q.desks ≡ p.desks
+refreshed_still p device true q did = ap (λ (s : FrontState). s.desks) did ∙ (refreshed_desks p device).0
+refreshed_still p device false q did = ap (λ (s : FrontState). s.desks) did
+
+adds_all : (p : FrontState) (device : ℕ) → p.on ≡ true → (back : FrontReply) (q : FrontState) → FrontAdds p device back q → Wholes false p back q
 adds_all p device on back q did =
     let still = still_one p device did.0 did.1 did.2 in
-    joins_last p did.1 q idle idle idle back [] [] (refreshes_one p device did.0 did.1 did.2) (adds_if did.0 did.1 device (still.0 ∙ on) back q did.3)
+    adds_if did.0 p did.1 device on still.0 (refreshed_still p device did.0 did.1 did.2) (refreshes_one p device did.0 did.1 did.2) back q did.3
+
+-- where a call fits
+wholes_on : (starts b : Bool) (other back : FrontReply) (p q : FrontState) (does : Type 0) → IsQuiet other → (b ≡ true → does → Wholes starts p back q) → Where b other back p q does → Wholes starts p back q
+wholes_on starts true other back p q does none on did = on refl did
+wholes_on starts false other back p q does none on did = whole starts p q back (not_done other back p q none did)
+
+wholes_unless : (starts : Bool) (p : FrontState) (back : FrontReply) (q : FrontState) (does : Type 0) (fits : Bool) → (fits ≡ true → does → Wholes starts p back q) → Where fits reply.Refused back p q (Where (not (is_front_full p)) reply.Full back p q does) → Wholes starts p back q
+wholes_unless starts p back q does fits on did = wholes_on starts fits reply.Refused back p q _ refused_quiet (λ is d. wholes_on starts (not (is_front_full p)) reply.Full back p q does full_quiet (λ less. on is) d) did
 
 -- ---- the writer
 
@@ -570,22 +1032,22 @@ marks_of [] rest.Memory = None ∷ []
 marks_of (m ∷ messages) left = Some m ∷ marks_of messages left
 
 written : (p : FrontState) (device : ℕ) (c : Completion) (message : List ℕ) → message ≡ completion_message device c → Does p (hands device c) (Some message ∷ []) [] p idle
-written p device c message is = beside p p (hands device c) idle (writes device c) (Some message ∷ []) [] refl (ap (λ (m : List ℕ). Some m ∷ []) (sym is)) refl (λ stations. (refl, refl))
+written p device c message is = beside p p (hands device c) idle (writes device c) (Some message ∷ []) [] (refl, refl, refl) refl (ap (λ (m : List ℕ). Some m ∷ []) (sym is)) refl (λ stations. (refl, refl))
 
 lost : (p : FrontState) (device : ℕ) (c : Completion) → Does p (hands device c) (None ∷ []) [] p idle
-lost p device c = beside p p (hands device c) idle (unwritten device c) (None ∷ []) [] refl refl refl (λ stations. (refl, refl))
+lost p device c = beside p p (hands device c) idle (unwritten device c) (None ∷ []) [] (refl, refl, refl) refl refl refl (λ stations. (refl, refl))
 
 one_desk : (ds : List DeviceDeskState) (place : ℕ) (d e : DeviceDeskState) → slice_get ds place ≡ Some d → slice_get ds place ≡ Some e → d ≡ e
 one_desk ds place d e one two = let both : Some d ≡ Some e = sym one ∙ two in cc (both)
 
 collected : (p q : FrontState) (place : ℕ) (d : DeviceDeskState) (answer : DeskReply) (came : Got) → (((p.client).core).outbox ≡ []) → slice_get p.desks place ≡ Some d → DeskDoes p place desk.Collect answer q → GivesCollected d.id answer came → Does p idle (message_of came) [] q idle
 collected p q place d (replied.Collected None) came none there did gives =
-    subst (λ (g : Got). Does p idle (message_of g) [] q idle) (sym gives) (called p q idle idle place desk.Collect (replied.Collected None) tt did (λ stations. refl) (λ stations. none))
+    subst (λ (g : Got). Does p idle (message_of g) [] q idle) (sym gives) (called IsPlain p q idle idle place desk.Collect (replied.Collected None) tt did (λ stations. refl) (λ stations. none) (λ items. (refl, refl, refl)))
 collected p q place d (replied.Collected (Some c)) (got.Message message) none there did gives =
-    joins p q q idle (hands (did.before).id c) idle [] (Some message ∷ []) [] [] (called p q idle (hands (did.before).id c) place desk.Collect (replied.Collected (Some c)) tt did (λ stations. (refl, refl)) (λ stations. none))
+    joins p q q idle (hands (did.before).id c) idle [] (Some message ∷ []) [] [] (called IsPlain p q idle (hands (did.before).id c) place desk.Collect (replied.Collected (Some c)) tt did (λ stations. (refl, refl)) (λ stations. none) (λ items. (refl, refl, refl)))
     (written q (did.before).id c message (subst (λ (x : DeviceDeskState). message ≡ completion_message x.id c) (one_desk p.desks place d did.before there did.there) gives))
 collected p q place d (replied.Collected (Some c)) got.Memory none there did gives =
-    joins p q q idle (hands (did.before).id c) idle [] (None ∷ []) [] [] (called p q idle (hands (did.before).id c) place desk.Collect (replied.Collected (Some c)) tt did (λ stations. (refl, refl)) (λ stations. none)) (lost q (did.before).id c)
+    joins p q q idle (hands (did.before).id c) idle [] (None ∷ []) [] [] (called IsPlain p q idle (hands (did.before).id c) place desk.Collect (replied.Collected (Some c)) tt did (λ stations. (refl, refl)) (λ stations. none) (λ items. (refl, refl, refl))) (lost q (did.before).id c)
 collected p q place d (replied.Collected (Some c)) got.Nothing none there did gives = absurd gives
 collected p q place d (replied.Announced answer) came none there did gives = absurd gives
 collected p q place d (replied.Put answer) came none there did gives = absurd gives
@@ -600,7 +1062,7 @@ collects true p place came q none did = collected p q place did.1 did.0 came non
 collects false p place came q none did = subst (λ (g : Got). Does p idle (message_of g) [] q idle) (sym did.0) (same p q idle did.1)
 
 core_sends : (p q : FrontState) (sent : Option Outgoing) → Sends p sent q → (w : Marks) → filter_map marked_by (sends p.channel sent ∷ []) ≡ w → Does p idle w [] q idle
-core_sends p q sent did w is = beside p q idle idle (sends p.channel sent) w [] (ap (λ (s : FrontState). s.desks) did.1) is refl (λ stations. (refl, did, refl, refl))
+core_sends p q sent did w is = beside p q idle idle (sends p.channel sent) w [] (refl, refl, refl) (ap (λ (s : FrontState). s.desks) did.1) is refl (λ stations. (refl, did, refl, refl))
 
 -- where the core hands nothing out, it has nothing to write
 none_left : (c new : ClientCoreState) → client.client_send c ≡ (new, None) → (new.core).outbox ≡ []
@@ -725,11 +1187,50 @@ pub record Called (p : FrontState) (does : FrontCall) (back : FrontReply) (q : F
   pub parts : List FrontPart
   pub goes : CallGoes (served p idle stations) does back parts (served q idle after)
 
+-- one that stops the channel is among these
+among_stops : (back : FrontReply) (ps : List FrontPart) → AllByRecursion (MayStop back) ps → Among (λ x. stops x ≡ true) ps → Hinders back
+among_stops back [] all none = absurd none
+among_stops back (x ∷ ps) all (inl here) = all.0 here
+among_stops back (x ∷ ps) all (inr later) = among_stops back ps all.1 later
+
+-- a call by its parts
+called_by : (p q : FrontState) (does : FrontCall) (back : FrontReply) (h : Messages) (after : List Of) (w : Whole (may_start does back) p back h q after) → HearsAs does back (filter_map heard_in (w.came).parts) → ((channel : ℕ) → does ≡ call.Begin channel → HasBegun channel back (w.came).parts)
+    → Called p does back q after
+called_by p q does back h after w heard begun_there =
+    let c = w.came in
+    record {
+      stations = c.stations;
+      at = c.at;
+      parts = c.parts;
+      goes = record {
+        before = refl;
+        goes = c.goes;
+        after = refl;
+        handed = handed_as c.parts ∙ ap (λ (ms : Marks). filter_map (λ (o : Option (List ℕ)). o) ms) c.writes ∙ sym w.nothing;
+        heard = heard;
+        tells = record {
+          unfit = (w.says).unfit;
+          duplicate = (w.says).duplicate;
+          lost = λ some. absurd (subst HasNone c.writes (lost_marked c.parts some));
+          stopped = among_stops back c.parts c.each;
+          before = w.before;
+          first = w.first;
+          begun = λ channel place full is done. begun_there channel is place full done;
+        };
+        follows = w.follows;
+        opens = w.opens;
+      };
+    }
+
+-- by this call no channel begins
+abbrev IsOther : FrontCall → Type 0
+IsOther does = (channel : ℕ) → does ≡ call.Begin channel → ⊥
+
 -- the same without a message
-silent : (p : FrontState) (does : FrontCall) (back : FrontReply) (q : FrontState) → ((h : Messages) → h ≡ [] → HearsAs does back h) → Answers p idle back [] q idle → (after : List Of) → AreStationed q.desks after → Called p does back q after
-silent p does back q none answer after at =
-    let (c, tells, nothing) = answer after at in
-    record { stations = c.stations; at = c.at; parts = c.parts; goes = record { before = refl; goes = c.goes; after = refl; handed = handed_as c.parts ∙ ap (λ (ms : Marks). filter_map (λ (o : Option (List ℕ)). o) ms) c.writes ∙ sym nothing; heard = none (filter_map heard_in c.parts) c.hears; tells = record { unfit = tells.unfit; duplicate = tells.duplicate; lost = λ some. absurd (subst HasNone c.writes (lost_marked c.parts some)) } } }
+silent : (p : FrontState) (does : FrontCall) (back : FrontReply) (q : FrontState) → IsOther does → ((h : Messages) → h ≡ [] → HearsAs does back h) → Wholes (may_start does back) p back q → (after : List Of) → AreStationed q.desks after → Called p does back q after
+silent p does back q other none made after at =
+    let w = made after at in
+    called_by p q does back [] after w (none (filter_map heard_in (w.came).parts) (w.came).hears) (λ channel is. absurd (other channel is))
 
 heard_one : (message : List ℕ) (back : FrontReply) (h : Messages) → (back ≡ reply.Refused → ⊥) → (back ≡ reply.Full → ⊥) → h ≡ message ∷ [] → IsHeardBy message back h
 heard_one message (reply.Done at full) h a b is = is
@@ -813,23 +1314,29 @@ heard_as channel message (Err (fault.Order state packet)) back h next q ready di
 heard_as channel message (Err (fault.Grammar bad)) back h next q ready did a b is = heard_one message back h a b is
 heard_as channel message (Ok x) back h next q ready did a b is = heard_one message back h a b is
 
+-- what is said of a message or a job that is tried again begins something
+said_hears : (message : List ℕ) (back : FrontReply) → IsSaid back → may_start (call.Hear message) back ≡ true
+said_hears message reply.Refused said = absurd (said.0 refl)
+said_hears message reply.Full said = absurd (said.1 refl)
+said_hears message back said = refl
+
+said_retries : (back : FrontReply) → IsSaid back → may_start call.Retry back ≡ true
+said_retries reply.Refused said = absurd (said.0 refl)
+said_retries reply.Full said = absurd (said.1 refl)
+said_retries back said = refl
+
+retried_said : (p : FrontState) (kept : Option Kept) (back : FrontReply) (q : FrontState) → FrontRetries p kept back q → IsSaid back
+retried_said p None back q did = said_as back _ did.0 (done_said None p)
+retried_said p (Some k) back q did = puts_said (record p { kept = None }) k.device k.job back q did
+
+hears_other : (message : List ℕ) → IsOther (call.Hear message)
+hears_other message channel is = cc (is)
+
 -- a message is heard, where one may be
 unheard : (message : List ℕ) (p : FrontState) (other back : FrontReply) (q : FrontState) → IsQuiet other → IsHeardBy message other [] → (back ≡ other) × (q ≡ p) → (after : List Of) → AreStationed q.desks after → Called p (call.Hear message) back q after
 unheard message p other back q none says did after at =
-    let (c, tells, nothing) = not_done other back p q none did after at in
-    record {
-      stations = c.stations;
-      at = c.at;
-      parts = c.parts;
-      goes = record {
-        before = refl;
-        goes = c.goes;
-        after = refl;
-        handed = handed_as c.parts ∙ ap (λ (ms : Marks). filter_map (λ (o : Option (List ℕ)). o) ms) c.writes ∙ sym nothing;
-        heard = subst (IsHeardBy message back) (sym c.hears) (subst (λ (r : FrontReply). IsHeardBy message r []) (sym did.0) says);
-        tells = record { unfit = tells.unfit; duplicate = tells.duplicate; lost = λ some. absurd (subst HasNone c.writes (lost_marked c.parts some)) };
-      };
-    }
+    let w = whole (may_start (call.Hear message) back) p q back (not_done other back p q none did) after at in
+    called_by p q (call.Hear message) back [] after w (subst (IsHeardBy message back) (sym (w.came).hears) (subst (λ (r : FrontReply). IsHeardBy message r []) (sym did.0) says)) (λ channel is. absurd (hears_other message channel is))
 
 hears_call : (p : FrontState) (message : List ℕ) (back : FrontReply) (q : FrontState) → FrontStep p (call.Hear message) back q → (after : List Of) → AreStationed q.desks after → Called p (call.Hear message) back q after
 hears_call p message back q did after at = by (may_hear p) refl did
@@ -837,8 +1344,9 @@ hears_call p message back q did after at = by (may_hear p) refl did
     here : may_hear p ≡ true → FrontHears p message back q → Called p (call.Hear message) back q after
     here may does =
         let said = follows_said (is_front_ready p) does.1 does.0 back q does.3 in
-        let (c, tells, nothing) = hears_all p message may back q does after at in
-        record { stations = c.stations; at = c.at; parts = c.parts; goes = record { before = refl; goes = c.goes; after = refl; handed = handed_as c.parts ∙ ap (λ (ms : Marks). filter_map (λ (o : Option (List ℕ)). o) ms) c.writes ∙ sym nothing; heard = heard_as p.channel message does.0 back (filter_map heard_in c.parts) does.1 q (is_front_ready p) does.3 said.0 said.1 c.hears; tells = record { unfit = tells.unfit; duplicate = tells.duplicate; lost = λ some. absurd (subst HasNone c.writes (lost_marked c.parts some)) } } }
+        let w = subst (λ (b : Bool). Whole b p back (filter_map heard_in (hears p.channel message does.0 ∷ []) ++ []) q after) (sym (said_hears message back said)) (hears_all p message may back q does after at) in
+        called_by p q (call.Hear message) back (filter_map heard_in (hears p.channel message does.0 ∷ []) ++ []) after w (heard_as p.channel message does.0 back (filter_map heard_in (w.came).parts) does.1 q (is_front_ready p) does.3 said.0 said.1 (w.came).hears)
+        (λ channel is. absurd (hears_other message channel is))
 
     less : (b : Bool) → may_hear p ≡ true → Where b reply.Full back p q (FrontHears p message back q) → Called p (call.Hear message) back q after
     less true may does = here may does
@@ -849,41 +1357,71 @@ hears_call p message back q did after at = by (may_hear p) refl did
     by false may does = unheard message p reply.Refused back q refused_quiet refl does after at
 
 -- messages are handed out
-hands_call : (p : FrontState) (place : ℕ) (room : MessageRoom) (back : FrontReply) (q : FrontState) → Hands p place room back q → (after : List Of) → AreStationed q.desks after → Called p (call.Next place room) back q after
-hands_call p place room (reply.Messages filled left) q did after at =
+hands_call : (channel : ℕ) (p : FrontState) (place : ℕ) (room : MessageRoom) (back : FrontReply) (q : FrontState) → Hands p place room back q → (after : List Of) → AreStationed q.desks after → Called p (call.Next channel place room) back q after
+hands_call channel p place room (reply.Messages filled left) q did after at =
     let c = fills room.places p place filled.messages left q did.1 after at in
+    let back : FrontReply = reply.Messages filled left in
+    let started = all_as IsPlain (λ x. is_start x ≡ false) (λ x plain. plain.2) c.parts c.each in
     record {
       stations = c.stations;
       at = c.at;
       parts = c.parts;
-      goes = record { before = refl; goes = c.goes; after = refl; handed = handed_as c.parts ∙ ap (λ (ms : Marks). filter_map (λ (o : Option (List ℕ)). o) ms) c.writes ∙ handed_marks filled.messages left; heard = c.hears; tells = record { unfit = λ is. absurd (cc (is)); duplicate = λ key is. absurd (cc (is)); lost = λ some. subst (λ (l : Rest). RanOut (reply.Messages filled l)) (sym (ran_out filled.messages left (subst HasNone c.writes (lost_marked c.parts some)))) tt } };
+      goes = record {
+        before = refl;
+        goes = c.goes;
+        after = refl;
+        handed = handed_as c.parts ∙ ap (λ (ms : Marks). filter_map (λ (o : Option (List ℕ)). o) ms) c.writes ∙ handed_marks filled.messages left;
+        heard = c.hears;
+        tells = record {
+          unfit = λ is. absurd (cc (is));
+          duplicate = λ key is. absurd (cc (is));
+          lost = λ some. subst (λ (l : Rest). RanOut (reply.Messages filled l)) (sym (ran_out filled.messages left (subst HasNone c.writes (lost_marked c.parts some)))) tt;
+          stopped = among_stops back c.parts (all_as IsPlain (MayStop back) (plain_stops back) c.parts c.each);
+          before = none_before false c.parts c.hears;
+          first = started;
+          begun = λ begun_channel at_place full is. absurd (cc (is));
+        };
+        follows = λ found. all_untold p.desks c.parts (all_as IsPlain (λ x. tells_device x ≡ false) (λ x plain. plain.1) c.parts c.each);
+        opens = λ found. none_opens (served p idle c.stations) (served q idle after) c.parts c.goes started;
+      };
     }
-hands_call p place room (reply.Done at full) q did after stationed = absurd did
-hands_call p place room (reply.Stands ready asked) q did after stationed = absurd did
-hands_call p place room reply.Kept q did after stationed = absurd did
-hands_call p place room (reply.Wrong cause) q did after stationed = absurd did
-hands_call p place room (reply.Duplicate key) q did after stationed = absurd did
-hands_call p place room reply.Unfit q did after stationed = absurd did
-hands_call p place room reply.Memory q did after stationed = absurd did
-hands_call p place room reply.Full q did after stationed = absurd did
-hands_call p place room reply.Refused q did after stationed = absurd did
+hands_call channel p place room (reply.Done at full) q did after stationed = absurd did
+hands_call channel p place room (reply.Stands ready asked) q did after stationed = absurd did
+hands_call channel p place room reply.Kept q did after stationed = absurd did
+hands_call channel p place room (reply.Wrong cause) q did after stationed = absurd did
+hands_call channel p place room (reply.Duplicate key) q did after stationed = absurd did
+hands_call channel p place room reply.Unfit q did after stationed = absurd did
+hands_call channel p place room reply.Memory q did after stationed = absurd did
+hands_call channel p place room reply.Full q did after stationed = absurd did
+hands_call channel p place room reply.Refused q did after stationed = absurd did
+
+-- none are handed out where another channel began last
+next_call : (same_channel : Bool) (channel : ℕ) (p : FrontState) (place : ℕ) (room : MessageRoom) (back : FrontReply) (q : FrontState) → Where same_channel (none_for room) back p q (Hands p place room back q) → (after : List Of) → AreStationed q.desks after
+    → Called p (call.Next channel place room) back q after
+next_call true channel p place room back q did after at = hands_call channel p place room back q did after at
+next_call false channel p place room back q did after at =
+    silent p (call.Next channel place room) back q (λ begun_channel is. cc (is)) (λ h is. is) (whole false p q back (not_done (none_for room) back p q (λ is. cc (is), λ key is. cc (is), refl) did)) after at
 
 pub call_goes : (p : FrontState) (does : FrontCall) (back : FrontReply) (q : FrontState) → FrontStep p does back q → (after : List Of) → AreStationed q.desks after → Called p does back q after
 call_goes p (call.Begin channel) back q did after at =
-    silent p (call.Begin channel) back q (λ h is. is) (where_on (may_begin p channel) reply.Refused back p q _ refused_quiet (λ may does. begins_all p channel may back q does) did) after at
+    let (c, says, nothing, begun_there) = begins_where p channel back q (may_begin p channel) refl did after at in
+    let w = whole_of false p q back after c says nothing in
+    called_by p q (call.Begin channel) back [] after w c.hears (λ other is. let equal : channel ≡ other = cc (is) in subst (λ (n : ℕ). HasBegun n back c.parts) equal begun_there)
 call_goes p (call.Hear message) back q did after at = hears_call p message back q did after at
-call_goes p call.Retry back q did after at = silent p call.Retry back q (λ h is. is) (unless_full p back q _ p.on (λ on does. retries p p.kept refl on back q does) did) after at
-call_goes p (call.Next place room) back q did after at = hands_call p place room back q did after at
-call_goes p (call.Remove device) back q did after at = silent p (call.Remove device) back q (λ h is. is) (unless_full p back q _ (may_remove p device) (λ may does. removes_all p device (on_of p.on (is_told_there p device) may) back q does) did) after at
-call_goes p (call.Add device) back q did after at = silent p (call.Add device) back q (λ h is. is) (unless_full p back q _ (may_add p device) (λ may does. adds_all p device (on_of p.on (is_front_ready p && is_gone p.client device) may) back q does) did) after at
+call_goes p call.Retry back q did after at = silent p call.Retry back q (λ begun_channel is. cc (is)) (λ h is. is) (wholes_unless (may_start call.Retry back) p back q _ p.on (λ on does. λ then at_then. subst (λ (b : Bool). Whole b p back [] q then) (sym (said_retries back (retried_said p p.kept back q does))) (retries p p.kept refl on back q does then at_then)) did) after at
+call_goes p (call.Next channel place room) back q did after at = next_call (channel == p.channel) channel p place room back q did after at
+call_goes p (call.Remove device) back q did after at =
+    silent p (call.Remove device) back q (λ begun_channel is. cc (is)) (λ h is. is) (wholes_unless false p back q _ (may_remove p device) (λ may does. removes_all p device (on_of p.on (is_told_there p device) may) back q does) did) after at
+call_goes p (call.Add device) back q did after at =
+    silent p (call.Add device) back q (λ begun_channel is. cc (is)) (λ h is. is) (wholes_unless false p back q _ (may_add p device) (λ may does. adds_all p device (on_of p.on (is_front_ready p && is_gone p.client device) may) back q does) did) after at
 call_goes p call.Look back q did after at =
-    silent p call.Look back q (λ h is. is) (quiet p q idle idle back [] (quiet_as back _ did.0 (λ is. cc (is), λ key is. cc (is), refl)) (same p q idle did.1)) after at
+    silent p call.Look back q (λ begun_channel is. cc (is)) (λ h is. is) (whole false p q back (quiet p q idle idle back [] (quiet_as back _ did.0 (λ is. cc (is), λ key is. cc (is), refl)) (same p q idle did.1))) after at
 call_goes p call.EndChannel back q did after at =
-    silent p call.EndChannel back q (λ h is. is)
-    (where_on p.on reply.Refused back p q _ refused_quiet (λ on (does : (back ≡ done_at None q) × ChannelEnds p q). quiet p q idle idle back [] (quiet_as back _ does.0 (done_quiet None q)) (channel_ends p q does.1)) did) after at
+    silent p call.EndChannel back q (λ begun_channel is. cc (is)) (λ h is. is)
+    (wholes_on false p.on reply.Refused back p q _ refused_quiet (λ on (does : (back ≡ done_at None q) × ChannelEnds p q). whole false p q back (quiet p q idle idle back [] (quiet_as back _ does.0 (done_quiet None q)) (channel_ends p q does.1))) did) after at
 call_goes p call.EndSession back q did after at =
-    silent p call.EndSession back q (λ h is. is)
-    (where_on (not p.over) reply.Refused back p q _ refused_quiet (λ on (does : (back ≡ done_at None q) × SessionEnds p q). quiet p q idle idle back [] (quiet_as back _ does.0 (done_quiet None q)) (session_ends p q does.1)) did) after at
+    silent p call.EndSession back q (λ begun_channel is. cc (is)) (λ h is. is)
+    (wholes_on false (not p.over) reply.Refused back p q _ refused_quiet (λ on (does : (back ≡ done_at None q) × SessionEnds p q). whole false p q back (quiet p q idle idle back [] (quiet_as back _ does.0 (done_quiet None q)) (session_ends p q does.1))) did) after at
 
 -- A history with the stations after it.
 pub record History (p : FrontState) (entries : List (Entry FrontCall FrontReply)) (q : FrontState) (after : List Of) : Type 0 where

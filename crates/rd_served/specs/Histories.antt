@@ -1,19 +1,22 @@
 -- A front's history, call by call: the parts of each call, and what they tell of it.
-use Rattle.std.specs.Prelude.{◌≡◌, ◌⊎◌, ℕ, true, false, List, [], ◌∷◌, filter_map, slice_get, None, Some}
+use Rattle.std.specs.Prelude.{◌≡◌, ◌⊎◌, ◌||◌, ℕ, Bool, true, false, List, [], ◌∷◌, filter_map, slice_get, Option, None, Some, Ok, Err}
 use Rattle.std.specs.List.{AllByRecursion, AllZip}
 use Rattle.rd_base.specs.declared.journal.Key.{Key}
+use Rattle.rd_client.specs.declared.heard.Heard.TheVariants.{Nothing}
+use Rattle.rd_front.specs.Front.{desk_place, is_front_ready, is_told_there}
 use Rattle.rd_front.specs.declared.calls.FrontCall.{FrontCall}
 use Rattle.rd_front.specs.declared.calls.FrontCall.TheVariants as call
 use Rattle.rd_front.specs.declared.calls.FrontReply.{FrontReply}
 use Rattle.rd_front.specs.declared.calls.FrontReply.TheVariants as reply
 use Rattle.rd_front.specs.declared.calls.Rest.TheVariants as rest
 use Rattle.rd_front.specs.State.{DeviceDeskState, FrontState, SessionStation}
+use Rattle.rd_hello.specs.declared.end_fault.EndFault.TheVariants as fault
 use Rattle.rd_journals.specs.Stations.{IsFit}
 use Rattle.rd_station.specs.Station.{new_station}
 use Rattle.rd_turn.specs.declared.object.Entry.{Entry}
 use Rattle.rd_world.specs.Devices.{device_parked}
 use Rattle.rd_world.specs.declared.device.SessionDevice.{SessionDevice}
-use Rattle.rd_served.specs.Parts.{FrontPart, PartsGo, duplicate_of, handed_by, heard_in, is_lost, is_unfit}
+use Rattle.rd_served.specs.Parts.{FrontPart, PartsGo, announced_by, begins, begun_by, cut_by, duplicate_of, handed_by, heard_in, hears, is_lost, is_start, is_unfit, stops, tells_gone, tells_there}
 use Rattle.rd_served.specs.Served.{IsStationed, Served, idle}
 
 -- the messages that a reply hands out
@@ -42,11 +45,74 @@ abbrev pub RanOut : FrontReply → Type 0
 RanOut (reply.Messages filled rest.Memory) = Unit {0}
 RanOut _ = ⊥
 
--- what a reply says of the parts
-pub record TellsParts (back : FrontReply) (parts : List FrontPart) : Type 0 where
+-- after this reply nothing more is to be heard on the channel
+abbrev pub hinders : FrontReply → Bool
+hinders (reply.Wrong cause) = true
+hinders (reply.Duplicate key) = true
+hinders reply.Unfit = true
+hinders reply.Memory = true
+hinders _ = false
+
+-- whether a part stopped the channel since it began
+abbrev pub stopped_by : Bool → FrontPart → Bool
+stopped_by was (begins channel) = false
+stopped_by was part = stops part || was
+
+-- a message is heard only before that
+abbrev pub HearsBefore : Bool → FrontPart → Type 0
+HearsBefore was (hears channel message (Err fault.Memory)) = Unit {0}
+HearsBefore was (hears channel message answer) = was ≡ false
+HearsBefore was _ = Unit {0}
+
+abbrev pub HearBefore : Bool → List FrontPart → Type 0
+HearBefore was [] = Unit {0}
+HearBefore was (p ∷ ps) = HearsBefore was p × HearBefore (stopped_by was p) ps
+
+-- whether a call may hear a message or try a job again: none does that doesn't fit, or comes while too much is to be written
+abbrev pub may_start : FrontCall → FrontReply → Bool
+may_start (call.Hear message) reply.Refused = false
+may_start (call.Hear message) reply.Full = false
+may_start (call.Hear message) back = true
+may_start call.Retry reply.Refused = false
+may_start call.Retry reply.Full = false
+may_start call.Retry back = true
+may_start does back = false
+
+-- It does so by its first part at the most.
+abbrev pub StartsBy : Bool → List FrontPart → Type 0
+StartsBy true [] = Unit {0}
+StartsBy true (p ∷ ps) = AllByRecursion (λ x. is_start x ≡ false) ps
+StartsBy false ps = AllByRecursion (λ x. is_start x ≡ false) ps
+
+-- The desk of a device is called so by a later part, where it has one.
+abbrev pub FollowsAt : List DeviceDeskState → ℕ → (FrontPart → Option ℕ) → List FrontPart → Type 0
+FollowsAt desks device by later = (desk_place desks device ≡ None) ⊎ Among (λ x. by x ≡ Some device) later
+
+-- What the host is told of a device is followed by a call of its desk.
+abbrev pub IsFollowed : List DeviceDeskState → FrontPart → List FrontPart → Type 0
+IsFollowed desks (tells_gone device (Ok done)) later = FollowsAt desks device cut_by later
+IsFollowed desks (tells_there device (Ok done)) later = FollowsAt desks device announced_by later
+IsFollowed desks _ later = Unit {0}
+
+abbrev pub AreFollowed : List DeviceDeskState → List FrontPart → Type 0
+AreFollowed desks [] = Unit {0}
+AreFollowed desks (p ∷ ps) = IsFollowed desks p ps × AreFollowed desks ps
+
+-- Where the opening is over by the message of a call, each device that the host is told of by that is announced to its desk.
+abbrev pub OpensEach : (old : Served) (ps : List FrontPart) (new : Served) → PartsGo old ps new → Type 0
+OpensEach old (hears channel message answer ∷ ps) new goes =
+    answer ≡ Ok Nothing → is_front_ready old.front ≡ false → is_front_ready (goes.0).front ≡ true → (device : ℕ) → is_told_there (goes.0).front device ≡ true → FollowsAt (old.front).desks device announced_by ps
+OpensEach old _ new goes = Unit {0}
+
+-- What a call and its reply say of the parts. A part stops the channel only where the reply hinders, and the call's message is heard before it.
+pub record TellsParts (does : FrontCall) (back : FrontReply) (parts : List FrontPart) : Type 0 where
   pub unfit : back ≡ reply.Unfit → Among (λ p. is_unfit p ≡ true) parts
   pub duplicate : (key : Key) → back ≡ reply.Duplicate key → Among (λ p. duplicate_of p ≡ Some key) parts
   pub lost : Among (λ p. is_lost p ≡ true) parts → RanOut back
+  pub stopped : Among (λ p. stops p ≡ true) parts → hinders back ≡ true
+  pub before : HearBefore false parts
+  pub first : StartsBy (may_start does back) parts
+  pub begun : (channel : ℕ) (at : Option ℕ) (full : Bool) → does ≡ call.Begin channel → back ≡ reply.Done at full → Among (λ p. begun_by p ≡ Some channel) parts
 
 -- A call's parts: they lead from the front before it to the front after it, between which nothing is under way.
 pub record CallGoes (old : Served) (does : FrontCall) (back : FrontReply) (parts : List FrontPart) (new : Served) : Type 0 where
@@ -55,7 +121,10 @@ pub record CallGoes (old : Served) (does : FrontCall) (back : FrontReply) (parts
   pub after : new.asking ≡ idle
   pub handed : filter_map handed_by parts ≡ handed_out back
   pub heard : HearsAs does back (filter_map heard_in parts)
-  pub tells : TellsParts back parts
+  pub tells : TellsParts does back parts
+  -- where memory was found for all of it
+  pub follows : hinders back ≡ false → AreFollowed (old.front).desks parts
+  pub opens : hinders back ≡ false → OpensEach old parts new goes
 
 -- The calls of a history, each with its parts.
 abbrev pub HistoryGoes : Served → List (Entry FrontCall FrontReply) → List (List FrontPart) → Served → Type 0

@@ -1,12 +1,13 @@
 -- What a front's history does, part by part. A part has in it all that is said of it afterwards, so what was done can be read off the parts alone.
-use Rattle.std.specs.Prelude.{◌≡◌, ◌⊎◌, ◌<◌, ℕ, Bool, true, false, List, [], ◌∷◌, slice_get, slice_set, Option, Some, None, Result, Ok, Err}
+use Rattle.std.specs.Prelude.{◌≡◌, ◌⊎◌, ◌<◌, ◌&&◌, ℕ, Bool, true, false, cond, List, [], ◌∷◌, slice_get, slice_set, Option, Some, None, Result, Ok, Err}
 use Rattle.std.specs.declared.alloc.AllocError.{AllocError}
+use Rattle.std.specs.List.{list_any}
 use Rattle.rd_base.specs.declared.journal.Item.{Item}
 use Rattle.rd_base.specs.declared.journal.Key.{Key}
 use Rattle.rd_base.specs.declared.status.Status.{Status}
 use Rattle.rd_base.specs.Statuses.{insufficient_resources, no_such_device}
 use Rattle.rd_client.specs.Core as client
-use Rattle.rd_client.specs.Core.{Outgoing, may_be_asked, plain}
+use Rattle.rd_client.specs.Core.{ClientDevice, Outgoing, is_device, is_present, may_be_asked, plain}
 use Rattle.rd_client.specs.declared.heard.Heard.{Heard}
 use Rattle.rd_client.specs.declared.heard.Heard.TheVariants.{Ask}
 use Rattle.rd_desk.specs.declared.calls.DeskCall.{DeskCall}
@@ -15,7 +16,7 @@ use Rattle.rd_desk.specs.declared.calls.DeskReply.{DeskReply}
 use Rattle.rd_desk.specs.declared.calls.DeskReply.TheVariants as replied
 use Rattle.rd_devices.specs.Removal.{removal_bytes}
 use Rattle.rd_drive.specs.declared.plan.Job.{Job}
-use Rattle.rd_front.specs.Front.{ClientDoes, Sends, begun, channel_ended, desk_place, end_call, gone_status, is_front_ready, may_hear, most_written, one_if_done, with_new_data}
+use Rattle.rd_front.specs.Front.{ClientDoes, Sends, begun, channel_ended, desk_place, end_call, gone_status, is_announced, is_front_ready, is_told_there, may_hear, most_written, one_if_done, with_new_data}
 use Rattle.rd_front.specs.State.{DeviceDeskState, FrontState, SessionStation}
 use Rattle.rd_hello.specs.declared.end_fault.EndFault.{EndFault}
 use Rattle.rd_hello.specs.declared.end_fault.EndFault.TheVariants as fault
@@ -97,10 +98,15 @@ IsOpenCall desk.DropChannel = ⊥
 IsOpenCall desk.End = ⊥
 IsOpenCall _ = Unit {0}
 
--- A completion is collected where the core has nothing to write. A device is cut off once the core has to write that it is gone, while nothing is under way.
+-- a device that is there has this id
+abbrev pub is_present_as : ℕ → ClientDevice → Bool
+is_present_as device d = is_device device d && is_present d
+
+-- A completion is collected where the core has nothing to write. A device is announced to its desk once the host is told of it on the channel that is on, and cut off there once the core has to write that it is gone, while nothing is under way.
 abbrev pub FitsCall : Served → ℕ → DeskCall → Type 0
 FitsCall s id desk.Collect = (((s.front).client).core).outbox ≡ []
-FitsCall s id desk.Remove = (s.asking ≡ idle) × Has (plain (removal_bytes (id ∷ []))) (((s.front).client).core).outbox
+FitsCall s id desk.Remove = (s.asking ≡ idle) × Has (plain (removal_bytes (id ∷ []))) (((s.front).client).core).outbox × (is_told_there s.front id ≡ false)
+FitsCall s id desk.Announce = (s.asking ≡ idle) × ((s.front).on ≡ true) × (is_front_ready s.front ≡ true) × (list_any (is_present_as id) ((s.front).client).devices ≡ true)
 FitsCall s id _ = Unit {0}
 
 -- The desk at a place is called.
@@ -146,9 +152,9 @@ PartGoes old (directs st answer) new =
     (k : Kept) × MayBeDirect old k st × ClientDoes old.front (client.directs k.job k.device st answer) (one_if_done answer) new.front × (new.asking ≡ idle) × (new.stations ≡ old.stations)
 PartGoes old (calls place id does back items) new = CallsAt old place id does back items new
 PartGoes old (tells_gone device answer) new =
-    ClientDoes old.front (client.tells_removed device answer) (one_if_done answer) new.front × (new.asking ≡ old.asking) × (new.stations ≡ old.stations) × ((old.front).on ≡ true)
+    ClientDoes old.front (client.tells_removed device answer) (one_if_done answer) new.front × (new.asking ≡ old.asking) × (new.stations ≡ old.stations) × ((old.front).on ≡ true) × (old.asking ≡ idle)
 PartGoes old (tells_there device answer) new =
-    ClientDoes old.front (client.tells_added device answer) (one_if_done answer) new.front × (new.asking ≡ old.asking) × (new.stations ≡ old.stations) × ((old.front).on ≡ true)
+    ClientDoes old.front (client.tells_added device answer) (one_if_done answer) new.front × (new.asking ≡ old.asking) × (new.stations ≡ old.stations) × ((old.front).on ≡ true) × (old.asking ≡ idle)
 PartGoes old (sends channel sent) new =
     (channel ≡ (old.front).channel) × Sends old.front sent new.front × (new.asking ≡ old.asking) × (new.stations ≡ old.stations)
 PartGoes old (writes device c) new = (old.asking ≡ hands device c) × (new ≡ record old { asking = idle })
@@ -198,3 +204,41 @@ duplicate_of _ = None
 abbrev pub is_lost : FrontPart → Bool
 is_lost (unwritten device c) = true
 is_lost _ = false
+
+-- Nothing is to be heard any more on the channel: what was heard is wrong, or a request is given up, or no memory was found for its answer.
+abbrev pub stops : FrontPart → Bool
+stops (hears channel message (Err fault.Memory)) = false
+stops (hears channel message (Err wrong)) = true
+stops forgets = true
+stops misplaces = true
+stops (directs st (Err error)) = true
+stops (calls place id does (replied.Unfit job) items) = true
+stops _ = false
+
+-- the channel that begins
+abbrev pub begun_by : FrontPart → Option ℕ
+begun_by (begins channel) = Some channel
+begun_by _ = None
+
+-- ---- in which order a call's parts stand
+
+-- a part by which a call begins: a message is heard, or a job tried again
+abbrev pub is_start : FrontPart → Bool
+is_start (hears channel message answer) = true
+is_start tries = true
+is_start _ = false
+
+-- the host is told of a device
+abbrev pub tells_device : FrontPart → Bool
+tells_device (tells_gone device (Ok done)) = true
+tells_device (tells_there device (Ok done)) = true
+tells_device _ = false
+
+-- the device that is announced to its desk, where memory was found for that; and the one that is cut off there
+abbrev pub announced_by : FrontPart → Option ℕ
+announced_by (calls place id desk.Announce back items) = cond (is_announced back) (Some id) None
+announced_by _ = None
+
+abbrev pub cut_by : FrontPart → Option ℕ
+cut_by (calls place id desk.Remove back items) = Some id
+cut_by _ = None

@@ -50,14 +50,14 @@ use Rattle.rd_served.proofs.CauseLemmas.{AnyRequest, IsTold, job_told, tied_then
 use Rattle.rd_served.proofs.KeyLemmas.{IsKeyed, IsUnder, both_true, ended_is, none_of, refreshed_calm}
 use Rattle.rd_served.proofs.StandingLemmas.{IsKnownAt, direct_under, ended_outbox, part_known, parts_known, refreshed_more, sent_first, sent_none}
 use Rattle.rd_served.specs.Deeds.{deeds_after, deeds_of, deeds_of_calls, stored, stored_each}
-use Rattle.rd_served.specs.Histories.{HearsAs, HistoryGoes, IsHeardBy, IsNewFront}
+use Rattle.rd_served.specs.Histories.{HearBefore, HearsAs, HearsBefore, HistoryGoes, IsHeardBy, IsNewFront, stopped_by}
 use Rattle.rd_served.specs.Parts.{AsksBy, CallsAt, Comes, FrontPart, PartGoes, PartsGo, asking_by, begins, calls, directs, ended_front, ends, forgets, heard_in, keeps, learns, misplaces, refreshes, sends, tells_gone, tells_there, tries, unwritten, writes}
 use Rattle.rd_served.specs.Parts as part
 use Rattle.rd_served.specs.Served.{Asking, Served, asks, hands, idle, refused}
 use Rattle.rd_served_refusals.proofs.BytesLemmas.{is_of_own}
 use Rattle.rd_served_refusals.proofs.LineLemmas.{past_owns, told_some}
 use Rattle.rd_served_refusals.proofs.PointLemmas.{Lines, Point, lines_asks, lines_begun, lines_came, lines_direct, lines_ended, lines_lost, lines_other, lines_own, lines_owns, lines_said, lines_sent, lines_stopped, lines_written, lines_wrong, passes_now}
-use Rattle.rd_served_refusals.specs.Heeding.{CallsHearBefore, EachEndsHeeded, EndsHeeded, HearBefore, HearInRoom, HearsBefore, HearsInRoom, NamesInRoom, PartsEndHeeded, once_written, stopped_after, stopped_by}
+use Rattle.rd_served_refusals.specs.Heeding.{CallsHearBefore, EachEndsHeeded, EndsHeeded, HearInRoom, HearsInRoom, NamesInRoom, PartsEndHeeded, once_written, stopped_after}
 
 abbrev Of : Type 0
 Of = SessionStation

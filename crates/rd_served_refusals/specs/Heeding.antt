@@ -1,21 +1,20 @@
 -- In which order a client answers requests that never come to a station, and that it passes over none but the last.
-use Rattle.std.specs.Prelude.{◌≡◌, ℕ, ◌<◌, ◌^◌, ◌||◌, Bool, true, false, List, [], ◌∷◌, ◌++◌, All, Some, Err}
+use Rattle.std.specs.Prelude.{◌≡◌, ℕ, ◌<◌, ◌^◌, ◌||◌, Bool, true, false, List, [], ◌∷◌, ◌++◌, All, Some}
 use Rattle.std.specs.List.{AllByRecursion}
 use Rattle.rd_client.specs.Core.{Outgoing}
-use Rattle.rd_desk.specs.declared.calls.DeskReply.TheVariants as replied
 use Rattle.rd_front.specs.State.{FrontState}
 use Rattle.rd_front.specs.declared.calls.FrontCall.{FrontCall}
 use Rattle.rd_front.specs.declared.calls.FrontCall.TheVariants as call
 use Rattle.rd_front.specs.declared.calls.FrontReply.{FrontReply}
-use Rattle.rd_hello.specs.declared.end_fault.EndFault.TheVariants as fault
+use Rattle.rd_front.specs.declared.calls.FrontReply.TheVariants as reply
 use Rattle.rd_irp.specs.declared.request.Request.{Request}
 use Rattle.rd_turn.specs.declared.object.Entry.{Entry}
 use Rattle.rd_world.specs.Events.{deed_on}
 use Rattle.rd_world.specs.Talk.{Deed, EndsWith, client_read, request_in}
 use Rattle.rd_world.specs.Told.{IsLeft, requests_to, told, unserved, without_last}
 use Rattle.rd_served.specs.Deeds.{deeds_after, deeds_of}
-use Rattle.rd_served.specs.Histories.{HistoryGoes}
-use Rattle.rd_served.specs.Parts.{FrontPart, PartsGo, begins, calls, directs, ends, forgets, hears, misplaces}
+use Rattle.rd_served.specs.Histories.{HearBefore, HistoryGoes, hinders, stopped_by}
+use Rattle.rd_served.specs.Parts.{FrontPart, PartsGo, ends}
 use Rattle.rd_served.specs.Served.{Served}
 
 -- ---- what is taken of a history
@@ -31,35 +30,30 @@ HearsInRoom _ = Unit {0}
 abbrev pub HearInRoom : List (Entry FrontCall FrontReply) → Type 0
 HearInRoom entries = AllByRecursion (λ (e : Entry FrontCall FrontReply). HearsInRoom e.call) entries
 
--- Nothing is to be heard any more on the channel: what was heard is wrong, or a request is given up, or no memory was found for its answer.
-abbrev pub stops : FrontPart → Bool
-stops (hears channel message (Err fault.Memory)) = false
-stops (hears channel message (Err wrong)) = true
-stops forgets = true
-stops misplaces = true
-stops (directs st (Err error)) = true
-stops (calls place id does (replied.Unfit job) items) = true
-stops _ = false
+-- whether a reply hindered since the channel began
+abbrev pub hindered_by : Bool → FrontCall → FrontReply → Bool
+hindered_by was (call.Begin channel) (reply.Done at full) = false
+hindered_by was does back = hinders back || was
 
--- whether that was so since the channel began
-abbrev pub stopped_by : Bool → FrontPart → Bool
-stopped_by was (begins channel) = false
-stopped_by was part = stops part || was
+-- A call has a message heard only before that; where the call doesn't fit, or too much stands in the outbox, it hears none.
+abbrev pub HearsUnhindered : Bool → FrontCall → FrontReply → Type 0
+HearsUnhindered was (call.Hear message) reply.Refused = Unit {0}
+HearsUnhindered was (call.Hear message) reply.Full = Unit {0}
+HearsUnhindered was (call.Hear message) back = was ≡ false
+HearsUnhindered was does back = Unit {0}
 
+abbrev pub HearUnhindered : Bool → List (Entry FrontCall FrontReply) → Type 0
+HearUnhindered was [] = Unit {0}
+HearUnhindered was (e ∷ es) = HearsUnhindered was e.call e.reply × HearUnhindered (hindered_by was e.call e.reply) es
+
+-- ---- what is heard
+
+-- whether a part stopped the channel since it began
 abbrev pub stopped_after : Bool → List FrontPart → Bool
 stopped_after was [] = was
 stopped_after was (p ∷ ps) = stopped_after (stopped_by was p) ps
 
 -- a message is heard only before that
-abbrev pub HearsBefore : Bool → FrontPart → Type 0
-HearsBefore was (hears channel message (Err fault.Memory)) = Unit {0}
-HearsBefore was (hears channel message answer) = was ≡ false
-HearsBefore was _ = Unit {0}
-
-abbrev pub HearBefore : Bool → List FrontPart → Type 0
-HearBefore was [] = Unit {0}
-HearBefore was (p ∷ ps) = HearsBefore was p × HearBefore (stopped_by was p) ps
-
 abbrev pub CallsHearBefore : Bool → List (List FrontPart) → Type 0
 CallsHearBefore was [] = Unit {0}
 CallsHearBefore was (ps ∷ pss) = HearBefore was ps × CallsHearBefore (stopped_after was ps) pss

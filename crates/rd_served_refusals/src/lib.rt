@@ -5,4 +5,7 @@
 
 mod laws;
 
-pub use laws::{fronts_answer_in_order, fronts_pass_over_none, messages_of_bytes_name_in_room};
+pub use laws::{
+    fronts_answer_in_order, fronts_pass_over_none, messages_of_bytes_name_in_room,
+    nothing_is_heard_too_late,
+};

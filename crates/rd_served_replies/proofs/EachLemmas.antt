@@ -38,11 +38,16 @@ replied_first devices final p begins = record {
   each = tt;
 }
 
+-- what was written, and what waits
+pub replied_then : (devices : List (ℕ × Declared)) (old new : Served) (entries : List (Entry FrontCall FrontReply)) (parts : List (List FrontPart)) → BeginsNew old → AreOpened devices (old.front).desks → HistoryGoes old entries parts new → GiveOwn (new.front).desks
+    → AllByRecursion IsOfBytes (deeds_of_calls parts []) → AreReplied (replies_read devices (deeds_of_calls parts [])) new (deeds_of_calls parts [])
+replied_then devices old new entries parts begins opened goes gives bytes =
+    history_replied devices opened.fit (deeds_of_calls parts []) (all_fine (deeds_of_calls parts []) bytes) entries parts old new [] goes (known_first old begins) (first_of devices old begins opened) gives
+    (grown_more [] (deeds_of_calls parts [])) (replied_first devices (deeds_of_calls parts []) old begins)
+
 pub all_replied : (devices : List (ℕ × Declared)) (old new : Served) (entries : List (Entry FrontCall FrontReply)) (parts : List (List FrontPart)) → BeginsNew old → AreOpened devices (old.front).desks → HistoryGoes old entries parts new → GiveOwn (new.front).desks
     → AllByRecursion IsOfBytes (deeds_of_calls parts []) → EachAfter (AnswersBy (replies_read devices (deeds_of_calls parts []))) (deeds_of_calls parts [])
-all_replied devices old new entries parts begins opened goes gives bytes =
-    (history_replied devices opened.fit (deeds_of_calls parts []) (all_fine (deeds_of_calls parts []) bytes) entries parts old new [] goes (known_first old begins) (first_of devices old begins opened) gives
-    (grown_more [] (deeds_of_calls parts [])) (replied_first devices (deeds_of_calls parts []) old begins)).each
+all_replied devices old new entries parts begins opened goes gives bytes = (replied_then devices old new entries parts begins opened goes gives bytes).each
 
 gone_first : (p : Served) → BeginsNew p → AreGone p []
 gone_first p begins = record {

@@ -114,7 +114,7 @@ call_bytes : (does : FrontCall) (back : FrontReply) (messages : List (List ℕ))
 call_bytes (call.Hear message) back messages are is = heard_bytes message back messages are is
 call_bytes (call.Begin channel) back messages are is = subst AreAllBytes (sym is) tt
 call_bytes call.Retry back messages are is = subst AreAllBytes (sym is) tt
-call_bytes (call.Next place room) back messages are is = subst AreAllBytes (sym is) tt
+call_bytes (call.Next channel place room) back messages are is = subst AreAllBytes (sym is) tt
 call_bytes (call.Remove device) back messages are is = subst AreAllBytes (sym is) tt
 call_bytes (call.Add device) back messages are is = subst AreAllBytes (sym is) tt
 call_bytes call.Look back messages are is = subst AreAllBytes (sym is) tt

@@ -1,11 +1,13 @@
 -- Counts of faults, as channels are settled one after the other.
-use Rattle.std.proofs.Common.{◌≡◌, ◌∙◌, ◌<◌, ◌+◌, ◌||◌, ℕ, zero, suc, arith, ap, sym, refl, subst, Bool, true, false, inl}
-use Rattle.std.specs.Prelude.{IsTrue}
+use Rattle.std.proofs.Common.{◌≡◌, ◌∙◌, ◌<◌, ◌+◌, ◌||◌, ℕ, zero, suc, arith, ap, sym, refl, subst, Bool, true, false, Some, inl}
+use Rattle.std.specs.Prelude.{IsTrue, ◌↔◌}
 use Rattle.std.proofs.lemmas.Grind.{common_steps}
 use Rattle.rd_link.specs.Links.{more_faults}
 use Rattle.rd_carry.specs.declared.ended.Ended.{Ended}
 use Rattle.rd_carry.specs.declared.ended.Ended.TheVariants as ended
-use Rattle.rd_workers.specs.Faults.{Counts, EndsSession, HasRisen, TellsFaults}
+use Rattle.rd_workers.specs.Faults.{Counts, EndsSession, HasRisen, TellsFaults, faults_by, is_unread}
+use Rattle.rd_workers.specs.declared.reader.Ending.{Ending}
+use Rattle.rd_workers.specs.declared.reader.Ending.TheVariants as ending
 
 -- some faults more: the count rose, or stands at its last value
 pub risen : (old more : ℕ) → 0 < more → HasRisen old (more_faults old more)
@@ -54,3 +56,29 @@ tells_end (ended.Channel channel at message why) before between after trouble_be
 tells_end ended.Link before between after trouble_before trouble same ends = inl (subst (λ (n : ℕ). HasRisen n after) same ends)
 tells_end ended.Memory before between after trouble_before trouble same ends = tt
 tells_end ended.Long before between after trouble_before trouble same ends = tt
+
+-- ---- one channel
+
+unread_some : (by : Ending) → IsTrue (is_unread by) ↔ (0 < faults_by (Some by) 0)
+unread_some ending.Unread = (λ _. grind (arith, common_steps), λ _. refl)
+unread_some ending.Input = (λ is. absurd (cc is), λ is. absurd (omega (arith, is)))
+unread_some ending.Dropped = (λ is. absurd (cc is), λ is. absurd (omega (arith, is)))
+unread_some ending.Unwritten = (λ is. absurd (cc is), λ is. absurd (omega (arith, is)))
+unread_some (ending.Fault at message why) = (λ is. absurd (cc is), λ is. absurd (omega (arith, is)))
+unread_some ending.Long = (λ is. absurd (cc is), λ is. absurd (omega (arith, is)))
+unread_some ending.Memory = (λ is. absurd (cc is), λ is. absurd (omega (arith, is)))
+
+some_more : (n m : ℕ) → 0 < m → 0 < more_faults n m
+some_more n zero some = absurd (omega (arith, some))
+some_more n (suc m) some = grind (arith, common_steps)
+
+-- A channel counts a fault where a write failed or a read.
+pub counts_by : (by : Ending) (failed result : Bool) (n m x z : ℕ) → IsTrue failed ↔ (0 < m) → n ≡ faults_by (Some by) 0 → z ≡ more_faults x (more_faults n m) → result ≡ failed || is_unread by → Counts result x z
+counts_by by failed result n m x z failed_is n_is z_is result_is = record { more = more_faults n m; counted = z_is; some = subst (λ (b : Bool). IsTrue b ↔ (0 < more_faults n m)) (sym result_is) (which failed failed_is) }
+  where
+    which : (f : Bool) → IsTrue f ↔ (0 < m) → IsTrue (f || is_unread by) ↔ (0 < more_faults n m)
+    which true is = (λ _. some_more n m (is.0 refl), λ _. refl)
+    which false is =
+        let none : m ≡ 0 = none_more m is.1 in
+        let same : more_faults n m ≡ faults_by (Some by) 0 = ap (more_faults n) none ∙ n_is in
+        (λ unread. subst (λ (k : ℕ). 0 < k) (sym same) ((unread_some by).0 unread), λ some. (unread_some by).1 (subst (λ (k : ℕ). 0 < k) same some))

@@ -1,3 +1,12 @@
+pub mod BookLemmas
+pub mod ChannelLemmas
+pub mod ClosedLemmas
 pub mod FaultLemmas
-pub mod StoringLemmas
+pub mod FrontLemmas
+pub mod HistoryLemmas
+pub mod LogLemmas
 pub mod PassLemmas
+pub mod ReadingLemmas
+pub mod ServedLemmas
+pub mod StoringLemmas
+pub mod WritingLemmas

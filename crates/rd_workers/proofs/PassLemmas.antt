@@ -1,14 +1,13 @@
 -- Passes of desks that are split twice, and come home.
-use Rattle.std.proofs.Common.{◌≡◌, ◌≢◌, ◌∙◌, ◌<◌, ◌≤◌, ◌+◌, ℕ, zero, suc, List, [], ◌∷◌, ◌++◌, arith, ap, sym, refl, subst, map, drop, take}
-use Rattle.std.specs.Prelude.{All}
+use Rattle.std.proofs.Common.{◌≡◌, ◌≢◌, ◌∙◌, ◌<◌, ◌≤◌, ◌+◌, ℕ, zero, suc, List, [], ◌∷◌, ◌++◌, arith, ap, sym, refl, subst, length, map, drop, take}
+use Rattle.std.specs.Prelude.{All, Err, IfSome, Ok, OnErr, Option, Result, Some}
 use Rattle.std.specs.List.{AllZip}
 use Rattle.std.proofs.lemmas.List.Elements.{All-head, All-map, All-same, All-tail, All-weaker}
 use Rattle.rd_turn.specs.Pass.{Belongs, TurnId, after_split, max_made}
 use Rattle.rd_pool.specs.Desks.{DeskPass, IsOther}
 use Rattle.rd_pool.proofs.DeskLemmas.{none_out}
 use Rattle.rd_turn.proofs.HistoryLemmas.{Called-own}
-use Rattle.rd_turn.specs.declared.object.Entry.{Entry}
-use Rattle.rd_turn.specs.History.{Leads, calls_of}
+use Rattle.rd_turn.specs.History.{calls_of}
 use Rattle.rd_desk.specs.declared.calls.DeskCall.{DeskCall}
 use Rattle.rd_desk.specs.declared.calls.DeskCall.TheVariants as desk
 use Rattle.rd_desk.specs.declared.calls.DeskReply.{DeskReply}
@@ -19,6 +18,15 @@ use Rattle.rd_front.specs.Kept.{DeskGoesOn, GoesBy, IsFrontCall}
 use Rattle.rd_front.specs.State.{DeviceDeskState, SessionPass, SessionStation}
 use Rattle.rd_workers.specs.Passes.{AreNew, IsPassOf}
 
+-- what holds of a value, if there is one, holds of the one that is there
+pub of_some : {A : Type 0} (o : Option A) (x : A) → o ≡ Some x → (P : A → Type 0) → IfSome o P → P x
+of_some {A} o x is P all = subst (λ (p : Option A). IfSome p P) is all
+
+-- what holds anyway holds at an error
+pub on_err : {T E : Type 0} (r : Result T E) (A : Type 0) → A → OnErr r A
+on_err (Ok x) A is = tt
+on_err (Err x) A is = is
+
 -- where nothing is left from a place on, that is the whole
 pub zip_over : {A B : Type 0} (P : A → B → Type 0) (xs : List A) (place : ℕ) (ys : List B) → AllZip P (drop place xs) ys → ys ≡ [] → take place xs ≡ xs
 zip_over P [] zero ys all none = refl
@@ -26,6 +34,13 @@ zip_over P [] (suc place) ys all none = refl
 zip_over P (x ∷ xs) zero [] all none = absurd all
 zip_over P (x ∷ xs) zero (y ∷ ys) all none = absurd (cc none)
 zip_over {A} P (x ∷ xs) (suc place) ys all none = ap (λ (l : List A). x ∷ l) (zip_over P xs place ys all none)
+
+-- and all are before that place
+pub zip_ends : {A B : Type 0} (P : A → B → Type 0) (xs : List A) (place : ℕ) (ys : List B) → AllZip P (drop place xs) ys → ys ≡ [] → length xs ≤ place
+zip_ends P [] place ys all none = omega arith
+zip_ends P (x ∷ xs) zero [] all none = absurd all
+zip_ends P (x ∷ xs) zero (y ∷ ys) all none = absurd (cc none)
+zip_ends P (x ∷ xs) (suc place) ys all none = let less = zip_ends P xs place ys all none in omega (arith, less)
 
 -- one more at the end of both
 pub zip_push : {A B : Type 0} (P : A → B → Type 0) (xs : List A) (ys : List B) (x : A) (y : B) → AllZip P xs ys → P x y → AllZip P (xs ++ x ∷ []) (ys ++ y ∷ [])
@@ -36,7 +51,7 @@ zip_push P (z ∷ xs) (v ∷ ys) x y all is = (all.0, zip_push P xs ys x y all.1
 
 module _ {S : Type 0} where
   pub new_few : (ps : List (DeskPass S)) → AreNew ps → All (λ (p : DeskPass S). p.made < max_made) ps
-  new_few ps new = All-weaker (λ (p : DeskPass S). (p.made ≡ 0) × (p.out ≡ 0)) (λ (p : DeskPass S). p.made < max_made) (λ p is. (let none = is.0 in omega (arith, none))) ps new
+  new_few ps new = All-weaker (λ (p : DeskPass S). (p.made ≡ 0) × (p.out ≡ 0) × (p.seen ≡ [])) (λ (p : DeskPass S). p.made < max_made) (λ p is. (let none = is.0 in omega (arith, none))) ps new
 
   made_more : (n : ℕ) (ps split : List (DeskPass S)) → split ≡ map after_split ps → All (λ (p : DeskPass S). p.made ≡ n) ps → All (λ (p : DeskPass S). p.made ≡ suc n) split
   made_more n ps split is all =
@@ -44,7 +59,7 @@ module _ {S : Type 0} where
       (All-map (λ (p : DeskPass S). p.made ≡ suc n) after_split ps (All-weaker (λ (p : DeskPass S). p.made ≡ n) (λ (p : DeskPass S). suc p.made ≡ suc n) (λ p made. ap suc made) ps all))
 
   made_none : (ps : List (DeskPass S)) → AreNew ps → All (λ (p : DeskPass S). p.made ≡ 0) ps
-  made_none ps new = All-weaker (λ (p : DeskPass S). (p.made ≡ 0) × (p.out ≡ 0)) (λ (p : DeskPass S). p.made ≡ 0) (λ p is. is.0) ps new
+  made_none ps new = All-weaker (λ (p : DeskPass S). (p.made ≡ 0) × (p.out ≡ 0) × (p.seen ≡ [])) (λ (p : DeskPass S). p.made ≡ 0) (λ p is. is.0) ps new
 
   pub once_few : (ps split : List (DeskPass S)) → split ≡ map after_split ps → AreNew ps → All (λ (p : DeskPass S). p.made < max_made) split
   once_few ps split is new =
@@ -80,12 +95,7 @@ module _ {S : Type 0} where
       → All (λ (p : DeskPass S). p.out ≡ 0) home
   all_back ps once twice worked joined home is also same first second new =
       none_out ps home (back ps once joined home is (back once twice worked joined also same first) second)
-      (All-weaker (λ (p : DeskPass S). (p.made ≡ 0) × (p.out ≡ 0)) (λ (p : DeskPass S). p.out ≡ 0) (λ p none. none.1) ps new)
-
--- a history of calls that change nothing
-pub stays : {O C R : Type 0} (a b : O) (entries : List (Entry C R)) → Leads (λ (old : O) (call : C) (back : R) (new : O). new ≡ old) a entries b → b ≡ a
-stays a b [] is = sym is
-stays a b (e ∷ entries) (next, same, leads) = stays next b entries leads ∙ same
+      (All-weaker (λ (p : DeskPass S). (p.made ≡ 0) × (p.out ≡ 0) × (p.seen ≡ [])) (λ (p : DeskPass S). p.out ≡ 0) (λ p none. none.1) ps new)
 
 -- ---- the front's passes of desks
 

@@ -1,5 +1,5 @@
 -- Ids that rise, one after the other, each with its station, and then with its journal.
-use Rattle.std.proofs.Common.{◌≡◌, ◌≢◌, ◌∙◌, ◌<◌, ◌+◌, ℕ, zero, suc, List, [], ◌∷◌, ◌++◌, append_assoc, arith, ap, sym, refl, subst, length, length-append, map, take, get_or, None}
+use Rattle.std.proofs.Common.{◌≡◌, ◌≢◌, ◌∙◌, ◌<◌, ◌+◌, ℕ, zero, suc, List, [], ◌∷◌, ◌++◌, append_assoc, arith, ap, sym, refl, subst, length, length-append, map, drop, take, get_or, None}
 use Rattle.std.specs.Prelude.{All, zip}
 use Rattle.std.specs.List.{AllByRecursion, AllZip}
 use Rattle.std.specs.List.Sorted.{IsStrictlySortedBy}
@@ -7,7 +7,7 @@ use Rattle.std.specs.Map.{keys_of, lookup}
 use Rattle.std.specs.Ordering.{nat_cmp}
 use Rattle.std.specs.declared.cmp.Ordering.TheVariants.{Less}
 use Rattle.std.specs.BTreeMap.{insert_entry, is_at}
-use Rattle.std.proofs.lemmas.List.{append-nil, length-take, map-append, take_all, take_more}
+use Rattle.std.proofs.lemmas.List.{append-nil, length-take, map-append, take-append-drop, take_all, take_more}
 use Rattle.std.proofs.lemmas.List.Elements.{All-cons, All-head, All-nil, All-push, All-same, All-tail, recursion_from_All}
 use Rattle.rd_base.specs.declared.journal.Item.{Item}
 use Rattle.rd_base.specs.History.{History}
@@ -15,7 +15,7 @@ use Rattle.rd_station.specs.Station.{StationState}
 use Rattle.rd_pool.specs.Desks.{DeskPass, DesksState, DeskTurn, IsFirst}
 use Rattle.rd_turn.specs.Pass.{first_pass}
 use Rattle.rd_workers.specs.Passes.{AreNew}
-use Rattle.rd_world.specs.Session.{journals_of}
+use Rattle.rd_world.specs.Session.{StoresSome, journals_of}
 use Rattle.rd_world.proofs.ApplicationsLemmas.{apart_at, below_of}
 use Rattle.rd_world.proofs.FinishingLemmas.{put_after}
 
@@ -43,6 +43,7 @@ module _ {S : Type 0} where
     pub first : AllZip IsFirst desks.turns passes
     pub new : AreNew passes
     pub opened : map (λ (t : DeskTurn S). t.opening) desks.turns ++ rest ≡ all
+    pub passes_are : passes ≡ map first_pass desks.turns
 
   pub opened_more : (ids : List ℕ) (all : List (StationState S)) (place : ℕ) (rest behind : List (StationState S)) (s : StationState S) (desks after : DesksState S) (passes new : List (DeskPass S))
       → AreOpened ids all place rest desks passes → rest ≡ s ∷ behind → place < length ids
@@ -52,11 +53,12 @@ module _ {S : Type 0} where
     ids_are = ap (λ (d : DesksState S). d.ids) added ∙ ap (λ (l : List ℕ). l ++ get_or ids place 0 ∷ []) are.ids_are ∙ sym (take_more ids place 0 within);
     count = let more : length rest ≡ length (s ∷ behind) = ap length next in let c = are.count in omega (arith, c, more);
     first = first;
-    new = subst AreNew (sym passed) (All-push (λ (p : DeskPass S). (p.made ≡ 0) × (p.out ≡ 0)) passes (first_pass t) are.new (refl, refl));
+    new = subst AreNew (sym passed) (All-push (λ (p : DeskPass S). (p.made ≡ 0) × (p.out ≡ 0) × (p.seen ≡ [])) passes (first_pass t) are.new (refl, refl, refl));
     opened = let f : DeskTurn S → StationState S = λ u. u.opening in
         ap (λ (d : DesksState S). map f d.turns ++ behind) added ∙ ap (λ (l : List (StationState S)). l ++ behind) (map-append f desks.turns (t ∷ []))
         ∙ append_assoc (map f desks.turns) (t.opening ∷ []) behind ∙ ap (λ (x : StationState S). map f desks.turns ++ x ∷ behind) opening
         ∙ ap (λ (l : List (StationState S)). map f desks.turns ++ l) (sym next) ∙ are.opened;
+    passes_are = passed ∙ ap (λ (l : List (DeskPass S)). l ++ first_pass t ∷ []) are.passes_are ∙ sym (map-append first_pass desks.turns (t ∷ [])) ∙ ap (λ (d : DesksState S). map first_pass d.turns) (sym added);
   }
 
 -- as many desks as stations
@@ -121,6 +123,12 @@ zip_push [] (k ∷ hs) x h same = absurd (omega (arith, same))
 zip_push (y ∷ xs) [] x h same = absurd (omega (arith, same))
 zip_push (y ∷ xs) (k ∷ hs) x h same = ap (λ (es : List (ℕ × List Item)). (y, k) ∷ es) (zip_push xs hs x h (omega (arith, same)))
 
+zip_parts : (xs ys : List ℕ) (hs ks : List (List Item)) → length xs ≡ length hs → zip (xs ++ ys) (hs ++ ks) ≡ zip xs hs ++ zip ys ks
+zip_parts [] ys [] ks same = refl
+zip_parts [] ys (h ∷ hs) ks same = absurd (omega (arith, same))
+zip_parts (x ∷ xs) ys [] ks same = absurd (omega (arith, same))
+zip_parts (x ∷ xs) ys (h ∷ hs) ks same = ap (λ (es : List (ℕ × List Item)). (x, h) ∷ es) (zip_parts xs ys hs ks (omega (arith, same)))
+
 mapped_count : {S : Type 0} (list : List (StationState S)) → length (map (λ (s : StationState S). s.journal) list) ≡ length list
 mapped_count [] = refl
 mapped_count (s ∷ list) = let more = mapped_count list in omega (arith, more)
@@ -146,6 +154,17 @@ module _ {S : Type 0} where
       let counted : length ids ≡ place = (let l = ap length none in let c = are.count in omega (arith, c, l)) in
       let whole : all ≡ are.done = are.are ∙ ap (λ (l : List (StationState S)). are.done ++ l) none ∙ append-nil are.done in
       are.stored ∙ ap (λ (l : List ℕ). zip l (map journal_in are.done)) (take_all place ids (omega (arith, counted))) ∙ ap (λ (l : List (StationState S)). zip ids (map journal_in l)) (sym whole)
+
+  -- The books hold the first of the journals.
+  pub stored_some : (ids : List ℕ) (all : List (StationState S)) (place : ℕ) (rest : List (StationState S)) (books : List (ℕ × History)) → AreStored ids all place rest books → StoresSome (zip ids (map journal_in all)) books
+  stored_some ids all place rest books are = (
+    zip (drop place ids) (map journal_in rest),
+    ap (λ (l : List ℕ). zip l (map journal_in all)) (sym (take-append-drop place ids))
+        ∙ ap (λ (l : List (StationState S)). zip (take place ids ++ drop place ids) (map journal_in l)) are.are
+        ∙ ap (zip (take place ids ++ drop place ids)) (map-append journal_in are.done rest)
+        ∙ zip_parts (take place ids) (drop place ids) (map journal_in are.done) (map journal_in rest) (let m = are.many in let c = are.count in omega (arith, m, c, length-take place ids, mapped_count are.done))
+        ∙ ap (λ (l : List (ℕ × List Item)). l ++ zip (drop place ids) (map journal_in rest)) (sym are.stored),
+  )
 
   -- the next station of some
   module _ (ids : List ℕ) (all : List (StationState S)) (place id d : ℕ) (rest behind : List (StationState S)) (s : StationState S) (books : List (ℕ × History)) (are : AreStored ids all place rest books)

@@ -1,7 +1,6 @@
 -- What a channel's end tells of faults, and a session's of the counts of its linker.
 use Rattle.std.specs.Prelude.{◌≡◌, ℕ, ◌<◌, ◌-◌, ◌^◌, ◌⊎◌, ◌↔◌, Option, Some, Bool, true, false, IsTrue}
 use Rattle.rd_base.specs.Faults.{one_more}
-use Rattle.rd_carry.specs.Incoming.{IncomingState}
 use Rattle.rd_carry.specs.declared.ended.Ended.{Ended}
 use Rattle.rd_carry.specs.declared.ended.Ended.TheVariants as ended
 use Rattle.rd_carry.specs.declared.ended.EndWhy.TheVariants as why
@@ -18,11 +17,6 @@ ending_of (no.Bad bad) = ending.Fault bad.at 0 (why.Chunk bad.why)
 ending_of no.Long = ending.Long
 ending_of no.Memory = ending.Memory
 
--- what comes of a message, of a line of the script or of a write is no failed read
-abbrev pub IsNoRead : Option Ending → Type 0
-IsNoRead (Some ending.Unread) = ⊥
-IsNoRead _ = Unit {0}
-
 -- the count of a half that is read, where reading came to this, if to any end
 abbrev pub faults_by : Option Ending → ℕ → ℕ
 faults_by (Some ending.Unread) count = one_more count
@@ -32,10 +26,6 @@ faults_by _ count = count
 abbrev pub is_unread : Ending → Bool
 is_unread ending.Unread = true
 is_unread _ = false
-
--- A channel was read on, up to this end, if to any.
-pub record HearsOn (by : Option Ending) (old new : IncomingState) : Type 0 where
-  pub counted : new.faults ≡ faults_by by old.faults
 
 -- a count rose, or stands at its last value
 abbrev pub HasRisen : ℕ → ℕ → Type 0

@@ -1,2 +1,9 @@
+pub mod Books
+pub mod Channels
+pub mod Closed
 pub mod Faults
+pub mod Logs
 pub mod Passes
+pub mod Reading
+pub mod Served
+pub mod Writing

@@ -1,9 +1,11 @@
 -- What the calls of a client's threads leave as it is, so that all passes come home at the end.
-use Rattle.std.specs.Prelude.{◌≡◌, ℕ, List, All}
+use Rattle.std.specs.Prelude.{◌≡◌, ℕ, Bool, List, [], All, Option}
+use Rattle.rd_carry.specs.Outgoing.{OutgoingState}
 use Rattle.rd_front.specs.State.{DeviceDeskState, SessionPass}
 use Rattle.rd_pool.specs.Desks.{DeskPass, DeskTurn}
 use Rattle.rd_turn.specs.Pass.{Belongs, PassState, TurnId}
 use Rattle.rd_world.specs.declared.device.SessionDevice.{SessionDevice}
+use Rattle.rd_workers.specs.Logs.{FrontEntry, FrontLog, WriterLog}
 
 -- a turn and a pass of it: the pass's number, how many passes were split from it, and how many of these weren't joined
 pub record CallerId (O : Type 0) : Type 0 where
@@ -15,27 +17,36 @@ pub record CallerId (O : Type 0) : Type 0 where
 abbrev pub caller_id : {O C R : Type 0} → TurnId O → PassState O C R → CallerId O
 caller_id turn p = record { turn = turn; number = p.number; made = p.made; out = p.out }
 
--- what a writer calls the front by
+-- A writer: what it calls the front by, and its own calls of it; the channel that began last, the half of it that is written to while it is on, and whether no memory was
+-- found for a message of it.
 pub record WriterState (F : Type 0) : Type 0 where
   pub front : CallerId F
+  pub own : List FrontEntry
+  pub channel : ℕ
+  pub half : Option OutgoingState
+  pub starved : Bool
 
--- what a reader calls the front and the writer by, and the turns of the desks that it has hands at
+-- A reader: what it calls the front and the writer by, what its own calls of both tell, the turns of the desks that it has hands at, and the moment at which these run jobs, where it is
+-- told.
 pub record ReaderState (F : Type 0) : Type 0 where
   pub front : CallerId F
+  pub log : FrontLog
   pub writer : CallerId (WriterState F)
+  pub written : WriterLog
   pub desks : List (DeskTurn SessionDevice)
+  pub moment : Option ℕ
 
--- no passes were split from these
+-- no passes were split from these, and they have seen no call
 abbrev pub AreNew : {S : Type 0} → List (DeskPass S) → Type 0
-AreNew passes = All (λ p. (p.made ≡ 0) × (p.out ≡ 0)) passes
+AreNew passes = All (λ p. (p.made ≡ 0) × (p.out ≡ 0) × (p.seen ≡ [])) passes
 
--- a pass 0 from which none was split
+-- a pass 0 from which none was split, and which has seen no call
 abbrev pub IsUnused : {O C R : Type 0} → PassState O C R → Type 0
-IsUnused p = (p.number ≡ 0) × (p.made ≡ 0) × (p.out ≡ 0)
+IsUnused p = (p.number ≡ 0) × (p.made ≡ 0) × (p.out ≡ 0) × (p.seen ≡ [])
 
 -- a pass 0 to which all others were joined
-abbrev pub IsHome : {O C R : Type 0} → PassState O C R → Type 0
-IsHome p = (p.number ≡ 0) × (p.out ≡ 0)
+abbrev pub IsRejoined : {O C R : Type 0} → PassState O C R → Type 0
+IsRejoined p = (p.number ≡ 0) × (p.out ≡ 0)
 
 -- A pass of a turn comes back from whoever called by it.
 pub record ComesBack {O C R : Type 0} (turn : TurnId O) (old new : PassState O C R) : Type 0 where

@@ -1,7 +1,10 @@
 //! One channel after the other.
 
-ghost use Rattle.std.specs.Prelude.{◌≡◌, ◌<◌, ◌≤◌, length, IfErr, IfOk, IfSome};
+ghost use Rattle.std.specs.Prelude.{◌≡◌, ◌<◌, ◌≤◌, ◌||◌, false, length, None, IfErr, IfOk, IfSome, OnOk};
+ghost use Rattle.rd_workers.specs.Channels.{EndsOn, EndsSo, ServesIt, channels_by, channels_of, ended_as};
 ghost use Rattle.rd_workers.specs.Faults.{Counts, EndsSession, IsOtherEnd, TellsFaults, is_unread};
+ghost use Rattle.rd_workers.specs.Logs.{no_calls, no_halves};
+ghost use Rattle.rd_workers.specs.Reading.{IsSame};
 ghost use Rattle.rd_world.specs.Opening.{AreDeclared};
 
 use crate::due::Due;
@@ -30,6 +33,7 @@ pub(crate) fn plan_of<'s>(lines: &'s [NumberedLine]) -> Plan<'s>
     requires { AreDeclared lines.now }
     ensures lines { result.lines.now ≡ lines.now }
     ensures few { result.workers ≤ 16 }
+    ensures channels { result.channels ≡ channels_of lines.now }
 {
     Plan {
         lines,
@@ -39,14 +43,24 @@ pub(crate) fn plan_of<'s>(lines: &'s [NumberedLine]) -> Plan<'s>
 }
 
 /// How many channels lines are for: as many as the last of them that says it.
-fn channels_of(lines: &[NumberedLine]) -> u32 {
+fn channels_of(lines: &[NumberedLine]) -> u32
+    ensures { result ≡ channels_of lines.now }
+{
     let mut channels = 1;
     for line in lines {
-        if let Line::Channels { count } = &line.line {
-            channels = *count;
-        }
+        channels = channels_by(channels, &line.line);
     }
     channels
+}
+
+/// How many a line says, or as many as before.
+fn channels_by(channels: u32, line: &Line) -> u32
+    ensures { result ≡ channels_by channels line.now }
+{
+    match line {
+        Line::Channels { count } => *count,
+        _ => channels,
+    }
 }
 
 /// Serves one channel after the other, with this buffer for what is read.
@@ -67,14 +81,20 @@ pub(crate) fn serve_channels<
     reader: &mut Reader<'s, 'w, 'f, 'g, 'a, F, T, L::Out, X>,
     buffer: Vec<u8>,
 ) -> Ended
-    requires { 0 < length buffer.items }
-    ensures kept { reader.new ≡ reader.old }
+    requires room { 0 < length buffer.items }
+    requires log { reader.old.log ≡ no_calls }
+    requires written { reader.old.written ≡ no_halves }
+    ensures same { IsSame reader.old reader.new }
+    ensures late { reader.new.log.late ≡ false }
+    ensures ends { EndsSo plan.entry.channels result reader.new.log.heard reader.new.written.done (L.linked linker.old) (L.linked linker.new) }
     ensures faults { TellsFaults result (L.failures linker.old) (L.failures linker.new) (L.trouble linker.old) (L.trouble linker.new) }
 {
     let mut due = Due::new(plan.lines);
     let mut buffer = buffer;
     let mut troubled = false;
-    for channel in 1..=plan.channels {
+    let mut channel = 0;
+    while channel < plan.channels {
+        channel += 1;
         match serve_channel(alloc, channel, linker, reader, &mut due, buffer) {
             Ok((back, fault)) => {
                 buffer = back;
@@ -106,48 +126,54 @@ fn serve_channel<
     buffer: Vec<u8>,
 ) -> Result<(Vec<u8>, bool), Ended>
     requires { 0 < length buffer.items }
-    ensures kept { reader.new ≡ reader.old }
+    ensures same { IsSame reader.old reader.new }
+    ensures late { reader.new.log.late ≡ reader.old.log.late }
+    ensures served { OnOk result (ServesIt channel None reader.old reader.new (L.linked linker.old) (L.linked linker.new)) }
+    ensures ends { IfErr result (λ ended. EndsOn channel ended reader.old.log.heard reader.new.log.heard reader.old.written.done reader.new.written.done (L.linked linker.old) (L.linked linker.new)) }
     ensures room { IfOk result (λ given. 0 < length given.0.items) }
-    ensures connected { IfOk result (λ given. L.failures linker.new ≡ L.failures linker.old) }
+    ensures connected { OnOk result (L.failures linker.new ≡ L.failures linker.old) }
     ensures counted { IfOk result (λ given. Counts given.1 (L.trouble linker.old) (L.trouble linker.new)) }
     ensures ended { IfErr result (λ ended. EndsSession ended (L.failures linker.old) (L.failures linker.new)) }
 {
     let Ok((input, output)) = linker.connect() else {
         return Err(Ended::Link);
     };
-    let output = Outgoing::new(output, Vec::new(alloc));
-    if let Err(output) = reader.begin(channel, output) {
+    if let Err(output) = reader.begin(channel, Outgoing::new(output, Vec::new(alloc))) {
         let (output, _frames) = output.into_parts();
         linker.settle(input, output);
         return Err(Ended::Memory);
     }
     let mut incoming = Incoming::new(alloc, input, buffer);
     let ending = reader.read(channel, due, &mut incoming);
-    let (input, buffer) = incoming.into_parts();
     let (output, starved) = reader.end();
     let Some(output) = output else {
         return Err(Ended::Memory);
     };
     let failed = output.failed();
+    let (input, buffer) = incoming.into_parts();
     let (output, _frames) = output.into_parts();
     linker.settle(input, output);
     match ended_by(channel, ending, starved) {
         Some(ended) => Err(ended),
-        None => Ok((buffer, failed || is_unread(ending))),
+        None => Ok((buffer, is_troubled(failed, ending))),
     }
 }
 
-/// Whether a channel is read no further since a read failed.
-fn is_unread(ending: Ending) -> bool
-    ensures { result ≡ is_unread ending }
+/// Whether a write failed, or a read.
+fn is_troubled(failed: bool, ending: Ending) -> bool
+    ensures { result ≡ failed || is_unread ending }
 {
-    matches!(ending, Ending::Unread)
+    failed || matches!(ending, Ending::Unread)
 }
 
 /// What ends the session, where a channel's end does.
 fn ended_by(channel: u32, ending: Ending, starved: bool) -> Option<Ended>
-    ensures { IfSome result IsOtherEnd }
+    ensures by { result ≡ ended_as channel ending starved }
+    ensures other { IfSome result IsOtherEnd }
 {
+    if starved {
+        return Some(Ended::Memory);
+    }
     match ending {
         Ending::Fault { at, message, why } => Some(Ended::Channel {
             channel,
@@ -157,6 +183,6 @@ fn ended_by(channel: u32, ending: Ending, starved: bool) -> Option<Ended>
         }),
         Ending::Long => Some(Ended::Long),
         Ending::Memory => Some(Ended::Memory),
-        _ => { if starved { Some(Ended::Memory) } else { None } }
+        _ => None,
     }
 }

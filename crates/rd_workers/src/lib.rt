@@ -3,7 +3,6 @@
 
 mod bells;
 mod channels;
-mod counted;
 mod due;
 mod places;
 mod reader;

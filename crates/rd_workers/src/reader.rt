@@ -1,8 +1,15 @@
 //! The reader: hears what the host sends on a channel, hands out jobs, and helps where nobody else does.
 
-ghost use Rattle.std.specs.Prelude.{◌≡◌, [], length, map, Some};
-ghost use Rattle.rd_workers.specs.Faults.{HearsOn, IsNoRead, ending_of};
-ghost use Rattle.rd_workers.specs.Passes.{caller_id};
+ghost use Rattle.std.specs.Prelude.{◌≡◌, ◌-◌, ℕ, [], false, length, map, All, Some, IfErr, OnErr, OnOk};
+ghost use Rattle.rd_carry.specs.declared.ended.EndWhy.TheVariants as Why;
+ghost use Rattle.rd_pool.specs.Desks.{KeepsMoment};
+ghost use Rattle.rd_turn.specs.History.{calls_of};
+ghost use Rattle.rd_workers.specs.Faults.{ending_of};
+ghost use Rattle.rd_workers.specs.Logs.{NoneAsks, asks_any, front_log, logged, no_calls, no_halves, writer_log, writes_by};
+ghost use Rattle.rd_workers.specs.Passes.{WriterState, caller_id};
+ghost use Rattle.rd_workers.specs.Reading.{BeginsChannel, EndsChannel, Follows, GoesOn, HearsOn, IsQuiet, IsRelieved, IsSame, TellsOf, having_written, wrong_at};
+ghost use Rattle.rd_workers.specs.Writing.{WriterStep};
+ghost use Rattle.rd_workers.specs.declared.reader.Ending.TheVariants as Ended;
 
 use crate::bells::Bells;
 use crate::due::{Act, Due};
@@ -84,18 +91,25 @@ impl<
     K: Hang + Drop,
     X: Outside,
 > Model for Reader<'s, 'w, 'f, 'g, 'a, F, T, K, X> {
-    ghost use Rattle.std.specs.Prelude.{◌≡◌, [], length, map, IfSome};
+    ghost use Rattle.std.specs.Prelude.{◌≡◌, [], length, map, All, IfSome};
+    ghost use Rattle.rd_pool.specs.Desks.{KeepsMoment};
+    ghost use Rattle.rd_turn.specs.History.{calls_of};
+    ghost use Rattle.rd_workers.specs.Logs.{NoneAsks, front_log, writer_log};
     ghost use Rattle.rd_workers.specs.Passes.{ReaderState, caller_id};
 
     ghost Value = { ReaderState F };
 
     ghost view = { λ r. record {
       front = caller_id r.front.turn.now r.front.pass;
+      log = front_log (calls_of r.front.pass.number r.front.pass.seen);
       writer = caller_id r.writer.turn.now r.writer.pass;
+      written = writer_log (calls_of r.writer.pass.number r.writer.pass.seen);
       desks = map (λ hand. hand.turn) r.hands;
+      moment = X.moment r.outside.now;
     } };
 
-    ghost invariant = { λ r. (length r.hands ≡ r.bells.now) × IfSome r.batch (λ batch. batch ≡ []) };
+    ghost invariant = { λ r. (length r.hands ≡ r.bells.now) × IfSome r.batch (λ batch. batch ≡ []) × NoneAsks (calls_of r.front.pass.number r.front.pass.seen)
+        × All (KeepsMoment (X.moment r.outside.now)) (map (λ hand. hand.pass) r.hands) };
 }
 
 impl<
@@ -121,7 +135,17 @@ impl<
     ) -> Self
         requires none { batch ≡ [] }
         requires places { length hands ≡ bells.now }
-        ensures { result ≡ record { front = caller_id front.entry.turn.now front.entry.pass; writer = caller_id writer.entry.turn.now writer.entry.pass; desks = map (λ hand. hand.turn) hands.entry } }
+        requires front { calls_of front.pass.number front.pass.seen ≡ [] }
+        requires writer { calls_of writer.pass.number writer.pass.seen ≡ [] }
+        requires moments { All (KeepsMoment (X.moment outside.now)) (map (λ hand. hand.pass) hands) }
+        ensures { result ≡ record {
+          front = caller_id front.entry.turn.now front.entry.pass;
+          log = no_calls;
+          writer = caller_id writer.entry.turn.now writer.entry.pass;
+          written = no_halves;
+          desks = map (λ hand. hand.turn) hands.entry;
+          moment = X.moment outside.now;
+        } }
     {
         Reader {
             rt,
@@ -147,7 +171,16 @@ impl<
         Caller<'w, Writer<'f, F, T, K>>,
         Hands<'a, SessionDevice>,
     )
-        ensures { record { front = caller_id result.0.turn.now result.0.pass; writer = caller_id result.1.turn.now result.1.pass; desks = map (λ hand. hand.turn) result.2 } ≡ self.entry }
+        ensures parts { record {
+          front = caller_id result.0.turn.now result.0.pass;
+          log = front_log (calls_of result.0.pass.number result.0.pass.seen);
+          writer = caller_id result.1.turn.now result.1.pass;
+          written = writer_log (calls_of result.1.pass.number result.1.pass.seen);
+          desks = map (λ hand. hand.turn) result.2;
+          moment = self.entry.moment;
+        } ≡ self.entry }
+        ensures moments { All (KeepsMoment self.entry.moment) (map (λ hand. hand.pass) result.2) }
+        ensures asks { NoneAsks (calls_of result.0.pass.number result.0.pass.seen) }
     {
         let Self {
             rt: _,
@@ -166,37 +199,56 @@ impl<
         (front, writer, hands)
     }
 
-    /// Begins a channel of this number. The half comes back where that can't be.
+    /// A call of the front.
+    fn call_front(&mut self, call: FrontCall) -> FrontReply
+        requires { asks_any call ≡ false }
+        ensures { self.new ≡ record self.old { log = logged self.old.log call result } }
+    {
+        self.front.call(self.rt, call)
+    }
+
+    /// A call of the writer.
+    fn call_writer(&mut self, call: WriterCall<K>) -> WriterReply<K>
+        ensures called { self.new ≡ record self.old { written = writes_by self.old.written call result } }
+        ensures replied { (before : WriterState F) × (after : WriterState F) × WriterStep before call result after }
+    {
+        self.writer.call(self.rt, call)
+    }
+
+    /// Begins a channel of this number. Where that can't be the half comes back.
     pub(crate) fn begin(&mut self, channel: u32, output: Outgoing<K>) -> Result<(), Outgoing<K>>
-        ensures { self.new ≡ self.old }
+        ensures begun { OnOk result (BeginsChannel channel output self.old self.new) }
+        ensures refused { OnErr result (IsQuiet self.old self.new) }
+        ensures back { IfErr result (λ half. half ≡ output) }
     {
         self.kept = false;
         self.bells.open_writer(self.rt);
-        let FrontReply::Done { .. } = self.front.call(self.rt, FrontCall::Begin(channel)) else {
+        let FrontReply::Done { .. } = self.call_front(FrontCall::Begin(channel)) else {
             return Err(output);
         };
-        match self.writer.call(self.rt, WriterCall::Begin(output)) {
+        match self.call_writer(WriterCall::Begin { channel, output }) {
+            WriterReply::Done { .. } => Ok(()),
             WriterReply::Refused(output) => Err(output),
-            _ => Ok(()),
+            WriterReply::Finished { .. } => unreachable!(),
         }
     }
 
     /// Ends the channel. Gives back the half that was written to, and whether no memory was found for a message.
     pub(crate) fn end(&mut self) -> (Option<Outgoing<K>>, bool)
-        ensures { self.new ≡ self.old }
+        ensures { EndsChannel result.0 result.1 self.old self.new }
     {
-        self.front.call(self.rt, FrontCall::EndChannel);
-        match self.writer.call(self.rt, WriterCall::Finish) {
+        self.call_front(FrontCall::EndChannel);
+        match self.call_writer(WriterCall::Finish) {
             WriterReply::Finished { output, starved } => (output, starved),
-            _ => (None, false),
+            _ => unreachable!(),
         }
     }
 
     /// The session is over: nothing more comes, and whoever sleeps leaves.
     pub(crate) fn end_session(&mut self)
-        ensures { self.new ≡ self.old }
+        ensures { IsQuiet self.old self.new }
     {
-        self.front.call(self.rt, FrontCall::EndSession);
+        self.call_front(FrontCall::EndSession);
         self.bells.close(self.rt);
     }
 
@@ -207,8 +259,8 @@ impl<
         due: &mut Due<'_>,
         incoming: &mut Incoming<S>,
     ) -> Ending
-        ensures kept { self.new ≡ self.old }
-        ensures heard { HearsOn (Some result) incoming.old incoming.new }
+        requires { self.old.log.hindered ≡ false }
+        ensures { HearsOn (Some result) self.old self.new incoming.old incoming.new }
     {
         for _ in self.rt.forever() {
             if let Some(ending) = self.step(channel, due, incoming) {
@@ -226,20 +278,26 @@ impl<
         due: &mut Due<'_>,
         incoming: &mut Incoming<S>,
     ) -> Option<Ending>
-        ensures kept { self.new ≡ self.old }
-        ensures heard { HearsOn result incoming.old incoming.new }
+        requires { self.old.log.hindered ≡ false }
+        ensures { HearsOn result self.old self.new incoming.old incoming.new }
     {
-        if due.waits(channel) {
-            if let Some(ending) = self.act(channel, due) {
-                return Some(ending);
-            }
+        if let Some(ending) = self.act(channel, due) {
+            return Some(ending);
         }
         if self.kept {
             return self.retry(incoming.heard());
         }
+        self.hear(incoming)
+    }
+
+    /// Hears the next message, or where nothing that was read is left, reads.
+    fn hear<S: Source + Drop>(&mut self, incoming: &mut Incoming<S>) -> Option<Ending>
+        requires { self.old.log.hindered ≡ false }
+        ensures { HearsOn result self.old self.new incoming.old incoming.new }
+    {
         match incoming.message() {
             Ok(Some(message)) => {
-                let reply = self.front.call(self.rt, FrontCall::Hear(message));
+                let reply = self.call_front(FrontCall::Hear(message));
                 self.follow(reply, incoming.heard())
             }
             Ok(None) => self.read_on(incoming),
@@ -249,9 +307,9 @@ impl<
 
     /// Hands out what came, and reads.
     fn read_on<S: Source + Drop>(&mut self, incoming: &mut Incoming<S>) -> Option<Ending>
-        requires { incoming.old.unhandled ≡ [] }
-        ensures kept { self.new ≡ self.old }
-        ensures heard { HearsOn result incoming.old incoming.new }
+        requires unhandled { incoming.old.unhandled ≡ [] }
+        requires unhindered { self.old.log.hindered ≡ false }
+        ensures { HearsOn result self.old self.new incoming.old incoming.new }
     {
         if !self.hand_out() {
             return Some(Ending::Unwritten);
@@ -265,8 +323,7 @@ impl<
 
     /// What follows from the front's reply to a message, the last of so many.
     fn follow(&mut self, reply: FrontReply, heard: u64) -> Option<Ending>
-        ensures kept { self.new ≡ self.old }
-        ensures read { IsNoRead result }
+        ensures { Follows reply heard result self.old self.new }
     {
         match reply {
             FrontReply::Done { at, full } => {
@@ -298,14 +355,13 @@ impl<
 
     /// Tries the job that is kept back once more, after some room was made at its desk.
     fn retry(&mut self, heard: u64) -> Option<Ending>
-        ensures kept { self.new ≡ self.old }
-        ensures read { IsNoRead result }
+        ensures { GoesOn result heard self.old self.new }
     {
         if let Some(ending) = self.relieve() {
             return Some(ending);
         }
         self.kept = false;
-        let reply = self.front.call(self.rt, FrontCall::Retry);
+        let reply = self.call_front(FrontCall::Retry);
         if matches!(reply, FrontReply::Kept) {
             thread::yield_now();
         }
@@ -314,10 +370,12 @@ impl<
 
     /// Does what the lines of the script that are due say.
     fn act(&mut self, channel: u32, due: &mut Due<'_>) -> Option<Ending>
-        ensures kept { self.new ≡ self.old }
-        ensures read { IsNoRead result }
+        ensures { (count : ℕ) → GoesOn result count self.old self.new }
     {
-        let FrontReply::Stands { ready, asked } = self.front.call(self.rt, FrontCall::Look) else {
+        if !due.waits(channel) {
+            return None;
+        }
+        let FrontReply::Stands { ready, asked } = self.call_front(FrontCall::Look) else {
             return Some(Ending::Memory);
         };
         if !ready {
@@ -335,8 +393,7 @@ impl<
     }
 
     fn act_once(&mut self, act: Act) -> Option<Ending>
-        ensures kept { self.new ≡ self.old }
-        ensures read { IsNoRead result }
+        ensures { (count : ℕ) → GoesOn result count self.old self.new }
     {
         match act {
             Act::Remove(device) => self.tell(FrontCall::Remove(device)),
@@ -347,10 +404,10 @@ impl<
 
     /// The host is told of a device, where that may be.
     fn tell(&mut self, call: FrontCall) -> Option<Ending>
-        ensures kept { self.new ≡ self.old }
-        ensures read { IsNoRead result }
+        requires { TellsOf call }
+        ensures { (count : ℕ) → GoesOn result count self.old self.new }
     {
-        match self.front.call(self.rt, call) {
+        match self.call_front(call) {
             FrontReply::Done { at, full } => {
                 self.mark_core();
                 if let Some(place) = at {
@@ -381,7 +438,7 @@ impl<
 
     /// Hands out what came since the last read. False where nothing more can be written.
     fn hand_out(&mut self) -> bool
-        ensures { self.new ≡ self.old }
+        ensures { self.new ≡ having_written result self.old }
     {
         let jobs = mem::replace(&mut self.jobs, 0);
         if !self.bells.are_heard(self.rt) {
@@ -400,7 +457,7 @@ impl<
 
     /// Runs the jobs that came and writes what is ready. False where a write failed.
     fn do_all(&mut self) -> bool
-        ensures { self.new ≡ self.old }
+        ensures { self.new ≡ having_written result self.old }
     {
         for _ in 0..MAX_PLACES {
             let Some(place) = self.desks.next() else {
@@ -422,8 +479,7 @@ impl<
 
     /// Makes room: runs jobs where it may, and has all that is ready written.
     fn relieve(&mut self) -> Option<Ending>
-        ensures kept { self.new ≡ self.old }
-        ensures read { IsNoRead result }
+        ensures { IsRelieved result self.old self.new }
     {
         let all = Places::below(self.bells.desks());
         self.jobs = 0;
@@ -464,12 +520,12 @@ impl<
 
     /// Writes what is ready at a place. False where a write failed.
     fn write(&mut self, place: usize, last: bool) -> bool
-        ensures { self.new ≡ self.old }
+        ensures { self.new ≡ having_written result self.old }
     {
-        matches!(
-            self.writer.call(self.rt, WriterCall::Write { place, last }),
-            WriterReply::Done { going: true }
-        )
+        match self.call_writer(WriterCall::Write { place, last }) {
+            WriterReply::Done { going } => going,
+            _ => unreachable!(),
+        }
     }
 }
 
@@ -520,15 +576,21 @@ fn ending_of(no: CarryNo) -> Ending
 
 /// Why it is read no further after a wrong message, the last of so many.
 fn wrong(fault: EndFault, heard: u64) -> Ending
-    ensures { IsNoRead (Some result) }
+    ensures { result ≡ Ended.Fault (wrong_at fault) (heard - 1) (Why.Message fault) }
 {
-    let at = match fault {
-        EndFault::Grammar(bad) => u64::from(bad.at),
-        _ => 0,
-    };
     Ending::Fault {
-        at,
+        at: wrong_at(fault),
         message: heard.saturating_sub(1),
         why: EndWhy::Message(fault),
+    }
+}
+
+/// Where a message has its fault.
+fn wrong_at(fault: EndFault) -> u64
+    ensures { result ≡ wrong_at fault }
+{
+    match fault {
+        EndFault::Grammar(bad) => u64::from(bad.at),
+        _ => 0,
     }
 }

@@ -1,19 +1,24 @@
 //! A client's session: its devices, its threads, and one channel after the other.
 
-ghost use Rattle.std.specs.Prelude.{◌≡◌, ◌≢◌, ◌<◌, ◌≤◌, [], length, map, All, IfOk};
+ghost use Rattle.std.specs.Prelude.{◌≡◌, ◌<◌, ◌≤◌, ◌⊎◌, [], length, map, All, IfOk, IfSome, IsTrue, OnErr, Some, is_some};
 ghost use Rattle.std.specs.List.{AllZip};
 ghost use Rattle.std.specs.Thread.{IsSend, IsSync};
-ghost use Rattle.rd_front.specs.State.{FrontState};
-ghost use Rattle.rd_pool.specs.Desks.{IsFirst, IsOther};
+ghost use Rattle.rd_carry.specs.declared.ended.Ended.{Ended};
+ghost use Rattle.rd_pool.specs.Desks.{AllByHandBut, IsFirst, IsOther, KeepsMoment};
+ghost use Rattle.rd_turn.specs.History.{calls_of};
 ghost use Rattle.rd_turn.specs.Pass.{Belongs, first_pass};
+ghost use Rattle.rd_workers.specs.Books.{AreLawfulBooks, RunAtTold};
+ghost use Rattle.rd_workers.specs.Closed.{FrontCameHome};
 ghost use Rattle.rd_workers.specs.Faults.{TellsFaults};
-ghost use Rattle.rd_workers.specs.Passes.{AreNew, ComesBack, IsHome, IsPassOf, IsUnused};
+ghost use Rattle.rd_workers.specs.Logs.{AllWrite};
+ghost use Rattle.rd_workers.specs.Passes.{AreNew, ComesBack, IsRejoined, IsPassOf, IsUnused};
+ghost use Rattle.rd_workers.specs.Served.{HasServedLines, IsRead, ServesEntries, MayServe, ServesDevices, ServesFront};
+ghost use Rattle.rd_world.specs.Run.{declared_devices};
+ghost use Rattle.rd_world.specs.Opening.{AreDeclared, bare_lines};
 ghost use Rattle.rd_world.specs.Stations.{IsReachedBy};
-ghost use Rattle.rd_world.specs.Opening.{AreDeclared};
 
 use crate::bells::Bells;
 use crate::channels::{Plan, plan_of, serve_channels};
-use crate::counted::{Counted, ended_by};
 use crate::reader::Reader;
 use crate::storing::{desks_of, store_all};
 use crate::writer::{Writer, WriterCall};
@@ -48,13 +53,14 @@ pub fn serve_client<R: Threads + Wait + Sync, L: Linker, C: Clock + Sync, G: Gat
 ) -> Ended
     requires declared { AreDeclared script.now.lines }
     requires books { books.old ≡ [] }
+    ensures served { HasServedLines script.now.lines result (L.linked linker.old) (L.linked linker.new) }
     ensures faults { TellsFaults result (L.failures linker.old) (L.failures linker.new) (L.trouble linker.old) (L.trouble linker.new) }
+    ensures books { AreLawfulBooks books.new × RunAtTold (C.moment clock.now) books.new }
 {
     let plan = plan_of(script.lines.as_slice());
     let outside = AfterGate { alloc, clock, gate };
-    let before = Counted::of(linker);
     match serve(rt, alloc, plan, linker, &outside, gate.holds(), books) {
-        Ok(ended) => ended_by(ended, before, Counted::of(linker)),
+        Ok(ended) => ended,
         Err(_) => Ended::Memory,
     }
 }
@@ -72,6 +78,11 @@ fn serve<R: Threads + Wait + Sync, L: Linker, X: Outside + Sync>(
     requires declared { AreDeclared plan.lines.now }
     requires few { plan.workers ≤ 16 }
     requires books { books.old ≡ [] }
+    ensures served { IfOk result (λ ended. ServesDevices (declared_devices (bare_lines plan.entry.lines.now)) plan.entry.channels ended (L.linked linker.old) (L.linked linker.new)) }
+    ensures err { OnErr result (MayServe (declared_devices (bare_lines plan.entry.lines.now)) plan.entry.channels (L.linked linker.old) (L.linked linker.new)) }
+    ensures faults { IfOk result (λ ended. TellsFaults ended (L.failures linker.old) (L.failures linker.new) (L.trouble linker.old) (L.trouble linker.new)) }
+    ensures lawful { AreLawfulBooks books.new }
+    ensures moments { RunAtTold (X.moment outside.now) books.new }
 {
     let Opening {
         stations,
@@ -115,9 +126,15 @@ fn serve_desks<'a, R: Threads + Wait + Sync, L: Linker, X: Outside + Sync>(
     requires first { AllZip IsFirst desks.now.turns passes }
     requires new { AreNew passes }
     requires reached { All (λ turn. IsReachedBy turn.opening) desks.now.turns }
+    requires begins { passes ≡ map first_pass desks.now.turns }
     requires few { plan.workers ≤ 16 }
     ensures first { IfOk result (λ given. AllZip IsFirst desks.now.turns given.1) }
     ensures home { IfOk result (λ given. All (λ p. p.out ≡ 0) given.1) }
+    ensures moments { IfOk result (λ given. All (KeepsMoment (X.moment outside.now)) given.1) }
+    ensures came_home { IfOk result (λ given. FrontCameHome desks.now.turns given.1) }
+    ensures served { IfOk result (λ given. ServesFront client printers ids.now desks.now.turns plan.entry.channels given.0 (L.linked linker.old) (L.linked linker.new)) }
+    ensures err { OnErr result ((L.linked linker.new ≡ L.linked linker.old) ⊎ ((by : Ended) × ServesFront client printers ids.now desks.now.turns plan.entry.channels by (L.linked linker.old) (L.linked linker.new))) }
+    ensures faults { IfOk result (λ given. TellsFaults given.0 (L.failures linker.old) (L.failures linker.new) (L.trouble linker.old) (L.trouble linker.new)) }
 {
     fronts_call_desks();
     let mut passes = passes;
@@ -165,11 +182,18 @@ fn serve_front<
     requires first { AllZip IsFirst desks.now.turns passes }
     requires few { All (λ p. p.made ≡ 2) passes }
     requires workers { plan.workers ≤ 16 }
+    requires moments { All (KeepsMoment (X.moment outside.now)) passes × All (KeepsMoment (X.moment outside.now)) (map (λ hand. hand.pass) hands) }
+    requires by_hand { All (AllByHandBut 1) passes }
     ensures own { IfOk result (λ given. Belongs turn.now given.1) }
-    ensures home { IfOk result (λ given. IsHome given.1) }
+    ensures home { IfOk result (λ given. IsRejoined given.1) }
     ensures others { IfOk result (λ given. AllZip IsOther desks.now.turns given.2) }
     ensures first { IfOk result (λ given. AllZip IsFirst desks.now.turns given.3) }
     ensures out { IfOk result (λ given. map (λ p. p.out) given.3 ≡ map (λ p. p.out) passes) }
+    ensures moments { IfOk result (λ given. All (KeepsMoment (X.moment outside.now)) given.2 × All (KeepsMoment (X.moment outside.now)) given.3) }
+    ensures by_hand { IfOk result (λ given. All (AllByHandBut 1) given.2 × All (AllByHandBut 1) given.3) }
+    ensures served { IfOk result (λ given. ServesEntries plan.entry.channels given.0 given.1.seen (L.linked linker.old) (L.linked linker.new)) }
+    ensures faults { IfOk result (λ given. TellsFaults given.0 (L.failures linker.old) (L.failures linker.new) (L.trouble linker.old) (L.trouble linker.new)) }
+    ensures err { OnErr result (linker.new ≡ linker.old) }
 {
     let bells = Bells::new(alloc, desks.count())?;
     let batch = Batch::new(alloc)?;
@@ -184,45 +208,32 @@ fn serve_front<
     let other = Caller::new(shared, shared.split(&mut writer_pass));
     let caller = Caller::new(shared, writer_pass);
     let front = Caller::new(turn, pass);
-    let bells = &bells;
-    let ((other, (ended, front, caller, others)), passes) = with_workers(
-        rt,
-        alloc,
-        desks,
-        passes,
-        outside,
-        &bells.workers,
-        &bells.writer,
-        u64::from(plan.workers),
-        || -> (
-            Caller<Writer<F, R, L::Out>>,
-            (
-                Ended,
-                Caller<F>,
-                Caller<Writer<F, R, L::Out>>,
-                Passes<SessionDevice>,
-            ),
-        )
-            requires { IsSend F.row × IsSend L.In.row × IsSend L.Out.row × IsSync R.row × IsSync X.row × (batch ≡ []) × (length hands ≡ bells.now) × (0 < length buffer.items) }
-            ensures { ComesBack other.entry.turn.now other.entry.pass result.0.pass × ComesBack front.entry.turn.now front.entry.pass result.1.1.pass
-                × ComesBack caller.entry.turn.now caller.entry.pass result.1.2.pass × AllZip IsOther (map (λ hand. hand.turn) hands.entry) result.1.3 }
-        {
-            serve_threads(
-                rt, alloc, plan, linker, outside, holds, front, caller, other, hands, batch,
-                buffer, bells,
-            )
-        },
+    let mut home = None;
+    serve_with_workers(
+        rt, alloc, plan, linker, outside, holds, front, caller, other, hands, batch, buffer,
+        &bells, desks, passes, &mut home,
     );
-    let mut writer_pass = caller.into_pass();
+    let Home {
+        other,
+        read: Read {
+            ended,
+            front,
+            writer,
+            hands,
+        },
+        passes,
+    } = home_of(home);
+    let mut writer_pass = writer.into_pass();
     shared.join(&mut writer_pass, other.into_pass());
     let writer_front = writer_turn.close(writer_pass).into_front();
     let mut pass = front.into_pass();
     turn.join(&mut pass, writer_front.into_pass());
-    Ok((ended, pass, others, passes))
+    Ok((ended, pass, hands, passes))
 }
 
-/// The writer's thread, and in this one the reader.
-fn serve_threads<
+/// The workers' threads, and beside them the writer's and the reader. The linker comes back, so that what became of it is known.
+fn serve_with_workers<
+    'l,
     'v,
     'w,
     'f,
@@ -236,7 +247,140 @@ fn serve_threads<
     rt: &R,
     alloc: Global,
     plan: Plan<'_>,
-    linker: &mut L,
+    linker: &'l mut L,
+    outside: &X,
+    holds: bool,
+    front: Caller<'g, F>,
+    caller: Caller<'w, Writer<'f, F, R, L::Out>>,
+    other: Caller<'v, Writer<'f, F, R, L::Out>>,
+    hands: Hands<'a, SessionDevice>,
+    batch: Batch,
+    buffer: Vec<u8>,
+    bells: &Bells,
+    desks: &'a Desks<SessionDevice>,
+    passes: Passes<SessionDevice>,
+    home: &mut Option<Home<'v, 'w, 'f, 'g, F, R, L::Out>>,
+) -> &'l mut L
+    requires none { batch ≡ [] }
+    requires places { length hands ≡ bells.now }
+    requires turns { map (λ hand. hand.turn) hands ≡ desks.now.turns }
+    requires room { 0 < length buffer.items }
+    requires front { calls_of front.pass.number front.pass.seen ≡ [] }
+    requires caller { calls_of caller.pass.number caller.pass.seen ≡ [] }
+    requires other { calls_of other.pass.number other.pass.seen ≡ [] }
+    requires first { AllZip IsFirst desks.now.turns passes }
+    requires few { All (λ p. p.made ≡ 2) passes }
+    requires workers { plan.workers ≤ 16 }
+    requires moments { All (KeepsMoment (X.moment outside.now)) passes × All (KeepsMoment (X.moment outside.now)) (map (λ hand. hand.pass) hands) }
+    requires by_hand { All (AllByHandBut 1) passes }
+    ensures linker { result.ghost_name ≡ linker.entry.ghost_name }
+    ensures some { IsTrue (is_some home.new) }
+    ensures other { IfSome home.new (λ h. ComesBack other.entry.turn.now other.entry.pass h.other.pass) }
+    ensures writes { IfSome home.new (λ h. AllWrite (calls_of h.other.pass.number h.other.pass.seen)) }
+    ensures front { IfSome home.new (λ h. ComesBack front.entry.turn.now front.entry.pass h.read.front.pass) }
+    ensures caller { IfSome home.new (λ h. ComesBack caller.entry.turn.now caller.entry.pass h.read.writer.pass) }
+    ensures others { IfSome home.new (λ h. AllZip IsOther desks.now.turns h.read.hands) }
+    ensures read { IfSome home.new (λ h. IsRead plan.entry.channels h.read.ended h.read.front.pass h.read.writer.pass (L.linked linker.entry.now) (L.linked result.now)) }
+    ensures faults { IfSome home.new (λ h. TellsFaults h.read.ended (L.failures linker.entry.now) (L.failures result.now) (L.trouble linker.entry.now) (L.trouble result.now)) }
+    ensures first { IfSome home.new (λ h. AllZip IsFirst desks.now.turns h.passes) }
+    ensures out { IfSome home.new (λ h. map (λ p. p.out) h.passes ≡ map (λ p. p.out) passes) }
+    ensures moments { IfSome home.new (λ h. All (KeepsMoment (X.moment outside.now)) h.read.hands × All (KeepsMoment (X.moment outside.now)) h.passes) }
+    ensures by_hand { IfSome home.new (λ h. All (AllByHandBut 1) h.read.hands × All (AllByHandBut 1) h.passes) }
+{
+    let ((other, read, linker), passes) = with_workers(
+        rt,
+        alloc,
+        desks,
+        passes,
+        outside,
+        &bells.workers,
+        &bells.writer,
+        u64::from(plan.workers),
+        || -> (Caller<Writer<F, R, L::Out>>, Read<F, R, L::Out>, &mut L)
+            requires { IsSend F.row × IsSend L.In.row × IsSend L.Out.row × IsSync R.row × IsSync X.row × (batch ≡ []) × (length hands ≡ bells.now) × (0 < length buffer.items)
+                × (calls_of front.pass.number front.pass.seen ≡ []) × (calls_of caller.pass.number caller.pass.seen ≡ []) × (calls_of other.pass.number other.pass.seen ≡ [])
+                × All (KeepsMoment (X.moment outside.now)) (map (λ hand. hand.pass) hands) }
+            ensures { ComesBack other.entry.turn.now other.entry.pass result.0.pass × AllWrite (calls_of result.0.pass.number result.0.pass.seen)
+                × ComesBack front.entry.turn.now front.entry.pass result.1.front.pass × ComesBack caller.entry.turn.now caller.entry.pass result.1.writer.pass
+                × AllZip IsOther (map (λ hand. hand.turn) hands.entry) result.1.hands × (result.2.ghost_name ≡ linker.entry.ghost_name)
+                × IsRead plan.entry.channels result.1.ended result.1.front.pass result.1.writer.pass (L.linked linker.entry.now) (L.linked result.2.now)
+                × TellsFaults result.1.ended (L.failures linker.entry.now) (L.failures result.2.now) (L.trouble linker.entry.now) (L.trouble result.2.now)
+                × All (KeepsMoment (X.moment outside.entry.now)) result.1.hands × All (AllByHandBut 1) result.1.hands }
+        {
+            serve_threads(
+                rt, alloc, plan, linker, outside, holds, front, caller, other, hands, batch,
+                buffer, bells,
+            )
+        },
+    );
+    *home = Some(Home {
+        other,
+        read,
+        passes,
+    });
+    linker
+}
+
+/// What comes home from all threads: the writer's thread's pass of the writer, what the reader gives back, and the passes of the desks.
+#[derive(Drop)]
+struct Home<
+    'v,
+    'w,
+    'f,
+    'g,
+    F: Object<Call = FrontCall, Reply = FrontReply>,
+    T: Wait,
+    K: Hang + Drop,
+> {
+    other: Caller<'v, Writer<'f, F, T, K>>,
+    read: Read<'w, 'f, 'g, F, T, K>,
+    passes: Passes<SessionDevice>,
+}
+
+fn home_of<
+    'v,
+    'w,
+    'f,
+    'g,
+    F: Object<Call = FrontCall, Reply = FrontReply>,
+    T: Wait,
+    K: Hang + Drop,
+>(home: Option<Home<'v, 'w, 'f, 'g, F, T, K>>) -> Home<'v, 'w, 'f, 'g, F, T, K>
+    requires { IsTrue (is_some home) }
+    ensures { home.entry ≡ Some result }
+{
+    match home {
+        Some(home) => home,
+        None => unreachable!(),
+    }
+}
+
+/// What the reader gives back at the end: how the session ended, and its passes of the front, of the writer and of the desks.
+#[derive(Drop)]
+struct Read<'w, 'f, 'g, F: Object<Call = FrontCall, Reply = FrontReply>, T: Wait, K: Hang + Drop> {
+    ended: Ended,
+    front: Caller<'g, F>,
+    writer: Caller<'w, Writer<'f, F, T, K>>,
+    hands: Passes<SessionDevice>,
+}
+
+/// The writer's thread, and in this one the reader. The linker comes back, so that what became of it is known.
+fn serve_threads<
+    'l,
+    'v,
+    'w,
+    'f,
+    'g,
+    'a,
+    F: Object<Call = FrontCall, Reply = FrontReply> + Send,
+    R: Threads + Wait + Sync,
+    L: Linker,
+    X: Outside + Sync,
+>(
+    rt: &R,
+    alloc: Global,
+    plan: Plan<'_>,
+    linker: &'l mut L,
     outside: &X,
     holds: bool,
     front: Caller<'g, F>,
@@ -248,39 +392,47 @@ fn serve_threads<
     bells: &Bells,
 ) -> (
     Caller<'v, Writer<'f, F, R, L::Out>>,
-    (
-        Ended,
-        Caller<'g, F>,
-        Caller<'w, Writer<'f, F, R, L::Out>>,
-        Passes<SessionDevice>,
-    ),
+    Read<'w, 'f, 'g, F, R, L::Out>,
+    &'l mut L,
 )
     requires none { batch ≡ [] }
     requires places { length hands ≡ bells.now }
     requires room { 0 < length buffer.items }
+    requires front { calls_of front.pass.number front.pass.seen ≡ [] }
+    requires caller { calls_of caller.pass.number caller.pass.seen ≡ [] }
+    requires other { calls_of other.pass.number other.pass.seen ≡ [] }
+    requires moments { All (KeepsMoment (X.moment outside.now)) (map (λ hand. hand.pass) hands) }
     ensures other { ComesBack other.entry.turn.now other.entry.pass result.0.pass }
-    ensures front { ComesBack front.entry.turn.now front.entry.pass result.1.1.pass }
-    ensures caller { ComesBack caller.entry.turn.now caller.entry.pass result.1.2.pass }
-    ensures others { AllZip IsOther (map (λ hand. hand.turn) hands.entry) result.1.3 }
+    ensures writes { AllWrite (calls_of result.0.pass.number result.0.pass.seen) }
+    ensures front { ComesBack front.entry.turn.now front.entry.pass result.1.front.pass }
+    ensures caller { ComesBack caller.entry.turn.now caller.entry.pass result.1.writer.pass }
+    ensures others { AllZip IsOther (map (λ hand. hand.turn) hands.entry) result.1.hands }
+    ensures linker { result.2.ghost_name ≡ linker.entry.ghost_name }
+    ensures read { IsRead plan.entry.channels result.1.ended result.1.front.pass result.1.writer.pass (L.linked linker.entry.now) (L.linked result.2.now) }
+    ensures faults { TellsFaults result.1.ended (L.failures linker.entry.now) (L.failures result.2.now) (L.trouble linker.entry.now) (L.trouble result.2.now) }
+    ensures moments { All (KeepsMoment (X.moment outside.now)) result.1.hands }
+    ensures by_hand { All (AllByHandBut 1) result.1.hands }
 {
-    join(
+    let (other, (read, linker)) = join(
         rt,
         || write_where_rung(rt, &bells.writer, other),
-        || -> (
-            Ended,
-            Caller<F>,
-            Caller<Writer<F, R, L::Out>>,
-            Passes<SessionDevice>,
-        )
-            requires { (batch ≡ []) × (length hands ≡ bells.now) × (0 < length buffer.items) }
-            ensures { ComesBack front.entry.turn.now front.entry.pass result.1.pass × ComesBack caller.entry.turn.now caller.entry.pass result.2.pass
-                × AllZip IsOther (map (λ hand. hand.turn) hands.entry) result.3 }
+        || -> (Read<F, R, L::Out>, &mut L)
+            requires { (batch ≡ []) × (length hands ≡ bells.now) × (0 < length buffer.items) × (calls_of front.pass.number front.pass.seen ≡ []) × (calls_of caller.pass.number caller.pass.seen ≡ [])
+                × All (KeepsMoment (X.moment outside.now)) (map (λ hand. hand.pass) hands) }
+            ensures { (result.1.ghost_name ≡ linker.entry.ghost_name)
+                × ComesBack front.entry.turn.now front.entry.pass result.0.front.pass × ComesBack caller.entry.turn.now caller.entry.pass result.0.writer.pass
+                × AllZip IsOther (map (λ hand. hand.turn) hands.entry) result.0.hands
+                × IsRead plan.entry.channels result.0.ended result.0.front.pass result.0.writer.pass (L.linked linker.entry.now) (L.linked result.1.now)
+                × TellsFaults result.0.ended (L.failures linker.entry.now) (L.failures result.1.now) (L.trouble linker.entry.now) (L.trouble result.1.now)
+                × All (KeepsMoment (X.moment outside.entry.now)) result.0.hands × All (AllByHandBut 1) result.0.hands }
         {
-            read_all(
+            let read = read_all(
                 rt, alloc, plan, linker, outside, holds, front, caller, hands, batch, buffer, bells,
-            )
+            );
+            (read, linker)
         },
-    )
+    );
+    (other, read, linker)
 }
 
 /// The writer's thread: writes where it is rung for, until the bell is over.
@@ -291,7 +443,9 @@ fn write_where_rung<
     T: Wait,
     K: Hang + Drop,
 >(rt: &T, bell: &Bell, writer: Caller<'w, Writer<'f, F, T, K>>) -> Caller<'w, Writer<'f, F, T, K>>
-    ensures { ComesBack writer.entry.turn.now writer.entry.pass result.pass }
+    requires { calls_of writer.pass.number writer.pass.seen ≡ [] }
+    ensures back { ComesBack writer.entry.turn.now writer.entry.pass result.pass }
+    ensures writes { AllWrite (calls_of result.pass.number result.pass.seen) }
 {
     let mut writer = writer;
     let mut next = bell.wait(rt);
@@ -330,24 +484,31 @@ fn read_all<
     batch: Batch,
     buffer: Vec<u8>,
     bells: &Bells,
-) -> (
-    Ended,
-    Caller<'g, F>,
-    Caller<'w, Writer<'f, F, T, L::Out>>,
-    Passes<SessionDevice>,
-)
+) -> Read<'w, 'f, 'g, F, T, L::Out>
     requires none { batch ≡ [] }
     requires places { length hands ≡ bells.now }
     requires room { 0 < length buffer.items }
-    ensures front { ComesBack front.entry.turn.now front.entry.pass result.1.pass }
-    ensures caller { ComesBack caller.entry.turn.now caller.entry.pass result.2.pass }
-    ensures others { AllZip IsOther (map (λ hand. hand.turn) hands.entry) result.3 }
+    requires front { calls_of front.pass.number front.pass.seen ≡ [] }
+    requires caller { calls_of caller.pass.number caller.pass.seen ≡ [] }
+    requires moments { All (KeepsMoment (X.moment outside.now)) (map (λ hand. hand.pass) hands) }
+    ensures moments { All (KeepsMoment (X.moment outside.now)) result.hands }
+    ensures by_hand { All (AllByHandBut 1) result.hands }
+    ensures front { ComesBack front.entry.turn.now front.entry.pass result.front.pass }
+    ensures caller { ComesBack caller.entry.turn.now caller.entry.pass result.writer.pass }
+    ensures others { AllZip IsOther (map (λ hand. hand.turn) hands.entry) result.hands }
+    ensures read { IsRead plan.entry.channels result.ended result.front.pass result.writer.pass (L.linked linker.old) (L.linked linker.new) }
+    ensures faults { TellsFaults result.ended (L.failures linker.old) (L.failures linker.new) (L.trouble linker.old) (L.trouble linker.new) }
 {
     let mut reader = Reader::new(rt, front, caller, hands, batch, outside, bells, holds);
     let ended = serve_channels(alloc, plan, linker, &mut reader, buffer);
     reader.end_session();
-    let (front, caller, hands) = reader.into_parts();
-    (ended, front, caller, hands.into_passes())
+    let (front, writer, hands) = reader.into_parts();
+    Read {
+        ended,
+        front,
+        writer,
+        hands: hands.into_passes(),
+    }
 }
 
 /// The front's desks.
@@ -362,6 +523,7 @@ fn device_desks<'a>(
     requires reached { All (λ turn. IsReachedBy turn.opening) desks.now.turns }
     ensures turns { IfOk result (λ list. map (λ desk. desk.turn) list.items ≡ desks.now.turns) }
     ensures passes { IfOk result (λ list. map (λ desk. desk.pass) list.items ≡ own) }
+    ensures ids { IfOk result (λ list. map (λ desk. desk.id) list.items ≡ ids.now) }
 {
     let mut own = own;
     let mut list = Vec::new(alloc);

@@ -4,9 +4,10 @@ ghost use Rattle.std.specs.Prelude.{◌≡◌, [], length, map, All, IfOk, OnOk}
 ghost use Rattle.std.specs.List.{AllZip, zip};
 ghost use Rattle.std.specs.List.Sorted.{IsStrictlySortedBy};
 ghost use Rattle.std.specs.Ordering.{nat_cmp};
+ghost use Rattle.rd_turn.specs.Pass.{first_pass};
 ghost use Rattle.rd_pool.specs.Desks.{IsFirst};
 ghost use Rattle.rd_workers.specs.Passes.{AreNew};
-ghost use Rattle.rd_world.specs.Session.{journals_of};
+ghost use Rattle.rd_world.specs.Session.{StoresSome, journals_of};
 ghost use Rattle.rd_world.specs.Stations.{IsReachedBy};
 
 use rd_base::Books;
@@ -27,6 +28,8 @@ pub(crate) fn desks_of(
     ensures first { IfOk result (λ given. AllZip IsFirst given.1.turns given.2) }
     ensures new { IfOk result (λ given. AreNew given.2) }
     ensures reached { IfOk result (λ given. All (λ turn. IsReachedBy turn.opening) given.1.turns) }
+    ensures opened { IfOk result (λ given. zip given.0.items (map (λ turn. turn.opening) given.1.turns) ≡ stations) }
+    ensures passes { IfOk result (λ given. given.2 ≡ map first_pass given.1.turns) }
 {
     let (ids, list) = stations.finish();
     let (desks, passes) = open_desks(alloc, ids.as_slice(), list)?;
@@ -44,6 +47,7 @@ fn open_desks<D: Device + Drop>(
     ensures first { IfOk result (λ both. AllZip IsFirst both.0.turns both.1) }
     ensures new { IfOk result (λ both. AreNew both.1) }
     ensures opened { IfOk result (λ both. map (λ turn. turn.opening) both.0.turns ≡ list.items) }
+    ensures passes { IfOk result (λ both. both.1 ≡ map first_pass both.0.turns) }
 {
     let mut desks = Desks::new(alloc);
     let mut passes = Passes::new(alloc);
@@ -58,7 +62,7 @@ fn open_desks<D: Device + Drop>(
     Ok((desks, passes))
 }
 
-/// The journal of each station goes into the books, under its id.
+/// The journal of each station goes into the books, under its id. Where no memory is found the books have the first of them.
 pub(crate) fn store_all<D: Device + Drop>(
     ids: &[u32],
     stations: VecDeque<Station<D>>,
@@ -67,7 +71,8 @@ pub(crate) fn store_all<D: Device + Drop>(
     requires rise { IsStrictlySortedBy nat_cmp ids.now }
     requires same { length stations.items ≡ length ids.now }
     requires none { books.old ≡ [] }
-    ensures { OnOk result (journals_of books.new ≡ zip ids.now (map (λ station. station.journal) stations.items)) }
+    ensures stored { OnOk result (journals_of books.new ≡ zip ids.now (map (λ station. station.journal) stations.items)) }
+    ensures some { StoresSome (zip ids.now (map (λ station. station.journal) stations.items)) books.new }
 {
     let mut place = 0usize;
     for station in stations {

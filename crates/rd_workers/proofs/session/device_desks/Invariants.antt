@@ -8,6 +8,7 @@ invariant-loop-pass l = record {
   others : AllZip IsOther (drop l.place l.desks.turns) l.own;
   turns : map (λ d. d.turn) l.list.items ≡ take l.place l.desks.turns;
   passes : map (λ d. d.pass) l.list.items ++ l.own ≡ l.fn.own;
+  ids : map (λ d. d.id) l.list.items ≡ take l.place l.ids;
 }
 
 abbrev pub decreases-loop-pass : goal.decreases-loop-pass

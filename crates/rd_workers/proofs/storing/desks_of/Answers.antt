@@ -1,5 +1,6 @@
 use Rattle.std.proofs.Common.{◌∙◌, ap, subst, sym, ℕ}
 use Rattle.std.specs.Prelude.{All}
+use Rattle.std.specs.List.{zip}
 use Rattle.std.specs.List.Sorted.{IsStrictlySortedBy}
 use Rattle.std.specs.Map.{keys_of}
 use Rattle.std.specs.Ordering.{nat_cmp}
@@ -26,3 +27,6 @@ returns-clause-reached c =
     of_openings IsReachedBy c.in_ok-desks.desks.turns c.finish-ids.result.1.items c.in_ok-desks.ensures.opened
     (beside_all IsReachedBy c.finish-ids.result.0.items c.finish-ids.result.1.items c.finish-ids.ensures.same
     (subst (All (λ (e : ℕ × StationState SessionDevice). IsReachedBy e.1)) (sym c.finish-ids.ensures.stations) c.finish-ids.ensures.kept.reached))
+
+pub returns-clause-opened : goal.returns-clause-opened
+returns-clause-opened c = ap (zip c.finish-ids.result.0.items) c.in_ok-desks.ensures.opened ∙ c.finish-ids.ensures.stations

@@ -1,5 +1,6 @@
-use Rattle.std.proofs.Common.{◌≡◌}
+use Rattle.std.proofs.Common.{ℕ, None}
+use Rattle.rd_workers.specs.Reading.{GoesOn}
 use Rattle.rd_workers.proofs.reader.Reader.act.Given as goal
 
 abbrev pub invariant-loop : goal.invariant-loop
-invariant-loop g l = l.self ≡ l.fn.self
+invariant-loop g l = (count : ℕ) → GoesOn None count l.fn.self l.self

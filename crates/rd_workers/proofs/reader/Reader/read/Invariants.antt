@@ -1,5 +1,6 @@
-use Rattle.std.proofs.Common.{◌≡◌}
+use Rattle.std.proofs.Common.{None}
+use Rattle.rd_workers.specs.Reading.{HearsOn}
 use Rattle.rd_workers.proofs.reader.Reader.read.Given as goal
 
 abbrev pub invariant-loop : goal.invariant-loop
-invariant-loop g l = (l.self ≡ l.fn.self) × (l.incoming.faults ≡ l.fn.incoming.faults)
+invariant-loop g l = HearsOn None l.fn.self l.self l.fn.incoming l.incoming

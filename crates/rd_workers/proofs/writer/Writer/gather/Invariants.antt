@@ -1,5 +1,5 @@
-use Rattle.std.proofs.Common.{◌≡◌}
+use Rattle.rd_workers.specs.Writing.{TakesMore}
 use Rattle.rd_workers.proofs.writer.Writer.gather.Given as goal
 
 abbrev pub invariant-loop : goal.invariant-loop
-invariant-loop g l = l.self ≡ l.initial.self
+invariant-loop g l = TakesMore l.fn.self l.fn.output l.output l.self

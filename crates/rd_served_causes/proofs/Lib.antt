@@ -1,0 +1,11 @@
+pub mod CallLemmas
+pub mod DeskLemmas
+pub mod LaterLemmas
+pub mod OpenLemmas
+pub mod PlaceLemmas
+pub mod RefuseLemmas
+pub mod RestLemmas
+pub mod SayLemmas
+pub mod StepLemmas
+pub mod WayLemmas
+pub mod WornLemmas

@@ -1,0 +1,77 @@
+-- The history of the front over which a session's devices were served.
+use Rattle.std.proofs.Common.{◌≡◌, ◌∙◌, ◌⊎◌, inl, inr, ℕ, List, [], ◌∷◌, Option, None, false, ap, sym, subst, map}
+use Rattle.std.specs.Prelude.{All}
+use Rattle.std.specs.List.{zip}
+use Rattle.std.proofs.lemmas.List.Elements.{All-cons, All-head, All-map, All-nil, All-same, All-tail, All-weaker}
+use Rattle.rd_carry.specs.declared.ended.Ended.{Ended}
+use Rattle.rd_client.specs.Core.{ClientCoreState, new_client}
+use Rattle.rd_devices.specs.declared.list.Announce.{Announce}
+use Rattle.rd_front.specs.Front.{FrontStep}
+use Rattle.rd_front.specs.State.{DeviceDeskState, FrontState, SessionPass}
+use Rattle.rd_link.specs.Links.{Links}
+use Rattle.rd_pool.specs.Desks.{DeskTurn}
+use Rattle.rd_station.specs.Station.{StationState}
+use Rattle.rd_turn.specs.History.{Leads}
+use Rattle.rd_turn.specs.Pass.{new_pass}
+use Rattle.rd_workers.specs.Logs.{FrontEntry}
+use Rattle.rd_workers.specs.Passes.{AreNew}
+use Rattle.rd_workers.specs.Served.{ServesEntries, MayServe, ServesDevices, ServesFront}
+use Rattle.rd_world.specs.Devices.{Declared, PrinterNames}
+use Rattle.rd_world.specs.Opening.{Opens}
+use Rattle.rd_world.specs.declared.device.SessionDevice.{SessionDevice}
+
+-- passes that were split from new ones have seen no call
+pub unseen_split : (ps own : List SessionPass) → own ≡ map new_pass ps → AreNew ps → All (λ (p : SessionPass). p.seen ≡ []) own
+unseen_split ps own is new =
+    All-same (λ (p : SessionPass). p.seen ≡ []) own (map new_pass ps) is
+    (All-map (λ (p : SessionPass). p.seen ≡ []) new_pass ps (All-weaker (λ (p : SessionPass). (p.made ≡ 0) × (p.out ≡ 0) × (p.seen ≡ [])) (λ (p : SessionPass). p.seen ≡ []) (λ p none. none.2) ps new))
+
+unseen_desks : (ds : List DeviceDeskState) → All (λ (p : SessionPass). p.seen ≡ []) (map (λ (d : DeviceDeskState). d.pass) ds) → All (λ (d : DeviceDeskState). (d.pass).seen ≡ []) ds
+unseen_desks [] all = All-nil (λ (d : DeviceDeskState). (d.pass).seen ≡ [])
+unseen_desks (d ∷ ds) all =
+    All-cons (λ (x : DeviceDeskState). (x.pass).seen ≡ []) d ds (All-head (λ (p : SessionPass). p.seen ≡ []) d.pass (map (λ (x : DeviceDeskState). x.pass) ds) all)
+    (unseen_desks ds (All-tail (λ (p : SessionPass). p.seen ≡ []) d.pass (map (λ (x : DeviceDeskState). x.pass) ds) all))
+
+module _ (client : ClientCoreState) (printers : List (ℕ × PrinterNames)) where
+  -- a front before its first channel
+  abbrev pub fresh_front : List DeviceDeskState → FrontState
+  fresh_front desks = record { client = client; printers = printers; cache = []; desks = desks; kept = None; channel = 0; on = false; over = false; unsent = 0 }
+
+  pub serves_front : (ids : List ℕ) (turns : List (DeskTurn SessionDevice)) (channels : ℕ) (by : Ended) (opening last : FrontState) (desks : List DeviceDeskState) (own : List SessionPass) (entries : List FrontEntry) (old new : Option Links)
+      → opening ≡ fresh_front desks → map (λ (d : DeviceDeskState). d.id) desks ≡ ids → map (λ (d : DeviceDeskState). d.turn) desks ≡ turns → map (λ (d : DeviceDeskState). d.pass) desks ≡ own → All (λ (p : SessionPass). p.seen ≡ []) own
+      → Leads FrontStep opening entries last → ServesEntries channels by entries old new → ServesFront client printers ids turns channels by old new
+  serves_front ids turns channels by opening last desks own entries old new is ids_are turns_are own_are unseen leads served =
+      let there : opening.desks ≡ desks = ap (λ (s : FrontState). s.desks) is in
+      record {
+        opening = opening;
+        last = last;
+        entries = entries;
+        begins = record {
+          is = is ∙ ap fresh_front (sym there);
+          ids_are = ap (map (λ (d : DeviceDeskState). d.id)) there ∙ ids_are;
+          turns_are = ap (map (λ (d : DeviceDeskState). d.turn)) there ∙ turns_are;
+          unseen = unseen_desks opening.desks
+              (All-same (λ (p : SessionPass). p.seen ≡ []) (map (λ (d : DeviceDeskState). d.pass) opening.desks) own (ap (map (λ (d : DeviceDeskState). d.pass)) there ∙ own_are) unseen);
+        };
+        leads = leads;
+        served = served;
+      }
+
+-- ---- the devices of a script
+
+module _ (devices : List (ℕ × Declared)) (stations : List (ℕ × StationState SessionDevice)) (announced : List Announce) (client : ClientCoreState) (printers : List (ℕ × PrinterNames)) (ids there : List ℕ) (turns : List (DeskTurn SessionDevice))
+    (opens : Opens devices stations announced printers) (over : zip ids (map (λ (t : DeskTurn SessionDevice). t.opening) turns) ≡ stations) (shown : there ≡ ids) (client_is : client ≡ new_client announced)
+  where
+    pub serves_devices : (channels : ℕ) (by : Ended) (old new : Option Links) → ServesFront client printers there turns channels by old new → ServesDevices devices channels by old new
+    serves_devices channels by old new serves = record {
+      announced = announced;
+      printers = printers;
+      ids = ids;
+      turns = turns;
+      opens = subst (λ (l : List (ℕ × StationState SessionDevice)). Opens devices l announced printers) (sym over) opens;
+      serves = subst (λ (l : List ℕ). ServesFront (new_client announced) printers l turns channels by old new) shown (subst (λ (c : ClientCoreState). ServesFront c printers there turns channels by old new) client_is serves);
+    }
+
+    pub may_serve : (channels : ℕ) (old new : Option Links) → (new ≡ old) ⊎ ((by : Ended) × ServesFront client printers there turns channels by old new) → MayServe devices channels old new
+    may_serve channels old new (inl same) = inl same
+    may_serve channels old new (inr serves) = inr (serves.0, serves_devices channels serves.0 old new serves.1)

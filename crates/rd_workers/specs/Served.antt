@@ -1,0 +1,82 @@
+-- What a session at a client's channels comes to: one history of its front, what its reader heard and its writer wrote by that, and how it ended.
+use Rattle.std.specs.Prelude.{◌≡◌, ◌⊎◌, ℕ, ◌<◌, true, false, List, [], map, All, Option, None}
+use Rattle.std.specs.List.{AllByRecursion, zip}
+use Rattle.rd_carry.specs.declared.ended.Ended.{Ended}
+use Rattle.rd_carry.specs.declared.ended.Ended.TheVariants as ended
+use Rattle.rd_client.specs.Core.{ClientCoreState, new_client}
+use Rattle.rd_devices.specs.declared.list.Announce.{Announce}
+use Rattle.rd_front.specs.Front.{FrontStep}
+use Rattle.rd_front.specs.State.{DeviceDeskState, FrontState}
+use Rattle.rd_front.specs.declared.calls.FrontCall.{FrontCall}
+use Rattle.rd_front.specs.declared.calls.FrontReply.{FrontReply}
+use Rattle.rd_link.specs.Links.{Links}
+use Rattle.rd_pool.specs.Desks.{DeskTurn}
+use Rattle.rd_script.specs.declared.line.NumberedLine.{NumberedLine}
+use Rattle.rd_turn.specs.History.{Leads, calls_of}
+use Rattle.rd_turn.specs.Pass.{PassState}
+use Rattle.rd_world.specs.Devices.{Declared, PrinterNames}
+use Rattle.rd_world.specs.Opening.{Opens, bare_lines}
+use Rattle.rd_world.specs.Run.{declared_devices}
+use Rattle.rd_world.specs.declared.device.SessionDevice.{SessionDevice}
+use Rattle.rd_workers.specs.Channels.{EndsSo, channels_of}
+use Rattle.rd_workers.specs.Logs.{FrontEntry, NoneAsks, Wrote, front_log, messages_for, writer_log}
+use Rattle.rd_workers.specs.Passes.{WriterState}
+use Rattle.rd_workers.specs.Writing.{PutsTo}
+use Rattle.rd_workers.specs.declared.writer.WriterCall.{WriterCall}
+use Rattle.rd_workers.specs.declared.writer.WriterReply.{WriterReply}
+
+-- What was handed out for a channel was put to its half, all of it, but where no memory was found for a message; nothing waits there any more; and that nothing more could be
+-- written was said only where a write had failed, or where no memory was found.
+pub record IsWritten (entries : List FrontEntry) (w : Wrote) : Type 0 where
+  pub puts : PutsTo w.starved (messages_for w.channel entries) w.began w.ended
+  pub flushed : (w.ended).pending ≡ []
+  pub stopped : w.stopped ≡ true → (0 < (w.ended).faults) ⊎ (w.starved ≡ true)
+
+-- The calls of the front in their order, by which so many channels were served, up to this end.
+pub record ServesEntries (channels : ℕ) (by : Ended) (entries : List FrontEntry) (old new : Option Links) : Type 0 where
+  pub done : List Wrote
+  pub ends : EndsSo channels by ((front_log entries).heard) done old new
+  pub late : (front_log entries).late ≡ false
+  pub written : AllByRecursion (IsWritten entries) done
+
+-- The same of what a reader's own calls of the front and of the writer tell.
+pub record IsRead {F K : Type 0} (channels : ℕ) (by : Ended) (front : PassState F FrontCall FrontReply) (writer : PassState (WriterState F) (WriterCall K) (WriterReply K)) (old new : Option Links) : Type 0 where
+  pub asks_any : NoneAsks (calls_of front.number front.seen)
+  pub late : (front_log (calls_of front.number front.seen)).late ≡ false
+  pub ends : EndsSo channels by ((front_log (calls_of front.number front.seen)).heard) ((writer_log (calls_of writer.number writer.seen)).done) old new
+
+-- ---- from the script on
+
+-- A front over a client, its printers and desks of devices with these ids and turns, whose passes have seen no call, before its first channel.
+pub record IsFrontOf (client : ClientCoreState) (printers : List (ℕ × PrinterNames)) (ids : List ℕ) (turns : List (DeskTurn SessionDevice)) (s : FrontState) : Type 0 where
+  pub is : s ≡ record { client = client; printers = printers; cache = []; desks = s.desks; kept = None; channel = 0; on = false; over = false; unsent = 0 }
+  pub ids_are : map (λ (d : DeviceDeskState). d.id) s.desks ≡ ids
+  pub turns_are : map (λ (d : DeviceDeskState). d.turn) s.desks ≡ turns
+  pub unseen : All (λ (d : DeviceDeskState). (d.pass).seen ≡ []) s.desks
+
+-- There is one history of such a front, by which all was served.
+pub record ServesFront (client : ClientCoreState) (printers : List (ℕ × PrinterNames)) (ids : List ℕ) (turns : List (DeskTurn SessionDevice)) (channels : ℕ) (by : Ended) (old new : Option Links) : Type 0 where
+  pub opening : FrontState
+  pub last : FrontState
+  pub entries : List FrontEntry
+  pub begins : IsFrontOf client printers ids turns opening
+  pub leads : Leads FrontStep opening entries last
+  pub served : ServesEntries channels by entries old new
+
+-- The front's client and printers are those of these devices, and its desks are over their stations.
+pub record ServesDevices (devices : List (ℕ × Declared)) (channels : ℕ) (by : Ended) (old new : Option Links) : Type 0 where
+  pub announced : List Announce
+  pub printers : List (ℕ × PrinterNames)
+  pub ids : List ℕ
+  pub turns : List (DeskTurn SessionDevice)
+  pub opens : Opens devices (zip ids (map (λ (t : DeskTurn SessionDevice). t.opening) turns)) announced printers
+  pub serves : ServesFront (new_client announced) printers ids turns channels by old new
+
+-- Devices were served, up to some end; or no channel was had.
+abbrev pub MayServe : List (ℕ × Declared) → ℕ → (old new : Option Links) → Type 0
+MayServe devices channels old new = (new ≡ old) ⊎ ((by : Ended) × ServesDevices devices channels by old new)
+
+-- The devices of a script's lines were served, on as many channels as these say, up to this end; or it is want of memory, that came before or after.
+abbrev pub HasServedLines : List NumberedLine → Ended → (old new : Option Links) → Type 0
+HasServedLines lines by old new =
+    ServesDevices (declared_devices (bare_lines lines)) (channels_of lines) by old new ⊎ ((by ≡ ended.Memory) × MayServe (declared_devices (bare_lines lines)) (channels_of lines) old new)
