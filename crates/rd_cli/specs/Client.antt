@@ -60,7 +60,7 @@ EndsServed lines e before after status = EndsPrinted (lines ++ line_after (stop_
 -- What holds of a session of a script's devices that came to this end, and of the books that it left.
 pub record Served {L : Type 0} (script : Script) (linked linked_after : Linked L) (books : List (ℕ × History)) (e : Ended) : Type 0 where
   -- by one history of the front over the script's devices: what was read on each channel was heard, and what was handed out is what was written
-  pub channels : HasServedLines script.lines e linked.links linked_after.links
+  pub channels : HasServedLines script.lines e books linked.links linked_after.links
   pub lawful : AreLawfulBooks books
   pub faults : TellsFaults e linked.failures linked_after.failures linked.trouble linked_after.trouble
 

@@ -1,5 +1,5 @@
 -- Channels that are served one after the other: what is known after each.
-use Rattle.std.proofs.Common.{◌≡◌, ◌∙◌, ◌+◌, ◌⊎◌, ℕ, suc, List, [], ◌∷◌, ◌++◌, length, map, Option, Some, None, Bool, true, false, ap, sym, refl, subst, inl, inr, arith, append_assoc, append-nil}
+use Rattle.std.proofs.Common.{◌≡◌, ◌∙◌, ◌+◌, ℕ, suc, List, [], ◌∷◌, ◌++◌, length, map, Option, Some, None, Bool, true, false, ap, sym, refl, subst, inl, inr, arith, append_assoc, append-nil}
 use Rattle.std.proofs.lemmas.List.{length-append, map-append}
 use Rattle.std.specs.List.{AllByRecursion}
 use Rattle.std.specs.Io.KnownBytes.{Consumes}
@@ -8,7 +8,7 @@ use Rattle.rd_carry.specs.Outgoing.{HasWritten, OutgoingState}
 use Rattle.rd_carry.specs.declared.ended.Ended.{Ended}
 use Rattle.rd_carry.specs.declared.ended.Ended.TheVariants as ended
 use Rattle.rd_link.specs.Links.{Lends, Links, TakesBack}
-use Rattle.rd_workers.specs.Channels.{AllGoOn, HaveNumbers, EndsOn, EndsSo, HasServed, IsReading, IsChannelRun, ChannelReading, Run, ServesIt, ServesNext, SettlesRun, SettlesRuns, ended_as, ended_session, heard_by_all, heard_on_it}
+use Rattle.rd_workers.specs.Channels.{AllGoOn, HaveNumbers, EndsOn, HasServed, IsReading, IsChannelRun, ChannelReading, Run, ServesIt, ServesNext, SettlesRun, SettlesRuns, ended_as, ended_session, heard_by_all, heard_on_it}
 use Rattle.rd_workers.specs.Faults.{faults_by}
 use Rattle.rd_workers.specs.Logs.{FrontLog, WriterLog, Wrote, begun_on, finished_on}
 use Rattle.rd_workers.specs.Passes.{ReaderState}
@@ -94,16 +94,6 @@ module _ {F : Type 0} where
     pub served : HasServed runs (here.log).heard (here.written).done old new
     pub on : AllGoOn runs
 
-  pub gone_first : (first : ReaderState F) (links : Option Links) → (first.log).late ≡ false → (first.log).heard ≡ [] → (first.written).done ≡ [] → HasGone 0 first first links links
-  gone_first first links late heard done = record {
-    same = record { front = refl; writer = refl; desks = refl; moment = refl };
-    late = late;
-    runs = [];
-    count = refl;
-    served = subst (λ (h : List (ℕ × List ℕ)). HasServed [] h (first.written).done links links) (sym heard) (subst (λ (d : List Wrote). HasServed [] [] d links links) (sym done) (served_none links));
-    on = tt;
-  }
-
   pub gone_more : (channel next : ℕ) (first here new : ReaderState F) (old mid links : Option Links) → next ≡ channel + 1 → HasGone channel first here old mid → IsSame here new → (new.log).late ≡ (here.log).late → ServesIt next None here new mid links
       → HasGone next first new old links
   gone_more channel next first here new old mid links is gone same late (r, number, serves) = record {
@@ -114,20 +104,6 @@ module _ {F : Type 0} where
     served = served_more gone.runs r None (here.log).heard (new.log).heard (here.written).done (new.written).done old mid links gone.served (let n = gone.count in omega (arith, number, n, is)) serves;
     on = all_push (λ (x : Run). ended_session x ≡ None) gone.runs r gone.on serves.ends;
   }
-
-  -- all of them were served
-  pub gone_all : (channel channels : ℕ) (by : Ended) (first here : ReaderState F) (old new : Option Links) → HasGone channel first here old new → channel ≡ channels → (by ≡ ended.Over) ⊎ (by ≡ ended.Link)
-      → EndsSo channels by (here.log).heard (here.written).done old new
-  gone_all channel channels by first here old new gone all end =
-      (gone.runs, (here.log).heard, (here.written).done, new, gone.served, gone.on, inl (gone.count ∙ all, end, refl, refl, refl))
-
-  -- one ended the session
-  pub gone_ended : (channel next channels : ℕ) (by : Ended) (first here new : ReaderState F) (old mid links : Option Links) → next ≡ channel + 1 → HasGone channel first here old mid
-      → EndsOn next by (here.log).heard (new.log).heard (here.written).done (new.written).done mid links → EndsSo channels by (new.log).heard (new.written).done old links
-  gone_ended channel next channels by first here new old mid links is gone ends =
-      let n = gone.count in
-      let number : next ≡ suc (length gone.runs) = omega (arith, is, n) in
-      (gone.runs, (here.log).heard, (here.written).done, mid, gone.served, gone.on, inr (subst (λ (k : ℕ). EndsOn k by (here.log).heard (new.log).heard (here.written).done (new.written).done mid links) number ends))
 
   -- ---- and its reader
 

@@ -12,7 +12,7 @@ use Rattle.rd_desk.specs.Own.{GivesOwnBack}
 use Rattle.rd_pool.specs.Desks.{AllByHandBut, CameHome, IsClosed}
 use Rattle.rd_pool.proofs.CallsLemmas.{the_one, then_hands, with_hands}
 use Rattle.rd_front.specs.Kept.{DeskGoesOn}
-use Rattle.rd_front.specs.State.{DeviceDeskState, SessionDeskStep, SessionPass, SessionStation}
+use Rattle.rd_front.specs.State.{DeviceDeskState, FrontState, SessionDeskStep, SessionPass, SessionStation}
 use Rattle.rd_world.specs.Devices.{device_cuts, device_parked, device_runs}
 use Rattle.rd_workers.specs.Closed.{ClosesAfter, FrontCameHome}
 use Rattle.rd_workers.specs.Passes.{IsPassOf}
@@ -99,6 +99,6 @@ all_close turns desks passes stations turns_are firsts hands home closed =
       by ds ps ss (All-tail (λ (q : SessionPass). q.number ≡ 1) d.pass (map (λ (e : DeviceDeskState). e.pass) ds) firsts) (All-tail (AllByHandBut 1) p ps hands) home.1 closed.1,
     )
 
-pub home_close : (turns : Turns) (passes : List SessionPass) (stations : List SessionStation) (home : FrontCameHome turns passes) → AllZip (IsClosed device_runs device_parked device_cuts) (zip turns passes) stations
-    → AllZip ClosesAfter (home.last).desks stations
-home_close turns passes stations home closed = all_close turns (home.last).desks passes stations home.turns_are home.numbers home.by_hand home.home closed
+pub home_close : (last : FrontState) (turns : Turns) (passes : List SessionPass) (stations : List SessionStation) → FrontCameHome last turns passes → AllZip (IsClosed device_runs device_parked device_cuts) (zip turns passes) stations
+    → AllZip ClosesAfter last.desks stations
+home_close last turns passes stations home closed = all_close turns last.desks passes stations home.turns_are home.numbers home.by_hand home.home closed

@@ -15,7 +15,7 @@ use Rattle.rd_turn.specs.History.{Leads}
 use Rattle.rd_turn.specs.Pass.{new_pass}
 use Rattle.rd_workers.specs.Logs.{FrontEntry}
 use Rattle.rd_workers.specs.Passes.{AreNew}
-use Rattle.rd_workers.specs.Served.{ServesEntries, MayServe, ServesDevices, ServesFront}
+use Rattle.rd_workers.specs.Served.{IsFrontOf, MayServe, ServesDevices, ServesEntries, ServesFront}
 use Rattle.rd_world.specs.Devices.{Declared, PrinterNames}
 use Rattle.rd_world.specs.Opening.{Opens}
 use Rattle.rd_world.specs.declared.device.SessionDevice.{SessionDevice}
@@ -26,7 +26,7 @@ unseen_split ps own is new =
     All-same (λ (p : SessionPass). p.seen ≡ []) own (map new_pass ps) is
     (All-map (λ (p : SessionPass). p.seen ≡ []) new_pass ps (All-weaker (λ (p : SessionPass). (p.made ≡ 0) × (p.out ≡ 0) × (p.seen ≡ [])) (λ (p : SessionPass). p.seen ≡ []) (λ p none. none.2) ps new))
 
-unseen_desks : (ds : List DeviceDeskState) → All (λ (p : SessionPass). p.seen ≡ []) (map (λ (d : DeviceDeskState). d.pass) ds) → All (λ (d : DeviceDeskState). (d.pass).seen ≡ []) ds
+pub unseen_desks : (ds : List DeviceDeskState) → All (λ (p : SessionPass). p.seen ≡ []) (map (λ (d : DeviceDeskState). d.pass) ds) → All (λ (d : DeviceDeskState). (d.pass).seen ≡ []) ds
 unseen_desks [] all = All-nil (λ (d : DeviceDeskState). (d.pass).seen ≡ [])
 unseen_desks (d ∷ ds) all =
     All-cons (λ (x : DeviceDeskState). (x.pass).seen ≡ []) d ds (All-head (λ (p : SessionPass). p.seen ≡ []) d.pass (map (λ (x : DeviceDeskState). x.pass) ds) all)
@@ -37,7 +37,7 @@ module _ (client : ClientCoreState) (printers : List (ℕ × PrinterNames)) wher
   abbrev pub fresh_front : List DeviceDeskState → FrontState
   fresh_front desks = record { client = client; printers = printers; cache = []; desks = desks; kept = None; channel = 0; on = false; over = false; unsent = 0 }
 
-  pub serves_front : (ids : List ℕ) (turns : List (DeskTurn SessionDevice)) (channels : ℕ) (by : Ended) (opening last : FrontState) (desks : List DeviceDeskState) (own : List SessionPass) (entries : List FrontEntry) (old new : Option Links)
+  abbrev pub serves_front : (ids : List ℕ) (turns : List (DeskTurn SessionDevice)) (channels : ℕ) (by : Ended) (opening last : FrontState) (desks : List DeviceDeskState) (own : List SessionPass) (entries : List FrontEntry) (old new : Option Links)
       → opening ≡ fresh_front desks → map (λ (d : DeviceDeskState). d.id) desks ≡ ids → map (λ (d : DeviceDeskState). d.turn) desks ≡ turns → map (λ (d : DeviceDeskState). d.pass) desks ≡ own → All (λ (p : SessionPass). p.seen ≡ []) own
       → Leads FrontStep opening entries last → ServesEntries channels by entries old new → ServesFront client printers ids turns channels by old new
   serves_front ids turns channels by opening last desks own entries old new is ids_are turns_are own_are unseen leads served =
@@ -62,7 +62,7 @@ module _ (client : ClientCoreState) (printers : List (ℕ × PrinterNames)) wher
 module _ (devices : List (ℕ × Declared)) (stations : List (ℕ × StationState SessionDevice)) (announced : List Announce) (client : ClientCoreState) (printers : List (ℕ × PrinterNames)) (ids there : List ℕ) (turns : List (DeskTurn SessionDevice))
     (opens : Opens devices stations announced printers) (over : zip ids (map (λ (t : DeskTurn SessionDevice). t.opening) turns) ≡ stations) (shown : there ≡ ids) (client_is : client ≡ new_client announced)
   where
-    pub serves_devices : (channels : ℕ) (by : Ended) (old new : Option Links) → ServesFront client printers there turns channels by old new → ServesDevices devices channels by old new
+    abbrev pub serves_devices : (channels : ℕ) (by : Ended) (old new : Option Links) → ServesFront client printers there turns channels by old new → ServesDevices devices channels by old new
     serves_devices channels by old new serves = record {
       announced = announced;
       printers = printers;
@@ -70,6 +70,17 @@ module _ (devices : List (ℕ × Declared)) (stations : List (ℕ × StationStat
       turns = turns;
       opens = subst (λ (l : List (ℕ × StationState SessionDevice)). Opens devices l announced printers) (sym over) opens;
       serves = subst (λ (l : List ℕ). ServesFront (new_client announced) printers l turns channels by old new) shown (subst (λ (c : ClientCoreState). ServesFront c printers there turns channels by old new) client_is serves);
+    }
+
+    -- the same front, by the names of the script's devices
+    abbrev pub front_of : (channels : ℕ) (by : Ended) (old new : Option Links) → ServesFront client printers there turns channels by old new → ServesFront (new_client announced) printers ids turns channels by old new
+    front_of channels by old new serves = record {
+      opening = serves.opening;
+      last = serves.last;
+      entries = serves.entries;
+      begins = subst (λ (l : List ℕ). IsFrontOf (new_client announced) printers l turns serves.opening) shown (subst (λ (c : ClientCoreState). IsFrontOf c printers there turns serves.opening) client_is serves.begins);
+      leads = serves.leads;
+      served = serves.served;
     }
 
     pub may_serve : (channels : ℕ) (old new : Option Links) → (new ≡ old) ⊎ ((by : Ended) × ServesFront client printers there turns channels by old new) → MayServe devices channels old new

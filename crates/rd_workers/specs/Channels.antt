@@ -1,5 +1,5 @@
 -- What a session did on its channels, one after the other: what was read and heard on each, what became of its half that was written to, and what its linker was told of it.
-use Rattle.std.specs.Prelude.{◌≡◌, ℕ, suc, ◌⊎◌, Bool, true, false, List, [], ◌∷◌, ◌++◌, length, map, fold, Option, None, Some}
+use Rattle.std.specs.Prelude.{◌≡◌, ℕ, suc, ◌<◌, ◌⊎◌, Bool, true, false, List, [], ◌∷◌, ◌++◌, length, map, fold, Option, None, Some}
 use Rattle.std.specs.Io.KnownBytes.{Consumes}
 use Rattle.std.specs.List.{AllByRecursion}
 use Rattle.rd_carry.specs.Incoming.{HasHeard, IncomingState}
@@ -145,11 +145,11 @@ AllGoOn runs = AllByRecursion (λ (r : Run). ended_session r ≡ None) runs
 abbrev pub EndsAfter : (channels count : ℕ) (by : Ended) (heard heard' : List (ℕ × List ℕ)) (done done' : List Wrote) (old new : Option Links) → Type 0
 EndsAfter channels count by heard heard' done done' old new = (count ≡ channels) × ((by ≡ ended.Over) ⊎ (by ≡ ended.Link)) × (heard' ≡ heard) × (done' ≡ done) × (new ≡ old)
 
--- A session's channels were all served; or one ended it, or none more could be had or begun.
+-- A session's channels were all served; or one of them ended it, or none more could be had or begun.
 abbrev pub EndsSo : (channels : ℕ) (by : Ended) (heard : List (ℕ × List ℕ)) (done : List Wrote) (old new : Option Links) → Type 0
 EndsSo channels by heard done old new =
     (runs : List Run) × (heard' : List (ℕ × List ℕ)) × (done' : List Wrote) × (between : Option Links) × HasServed runs heard' done' old between × AllGoOn runs
-    × (EndsAfter channels (length runs) by heard' heard done' done between new ⊎ EndsOn (suc (length runs)) by heard' heard done' done between new)
+    × (EndsAfter channels (length runs) by heard' heard done' done between new ⊎ ((length runs < channels) × EndsOn (suc (length runs)) by heard' heard done' done between new))
 
 -- ---- how many channels
 

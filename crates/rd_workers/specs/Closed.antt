@@ -5,9 +5,6 @@ use Rattle.rd_desk.specs.declared.calls.DeskCall.{DeskCall}
 use Rattle.rd_desk.specs.declared.calls.DeskReply.{DeskReply}
 use Rattle.rd_desk.specs.Desk.{job_put}
 use Rattle.rd_desk.specs.Own.{GivesOwnBack}
-use Rattle.rd_front.specs.declared.calls.FrontCall.{FrontCall}
-use Rattle.rd_front.specs.declared.calls.FrontReply.{FrontReply}
-use Rattle.rd_front.specs.Front.{FrontStep}
 use Rattle.rd_front.specs.State.{DeviceDeskState, FrontState, SessionDeskStep, SessionPass, SessionStation}
 use Rattle.rd_pool.specs.Desks.{AllByHandBut, CameHome, IsByHand, IsByHandBut}
 use Rattle.rd_turn.specs.declared.object.Entry.{Entry}
@@ -26,12 +23,8 @@ pub record ClosesAfter (d : DeviceDeskState) (s : SessionStation) : Type 0 where
   pub numbers : All (λ (e : Entry DeskCall DeskReply). e.by ≤ most) ((d.pass).seen ++ later)
   pub gives : (number : ℕ) → number ≤ most → GivesOwnBack (calls_of number ((d.pass).seen ++ later))
 
--- A front went by these calls, and its passes of the desks of these turns came home to these. All other calls there are hands'.
-pub record FrontCameHome (turns : List (TurnId SessionStation)) (passes : List SessionPass) : Type 0 where
-  pub opening : FrontState
-  pub entries : List (Entry FrontCall FrontReply)
-  pub last : FrontState
-  pub leads : Leads FrontStep opening entries last
+-- The passes that a front had at its end, of the desks of these turns, came home to these. All other calls there are hands'.
+pub record FrontCameHome (last : FrontState) (turns : List (TurnId SessionStation)) (passes : List SessionPass) : Type 0 where
   pub turns_are : map (λ (d : DeviceDeskState). d.turn) last.desks ≡ turns
   pub numbers : All (λ (p : SessionPass). p.number ≡ 1) (map (λ (d : DeviceDeskState). d.pass) last.desks)
   pub home : AllZip CameHome passes (map (λ (d : DeviceDeskState). d.pass) last.desks)

@@ -1,12 +1,13 @@
 -- What a session at a client's channels comes to: one history of its front, what its reader heard and its writer wrote by that, and how it ended.
 use Rattle.std.specs.Prelude.{◌≡◌, ◌⊎◌, ℕ, ◌<◌, true, false, List, [], map, All, Option, None}
-use Rattle.std.specs.List.{AllByRecursion, zip}
+use Rattle.std.specs.List.{AllByRecursion, AllZip, zip}
+use Rattle.rd_base.specs.History.{History}
 use Rattle.rd_carry.specs.declared.ended.Ended.{Ended}
 use Rattle.rd_carry.specs.declared.ended.Ended.TheVariants as ended
 use Rattle.rd_client.specs.Core.{ClientCoreState, new_client}
 use Rattle.rd_devices.specs.declared.list.Announce.{Announce}
 use Rattle.rd_front.specs.Front.{FrontStep}
-use Rattle.rd_front.specs.State.{DeviceDeskState, FrontState}
+use Rattle.rd_front.specs.State.{DeviceDeskState, FrontState, SessionPass, SessionStation}
 use Rattle.rd_front.specs.declared.calls.FrontCall.{FrontCall}
 use Rattle.rd_front.specs.declared.calls.FrontReply.{FrontReply}
 use Rattle.rd_link.specs.Links.{Links}
@@ -18,7 +19,9 @@ use Rattle.rd_world.specs.Devices.{Declared, PrinterNames}
 use Rattle.rd_world.specs.Opening.{Opens, bare_lines}
 use Rattle.rd_world.specs.Run.{declared_devices}
 use Rattle.rd_world.specs.declared.device.SessionDevice.{SessionDevice}
+use Rattle.rd_world.specs.Session.{journals_of}
 use Rattle.rd_workers.specs.Channels.{EndsSo, channels_of}
+use Rattle.rd_workers.specs.Closed.{ClosesAfter, FrontCameHome}
 use Rattle.rd_workers.specs.Logs.{FrontEntry, NoneAsks, Wrote, front_log, messages_for, writer_log}
 use Rattle.rd_workers.specs.Passes.{WriterState}
 use Rattle.rd_workers.specs.Writing.{PutsTo}
@@ -63,6 +66,11 @@ pub record ServesFront (client : ClientCoreState) (printers : List (ℕ × Print
   pub leads : Leads FrontStep opening entries last
   pub served : ServesEntries channels by entries old new
 
+-- And the passes that the front had at the end of it came home to these.
+pub record ServesHome (client : ClientCoreState) (printers : List (ℕ × PrinterNames)) (ids : List ℕ) (turns : List (DeskTurn SessionDevice)) (passes : List SessionPass) (channels : ℕ) (by : Ended) (old new : Option Links) : Type 0 where
+  pub front : ServesFront client printers ids turns channels by old new
+  pub home : FrontCameHome front.last turns passes
+
 -- The front's client and printers are those of these devices, and its desks are over their stations.
 pub record ServesDevices (devices : List (ℕ × Declared)) (channels : ℕ) (by : Ended) (old new : Option Links) : Type 0 where
   pub announced : List Announce
@@ -76,7 +84,19 @@ pub record ServesDevices (devices : List (ℕ × Declared)) (channels : ℕ) (by
 abbrev pub MayServe : List (ℕ × Declared) → ℕ → (old new : Option Links) → Type 0
 MayServe devices channels old new = (new ≡ old) ⊎ ((by : Ended) × ServesDevices devices channels by old new)
 
--- The devices of a script's lines were served, on as many channels as these say, up to this end; or it is want of memory, that came before or after.
-abbrev pub HasServedLines : List NumberedLine → Ended → (old new : Option Links) → Type 0
-HasServedLines lines by old new =
-    ServesDevices (declared_devices (bare_lines lines)) (channels_of lines) by old new ⊎ ((by ≡ ended.Memory) × MayServe (declared_devices (bare_lines lines)) (channels_of lines) old new)
+-- The same, and the journals of the stations are in the books: each station was led there by the calls that the front's pass had seen at the end of its history, and then by calls of hands.
+pub record ServesBooks (devices : List (ℕ × Declared)) (channels : ℕ) (by : Ended) (books : List (ℕ × History)) (old new : Option Links) : Type 0 where
+  pub announced : List Announce
+  pub printers : List (ℕ × PrinterNames)
+  pub ids : List ℕ
+  pub turns : List (DeskTurn SessionDevice)
+  pub opens : Opens devices (zip ids (map (λ (t : DeskTurn SessionDevice). t.opening) turns)) announced printers
+  pub front : ServesFront (new_client announced) printers ids turns channels by old new
+  pub stations : List SessionStation
+  pub closes : AllZip ClosesAfter (front.last).desks stations
+  pub books_are : journals_of books ≡ zip ids (map (λ (s : SessionStation). s.journal) stations)
+
+-- The devices of a script's lines were served, on as many channels as these say, up to this end, and their journals are in the books; or it is want of memory, that came before or after.
+abbrev pub HasServedLines : List NumberedLine → Ended → List (ℕ × History) → (old new : Option Links) → Type 0
+HasServedLines lines by books old new =
+    ServesBooks (declared_devices (bare_lines lines)) (channels_of lines) by books old new ⊎ ((by ≡ ended.Memory) × MayServe (declared_devices (bare_lines lines)) (channels_of lines) old new)

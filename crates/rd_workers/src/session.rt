@@ -8,11 +8,10 @@ ghost use Rattle.rd_pool.specs.Desks.{AllByHandBut, IsFirst, IsOther, KeepsMomen
 ghost use Rattle.rd_turn.specs.History.{calls_of};
 ghost use Rattle.rd_turn.specs.Pass.{Belongs, first_pass};
 ghost use Rattle.rd_workers.specs.Books.{AreLawfulBooks, RunAtTold};
-ghost use Rattle.rd_workers.specs.Closed.{FrontCameHome};
 ghost use Rattle.rd_workers.specs.Faults.{TellsFaults};
 ghost use Rattle.rd_workers.specs.Logs.{AllWrite};
 ghost use Rattle.rd_workers.specs.Passes.{AreNew, ComesBack, IsRejoined, IsPassOf, IsUnused};
-ghost use Rattle.rd_workers.specs.Served.{HasServedLines, IsRead, ServesEntries, MayServe, ServesDevices, ServesFront};
+ghost use Rattle.rd_workers.specs.Served.{HasServedLines, IsRead, MayServe, ServesBooks, ServesEntries, ServesFront, ServesHome};
 ghost use Rattle.rd_world.specs.Run.{declared_devices};
 ghost use Rattle.rd_world.specs.Opening.{AreDeclared, bare_lines};
 ghost use Rattle.rd_world.specs.Stations.{IsReachedBy};
@@ -53,7 +52,7 @@ pub fn serve_client<R: Threads + Wait + Sync, L: Linker, C: Clock + Sync, G: Gat
 ) -> Ended
     requires declared { AreDeclared script.now.lines }
     requires books { books.old ≡ [] }
-    ensures served { HasServedLines script.now.lines result (L.linked linker.old) (L.linked linker.new) }
+    ensures served { HasServedLines script.now.lines result books.new (L.linked linker.old) (L.linked linker.new) }
     ensures faults { TellsFaults result (L.failures linker.old) (L.failures linker.new) (L.trouble linker.old) (L.trouble linker.new) }
     ensures books { AreLawfulBooks books.new × RunAtTold (C.moment clock.now) books.new }
 {
@@ -78,7 +77,7 @@ fn serve<R: Threads + Wait + Sync, L: Linker, X: Outside + Sync>(
     requires declared { AreDeclared plan.lines.now }
     requires few { plan.workers ≤ 16 }
     requires books { books.old ≡ [] }
-    ensures served { IfOk result (λ ended. ServesDevices (declared_devices (bare_lines plan.entry.lines.now)) plan.entry.channels ended (L.linked linker.old) (L.linked linker.new)) }
+    ensures served { IfOk result (λ ended. ServesBooks (declared_devices (bare_lines plan.entry.lines.now)) plan.entry.channels ended books.new (L.linked linker.old) (L.linked linker.new)) }
     ensures err { OnErr result (MayServe (declared_devices (bare_lines plan.entry.lines.now)) plan.entry.channels (L.linked linker.old) (L.linked linker.new)) }
     ensures faults { IfOk result (λ ended. TellsFaults ended (L.failures linker.old) (L.failures linker.new) (L.trouble linker.old) (L.trouble linker.new)) }
     ensures lawful { AreLawfulBooks books.new }
@@ -131,8 +130,7 @@ fn serve_desks<'a, R: Threads + Wait + Sync, L: Linker, X: Outside + Sync>(
     ensures first { IfOk result (λ given. AllZip IsFirst desks.now.turns given.1) }
     ensures home { IfOk result (λ given. All (λ p. p.out ≡ 0) given.1) }
     ensures moments { IfOk result (λ given. All (KeepsMoment (X.moment outside.now)) given.1) }
-    ensures came_home { IfOk result (λ given. FrontCameHome desks.now.turns given.1) }
-    ensures served { IfOk result (λ given. ServesFront client printers ids.now desks.now.turns plan.entry.channels given.0 (L.linked linker.old) (L.linked linker.new)) }
+    ensures served { IfOk result (λ given. ServesHome client printers ids.now desks.now.turns given.1 plan.entry.channels given.0 (L.linked linker.old) (L.linked linker.new)) }
     ensures err { OnErr result ((L.linked linker.new ≡ L.linked linker.old) ⊎ ((by : Ended) × ServesFront client printers ids.now desks.now.turns plan.entry.channels by (L.linked linker.old) (L.linked linker.new))) }
     ensures faults { IfOk result (λ given. TellsFaults given.0 (L.failures linker.old) (L.failures linker.new) (L.trouble linker.old) (L.trouble linker.new)) }
 {

@@ -1,10 +1,13 @@
-use Rattle.std.proofs.Common.{rules, ◌∙◌, ap, inr, sym, length}
+use Rattle.std.proofs.Common.{rules, ◌∙◌, ap, inr, sym, length, map, ℕ, List}
+use Rattle.std.specs.List.{zip}
+use Rattle.rd_front.specs.State.{SessionStation}
 use Rattle.rd_pool.specs.Desks.{IsClosed, IsFirst}
 use Rattle.rd_world.specs.Devices.{device_cuts, device_parked, device_runs}
 use Rattle.rd_world.specs.Opening.{bare_lines}
 use Rattle.rd_world.specs.Run.{declared_devices}
 use Rattle.rd_workers.proofs.BookLemmas.{books_lawful, books_then, none_yet}
-use Rattle.rd_workers.proofs.FrontLemmas.{may_serve, serves_devices}
+use Rattle.rd_workers.proofs.FrontLemmas.{front_of, may_serve, serves_devices}
+use Rattle.rd_workers.proofs.ClosedLemmas.{home_close}
 use Rattle.rd_workers.proofs.PassLemmas.{on_err}
 use Rattle.rd_workers.proofs.StoringLemmas.{zipped_count}
 use Rattle.rd_workers.proofs.session.serve.Goals as goal
@@ -26,7 +29,7 @@ returns-in_err-store_all-clause-err g c =
     (inr (
       c.in_ok-ended.ended,
       serves_devices (declared_devices (bare_lines c.args.plan.lines.now)) c.in_ok-stations.field-0.stations c.in_ok-stations.field-0.devices c.in_ok-client.client c.in_ok-stations.field-0.printers c.in_ok-ids.ids.items c.as_slice.result.now c.in_ok-ids.desks.turns (search rules) c.in_ok-ids.ensures.opened c.as_slice.ensures.value c.in_ok-client.ensures
-          c.args.plan.channels c.in_ok-ended.ended (g.L.Linker.linked c.args.linker.now) (g.L.Linker.linked c.serve_desks.new.linker) c.in_ok-ended.ensures.served,
+          c.args.plan.channels c.in_ok-ended.ended (g.L.Linker.linked c.args.linker.now) (g.L.Linker.linked c.serve_desks.new.linker) c.in_ok-ended.ensures.served.front,
     ))
 
 pub returns-clause-lawful : goal.returns-clause-lawful
@@ -48,3 +51,16 @@ returns-in_err-store_all-clause-moments g c =
     let told = g.X.Outside.moment c.args.outside.now in
     books_then c.in_ok-ids.desks.turns c.in_ok-ended.passes c.close.result.items c.as_slice-2.result.now c.store_all.new.books c.close.ensures c.store_all.ensures.some told
     (none_yet _ c.in_ok-ids.ids.items c.in_ok-ids.desks.turns c.in_ok-ids.ensures.count (c.in_ok-ids.ensures.opened ∙ c.in_ok-stations.ensures.stations_are)) c.in_ok-ended.ensures.moments
+
+pub returns-clause-served : goal.returns-clause-served
+returns-clause-served g c = record {
+  announced = c.in_ok-stations.field-0.devices;
+  printers = c.in_ok-stations.field-0.printers;
+  ids = c.in_ok-ids.ids.items;
+  turns = c.in_ok-ids.desks.turns;
+  opens = (serves_devices (declared_devices (bare_lines c.args.plan.lines.now)) c.in_ok-stations.field-0.stations c.in_ok-stations.field-0.devices c.in_ok-client.client c.in_ok-stations.field-0.printers c.in_ok-ids.ids.items c.as_slice.result.now c.in_ok-ids.desks.turns (search rules) c.in_ok-ids.ensures.opened c.as_slice.ensures.value c.in_ok-client.ensures c.args.plan.channels c.in_ok-ended.ended (g.L.Linker.linked c.args.linker.now) (g.L.Linker.linked c.serve_desks.new.linker) c.in_ok-ended.ensures.served.front).opens;
+  front = front_of (declared_devices (bare_lines c.args.plan.lines.now)) c.in_ok-stations.field-0.stations c.in_ok-stations.field-0.devices c.in_ok-client.client c.in_ok-stations.field-0.printers c.in_ok-ids.ids.items c.as_slice.result.now c.in_ok-ids.desks.turns (search rules) c.in_ok-ids.ensures.opened c.as_slice.ensures.value c.in_ok-client.ensures c.args.plan.channels c.in_ok-ended.ended (g.L.Linker.linked c.args.linker.now) (g.L.Linker.linked c.serve_desks.new.linker) c.in_ok-ended.ensures.served.front;
+  stations = c.close.result.items;
+  closes = home_close c.in_ok-ended.ensures.served.front.last c.in_ok-ids.desks.turns c.in_ok-ended.passes c.close.result.items c.in_ok-ended.ensures.served.home c.close.ensures;
+  books_are = c.in_ok-store_all.ensures.stored ∙ ap (λ (l : List ℕ). zip l (map (λ (s : SessionStation). s.journal) c.close.result.items)) c.as_slice-2.ensures.value;
+}

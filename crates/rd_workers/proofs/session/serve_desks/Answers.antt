@@ -41,12 +41,6 @@ returns-clause-home g c =
     all_back c.args.passes c.split.new.passes c.new.new.passes c.in_ok-ended.passes c.join.new.passes c.join-2.new.passes c.in_ok-own.ensures.kept c.in_ok-hands.ensures.kept c.in_ok-ended.ensures.out c.join.ensures.out c.join-2.ensures.out
     c.requires.new
 
-pub returns-clause-served : goal.returns-clause-served
-returns-clause-served g c =
-    serves_front c.args.client c.args.printers c.args.ids.now c.args.desks.now.turns c.args.plan.channels c.in_ok-ended.ended c.in-Ok.turn.opening c.close.result c.in_ok-list.list.items c.in_ok-own.own c.in_ok-ended.pass.seen
-    (g.L.Linker.linked c.args.linker.now) (g.L.Linker.linked c.serve_front.new.linker) (c.in-Ok.ensures.turn ∙ c.new-front.ensures) c.in_ok-list.ensures.ids c.in_ok-list.ensures.turns c.in_ok-list.ensures.passes
-    (unseen_split c.args.passes c.in_ok-own.own c.in_ok-own.ensures.given c.requires.new) c.close.ensures.leads c.in_ok-ended.ensures.served
-
 pub returns-in_err-own-2-clause-err : goal.returns-in_err-own-2-clause-err
 returns-in_err-own-2-clause-err g c =
     on_err _ _
@@ -78,8 +72,8 @@ pub serve_front-requires-clause-by_hand : goal.serve_front-requires-clause-by_ha
 serve_front-requires-clause-by_hand g c κs within =
     c.new.ensures.by_hand 1 (c.split.ensures.by_hand 1 (first_hold (IsByHandBut 1) c.args.desks.now.turns c.args.passes c.requires.begins))
 
-pub returns-clause-came_home : goal.returns-clause-came_home
-returns-clause-came_home g c =
+pub returns-clause-served : goal.returns-clause-served
+returns-clause-served g c =
     let front = ap (λ (s : FrontState). s.desks) c.in-Ok.ensures.turn ∙ ap (λ (s : FrontState). s.desks) c.new-front.ensures in
     let gone : AllZip DeskGoesOn c.in-Ok.turn.opening.desks c.close.result.desks = c.fronts_call_desks.ensures.always c.in-Ok.turn.opening c.close.result c.in_ok-ended.pass.seen c.close.ensures.leads in
     let goes = subst (λ (l : List DeviceDeskState). AllZip DeskGoesOn l c.close.result.desks) front gone in
@@ -87,12 +81,14 @@ returns-clause-came_home g c =
     let own : c.in_ok-own-2.own ≡ map (λ (d : DeviceDeskState). d.pass) c.close.result.desks = their_passes c.close.result.desks c.in_ok-own-2.own are in
     let numbers = still_firsts c.in_ok-list.list.items c.close.result.desks c.in_ok-own.own c.in_ok-list.ensures.passes (split_first c.args.desks.now.turns c.args.passes c.in_ok-own.own c.requires.begins c.in_ok-own.ensures.given) goes in
     record {
-      opening = c.in-Ok.turn.opening;
-      entries = c.in_ok-ended.pass.seen;
-      last = c.close.result;
-      leads = c.close.ensures.leads;
-      turns_are = their_turns c.args.desks.now.turns c.in_ok-list.list.items c.close.result.desks c.in_ok-list.ensures.turns goes;
-      numbers = numbers;
-      home = subst (λ (l : List SessionPass). AllZip CameHome c.join-2.new.passes l) own (c.join-2.ensures.still_home c.in_ok-own-2.own c.join.ensures.home);
-      by_hand = c.join-2.ensures.by_hand 1 (c.join.ensures.by_hand 1 c.in_ok-ended.ensures.by_hand.1 (subst (All (AllByHandBut 1)) (sym own) (firsts_but (map (λ (d : DeviceDeskState). d.pass) c.close.result.desks) numbers))) c.in_ok-ended.ensures.by_hand.0;
+      front =
+          serves_front c.args.client c.args.printers c.args.ids.now c.args.desks.now.turns c.args.plan.channels c.in_ok-ended.ended c.in-Ok.turn.opening c.close.result c.in_ok-list.list.items c.in_ok-own.own c.in_ok-ended.pass.seen
+          (g.L.Linker.linked c.args.linker.now) (g.L.Linker.linked c.serve_front.new.linker) (c.in-Ok.ensures.turn ∙ c.new-front.ensures) c.in_ok-list.ensures.ids c.in_ok-list.ensures.turns c.in_ok-list.ensures.passes
+          (unseen_split c.args.passes c.in_ok-own.own c.in_ok-own.ensures.given c.requires.new) c.close.ensures.leads c.in_ok-ended.ensures.served;
+      home = record {
+        turns_are = their_turns c.args.desks.now.turns c.in_ok-list.list.items c.close.result.desks c.in_ok-list.ensures.turns goes;
+        numbers = numbers;
+        home = subst (λ (l : List SessionPass). AllZip CameHome c.join-2.new.passes l) own (c.join-2.ensures.still_home c.in_ok-own-2.own c.join.ensures.home);
+        by_hand = c.join-2.ensures.by_hand 1 (c.join.ensures.by_hand 1 c.in_ok-ended.ensures.by_hand.1 (subst (All (AllByHandBut 1)) (sym own) (firsts_but (map (λ (d : DeviceDeskState). d.pass) c.close.result.desks) numbers))) c.in_ok-ended.ensures.by_hand.0;
+      };
     }
