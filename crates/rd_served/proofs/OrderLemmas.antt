@@ -28,7 +28,8 @@ use Rattle.rd_turn.specs.declared.object.Entry.{Entry}
 use Rattle.rd_world.specs.Events.{completion_message}
 use Rattle.rd_world.specs.Joining.{Stands}
 use Rattle.rd_journals.specs.Standing.{IsOut}
-use Rattle.rd_served.specs.Histories.{Among, HistoryGoes, RanOut}
+use Rattle.rd_front.specs.Calls.{RanOut}
+use Rattle.rd_served.specs.Histories.{Among, HistoryGoes}
 use Rattle.rd_served.specs.Parts.{CallsAt, EndsEach, FrontPart, PartGoes, PartsGo, asking_by, begins, calls, directs, forgets, is_lost, keeps, learns, misplaces, refreshes, sends, tells_gone, tells_there, tries, unwritten, writes}
 use Rattle.rd_served.specs.Parts as part
 use Rattle.rd_served.proofs.ComesLemmas.{cancel}

@@ -49,7 +49,8 @@ use Rattle.rd_world.specs.Devices.{PrinterNames, printer_data}
 use Rattle.rd_world.specs.Events.{completion_message}
 use Rattle.rd_world.specs.Talk.{Has}
 use Rattle.rd_world.specs.World.{Kept}
-use Rattle.rd_served.specs.Histories.{Among, AreFollowed, AreStationed, CallGoes, FollowsAt, HearBefore, HearsAs, HearsBefore, HistoryGoes, IsFollowed, IsHeardBy, OpensEach, RanOut, StartsBy, handed_out, hinders, may_start, stopped_by}
+use Rattle.rd_front.specs.Calls.{RanOut, hinders}
+use Rattle.rd_served.specs.Histories.{Among, AreFollowed, AreStationed, CallGoes, FollowsAt, HearBefore, HearsAs, HearsBefore, HistoryGoes, IsFollowed, IsHeardBy, OpensEach, StartsBy, handed_out, may_start, stopped_by}
 use Rattle.rd_served.specs.Parts.{AsksBy, Comes, EndsEach, FitsCall, MayBeDirect, IsOpenCall, MayForget, FrontPart, PartGoes, PartsGo, announced_by, asking_by, begins, begun_by, calls, cut_by, directs, duplicate_by, duplicate_of, ended_front, ends, forgets, handed_by, heard_in, hears, is_lost, is_present_as, is_start, tells_device, is_unfit, keeps, learns, misplaces, refreshes, sends, stops, tells_gone, tells_there, tries, unwritten, writes}
 use Rattle.rd_served.specs.Served.{Asking, IsStationed, Served, asks, hands, idle, refused}
 use Rattle.rd_served.proofs.DeviceLemmas.{gone_marked, place_same, present_marked}

@@ -3,12 +3,12 @@ use Rattle.std.specs.Prelude.{◌≡◌, ◌⊎◌, ◌||◌, ℕ, Bool, true, f
 use Rattle.std.specs.List.{AllByRecursion, AllZip}
 use Rattle.rd_base.specs.declared.journal.Key.{Key}
 use Rattle.rd_client.specs.declared.heard.Heard.TheVariants.{Nothing}
+use Rattle.rd_front.specs.Calls.{RanOut, hinders}
 use Rattle.rd_front.specs.Front.{desk_place, is_front_ready, is_told_there}
 use Rattle.rd_front.specs.declared.calls.FrontCall.{FrontCall}
 use Rattle.rd_front.specs.declared.calls.FrontCall.TheVariants as call
 use Rattle.rd_front.specs.declared.calls.FrontReply.{FrontReply}
 use Rattle.rd_front.specs.declared.calls.FrontReply.TheVariants as reply
-use Rattle.rd_front.specs.declared.calls.Rest.TheVariants as rest
 use Rattle.rd_front.specs.State.{DeviceDeskState, FrontState, SessionStation}
 use Rattle.rd_hello.specs.declared.end_fault.EndFault.TheVariants as fault
 use Rattle.rd_journals.specs.Stations.{IsFit}
@@ -39,19 +39,6 @@ HearsAs _ back heard = heard ≡ []
 abbrev pub Among : (FrontPart → Type 0) → List FrontPart → Type 0
 Among P [] = ⊥
 Among P (p ∷ ps) = P p ⊎ Among P ps
-
--- no memory was found for the completion that was collected last
-abbrev pub RanOut : FrontReply → Type 0
-RanOut (reply.Messages filled rest.Memory) = Unit {0}
-RanOut _ = ⊥
-
--- after this reply nothing more is to be heard on the channel
-abbrev pub hinders : FrontReply → Bool
-hinders (reply.Wrong cause) = true
-hinders (reply.Duplicate key) = true
-hinders reply.Unfit = true
-hinders reply.Memory = true
-hinders _ = false
 
 -- whether a part stopped the channel since it began
 abbrev pub stopped_by : Bool → FrontPart → Bool

@@ -14,7 +14,8 @@ ghost use Rattle.rd_world.specs.Talk.{Deed, EachAfter, journal};
 ghost use Rattle.rd_journals.specs.Reads.{ComesRead};
 ghost use Rattle.rd_base.specs.Lawful.{IsLawful};
 ghost use Rattle.rd_served.specs.Deeds.{AreCaused, AreInOrder, EachOnChannel, deeds_after, deeds_of_calls, message_read, message_written};
-ghost use Rattle.rd_served.specs.Histories.{AreStationed, BeginsNew, HistoryGoes, IsNewFront, RanOut};
+ghost use Rattle.rd_front.specs.Calls.{RanOut};
+ghost use Rattle.rd_served.specs.Histories.{AreStationed, BeginsNew, HistoryGoes, IsNewFront};
 ghost use Rattle.rd_served.specs.Parts.{FrontPart, handed_by, heard_in};
 ghost use Rattle.rd_served.specs.Served.{Served, idle};
 

@@ -32,7 +32,8 @@ use Rattle.rd_served.proofs.KeyLemmas.{IsUnder}
 use Rattle.rd_served.proofs.StandingLemmas.{IsKnownAt, begins_known, part_known}
 use Rattle.rd_served.proofs.WalkLemmas.{none_opens}
 use Rattle.rd_served.specs.Deeds.{deeds_after, deeds_of, deeds_of_calls}
-use Rattle.rd_served.specs.Histories.{Among, AreFollowed, CallGoes, HistoryGoes, IsFollowed, OpensEach, StartsBy, hinders, may_start}
+use Rattle.rd_front.specs.Calls.{hinders}
+use Rattle.rd_served.specs.Histories.{Among, AreFollowed, CallGoes, HistoryGoes, IsFollowed, OpensEach, StartsBy, may_start}
 use Rattle.rd_served.specs.Parts.{AsksBy, Comes, FrontPart, PartGoes, PartsGo, announced_by, asking_by, begins, begun_by, cut_by, directs, ends, forgets, hears, is_start, keeps, learns, misplaces, refreshes, sends, tells_gone, tells_there, tries, unwritten, writes}
 use Rattle.rd_served.specs.Parts as part
 use Rattle.rd_served.specs.Served.{Asking, Served}

@@ -17,7 +17,8 @@ ghost use Rattle.rd_served.specs.Parts.{FrontPart};
 ghost use Rattle.rd_served.specs.Served.{Served};
 ghost use Rattle.rd_served_order.specs.Orders.{BeginsWith};
 ghost use Rattle.rd_served_refusals.specs.Heeding.{HearUnhindered, left_by};
-ghost use Rattle.rd_served_replies.specs.Premises.{AreOpened, GiveOwn, HearBytes};
+ghost use Rattle.rd_front.specs.Calls.{HearBytes};
+ghost use Rattle.rd_served_replies.specs.Premises.{AreOpened, GiveOwn};
 ghost use Rattle.rd_served_causes.specs.Causes.{HaveDesks, StartUnhindered, hindered_after};
 ghost use Rattle.rd_served_causes.specs.Open.{IsOpen};
 

@@ -7,7 +7,8 @@ use Rattle.rd_front.specs.declared.calls.FrontReply.{FrontReply}
 use Rattle.rd_front.specs.declared.calls.FrontReply.TheVariants as reply
 use Rattle.rd_turn.specs.declared.object.Entry.{Entry}
 use Rattle.rd_served.proofs.WalkLemmas.{none_before}
-use Rattle.rd_served.specs.Histories.{Among, HearBefore, HearsAs, HistoryGoes, TellsParts, hinders, stopped_by}
+use Rattle.rd_front.specs.Calls.{hinders}
+use Rattle.rd_served.specs.Histories.{Among, HearBefore, HearsAs, HistoryGoes, TellsParts, stopped_by}
 use Rattle.rd_served.specs.Parts.{FrontPart, begins, begun_by, heard_in, stops}
 use Rattle.rd_served.specs.Served.{Served}
 use Rattle.rd_served_refusals.specs.Heeding.{CallsHearBefore, HearUnhindered, HearsUnhindered, hindered_by, stopped_after}

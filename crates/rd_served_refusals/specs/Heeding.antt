@@ -13,7 +13,8 @@ use Rattle.rd_world.specs.Events.{deed_on}
 use Rattle.rd_world.specs.Talk.{Deed, EndsWith, client_read, request_in}
 use Rattle.rd_world.specs.Told.{IsLeft, requests_to, told, unserved, without_last}
 use Rattle.rd_served.specs.Deeds.{deeds_after, deeds_of}
-use Rattle.rd_served.specs.Histories.{HearBefore, HistoryGoes, hinders, stopped_by}
+use Rattle.rd_front.specs.Calls.{hinders}
+use Rattle.rd_served.specs.Histories.{HearBefore, HistoryGoes, stopped_by}
 use Rattle.rd_served.specs.Parts.{FrontPart, PartsGo, ends}
 use Rattle.rd_served.specs.Served.{Served}
 

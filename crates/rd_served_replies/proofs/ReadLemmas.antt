@@ -20,7 +20,7 @@ use Rattle.rd_served.specs.Deeds.{deeds_after, deeds_of, deeds_of_calls, sent_by
 use Rattle.rd_served.specs.Histories.{HearsAs, HistoryGoes, IsHeardBy}
 use Rattle.rd_served.specs.Parts.{FrontPart, begins, calls, directs, ends, forgets, heard_in, hears, keeps, learns, misplaces, refreshes, sends, tells_gone, tells_there, tries, unwritten, writes}
 use Rattle.rd_served.specs.Served.{Served}
-use Rattle.rd_served_replies.specs.Premises.{HearBytes, HearsBytes}
+use Rattle.rd_front.specs.Calls.{HearBytes, HearsBytes}
 
 -- a message that was read consists of bytes
 abbrev pub IsOfBytes : Deed → Type 0

@@ -1,18 +1,13 @@
--- What is taken of a client's front: with which devices it begins, that each pass of a desk gives back its own jobs, and that what is read are bytes.
+-- What is taken of a client's front: with which devices it begins, and that each pass of a desk gives back its own jobs.
 use Rattle.std.specs.Prelude.{◌≡◌, ℕ, List, slice_get, Some}
-use Rattle.std.specs.List.{AllByRecursion}
 use Rattle.std.specs.Map.{lookup}
 use Rattle.std.specs.Ordering.{nat_cmp}
 use Rattle.std.specs.BTreeMap.{is_at}
-use Rattle.rd_base.specs.Layout.{AreBytes}
 use Rattle.rd_base.specs.declared.journal.Key.{Key}
 use Rattle.rd_desk.specs.Own.{GivesOwnBack}
 use Rattle.rd_desk.specs.declared.calls.DeskCall.{DeskCall}
 use Rattle.rd_desk.specs.declared.calls.DeskReply.{DeskReply}
 use Rattle.rd_front.specs.State.{DeviceDeskState}
-use Rattle.rd_front.specs.declared.calls.FrontCall.{FrontCall}
-use Rattle.rd_front.specs.declared.calls.FrontCall.TheVariants as call
-use Rattle.rd_front.specs.declared.calls.FrontReply.{FrontReply}
 use Rattle.rd_irp.specs.declared.request.Request.{Request}
 use Rattle.rd_journals.specs.Stations.{AreFit}
 use Rattle.rd_station.specs.Station.{new_station}
@@ -36,12 +31,3 @@ GiveOwn desks = (place : ℕ) (d : DeviceDeskState) → slice_get desks place �
 -- both name a request with the same file and the same operation
 abbrev pub NamesAlike : (Key → Request) → (Key → Request) → Key → Type 0
 NamesAlike f g key = ((f key).file ≡ (g key).file) × ((f key).op ≡ (g key).op)
-
--- a message that is to be heard consists of bytes
-abbrev pub HearsBytes : FrontCall → Type 0
-HearsBytes (call.Hear message) = AreBytes message
-HearsBytes _ = Unit {0}
-
--- So does each that a front is called to hear.
-abbrev pub HearBytes : List (Entry FrontCall FrontReply) → Type 0
-HearBytes entries = AllByRecursion (λ (e : Entry FrontCall FrontReply). HearsBytes e.call) entries

@@ -29,7 +29,8 @@ ghost use Rattle.rd_served.specs.Deeds.{deeds_of_calls};
 ghost use Rattle.rd_served.specs.Histories.{BeginsNew, HistoryGoes};
 ghost use Rattle.rd_served.specs.Parts.{FrontPart};
 ghost use Rattle.rd_served.specs.Served.{IsStationed, Served};
-ghost use Rattle.rd_served_replies.specs.Premises.{AreOpened, GiveOwn, GivesOwn, HearBytes, NamesAlike};
+ghost use Rattle.rd_front.specs.Calls.{HearBytes};
+ghost use Rattle.rd_served_replies.specs.Premises.{AreOpened, GiveOwn, GivesOwn, NamesAlike};
 
 /// All that the front's pass of each desk has seen leads to the desk's station, and the turn of each desk opened as it did.
 pub fn passes_lead_stations()
