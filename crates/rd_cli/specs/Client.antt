@@ -9,7 +9,8 @@ use Rattle.rd_script.specs.declared.keyword.Mode.TheVariants as mode
 use Rattle.rd_script.specs.declared.script.Script.{Script}
 use Rattle.rd_script.specs.Report.{device_lines}
 use Rattle.rd_script.specs.Script.{BadLine}
-use Rattle.rd_workers.specs.Books.{AreLawfulBooks}
+use Rattle.rd_workers.specs.Books.{AreLawfulBooks, RunAtTold}
+use Rattle.rd_workers.specs.Channels.{told_as}
 use Rattle.rd_workers.specs.Faults.{TellsFaults}
 use Rattle.rd_workers.specs.Served.{HasServedLines}
 use Rattle.rd_cli.specs.Outside.{FailedToWrite, HasOneFault, IsFaultless, Linked, Stream, Wrote}
@@ -60,8 +61,10 @@ EndsServed lines e before after status = EndsPrinted (lines ++ line_after (stop_
 -- What holds of a session of a script's devices that came to this end, and of the books that it left.
 pub record Served {L : Type 0} (script : Script) (linked linked_after : Linked L) (books : List (ℕ × History)) (e : Ended) : Type 0 where
   -- by one history of the front over the script's devices: what was read on each channel was heard, and what was handed out is what was written
-  pub channels : HasServedLines script.lines e books linked.links linked_after.links
+  pub channels : HasServedLines script.lines e books (told_as linked.links linked.failures) (told_as linked_after.links linked_after.failures)
   pub lawful : AreLawfulBooks books
+  -- each run at the moment that the clock tells
+  pub moments : RunAtTold linked.moment books
   pub faults : TellsFaults e linked.failures linked_after.failures linked.trouble linked_after.trouble
 
 -- The input was read to its end and is a client's script, whose devices were served, to this end.

@@ -20,13 +20,15 @@ pub record AreFaultless {S K R : Type 0} (before after : Outside S K R) : Type 0
   pub output : IsFaultless before.output after.output
   pub recording : IsFaultless before.recording after.recording
 
--- What gives the channels of a client: itself, what it tells of them, where it can, and its counts of channels that couldn't be had, and of faults on channels.
+-- What gives the channels of a client: itself, what it tells of them, where it can, and its counts of channels that couldn't be had, and of faults on channels; and the moment at which
+-- requests run, where the clock tells one.
 pub record Linked (L : Type 0) : Type 0 where
   pub itself : L
   pub links : Option Links
   pub failures : ℕ
   pub trouble : ℕ
+  pub moment : Option ℕ
 
--- what gives the channels, by what its trait tells of it
-abbrev pub linked_by : {L : Type 0} → (L → Option Links) → (L → ℕ) → (L → ℕ) → L → Linked L
-linked_by links failures trouble itself = record { itself = itself; links = links itself; failures = failures itself; trouble = trouble itself }
+-- what gives the channels, by what its trait tells of it, with a clock's moment
+abbrev pub linked_by : {L : Type 0} → (L → Option Links) → (L → ℕ) → (L → ℕ) → Option ℕ → L → Linked L
+linked_by links failures trouble moment itself = record { itself = itself; links = links itself; failures = failures itself; trouble = trouble itself; moment = moment }

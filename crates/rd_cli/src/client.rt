@@ -55,7 +55,7 @@ pub fn client<
     requires { books.old ≡ [] }
     ensures { IsEndOfClient (stream S.left S.faults input.old) (stream S.left S.faults input.new)
         (stream K.held K.faults output.old) (stream K.held K.faults output.new)
-        (linked_by L.linked L.failures L.trouble linker.old) (linked_by L.linked L.failures L.trouble linker.new) books.new result }
+        (linked_by L.linked L.failures L.trouble (C.moment clock.now) linker.old) (linked_by L.linked L.failures L.trouble (C.moment clock.now) linker.new) books.new result }
 {
     match input_script(alloc, Mode::Client, input, notes) {
         Ok(script) => {

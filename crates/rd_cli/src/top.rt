@@ -68,7 +68,7 @@ pub fn run<
     ensures { IsEnd (map string_bytes words.now)
         (outside S.left S.faults K.held K.faults R.held R.faults input.old output.old recording.old)
         (outside S.left S.faults K.held K.faults R.held R.faults input.new output.new recording.new)
-        (linked_by L.linked L.failures L.trouble linker.old) (linked_by L.linked L.failures L.trouble linker.new) books.new result }
+        (linked_by L.linked L.failures L.trouble (C.moment clock.now) linker.old) (linked_by L.linked L.failures L.trouble (C.moment clock.now) linker.new) books.new result }
 {
     match command_of(alloc, words) {
         Ok(Command::Both) => both(alloc, input, output, recording, notes, books),
@@ -112,11 +112,11 @@ pub fn program<
     ensures ends { IfOk words.entry (λ words. EndsProgram (map string_bytes words.now)
         (outside S.left S.faults K.held K.faults R.held R.faults input.old output.old recording.old)
         (outside S.left S.faults K.held K.faults R.held R.faults input.new output.new recording.new)
-        (linked_by L.linked L.failures L.trouble linker.old) (linked_by L.linked L.failures L.trouble linker.new) (exit_status result)) }
+        (linked_by L.linked L.failures L.trouble (C.moment clock.now) linker.old) (linked_by L.linked L.failures L.trouble (C.moment clock.now) linker.new) (exit_status result)) }
     ensures untouched { IsErr words.entry → EndsUntouched
         (outside S.left S.faults K.held K.faults R.held R.faults input.old output.old recording.old)
         (outside S.left S.faults K.held K.faults R.held R.faults input.new output.new recording.new)
-        (linked_by L.linked L.failures L.trouble linker.old) (linked_by L.linked L.failures L.trouble linker.new) (exit_status result) }
+        (linked_by L.linked L.failures L.trouble (C.moment clock.now) linker.old) (linked_by L.linked L.failures L.trouble (C.moment clock.now) linker.new) (exit_status result) }
 {
     let mut books = Books::new(alloc);
     let status = match words {

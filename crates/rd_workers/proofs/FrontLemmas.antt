@@ -6,16 +6,17 @@ use Rattle.std.proofs.lemmas.List.Elements.{All-cons, All-head, All-map, All-nil
 use Rattle.rd_carry.specs.declared.ended.Ended.{Ended}
 use Rattle.rd_client.specs.Core.{ClientCoreState, new_client}
 use Rattle.rd_devices.specs.declared.list.Announce.{Announce}
+use Rattle.rd_front.specs.Calls.{FrontEntry}
 use Rattle.rd_front.specs.Front.{FrontStep}
 use Rattle.rd_front.specs.State.{DeviceDeskState, FrontState, SessionPass}
-use Rattle.rd_link.specs.Links.{Links}
 use Rattle.rd_pool.specs.Desks.{DeskTurn}
 use Rattle.rd_station.specs.Station.{StationState}
 use Rattle.rd_turn.specs.History.{Leads}
 use Rattle.rd_turn.specs.Pass.{new_pass}
-use Rattle.rd_workers.specs.Logs.{FrontEntry}
+use Rattle.rd_workers.specs.Channels.{LinkerTold}
 use Rattle.rd_workers.specs.Passes.{AreNew}
 use Rattle.rd_workers.specs.Served.{IsFrontOf, MayServe, ServesDevices, ServesEntries, ServesFront}
+use Rattle.rd_workers.specs.declared.due.AtLine.{AtLine}
 use Rattle.rd_world.specs.Devices.{Declared, PrinterNames}
 use Rattle.rd_world.specs.Opening.{Opens}
 use Rattle.rd_world.specs.declared.device.SessionDevice.{SessionDevice}
@@ -37,10 +38,10 @@ module _ (client : ClientCoreState) (printers : List (ℕ × PrinterNames)) wher
   abbrev pub fresh_front : List DeviceDeskState → FrontState
   fresh_front desks = record { client = client; printers = printers; cache = []; desks = desks; kept = None; channel = 0; on = false; over = false; unsent = 0 }
 
-  abbrev pub serves_front : (ids : List ℕ) (turns : List (DeskTurn SessionDevice)) (channels : ℕ) (by : Ended) (opening last : FrontState) (desks : List DeviceDeskState) (own : List SessionPass) (entries : List FrontEntry) (old new : Option Links)
+  abbrev pub serves_front : (ids : List ℕ) (turns : List (DeskTurn SessionDevice)) (lines : List AtLine) (channels : ℕ) (by : Ended) (opening last : FrontState) (desks : List DeviceDeskState) (own : List SessionPass) (entries : List FrontEntry) (old new : LinkerTold)
       → opening ≡ fresh_front desks → map (λ (d : DeviceDeskState). d.id) desks ≡ ids → map (λ (d : DeviceDeskState). d.turn) desks ≡ turns → map (λ (d : DeviceDeskState). d.pass) desks ≡ own → All (λ (p : SessionPass). p.seen ≡ []) own
-      → Leads FrontStep opening entries last → ServesEntries channels by entries old new → ServesFront client printers ids turns channels by old new
-  serves_front ids turns channels by opening last desks own entries old new is ids_are turns_are own_are unseen leads served =
+      → Leads FrontStep opening entries last → ServesEntries lines channels by entries old new → ServesFront client printers ids turns lines channels by old new
+  serves_front ids turns lines channels by opening last desks own entries old new is ids_are turns_are own_are unseen leads served =
       let there : opening.desks ≡ desks = ap (λ (s : FrontState). s.desks) is in
       record {
         opening = opening;
@@ -62,19 +63,19 @@ module _ (client : ClientCoreState) (printers : List (ℕ × PrinterNames)) wher
 module _ (devices : List (ℕ × Declared)) (stations : List (ℕ × StationState SessionDevice)) (announced : List Announce) (client : ClientCoreState) (printers : List (ℕ × PrinterNames)) (ids there : List ℕ) (turns : List (DeskTurn SessionDevice))
     (opens : Opens devices stations announced printers) (over : zip ids (map (λ (t : DeskTurn SessionDevice). t.opening) turns) ≡ stations) (shown : there ≡ ids) (client_is : client ≡ new_client announced)
   where
-    abbrev pub serves_devices : (channels : ℕ) (by : Ended) (old new : Option Links) → ServesFront client printers there turns channels by old new → ServesDevices devices channels by old new
-    serves_devices channels by old new serves = record {
+    abbrev pub serves_devices : (lines : List AtLine) (channels : ℕ) (by : Ended) (old new : LinkerTold) → ServesFront client printers there turns lines channels by old new → ServesDevices devices lines channels by old new
+    serves_devices lines channels by old new serves = record {
       announced = announced;
       printers = printers;
       ids = ids;
       turns = turns;
       opens = subst (λ (l : List (ℕ × StationState SessionDevice)). Opens devices l announced printers) (sym over) opens;
-      serves = subst (λ (l : List ℕ). ServesFront (new_client announced) printers l turns channels by old new) shown (subst (λ (c : ClientCoreState). ServesFront c printers there turns channels by old new) client_is serves);
+      serves = subst (λ (l : List ℕ). ServesFront (new_client announced) printers l turns lines channels by old new) shown (subst (λ (c : ClientCoreState). ServesFront c printers there turns lines channels by old new) client_is serves);
     }
 
     -- the same front, by the names of the script's devices
-    abbrev pub front_of : (channels : ℕ) (by : Ended) (old new : Option Links) → ServesFront client printers there turns channels by old new → ServesFront (new_client announced) printers ids turns channels by old new
-    front_of channels by old new serves = record {
+    abbrev pub front_of : (lines : List AtLine) (channels : ℕ) (by : Ended) (old new : LinkerTold) → ServesFront client printers there turns lines channels by old new → ServesFront (new_client announced) printers ids turns lines channels by old new
+    front_of lines channels by old new serves = record {
       opening = serves.opening;
       last = serves.last;
       entries = serves.entries;
@@ -83,6 +84,6 @@ module _ (devices : List (ℕ × Declared)) (stations : List (ℕ × StationStat
       served = serves.served;
     }
 
-    pub may_serve : (channels : ℕ) (old new : Option Links) → (new ≡ old) ⊎ ((by : Ended) × ServesFront client printers there turns channels by old new) → MayServe devices channels old new
-    may_serve channels old new (inl same) = inl same
-    may_serve channels old new (inr serves) = inr (serves.0, serves_devices channels serves.0 old new serves.1)
+    pub may_serve : (lines : List AtLine) (channels : ℕ) (old new : LinkerTold) → (new ≡ old) ⊎ ((by : Ended) × ServesFront client printers there turns lines channels by old new) → MayServe devices lines channels old new
+    may_serve lines channels old new (inl same) = inl same
+    may_serve lines channels old new (inr serves) = inr (serves.0, serves_devices lines channels serves.0 old new serves.1)

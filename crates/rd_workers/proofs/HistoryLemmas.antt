@@ -1,8 +1,10 @@
 -- A writer's history in which pass 0 begins and ends channels, and the others only write: what its log says of the halves that came back.
 use Rattle.std.proofs.Common.{◌≡◌, ◌≢◌, ◌∙◌, ◌<◌, ◌≤◌, ◌==◌, ◌⊎◌, ℕ, List, [], ◌∷◌, ◌++◌, Option, Some, None, Bool, true, false, ap, sym, refl, subst, inl, inr, arith, append-nil, ne_eqb}
 use Rattle.std.specs.Prelude.{if◌then◌else◌}
+use Rattle.std.proofs.lemmas.Bool.{cases_Bool}
 use Rattle.std.specs.List.{AllByRecursion}
 use Rattle.rd_carry.specs.Outgoing.{OutgoingState}
+use Rattle.rd_front.specs.Calls.{FrontEntry}
 use Rattle.rd_front.specs.Room.{MessageRoom}
 use Rattle.rd_front.specs.declared.calls.FrontCall.{FrontCall}
 use Rattle.rd_front.specs.declared.calls.FrontCall.TheVariants as call
@@ -10,7 +12,7 @@ use Rattle.rd_front.specs.declared.calls.FrontReply.{FrontReply}
 use Rattle.rd_front.specs.declared.calls.FrontReply.TheVariants as reply
 use Rattle.rd_turn.specs.History.{Leads, calls_of}
 use Rattle.rd_turn.specs.declared.object.Entry.{Entry}
-use Rattle.rd_workers.specs.Logs.{AllAskFor, AsksOn, FrontEntry, IsWriteCall, WriterLog, Writing, Wrote, asks_any, back_from, begun_on, finished_on, messages_by, messages_for, no_halves, stop, wrote_on, writes_by, writes_on}
+use Rattle.rd_workers.specs.Logs.{AllAskFor, AllFound, AsksOn, IsWriteCall, RunsOutFor, WriterLog, Writing, Wrote, asks_any, back_from, begun_on, finished_on, messages_by, messages_for, no_halves, stop, wrote_on, writes_by, writes_on}
 use Rattle.rd_workers.specs.Passes.{WriterState}
 use Rattle.rd_workers.specs.Served.{IsWritten}
 use Rattle.rd_workers.specs.Writing.{BeginsOn, HandsBack, PutsTo, TakesMore, WriterStep, WritesReady}
@@ -19,7 +21,7 @@ use Rattle.rd_workers.specs.declared.writer.WriterCall.TheVariants as write
 use Rattle.rd_workers.specs.declared.writer.WriterReply.{WriterReply}
 use Rattle.rd_workers.specs.declared.writer.WriterReply.TheVariants as wrote
 use Rattle.rd_workers.proofs.LogLemmas.{AllAsk}
-use Rattle.rd_workers.proofs.WritingLemmas.{for_append, puts_and, puts_then, unflushed}
+use Rattle.rd_workers.proofs.WritingLemmas.{for_append, found_append, puts_and, puts_then, unflushed}
 
 -- ---- calls for other channels
 
@@ -119,6 +121,37 @@ all_ask : (c : ℕ) (entries : List FrontEntry) → AllUpTo c entries → AllAsk
 all_ask c [] all = tt
 all_ask c (e ∷ entries) all = (up_asks c e.call all.0, all_ask c entries all.1)
 
+-- no memory is wanting for a channel by calls for messages of others
+found_one_apart : (c d : ℕ) (does : FrontCall) (back : FrontReply) → AsksOn d does → d ≢ c → ¬ (RunsOutFor c does back)
+found_one_apart c d (call.Next channel place room) back is apart = λ out. apart (sym is ∙ out.0)
+found_one_apart c d (call.Begin channel) back is apart = absurd is
+found_one_apart c d (call.Hear message) back is apart = absurd is
+found_one_apart c d call.Retry back is apart = absurd is
+found_one_apart c d (call.Remove device) back is apart = absurd is
+found_one_apart c d (call.Add device) back is apart = absurd is
+found_one_apart c d call.Look back is apart = absurd is
+found_one_apart c d call.EndChannel back is apart = absurd is
+found_one_apart c d call.EndSession back is apart = absurd is
+
+found_apart : (c d : ℕ) (entries : List FrontEntry) → AllAskFor d entries → d ≢ c → AllFound c entries
+found_apart c d [] all apart = tt
+found_apart c d (e ∷ entries) all apart = (found_one_apart c d e.call e.reply all.0 apart, found_apart c d entries all.1 apart)
+
+found_one_above : (c d : ℕ) (does : FrontCall) (back : FrontReply) → AsksUpTo d does → d < c → ¬ (RunsOutFor c does back)
+found_one_above c d (call.Next channel place room) back is less = λ out. (let same = out.0 in omega (arith, same, is, less))
+found_one_above c d (call.Begin channel) back is less = absurd is
+found_one_above c d (call.Hear message) back is less = absurd is
+found_one_above c d call.Retry back is less = absurd is
+found_one_above c d (call.Remove device) back is less = absurd is
+found_one_above c d (call.Add device) back is less = absurd is
+found_one_above c d call.Look back is less = absurd is
+found_one_above c d call.EndChannel back is less = absurd is
+found_one_above c d call.EndSession back is less = absurd is
+
+found_above : (c d : ℕ) (entries : List FrontEntry) → AllUpTo d entries → d < c → AllFound c entries
+found_above c d [] all less = tt
+found_above c d (e ∷ entries) all less = (found_one_above c d e.call e.reply all.0 less, found_above c d entries all.1 less)
+
 module _ {K : Type 0} where
   -- each call that isn't pass 0's writes
   abbrev pub OthersWrite : List (Entry (WriterCall K) (WriterReply K)) → Type 0
@@ -131,6 +164,7 @@ module _ {F : Type 0} where
   pub record FitsHalf (w : WriterState F) (o : OutgoingState) (b : Writing) : Type 0 where
     pub channel : b.channel ≡ w.channel
     pub puts : PutsTo w.starved (messages_for w.channel w.own) b.began o
+    pub found : w.starved ≡ false → AllFound w.channel w.own
     pub stopped : b.stopped ≡ true → (0 < o.faults) ⊎ (w.starved ≡ true)
 
   abbrev pub FitsOn : WriterState F → Option OutgoingState → Option Writing → Type 0
@@ -146,13 +180,13 @@ module _ {F : Type 0} where
 
   -- A writer stands where its log says.
   pub record FitsLog (w : WriterState F) (l : WriterLog) : Type 0 where
-    pub asks_any : AllUpTo w.channel w.own
+    pub up_to : AllUpTo w.channel w.own
     pub on : FitsOn w w.half l.on
     pub done : AllByRecursion (FitsDone w) l.done
 
   pub fits_first : (w : WriterState F) → w.own ≡ [] → w.half ≡ None → FitsLog w no_halves
   fits_first w none off = record {
-    asks_any = subst (AllUpTo w.channel) (sym none) tt;
+    up_to = subst (AllUpTo w.channel) (sym none) tt;
     on = subst (λ (h : Option OutgoingState). FitsOn w h None) (sym off) tt;
     done = tt;
   }
@@ -169,10 +203,11 @@ module _ {F : Type 0} where
   fits_begun w w' l channel output fits begins =
       subst (λ (x : WriterState F). FitsLog x (begun_on l channel output)) (sym begins.2)
       (record {
-        asks_any = all_more w.channel channel w.own fits.asks_any (let less = begins.1 in omega (arith, less));
+        up_to = all_more w.channel channel w.own fits.up_to (let less = begins.1 in omega (arith, less));
         on = record {
           channel = refl;
-          puts = subst (λ (ms : List (List ℕ)). PutsTo false ms output output) (sym (none_above channel w.channel w.own fits.asks_any begins.1)) (unflushed output output refl);
+          puts = subst (λ (ms : List (List ℕ)). PutsTo false ms output output) (sym (none_above channel w.channel w.own fits.up_to begins.1)) (unflushed output output refl);
+          found = λ _. found_above channel w.channel w.own fits.up_to begins.1;
           stopped = λ is. absurd (cc is);
         };
         done = done_begun w channel output l.done begins.1 fits.done;
@@ -198,6 +233,7 @@ module _ {F : Type 0} where
             under = λ o is. omega (arith, less, channel);
             written = record {
               puts = subst (λ (ms : List (List ℕ)). PutsTo d.starved ms d.began d.ended) (sym same) (fits.written).puts;
+              found = λ fed. subst (AllFound d.channel) (sym takes.own) (found_append d.channel w.own takes.calls ((fits.written).found fed) (found_apart d.channel w.channel takes.calls takes.ask (λ is. omega (arith, less, is))));
               flushed = (fits.written).flushed;
               stopped = (fits.written).stopped;
             };
@@ -207,9 +243,14 @@ module _ {F : Type 0} where
   half_written w w' from to b fits takes = record {
     channel = fits.channel ∙ sym channel;
     puts = subst (λ (ms : List (List ℕ)). PutsTo w'.starved ms b.began to) (sym are) (both w.starved refl);
+    found = λ fed. subst (λ (n : ℕ). AllFound n w'.own) (sym channel) (subst (AllFound w.channel) (sym takes.own) (found_append w.channel w.own takes.calls (fits.found (fed_before (cases_Bool w.starved) fed)) (takes.found fed)));
     stopped = λ is. later (fits.stopped is);
   }
     where
+      fed_before : (w.starved ≡ true) ⊎ (w.starved ≡ false) → w'.starved ≡ false → w.starved ≡ false
+      fed_before (inl was) fed = let both_are : true ≡ false = sym (takes.over was).1 ∙ fed in absurd (cc both_are)
+      fed_before (inr was) fed = was
+
       channel : w'.channel ≡ w.channel
       channel = ap (λ (x : WriterState F). x.channel) takes.same
 
@@ -230,7 +271,7 @@ module _ {F : Type 0} where
       later (inr is) = inr (takes.over is).1
 
   half_stopped : (w : WriterState F) (o : OutgoingState) (b : Writing) → FitsHalf w o b → (0 < o.faults) ⊎ (w.starved ≡ true) → FitsHalf w o (record b { stopped = true })
-  half_stopped w o b fits why = record { channel = fits.channel; puts = fits.puts; stopped = λ is. why }
+  half_stopped w o b fits why = record { channel = fits.channel; puts = fits.puts; found = fits.found; stopped = λ is. why }
 
   on_written : (w w' : WriterState F) (from to : OutgoingState) (on : Option Writing) → FitsOn w (Some from) on → TakesMore w from to w' → FitsOn w' (Some to) on
   on_written w w' from to (Some b) fits takes = half_written w w' from to b fits takes
@@ -246,7 +287,7 @@ module _ {F : Type 0} where
   fits_written : (w w' : WriterState F) (l : WriterLog) (going : Bool) (h : Option OutgoingState) → w.half ≡ h → FitsLog w l → WritesReady h going w w' → FitsLog w' l
   fits_written w w' l going None off fits writes = subst (λ (x : WriterState F). FitsLog x l) (sym writes.1) fits
   fits_written w w' l going (Some from) on fits (to, half, takes, cause) = record {
-    asks_any = subst (λ (n : ℕ). AllUpTo n w'.own) (sym (ap (λ (x : WriterState F). x.channel) takes.same)) (subst (AllUpTo w.channel) (sym takes.own) (up_append w.channel w.own takes.calls fits.asks_any takes.ask));
+    up_to = subst (λ (n : ℕ). AllUpTo n w'.own) (sym (ap (λ (x : WriterState F). x.channel) takes.same)) (subst (AllUpTo w.channel) (sym takes.own) (up_append w.channel w.own takes.calls fits.up_to takes.ask));
     on = subst (λ (x : Option OutgoingState). FitsOn w' x l.on) (sym half) (on_written w w' from to l.on (subst (λ (x : Option OutgoingState). FitsOn w x l.on) on fits.on) takes);
     done = done_written w w' from to l.done on takes fits.done;
   }
@@ -260,7 +301,7 @@ module _ {F : Type 0} where
   fits_wrote w w' l true fits writes = fits_written w w' l true w.half refl fits writes
   fits_wrote w w' l false fits writes =
       let later = fits_written w w' l false w.half refl fits writes in
-      record { asks_any = later.asks_any; on = on_stopped w' w'.half l.on later.on (cause_of w w' w.half writes refl); done = later.done }
+      record { up_to = later.up_to; on = on_stopped w' w'.half l.on later.on (cause_of w w' w.half writes refl); done = later.done }
 
   -- ---- it ends
 
@@ -291,13 +332,14 @@ module _ {F : Type 0} where
             puts = subst (λ (n : ℕ). PutsTo starved (messages_for n w.own) b.began output) (sym fit.channel)
                 (subst (λ (s : Bool). PutsTo s (messages_for w.channel w.own) b.began output) (sym wanting)
                 (subst (λ (o : OutgoingState). PutsTo w.starved (messages_for w.channel w.own) b.began o) it (puts_and w.starved false (messages_for w.channel w.own) b.began from to fit.puts puts)));
+            found = λ fed. subst (λ (n : ℕ). AllFound n w.own) (sym fit.channel) (fit.found (sym wanting ∙ fed));
             flushed = subst (λ (o : OutgoingState). o.pending ≡ []) it none;
             stopped = λ was. later (fit.stopped was);
           } in
           subst (λ (x : WriterState F). FitsLog x (back_from l.on l output starved)) (sym is)
           (subst (λ (o : Option Writing). FitsLog (record w { half = None }) (back_from o l output starved)) (sym on)
           (record {
-            asks_any = fits.asks_any;
+            up_to = fits.up_to;
             on = tt;
             done = done_push (record w { half = None }) l.done d (done_finished w l.done fits.done) (record { below = (let c = fit.channel in omega (arith, c)); under = λ o none. absurd (cc none); written = written });
           }))
@@ -355,7 +397,7 @@ module _ {F : Type 0} where
   written_are w l fits = done_are w l.done fits.done
 
   pub own_asks : (w : WriterState F) (l : WriterLog) → FitsLog w l → AllAsk w.own
-  own_asks w l fits = all_ask w.channel w.own fits.asks_any
+  own_asks w l fits = all_ask w.channel w.own fits.up_to
 
   -- ---- what it calls the front by
 

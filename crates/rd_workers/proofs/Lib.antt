@@ -4,9 +4,11 @@ pub mod ClosedLemmas
 pub mod FaultLemmas
 pub mod FrontLemmas
 pub mod HistoryLemmas
+pub mod LineLemmas
 pub mod LogLemmas
 pub mod PassLemmas
 pub mod ReadingLemmas
+pub mod RunLemmas
 pub mod ServedLemmas
 pub mod StoringLemmas
 pub mod WritingLemmas

@@ -4,22 +4,24 @@ use Rattle.std.specs.Prelude.{All, if◌then◌else◌}
 use Rattle.std.specs.List.{AllByRecursion}
 use Rattle.std.proofs.lemmas.List.Elements.{All-head, All-tail}
 use Rattle.rd_carry.specs.declared.ended.Ended.{Ended}
+use Rattle.rd_front.specs.Calls.{FrontEntry}
 use Rattle.rd_front.specs.declared.calls.FrontCall.{FrontCall}
 use Rattle.rd_front.specs.declared.calls.FrontReply.{FrontReply}
-use Rattle.rd_link.specs.Links.{Links}
 use Rattle.rd_turn.specs.History.{Leads, calls_of}
 use Rattle.rd_turn.specs.Pass.{GoesOn, IsNumbered, PassState}
 use Rattle.rd_turn.specs.declared.object.Entry.{Entry}
 use Rattle.rd_turn.proofs.HistoryLemmas.{GoesOn-own}
-use Rattle.rd_workers.specs.Channels.{EndsSo}
-use Rattle.rd_workers.specs.Logs.{AllWrite, FrontEntry, FrontLog, NoneAsks, Wrote, front_log, messages_for, no_calls, no_halves, writer_log}
-use Rattle.rd_workers.specs.Passes.{WriterState}
-use Rattle.rd_workers.specs.Served.{IsRead, ServesEntries, IsWritten}
+use Rattle.rd_workers.specs.Channels.{EndsByCalls, LinkerTold}
+use Rattle.rd_workers.specs.Logs.{AllFound, AllWrite, NoneAsks, WriterLog, Wrote, messages_for, no_halves, reader_calls, writer_log}
+use Rattle.rd_workers.specs.Passes.{ReaderState, WriterState}
+use Rattle.rd_workers.specs.Reading.{EndsCalls}
+use Rattle.rd_workers.specs.Served.{HasCalled, IsRead, IsWritten, ServesEntries}
 use Rattle.rd_workers.specs.Writing.{PutsTo, WriterStep}
+use Rattle.rd_workers.specs.declared.due.AtLine.{AtLine}
 use Rattle.rd_workers.specs.declared.writer.WriterCall.{WriterCall}
 use Rattle.rd_workers.specs.declared.writer.WriterReply.{WriterReply}
 use Rattle.rd_workers.proofs.HistoryLemmas.{OthersWrite, fits_first, history_fits, own_asks, written_are}
-use Rattle.rd_workers.proofs.LogLemmas.{AllAsk, whole_log, whole_messages}
+use Rattle.rd_workers.proofs.LogLemmas.{AllAsk, whole_calls, whole_found, whole_messages}
 
 -- passes of a front, and of its writer
 abbrev pub FrontPass : Type 0 → Type 0
@@ -44,10 +46,31 @@ module _ {K : Type 0} where
       (λ others. others_write entries (All-tail (λ (x : Entry (WriterCall K) (WriterReply K)). x.by ≤ 1) e entries few) others)
 
 -- what was handed out is all that these say of calls
-written_same : (xs ys : List FrontEntry) (ds : List Wrote) → ((c : ℕ) → messages_for c xs ≡ messages_for c ys) → AllByRecursion (IsWritten xs) ds → AllByRecursion (IsWritten ys) ds
-written_same xs ys [] same all = tt
-written_same xs ys (d ∷ ds) same all =
-    (record { puts = subst (λ (ms : List (List ℕ)). PutsTo d.starved ms d.began d.ended) (same d.channel) (all.0).puts; flushed = (all.0).flushed; stopped = (all.0).stopped }, written_same xs ys ds same all.1)
+written_same : (xs ys : List FrontEntry) (ds : List Wrote) → ((c : ℕ) → messages_for c xs ≡ messages_for c ys) → ((c : ℕ) → AllFound c xs → AllFound c ys) → AllByRecursion (IsWritten xs) ds → AllByRecursion (IsWritten ys) ds
+written_same xs ys [] same found all = tt
+written_same xs ys (d ∷ ds) same found all = (
+  record {
+    puts = subst (λ (ms : List (List ℕ)). PutsTo d.starved ms d.began d.ended) (same d.channel) (all.0).puts;
+    found = λ fed. found d.channel ((all.0).found fed);
+    flushed = (all.0).flushed;
+    stopped = (all.0).stopped;
+  },
+  written_same xs ys ds same found all.1,
+)
+
+-- A reader's channels were served, and then the session ended.
+pub read_whole : {F K : Type 0} (lines : List AtLine) (channels : ℕ) (by : Ended) (here over : ReaderState F) (front : FrontPass F) (writer : WriterPass F K) (old new : LinkerTold) → EndsByCalls lines channels by here.own (here.written).done old new
+    → EndsCalls here over → calls_of front.number front.seen ≡ over.own → writer_log (calls_of writer.number writer.seen) ≡ over.written → NoneAsks (calls_of front.number front.seen) → IsRead lines channels by front writer old new
+read_whole lines channels by here over front writer old new ends ended own written none = record {
+  none = none;
+  called = record {
+    calls = here.own;
+    last = (ended.called).call;
+    ends = subst (λ (w : WriterLog). EndsByCalls lines channels by here.own w.done old new) (sym (written ∙ ended.written)) ends;
+    all_are = own ∙ (ended.called).own;
+    over = (ended.called).is_so;
+  };
+}
 
 module _ {F K : Type 0} where
   -- The reader's passes of the front and of the writer at the end, the writer's pass of the front and the other thread's pass of the writer, and the passes to which these were joined.
@@ -91,18 +114,18 @@ module _ {F K : Type 0} where
     few_front : All (λ (e : FrontEntry). e.by ≤ 1) front.seen
     few_front = subst (λ (n : ℕ). All (λ (e : FrontEntry). e.by ≤ n) front.seen) j.front_made (j.front_numbers j.front_number)
 
-    pub is_served : (channels : ℕ) (by : Ended) (old new : Option Links) → IsRead channels by reader main old new → ServesEntries channels by front.seen old new
-    is_served channels by old new read =
+    pub is_served : (lines : List AtLine) (channels : ℕ) (by : Ended) (old new : LinkerTold) → IsRead lines channels by reader main old new → ServesEntries lines channels by front.seen old new
+    is_served lines channels by old new read =
         let fits = history_fits first last no_halves whole.seen (fits_first first j.none j.off) j.leads (others_write whole.seen few_whole other_own) in
-        let asks_any : AllAsk (calls_of 1 front.seen) = subst AllAsk (sym writer_own) (own_asks last _ fits) in
-        let log : front_log front.seen ≡ front_log (calls_of reader.number reader.seen) = whole_log no_calls front.seen few_front asks_any ∙ ap front_log reader_own in
-        let none : NoneAsks (calls_of 0 front.seen) = subst NoneAsks (sym reader_own) read.asks_any in
+        let all_ask : AllAsk (calls_of 1 front.seen) = subst AllAsk (sym writer_own) (own_asks last _ fits) in
+        let none : NoneAsks (calls_of 0 front.seen) = subst NoneAsks (sym reader_own) read.none in
+        let own : reader_calls front.seen ≡ calls_of reader.number reader.seen = whole_calls front.seen few_front none all_ask ∙ reader_own in
         let same : (c : ℕ) → messages_for c last.own ≡ messages_for c front.seen = λ c. ap (messages_for c) (sym writer_own) ∙ sym (whole_messages c front.seen few_front none) in
+        let found : (c : ℕ) → AllFound c last.own → AllFound c front.seen = λ c all. whole_found c front.seen few_front none (subst (AllFound c) (sym writer_own) all) in
         let done : List Wrote = (writer_log (calls_of main.number main.seen)).done in
         record {
           done = done;
-          ends = subst (λ (l : FrontLog). EndsSo channels by l.heard done old new) (sym log) read.ends;
-          late = subst (λ (l : FrontLog). l.late ≡ false) (sym log) read.late;
-          written = written_same last.own front.seen done same
+          called = subst (λ (l : List FrontEntry). HasCalled lines channels by l done old new) (sym own) read.called;
+          written = written_same last.own front.seen done same found
               (subst (λ (es : List (Entry (WriterCall K) (WriterReply K))). AllByRecursion (IsWritten last.own) ((writer_log es).done)) main_own (written_are last _ fits));
         }

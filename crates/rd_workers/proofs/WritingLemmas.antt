@@ -1,14 +1,17 @@
 -- What a writer puts to a half, and which calls of the front it makes for that.
-use Rattle.std.proofs.Common.{◌≡◌, ◌∙◌, ◌<◌, ◌⊎◌, ℕ, List, [], ◌∷◌, ◌++◌, Option, Some, None, Bool, true, false, not, ap, sym, refl, subst, append_assoc, append-nil, eq-eqb}
+use Rattle.std.proofs.Common.{◌≡◌, ◌∙◌, ◌<◌, ◌⊎◌, ℕ, List, [], ◌∷◌, ◌++◌, Option, Some, None, Bool, true, false, not, inl, inr, ap, sym, refl, subst, append_assoc, append-nil, eq-eqb}
+use Rattle.std.proofs.lemmas.Bool.{cases_Bool}
 use Rattle.std.specs.Prelude.{Result, Ok, Err, OnOk, OnErr, is_ok, if◌then◌else◌}
 use Rattle.rd_carry.specs.Outgoing.{HasWritten, OutgoingState, having_put}
+use Rattle.rd_drive.proofs.AllLemmas.{all_append}
+use Rattle.rd_front.specs.Calls.{FrontEntry, RanOut}
 use Rattle.rd_front.specs.Room.{MessageRoom, first_in_room, first_of_room}
 use Rattle.rd_front.specs.declared.calls.FrontCall.TheVariants as call
 use Rattle.rd_front.specs.declared.calls.FrontReply.{FrontReply}
 use Rattle.rd_front.specs.declared.calls.FrontReply.TheVariants as reply
 use Rattle.rd_front.specs.declared.calls.Rest.{Rest}
 use Rattle.rd_turn.specs.History.{entry}
-use Rattle.rd_workers.specs.Logs.{AllAskFor, FrontEntry, messages_by, messages_for}
+use Rattle.rd_workers.specs.Logs.{AllAskFor, AllFound, AsksOn, RunsOutFor, messages_by, messages_for}
 use Rattle.rd_workers.specs.Passes.{WriterState}
 use Rattle.rd_workers.specs.Writing.{HandsBack, PutsTo, TakesMore, WritesReady}
 
@@ -165,8 +168,10 @@ for_append c [] ys = refl
 for_append c (x ∷ xs) ys = ap (λ (l : List (List ℕ)). messages_by c x.call x.reply ++ l) (for_append c xs ys) ∙ sym (append_assoc (messages_by c x.call x.reply) (messages_for c xs) (messages_for c ys))
 
 ask_append : (c : ℕ) (xs ys : List FrontEntry) → AllAskFor c xs → AllAskFor c ys → AllAskFor c (xs ++ ys)
-ask_append c [] ys all more = more
-ask_append c (x ∷ xs) ys all more = (all.0, ask_append c xs ys all.1 more)
+ask_append c xs ys all more = all_append (λ (e : FrontEntry). AsksOn c e.call) xs ys all more
+
+pub found_append : (c : ℕ) (xs ys : List FrontEntry) → AllFound c xs → AllFound c ys → AllFound c (xs ++ ys)
+found_append c xs ys all more = all_append (λ (e : FrontEntry). ¬ (RunsOutFor c e.call e.reply)) xs ys all more
 
 module _ {F : Type 0} where
   -- no call
@@ -176,6 +181,7 @@ module _ {F : Type 0} where
     own = ap (λ (w : WriterState F). w.own) is ∙ sym (append-nil old.own);
     ask = tt;
     puts = puts_none new.starved from to puts;
+    found = λ _. tt;
     over = λ was. (refl, stays was);
     same = is ∙ ap (λ (l : List FrontEntry). record old { own = l; half = new.half; starved = new.starved }) (sym (ap (λ (w : WriterState F). w.own) is));
   }
@@ -183,8 +189,8 @@ module _ {F : Type 0} where
   -- one call
   pub takes_one : (old mid new : WriterState F) (from to : OutgoingState) (place : ℕ) (room : MessageRoom) (back : FrontReply)
       → mid ≡ record old { own = old.own ++ entry (old.front).number (call.Next old.channel place room) back ∷ [] } → new ≡ record mid { starved = new.starved } → old.starved ≡ false
-      → PutsTo new.starved (messages_by old.channel (call.Next old.channel place room) back) from to → TakesMore old from to new
-  takes_one old mid new from to place room back asked is not puts =
+      → PutsTo new.starved (messages_by old.channel (call.Next old.channel place room) back) from to → (new.starved ≡ false → ¬ (RanOut back)) → TakesMore old from to new
+  takes_one old mid new from to place room back asked is not puts found =
       let own = ap (λ (w : WriterState F). w.own) is ∙ ap (λ (w : WriterState F). w.own) asked in
       let half = ap (λ (w : WriterState F). w.half) is ∙ ap (λ (w : WriterState F). w.half) asked in
       record {
@@ -192,6 +198,7 @@ module _ {F : Type 0} where
         own = own;
         ask = (refl, tt);
         puts = subst (λ (l : List (List ℕ)). PutsTo new.starved l from to) (sym (append-nil (messages_by old.channel (call.Next old.channel place room) back))) puts;
+        found = λ fed. ((λ (out : RunsOutFor old.channel (call.Next old.channel place room) back). found fed out.1), tt);
         over = λ was. let both : false ≡ true = sym not ∙ was in absurd (cc both);
         same = is ∙ ap (λ (w : WriterState F). record w { starved = new.starved }) asked
             ∙ ap (λ (l : List FrontEntry). record old { own = l; starved = new.starved }) (sym own) ∙ ap (λ (h : Option OutgoingState). record old { own = new.own; half = h; starved = new.starved }) (sym half);
@@ -205,12 +212,17 @@ module _ {F : Type 0} where
         own = two.own ∙ ap (λ (l : List FrontEntry). l ++ two.calls) one.own ∙ append_assoc old.own one.calls two.calls;
         ask = ask_append old.channel one.calls two.calls one.ask (subst (λ (n : ℕ). AllAskFor n two.calls) channel two.ask);
         puts = subst (λ (l : List (List ℕ)). PutsTo new.starved l a c) (ap (λ (n : ℕ). messages_for old.channel one.calls ++ messages_for n two.calls) channel ∙ sym (for_append old.channel one.calls two.calls)) (both mid.starved refl);
+        found = λ fed. found_then (cases_Bool mid.starved) fed;
         over = λ was. (ap (λ (l : List FrontEntry). l ++ two.calls) (one.over was).0 ∙ (two.over (one.over was).1).0, (two.over (one.over was).1).1);
         same = two.same ∙ ap (λ (w : WriterState F). record w { own = new.own; half = new.half; starved = new.starved }) one.same;
       }
     where
       channel : mid.channel ≡ old.channel
       channel = ap (λ (w : WriterState F). w.channel) one.same
+
+      found_then : (mid.starved ≡ true) ⊎ (mid.starved ≡ false) → new.starved ≡ false → AllFound old.channel (one.calls ++ two.calls)
+      found_then (inl was) fed = let both_are : true ≡ false = sym (two.over was).1 ∙ fed in absurd (cc both_are)
+      found_then (inr was) fed = found_append old.channel one.calls two.calls (one.found was) (subst (λ (n : ℕ). AllFound n two.calls) channel (two.found fed))
 
       both : (wanting : Bool) → mid.starved ≡ wanting → PutsTo new.starved (messages_for old.channel one.calls ++ messages_for mid.channel two.calls) a c
       both false is = puts_then new.starved (messages_for old.channel one.calls) (messages_for mid.channel two.calls) a b c (subst (λ (s : Bool). PutsTo s (messages_for old.channel one.calls) a b) is one.puts) two.puts
@@ -229,6 +241,7 @@ module _ {F : Type 0} where
         calls = one.calls;
         own = own ∙ one.own;
         ask = one.ask;
+        found = λ fed. one.found (sym starved ∙ fed);
         puts = subst (λ (s : Bool). PutsTo s (messages_for old.channel one.calls) a c) (sym starved) (puts_and mid.starved false (messages_for old.channel one.calls) a b c one.puts puts);
         over = λ was. ((one.over was).0, starved ∙ (one.over was).1);
         same = is ∙ ap (λ (w : WriterState F). record w { half = new.half }) one.same ∙ ap (λ (l : List FrontEntry). record old { own = l; half = new.half; starved = mid.starved }) (sym own)
@@ -244,6 +257,7 @@ module _ {F : Type 0} where
         own = takes.own ∙ ap (λ (w : WriterState F). w.own ++ takes.calls) taken;
         ask = subst (λ (w : WriterState F). AllAskFor w.channel takes.calls) taken takes.ask;
         puts = subst (λ (w : WriterState F). PutsTo new.starved (messages_for w.channel takes.calls) a b) taken takes.puts;
+        found = λ fed. subst (λ (w : WriterState F). AllFound w.channel takes.calls) taken (takes.found fed);
         over = λ was. takes.over (ap (λ (w : WriterState F). w.starved) taken ∙ was);
         same = takes.same ∙ ap (λ (w : WriterState F). record w { own = new.own; half = new.half; starved = new.starved }) taken;
       } in

@@ -2,6 +2,7 @@ pub mod Books
 pub mod Channels
 pub mod Closed
 pub mod Faults
+pub mod Lines
 pub mod Logs
 pub mod Passes
 pub mod Reading

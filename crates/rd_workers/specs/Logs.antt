@@ -1,7 +1,8 @@
--- What the calls of a client's reader and writer tell: the messages that were heard and those that were handed out, and what became of the halves that were written to.
-use Rattle.std.specs.Prelude.{◌≡◌, ℕ, ◌==◌, ◌||◌, if◌then◌else◌, Bool, true, false, List, [], ◌∷◌, ◌++◌, Option, Some, None}
+-- What the calls of a client's reader and writer tell: the messages that were given to be heard and those that were handed out, and what became of the halves that were written to.
+use Rattle.std.specs.Prelude.{◌≡◌, ℕ, ◌==◌, if◌then◌else◌, Bool, true, false, List, [], ◌∷◌, ◌++◌, Option, Some, None}
 use Rattle.std.specs.List.{AllByRecursion}
 use Rattle.rd_carry.specs.Outgoing.{OutgoingState}
+use Rattle.rd_front.specs.Calls.{FrontEntry, RanOut}
 use Rattle.rd_front.specs.declared.calls.FrontCall.{FrontCall}
 use Rattle.rd_front.specs.declared.calls.FrontCall.TheVariants as call
 use Rattle.rd_front.specs.declared.calls.FrontReply.{FrontReply}
@@ -13,10 +14,6 @@ use Rattle.rd_workers.specs.declared.writer.WriterReply.{WriterReply}
 use Rattle.rd_workers.specs.declared.writer.WriterReply.TheVariants as wrote
 
 -- ---- calls of the front
-
--- a call of the front, with its reply
-abbrev pub FrontEntry : Type 0
-FrontEntry = Entry FrontCall FrontReply
 
 -- whether a call asks for messages
 abbrev pub asks_any : FrontCall → Bool
@@ -46,59 +43,31 @@ abbrev pub messages_for : ℕ → List FrontEntry → List (List ℕ)
 messages_for c [] = []
 messages_for c (e ∷ entries) = messages_by c e.call e.reply ++ messages_for c entries
 
--- a reply after which nothing more is heard on a channel
-abbrev pub is_hindering : FrontReply → Bool
-is_hindering (reply.Wrong fault) = true
-is_hindering (reply.Duplicate key) = true
-is_hindering reply.Unfit = true
-is_hindering reply.Memory = true
-is_hindering _ = false
+-- what of these calls is not the writer's
+abbrev pub reader_calls : List FrontEntry → List FrontEntry
+reader_calls [] = []
+reader_calls (e ∷ entries) = if asks_any e.call then reader_calls entries else e ∷ reader_calls entries
 
--- What calls of the front tell: the channel that began last; the messages that were heard, each with its channel, in order; whether a reply hindered further hearing since
--- that channel began; whether a message was heard all the same; and the last reply to a message, or to a job that was kept back, on that channel.
-pub record FrontLog : Type 0 where
-  pub channel : ℕ
-  pub heard : List (ℕ × List ℕ)
-  pub hindered : Bool
-  pub late : Bool
-  pub last : Option FrontReply
+-- the message that a call gives to be heard, unless it doesn't fit or too much is to be written
+abbrev pub given_by : FrontCall → FrontReply → List (List ℕ)
+given_by (call.Hear message) reply.Refused = []
+given_by (call.Hear message) reply.Full = []
+given_by (call.Hear message) back = message ∷ []
+given_by _ back = []
 
--- before any call
-abbrev pub no_calls : FrontLog
-no_calls = record { channel = 0; heard = []; hindered = false; late = false; last = None }
+-- all that were given so, in order
+abbrev pub messages_heard : List FrontEntry → List (List ℕ)
+messages_heard [] = []
+messages_heard (e ∷ entries) = given_by e.call e.reply ++ messages_heard entries
 
--- a message comes, and is answered; where no memory was found it isn't known to have been heard
-abbrev pub heard_as : FrontLog → List ℕ → FrontReply → FrontLog
-heard_as log message reply.Refused = log
-heard_as log message reply.Full = log
-heard_as log message reply.Memory = record log { hindered = true; late = log.hindered || log.late; last = Some reply.Memory }
-heard_as log message back = record log {
-  heard = log.heard ++ (log.channel, message) ∷ [];
-  hindered = is_hindering back || log.hindered;
-  late = log.hindered || log.late;
-  last = Some back;
-}
+-- no memory was found for a completion of this channel
+abbrev pub RunsOutFor : ℕ → FrontCall → FrontReply → Type 0
+RunsOutFor c (call.Next channel place room) back = (channel ≡ c) × RanOut back
+RunsOutFor c _ back = ⊥
 
--- a channel is to begin
-abbrev pub begun_as : FrontLog → ℕ → FrontReply → FrontLog
-begun_as log channel (reply.Done at full) = record log { channel = channel; hindered = false; last = None }
-begun_as log channel back = record log { hindered = is_hindering back || log.hindered }
-
--- any call
-abbrev pub logged : FrontLog → FrontCall → FrontReply → FrontLog
-logged log (call.Begin channel) back = begun_as log channel back
-logged log (call.Hear message) back = heard_as log message back
-logged log call.Retry back = record log { hindered = is_hindering back || log.hindered; last = Some back }
-logged log (call.Next channel place room) back = log
-logged log _ back = record log { hindered = is_hindering back || log.hindered }
-
--- calls, one after the other
-abbrev pub log_on : FrontLog → List FrontEntry → FrontLog
-log_on log [] = log
-log_on log (e ∷ entries) = log_on (logged log e.call e.reply) entries
-
-abbrev pub front_log : List FrontEntry → FrontLog
-front_log entries = log_on no_calls entries
+-- it was for each
+abbrev pub AllFound : ℕ → List FrontEntry → Type 0
+AllFound c entries = AllByRecursion (λ (e : FrontEntry). ¬ (RunsOutFor c e.call e.reply)) entries
 
 -- ---- calls of the writer
 

@@ -1,11 +1,12 @@
 -- What the calls of a client's threads leave as it is, so that all passes come home at the end.
 use Rattle.std.specs.Prelude.{◌≡◌, ℕ, Bool, List, [], All, Option}
 use Rattle.rd_carry.specs.Outgoing.{OutgoingState}
+use Rattle.rd_front.specs.Calls.{FrontEntry}
 use Rattle.rd_front.specs.State.{DeviceDeskState, SessionPass}
 use Rattle.rd_pool.specs.Desks.{DeskPass, DeskTurn}
 use Rattle.rd_turn.specs.Pass.{Belongs, PassState, TurnId}
 use Rattle.rd_world.specs.declared.device.SessionDevice.{SessionDevice}
-use Rattle.rd_workers.specs.Logs.{FrontEntry, FrontLog, WriterLog}
+use Rattle.rd_workers.specs.Logs.{WriterLog}
 
 -- a turn and a pass of it: the pass's number, how many passes were split from it, and how many of these weren't joined
 pub record CallerId (O : Type 0) : Type 0 where
@@ -26,11 +27,11 @@ pub record WriterState (F : Type 0) : Type 0 where
   pub half : Option OutgoingState
   pub starved : Bool
 
--- A reader: what it calls the front and the writer by, what its own calls of both tell, the turns of the desks that it has hands at, and the moment at which these run jobs, where it is
--- told.
+-- A reader: what it calls the front and the writer by, its own calls of the front, what those of the writer tell, the turns of the desks that it has hands at, and the moment at which
+-- these run jobs, where it is told.
 pub record ReaderState (F : Type 0) : Type 0 where
   pub front : CallerId F
-  pub log : FrontLog
+  pub own : List FrontEntry
   pub writer : CallerId (WriterState F)
   pub written : WriterLog
   pub desks : List (DeskTurn SessionDevice)

@@ -1,16 +1,17 @@
 -- What a session at a client's channels comes to: one history of its front, what its reader heard and its writer wrote by that, and how it ended.
-use Rattle.std.specs.Prelude.{◌≡◌, ◌⊎◌, ℕ, ◌<◌, true, false, List, [], map, All, Option, None}
+use Rattle.std.specs.Prelude.{◌≡◌, ◌⊎◌, ℕ, ◌<◌, true, false, List, [], ◌∷◌, ◌++◌, map, All, None}
 use Rattle.std.specs.List.{AllByRecursion, AllZip, zip}
 use Rattle.rd_base.specs.History.{History}
 use Rattle.rd_carry.specs.declared.ended.Ended.{Ended}
 use Rattle.rd_carry.specs.declared.ended.Ended.TheVariants as ended
 use Rattle.rd_client.specs.Core.{ClientCoreState, new_client}
 use Rattle.rd_devices.specs.declared.list.Announce.{Announce}
+use Rattle.rd_front.specs.Calls.{FrontEntry}
 use Rattle.rd_front.specs.Front.{FrontStep}
 use Rattle.rd_front.specs.State.{DeviceDeskState, FrontState, SessionPass, SessionStation}
 use Rattle.rd_front.specs.declared.calls.FrontCall.{FrontCall}
+use Rattle.rd_front.specs.declared.calls.FrontCall.TheVariants as call
 use Rattle.rd_front.specs.declared.calls.FrontReply.{FrontReply}
-use Rattle.rd_link.specs.Links.{Links}
 use Rattle.rd_pool.specs.Desks.{DeskTurn}
 use Rattle.rd_script.specs.declared.line.NumberedLine.{NumberedLine}
 use Rattle.rd_turn.specs.History.{Leads, calls_of}
@@ -20,33 +21,43 @@ use Rattle.rd_world.specs.Opening.{Opens, bare_lines}
 use Rattle.rd_world.specs.Run.{declared_devices}
 use Rattle.rd_world.specs.declared.device.SessionDevice.{SessionDevice}
 use Rattle.rd_world.specs.Session.{journals_of}
-use Rattle.rd_workers.specs.Channels.{EndsSo, channels_of}
+use Rattle.rd_workers.specs.Channels.{EndsByCalls, LinkerTold, channels_of}
 use Rattle.rd_workers.specs.Closed.{ClosesAfter, FrontCameHome}
-use Rattle.rd_workers.specs.Logs.{FrontEntry, NoneAsks, Wrote, front_log, messages_for, writer_log}
+use Rattle.rd_workers.specs.declared.due.AtLine.{AtLine}
+use Rattle.rd_workers.specs.Lines.{at_lines}
+use Rattle.rd_workers.specs.Logs.{AllFound, NoneAsks, Wrote, messages_for, reader_calls, writer_log}
 use Rattle.rd_workers.specs.Passes.{WriterState}
 use Rattle.rd_workers.specs.Writing.{PutsTo}
 use Rattle.rd_workers.specs.declared.writer.WriterCall.{WriterCall}
 use Rattle.rd_workers.specs.declared.writer.WriterReply.{WriterReply}
 
--- What was handed out for a channel was put to its half, all of it, but where no memory was found for a message; nothing waits there any more; and that nothing more could be
--- written was said only where a write had failed, or where no memory was found.
+-- What was handed out for a channel was put to its half, all of it, but where no memory was found for a message, by the front or by the writer; nothing waits there any more; and that
+-- nothing more could be written was said only where a write had failed, or where no memory was found.
 pub record IsWritten (entries : List FrontEntry) (w : Wrote) : Type 0 where
   pub puts : PutsTo w.starved (messages_for w.channel entries) w.began w.ended
+  pub found : w.starved ≡ false → AllFound w.channel entries
   pub flushed : (w.ended).pending ≡ []
   pub stopped : w.stopped ≡ true → (0 < (w.ended).faults) ⊎ (w.starved ≡ true)
 
+-- All calls of a session's reader: those by which channels were served, with these halves back, up to this end, and then the one that ends the session.
+pub record HasCalled (lines : List AtLine) (channels : ℕ) (by : Ended) (all : List FrontEntry) (done : List Wrote) (old new : LinkerTold) : Type 0 where
+  pub calls : List FrontEntry
+  pub last : FrontEntry
+  pub ends : EndsByCalls lines channels by calls done old new
+  pub all_are : all ≡ calls ++ last ∷ []
+  pub over : last.call ≡ call.EndSession
+
 -- The calls of the front in their order, by which so many channels were served, up to this end.
-pub record ServesEntries (channels : ℕ) (by : Ended) (entries : List FrontEntry) (old new : Option Links) : Type 0 where
+pub record ServesEntries (lines : List AtLine) (channels : ℕ) (by : Ended) (entries : List FrontEntry) (old new : LinkerTold) : Type 0 where
   pub done : List Wrote
-  pub ends : EndsSo channels by ((front_log entries).heard) done old new
-  pub late : (front_log entries).late ≡ false
+  pub called : HasCalled lines channels by (reader_calls entries) done old new
   pub written : AllByRecursion (IsWritten entries) done
 
 -- The same of what a reader's own calls of the front and of the writer tell.
-pub record IsRead {F K : Type 0} (channels : ℕ) (by : Ended) (front : PassState F FrontCall FrontReply) (writer : PassState (WriterState F) (WriterCall K) (WriterReply K)) (old new : Option Links) : Type 0 where
-  pub asks_any : NoneAsks (calls_of front.number front.seen)
-  pub late : (front_log (calls_of front.number front.seen)).late ≡ false
-  pub ends : EndsSo channels by ((front_log (calls_of front.number front.seen)).heard) ((writer_log (calls_of writer.number writer.seen)).done) old new
+pub record IsRead {F K : Type 0} (lines : List AtLine) (channels : ℕ) (by : Ended) (front : PassState F FrontCall FrontReply) (writer : PassState (WriterState F) (WriterCall K) (WriterReply K))
+    (old new : LinkerTold) : Type 0 where
+  pub none : NoneAsks (calls_of front.number front.seen)
+  pub called : HasCalled lines channels by (calls_of front.number front.seen) ((writer_log (calls_of writer.number writer.seen)).done) old new
 
 -- ---- from the script on
 
@@ -58,45 +69,46 @@ pub record IsFrontOf (client : ClientCoreState) (printers : List (ℕ × Printer
   pub unseen : All (λ (d : DeviceDeskState). (d.pass).seen ≡ []) s.desks
 
 -- There is one history of such a front, by which all was served.
-pub record ServesFront (client : ClientCoreState) (printers : List (ℕ × PrinterNames)) (ids : List ℕ) (turns : List (DeskTurn SessionDevice)) (channels : ℕ) (by : Ended) (old new : Option Links) : Type 0 where
+pub record ServesFront (client : ClientCoreState) (printers : List (ℕ × PrinterNames)) (ids : List ℕ) (turns : List (DeskTurn SessionDevice)) (lines : List AtLine) (channels : ℕ) (by : Ended) (old new : LinkerTold) : Type 0 where
   pub opening : FrontState
   pub last : FrontState
   pub entries : List FrontEntry
   pub begins : IsFrontOf client printers ids turns opening
   pub leads : Leads FrontStep opening entries last
-  pub served : ServesEntries channels by entries old new
+  pub served : ServesEntries lines channels by entries old new
 
 -- And the passes that the front had at the end of it came home to these.
-pub record ServesHome (client : ClientCoreState) (printers : List (ℕ × PrinterNames)) (ids : List ℕ) (turns : List (DeskTurn SessionDevice)) (passes : List SessionPass) (channels : ℕ) (by : Ended) (old new : Option Links) : Type 0 where
-  pub front : ServesFront client printers ids turns channels by old new
+pub record ServesHome (client : ClientCoreState) (printers : List (ℕ × PrinterNames)) (ids : List ℕ) (turns : List (DeskTurn SessionDevice)) (passes : List SessionPass) (lines : List AtLine) (channels : ℕ) (by : Ended) (old new : LinkerTold) : Type 0 where
+  pub front : ServesFront client printers ids turns lines channels by old new
   pub home : FrontCameHome front.last turns passes
 
 -- The front's client and printers are those of these devices, and its desks are over their stations.
-pub record ServesDevices (devices : List (ℕ × Declared)) (channels : ℕ) (by : Ended) (old new : Option Links) : Type 0 where
+pub record ServesDevices (devices : List (ℕ × Declared)) (lines : List AtLine) (channels : ℕ) (by : Ended) (old new : LinkerTold) : Type 0 where
   pub announced : List Announce
   pub printers : List (ℕ × PrinterNames)
   pub ids : List ℕ
   pub turns : List (DeskTurn SessionDevice)
   pub opens : Opens devices (zip ids (map (λ (t : DeskTurn SessionDevice). t.opening) turns)) announced printers
-  pub serves : ServesFront (new_client announced) printers ids turns channels by old new
+  pub serves : ServesFront (new_client announced) printers ids turns lines channels by old new
 
 -- Devices were served, up to some end; or no channel was had.
-abbrev pub MayServe : List (ℕ × Declared) → ℕ → (old new : Option Links) → Type 0
-MayServe devices channels old new = (new ≡ old) ⊎ ((by : Ended) × ServesDevices devices channels by old new)
+abbrev pub MayServe : List (ℕ × Declared) → List AtLine → ℕ → (old new : LinkerTold) → Type 0
+MayServe devices lines channels old new = (new ≡ old) ⊎ ((by : Ended) × ServesDevices devices lines channels by old new)
 
 -- The same, and the journals of the stations are in the books: each station was led there by the calls that the front's pass had seen at the end of its history, and then by calls of hands.
-pub record ServesBooks (devices : List (ℕ × Declared)) (channels : ℕ) (by : Ended) (books : List (ℕ × History)) (old new : Option Links) : Type 0 where
+pub record ServesBooks (devices : List (ℕ × Declared)) (lines : List AtLine) (channels : ℕ) (by : Ended) (books : List (ℕ × History)) (old new : LinkerTold) : Type 0 where
   pub announced : List Announce
   pub printers : List (ℕ × PrinterNames)
   pub ids : List ℕ
   pub turns : List (DeskTurn SessionDevice)
   pub opens : Opens devices (zip ids (map (λ (t : DeskTurn SessionDevice). t.opening) turns)) announced printers
-  pub front : ServesFront (new_client announced) printers ids turns channels by old new
+  pub front : ServesFront (new_client announced) printers ids turns lines channels by old new
   pub stations : List SessionStation
   pub closes : AllZip ClosesAfter (front.last).desks stations
   pub books_are : journals_of books ≡ zip ids (map (λ (s : SessionStation). s.journal) stations)
 
 -- The devices of a script's lines were served, on as many channels as these say, up to this end, and their journals are in the books; or it is want of memory, that came before or after.
-abbrev pub HasServedLines : List NumberedLine → Ended → List (ℕ × History) → (old new : Option Links) → Type 0
+abbrev pub HasServedLines : List NumberedLine → Ended → List (ℕ × History) → (old new : LinkerTold) → Type 0
 HasServedLines lines by books old new =
-    ServesBooks (declared_devices (bare_lines lines)) (channels_of lines) by books old new ⊎ ((by ≡ ended.Memory) × MayServe (declared_devices (bare_lines lines)) (channels_of lines) old new)
+    ServesBooks (declared_devices (bare_lines lines)) (at_lines lines) (channels_of lines) by books old new
+    ⊎ ((by ≡ ended.Memory) × MayServe (declared_devices (bare_lines lines)) (at_lines lines) (channels_of lines) old new)

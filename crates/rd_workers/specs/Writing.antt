@@ -1,11 +1,12 @@
 -- What a call of the writer does: which messages it takes of the front by its own calls, and what stands of them in the half that it writes to.
 use Rattle.std.specs.Prelude.{◌≡◌, ℕ, ◌<◌, ◌⊎◌, Bool, true, false, List, [], ◌++◌, Option, Some, None}
 use Rattle.rd_carry.specs.Outgoing.{HasWritten, OutgoingState}
+use Rattle.rd_front.specs.Calls.{FrontEntry}
 use Rattle.rd_workers.specs.declared.writer.WriterCall.{WriterCall}
 use Rattle.rd_workers.specs.declared.writer.WriterCall.TheVariants as write
 use Rattle.rd_workers.specs.declared.writer.WriterReply.{WriterReply}
 use Rattle.rd_workers.specs.declared.writer.WriterReply.TheVariants as wrote
-use Rattle.rd_workers.specs.Logs.{AllAskFor, FrontEntry, messages_for}
+use Rattle.rd_workers.specs.Logs.{AllAskFor, AllFound, messages_for}
 use Rattle.rd_workers.specs.Passes.{WriterState}
 
 -- Of messages that were handed out the first ones were put to a half, in order: all of them, but where no memory was found for one. A half to which a write failed stays so.
@@ -17,12 +18,13 @@ pub record PutsTo (starved : Bool) (messages : List (List ℕ)) (old new : Outgo
   pub since : (began : Option (List ℕ)) (before : List (List ℕ)) → HasWritten began before old → HasWritten began (before ++ put) new
   pub failed : 0 < old.faults → 0 < new.faults
 
--- Calls of the front for messages of the channel that is on, whose messages are put to its half. Once no memory was found for one there are no more calls.
+-- Calls of the front for messages of the channel that is on, whose messages are put to its half. Once no memory was found for one, by the front or here, there are no more calls.
 pub record TakesMore {F : Type 0} (old : WriterState F) (from to : OutgoingState) (new : WriterState F) : Type 0 where
   pub calls : List FrontEntry
   pub own : new.own ≡ old.own ++ calls
   pub ask : AllAskFor old.channel calls
   pub puts : PutsTo new.starved (messages_for old.channel calls) from to
+  pub found : new.starved ≡ false → AllFound old.channel calls
   pub over : old.starved ≡ true → (calls ≡ []) × (new.starved ≡ true)
   pub same : new ≡ record old { own = new.own; half = new.half; starved = new.starved }
 

@@ -14,7 +14,7 @@ use std::sync::Wait;
 pub(crate) struct Bells {
     pub(crate) workers: Bell,
     pub(crate) writer: Bell,
-    /// Rung in the writer's place where the reader works itself. Nobody sleeps at it.
+    /// Rung in the workers' and the writer's place where the reader works itself. Nobody sleeps at it.
     pub(crate) reader: Bell,
 }
 

@@ -1,9 +1,10 @@
 //! One channel after the other.
 
-ghost use Rattle.std.specs.Prelude.{◌≡◌, ◌<◌, ◌≤◌, ◌||◌, false, length, None, IfErr, IfOk, IfSome, OnOk};
-ghost use Rattle.rd_workers.specs.Channels.{EndsOn, EndsSo, ServesIt, channels_by, channels_of, ended_as};
+ghost use Rattle.std.specs.Prelude.{◌≡◌, ◌<◌, ◌≤◌, ◌||◌, [], false, length, None, IfErr, IfOk, IfSome, OnOk};
+ghost use Rattle.rd_workers.specs.Channels.{EndsByCalls, EndsOn, ServesOne, channels_by, channels_of, ended_as, stands_at, told_as};
 ghost use Rattle.rd_workers.specs.Faults.{Counts, EndsSession, IsOtherEnd, TellsFaults, is_unread};
-ghost use Rattle.rd_workers.specs.Logs.{no_calls, no_halves};
+ghost use Rattle.rd_workers.specs.Lines.{at_lines};
+ghost use Rattle.rd_workers.specs.Logs.{no_halves};
 ghost use Rattle.rd_workers.specs.Reading.{IsSame};
 ghost use Rattle.rd_world.specs.Opening.{AreDeclared};
 
@@ -82,11 +83,10 @@ pub(crate) fn serve_channels<
     buffer: Vec<u8>,
 ) -> Ended
     requires room { 0 < length buffer.items }
-    requires log { reader.old.log ≡ no_calls }
+    requires own { reader.old.own ≡ [] }
     requires written { reader.old.written ≡ no_halves }
     ensures same { IsSame reader.old reader.new }
-    ensures late { reader.new.log.late ≡ false }
-    ensures ends { EndsSo plan.entry.channels result reader.new.log.heard reader.new.written.done (L.linked linker.old) (L.linked linker.new) }
+    ensures ends { EndsByCalls (at_lines plan.entry.lines.now) plan.entry.channels result reader.new.own reader.new.written.done (told_as (L.linked linker.old) (L.failures linker.old)) (told_as (L.linked linker.new) (L.failures linker.new)) }
     ensures faults { TellsFaults result (L.failures linker.old) (L.failures linker.new) (L.trouble linker.old) (L.trouble linker.new) }
 {
     let mut due = Due::new(plan.lines);
@@ -127,9 +127,8 @@ fn serve_channel<
 ) -> Result<(Vec<u8>, bool), Ended>
     requires { 0 < length buffer.items }
     ensures same { IsSame reader.old reader.new }
-    ensures late { reader.new.log.late ≡ reader.old.log.late }
-    ensures served { OnOk result (ServesIt channel None reader.old reader.new (L.linked linker.old) (L.linked linker.new)) }
-    ensures ends { IfErr result (λ ended. EndsOn channel ended reader.old.log.heard reader.new.log.heard reader.old.written.done reader.new.written.done (L.linked linker.old) (L.linked linker.new)) }
+    ensures served { OnOk result (ServesOne channel None (stands_at reader.old due.old (told_as (L.linked linker.old) (L.failures linker.old))) (stands_at reader.new due.new (told_as (L.linked linker.new) (L.failures linker.new)))) }
+    ensures ends { IfErr result (λ ended. EndsOn channel ended (stands_at reader.old due.old (told_as (L.linked linker.old) (L.failures linker.old))) (stands_at reader.new due.new (told_as (L.linked linker.new) (L.failures linker.new)))) }
     ensures room { IfOk result (λ given. 0 < length given.0.items) }
     ensures connected { OnOk result (L.failures linker.new ≡ L.failures linker.old) }
     ensures counted { IfOk result (λ given. Counts given.1 (L.trouble linker.old) (L.trouble linker.new)) }

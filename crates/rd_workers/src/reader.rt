@@ -1,14 +1,17 @@
 //! The reader: hears what the host sends on a channel, hands out jobs, and helps where nobody else does.
 
-ghost use Rattle.std.specs.Prelude.{◌≡◌, ◌-◌, ℕ, [], false, length, map, All, Some, IfErr, OnErr, OnOk};
+ghost use Rattle.std.specs.Prelude.{◌≡◌, ◌-◌, ◌++◌, ◌∷◌, ℕ, [], false, length, map, All, Some, IfErr, OnErr, OnOk};
+ghost use Rattle.rd_base.specs.Layout.{AreBytes};
 ghost use Rattle.rd_carry.specs.declared.ended.EndWhy.TheVariants as Why;
 ghost use Rattle.rd_pool.specs.Desks.{KeepsMoment};
-ghost use Rattle.rd_turn.specs.History.{calls_of};
+ghost use Rattle.rd_turn.specs.History.{calls_of, entry};
 ghost use Rattle.rd_workers.specs.Faults.{ending_of};
-ghost use Rattle.rd_workers.specs.Logs.{NoneAsks, asks_any, front_log, logged, no_calls, no_halves, writer_log, writes_by};
+ghost use Rattle.rd_workers.specs.Lines.{ActsAll, ByCall, DoesAct, KeepsToLines, StartsOnce};
+ghost use Rattle.rd_workers.specs.Logs.{NoneAsks, asks_any, no_halves, writer_log, writes_by};
 ghost use Rattle.rd_workers.specs.Passes.{WriterState, caller_id};
-ghost use Rattle.rd_workers.specs.Reading.{BeginsChannel, EndsChannel, Follows, GoesOn, HearsOn, IsQuiet, IsRelieved, IsSame, TellsOf, having_written, wrong_at};
+ghost use Rattle.rd_workers.specs.Reading.{BeginsChannel, BeginsNone, EndsCalls, EndsChannel, Follows, GoesOn, HearsOn, IsRelieved, TellsOf, having_written, wrong_at};
 ghost use Rattle.rd_workers.specs.Writing.{WriterStep};
+ghost use Rattle.rd_workers.specs.declared.due.Act.TheVariants as Acts;
 ghost use Rattle.rd_workers.specs.declared.reader.Ending.TheVariants as Ended;
 
 use crate::bells::Bells;
@@ -30,6 +33,9 @@ use std::{mem, thread};
 
 /// The place of a request's completion id in its message.
 const COMPLETION_ID: u64 = 12;
+
+/// So many jobs that came in one read the reader runs itself at most: to wake others costs more than they take.
+const FEW_JOBS: u32 = 64;
 
 /// Why a channel is read no further.
 #[derive(Clone, Copy)]
@@ -94,14 +100,14 @@ impl<
     ghost use Rattle.std.specs.Prelude.{◌≡◌, [], length, map, All, IfSome};
     ghost use Rattle.rd_pool.specs.Desks.{KeepsMoment};
     ghost use Rattle.rd_turn.specs.History.{calls_of};
-    ghost use Rattle.rd_workers.specs.Logs.{NoneAsks, front_log, writer_log};
+    ghost use Rattle.rd_workers.specs.Logs.{NoneAsks, writer_log};
     ghost use Rattle.rd_workers.specs.Passes.{ReaderState, caller_id};
 
     ghost Value = { ReaderState F };
 
     ghost view = { λ r. record {
       front = caller_id r.front.turn.now r.front.pass;
-      log = front_log (calls_of r.front.pass.number r.front.pass.seen);
+      own = calls_of r.front.pass.number r.front.pass.seen;
       writer = caller_id r.writer.turn.now r.writer.pass;
       written = writer_log (calls_of r.writer.pass.number r.writer.pass.seen);
       desks = map (λ hand. hand.turn) r.hands;
@@ -140,7 +146,7 @@ impl<
         requires moments { All (KeepsMoment (X.moment outside.now)) (map (λ hand. hand.pass) hands) }
         ensures { result ≡ record {
           front = caller_id front.entry.turn.now front.entry.pass;
-          log = no_calls;
+          own = [];
           writer = caller_id writer.entry.turn.now writer.entry.pass;
           written = no_halves;
           desks = map (λ hand. hand.turn) hands.entry;
@@ -173,7 +179,7 @@ impl<
     )
         ensures parts { record {
           front = caller_id result.0.turn.now result.0.pass;
-          log = front_log (calls_of result.0.pass.number result.0.pass.seen);
+          own = calls_of result.0.pass.number result.0.pass.seen;
           writer = caller_id result.1.turn.now result.1.pass;
           written = writer_log (calls_of result.1.pass.number result.1.pass.seen);
           desks = map (λ hand. hand.turn) result.2;
@@ -202,7 +208,7 @@ impl<
     /// A call of the front.
     fn call_front(&mut self, call: FrontCall) -> FrontReply
         requires { asks_any call ≡ false }
-        ensures { self.new ≡ record self.old { log = logged self.old.log call result } }
+        ensures { self.new ≡ record self.old { own = self.old.own ++ entry self.old.front.number call result ∷ [] } }
     {
         self.front.call(self.rt, call)
     }
@@ -218,7 +224,7 @@ impl<
     /// Begins a channel of this number. Where that can't be the half comes back.
     pub(crate) fn begin(&mut self, channel: u32, output: Outgoing<K>) -> Result<(), Outgoing<K>>
         ensures begun { OnOk result (BeginsChannel channel output self.old self.new) }
-        ensures refused { OnErr result (IsQuiet self.old self.new) }
+        ensures refused { OnErr result (BeginsNone channel self.old self.new) }
         ensures back { IfErr result (λ half. half ≡ output) }
     {
         self.kept = false;
@@ -246,7 +252,7 @@ impl<
 
     /// The session is over: nothing more comes, and whoever sleeps leaves.
     pub(crate) fn end_session(&mut self)
-        ensures { IsQuiet self.old self.new }
+        ensures { EndsCalls self.old self.new }
     {
         self.call_front(FrontCall::EndSession);
         self.bells.close(self.rt);
@@ -259,8 +265,7 @@ impl<
         due: &mut Due<'_>,
         incoming: &mut Incoming<S>,
     ) -> Ending
-        requires { self.old.log.hindered ≡ false }
-        ensures { HearsOn (Some result) self.old self.new incoming.old incoming.new }
+        ensures { HearsOn (KeepsToLines channel (Some result) due.old due.new) (Some result) self.old self.new incoming.old incoming.new }
     {
         for _ in self.rt.forever() {
             if let Some(ending) = self.step(channel, due, incoming) {
@@ -278,8 +283,7 @@ impl<
         due: &mut Due<'_>,
         incoming: &mut Incoming<S>,
     ) -> Option<Ending>
-        requires { self.old.log.hindered ≡ false }
-        ensures { HearsOn result self.old self.new incoming.old incoming.new }
+        ensures { HearsOn (KeepsToLines channel result due.old due.new) result self.old self.new incoming.old incoming.new }
     {
         if let Some(ending) = self.act(channel, due) {
             return Some(ending);
@@ -292,11 +296,11 @@ impl<
 
     /// Hears the next message, or where nothing that was read is left, reads.
     fn hear<S: Source + Drop>(&mut self, incoming: &mut Incoming<S>) -> Option<Ending>
-        requires { self.old.log.hindered ≡ false }
-        ensures { HearsOn result self.old self.new incoming.old incoming.new }
+        ensures { HearsOn (StartsOnce result) result self.old self.new incoming.old incoming.new }
     {
         match incoming.message() {
             Ok(Some(message)) => {
+                are_bytes(message.as_slice());
                 let reply = self.call_front(FrontCall::Hear(message));
                 self.follow(reply, incoming.heard())
             }
@@ -307,9 +311,8 @@ impl<
 
     /// Hands out what came, and reads.
     fn read_on<S: Source + Drop>(&mut self, incoming: &mut Incoming<S>) -> Option<Ending>
-        requires unhandled { incoming.old.unhandled ≡ [] }
-        requires unhindered { self.old.log.hindered ≡ false }
-        ensures { HearsOn result self.old self.new incoming.old incoming.new }
+        requires { incoming.old.unhandled ≡ [] }
+        ensures { HearsOn (StartsOnce result) result self.old self.new incoming.old incoming.new }
     {
         if !self.hand_out() {
             return Some(Ending::Unwritten);
@@ -355,7 +358,7 @@ impl<
 
     /// Tries the job that is kept back once more, after some room was made at its desk.
     fn retry(&mut self, heard: u64) -> Option<Ending>
-        ensures { GoesOn result heard self.old self.new }
+        ensures { GoesOn (StartsOnce result) result heard self.old self.new }
     {
         if let Some(ending) = self.relieve() {
             return Some(ending);
@@ -370,7 +373,7 @@ impl<
 
     /// Does what the lines of the script that are due say.
     fn act(&mut self, channel: u32, due: &mut Due<'_>) -> Option<Ending>
-        ensures { (count : ℕ) → GoesOn result count self.old self.new }
+        ensures { (count : ℕ) → GoesOn (ActsAll channel result due.old due.new) result count self.old self.new }
     {
         if !due.waits(channel) {
             return None;
@@ -383,17 +386,17 @@ impl<
         }
         for _ in self.rt.forever() {
             let Some(act) = due.next(channel, asked) else {
-                break;
+                return None;
             };
             if let Some(ending) = self.act_once(act) {
                 return Some(ending);
             }
         }
-        None
+        unreachable!()
     }
 
     fn act_once(&mut self, act: Act) -> Option<Ending>
-        ensures { (count : ℕ) → GoesOn result count self.old self.new }
+        ensures { (count : ℕ) → GoesOn (DoesAct act result) result count self.old self.new }
     {
         match act {
             Act::Remove(device) => self.tell(FrontCall::Remove(device)),
@@ -405,7 +408,7 @@ impl<
     /// The host is told of a device, where that may be.
     fn tell(&mut self, call: FrontCall) -> Option<Ending>
         requires { TellsOf call }
-        ensures { (count : ℕ) → GoesOn result count self.old self.new }
+        ensures { (count : ℕ) → GoesOn (ByCall (Some call) result) result count self.old self.new }
     {
         match self.call_front(call) {
             FrontReply::Done { at, full } => {
@@ -444,7 +447,7 @@ impl<
         if !self.bells.are_heard(self.rt) {
             return self.do_all();
         }
-        if jobs <= 1 && self.may_work() && self.bells.claim_writer(self.rt) {
+        if jobs <= FEW_JOBS && self.may_work() && self.bells.claim_writer(self.rt) {
             let going = self.do_all();
             self.bells.release_writer(self.rt);
             return going;
@@ -455,7 +458,7 @@ impl<
         true
     }
 
-    /// Runs the jobs that came and writes what is ready. False where a write failed.
+    /// Runs the jobs that came and writes what is ready. False where nothing more can be written.
     fn do_all(&mut self) -> bool
         ensures { self.new ≡ having_written result self.old }
     {
@@ -487,6 +490,7 @@ impl<
             self.desks = all;
         } else {
             self.bells.ring_all(self.rt, all, Places::new());
+            self.desks = Places::new();
             self.ready = all;
         }
         self.mark_core();
@@ -496,7 +500,7 @@ impl<
         Some(Ending::Unwritten)
     }
 
-    /// Works at the desk of a place until nothing is given there.
+    /// Works at the desk of a place until nothing is given there. Nobody is woken.
     fn work(&mut self, place: usize)
         ensures { self.new ≡ self.old }
     {
@@ -510,7 +514,7 @@ impl<
         let batch = self.hands.work(
             self.rt,
             self.outside,
-            &bells.workers,
+            &bells.reader,
             &bells.reader,
             place,
             batch,
@@ -518,7 +522,7 @@ impl<
         self.batch = Some(batch);
     }
 
-    /// Writes what is ready at a place. False where a write failed.
+    /// Writes what is ready at a place. False where nothing more can be written.
     fn write(&mut self, place: usize, last: bool) -> bool
         ensures { self.new ≡ having_written result self.old }
     {
@@ -557,6 +561,11 @@ impl<
         } = self;
     }
 }
+
+/// The elements of a slice of bytes are bytes.
+fn are_bytes(bytes: &[u8])
+    ensures { AreBytes bytes.now }
+{}
 
 /// Why a channel is read no further whose input can't be.
 fn ending_of(no: CarryNo) -> Ending

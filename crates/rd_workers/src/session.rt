@@ -9,6 +9,8 @@ ghost use Rattle.rd_turn.specs.History.{calls_of};
 ghost use Rattle.rd_turn.specs.Pass.{Belongs, first_pass};
 ghost use Rattle.rd_workers.specs.Books.{AreLawfulBooks, RunAtTold};
 ghost use Rattle.rd_workers.specs.Faults.{TellsFaults};
+ghost use Rattle.rd_workers.specs.Channels.{told_as};
+ghost use Rattle.rd_workers.specs.Lines.{at_lines};
 ghost use Rattle.rd_workers.specs.Logs.{AllWrite};
 ghost use Rattle.rd_workers.specs.Passes.{AreNew, ComesBack, IsRejoined, IsPassOf, IsUnused};
 ghost use Rattle.rd_workers.specs.Served.{HasServedLines, IsRead, MayServe, ServesBooks, ServesEntries, ServesFront, ServesHome};
@@ -52,7 +54,7 @@ pub fn serve_client<R: Threads + Wait + Sync, L: Linker, C: Clock + Sync, G: Gat
 ) -> Ended
     requires declared { AreDeclared script.now.lines }
     requires books { books.old ≡ [] }
-    ensures served { HasServedLines script.now.lines result books.new (L.linked linker.old) (L.linked linker.new) }
+    ensures served { HasServedLines script.now.lines result books.new (told_as (L.linked linker.old) (L.failures linker.old)) (told_as (L.linked linker.new) (L.failures linker.new)) }
     ensures faults { TellsFaults result (L.failures linker.old) (L.failures linker.new) (L.trouble linker.old) (L.trouble linker.new) }
     ensures books { AreLawfulBooks books.new × RunAtTold (C.moment clock.now) books.new }
 {
@@ -77,8 +79,8 @@ fn serve<R: Threads + Wait + Sync, L: Linker, X: Outside + Sync>(
     requires declared { AreDeclared plan.lines.now }
     requires few { plan.workers ≤ 16 }
     requires books { books.old ≡ [] }
-    ensures served { IfOk result (λ ended. ServesBooks (declared_devices (bare_lines plan.entry.lines.now)) plan.entry.channels ended books.new (L.linked linker.old) (L.linked linker.new)) }
-    ensures err { OnErr result (MayServe (declared_devices (bare_lines plan.entry.lines.now)) plan.entry.channels (L.linked linker.old) (L.linked linker.new)) }
+    ensures served { IfOk result (λ ended. ServesBooks (declared_devices (bare_lines plan.entry.lines.now)) (at_lines plan.entry.lines.now) plan.entry.channels ended books.new (told_as (L.linked linker.old) (L.failures linker.old)) (told_as (L.linked linker.new) (L.failures linker.new))) }
+    ensures err { OnErr result (MayServe (declared_devices (bare_lines plan.entry.lines.now)) (at_lines plan.entry.lines.now) plan.entry.channels (told_as (L.linked linker.old) (L.failures linker.old)) (told_as (L.linked linker.new) (L.failures linker.new))) }
     ensures faults { IfOk result (λ ended. TellsFaults ended (L.failures linker.old) (L.failures linker.new) (L.trouble linker.old) (L.trouble linker.new)) }
     ensures lawful { AreLawfulBooks books.new }
     ensures moments { RunAtTold (X.moment outside.now) books.new }
@@ -130,8 +132,8 @@ fn serve_desks<'a, R: Threads + Wait + Sync, L: Linker, X: Outside + Sync>(
     ensures first { IfOk result (λ given. AllZip IsFirst desks.now.turns given.1) }
     ensures home { IfOk result (λ given. All (λ p. p.out ≡ 0) given.1) }
     ensures moments { IfOk result (λ given. All (KeepsMoment (X.moment outside.now)) given.1) }
-    ensures served { IfOk result (λ given. ServesHome client printers ids.now desks.now.turns given.1 plan.entry.channels given.0 (L.linked linker.old) (L.linked linker.new)) }
-    ensures err { OnErr result ((L.linked linker.new ≡ L.linked linker.old) ⊎ ((by : Ended) × ServesFront client printers ids.now desks.now.turns plan.entry.channels by (L.linked linker.old) (L.linked linker.new))) }
+    ensures served { IfOk result (λ given. ServesHome client printers ids.now desks.now.turns given.1 (at_lines plan.entry.lines.now) plan.entry.channels given.0 (told_as (L.linked linker.old) (L.failures linker.old)) (told_as (L.linked linker.new) (L.failures linker.new))) }
+    ensures err { OnErr result ((told_as (L.linked linker.new) (L.failures linker.new) ≡ told_as (L.linked linker.old) (L.failures linker.old)) ⊎ ((by : Ended) × ServesFront client printers ids.now desks.now.turns (at_lines plan.entry.lines.now) plan.entry.channels by (told_as (L.linked linker.old) (L.failures linker.old)) (told_as (L.linked linker.new) (L.failures linker.new)))) }
     ensures faults { IfOk result (λ given. TellsFaults given.0 (L.failures linker.old) (L.failures linker.new) (L.trouble linker.old) (L.trouble linker.new)) }
 {
     fronts_call_desks();
@@ -189,7 +191,7 @@ fn serve_front<
     ensures out { IfOk result (λ given. map (λ p. p.out) given.3 ≡ map (λ p. p.out) passes) }
     ensures moments { IfOk result (λ given. All (KeepsMoment (X.moment outside.now)) given.2 × All (KeepsMoment (X.moment outside.now)) given.3) }
     ensures by_hand { IfOk result (λ given. All (AllByHandBut 1) given.2 × All (AllByHandBut 1) given.3) }
-    ensures served { IfOk result (λ given. ServesEntries plan.entry.channels given.0 given.1.seen (L.linked linker.old) (L.linked linker.new)) }
+    ensures served { IfOk result (λ given. ServesEntries (at_lines plan.entry.lines.now) plan.entry.channels given.0 given.1.seen (told_as (L.linked linker.old) (L.failures linker.old)) (told_as (L.linked linker.new) (L.failures linker.new))) }
     ensures faults { IfOk result (λ given. TellsFaults given.0 (L.failures linker.old) (L.failures linker.new) (L.trouble linker.old) (L.trouble linker.new)) }
     ensures err { OnErr result (linker.new ≡ linker.old) }
 {
@@ -278,7 +280,7 @@ fn serve_with_workers<
     ensures front { IfSome home.new (λ h. ComesBack front.entry.turn.now front.entry.pass h.read.front.pass) }
     ensures caller { IfSome home.new (λ h. ComesBack caller.entry.turn.now caller.entry.pass h.read.writer.pass) }
     ensures others { IfSome home.new (λ h. AllZip IsOther desks.now.turns h.read.hands) }
-    ensures read { IfSome home.new (λ h. IsRead plan.entry.channels h.read.ended h.read.front.pass h.read.writer.pass (L.linked linker.entry.now) (L.linked result.now)) }
+    ensures read { IfSome home.new (λ h. IsRead (at_lines plan.entry.lines.now) plan.entry.channels h.read.ended h.read.front.pass h.read.writer.pass (told_as (L.linked linker.entry.now) (L.failures linker.entry.now)) (told_as (L.linked result.now) (L.failures result.now))) }
     ensures faults { IfSome home.new (λ h. TellsFaults h.read.ended (L.failures linker.entry.now) (L.failures result.now) (L.trouble linker.entry.now) (L.trouble result.now)) }
     ensures first { IfSome home.new (λ h. AllZip IsFirst desks.now.turns h.passes) }
     ensures out { IfSome home.new (λ h. map (λ p. p.out) h.passes ≡ map (λ p. p.out) passes) }
@@ -301,7 +303,7 @@ fn serve_with_workers<
             ensures { ComesBack other.entry.turn.now other.entry.pass result.0.pass × AllWrite (calls_of result.0.pass.number result.0.pass.seen)
                 × ComesBack front.entry.turn.now front.entry.pass result.1.front.pass × ComesBack caller.entry.turn.now caller.entry.pass result.1.writer.pass
                 × AllZip IsOther (map (λ hand. hand.turn) hands.entry) result.1.hands × (result.2.ghost_name ≡ linker.entry.ghost_name)
-                × IsRead plan.entry.channels result.1.ended result.1.front.pass result.1.writer.pass (L.linked linker.entry.now) (L.linked result.2.now)
+                × IsRead (at_lines plan.entry.lines.now) plan.entry.channels result.1.ended result.1.front.pass result.1.writer.pass (told_as (L.linked linker.entry.now) (L.failures linker.entry.now)) (told_as (L.linked result.2.now) (L.failures result.2.now))
                 × TellsFaults result.1.ended (L.failures linker.entry.now) (L.failures result.2.now) (L.trouble linker.entry.now) (L.trouble result.2.now)
                 × All (KeepsMoment (X.moment outside.entry.now)) result.1.hands × All (AllByHandBut 1) result.1.hands }
         {
@@ -406,7 +408,7 @@ fn serve_threads<
     ensures caller { ComesBack caller.entry.turn.now caller.entry.pass result.1.writer.pass }
     ensures others { AllZip IsOther (map (λ hand. hand.turn) hands.entry) result.1.hands }
     ensures linker { result.2.ghost_name ≡ linker.entry.ghost_name }
-    ensures read { IsRead plan.entry.channels result.1.ended result.1.front.pass result.1.writer.pass (L.linked linker.entry.now) (L.linked result.2.now) }
+    ensures read { IsRead (at_lines plan.entry.lines.now) plan.entry.channels result.1.ended result.1.front.pass result.1.writer.pass (told_as (L.linked linker.entry.now) (L.failures linker.entry.now)) (told_as (L.linked result.2.now) (L.failures result.2.now)) }
     ensures faults { TellsFaults result.1.ended (L.failures linker.entry.now) (L.failures result.2.now) (L.trouble linker.entry.now) (L.trouble result.2.now) }
     ensures moments { All (KeepsMoment (X.moment outside.now)) result.1.hands }
     ensures by_hand { All (AllByHandBut 1) result.1.hands }
@@ -420,7 +422,7 @@ fn serve_threads<
             ensures { (result.1.ghost_name ≡ linker.entry.ghost_name)
                 × ComesBack front.entry.turn.now front.entry.pass result.0.front.pass × ComesBack caller.entry.turn.now caller.entry.pass result.0.writer.pass
                 × AllZip IsOther (map (λ hand. hand.turn) hands.entry) result.0.hands
-                × IsRead plan.entry.channels result.0.ended result.0.front.pass result.0.writer.pass (L.linked linker.entry.now) (L.linked result.1.now)
+                × IsRead (at_lines plan.entry.lines.now) plan.entry.channels result.0.ended result.0.front.pass result.0.writer.pass (told_as (L.linked linker.entry.now) (L.failures linker.entry.now)) (told_as (L.linked result.1.now) (L.failures result.1.now))
                 × TellsFaults result.0.ended (L.failures linker.entry.now) (L.failures result.1.now) (L.trouble linker.entry.now) (L.trouble result.1.now)
                 × All (KeepsMoment (X.moment outside.entry.now)) result.0.hands × All (AllByHandBut 1) result.0.hands }
         {
@@ -494,7 +496,7 @@ fn read_all<
     ensures front { ComesBack front.entry.turn.now front.entry.pass result.front.pass }
     ensures caller { ComesBack caller.entry.turn.now caller.entry.pass result.writer.pass }
     ensures others { AllZip IsOther (map (λ hand. hand.turn) hands.entry) result.hands }
-    ensures read { IsRead plan.entry.channels result.ended result.front.pass result.writer.pass (L.linked linker.old) (L.linked linker.new) }
+    ensures read { IsRead (at_lines plan.entry.lines.now) plan.entry.channels result.ended result.front.pass result.writer.pass (told_as (L.linked linker.old) (L.failures linker.old)) (told_as (L.linked linker.new) (L.failures linker.new)) }
     ensures faults { TellsFaults result.ended (L.failures linker.old) (L.failures linker.new) (L.trouble linker.old) (L.trouble linker.new) }
 {
     let mut reader = Reader::new(rt, front, caller, hands, batch, outside, bells, holds);

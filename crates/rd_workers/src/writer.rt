@@ -2,7 +2,9 @@
 
 ghost use Rattle.std.specs.Prelude.{◌≡◌, ◌<◌, ◌⊎◌, ◌++◌, ◌∷◌, [], None, false, true, not};
 ghost use Rattle.rd_chunk.specs.Carrier.{IsMessage};
+ghost use Rattle.rd_front.specs.Calls.{RanOut};
 ghost use Rattle.rd_front.specs.declared.calls.FrontCall.TheVariants as Front;
+ghost use Rattle.rd_front.specs.declared.calls.FrontReply.TheVariants as Reply;
 ghost use Rattle.rd_turn.specs.History.{calls_of, entry};
 ghost use Rattle.rd_workers.specs.Passes.{caller_id};
 ghost use Rattle.rd_workers.specs.Writing.{PutsTo, TakesMore, WriterStep};
@@ -227,6 +229,7 @@ impl<'f, F: Object<Call = FrontCall, Reply = FrontReply>, T: Wait, K: Hang + Dro
         requires { self.old.starved ≡ false }
         ensures same { self.new ≡ record self.old { starved = self.new.starved } }
         ensures put { PutsTo self.new.starved room.messages output.old output.new }
+        ensures found { self.new.starved ≡ false → ¬ (RanOut (Reply.Messages room rest)) }
     {
         let (room, starved) = put_all(room, output);
         self.room = Some(room);

@@ -11,7 +11,7 @@ serve_client-ended-requires-clause-declared g c κs within =
 
 pub returns-in-Ok : goal.returns-in-Ok
 returns-in-Ok g c =
-    served_end _ _ _ _ _ _ _ _ c.serve_client-ended.result (record { script = c.in-Ok.script; reads = c.in-Ok.ensures.script; served = record { channels = c.serve_client-ended.ensures.served; lawful = c.serve_client-ended.ensures.books.0; faults = c.serve_client-ended.ensures.faults } }) c.end_served.ensures
+    served_end _ _ _ _ _ _ _ _ c.serve_client-ended.result (record { script = c.in-Ok.script; reads = c.in-Ok.ensures.script; served = record { channels = c.serve_client-ended.ensures.served; lawful = c.serve_client-ended.ensures.books.0; moments = c.serve_client-ended.ensures.books.1; faults = c.serve_client-ended.ensures.faults } }) c.end_served.ensures
 
 pub returns-in-Err : goal.returns-in-Err
 returns-in-Err g c = stopped_end _ _ _ _ _ _ _ _ c.in-Err.stop c.in-Err.ensures.err (refl, c.requires) c.end.ensures

@@ -6,6 +6,8 @@ use Rattle.rd_pool.proofs.DeskLemmas.{still_first}
 use Rattle.rd_world.specs.declared.device.SessionDevice.{SessionDevice}
 use Rattle.rd_front.specs.Kept.{DeskGoesOn}
 use Rattle.rd_front.specs.State.{DeviceDeskState, FrontState, SessionPass}
+use Rattle.rd_workers.specs.Channels.{told_as}
+use Rattle.rd_workers.specs.Lines.{at_lines}
 use Rattle.rd_workers.specs.Passes.{IsPassOf}
 use Rattle.rd_workers.proofs.BookLemmas.{first_hold, front_keeps}
 use Rattle.rd_workers.proofs.ClosedLemmas.{firsts_but, split_first, still_firsts, their_passes, their_turns}
@@ -46,8 +48,8 @@ returns-in_err-own-2-clause-err g c =
     on_err _ _
     (inr (
       c.in_ok-ended.ended,
-      serves_front c.args.client c.args.printers c.args.ids.now c.args.desks.now.turns c.args.plan.channels c.in_ok-ended.ended c.in-Ok.turn.opening c.close.result c.in_ok-list.list.items c.in_ok-own.own c.in_ok-ended.pass.seen
-          (g.L.Linker.linked c.args.linker.now) (g.L.Linker.linked c.serve_front.new.linker) (c.in-Ok.ensures.turn ∙ c.new-front.ensures) c.in_ok-list.ensures.ids c.in_ok-list.ensures.turns c.in_ok-list.ensures.passes
+      serves_front c.args.client c.args.printers c.args.ids.now c.args.desks.now.turns (at_lines c.args.plan.lines.now) c.args.plan.channels c.in_ok-ended.ended c.in-Ok.turn.opening c.close.result c.in_ok-list.list.items c.in_ok-own.own c.in_ok-ended.pass.seen
+          (told_as (g.L.Linker.linked c.args.linker.now) (g.L.Linker.failures c.args.linker.now)) (told_as (g.L.Linker.linked c.serve_front.new.linker) (g.L.Linker.failures c.serve_front.new.linker)) (c.in-Ok.ensures.turn ∙ c.new-front.ensures) c.in_ok-list.ensures.ids c.in_ok-list.ensures.turns c.in_ok-list.ensures.passes
           (unseen_split c.args.passes c.in_ok-own.own c.in_ok-own.ensures.given c.requires.new) c.close.ensures.leads c.in_ok-ended.ensures.served,
     ))
 
@@ -82,8 +84,8 @@ returns-clause-served g c =
     let numbers = still_firsts c.in_ok-list.list.items c.close.result.desks c.in_ok-own.own c.in_ok-list.ensures.passes (split_first c.args.desks.now.turns c.args.passes c.in_ok-own.own c.requires.begins c.in_ok-own.ensures.given) goes in
     record {
       front =
-          serves_front c.args.client c.args.printers c.args.ids.now c.args.desks.now.turns c.args.plan.channels c.in_ok-ended.ended c.in-Ok.turn.opening c.close.result c.in_ok-list.list.items c.in_ok-own.own c.in_ok-ended.pass.seen
-          (g.L.Linker.linked c.args.linker.now) (g.L.Linker.linked c.serve_front.new.linker) (c.in-Ok.ensures.turn ∙ c.new-front.ensures) c.in_ok-list.ensures.ids c.in_ok-list.ensures.turns c.in_ok-list.ensures.passes
+          serves_front c.args.client c.args.printers c.args.ids.now c.args.desks.now.turns (at_lines c.args.plan.lines.now) c.args.plan.channels c.in_ok-ended.ended c.in-Ok.turn.opening c.close.result c.in_ok-list.list.items c.in_ok-own.own c.in_ok-ended.pass.seen
+          (told_as (g.L.Linker.linked c.args.linker.now) (g.L.Linker.failures c.args.linker.now)) (told_as (g.L.Linker.linked c.serve_front.new.linker) (g.L.Linker.failures c.serve_front.new.linker)) (c.in-Ok.ensures.turn ∙ c.new-front.ensures) c.in_ok-list.ensures.ids c.in_ok-list.ensures.turns c.in_ok-list.ensures.passes
           (unseen_split c.args.passes c.in_ok-own.own c.in_ok-own.ensures.given c.requires.new) c.close.ensures.leads c.in_ok-ended.ensures.served;
       home = record {
         turns_are = their_turns c.args.desks.now.turns c.in_ok-list.list.items c.close.result.desks c.in_ok-list.ensures.turns goes;

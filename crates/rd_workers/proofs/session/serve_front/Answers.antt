@@ -6,6 +6,8 @@ use Rattle.rd_front.specs.declared.calls.FrontCall.{FrontCall}
 use Rattle.rd_front.specs.declared.calls.FrontReply.{FrontReply}
 use Rattle.rd_pool.specs.Desks.{DeskTurn}
 use Rattle.rd_world.specs.declared.device.SessionDevice.{SessionDevice}
+use Rattle.rd_workers.specs.Channels.{told_as}
+use Rattle.rd_workers.specs.Lines.{at_lines}
 use Rattle.rd_workers.specs.Logs.{AllWrite}
 use Rattle.rd_workers.specs.Passes.{CallerId, ComesBack, WriterState}
 use Rattle.rd_workers.specs.Served.{IsRead, ServesEntries}
@@ -70,8 +72,8 @@ returns-clause-served g c =
     of_some given home there (λ h. ComesBack c.new-caller.result.turn.now c.new-caller.result.pass h.read.writer.pass) c.serve_with_workers.ensures.caller in
     let other_back : ComesBack c.new-other.result.turn.now c.new-other.result.pass home.other.pass = of_some given home there (λ h. ComesBack c.new-other.result.turn.now c.new-other.result.pass h.other.pass) c.serve_with_workers.ensures.other in
     let writes : AllWrite (calls_of home.other.pass.number home.other.pass.seen) = of_some given home there (λ h. AllWrite (calls_of h.other.pass.number h.other.pass.seen)) c.serve_with_workers.ensures.writes in
-    let reads : IsRead c.args.plan.channels home.read.ended home.read.front.pass home.read.writer.pass (g.L.Linker.linked c.args.linker.now) (g.L.Linker.linked c.serve_with_workers.result.now) =
-    of_some given home there (λ h. IsRead c.args.plan.channels h.read.ended h.read.front.pass h.read.writer.pass (g.L.Linker.linked c.args.linker.now) (g.L.Linker.linked c.serve_with_workers.result.now)) c.serve_with_workers.ensures.read in
+    let reads : IsRead (at_lines c.args.plan.lines.now) c.args.plan.channels home.read.ended home.read.front.pass home.read.writer.pass (told_as (g.L.Linker.linked c.args.linker.now) (g.L.Linker.failures c.args.linker.now)) (told_as (g.L.Linker.linked c.serve_with_workers.result.now) (g.L.Linker.failures c.serve_with_workers.result.now)) =
+    of_some given home there (λ h. IsRead (at_lines c.args.plan.lines.now) c.args.plan.channels h.read.ended h.read.front.pass h.read.writer.pass (told_as (g.L.Linker.linked c.args.linker.now) (g.L.Linker.failures c.args.linker.now)) (told_as (g.L.Linker.linked c.serve_with_workers.result.now) (g.L.Linker.failures c.serve_with_workers.result.now))) c.serve_with_workers.ensures.read in
     let main = c.into_pass-writer_pass.ensures.same in
     let other = c.into_pass.ensures.same in
     let reader = c.into_pass-pass.ensures.same in
@@ -99,9 +101,9 @@ returns-clause-served g c =
       off = ap (λ (s : WriterState F). s.half) opening;
       leads = c.close.ensures.leads;
     } in
-    let read = subst (λ (p : FrontPass F). IsRead c.args.plan.channels home.read.ended p c.into_pass-writer_pass.result (g.L.Linker.linked c.args.linker.now) (g.L.Linker.linked c.serve_with_workers.result.now)) (sym reader)
-    (subst (λ (p : WriterPass F K). IsRead c.args.plan.channels home.read.ended home.read.front.pass p (g.L.Linker.linked c.args.linker.now) (g.L.Linker.linked c.serve_with_workers.result.now)) (sym main) reads) in
-    let served = is_served c.into_pass-pass.result c.into_pass-2.result c.join-2.new.pass c.into_pass-writer_pass.result c.into_pass.result c.join.new.pass c.in-Ok.writer_turn.opening c.close.result joined c.args.plan.channels
-    home.read.ended (g.L.Linker.linked c.args.linker.now) (g.L.Linker.linked c.serve_with_workers.result.now) read in
+    let read = subst (λ (p : FrontPass F). IsRead (at_lines c.args.plan.lines.now) c.args.plan.channels home.read.ended p c.into_pass-writer_pass.result (told_as (g.L.Linker.linked c.args.linker.now) (g.L.Linker.failures c.args.linker.now)) (told_as (g.L.Linker.linked c.serve_with_workers.result.now) (g.L.Linker.failures c.serve_with_workers.result.now))) (sym reader)
+    (subst (λ (p : WriterPass F K). IsRead (at_lines c.args.plan.lines.now) c.args.plan.channels home.read.ended home.read.front.pass p (told_as (g.L.Linker.linked c.args.linker.now) (g.L.Linker.failures c.args.linker.now)) (told_as (g.L.Linker.linked c.serve_with_workers.result.now) (g.L.Linker.failures c.serve_with_workers.result.now))) (sym main) reads) in
+    let served = is_served c.into_pass-pass.result c.into_pass-2.result c.join-2.new.pass c.into_pass-writer_pass.result c.into_pass.result c.join.new.pass c.in-Ok.writer_turn.opening c.close.result joined (at_lines c.args.plan.lines.now) c.args.plan.channels
+    home.read.ended (told_as (g.L.Linker.linked c.args.linker.now) (g.L.Linker.failures c.args.linker.now)) (told_as (g.L.Linker.linked c.serve_with_workers.result.now) (g.L.Linker.failures c.serve_with_workers.result.now)) read in
     let last = c.linker-1.given.1 (sym c.serve_with_workers.ensures.linker) in
-    subst (λ l. ServesEntries c.args.plan.channels home.read.ended c.join-2.new.pass.seen (g.L.Linker.linked c.args.linker.now) (g.L.Linker.linked l)) (sym last) served
+    subst (λ l. ServesEntries (at_lines c.args.plan.lines.now) c.args.plan.channels home.read.ended c.join-2.new.pass.seen (told_as (g.L.Linker.linked c.args.linker.now) (g.L.Linker.failures c.args.linker.now)) (told_as (g.L.Linker.linked l) (g.L.Linker.failures l))) (sym last) served
