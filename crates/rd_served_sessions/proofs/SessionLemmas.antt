@@ -1,0 +1,454 @@
+-- A session that was served: the history of its front tells the deeds of the client.
+use Rattle.std.proofs.Common.{◌≡◌, ◌≢◌, ◌⊎◌, ◌∙◌, ◌≤◌, ◌<◌, refl, sym, ap, subst, inl, inr, ℕ, zero, suc, ◌+◌, Bool, true, false, List, [], ◌∷◌, ◌++◌, length, map, reverse, Some, slice_get, append-nil, arith, ne_eqb}
+use Rattle.std.specs.Prelude.{if◌then◌else◌}
+use Rattle.std.specs.List.{AllByRecursion, AllZip, zip}
+use Rattle.std.specs.Map.{keys_of, lookup}
+use Rattle.std.specs.Ordering.{nat_cmp}
+use Rattle.std.specs.BTreeMap.{is_at}
+use Rattle.std.proofs.lemmas.Bool.{cases_eq}
+use Rattle.std.proofs.lemmas.List.{reverse-reverse}
+use Rattle.rd_base.specs.declared.journal.Item.{Item}
+use Rattle.rd_base.specs.History.{History}
+use Rattle.rd_base.specs.Lawful.{IsLawful}
+use Rattle.rd_carry.specs.Outgoing.{HasWritten}
+use Rattle.rd_carry.specs.declared.ended.Ended.{Ended}
+use Rattle.rd_carry.specs.declared.ended.Ended.TheVariants as ended
+use Rattle.rd_client.specs.Events.{AreWritable}
+use Rattle.rd_devices.specs.declared.list.Announce.{Announce}
+use Rattle.rd_drive.proofs.AllLemmas.{all_append}
+use Rattle.rd_drive.specs.Replies.{AreToldBy}
+use Rattle.rd_front.specs.Calls.{FrontEntry, HearBytes, HearsBytes}
+use Rattle.rd_front.specs.Front.{FrontStep}
+use Rattle.rd_front.specs.Room.{MessageRoom}
+use Rattle.rd_front.specs.State.{DeviceDeskState, FrontState, SessionDeskStep, SessionStation}
+use Rattle.rd_front.specs.declared.calls.FrontCall.{FrontCall}
+use Rattle.rd_front.specs.declared.calls.FrontCall.TheVariants as call
+use Rattle.rd_front.specs.declared.calls.FrontReply.{FrontReply}
+use Rattle.rd_front.specs.declared.calls.FrontReply.TheVariants as reply
+use Rattle.rd_journals.proofs.ReplyLemmas.{fit_at}
+use Rattle.rd_journals.proofs.WorkLemmas.{grown_more}
+use Rattle.rd_journals.specs.Stations.{AreFit}
+use Rattle.rd_refused.proofs.AnswerLemmas.{all_answer}
+use Rattle.rd_script.specs.declared.line.NumberedLine.{NumberedLine}
+use Rattle.rd_station.specs.Tied.{IsTied}
+use Rattle.rd_turn.specs.History.{Leads}
+use Rattle.rd_world.specs.Devices.{Declared, device_cut, device_step}
+use Rattle.rd_world.specs.Opening.{AreOpenable}
+use Rattle.rd_world.specs.Recording.{announced_of}
+use Rattle.rd_world.specs.Session.{replies_read, request_read}
+use Rattle.rd_world.specs.Talk.{Deed, Has, client_read, client_moves, client_wrote, journal}
+use Rattle.rd_world.specs.Told.{AreAnswered}
+use Rattle.rd_workers.specs.Channels.{ChannelRun, HaveNumbers, IsChannelRun, LinkerTold, calls_by_all}
+use Rattle.rd_workers.specs.Lines.{at_lines}
+use Rattle.rd_workers.specs.Logs.{AllFound, asks_any, messages_by, messages_for, messages_heard, reader_calls}
+use Rattle.rd_workers.specs.Served.{IsWritten, ServesBooks}
+use Rattle.rd_served.proofs.CauseLemmas.{AnyRequest}
+use Rattle.rd_served.proofs.ChannelLemmas.{begins_here, history_on}
+use Rattle.rd_served.proofs.KeyLemmas.{begins_at, keyed_lawful}
+use Rattle.rd_served.proofs.OrderLemmas.{history_order}
+use Rattle.rd_served.proofs.StandingLemmas.{IsKnownAt, begins_known, history_known}
+use Rattle.rd_served.proofs.WalkLemmas.{served}
+use Rattle.rd_served.specs.Deeds.{deeds_of_calls}
+use Rattle.rd_served.specs.Histories.{AreStationed, HistoryGoes, may_start}
+use Rattle.rd_served.specs.Parts.{FrontPart, PartsGo}
+use Rattle.rd_served.specs.Served.{IsStationed, Served, Works, idle}
+use Rattle.rd_served_causes.proofs.CallLemmas.{all_said, heard_unhindered}
+use Rattle.rd_served_causes.proofs.PlaceLemmas.{ids_of, part_ids}
+use Rattle.rd_served_causes.specs.Causes.{StartUnhindered}
+use Rattle.rd_served_order.proofs.OrderLemmas.{begins_order, history_ordered}
+use Rattle.rd_served_order.proofs.OwnLemmas.{begins_own}
+use Rattle.rd_served_order.proofs.SentLemmas.{history_tells, room_at, tells_order}
+use Rattle.rd_served_order.specs.Orders.{AreMovesInOrder, is_gone_until, none_until}
+use Rattle.rd_served_order.specs.Sent.{AreSentInOrder}
+use Rattle.rd_served_refusals.proofs.BytesLemmas.{bytes_name}
+use Rattle.rd_served_refusals.proofs.HinderLemmas.{hear_before}
+use Rattle.rd_served_refusals.proofs.InLineLemmas.{begins_line_all, history_line, point_of}
+use Rattle.rd_served_refusals.proofs.PointLemmas.{in_order, passes_each}
+use Rattle.rd_served_refusals.specs.Heeding.{HearInRoom, HearsInRoom, PassesNone}
+use Rattle.rd_served_replies.proofs.BeginLemmas.{IsOneOf, first_of, known_first}
+use Rattle.rd_served_replies.proofs.EachLemmas.{all_answered}
+use Rattle.rd_served_replies.proofs.FollowLemmas.{history_followed}
+use Rattle.rd_served_replies.proofs.LedLemmas.{led_tied}
+use Rattle.rd_served_replies.proofs.ReadLemmas.{all_fine, history_bytes}
+use Rattle.rd_served_sessions.proofs.CallLemmas.{BeginsUpTo, asks_only, begun_up_to, heard_of, heard_on, lift_all, lift_heard, lift_starts, none_above, none_below, none_on, on_channel, own_heard, runs_heard, runs_start, runs_up_to, unbegun_up_to}
+use Rattle.rd_served_sessions.proofs.ChainLemmas.{Chain, chain_of, history_read, history_wrote}
+use Rattle.rd_served_sessions.proofs.CloseLemmas.{WereClosed, closed_own, were_closed}
+use Rattle.rd_served_sessions.proofs.DoneLemmas.{IsDone, all_done, works_same}
+use Rattle.rd_served_sessions.proofs.FirstLemmas.{IsBegun, all_at, at_same, found_at, session_begun}
+use Rattle.rd_served_sessions.proofs.FoundLemmas.{history_found}
+use Rattle.rd_workers.proofs.RunLemmas.{AreRuns, HearsSurely, IsSure, calls_bytes, calls_surely, no_rest, runs_middle, runs_of}
+use Rattle.rd_served_sessions.proofs.StillLemmas.{next_says, tracks}
+use Rattle.rd_served_sessions.specs.Sessions.{IsServedRun, IsToldSession}
+
+abbrev Of : Type 0
+Of = SessionStation
+
+-- ---- lists
+
+both_all : {A : Type 0} (P Q : A → Type 0) (xs : List A) → AllByRecursion P xs → AllByRecursion Q xs → AllByRecursion (λ x. P x × Q x) xs
+both_all P Q [] first second = tt
+both_all P Q (x ∷ xs) first second = ((first.0, second.0), both_all P Q xs first.1 second.1)
+
+to_all : {A : Type 0} (P Q : A → Type 0) → ((x : A) → P x → Q x) → (xs : List A) → AllByRecursion P xs → AllByRecursion Q xs
+to_all P Q to [] all = tt
+to_all P Q to (x ∷ xs) all = (to x all.0, to_all P Q to xs all.1)
+
+-- the run of a channel
+run_at : (P : ChannelRun → Type 0) (n c : ℕ) (runs : List ChannelRun) → HaveNumbers n runs → n < c → c ≤ n + length runs → AllByRecursion P runs → (r : ChannelRun) × ((r.reading).channel ≡ c) × P r
+run_at P n c [] have low high all = absurd (omega (arith, low, high))
+run_at P n c (r ∷ runs) have low high all = elim (cases_eq c (suc n)) [
+  | inl same ↦ (r, have.0 ∙ sym same, all.0)
+  | inr apart ↦ run_at P (suc n) c runs have.1 (omega (arith, low, apart)) (omega (arith, high)) all.1
+]
+
+zip_at : {A B : Type 0} (P : A → B → Type 0) (xs : List A) (ys : List B) → AllZip P xs ys → (i : ℕ) (x : A) → slice_get xs i ≡ Some x → (y : B) × (slice_get ys i ≡ Some y) × P x y
+zip_at P [] [] all i x there = absurd (cc (there))
+zip_at P [] (y ∷ ys) all i x there = absurd all
+zip_at P (a ∷ xs) [] all i x there = absurd all
+zip_at P (a ∷ xs) (b ∷ ys) all zero x there = let is : a ≡ x = cc (there) in (b, refl, subst (λ z. P z b) is all.0)
+zip_at P (a ∷ xs) (b ∷ ys) all (suc i) x there = zip_at P xs ys all.1 i x there
+
+-- ---- the stations at the end
+
+same_stations : (mids ss : List Of) → AllZip Works mids ss → ((x : Of) → Has x mids → IsDone x) → ss ≡ mids
+same_stations [] [] works done = refl
+same_stations [] (s ∷ ss) works done = absurd works
+same_stations (m ∷ mids) [] works done = absurd works
+same_stations (m ∷ mids) (s ∷ ss) works done =
+    let here = works_same m s works.0 (done m (inl refl)) in let more = same_stations mids ss works.1 (λ x has. done x (inr has)) in λ i. here i ∷ more i
+
+parts_ids : (ps : List FrontPart) (p q : Served) → PartsGo p ps q → ids_of (q.front).desks ≡ ids_of (p.front).desks
+parts_ids [] p q goes = ap (λ (s : Served). ids_of (s.front).desks) goes
+parts_ids (x ∷ ps) p q goes = parts_ids ps goes.0 q goes.2 ∙ part_ids p goes.0 x goes.1
+
+history_ids : (entries : List FrontEntry) (parts : List (List FrontPart)) (p q : Served) → HistoryGoes p entries parts q → ids_of (q.front).desks ≡ ids_of (p.front).desks
+history_ids [] [] p q goes = ap (λ (s : Served). ids_of (s.front).desks) goes
+history_ids [] (ps ∷ parts) p q goes = absurd goes
+history_ids (e ∷ entries) [] p q goes = absurd goes
+history_ids (e ∷ entries) (ps ∷ parts) p q goes = history_ids entries parts goes.0 q goes.2 ∙ parts_ids ps p goes.0 (goes.1).goes
+
+abbrev book : List Deed → ℕ → ℕ × List Item
+book deeds n = (n, reverse (journal n deeds))
+
+books_at : (deeds : List Deed) (ds : List DeviceDeskState) (ss : List Of) → AreStationed ds ss → ((place : ℕ) (d : DeviceDeskState) (s : Of) → slice_get ds place ≡ Some d → slice_get ss place ≡ Some s → journal d.id deeds ≡ reverse s.journal)
+    → zip (ids_of ds) (map (λ (s : Of). s.journal) ss) ≡ map (book deeds) (ids_of ds)
+books_at deeds [] [] at tied = refl
+books_at deeds [] (s ∷ ss) at tied = absurd at
+books_at deeds (d ∷ ds) [] at tied = absurd at
+books_at deeds (d ∷ ds) (s ∷ ss) at tied =
+    let here : s.journal ≡ reverse (journal d.id deeds) = sym (ap reverse (tied zero d s refl refl) ∙ reverse-reverse s.journal) in
+    let more = books_at deeds ds ss at.1 (λ place x y. tied (suc place) x y) in
+    λ i. (d.id, here i) ∷ more i
+
+books_of : (deeds : List Deed) (devices : List (ℕ × Declared)) → map (book deeds) (keys_of devices) ≡ map {B = ℕ × List Item} (λ (d : ℕ × Declared). (d.0, reverse (journal d.0 deeds))) devices
+books_of deeds [] = refl
+books_of deeds (d ∷ devices) = ap (λ (l : List (ℕ × List Item)). book deeds d.0 ∷ l) (books_of deeds devices)
+
+keys_map : (devices : List (ℕ × Declared)) → map (λ (d : ℕ × Declared). d.0) devices ≡ keys_of devices
+keys_map [] = refl
+keys_map (d ∷ devices) = ap (λ (l : List ℕ). d.0 ∷ l) (keys_map devices)
+
+-- ---- small facts
+
+bytes_room : (does : FrontCall) → HearsBytes does → HearsInRoom does
+bytes_room (call.Hear message) bytes = bytes_name message bytes
+bytes_room (call.Begin channel) bytes = tt
+bytes_room call.Retry bytes = tt
+bytes_room (call.Next channel place room) bytes = tt
+bytes_room (call.Remove device) bytes = tt
+bytes_room (call.Add device) bytes = tt
+bytes_room call.Look bytes = tt
+bytes_room call.EndChannel bytes = tt
+bytes_room call.EndSession bytes = tt
+
+-- nothing is handed out for a channel after the last
+none_after : (most c : ℕ) → most < c → (entries : List FrontEntry) (p q : FrontState) → Leads FrontStep p entries q → p.channel ≤ most → AllByRecursion (λ (e : FrontEntry). BeginsUpTo most e.call e.reply) entries → messages_for c entries ≡ []
+none_after most c high [] p q leads low upto = refl
+none_after most c high (e ∷ entries) p q leads low upto =
+    ap (λ (ms : List (List ℕ)). ms ++ messages_for c entries) (one e.call e.reply leads.1)
+    ∙ none_after most c high entries leads.0 q leads.2 (subst (λ (n : ℕ). n ≤ most) (sym (tracks p e.call e.reply leads.0 leads.1)) (begun_up_to most p.channel e.call e.reply low upto.0)) upto.1
+  where
+    next : (channel place : ℕ) (room : MessageRoom) (back : FrontReply) → FrontStep p (call.Next channel place room) back leads.0 → messages_by c (call.Next channel place room) back ≡ []
+    next channel place room (reply.Messages filled left) step = elim (next_says p channel place room (reply.Messages filled left) leads.0 step).here [
+      | inl same ↦ ap (λ (b : Bool). if b then filled.messages else []) (ne_eqb channel c (λ (is : channel ≡ c). omega (arith, is, same, low, high)))
+      | inr none ↦ let is : filled ≡ record room { messages = [] } = cc (none) in ap (λ (x : MessageRoom). on_channel c channel x.messages) is ∙ none_on c channel
+    ]
+    next channel place room (reply.Done at full) step = refl
+    next channel place room (reply.Stands ready asked) step = refl
+    next channel place room reply.Kept step = refl
+    next channel place room (reply.Wrong cause) step = refl
+    next channel place room (reply.Duplicate key) step = refl
+    next channel place room reply.Unfit step = refl
+    next channel place room reply.Memory step = refl
+    next channel place room reply.Full step = refl
+    next channel place room reply.Refused step = refl
+
+    one : (does : FrontCall) (back : FrontReply) → FrontStep p does back leads.0 → messages_by c does back ≡ []
+    one (call.Next channel place room) back step = next channel place room back step
+    one (call.Begin channel) back step = refl
+    one (call.Hear message) back step = refl
+    one call.Retry back step = refl
+    one (call.Remove device) back step = refl
+    one (call.Add device) back step = refl
+    one call.Look back step = refl
+    one call.EndChannel back step = refl
+    one call.EndSession back step = refl
+
+-- ---- the session
+
+module _ (devices : List (ℕ × Declared)) (openable : AreOpenable devices) (fit : AreFit devices) (writable : AreWritable (announced_of devices)) (numbered : List NumberedLine) (channels : ℕ) (by : Ended) (books : List (ℕ × History)) (old new : LinkerTold)
+    (not : by ≢ ended.Memory) (b : ServesBooks devices (at_lines numbered) channels by books old new)
+  where
+    abbrev Entries : List FrontEntry
+    Entries = (b.front).entries
+
+    abbrev First : FrontState
+    First = (b.front).opening
+
+    abbrev Last : FrontState
+    Last = (b.front).last
+
+    abbrev Calls : List FrontEntry
+    Calls = (((b.front).served).called).calls
+
+    abbrev End : FrontEntry
+    End = (((b.front).served).called).last
+
+    closed : WereClosed Last.desks b.stations
+    closed = were_closed Last.desks b.stations b.closes
+
+    chained : (mids : List Of) → AreStationed Last.desks mids → Chain First Entries Last mids
+    chained mids at = chain_of First Entries Last (b.front).leads mids at
+
+    -- what is known once the runs, the stations and the parts are had
+    module _ (runs : List ChannelRun) (are : AreRuns runs Calls ((b.front).served).done (at_lines numbered)) (mids : List Of) (works : AllZip Works mids b.stations) (c : Chain First Entries Last mids) where
+      abbrev Old : Served
+      Old = served First idle c.stations
+
+      abbrev New : Served
+      New = served Last idle mids
+
+      abbrev Deeds : List Deed
+      Deeds = deeds_of_calls c.parts []
+
+      announced_here : AreWritable b.announced
+      announced_here = subst AreWritable (sym (b.opens).announced_are) writable
+
+      begun : IsBegun devices b.announced Old
+      begun = session_begun devices openable fit b.announced b.printers b.ids b.turns b.opens announced_here First (b.front).begins c.stations c.at
+
+      whole : reader_calls Entries ≡ calls_by_all runs ++ End ∷ []
+      whole = (((b.front).served).called).all_are ∙ ap (λ (es : List FrontEntry). es ++ End ∷ []) are.calls_are
+
+      -- of the reader's calls and so of all
+      of_calls : (P : FrontCall → FrontReply → Type 0) → ((does : FrontCall) (back : FrontReply) → asks_any does ≡ true → P does back) → ((back : FrontReply) → P call.EndSession back)
+          → AllByRecursion (λ (e : FrontEntry). P e.call e.reply) (calls_by_all runs) → AllByRecursion (λ (e : FrontEntry). P e.call e.reply) Entries
+      of_calls P asked ends all =
+          lift_all P asked Entries (subst (AllByRecursion (λ (e : FrontEntry). P e.call e.reply)) (sym whole)
+          (all_append (λ (e : FrontEntry). P e.call e.reply) (calls_by_all runs) (End ∷ []) all (subst (λ (does : FrontCall). P does End.reply) (sym (((b.front).served).called).over) (ends End.reply), tt)))
+
+      hear_bytes : HearBytes Entries
+      hear_bytes = of_calls (λ does back. HearsBytes does) (λ does back asks. (asks_only does back asks).bytes) (λ back. tt) (calls_bytes runs are.each)
+
+      hear_surely : AllByRecursion (λ (e : FrontEntry). HearsSurely e.call e.reply) Entries
+      hear_surely = of_calls HearsSurely (λ does back asks. (asks_only does back asks).surely) (λ back. tt) (calls_surely runs are.each are.sure)
+
+      up_to : AllByRecursion (λ (e : FrontEntry). BeginsUpTo (length runs) e.call e.reply) Entries
+      up_to = of_calls (BeginsUpTo (length runs)) (λ does back asks. unbegun_up_to (length runs) does back (λ channel is. let none = ap asks_any is in cc (asks, none))) (λ back. tt)
+          (runs_up_to (length runs) 0 runs are.numbered (omega arith) are.each (runs_middle runs are))
+
+      starts : StartUnhindered false Entries
+      starts = lift_starts Entries First Last false (b.front).leads (subst (StartUnhindered false) (sym whole) (runs_start runs (End ∷ []) are.each are.sure (λ was. (λ may. absurd (ended_none may), tt)) false))
+        where
+          ended_none : may_start End.call End.reply ≡ true → ⊥
+          ended_none may = let none = ap (λ (does : FrontCall). may_start does End.reply) (((b.front).served).called).over in cc (none, may)
+
+      -- each run's other half
+      half_of : AllByRecursion (λ (r : ChannelRun). IsWritten Entries r.wrote) runs
+      half_of = halves runs (subst (AllByRecursion (IsWritten Entries)) are.done_are ((b.front).served).written)
+        where
+          halves : (rs : List ChannelRun) → AllByRecursion (IsWritten Entries) (map (λ (r : ChannelRun). r.wrote) rs) → AllByRecursion (λ (r : ChannelRun). IsWritten Entries r.wrote) rs
+          halves [] all = tt
+          halves (r ∷ rs) all = (all.0, halves rs all.1)
+
+      abbrev IsKnownRun : ChannelRun → Type 0
+      IsKnownRun r = (IsChannelRun r × IsSure r) × IsWritten Entries r.wrote
+
+      known_runs : AllByRecursion IsKnownRun runs
+      known_runs = both_all (λ (r : ChannelRun). IsChannelRun r × IsSure r) (λ (r : ChannelRun). IsWritten Entries r.wrote) runs (both_all IsChannelRun IsSure runs are.each are.sure) half_of
+
+      found : (n : ℕ) → 0 < n → n ≤ length runs → AllFound n Entries
+      found n some few =
+          let (r, same, is) = run_at IsKnownRun 0 n runs are.numbered some (omega (arith, few)) known_runs in
+          subst (λ (m : ℕ). AllFound m Entries) ((is.0).0.channel ∙ same) ((is.1).found (is.0).1.fed)
+
+      known_first_here : IsKnownAt Old []
+      known_first_here = let new_here = (begun.begins).new in begins_known Old new_here.new new_here.apart new_here.stationed new_here.idle_is
+
+      known : IsKnownAt New Deeds
+      known = history_known Entries c.parts Old New [] c.goes known_first_here
+
+      sent_in_order : AreSentInOrder Deeds
+      sent_in_order channel device =
+          tells_order Deeds (known.standing).stand (history_tells Entries c.parts Old New [] c.goes known_first_here (room_at First.desks begun.room) tt) channel device
+          ∙ history_order Entries c.parts Old New []
+          (history_found (length runs) Entries c.parts Old New [] c.goes c.steps (let is = begun.first in omega (arith, is)) up_to found known_first_here (λ none. (begun.off, begun.unasked)))
+          c.goes known_first_here refl (λ x y. refl) channel device
+
+      in_room : HearInRoom Entries
+      in_room = to_all (λ (e : FrontEntry). HearsBytes e.call) (λ (e : FrontEntry). HearsInRoom e.call) (λ e bytes. bytes_room e.call bytes) Entries hear_bytes
+
+      answered : AreAnswered (replies_read devices Deeds) Deeds
+      answered =
+          let bytes = history_bytes Entries c.parts Old New [] c.goes hear_bytes tt in
+          let said = all_said b.announced Old New Entries c.parts begun.begins begun.have c.goes (all_fine Deeds bytes) starts in
+          let line = history_line Entries c.parts false Old New [] c.goes known_first_here in_room (hear_before Entries c.parts Old New c.goes (heard_unhindered Entries false starts)) (begins_line_all Old ((begun.begins).new).new refl) in
+          record {
+            sent_in_order = sent_in_order;
+            direct_in_order = in_order line.0 _ _ line.1;
+            answers = all_answer (replies_read devices Deeds) Deeds (said.0).each (all_answered devices Old New Entries c.parts (begun.begins).new begun.opened c.goes (closed_own Last.desks b.stations b.closes) bytes);
+            comes = (said.1).comes;
+          }
+
+      -- ---- messages
+
+      read_is : (n : ℕ) → client_read n Deeds ≡ reverse (heard_of n runs)
+      read_is n =
+          history_read n Entries c.parts Old New c.goes c.steps hear_surely [] ∙ append-nil (reverse (heard_on n First.channel Entries))
+          ∙ ap reverse (lift_heard n Entries First.channel ∙ ap (heard_on n First.channel) whole ∙ runs_heard n runs (End ∷ []) First.channel are.each (runs_middle runs are) ended_hears)
+        where
+          ended_hears : (m : ℕ) → heard_on n m (End ∷ []) ≡ []
+          ended_hears m = ap (λ (does : FrontCall). heard_on n m (record End { call = does } ∷ [])) (((b.front).served).called).over ∙ append-nil (on_channel n m []) ∙ none_on n m
+
+      wrote_is : (n : ℕ) → reverse (client_wrote n Deeds) ≡ messages_for n Entries
+      wrote_is n =
+          let new_here = (begun.begins).new in
+          let here = history_on Entries c.parts Old New c.goes (begins_at Old new_here.new new_here.stationed refl) (begins_here Old (new_here.new).nothing refl) in
+          ap reverse (history_wrote n Entries c.parts Old New c.goes c.steps here [] ∙ append-nil (reverse (messages_for n Entries))) ∙ reverse-reverse (messages_for n Entries)
+
+      run_told : (r : ChannelRun) → (IsKnownRun r × (heard_of (r.reading).channel runs ≡ messages_heard (r.reading).calls)) → IsServedRun Deeds r
+      run_told r told =
+          let is = (told.0).0.0 in
+          let sure = (told.0).0.1 in
+          let half = (told.0).1 in
+          let all : ((r.reading).incoming).messages ≡ messages_heard (r.reading).calls =
+          (is.reading).messages ∙ ap (λ (ms : List (List ℕ)). messages_heard (r.reading).calls ++ ms) (no_rest (r.reading).by (r.reading).rest sure.found (is.reading).all) ∙ append-nil (messages_heard (r.reading).calls) in
+          let puts = half.puts in
+          let put : puts.put ≡ reverse (client_wrote (r.reading).channel Deeds) =
+          sym (puts.messages_are ∙ ap (λ (ms : List (List ℕ)). puts.put ++ ms) (puts.all sure.fed) ∙ append-nil puts.put) ∙ ap (λ (n : ℕ). messages_for n Entries) is.channel ∙ sym (wrote_is (r.reading).channel) in
+          record {
+            is = is;
+            read = read_is (r.reading).channel ∙ ap reverse (told.1 ∙ sym all);
+            written = subst (λ (ms : List (List ℕ)). HasWritten r.held ms (r.wrote).ended) put (puts.since r.held [] is.began);
+            flushed = half.flushed;
+            stopped = λ stopped. elim (half.stopped stopped) [ inl failed ↦ failed | inr starved ↦ absurd (let fed = sure.fed in cc (starved, fed)) ];
+          }
+
+      runs_told : AllByRecursion (IsServedRun Deeds) runs
+      runs_told =
+          to_all (λ (r : ChannelRun). IsKnownRun r × (heard_of (r.reading).channel runs ≡ messages_heard (r.reading).calls)) (IsServedRun Deeds) run_told runs
+          (both_all IsKnownRun (λ (r : ChannelRun). heard_of (r.reading).channel runs ≡ messages_heard (r.reading).calls) runs known_runs (own_heard 0 runs are.numbered))
+
+      unread : (n : ℕ) → (n ≡ 0) ⊎ (length runs < n) → client_read n Deeds ≡ []
+      unread n (inl none) = read_is n ∙ ap reverse (none_below n 0 runs are.numbered (omega (arith, none)))
+      unread n (inr above) = read_is n ∙ ap reverse (none_above n 0 runs are.numbered (omega (arith, above)))
+
+      unwritten : (n : ℕ) → length runs < n → client_wrote n Deeds ≡ []
+      unwritten n above =
+          sym (reverse-reverse (client_wrote n Deeds)) ∙ ap reverse (wrote_is n ∙ none_after (length runs) n above Entries First Last (b.front).leads (let is = begun.first in omega (arith, is)) up_to)
+
+      -- ---- journals
+
+      stations_same : b.stations ≡ mids
+      stations_same = same_stations mids b.stations works
+          (all_done Entries c.parts Old New c.goes c.steps begun.fresh Calls End (((b.front).served).called).all_are (((b.front).served).called).over)
+
+      last_ids : ids_of Last.desks ≡ keys_of devices
+      last_ids = history_ids Entries c.parts Old New c.goes ∙ begun.ids
+
+      tied_at : (place : ℕ) (d : DeviceDeskState) (s : Of) → slice_get Last.desks place ≡ Some d → slice_get mids place ≡ Some s → journal d.id Deeds ≡ reverse s.journal
+      tied_at place d s there has = (known.told).tied place d s (there, has)
+
+      journals_are : AreStationed Last.desks mids → zip b.ids (map (λ (s : Of). s.journal) b.stations) ≡ map {B = ℕ × List Item} (λ (d : ℕ × Declared). (d.0, reverse (journal d.0 Deeds))) devices
+      journals_are at =
+          (λ i. zip (their i) (map (λ (s : Of). s.journal) (stations_same i))) ∙ books_at Deeds Last.desks mids at tied_at ∙ ap (map (book Deeds)) last_ids ∙ books_of Deeds devices
+        where
+          their : b.ids ≡ ids_of Last.desks
+          their = sym ((b.front).begins).ids_are ∙ sym (history_ids Entries c.parts Old New c.goes)
+
+      -- the desk and the station of a device
+      record OfDevice (e : ℕ × Declared) : Type 0 where
+        place : ℕ
+        d : DeviceDeskState
+        s : Of
+        there : slice_get Last.desks place ≡ Some d
+        has : slice_get mids place ≡ Some s
+        same : d.id ≡ e.0
+        is : journal e.0 Deeds ≡ reverse s.journal
+
+      of_device : AreStationed Last.desks mids → (i : ℕ) (e : ℕ × Declared) → slice_get devices i ≡ Some e → OfDevice e
+      of_device at i e there =
+          let (d, desk, id) = at_same (λ (x : ℕ × Declared). x.0) (λ (x : DeviceDeskState). x.id) devices Last.desks (keys_map devices ∙ sym last_ids) i e there in
+          let (s, station, stationed) = zip_at IsStationed Last.desks mids at i d desk in
+          record { place = i; d = d; s = s; there = desk; has = station; same = id; is = ap (λ (n : ℕ). journal n Deeds) (sym id) ∙ tied_at i d s desk station }
+
+      turned : (e : ℕ × Declared) (o : OfDevice e) → reverse (journal e.0 Deeds) ≡ (o.s).journal
+      turned e o = ap reverse o.is ∙ reverse-reverse (o.s).journal
+
+      lawful_of : AreStationed Last.desks mids → AllByRecursion (λ (e : ℕ × Declared). IsLawful (reverse (journal e.0 Deeds))) devices
+      lawful_of at = all_at (λ (e : ℕ × Declared). IsLawful (reverse (journal e.0 Deeds))) devices (λ i e there.
+          let o = of_device at i e there in subst IsLawful (sym (turned e o)) (keyed_lawful New known.keyed o.place o.s o.has))
+
+      marked_of : AreStationed Last.desks mids → AllByRecursion (λ (e : ℕ × Declared). AreToldBy device_step device_cut (request_read Deeds) (e.1).state (reverse (journal e.0 Deeds))) devices
+      marked_of at = all_at (λ (e : ℕ × Declared). AreToldBy device_step device_cut (request_read Deeds) (e.1).state (reverse (journal e.0 Deeds))) devices (λ i e there.
+          let o = of_device at i e there in
+          let follows = history_followed (IsOneOf devices) Entries c.parts Old New [] c.goes (known_first Old (begun.begins).new) (first_of devices Old (begun.begins).new begun.opened) in
+          let (x, at_x, opens_so) = follows.opened o.place o.d o.there in
+          let both : Some x ≡ Some e.1 = sym (ap (λ (n : ℕ). lookup (is_at (nat_cmp n)) devices) (sym o.same) ∙ at_x) ∙ found_at devices openable.rise i e there in
+          let same : x ≡ e.1 = cc (both) in
+          let tied : IsTied device_step device_cut (request_read Deeds) x.state o.s =
+          (led_tied AnyRequest Deeds Deeds (grown_more [] Deeds) (o.d).id x.state ((o.d).pass).seen o.s (subst (λ (t : Of). Leads SessionDeskStep t ((o.d).pass).seen o.s) opens_so (follows.stationed o.place o.d o.s (o.there, o.has)).leads)
+          (closed_own Last.desks b.stations b.closes o.place o.d o.there) (follows.puts o.place o.d o.there) (fit_at devices (o.d).id x begun.opened.fit at_x).1) in
+          subst (AreToldBy device_step device_cut (request_read Deeds) (e.1).state) (sym (turned e o)) (subst (λ (y : Declared). AreToldBy device_step device_cut (request_read Deeds) y.state (o.s).journal) same tied.marked))
+
+      in_order_of : (n : ℕ) → AreMovesInOrder (announced_of devices) (is_gone_until c.parts n) (client_moves n Deeds)
+      in_order_of n =
+          let is = (begun.begins).new in
+          subst (λ (list : List Announce). AreMovesInOrder list (is_gone_until c.parts n) (client_moves n Deeds)) (b.opens).announced_are
+          ((history_ordered b.announced announced_here Entries c.parts Old New c.goes [] none_until
+          (history_on Entries c.parts Old New c.goes (begins_at Old is.new is.stationed refl) (begins_here Old (is.new).nothing refl))
+          known_first_here (begins_own b.announced Old begun.begins) (begins_order b.announced Old begun.begins)).orders n)
+
+      passes_of : (n : ℕ) → (rest : List Deed) × PassesNone n Deeds rest
+      passes_of n =
+          let line = history_line Entries c.parts false Old New [] c.goes known_first_here in_room (hear_before Entries c.parts Old New c.goes (heard_unhindered Entries false starts)) (begins_line_all Old ((begun.begins).new).new refl) in
+          passes_each line.0 (point_of New) Deeds line.1 n
+
+      all_told : AreStationed Last.desks mids → IsToldSession devices numbered channels by books old new
+      all_told at = record {
+        deeds = Deeds;
+        gone = is_gone_until c.parts;
+        runs = runs;
+        calls = Calls;
+        done = ((b.front).served).done;
+        ends = (((b.front).served).called).ends;
+        calls_are = are.calls_are;
+        done_are = are.done_are;
+        numbered = are.numbered;
+        each = runs_told;
+        unread = unread;
+        unwritten = unwritten;
+        told = answered;
+        heeded = passes_of;
+        stands = (known.standing).stand;
+        order = in_order_of;
+        journals = b.books_are ∙ journals_are at;
+        lawful = lawful_of at;
+        marked = marked_of at;
+      }
+
+    -- The session is told by its front's history.
+    pub session_told : IsToldSession devices numbered channels by books old new
+    session_told =
+        let (runs, are) = runs_of (at_lines numbered) channels by Calls ((b.front).served).done old new not (((b.front).served).called).ends in
+        all_told runs are closed.mids closed.works (chained closed.mids closed.stationed) closed.stationed
