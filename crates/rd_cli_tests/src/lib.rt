@@ -6,6 +6,4 @@ mod clients;
 #[cfg(test)]
 mod programs;
 #[cfg(test)]
-mod side_by_side;
-#[cfg(test)]
 mod tests;
