@@ -20,8 +20,6 @@ pub const FLUSH_LEN: usize = 1 << 20;
 #[derive(Drop)]
 pub struct Outgoing<K: Hang> {
     sink: K,
-    /// The frames of one message.
-    frames: Vec<u8>,
     /// The frames that wait to be written.
     buffer: Vec<u8>,
     failed: bool,
@@ -53,7 +51,6 @@ impl<K: Hang> Outgoing<K> {
         let mut buffer = buffer;
         buffer.clear();
         Outgoing {
-            frames: Vec::new(*buffer.allocator()),
             sink,
             buffer,
             failed: false,
@@ -81,7 +78,7 @@ impl<K: Hang> Outgoing<K> {
         ensures since { OnOk result ((began : Option (List ℕ)) (messages : List (List ℕ)) → HasWritten began messages self.old
             → HasWritten began (messages ++ message.now ∷ []) self.new) }
     {
-        gather(self.failed, &mut self.buffer, &mut self.frames, message)
+        gather(self.failed, &mut self.buffer, message)
     }
 
     /// Writes all that waits, in as few writes as the sink takes it in. Where a write fails the half is hung up, and nothing is written any
@@ -121,13 +118,8 @@ impl<K: Hang> Outgoing<K> {
     }
 }
 
-/// Appends a message's frames to a buffer, by way of another one, so that want of memory changes nothing; or nothing where a write has failed.
-fn gather(
-    failed: bool,
-    buffer: &mut Vec<u8>,
-    frames: &mut Vec<u8>,
-    message: &[u8],
-) -> Result<(), AllocError>
+/// Appends a message's frames to a buffer, or nothing where a write has failed. Want of memory changes nothing.
+fn gather(failed: bool, buffer: &mut Vec<u8>, message: &[u8]) -> Result<(), AllocError>
     requires { IsMessage message.now }
     ensures items { OnOk result (buffer.new.items ≡ (if failed then buffer.old.items else buffer.old.items ++ carrier_of message.now)) }
     ensures capacity { vec_capacity buffer.old ≤ vec_capacity buffer.new }
@@ -136,10 +128,7 @@ fn gather(
     if failed {
         return Ok(());
     }
-    frames.clear();
-    put_frames(frames, message)?;
-    buffer.try_reserve(frames.len())?;
-    buffer.extend_from_slice(frames.as_slice())
+    put_frames(buffer, message)
 }
 
 /// Writes all of the bytes, or nothing where a write has failed before. Where one fails the half is hung up.

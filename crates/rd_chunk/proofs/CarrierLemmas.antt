@@ -1,7 +1,7 @@
 -- The carrier stream: its frames carry their message.
-use Rattle.std.proofs.Common.{◌≡◌, ◌≤◌, ◌<◌, ℕ, zero, suc, ◌+◌, ◌-◌, ◌*◌, ◌^◌, min, arith, sym, ◌∙◌, ap, subst, length, ◌++◌, ◌∷◌, [], length-drop, length-take, append_assoc, refl, List, take, drop, true, false, Bool, mul_comm}
+use Rattle.std.proofs.Common.{◌≡◌, ◌≤◌, ◌<◌, ℕ, zero, suc, ◌+◌, ◌-◌, ◌*◌, ◌^◌, min, arith, sym, ◌∙◌, ap, subst, length, ◌++◌, ◌∷◌, [], length-append, length-drop, length-take, append_assoc, refl, List, take, drop, true, false, Bool, mul_comm}
 use Rattle.std.specs.Prelude.{◌==◌, nat_lt, not, bit_and, bit_or, if◌then◌else◌}
-use Rattle.std.specs.List.{flat_map, AllByRecursion}
+use Rattle.std.specs.List.{concat, flat_map, AllByRecursion}
 use Rattle.std.specs.Int.{w32, to_le_bytes, div_ceil}
 use Rattle.std.proofs.lemmas.List.{take_min, take_all}
 use Rattle.std.proofs.lemmas.Nat.{from_le_bytes-to_le_bytes_4}
@@ -11,6 +11,7 @@ use Rattle.std.proofs.Math.Seq.{take-add}
 use Rattle.rd_chunk.specs.Frames.{size_of, length_of, flags_of, data_of, IsFrame, AreFrames, One, Carried}
 use Rattle.rd_chunk.specs.Carrier.{carrier_data, carrier_flags, carrier_frame, carrier_frames, carrier_of, IsMessage, carrier_stream}
 use Rattle.rd_chunk.proofs.StandsForLemmas.{data-push, AreFrames-push}
+use Rattle.rd_base.proofs.ListLemmas.{concat-push}
 use Rattle.rd_chunk.specs.Sizes.{max_message}
 
 -- bytes of a length that a message can have
@@ -97,6 +98,20 @@ frames_carry m (suc k) h most =
       data-push (carrier_frames m k) (carrier_frame m k) ∙ ap (λ (x : List ℕ). x ++ data_of (carrier_frame m k)) before.1 ∙ ap (λ (x : List ℕ). take (1600 * k) m ++ x) (data_is m k more most)
           ∙ sym (take-add (1600 * k) 1600 m) ∙ ap (λ (x : ℕ). take x m) (omega arith),
     )
+
+-- the bytes of the first frames, and of one of them
+frame_length : (m : List ℕ) (k : ℕ) → length (carrier_frame m k) ≡ length (carrier_data m k) + 12
+unfolding carrier_frame
+frame_length m k = omega arith
+
+frames_length : (m : List ℕ) (k : ℕ) → length (concat (carrier_frames m k)) ≡ min (1600 * k) (length m) + 12 * k
+frames_length m zero = omega arith
+frames_length m (suc k) = omega (arith, ap length (concat-push (carrier_frames m k) (carrier_frame m k)), length-append (concat (carrier_frames m k)) (carrier_frame m k), frames_length m k, frame_length m k, data_length m k)
+
+-- where there is room for all frames, there is for each behind those before it
+pub room_for_frame : (m : List ℕ) (k held capacity : ℕ) → k < div_ceil (length m) 1600 → held + (length m + 12 * div_ceil (length m) 1600) ≤ capacity
+    → held + length (concat (carrier_frames m k)) + length (carrier_frame m k) ≤ capacity
+room_for_frame m k held capacity less room = omega (arith, frames_length m k, frame_length m k, data_length m k)
 
 -- what is written carries the message
 pub carrier_one : (m : List ℕ) → 1 ≤ length m → length m ≤ 1052672 → One m (carrier_of m)

@@ -10,7 +10,7 @@ use Rattle.rd_chunk.specs.Standing.{Held, StandsFor, is_complete}
 use Rattle.rd_chunk.specs.Streams.{HasChunkFault, IsStream}
 use Rattle.rd_chunk.proofs.HeadLemmas.{size_of-append}
 use Rattle.rd_chunk.proofs.TakesLemmas.{lacks}
-use Rattle.rd_chunk.proofs.StandsForLemmas.{byte_stands, data_stands, byte_faults, short_part, no_part}
+use Rattle.rd_chunk.proofs.StandsForLemmas.{head_stands, data_stands, head_faults, short_part, no_part}
 use Rattle.rd_chunk.proofs.BetweenLemmas.{fresh}
 use Rattle.rd_chunk.proofs.StreamLemmas.{never_both}
 use Rattle.rd_chunk.proofs.CarriedLemmas.{one_of, Carried-append, carried_one, fault_after, begun_of}
@@ -57,18 +57,18 @@ module _ (held : Held) (before : ℕ) (bytes : List ℕ) (b : ℕ) (s : StandsFo
     unfolding Next
     early less good =
         let next : Held = record held { head = held.head ++ b ∷ []; taken = (held.taken + 1) % 2 ^ 64 } in
-        inl (next, byte_stands held next before bytes b s left unfinished refl refl (λ _. (refl, left)) (λ e. absurd (omega (arith, e))) good (λ e. absurd (omega (arith, e))) refl s.no_fault)
+        inl (next, head_stands held next before bytes (b ∷ []) s left unfinished refl refl (omega arith) (λ _. (refl, left)) (λ e. absurd (omega (arith, e))) good (λ e. absurd (omega (arith, e))) refl s.no_fault)
 
     faulty : (fault : RowFault) → ShowsFault held.whole (length held.joined) (held.head ++ b ∷ []) fault → Next before (bytes ++ b ∷ [])
     unfolding Next
-    faulty fault has = inr (_, _, (byte_faults held before bytes b fault s left unfinished has).0)
+    faulty fault has = inr (_, _, (head_faults held before bytes (b ∷ []) fault s left unfinished has).0)
 
     at_12 : length (held.head ++ b ∷ []) ≡ 12 → Next before (bytes ++ b ∷ [])
     unfolding Next
     at_12 e = elim (cases_Option (head_fault held.whole (length held.joined) (held.head ++ b ∷ []))) [
       | inl none ↦
           let next : Held = record held { head = held.head ++ b ∷ []; left = size_of (held.head ++ b ∷ []) - 8; whole = length_of (held.head ++ b ∷ []); taken = (held.taken + 1) % 2 ^ 64 } in
-          inl (next, byte_stands held next before bytes b s left unfinished refl refl (λ less. absurd (omega (arith, e, less))) (λ _. (refl, refl)) (λ _. size_stays (omega (arith, e))) (λ _. none) refl s.no_fault)
+          inl (next, head_stands held next before bytes (b ∷ []) s left unfinished refl refl (omega (arith, e)) (λ less. absurd (omega (arith, e, less))) (λ _. (refl, refl)) (λ _. size_stays (omega (arith, e))) (λ _. none) refl s.no_fault)
       | inr some ↦ faulty some.0 (record { holds = inr (e, size_stays (omega (arith, e)), some.1) })
     ]
 

@@ -65,22 +65,22 @@ joined_whole h before bytes s left =
     let short : length s.part < 12 = short_part h before bytes s left in
     s.joined_are ∙ ap (λ (r : List ℕ). flat_map data_of s.frames ++ r) (drop_all 12 s.part (omega arith)) ∙ append-nil (flat_map data_of s.frames)
 
-module _ (h h' : Held) (before : ℕ) (bytes : List ℕ) (b : ℕ) (s : StandsFor h before bytes) (left : h.left ≡ 0)
+module _ (h h' : Held) (before : ℕ) (bytes d : List ℕ) (s : StandsFor h before bytes) (left : h.left ≡ 0)
     (unfinished : 0 < length h.joined → length h.joined ≢ h.whole)
-    (joined' : h'.joined ≡ h.joined) (head' : h'.head ≡ h.head ++ b ∷ [])
+    (joined' : h'.joined ≡ h.joined) (head' : h'.head ≡ h.head ++ d) (within : length h'.head ≤ 12)
     (early : length h'.head < 12 → (h'.whole ≡ h.whole) × (h'.left ≡ 0))
     (full : length h'.head ≡ 12 → (h'.whole ≡ length_of h'.head) × (h'.left ≡ size_of h'.head - 8))
     (at_size : 4 ≤ length h'.head → size_fault (size_of h'.head) ≡ None)
     (at_head : length h'.head ≡ 12 → head_fault h.whole (length h.joined) h'.head ≡ None)
-    (taken' : h'.taken ≡ (h.taken + 1) % 2 ^ 64) (fault' : h'.fault ≡ None) where
+    (taken' : h'.taken ≡ (h.taken + length d) % 2 ^ 64) (fault' : h'.fault ≡ None) where
   short : length s.part < 12
   short = short_part h before bytes s left
 
   part_is : s.part ≡ h.head
   part_is = sym (s.head_is ∙ take_all 12 s.part (omega (arith, short)))
 
-  long : length h'.head ≡ length s.part + 1
-  long = ap length head' ∙ length-append h.head (b ∷ []) ∙ omega (arith, ap length part_is)
+  long : length h'.head ≡ length s.part + length d
+  long = ap length head' ∙ length-append h.head d ∙ omega (arith, ap length part_is)
 
   data_is : length h.joined ≡ length (flat_map data_of s.frames)
   data_is = ap length (joined_whole h before bytes s left)
@@ -89,7 +89,7 @@ module _ (h h' : Held) (before : ℕ) (bytes : List ℕ) (b : ℕ) (s : StandsFo
   good e = good_from_none h.whole (length (flat_map data_of s.frames)) (size_of h'.head) (length_of h'.head) (flags_of h'.head) (subst (λ (k : ℕ). head_fault h.whole k h'.head ≡ None) data_is (at_head e))
 
   is_full : 12 ≤ length h'.head → length h'.head ≡ 12
-  is_full more = omega (arith, short, long)
+  is_full more = omega arith
 
   are' : AreFrames h'.whole 0 s.frames
   are' = elim (cases_lt (length h'.head) 12) [
@@ -102,7 +102,7 @@ module _ (h h' : Held) (before : ℕ) (bytes : List ℕ) (b : ℕ) (s : StandsFo
     size = at_size;
     head = λ more. subst (λ (k : ℕ). head_fault k (length (flat_map data_of s.frames)) h'.head ≡ None) (sym (full (is_full more)).0)
         (head_own h.whole (length (flat_map data_of s.frames)) h'.head (subst (λ (k : ℕ). head_fault h.whole k h'.head ≡ None) data_is (at_head (is_full more))));
-    short = λ more. omega (arith, short, long, good_size (size_of h'.head) (at_size more));
+    short = λ more. omega (arith, good_size (size_of h'.head) (at_size more));
   }
 
   complete' : 0 < length (flat_map data_of s.frames) → length (flat_map data_of s.frames) ≡ h'.whole → h'.head ≡ []
@@ -111,15 +111,15 @@ module _ (h h' : Held) (before : ℕ) (bytes : List ℕ) (b : ℕ) (s : StandsFo
     | inr more ↦ absurd (omega (arith, (full (is_full more)).0, (good (is_full more)).within, good_size (size_of h'.head) (at_size (omega arith))))
   ]
 
-  pub byte_stands : StandsFor h' before (bytes ++ b ∷ [])
-  byte_stands = record {
+  pub head_stands : StandsFor h' before (bytes ++ d)
+  head_stands = record {
     frames = s.frames;
     part = h'.head;
     are = are';
-    bytes_are = ap (λ (r : List ℕ). r ++ b ∷ []) s.bytes_are ∙ append_assoc (concat s.frames) s.part (b ∷ []) ∙ ap (λ (r : List ℕ). concat s.frames ++ r) (ap (λ (r : List ℕ). r ++ b ∷ []) part_is ∙ sym head');
+    bytes_are = ap (λ (r : List ℕ). r ++ d) s.bytes_are ∙ append_assoc (concat s.frames) s.part d ∙ ap (λ (r : List ℕ). concat s.frames ++ r) (ap (λ (r : List ℕ). r ++ d) part_is ∙ sym head');
     is_part = part';
-    joined_are = joined' ∙ joined_whole h before bytes s left ∙ sym (ap (λ (r : List ℕ). flat_map data_of s.frames ++ r) (drop_all 12 h'.head (omega (arith, short, long))) ∙ append-nil (flat_map data_of s.frames));
-    head_is = sym (take_all 12 h'.head (omega (arith, short, long)));
+    joined_are = joined' ∙ joined_whole h before bytes s left ∙ sym (ap (λ (r : List ℕ). flat_map data_of s.frames ++ r) (drop_all 12 h'.head within) ∙ append-nil (flat_map data_of s.frames));
+    head_is = sym (take_all 12 h'.head within);
     still = λ more. omega (arith, is_full more, (full (is_full more)).1, good_size (size_of h'.head) (at_size (omega arith)));
     in_head = λ less. (early less).1;
     same = λ more. sym (full (is_full more)).0;
@@ -128,7 +128,7 @@ module _ (h h' : Held) (before : ℕ) (bytes : List ℕ) (b : ℕ) (s : StandsFo
       | inr more ↦ omega (arith, (full (is_full more)).0, (good (is_full more)).most)
     ];
     complete = complete';
-    taken_are = taken' ∙ ap (λ (k : ℕ). (k + 1) % 2 ^ 64) s.taken_are ∙ count_on (before + length bytes) 1 ∙ ap (λ (k : ℕ). k % 2 ^ 64) (omega (arith, length-append bytes (b ∷ [])));
+    taken_are = taken' ∙ ap (λ (k : ℕ). (k + length d) % 2 ^ 64) s.taken_are ∙ count_on (before + length bytes) (length d) ∙ ap (λ (k : ℕ). k % 2 ^ 64) (omega (arith, length-append bytes d));
     no_fault = fault';
   }
 
@@ -251,16 +251,16 @@ fresh_fault n m head fault has = record {
   ];
 }
 
--- a fault of the byte that comes next is one of the stream so far
-pub byte_faults : (h : Held) (before : ℕ) (bytes : List ℕ) (b : ℕ) (fault : RowFault) (s : StandsFor h before bytes) → h.left ≡ 0
-    → (0 < length h.joined → length h.joined ≢ h.whole) → ShowsFault h.whole (length h.joined) (h.head ++ b ∷ []) fault
-    → FaultInMessage (bytes ++ b ∷ []) (length (concat s.frames) + fault.offset) fault.why
-byte_faults h before bytes b fault s left unfinished has =
+-- a fault of the bytes that come next is one of the stream so far
+pub head_faults : (h : Held) (before : ℕ) (bytes d : List ℕ) (fault : RowFault) (s : StandsFor h before bytes) → h.left ≡ 0
+    → (0 < length h.joined → length h.joined ≢ h.whole) → ShowsFault h.whole (length h.joined) (h.head ++ d) fault
+    → FaultInMessage (bytes ++ d) (length (concat s.frames) + fault.offset) fault.why
+head_faults h before bytes d fault s left unfinished has =
     let short : length s.part < 12 = short_part h before bytes s left in
     let part_is : s.part ≡ h.head = sym (s.head_is ∙ take_all 12 s.part (omega arith)) in
     let joined_is : h.joined ≡ flat_map data_of s.frames = joined_whole h before bytes s left in
-    let bytes_on : bytes ++ b ∷ [] ≡ [] ++ concat s.frames ++ (h.head ++ b ∷ []) =
-    ap (λ (r : List ℕ). r ++ b ∷ []) s.bytes_are ∙ append_assoc (concat s.frames) s.part (b ∷ []) ∙ ap (λ (r : List ℕ). concat s.frames ++ (r ++ b ∷ [])) part_is in
+    let bytes_on : bytes ++ d ≡ [] ++ concat s.frames ++ (h.head ++ d) =
+    ap (λ (r : List ℕ). r ++ d) s.bytes_are ∙ append_assoc (concat s.frames) s.part d ∙ ap (λ (r : List ℕ). concat s.frames ++ (r ++ d)) part_is in
     elim (cases_eq (length h.joined) 0) [
       | inl none ↦
           let no_frames : s.frames ≡ [] = frames-nil h.whole 0 s.frames s.are (omega (arith, ap length joined_is)) in (
@@ -270,12 +270,12 @@ byte_faults h before bytes b fault s left unfinished has =
               n = 1;
               joined = [];
               begun = concat s.frames;
-              head = h.head ++ b ∷ [];
+              head = h.head ++ d;
               fault = fault;
               are_whole = refl;
               are_begun = record { frames = []; are = tt; joined_are = refl; bytes_are = ap concat (sym no_frames); short = omega arith; most = omega arith };
               bytes_are = bytes_on;
-              has = fresh_fault h.whole 1 (h.head ++ b ∷ []) fault (subst (λ (k : ℕ). ShowsFault h.whole k (h.head ++ b ∷ []) fault) none has);
+              has = fresh_fault h.whole 1 (h.head ++ d) fault (subst (λ (k : ℕ). ShowsFault h.whole k (h.head ++ d) fault) none has);
               place_is = omega arith;
               why_is = refl;
             },
@@ -289,7 +289,7 @@ byte_faults h before bytes b fault s left unfinished has =
               n = h.whole;
               joined = h.joined;
               begun = concat s.frames;
-              head = h.head ++ b ∷ [];
+              head = h.head ++ d;
               fault = fault;
               are_whole = refl;
               are_begun = record { frames = s.frames; are = s.are; joined_are = sym joined_is; bytes_are = refl; short = omega (arith, ap length joined_is, within, unfinished (omega (arith, ne))); most = s.most };

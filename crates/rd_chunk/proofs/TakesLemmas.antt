@@ -14,61 +14,67 @@ use Rattle.rd_chunk.specs.declared.fault.FeedNo.{FeedNo}
 use Rattle.rd_chunk.specs.declared.fault.FeedNo.TheVariants.{Bad, Memory}
 use Rattle.rd_chunk.specs.declared.progress.Progress.{Progress}
 use Rattle.rd_chunk.specs.Standing.{is_complete, Takes, BringsFault, Held, StandsFor, ForFeedBad}
-use Rattle.rd_chunk.specs.Kept.{InRange, head_of, held_of}
+use Rattle.rd_chunk.specs.Kept.{InRange, head_of, held_of, next_test}
 use Rattle.rd_chunk.specs.Frames.{size_of, length_of, flags_of}
 use Rattle.rd_chunk.specs.Faults.{size_fault, head_fault, ShowsFault, FaultInMessage}
 use Rattle.rd_chunk.proofs.HeadLemmas.{size_of-append, good_size, good_from_none}
-use Rattle.rd_chunk.proofs.StandsForLemmas.{byte_stands, byte_faults, short_part}
+use Rattle.rd_chunk.proofs.StandsForLemmas.{head_stands, head_faults, short_part}
 
--- a byte that is neither the fourth nor brings a fault leaves a good size
-size_stays : (head head' : List ℕ) (b : ℕ) → head' ≡ head ++ b ∷ [] → (4 ≤ length head → size_fault (size_of head) ≡ None) → (length head' ≡ 4 → size_fault (size_of head') ≡ None) → 4 ≤ length head' → size_fault (size_of head') ≡ None
-size_stays head head' b e old new h =
+-- bytes that pass no test of a head leave a good size
+size_stays : (head head' d : List ℕ) → head' ≡ head ++ d → (length head < 4 → length head' ≤ 4) → (4 ≤ length head → size_fault (size_of head) ≡ None) → (length head' ≡ 4 → size_fault (size_of head') ≡ None) → 4 ≤ length head' → size_fault (size_of head') ≡ None
+size_stays head head' d e tested old new h =
     elim (cases_lt 3 (length head)) [
-      | inl more ↦ ap size_fault (ap size_of e ∙ size_of-append head (b ∷ []) (omega arith)) ∙ old (omega arith)
-      | inr less ↦ new (omega (arith, ap length e, length-append head (b ∷ [])))
+      | inl more ↦ ap size_fault (ap size_of e ∙ size_of-append head d (omega arith)) ∙ old (omega arith)
+      | inr less ↦ new (omega (arith, tested (omega arith)))
     ]
 
-module _ (p next q : Progress) (joined b : ℕ)
+module _ (p next q : Progress) (joined : ℕ) (d : List ℕ)
     (old : InRange p joined) (in_head : p.left ≡ 0) (count_old : length (head_of p) ≡ p.have)
-    (head : head_of next ≡ head_of p ++ b ∷ []) (have : next.have ≡ p.have + 1) (left : next.left ≡ p.left)
+    (within : next.have ≤ 12) (tested : p.have < 4 → next.have ≤ 4)
+    (head : head_of next ≡ head_of p ++ d) (have : next.have ≡ p.have + length d) (left : next.left ≡ p.left)
     (at_4 : next.have ≡ 4 → size_fault (size_of (head_of next)) ≡ None)
     (at_12 : next.have ≡ 12 → head_fault next.length joined (head_of next) ≡ None)
     (head_q : head_of q ≡ head_of next) (have_q : q.have ≡ next.have) (early_q : next.have < 12 → q ≡ next)
     (left_q : next.have ≡ 12 → q.left ≡ size_of (head_of next) - 8) where
   count : length (head_of next) ≡ next.have
-  count = ap length head ∙ length-append (head_of p) (b ∷ []) ∙ omega arith
+  count = ap length head ∙ length-append (head_of p) d ∙ omega arith
 
   size : 4 ≤ next.have → size_fault (size_of (head_of next)) ≡ None
-  size h = size_stays (head_of p) (head_of next) b head (λ l. old.size (omega arith)) (λ l. at_4 (omega (arith, count))) (omega (arith, count))
+  size h = size_stays (head_of p) (head_of next) d head (λ l. omega (arith, count, tested (omega arith))) (λ l. old.size (omega arith)) (λ l. at_4 (omega (arith, count))) (omega (arith, count))
 
-  pub byte_in_range : InRange q joined
-  byte_in_range = record {
-    head = elim (cases_eq p.have 12) [ inl e ↦ omega (arith, old.to_come e) | inr ne ↦ omega (arith, old.head) ];
+  pub head_in_range : InRange q joined
+  head_in_range = record {
+    head = omega arith;
     count = ap length head_q ∙ count ∙ sym have_q;
     to_come = λ e. omega (arith, left_q (omega arith), good_size (size_of (head_of next)) (size (omega arith)));
     size = λ h. ap (λ x. size_fault (size_of x)) head_q ∙ size (omega arith);
     room = elim (cases_eq next.have 12) [
       | inl e ↦ let good = good_from_none next.length joined (size_of (head_of next)) (length_of (head_of next)) (flags_of (head_of next)) (at_12 e) in omega (arith, left_q e, good.within, good.most)
-      | inr ne ↦ elim (cases_eq p.have 12) [ inl e ↦ omega (arith, old.to_come e) | inr less ↦ omega (arith, ap (λ (r : Progress). r.left) (early_q (omega (arith, old.head))), old.room) ]
+      | inr ne ↦ omega (arith, ap (λ (r : Progress). r.left) (early_q (omega arith)), old.room)
     ];
   }
+
+-- what doesn't pass the next test of a head
+pub tests : (have next : ℕ) → next ≤ next_test have → (next ≤ 12) × (have < 4 → next ≤ 4)
+tests have next h = (grind (arith, nat_tests, h), λ less. grind (arith, nat_tests, h))
 
 -- an incomplete message lacks bytes
 pub lacks : (left joined whole : ℕ) → left ≡ 0 → is_complete left joined whole ≡ false → 0 < joined → joined ≢ whole
 lacks left joined whole z lacking some same = grind (arith, nat_tests, lacking)
 
 -- the place of a fault in the stream
-pub place_at : (at have taken offset sum before c part len : ℕ) → at < 2 ^ 64 → (at + have) % 2 ^ 64 ≡ (taken + offset) % 2 ^ 64
-    → taken ≡ (sum + 1) % 2 ^ 64 → sum ≡ (before + len) % 2 ^ 64 → len ≡ c + part → have ≡ part + 1 → at ≡ (before + (c + offset)) % 2 ^ 64
-place_at at have taken offset sum before c part len fits e t s l h = omega arith
+pub place_at : (at have taken offset sum before c part len n : ℕ) → at < 2 ^ 64 → (at + have) % 2 ^ 64 ≡ (taken + offset) % 2 ^ 64
+    → taken ≡ (sum + n) % 2 ^ 64 → sum ≡ (before + len) % 2 ^ 64 → len ≡ c + part → have ≡ part + n → at ≡ (before + (c + offset)) % 2 ^ 64
+place_at at have taken offset sum before c part len n fits e t s l h = omega arith
 
-module _ (p next : Progress) (message : List ℕ) (joined b : ℕ)
-    (old : InRange p joined) (in_head : p.left ≡ 0) (count_old : length (head_of p) ≡ p.have) (message_is : length message ≡ joined)
+module _ (p next : Progress) (message : List ℕ) (joined : ℕ) (d : List ℕ)
+    (old : InRange p joined) (in_head : p.left ≡ 0) (count_old : length (head_of p) ≡ p.have)
+    (within : next.have ≤ 12) (tested : p.have < 4 → next.have ≤ 4) (message_is : length message ≡ joined)
     (lacking : is_complete p.left joined p.length ≡ false)
-    (head : head_of next ≡ head_of p ++ b ∷ []) (have : next.have ≡ p.have + 1)
-    (length_next : next.length ≡ p.length) (taken_next : next.taken ≡ (p.taken + 1) % 2 ^ 64) where
+    (head : head_of next ≡ head_of p ++ d) (have : next.have ≡ p.have + length d)
+    (length_next : next.length ≡ p.length) (taken_next : next.taken ≡ (p.taken + length d) % 2 ^ 64) where
   count_next : length (head_of next) ≡ next.have
-  count_next = ap length head ∙ length-append (head_of p) (b ∷ []) ∙ omega arith
+  count_next = ap length head ∙ length-append (head_of p) d ∙ omega arith
 
   unfinished : 0 < length message → length message ≢ p.length
   unfinished = subst (λ (k : ℕ). 0 < k → k ≢ p.length) (sym message_is) (lacks p.left joined p.length in_head lacking)
@@ -79,13 +85,13 @@ module _ (p next : Progress) (message : List ℕ) (joined b : ℕ)
       (head_q : head_of q ≡ head_of next) (have_q : q.have ≡ next.have) (early_q : next.have < 12 → q ≡ next)
       (left_q : next.have ≡ 12 → q.left ≡ size_of (head_of next) - 8)
       (length_q : next.have ≡ 12 → q.length ≡ length_of (head_of next)) (taken_q : q.taken ≡ next.taken) where
-    pub byte_takes : Takes (held_of p message None) (held_of q message None) (b ∷ [])
-    byte_takes before bytes s =
+    pub head_takes : Takes (held_of p message None) (held_of q message None) d
+    head_takes before bytes s =
         let full : length (head_of q) ≡ next.have = ap length head_q ∙ count_next in
-        byte_stands (held_of p message None) (held_of q message None) before bytes b s in_head unfinished refl (head_q ∙ head)
+        head_stands (held_of p message None) (held_of q message None) before bytes d s in_head unfinished refl (head_q ∙ head) (omega arith)
         (λ less. (ap (λ (r : Progress). r.length) (early_q (omega arith)) ∙ length_next, ap (λ (r : Progress). r.left) (early_q (omega arith)) ∙ left ∙ in_head))
         (λ e. (length_q (omega arith) ∙ sym (ap length_of head_q), left_q (omega arith) ∙ sym (ap (λ (r : List ℕ). size_of r - 8) head_q)))
-        (λ more. (byte_in_range p next q joined b old in_head count_old head have left at_4 at_12 head_q have_q early_q left_q).size (omega arith))
+        (λ more. (head_in_range p next q joined d old in_head count_old within tested head have left at_4 at_12 head_q have_q early_q left_q).size (omega arith))
         (λ e. subst (λ (k : ℕ). head_fault k (length message) (head_of q) ≡ None) length_next
         (subst (λ (k : ℕ). head_fault next.length k (head_of q) ≡ None) (sym message_is)
         (subst (λ (r : List ℕ). head_fault next.length joined r ≡ None) (sym head_q) (at_12 (omega arith)))))
@@ -96,33 +102,29 @@ module _ (p next : Progress) (message : List ℕ) (joined b : ℕ)
       (at_12 : next.have ≡ 12 → head_fault next.length joined (head_of next) ≡ Some row)
       (only : (next.have ≡ 4) ⊎ (next.have ≡ 12))
       (fits : bad.at < 2 ^ 64) (place : (bad.at + next.have) % 2 ^ 64 ≡ (next.taken + row.offset) % 2 ^ 64) (why : bad.why ≡ row.why) where
-    has : ShowsFault p.length (length message) (head_of p ++ b ∷ []) row
+    has : ShowsFault p.length (length message) (head_of p ++ d) row
     has = subst (λ (r : List ℕ). ShowsFault p.length (length message) r row) head (record {
       holds = elim only [
         | inl four ↦ inl (count_next ∙ four, at_4 four)
         | inr twelve ↦ inr (
           count_next ∙ twelve,
-          size_stays (head_of p) (head_of next) b head (λ l. old.size (omega arith)) (λ l. absurd (omega (arith, count_next))) (omega (arith, count_next)),
+          size_stays (head_of p) (head_of next) d head (λ l. omega (arith, count_next, tested (omega arith))) (λ l. old.size (omega arith)) (λ l. absurd (omega (arith, count_next))) (omega (arith, count_next)),
           subst (λ (k : ℕ). head_fault k (length message) (head_of next) ≡ Some row) length_next
               (subst (λ (k : ℕ). head_fault next.length k (head_of next) ≡ Some row) (sym message_is) (at_12 twelve)),
         )
       ];
     })
 
-    pub byte_faulty : BringsFault (held_of p message None) (b ∷ []) bad
-    byte_faulty before bytes s =
+    pub head_faulty : BringsFault (held_of p message None) d bad
+    head_faulty before bytes s =
         let short : length s.part < 12 = short_part (held_of p message None) before bytes s in_head in
         let part_len : length (head_of p) ≡ length s.part = ap length (s.head_is ∙ take_all 12 s.part (omega arith)) in
         let bytes_len : length bytes ≡ length (concat s.frames) + length s.part = ap length s.bytes_are ∙ length-append (concat s.frames) s.part in (
           length (concat s.frames) + row.offset,
-          subst (λ (w : ChunkWhy). FaultInMessage (bytes ++ b ∷ []) (length (concat s.frames) + row.offset) w) (sym why)
-              (byte_faults (held_of p message None) before bytes b row s in_head unfinished has),
-          place_at bad.at next.have next.taken row.offset p.taken before (length (concat s.frames)) (length s.part) (length bytes) fits place taken_next s.taken_are bytes_len (omega arith),
+          subst (λ (w : ChunkWhy). FaultInMessage (bytes ++ d) (length (concat s.frames) + row.offset) w) (sym why)
+              (head_faults (held_of p message None) before bytes d row s in_head unfinished has),
+          place_at bad.at next.have next.taken row.offset p.taken before (length (concat s.frames)) (length s.part) (length bytes) (length d) fits place taken_next s.taken_are bytes_len (omega arith),
         )
-
-pub take_one : (xs : List ℕ) → 0 < length xs → take 1 xs ≡ get_or xs 0 0 ∷ []
-take_one [] some = absurd (omega arith)
-take_one (x ∷ xs) some = refl
 
 -- a piece that is taken in parts
 pub at_piece : (bytes piece : List ℕ) (at n : ℕ) → (bytes ++ take at piece) ++ take n (take (length piece - at) (drop at piece)) ≡ bytes ++ take (at + n) piece

@@ -1,5 +1,5 @@
 -- What the fields of a joiner say, for the contracts inside this crate.
-use Rattle.std.specs.Prelude.{ℕ, Bool, ◌≡◌, ◌≤◌, ◌<◌, ◌+◌, List, length, take, Option, None}
+use Rattle.std.specs.Prelude.{ℕ, Bool, nat_lt, if◌then◌else◌, ◌≡◌, ◌≤◌, ◌<◌, ◌+◌, List, length, take, Option, None}
 use Rattle.rd_chunk.specs.declared.fault.ChunkBad.{ChunkBad}
 use Rattle.rd_chunk.specs.declared.progress.Progress.{Progress}
 use Rattle.rd_chunk.specs.Sizes.{head_len, max_message}
@@ -22,6 +22,10 @@ held_so_far p joined = held_of p joined None
 -- the message is complete, with so many of its bytes there
 abbrev pub is_done : Progress → ℕ → Bool
 is_done p joined = is_complete p.left joined p.length
+
+-- of a head of which so many bytes are there, how many are when something of it is tested next
+abbrev pub next_test : ℕ → ℕ
+next_test have = if nat_lt have 4 then 4 else head_len
 
 -- the numbers that a joiner keeps beside `joined` bytes of a message are in their ranges
 pub record InRange (p : Progress) (joined : ℕ) : Type 0 where

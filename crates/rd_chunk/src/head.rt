@@ -17,6 +17,9 @@ pub const MAX_CHUNK: usize = 16_384;
 /// The data bytes of each frame but a message's last, as this project writes them (the standard's default chunk).
 pub const CHUNK_LEN: usize = 1_600;
 
+/// The bytes of a head's first field, by which its size is known.
+pub const SIZE_LEN: usize = 4;
+
 /// The bytes of a frame's head.
 pub const HEAD_LEN: usize = 12;
 

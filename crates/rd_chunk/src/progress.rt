@@ -3,13 +3,13 @@
 ghost use Rattle.std.specs.Prelude.{◌≡◌, ◌<◌, ◌≤◌, ◌+◌, ◌-◌, ◌*◌, ◌%◌, ◌↔◌, ◌^◌, length, vec_len, vec_capacity, IsErr, IsTrue, IfOk, IfErr, OnOk, OnErr, ◌≢◌, None, Ok, ◌⊎◌, false, true, take, List, ℕ};
 ghost use Rattle.std.specs.Prelude.{◌++◌, ◌∷◌, []};
 ghost use Rattle.rd_chunk.specs.Standing.{Takes, BringsFault, ForFeedBad};
-ghost use Rattle.rd_chunk.specs.Kept.{InRange, head_of, held_so_far, is_done};
+ghost use Rattle.rd_chunk.specs.Kept.{InRange, head_of, held_so_far, is_done, next_test};
 ghost use Rattle.rd_chunk.specs.Frames.{size_of, length_of, flags_of};
 ghost use Rattle.rd_chunk.specs.Faults.{size_fault, head_fault};
 ghost use Rattle.rd_chunk.specs.Sizes.{buffer_for, head_len, max_message};
 
 use crate::fault::{ChunkBad, FeedNo};
-use crate::head::{HEAD_LEN, Head, RowFault, fields_fault, size_fault};
+use crate::head::{HEAD_LEN, Head, RowFault, SIZE_LEN, fields_fault, size_fault};
 use std::alloc::AllocError;
 
 /// How many times the data bytes that are there a message's buffer may be reserved.
@@ -55,20 +55,33 @@ impl Progress {
         self.left == 0 && joined != 0 && joined == self.length
     }
 
-    /// One byte more of the head.
-    fn with_byte(self, byte: u8) -> Progress
+    /// How many bytes of the head are to come until something of it can be tested.
+    fn until_test(self) -> usize
         requires { self.have < head_len }
-        ensures head { head_of result ≡ head_of self ++ byte ∷ [] }
-        ensures have { result.have ≡ self.have + 1 }
-        ensures count { length (head_of result) ≡ result.have }
+        ensures some { 0 < result }
+        ensures test { self.have + result ≡ next_test self.have }
+    {
+        if self.have < SIZE_LEN {
+            SIZE_LEN - self.have
+        } else {
+            HEAD_LEN - self.have
+        }
+    }
+
+    /// These bytes more of the head.
+    fn with_bytes(self, bytes: &[u8]) -> Progress
+        requires { self.have + length bytes.now ≤ head_len }
+        ensures head { head_of result ≡ head_of self ++ bytes.now }
+        ensures have { result.have ≡ self.have + length bytes.now }
         ensures left { result.left ≡ self.left }
         ensures length { result.length ≡ self.length }
-        ensures taken { result.taken ≡ (self.taken + 1) % 2 ^ 64 }
+        ensures taken { result.taken ≡ (self.taken + length bytes.now) % 2 ^ 64 }
     {
+        let have = self.have + bytes.len();
         let mut next = self;
-        next.head[self.have] = byte;
-        next.have = self.have + 1;
-        next.taken = self.taken.wrapping_add(1);
+        next.head[self.have..have].copy_from_slice(bytes);
+        next.have = have;
+        next.taken = self.taken.wrapping_add(bytes.len() as u64);
         next
     }
 
@@ -96,8 +109,8 @@ impl Progress {
         ensures other { self.have ≢ 4 → self.have ≢ head_len → result ≡ None }
     {
         match self.have {
-            4 => size_fault(self.fields().size),
-            12 => fields_fault(self.fields(), joined, self.length),
+            SIZE_LEN => size_fault(self.fields().size),
+            HEAD_LEN => fields_fault(self.fields(), joined, self.length),
             _ => None,
         }
     }
@@ -154,18 +167,20 @@ impl Progress {
     }
 }
 
-/// Takes a byte into the head of the frame under way, after `joined` bytes of its message.
-fn take_byte(progress: Progress, joined: usize, byte: u8) -> Result<Progress, ChunkBad>
+/// Takes bytes into the head of the frame under way, none past the next test of it, after `joined` bytes of its message.
+fn take_head(progress: Progress, joined: usize, bytes: &[u8]) -> Result<Progress, ChunkBad>
     requires in_range { InRange progress joined }
     requires in_head { progress.left ≡ 0 }
+    requires fits { progress.have + length bytes.now ≤ next_test progress.have }
+    requires some { 0 < length bytes.now }
     ensures in_range { IfOk result (λ next. InRange next joined) }
-    ensures counts { IfOk result (λ next. next.taken ≡ (progress.taken + 1) % 2 ^ 64) }
+    ensures counts { IfOk result (λ next. next.taken ≡ (progress.taken + length bytes.now) % 2 ^ 64) }
     ensures takes { IfOk result (λ next. (message : List ℕ) → length message ≡ joined →
-        is_done progress joined ≡ false → Takes (held_so_far progress message) (held_so_far next message) (byte ∷ [])) }
+        is_done progress joined ≡ false → Takes (held_so_far progress message) (held_so_far next message) bytes.now) }
     ensures fault { IfErr result (λ bad. (message : List ℕ) → length message ≡ joined →
-        is_done progress joined ≡ false → BringsFault (held_so_far progress message) (byte ∷ []) bad) }
+        is_done progress joined ≡ false → BringsFault (held_so_far progress message) bytes.now bad) }
 {
-    let next = progress.with_byte(byte);
+    let next = progress.with_bytes(bytes);
     match next.fault(joined) {
         Some(row) => Err(next.place(row)),
         None => Ok(next.opened()),
@@ -195,7 +210,7 @@ fn take_data(
     Ok((progress.with_data(count), count))
 }
 
-/// Takes some of `piece` into the frame under way: a byte of its head, or as much of its data as is there.
+/// Takes some of `piece` into the frame under way: its head as far as the next test of it, or as much of its data as is there.
 /// Returns how many bytes it took.
 fn step(progress: &mut Progress, message: &mut Vec<u8>, piece: &[u8]) -> Result<usize, FeedNo>
     requires piece { 0 < length piece.now }
@@ -207,8 +222,8 @@ fn step(progress: &mut Progress, message: &mut Vec<u8>, piece: &[u8]) -> Result<
         progress.new.taken ≡ (progress.old.taken + n) % 2 ^ 64) }
     ensures takes { IfOk result (λ n.
         Takes (held_so_far progress.old message.old.items) (held_so_far progress.new message.new.items) (take n piece.now)) }
-    ensures fault { IfErr result (ForFeedBad
-        (BringsFault (held_so_far progress.old message.old.items) (take 1 piece.now))) }
+    ensures fault { IfErr result (ForFeedBad (λ bad. (count : ℕ) × (count ≤ length piece.now) ×
+        BringsFault (held_so_far progress.old message.old.items) (take count piece.now) bad)) }
     ensures message { (more : List ℕ) × (message.new.items ≡ message.old.items ++ more) }
 {
     if progress.left > 0 {
@@ -216,10 +231,11 @@ fn step(progress: &mut Progress, message: &mut Vec<u8>, piece: &[u8]) -> Result<
         *progress = next;
         return Ok(count);
     }
-    match take_byte(*progress, message.len(), piece[0]) {
+    let count = progress.until_test().min(piece.len());
+    match take_head(*progress, message.len(), &piece[..count]) {
         Ok(next) => {
             *progress = next;
-            Ok(1)
+            Ok(count)
         }
         Err(bad) => Err(FeedNo::Bad(bad)),
     }

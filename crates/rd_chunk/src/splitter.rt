@@ -1,9 +1,10 @@
 //! A message into carrier frames.
 
-ghost use Rattle.std.specs.Prelude.{◌≡◌, ◌<◌, ◌≤◌, ◌+◌, ◌*◌, ◌++◌, length, IfOk, OnOk};
+ghost use Rattle.std.specs.Prelude.{◌≡◌, ◌<◌, ◌≤◌, ◌+◌, ◌*◌, ◌++◌, length, vec_len, vec_capacity, IfOk, OnOk, OnErr};
 ghost use Rattle.rd_chunk.specs.Carrier.{carrier_of, carrier_frame, carrier_data, carrier_flags};
 ghost use Rattle.rd_chunk.specs.Frames.{One};
-ghost use Rattle.rd_chunk.specs.Sizes.{chunk_len, max_message};
+ghost use Rattle.rd_chunk.specs.Sizes.{chunk_len, head_len, max_message};
+ghost use Rattle.std.specs.Int.{div_ceil};
 
 use crate::head::{CHUNK_LEN, FIRST, HEAD_LEN, LAST};
 use rd_base::{Bytes, Items};
@@ -21,11 +22,13 @@ pub fn split(alloc: Global, message: &[u8]) -> Result<Bytes, AllocError>
     Ok(Items::of(stream))
 }
 
-/// Appends the same frames to what a stream holds.
+/// Appends the same frames to what a stream holds. Want of memory changes nothing.
 pub fn put_frames(stream: &mut Vec<u8>, message: &[u8]) -> Result<(), AllocError>
     requires some { 1 ≤ length message.now }
     requires most { length message.now ≤ max_message }
-    ensures { OnOk result (stream.new.items ≡ stream.old.items ++ carrier_of message.now) }
+    ensures frames { OnOk result (stream.new.items ≡ stream.old.items ++ carrier_of message.now) }
+    ensures capacity { vec_capacity stream.old ≤ vec_capacity stream.new }
+    ensures err { OnErr result ((stream.new.items ≡ stream.old.items) × (vec_capacity stream.new ≡ vec_capacity stream.old)) }
 {
     stream.try_reserve(carrier_len(message.len()))?;
     for k in 0..message.len().div_ceil(CHUNK_LEN) {
@@ -37,8 +40,9 @@ pub fn put_frames(stream: &mut Vec<u8>, message: &[u8]) -> Result<(), AllocError
 /// How many bytes carry a message of so many.
 fn carrier_len(bytes: usize) -> usize
     requires { bytes ≤ max_message }
+    ensures { result ≡ bytes + head_len * div_ceil bytes chunk_len }
 {
-    bytes + bytes.div_ceil(CHUNK_LEN) * HEAD_LEN
+    bytes + HEAD_LEN * bytes.div_ceil(CHUNK_LEN)
 }
 
 /// Appends frame `k` of a message, counted from 0.
@@ -46,7 +50,10 @@ fn carrier_len(bytes: usize) -> usize
 pub fn put_frame(stream: &mut Vec<u8>, message: &[u8], k: usize) -> Result<(), AllocError>
     requires place { chunk_len * k < length message.now }
     requires most { length message.now ≤ max_message }
-    ensures { OnOk result (stream.new.items ≡ stream.old.items ++ carrier_frame message.now k) }
+    ensures frame { OnOk result (stream.new.items ≡ stream.old.items ++ carrier_frame message.now k) }
+    // It fails only where room was missing.
+    ensures capacity { vec_capacity stream.old ≤ vec_capacity stream.new }
+    ensures full { OnErr result (vec_capacity stream.old < vec_len stream.old + length (carrier_frame message.now k)) }
 {
     let bytes = carrier_data(message, k);
     stream.extend_from_slice(&(bytes.len() as u32 + 8).to_le_bytes())?;

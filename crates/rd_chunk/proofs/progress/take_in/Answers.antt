@@ -13,9 +13,12 @@ pub returns-in_err-at-clause-fault : goal.returns-in_err-at-clause-fault
 returns-in_err-at-clause-fault c =
     let p = err_from_is_err_and c.from_residual.result c.from_residual.ensures.1 in
     let piece : List ℕ = c.args.piece.now in
-    rw (p.1, p.2) (for_bad c.in_err-at.field-0.0 (BringsFault (held_of c.loop-at.progress c.loop-at.message.items None) (take 1 (take (length c.args.piece.now - c.loop-at.at) (drop c.loop-at.at c.args.piece.now))))
-    (λ (bad : ChunkBad). (count : ℕ) × (count ≤ length c.args.piece.now) × BringsFault (held_of c.args.progress.now c.args.message.now.items None) (take count c.args.piece.now) bad)
-    (λ bad h. (c.loop-at.at + 1, omega arith, faults_then (held_of c.args.progress.now c.args.message.now.items None) (held_of c.loop-at.progress c.loop-at.message.items None) c.args.piece.now c.loop-at.at 1 bad c.loop-at.invariant.takes h))
+    let rest : List ℕ = take (length piece - c.loop-at.at) (drop c.loop-at.at piece) in
+    let first = held_of c.args.progress.now c.args.message.now.items None in
+    let now = held_of c.loop-at.progress c.loop-at.message.items None in
+    rw (p.1, p.2) (for_bad c.in_err-at.field-0.0 (λ (bad : ChunkBad). (count : ℕ) × (count ≤ length rest) × BringsFault now (take count rest) bad)
+    (λ (bad : ChunkBad). (count : ℕ) × (count ≤ length piece) × BringsFault first (take count piece) bad)
+    (λ bad h. (c.loop-at.at + h.0, omega (arith, h.1, length-take (length piece - c.loop-at.at) (drop c.loop-at.at piece), length-drop c.loop-at.at piece), faults_then first now piece c.loop-at.at h.0 bad c.loop-at.invariant.takes h.2))
     c.in_err-at.ensures.fault)
 
 pub loop-at-preserved : goal.loop-at-preserved

@@ -6,9 +6,9 @@ use Rattle.rd_base.proofs.ResultLemmas.{on_ok_of}
 use Rattle.rd_chunk.proofs.CarrierLemmas.{four_pushed}
 use Rattle.rd_chunk.proofs.splitter.put_frame.Goals as goal
 
-pub returns : goal.returns
+pub returns-clause-frame : goal.returns-clause-frame
 unfolding carrier_frame
-returns c = on_ok_of c.extend_from_slice-4.result (λ ok.
+returns-clause-frame c = on_ok_of c.extend_from_slice-4.result (λ ok.
     let value = c.carrier_data-bytes.ensures.value in
     let one = c.in_ok-extend_from_slice.ensures.items ∙ ap (λ (r : List ℕ). c.args.stream.now.items ++ r) (c.to_le_bytes.ensures ∙ ap (λ (r : List ℕ). to_le_bytes w32 (length r + 8)) value) in
     let two = c.in_ok-extend_from_slice-2.ensures.items ∙ ap (λ (r : List ℕ). c.extend_from_slice.new.self.items ++ r) c.to_le_bytes-2.ensures in

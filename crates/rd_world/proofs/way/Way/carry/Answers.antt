@@ -16,5 +16,5 @@ invariant_of-self-else-is_err c =
     let way = c.self.inside in
     let going : way.ended ≡ false = ap (λ (y : WayState). y.ended) (c.self.view_is ∙ c.cut_handled.ensures) ∙ c.requires.going in
     subst (λ (b : Bool). IsOnItsWay way.front way.read c.put_frames-put.new.stream.items way.joiner way.part.items b) (sym going)
-    (message_on way.front way.read way.bytes.items c.put_frames-put.new.stream.items c.args.message.now way.part.items way.joiner (on_ok c.put_frames-put.result _ (sym c.is_err.ensures.value ∙ c.if-is_err.false) c.put_frames-put.ensures) c.requires.fits
+    (message_on way.front way.read way.bytes.items c.put_frames-put.new.stream.items c.args.message.now way.part.items way.joiner (on_ok c.put_frames-put.result _ (sym c.is_err.ensures.value ∙ c.if-is_err.false) c.put_frames-put.ensures.frames) c.requires.fits
     (subst (λ (b : Bool). IsOnItsWay way.front way.read way.bytes.items way.joiner way.part.items b) going c.self.invariant))
