@@ -1,6 +1,6 @@
 //! The desk: a station as an object.
 
-ghost use Rattle.std.specs.Prelude.{◌≡◌, [], ◌≤◌, length};
+ghost use Rattle.std.specs.Prelude.{◌≡◌, [], ◌≤◌, length, IfErr, IfOk};
 ghost use Rattle.std.specs.VecDeque.{deque_capacity, deque_len};
 ghost use Rattle.rd_station.specs.Station.{StationSteps};
 ghost use Rattle.rd_desk.specs.Desk.{DeskStep, applied_calls, taken_calls};
@@ -12,13 +12,14 @@ use crate::calls::{DeskCall, DeskReply};
 use rd_drive::{Device, Job};
 use rd_station::{Applied, Given, Station};
 use rd_turn::Object;
+use std::alloc::Global;
 use std::collections::VecDeque;
 use std::marker::Model;
 
-/// A station behind a turn. Contracts see the station.
+/// A station behind a turn. It lies on the heap, so that a turn moves a pointer. Contracts see the station.
 #[derive(Drop)]
 pub struct Desk<D: Device> {
-    pub station: Station<D>,
+    station: Box<Station<D>>,
 }
 
 impl<D: Device> Model for Desk<D> {
@@ -26,7 +27,28 @@ impl<D: Device> Model for Desk<D> {
 
     ghost Value = { StationState D };
 
-    ghost view = { λ d. d.station };
+    ghost view = { λ d. d.station.value };
+}
+
+impl<D: Device> Desk<D> {
+    /// The desk of a station. Where there is no memory the station comes back.
+    pub fn new(alloc: Global, station: Station<D>) -> Result<Self, Station<D>>
+        ensures made { IfOk result (λ desk. desk ≡ station) }
+        ensures back { IfErr result (λ back. back ≡ station) }
+    {
+        match Box::new(alloc, station) {
+            Ok(station) => Ok(Desk { station }),
+            Err(refused) => Err(refused.value),
+        }
+    }
+
+    /// The station.
+    pub fn into_station(self) -> Station<D>
+        ensures { result ≡ self }
+    {
+        let Desk { station } = self;
+        Box::into_inner(station)
+    }
 }
 
 impl<D: Device> Object for Desk<D> {
@@ -39,7 +61,7 @@ impl<D: Device> Object for Desk<D> {
     ghost steps = { DeskStep D.runs D.parked D.cuts };
 
     fn call(&mut self, call: DeskCall) -> DeskReply {
-        let station = &mut self.station;
+        let station = &mut *self.station;
         match call {
             DeskCall::Announce => DeskReply::Announced(station.announce()),
             DeskCall::Put(job) => put(station, job),

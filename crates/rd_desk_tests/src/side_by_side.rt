@@ -112,13 +112,15 @@ pub fn run_two<T: Threads + Wait + Sync>(
     let Ok(station) = Station::new(alloc, drive) else {
         return None;
     };
-    let Ok((turn, mut pass)) = Turn::new(alloc, Desk { station }) else {
+    let Ok(desk) = Desk::new(alloc, station) else {
+        return None;
+    };
+    let Ok((turn, mut pass)) = Turn::new(alloc, desk) else {
         return None;
     };
     tell(rt, &turn, &mut pass, DeskCall::Announce);
     tell(rt, &turn, &mut pass, DeskCall::Put(first));
     tell(rt, &turn, &mut pass, DeskCall::Put(second));
     let pass = work_side_by_side(rt, alloc, &turn, pass, moment);
-    let Desk { station } = turn.close(pass);
-    Some(station)
+    Some(turn.close(pass).into_station())
 }

@@ -74,12 +74,20 @@ fn drive<R: Abort>(rt: &R, alloc: Global) -> MemoryDrive
     MemoryDrive::new(alloc, Units::of(Vec::new(alloc)), Naming::Exact).expect(rt, "a drive")
 }
 
+/// The desk of a station.
+fn desk_of<R: Abort>(rt: &R, alloc: Global, station: Station<MemoryDrive>) -> Drives {
+    let Ok(desk) = Desk::new(alloc, station) else {
+        panic!(rt; "a desk");
+    };
+    desk
+}
+
 /// The desk of a drive that is empty.
 fn desk<R: Abort>(rt: &R, alloc: Global) -> Drives {
     let Ok(station) = Station::new(alloc, drive(rt, alloc)) else {
         panic!(rt; "a station");
     };
-    Desk { station }
+    desk_of(rt, alloc, station)
 }
 
 /// A job is put. Whether it comes.
@@ -206,7 +214,7 @@ fn a_device_goes(rt: HostRuntime) {
     let ran = run_two(&rt, alloc, drive(&rt, alloc), first, read(1), 5);
     let station = ran.expect(&rt, "a station");
     assert!(rt; station.journal().items().len() == 4);
-    let (turn, pass) = open(&rt, alloc, Desk { station });
+    let (turn, pass) = open(&rt, alloc, desk_of(&rt, alloc, station));
     let mut desk = Caller::new(&turn, pass);
     desk.call(&rt, DeskCall::Remove);
     assert!(rt; collects(&rt, &mut desk, 0, b""));

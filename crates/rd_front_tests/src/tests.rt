@@ -20,7 +20,10 @@ fn a_channel_begins_beside_the_writer(rt: HostRuntime) -> Result<(), Fail> {
     let Ok(station) = Station::new(alloc, SessionDevice::Drive(drive)) else {
         return Err("there was no memory".into());
     };
-    let Ok((turn, pass)) = Turn::new(alloc, Desk { station }) else {
+    let Ok(desk) = Desk::new(alloc, station) else {
+        return Err("there was no memory".into());
+    };
+    let Ok((turn, pass)) = Turn::new(alloc, desk) else {
         return Err("there was no memory".into());
     };
     let client = Client::new(alloc, DeviceList::of(Vec::new(alloc)))?;
@@ -57,7 +60,7 @@ fn a_channel_begins_beside_the_writer(rt: HostRuntime) -> Result<(), Fail> {
             }
         )
     );
-    let Desk { station } = turn.close(pass);
+    let station = turn.close(pass).into_station();
     assert!(rt; !station.waits() && !station.has_ready());
     Ok(())
 }

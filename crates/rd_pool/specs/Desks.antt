@@ -28,6 +28,11 @@ pub record DesksState (S : Type 0) : Type 0 where
   pub ids : List ℕ
   pub turns : List (DeskTurn S)
 
+-- passes that came home, and how many are still to come
+pub record HomecomingState (S : Type 0) : Type 0 where
+  pub home : List (DeskPass S)
+  pub to_come : ℕ
+
 -- each plan that the call gives back is to be run at the moment that was told, where one was
 abbrev pub GivesThen : Option ℕ → Entry DeskCall DeskReply → Type 0
 GivesThen told e = All (HasMoment told) (runs_of e.call)

@@ -75,16 +75,13 @@ impl<D: Device + Drop> Desks<D> {
         {
             return Err(station);
         }
-        let (turn, pass) = match Turn::new(alloc, Desk { station }) {
+        let desk = Desk::new(alloc, station)?;
+        let (turn, pass) = match Turn::new(alloc, desk) {
             Ok(both) => both,
-            Err(refused) => {
-                let Desk { station } = refused.object;
-                return Err(station);
-            }
+            Err(refused) => return Err(refused.object.into_station()),
         };
         if let Err(pass) = passes.add(pass) {
-            let Desk { station } = turn.close(pass);
-            return Err(station);
+            return Err(turn.close(pass).into_station());
         }
         self.ids.push_reserved(id);
         self.turns.push_back_reserved(turn);
@@ -260,7 +257,6 @@ fn close_all<D: Device + Drop>(
         let Some(pass) = passes.pop_front() else {
             unreachable!()
         };
-        let Desk { station } = turn.close(pass);
-        stations.push_back_reserved(station);
+        stations.push_back_reserved(turn.close(pass).into_station());
     }
 }

@@ -17,5 +17,5 @@ pub use laws::{
     stations_are_as_their_calls_left_them,
 };
 pub use outside::{AfterGate, AtOnce, Outside};
-pub use passes::Passes;
+pub use passes::{Homecoming, Passes};
 pub use workers::with_workers;

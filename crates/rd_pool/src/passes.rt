@@ -1,12 +1,12 @@
 //! Passes of desks, in the order of the desks.
 
-ghost use Rattle.std.specs.Prelude.{◌≡◌, ◌++◌, ◌∷◌, [], IfErr, IfNone, OnErr, OnOk};
+ghost use Rattle.std.specs.Prelude.{◌≡◌, ◌<◌, ◌+◌, ◌++◌, ◌∷◌, [], IfErr, IfNone, IfOk, OnErr, OnOk};
 ghost use Rattle.std.specs.Option.{option_to_list};
 
 use rd_desk::Desk;
 use rd_drive::Device;
 use rd_turn::Pass;
-use std::alloc::Global;
+use std::alloc::{AllocError, Global};
 use std::collections::VecDeque;
 use std::marker::Model;
 
@@ -61,5 +61,57 @@ impl<D: Device> Passes<D> {
         }
         self.list.push_back_reserved(pass);
         Ok(())
+    }
+}
+
+/// Passes that come home one after another, with room for those that are still to come. Contracts see a `HomecomingState`.
+#[derive(Drop)]
+pub struct Homecoming<D: Device> {
+    list: VecDeque<Pass<Desk<D>>>,
+    room: VecDeque<Pass<Desk<D>>>,
+    /// How many are still to come.
+    to_come: usize,
+}
+
+impl<D: Device> Model for Homecoming<D> {
+    ghost use Rattle.std.specs.Prelude.{◌≡◌, ◌≤◌, ◌+◌, []};
+    ghost use Rattle.std.specs.VecDeque.{deque_capacity, deque_len};
+    ghost use Rattle.rd_pool.specs.Desks.{HomecomingState};
+
+    ghost Value = { HomecomingState D };
+
+    ghost view = { λ h. record { home = h.list.items; to_come = h.to_come } };
+
+    ghost invariant = { λ h. (h.room.items ≡ []) × (deque_len h.list + h.to_come ≤ deque_capacity h.list) × (deque_len h.list + h.to_come ≤ deque_capacity h.room) };
+}
+
+impl<D: Device> Homecoming<D> {
+    /// With room for so many passes, of which none has come.
+    pub fn new(alloc: Global, count: usize) -> Result<Self, AllocError>
+        ensures { IfOk result (λ h. (h.home ≡ []) × (h.to_come ≡ count)) }
+    {
+        Ok(Homecoming {
+            list: VecDeque::with_capacity(alloc, count)?,
+            room: VecDeque::with_capacity(alloc, count)?,
+            to_come: count,
+        })
+    }
+
+    /// Puts a pass after those that came.
+    pub fn add(&mut self, pass: Pass<Desk<D>>)
+        requires { 0 < self.old.to_come }
+        ensures home { self.new.home ≡ self.old.home ++ pass ∷ [] }
+        ensures to_come { self.new.to_come + 1 ≡ self.old.to_come }
+    {
+        self.list.push_back_reserved(pass);
+        self.to_come -= 1;
+    }
+
+    /// Those that came.
+    pub fn finish(self) -> Passes<D>
+        ensures { result ≡ self.home }
+    {
+        let Homecoming { list, room, .. } = self;
+        Passes { list, room }
     }
 }

@@ -28,18 +28,18 @@ each_of seen none one two (suc (suc (suc number))) few = absurd (omega (arith, f
 
 pub returns : goal.returns
 returns g c =
-    let opened = c.in-Ok-new.ensures.pass in
+    let opened = c.in-Ok-new-2.ensures.pass in
     let both = c.work_side_by_side-pass.ensures in
     let seen = c.work_side_by_side-pass.result.seen in
     let number : c.tell-3.new.pass.number ≡ 0 = c.tell-3.ensures.same.0 ∙ (c.tell-2.ensures.same.0 ∙ (c.tell.ensures.same.0 ∙ ap (λ p. p.number) opened)) in
     let made : c.tell-3.new.pass.made ≡ 0 = c.tell-3.ensures.same.1 ∙ (c.tell-2.ensures.same.1 ∙ (c.tell.ensures.same.1 ∙ ap (λ p. p.made) opened)) in
-    let first = c.tell-3.ensures.gives (c.tell-2.ensures.gives (c.tell.ensures.gives (none_back (calls_of c.in-Ok-new.pass.number c.in-Ok-new.pass.seen) (ap (λ p. calls_of p.number p.seen) opened)))) in
+    let first = c.tell-3.ensures.gives (c.tell-2.ensures.gives (c.tell.ensures.gives (none_back (calls_of c.in-Ok-new-2.pass.number c.in-Ok-new-2.pass.seen) (ap (λ p. calls_of p.number p.seen) opened)))) in
     let own : GivesOwnBack (calls_of 0 seen) = subst GivesOwnBack (sym both.own_calls) (subst (λ (n : ℕ). GivesOwnBack (calls_of n c.tell-3.new.pass.seen)) number first) in
     let one : GivesOwnBack (calls_of 1 seen) = subst (λ (n : ℕ). GivesOwnBack (calls_of (suc n) seen)) made both.one_gives in
     let two : GivesOwnBack (calls_of 2 seen) = subst (λ (n : ℕ). GivesOwnBack (calls_of (suc (suc n)) seen)) made both.two_gives in
     let few = subst (λ (n : ℕ). All (λ (e : Entry DeskCall DeskReply). e.by ≤ n) seen) (both.counts.1 ∙ ap (λ n. n + 2) made) (c.close.ensures.numbers both.counts.0) in
-    let leads = subst (λ (s : StationState MemoryDrive). Leads (DeskStep drive_runs drive_parked drive_cuts) s seen c.close.result) (c.in-Ok-new.ensures.turn ∙ c.in-Ok.ensures.made) c.close.ensures.leads in (
+    let leads = subst (λ (s : StationState MemoryDrive). Leads (DeskStep drive_runs drive_parked drive_cuts) s seen c.close.result) (c.in-Ok-new-2.ensures.turn ∙ (c.in-Ok-new.ensures.made ∙ c.in-Ok.ensures.made)) c.close.ensures.leads in (
       seen,
-      subst (λ (s : StationState MemoryDrive). IsTied drive_step drive_cut (request_put (told_calls seen)) c.args.drive s) (sym c.station.view_is)
+      subst (λ (s : StationState MemoryDrive). IsTied drive_step drive_cut (request_put (told_calls seen)) c.args.drive s) (sym c.into_station.ensures)
           (history_tied drive_runs drive_parked drive_cuts drive_step drive_cut c.args.drive c.close.result seen 2 by_step c.requires leads few (each_of seen own one two)),
     )

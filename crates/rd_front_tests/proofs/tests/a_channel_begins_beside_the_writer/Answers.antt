@@ -9,7 +9,7 @@ none : AreDevices []
 unfolding IsDistinct
 none = record { few = lit≤ tt; apart = tt; fit = (lit≤ tt, lit≤ tt) }
 
-pub new-requires-6-clause-devices : goal.new-requires-6-clause-devices
-new-requires-6-clause-devices g c =
+pub new-requires-7-clause-devices : goal.new-requires-7-clause-devices
+new-requires-7-clause-devices g c =
     let empty : c.of.result ≡ [] = search rules in
     subst (λ (ds : List Announce). AreDevices ds) (sym empty) none

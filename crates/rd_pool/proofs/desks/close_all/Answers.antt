@@ -26,10 +26,10 @@ loop-turn-preserved g c =
     let passes : c.loop-turn.passes.items ≡ p ∷ ps = c.in-Some-pop_front.ensures.items in
     let first = zip_first IsFirst t ts c.loop-turn.turns.items p ps c.loop-turn.passes.items turns passes kept.first in
     let steps = DeskStep g.D.Device.runs g.D.Device.parked g.D.Device.cuts in
-    let leads = subst (λ (s : StationState g.row.D.Denot). Leads steps t.opening p.seen s) (sym c.station.view_is) c.close.ensures.leads in
+    let leads = subst (λ (s : StationState g.row.D.Denot). Leads steps t.opening p.seen s) (sym c.into_station.ensures) c.close.ensures.leads in
     record {
       closed = zips_next (IsClosed g.D.Device.runs g.D.Device.parked g.D.Device.cuts) (zip c.args.turns.items c.args.passes.items) (zip c.loop-turn.turns.items c.loop-turn.passes.items) (zip ts ps) c.loop-turn.stations.items c.push_back_reserved.new.self.items
-          (t, p) c.station.inside.station (zip_cons t ts c.loop-turn.turns.items p ps c.loop-turn.passes.items turns passes) c.push_back_reserved.ensures.items
+          (t, p) c.into_station.result (zip_cons t ts c.loop-turn.turns.items p ps c.loop-turn.passes.items turns passes) c.push_back_reserved.ensures.items
           (record { number = first.0.number; leads = leads; all = c.close.ensures.all; numbers = c.close.ensures.numbers first.0.number; gives = all_give t p first.0 c.close.ensures.all }) kept.closed;
       first = first.1;
       home = All-tail (λ (q : DeskPass g.row.D.Denot). q.out ≡ 0) p ps (All-same (λ (q : DeskPass g.row.D.Denot). q.out ≡ 0) (p ∷ ps) c.loop-turn.passes.items (sym passes) kept.home);

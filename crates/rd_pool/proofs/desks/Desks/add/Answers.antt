@@ -12,7 +12,7 @@ returns-clause-added g c =
       desks_same c.push_reserved.new.self.items (c.args.self.now.ids ++ c.args.id ∷ []) c.push_back_reserved.new.self.items (c.args.self.now.turns ++ t ∷ [])
           (c.push_reserved.ensures.items ∙ ap (λ (l : List ℕ). l ++ c.args.id ∷ []) (c.reserve.ensures.items ∙ ap (λ (d : DesksState g.row.D.Denot). d.ids) c.self.view_is))
           (c.push_back_reserved.ensures.items ∙ ap (λ (l : List (DeskTurn g.row.D.Denot)). l ++ t ∷ []) (c.reserve-else-is_err.ensures.items ∙ ap (λ (d : DesksState g.row.D.Denot). d.turns) c.self.view_is)),
-      c.in-Ok.ensures.turn,
+      c.in-Ok.ensures.turn ∙ c.in_ok-desk.ensures.made,
       added ∙ ap (λ (p : DeskPass g.row.D.Denot). c.args.passes.now ++ p ∷ []) c.in-Ok.ensures.pass,
     )
 
