@@ -1,21 +1,23 @@
 -- The history of the front over which a session's devices were served.
-use Rattle.std.proofs.Common.{◌≡◌, ◌∙◌, ◌⊎◌, inl, inr, ℕ, List, [], ◌∷◌, Option, None, false, ap, sym, subst, map}
+use Rattle.std.proofs.Common.{◌≡◌, ◌∙◌, ℕ, List, [], ◌∷◌, Option, None, false, ap, sym, subst, map}
 use Rattle.std.specs.Prelude.{All}
-use Rattle.std.specs.List.{zip}
+use Rattle.std.specs.List.{AllZip, zip}
 use Rattle.std.proofs.lemmas.List.Elements.{All-cons, All-head, All-map, All-nil, All-same, All-tail, All-weaker}
+use Rattle.rd_base.specs.declared.journal.Item.{Item}
 use Rattle.rd_carry.specs.declared.ended.Ended.{Ended}
 use Rattle.rd_client.specs.Core.{ClientCoreState, new_client}
 use Rattle.rd_devices.specs.declared.list.Announce.{Announce}
 use Rattle.rd_front.specs.Calls.{FrontEntry}
 use Rattle.rd_front.specs.Front.{FrontStep}
-use Rattle.rd_front.specs.State.{DeviceDeskState, FrontState, SessionPass}
+use Rattle.rd_front.specs.State.{DeviceDeskState, FrontState, SessionPass, SessionStation}
 use Rattle.rd_pool.specs.Desks.{DeskTurn}
 use Rattle.rd_station.specs.Station.{StationState}
 use Rattle.rd_turn.specs.History.{Leads}
 use Rattle.rd_turn.specs.Pass.{new_pass}
 use Rattle.rd_workers.specs.Channels.{LinkerTold}
+use Rattle.rd_workers.specs.Closed.{ClosesAfter}
 use Rattle.rd_workers.specs.Passes.{AreNew}
-use Rattle.rd_workers.specs.Served.{IsFrontOf, MayServe, ServesDevices, ServesEntries, ServesFront}
+use Rattle.rd_workers.specs.Served.{IsFrontOf, ServesEntries, ServesFront, ServesJournals}
 use Rattle.rd_workers.specs.declared.due.AtLine.{AtLine}
 use Rattle.rd_world.specs.Devices.{Declared, PrinterNames}
 use Rattle.rd_world.specs.Opening.{Opens}
@@ -63,16 +65,6 @@ module _ (client : ClientCoreState) (printers : List (ℕ × PrinterNames)) wher
 module _ (devices : List (ℕ × Declared)) (stations : List (ℕ × StationState SessionDevice)) (announced : List Announce) (client : ClientCoreState) (printers : List (ℕ × PrinterNames)) (ids there : List ℕ) (turns : List (DeskTurn SessionDevice))
     (opens : Opens devices stations announced printers) (over : zip ids (map (λ (t : DeskTurn SessionDevice). t.opening) turns) ≡ stations) (shown : there ≡ ids) (client_is : client ≡ new_client announced)
   where
-    abbrev pub serves_devices : (lines : List AtLine) (channels : ℕ) (by : Ended) (old new : LinkerTold) → ServesFront client printers there turns lines channels by old new → ServesDevices devices lines channels by old new
-    serves_devices lines channels by old new serves = record {
-      announced = announced;
-      printers = printers;
-      ids = ids;
-      turns = turns;
-      opens = subst (λ (l : List (ℕ × StationState SessionDevice)). Opens devices l announced printers) (sym over) opens;
-      serves = subst (λ (l : List ℕ). ServesFront (new_client announced) printers l turns lines channels by old new) shown (subst (λ (c : ClientCoreState). ServesFront c printers there turns lines channels by old new) client_is serves);
-    }
-
     -- the same front, by the names of the script's devices
     abbrev pub front_of : (lines : List AtLine) (channels : ℕ) (by : Ended) (old new : LinkerTold) → ServesFront client printers there turns lines channels by old new → ServesFront (new_client announced) printers ids turns lines channels by old new
     front_of lines channels by old new serves = record {
@@ -84,6 +76,16 @@ module _ (devices : List (ℕ × Declared)) (stations : List (ℕ × StationStat
       served = serves.served;
     }
 
-    pub may_serve : (lines : List AtLine) (channels : ℕ) (old new : LinkerTold) → (new ≡ old) ⊎ ((by : Ended) × ServesFront client printers there turns lines channels by old new) → MayServe devices lines channels old new
-    may_serve lines channels old new (inl same) = inl same
-    may_serve lines channels old new (inr serves) = inr (serves.0, serves_devices lines channels serves.0 old new serves.1)
+    abbrev pub serves_journals : (lines : List AtLine) (channels : ℕ) (by : Ended) (old new : LinkerTold) (serves : ServesFront client printers there turns lines channels by old new) (closed : List SessionStation)
+        → AllZip ClosesAfter (serves.last).desks closed → (journals : List (ℕ × List Item)) → journals ≡ zip ids (map (λ (s : SessionStation). s.journal) closed) → ServesJournals devices lines channels by journals old new
+    serves_journals lines channels by old new serves closed closes journals are = record {
+      announced = announced;
+      printers = printers;
+      ids = ids;
+      turns = turns;
+      opens = subst (λ (l : List (ℕ × StationState SessionDevice)). Opens devices l announced printers) (sym over) opens;
+      front = front_of lines channels by old new serves;
+      stations = closed;
+      closes = closes;
+      journals_are = are;
+    }

@@ -4,6 +4,7 @@ use Rattle.std.specs.Prelude.{if◌then◌else◌}
 use Rattle.std.proofs.lemmas.Bool.{cases_Bool}
 use Rattle.std.specs.List.{AllByRecursion}
 use Rattle.rd_carry.specs.Outgoing.{OutgoingState}
+use Rattle.rd_drive.proofs.AllLemmas.{all_append}
 use Rattle.rd_front.specs.Calls.{FrontEntry}
 use Rattle.rd_front.specs.Room.{MessageRoom}
 use Rattle.rd_front.specs.declared.calls.FrontCall.{FrontCall}
@@ -309,10 +310,6 @@ module _ {F : Type 0} where
   done_finished w [] all = tt
   done_finished w (d ∷ ds) all = (record { below = (all.0).below; under = λ o is. absurd (cc is); written = (all.0).written }, done_finished w ds all.1)
 
-  done_push : (w : WriterState F) (ds : List Wrote) (d : Wrote) → AllByRecursion (FitsDone w) ds → FitsDone w d → AllByRecursion (FitsDone w) (ds ++ d ∷ [])
-  done_push w [] d all is = (is, tt)
-  done_push w (x ∷ ds) d all is = (all.0, done_push w ds d all.1 is)
-
   fits_finished : (w w' : WriterState F) (l : WriterLog) (h : Option OutgoingState) (output : OutgoingState) (starved : Bool) → w.half ≡ h → FitsLog w l → HandsBack h (Some output) starved w w' → FitsLog w' (finished_on l output starved)
   fits_finished w w' l None output starved off fits back = let none : Some output ≡ None = back.0 in absurd (cc none)
   fits_finished w w' l (Some from) output starved half fits (to, same, wanting, puts, none, is) = by l.on refl
@@ -341,7 +338,7 @@ module _ {F : Type 0} where
           (record {
             up_to = fits.up_to;
             on = tt;
-            done = done_push (record w { half = None }) l.done d (done_finished w l.done fits.done) (record { below = (let c = fit.channel in omega (arith, c)); under = λ o none. absurd (cc none); written = written });
+            done = all_append (FitsDone (record w { half = None })) l.done (d ∷ []) (done_finished w l.done fits.done) (record { below = (let c = fit.channel in omega (arith, c)); under = λ o none. absurd (cc none); written = written }, tt);
           }))
         where
           later : (0 < from.faults) ⊎ (w.starved ≡ true) → (0 < output.faults) ⊎ (starved ≡ true)

@@ -35,12 +35,8 @@ module _ {K : Type 0} where
       → writer_log later ≡ writes_by (writer_log entries) does back
   writes_one entries later number does back is = ap writer_log is ∙ writes_append no_halves entries (entry number does back ∷ [])
 
-  write_append : (xs ys : List (Entry (WriterCall K) (WriterReply K))) → AllWrite xs → AllWrite ys → AllWrite (xs ++ ys)
-  write_append [] ys all more = more
-  write_append (x ∷ xs) ys all more = (all.0, write_append xs ys all.1 more)
-
   pub write_one : (entries later : List (Entry (WriterCall K) (WriterReply K))) (number : ℕ) (does : WriterCall K) (back : WriterReply K) → later ≡ entries ++ entry number does back ∷ [] → AllWrite entries → IsWriteCall does → AllWrite later
-  write_one entries later number does back is all also = subst AllWrite (sym is) (write_append entries (entry number does back ∷ []) all (also, tt))
+  write_one entries later number does back is all also = subst AllWrite (sym is) (all_append (λ (e : Entry (WriterCall K) (WriterReply K)). IsWriteCall e.call) entries (entry number does back ∷ []) all (also, tt))
 
   pub write_none : (entries : List (Entry (WriterCall K) (WriterReply K))) → entries ≡ [] → AllWrite entries
   write_none entries none = subst AllWrite (sym none) tt

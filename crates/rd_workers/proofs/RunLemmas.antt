@@ -171,14 +171,16 @@ hears_to (ending.Fault at message why.Duplicate) calls to not is = duplicate_sai
 hears_to ending.Long calls to not is = plainly is.0
 hears_to ending.Memory calls to not is = absurd (not refl)
 
--- ---- messages are heard surely
+-- ---- what is done surely
 
--- A message that a call has heard was heard, whatever memory was found.
-abbrev pub HearsSurely : FrontCall → FrontReply → Type 0
-HearsSurely (call.Hear message) reply.Memory = ⊥
-HearsSurely _ _ = Unit {0}
+-- A message that a call has heard was heard, and the host was told of a device that it removes or adds: memory was found for that.
+abbrev pub DoesSurely : FrontCall → FrontReply → Type 0
+DoesSurely (call.Hear message) reply.Memory = ⊥
+DoesSurely (call.Remove device) reply.Memory = ⊥
+DoesSurely (call.Add device) reply.Memory = ⊥
+DoesSurely _ _ = Unit {0}
 
-surely : (does : FrontCall) (back : FrontReply) → back ≢ reply.Memory → HearsSurely does back
+surely : (does : FrontCall) (back : FrontReply) → back ≢ reply.Memory → DoesSurely does back
 surely (call.Hear message) reply.Memory not = not refl
 surely (call.Hear message) (reply.Done at full) not = tt
 surely (call.Hear message) (reply.Stands ready asked) not = tt
@@ -192,14 +194,32 @@ surely (call.Hear message) (reply.Messages filled left) not = tt
 surely (call.Begin channel) back not = tt
 surely call.Retry back not = tt
 surely (call.Next channel place room) back not = tt
-surely (call.Remove device) back not = tt
-surely (call.Add device) back not = tt
+surely (call.Remove device) reply.Memory not = not refl
+surely (call.Remove device) (reply.Done at full) not = tt
+surely (call.Remove device) (reply.Stands ready asked) not = tt
+surely (call.Remove device) reply.Kept not = tt
+surely (call.Remove device) (reply.Wrong cause) not = tt
+surely (call.Remove device) (reply.Duplicate key) not = tt
+surely (call.Remove device) reply.Unfit not = tt
+surely (call.Remove device) reply.Full not = tt
+surely (call.Remove device) reply.Refused not = tt
+surely (call.Remove device) (reply.Messages filled left) not = tt
+surely (call.Add device) reply.Memory not = not refl
+surely (call.Add device) (reply.Done at full) not = tt
+surely (call.Add device) (reply.Stands ready asked) not = tt
+surely (call.Add device) reply.Kept not = tt
+surely (call.Add device) (reply.Wrong cause) not = tt
+surely (call.Add device) (reply.Duplicate key) not = tt
+surely (call.Add device) reply.Unfit not = tt
+surely (call.Add device) reply.Full not = tt
+surely (call.Add device) reply.Refused not = tt
+surely (call.Add device) (reply.Messages filled left) not = tt
 surely call.Look back not = tt
 surely call.EndChannel back not = tt
 surely call.EndSession back not = tt
 
 abbrev IsSurely : FrontEntry → Type 0
-IsSurely e = HearsSurely e.call e.reply
+IsSurely e = DoesSurely e.call e.reply
 
 plain_surely : (calls : List FrontEntry) → AllPlain calls → AllByRecursion IsSurely calls
 plain_surely [] plain = tt
@@ -233,9 +253,9 @@ runs_surely [] each sure = tt
 runs_surely (r ∷ runs) each sure =
     (all_surely (r.reading).calls (hears_to (r.reading).by (r.reading).calls (r.reading).incoming (sure.0).found ((each.0).reading).end_is), runs_surely runs each.1 sure.1)
 
--- each message that was given to be heard was heard, unless the call didn't fit
-pub calls_surely : (runs : List ChannelRun) → AllByRecursion IsChannelRun runs → AllByRecursion IsSure runs → AllByRecursion (λ (e : FrontEntry). HearsSurely e.call e.reply) (calls_by_all runs)
-calls_surely runs each sure = all_runs HearsSurely (λ channel back. tt) (λ back. tt) runs each (runs_surely runs each sure)
+-- each message that was given to be heard was heard, unless the call didn't fit; and so with each device that is removed or added
+pub calls_surely : (runs : List ChannelRun) → AllByRecursion IsChannelRun runs → AllByRecursion IsSure runs → AllByRecursion (λ (e : FrontEntry). DoesSurely e.call e.reply) (calls_by_all runs)
+calls_surely runs each sure = all_runs DoesSurely (λ channel back. tt) (λ back. tt) runs each (runs_surely runs each sure)
 
 runs_bytes : (runs : List ChannelRun) → AllByRecursion IsChannelRun runs → AllByRecursion (λ (r : ChannelRun). HearBytes (r.reading).calls) runs
 runs_bytes [] each = tt

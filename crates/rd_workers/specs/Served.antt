@@ -2,6 +2,7 @@
 use Rattle.std.specs.Prelude.{◌≡◌, ◌⊎◌, ℕ, ◌<◌, true, false, List, [], ◌∷◌, ◌++◌, map, All, None}
 use Rattle.std.specs.List.{AllByRecursion, AllZip, zip}
 use Rattle.rd_base.specs.History.{History}
+use Rattle.rd_base.specs.declared.journal.Item.{Item}
 use Rattle.rd_carry.specs.declared.ended.Ended.{Ended}
 use Rattle.rd_carry.specs.declared.ended.Ended.TheVariants as ended
 use Rattle.rd_client.specs.Core.{ClientCoreState, new_client}
@@ -20,7 +21,7 @@ use Rattle.rd_world.specs.Devices.{Declared, PrinterNames}
 use Rattle.rd_world.specs.Opening.{Opens, bare_lines}
 use Rattle.rd_world.specs.Run.{declared_devices}
 use Rattle.rd_world.specs.declared.device.SessionDevice.{SessionDevice}
-use Rattle.rd_world.specs.Session.{journals_of}
+use Rattle.rd_world.specs.Session.{StoresSome, journals_of}
 use Rattle.rd_workers.specs.Channels.{EndsByCalls, LinkerTold, channels_of}
 use Rattle.rd_workers.specs.Closed.{ClosesAfter, FrontCameHome}
 use Rattle.rd_workers.specs.declared.due.AtLine.{AtLine}
@@ -82,21 +83,9 @@ pub record ServesHome (client : ClientCoreState) (printers : List (ℕ × Printe
   pub front : ServesFront client printers ids turns lines channels by old new
   pub home : FrontCameHome front.last turns passes
 
--- The front's client and printers are those of these devices, and its desks are over their stations.
-pub record ServesDevices (devices : List (ℕ × Declared)) (lines : List AtLine) (channels : ℕ) (by : Ended) (old new : LinkerTold) : Type 0 where
-  pub announced : List Announce
-  pub printers : List (ℕ × PrinterNames)
-  pub ids : List ℕ
-  pub turns : List (DeskTurn SessionDevice)
-  pub opens : Opens devices (zip ids (map (λ (t : DeskTurn SessionDevice). t.opening) turns)) announced printers
-  pub serves : ServesFront (new_client announced) printers ids turns lines channels by old new
-
--- Devices were served, up to some end; or no channel was had.
-abbrev pub MayServe : List (ℕ × Declared) → List AtLine → ℕ → (old new : LinkerTold) → Type 0
-MayServe devices lines channels old new = (new ≡ old) ⊎ ((by : Ended) × ServesDevices devices lines channels by old new)
-
--- The same, and the journals of the stations are in the books: each station was led there by the calls that the front's pass had seen at the end of its history, and then by calls of hands.
-pub record ServesBooks (devices : List (ℕ × Declared)) (lines : List AtLine) (channels : ℕ) (by : Ended) (books : List (ℕ × History)) (old new : LinkerTold) : Type 0 where
+-- Devices were served by a front over their stations, up to some end, and these are the journals of the stations, by the ids of the devices: each station was led there by the calls that the
+-- front's pass had seen at the end of its history, and then by calls of hands.
+pub record ServesJournals (devices : List (ℕ × Declared)) (lines : List AtLine) (channels : ℕ) (by : Ended) (journals : List (ℕ × List Item)) (old new : LinkerTold) : Type 0 where
   pub announced : List Announce
   pub printers : List (ℕ × PrinterNames)
   pub ids : List ℕ
@@ -105,10 +94,19 @@ pub record ServesBooks (devices : List (ℕ × Declared)) (lines : List AtLine) 
   pub front : ServesFront (new_client announced) printers ids turns lines channels by old new
   pub stations : List SessionStation
   pub closes : AllZip ClosesAfter (front.last).desks stations
-  pub books_are : journals_of books ≡ zip ids (map (λ (s : SessionStation). s.journal) stations)
+  pub journals_are : journals ≡ zip ids (map (λ (s : SessionStation). s.journal) stations)
 
--- The devices of a script's lines were served, on as many channels as these say, up to this end, and their journals are in the books; or it is want of memory, that came before or after.
+-- The same, and the journals are those in the books.
+abbrev pub ServesBooks : List (ℕ × Declared) → List AtLine → ℕ → Ended → List (ℕ × History) → (old new : LinkerTold) → Type 0
+ServesBooks devices lines channels by books old new = ServesJournals devices lines channels by (journals_of books) old new
+
+-- Memory ran out: before anything was connected, and the books have nothing; or as the journals were stored, and the books have the first of them.
+abbrev pub ServesSome : List (ℕ × Declared) → List AtLine → ℕ → List (ℕ × History) → (old new : LinkerTold) → Type 0
+ServesSome devices lines channels books old new =
+    ((new ≡ old) × (books ≡ [])) ⊎ ((by : Ended) × (journals : List (ℕ × List Item)) × ServesJournals devices lines channels by journals old new × StoresSome journals books)
+
+-- The devices of a script's lines were served, on as many channels as these say, up to this end, and their journals are in the books, or as many as there was memory for.
 abbrev pub HasServedLines : List NumberedLine → Ended → List (ℕ × History) → (old new : LinkerTold) → Type 0
 HasServedLines lines by books old new =
     ServesBooks (declared_devices (bare_lines lines)) (at_lines lines) (channels_of lines) by books old new
-    ⊎ ((by ≡ ended.Memory) × MayServe (declared_devices (bare_lines lines)) (at_lines lines) (channels_of lines) old new)
+    ⊎ ((by ≡ ended.Memory) × ServesSome (declared_devices (bare_lines lines)) (at_lines lines) (channels_of lines) books old new)

@@ -29,13 +29,13 @@ use rd_turn::{Caller, Object};
 use rd_world::SessionDevice;
 use std::marker::Model;
 use std::sync::Wait;
-use std::{mem, thread};
+use std::thread;
 
 /// The place of a request's completion id in its message.
 const COMPLETION_ID: u64 = 12;
 
-/// So many jobs that came in one read the reader runs itself at most: to wake others costs more than they take.
-const FEW_JOBS: u32 = 64;
+/// So many jobs are handed out before more is heard, so that the host has their completions meanwhile.
+const PORTION: u32 = 8;
 
 /// Why a channel is read no further.
 #[derive(Clone, Copy)]
@@ -79,7 +79,7 @@ pub(crate) struct Reader<
     holds: bool,
     /// Whether the front keeps a job back.
     kept: bool,
-    /// How many jobs came since they were last handed out, and where.
+    /// How many jobs came since they were handed out last, and where.
     jobs: u32,
     desks: Places,
     /// Where the writer has something to do.
@@ -340,6 +340,9 @@ impl<
                 if full {
                     return self.relieve();
                 }
+                if self.jobs >= PORTION {
+                    return self.hand_on();
+                }
                 None
             }
             FrontReply::Kept => {
@@ -439,15 +442,25 @@ impl<
         !self.holds || !self.bells.are_heard(self.rt)
     }
 
-    /// Hands out what came since the last read. False where nothing more can be written.
+    /// Hands out what came, so that more can be heard.
+    fn hand_on(&mut self) -> Option<Ending>
+        ensures { IsRelieved result self.old self.new }
+    {
+        if self.hand_out() {
+            return None;
+        }
+        Some(Ending::Unwritten)
+    }
+
+    /// Hands out what came since that was done last. False where nothing more can be written.
     fn hand_out(&mut self) -> bool
         ensures { self.new ≡ having_written result self.old }
     {
-        let jobs = mem::replace(&mut self.jobs, 0);
+        self.jobs = 0;
         if !self.bells.are_heard(self.rt) {
             return self.do_all();
         }
-        if jobs <= FEW_JOBS && self.may_work() && self.bells.claim_writer(self.rt) {
+        if self.may_work() && self.bells.claim_writer(self.rt) {
             let going = self.do_all();
             self.bells.release_writer(self.rt);
             return going;

@@ -1,9 +1,8 @@
 //! A client's session: its devices, its threads, and one channel after the other.
 
-ghost use Rattle.std.specs.Prelude.{◌≡◌, ◌<◌, ◌≤◌, ◌⊎◌, [], length, map, All, IfOk, IfSome, IsTrue, OnErr, Some, is_some};
+ghost use Rattle.std.specs.Prelude.{◌≡◌, ◌<◌, ◌≤◌, [], length, map, All, IfOk, IfSome, IsTrue, OnErr, Some, is_some};
 ghost use Rattle.std.specs.List.{AllZip};
 ghost use Rattle.std.specs.Thread.{IsSend, IsSync};
-ghost use Rattle.rd_carry.specs.declared.ended.Ended.{Ended};
 ghost use Rattle.rd_pool.specs.Desks.{AllByHandBut, IsFirst, IsOther, KeepsMoment};
 ghost use Rattle.rd_turn.specs.History.{calls_of};
 ghost use Rattle.rd_turn.specs.Pass.{Belongs, first_pass};
@@ -13,7 +12,7 @@ ghost use Rattle.rd_workers.specs.Channels.{told_as};
 ghost use Rattle.rd_workers.specs.Lines.{at_lines};
 ghost use Rattle.rd_workers.specs.Logs.{AllWrite};
 ghost use Rattle.rd_workers.specs.Passes.{AreNew, ComesBack, IsRejoined, IsPassOf, IsUnused};
-ghost use Rattle.rd_workers.specs.Served.{HasServedLines, IsRead, MayServe, ServesBooks, ServesEntries, ServesFront, ServesHome};
+ghost use Rattle.rd_workers.specs.Served.{HasServedLines, IsRead, ServesBooks, ServesEntries, ServesHome, ServesSome};
 ghost use Rattle.rd_world.specs.Run.{declared_devices};
 ghost use Rattle.rd_world.specs.Opening.{AreDeclared, bare_lines};
 ghost use Rattle.rd_world.specs.Stations.{IsReachedBy};
@@ -28,7 +27,7 @@ use rd_carry::Ended;
 use rd_desk::Batch;
 use rd_front::{DeviceDesk, Front, FrontCall, FrontReply, Room, fronts_call_desks};
 use rd_link::{Clock, Gate, Hang, Linker};
-use rd_pool::{AfterGate, Bell, Desks, Hands, Outside, Passes, with_workers};
+use rd_pool::{AfterGate, Bell, Desks, Hands, Homecoming, Outside, Passes, with_workers};
 use rd_script::Script;
 use rd_turn::{Caller, Object, Pass, Turn};
 use rd_world::{Client, Opening, Printers, SessionDevice, open_devices};
@@ -80,7 +79,7 @@ fn serve<R: Threads + Wait + Sync, L: Linker, X: Outside + Sync>(
     requires few { plan.workers ≤ 16 }
     requires books { books.old ≡ [] }
     ensures served { IfOk result (λ ended. ServesBooks (declared_devices (bare_lines plan.entry.lines.now)) (at_lines plan.entry.lines.now) plan.entry.channels ended books.new (told_as (L.linked linker.old) (L.failures linker.old)) (told_as (L.linked linker.new) (L.failures linker.new))) }
-    ensures err { OnErr result (MayServe (declared_devices (bare_lines plan.entry.lines.now)) (at_lines plan.entry.lines.now) plan.entry.channels (told_as (L.linked linker.old) (L.failures linker.old)) (told_as (L.linked linker.new) (L.failures linker.new))) }
+    ensures err { OnErr result (ServesSome (declared_devices (bare_lines plan.entry.lines.now)) (at_lines plan.entry.lines.now) plan.entry.channels books.new (told_as (L.linked linker.old) (L.failures linker.old)) (told_as (L.linked linker.new) (L.failures linker.new))) }
     ensures faults { IfOk result (λ ended. TellsFaults ended (L.failures linker.old) (L.failures linker.new) (L.trouble linker.old) (L.trouble linker.new)) }
     ensures lawful { AreLawfulBooks books.new }
     ensures moments { RunAtTold (X.moment outside.now) books.new }
@@ -133,7 +132,7 @@ fn serve_desks<'a, R: Threads + Wait + Sync, L: Linker, X: Outside + Sync>(
     ensures home { IfOk result (λ given. All (λ p. p.out ≡ 0) given.1) }
     ensures moments { IfOk result (λ given. All (KeepsMoment (X.moment outside.now)) given.1) }
     ensures served { IfOk result (λ given. ServesHome client printers ids.now desks.now.turns given.1 (at_lines plan.entry.lines.now) plan.entry.channels given.0 (told_as (L.linked linker.old) (L.failures linker.old)) (told_as (L.linked linker.new) (L.failures linker.new))) }
-    ensures err { OnErr result ((told_as (L.linked linker.new) (L.failures linker.new) ≡ told_as (L.linked linker.old) (L.failures linker.old)) ⊎ ((by : Ended) × ServesFront client printers ids.now desks.now.turns (at_lines plan.entry.lines.now) plan.entry.channels by (told_as (L.linked linker.old) (L.failures linker.old)) (told_as (L.linked linker.new) (L.failures linker.new)))) }
+    ensures err { OnErr result (told_as (L.linked linker.new) (L.failures linker.new) ≡ told_as (L.linked linker.old) (L.failures linker.old)) }
     ensures faults { IfOk result (λ given. TellsFaults given.0 (L.failures linker.old) (L.failures linker.new) (L.trouble linker.old) (L.trouble linker.new)) }
 {
     fronts_call_desks();
@@ -141,6 +140,7 @@ fn serve_desks<'a, R: Threads + Wait + Sync, L: Linker, X: Outside + Sync>(
     let own = desks.split(alloc, &mut passes)?;
     let hands = Hands::new(alloc, desks, &mut passes)?;
     let list = device_desks(alloc, ids, desks, own)?;
+    let home = Homecoming::new(alloc, desks.count())?;
     let front = Front::new(rt, alloc, client, printers, list);
     let Ok((turn, pass)) = Turn::new(alloc, front) else {
         return Err(AllocError);
@@ -148,8 +148,8 @@ fn serve_desks<'a, R: Threads + Wait + Sync, L: Linker, X: Outside + Sync>(
     let (ended, pass, others, mut passes) = serve_front(
         rt, alloc, plan, linker, outside, holds, &turn, pass, desks, hands, passes,
     )?;
-    let own = passes_of(alloc, turn.close(pass).into_desks())?;
-    desks.join(&mut passes, own);
+    let back = passes_of(home, turn.close(pass).into_desks());
+    desks.join(&mut passes, back);
     desks.join(&mut passes, others);
     Ok((ended, passes))
 }
@@ -535,18 +535,18 @@ fn device_desks<'a>(
     Ok(list)
 }
 
-/// The front's passes.
+/// The front's passes come home.
 fn passes_of<'a>(
-    alloc: Global,
+    home: Homecoming<SessionDevice>,
     desks: Vec<DeviceDesk<'a>>,
-) -> Result<Passes<SessionDevice>, AllocError>
-    ensures { IfOk result (λ passes. AllZip IsPassOf desks.entry.items passes) }
+) -> Passes<SessionDevice>
+    requires none { home.home ≡ [] }
+    requires room { length desks.items ≤ home.to_come }
+    ensures { AllZip IsPassOf desks.entry.items result }
 {
-    let mut passes = Passes::new(alloc);
+    let mut home = home;
     for desk in desks {
-        let Ok(()) = passes.add(desk.into_pass()) else {
-            return Err(AllocError);
-        };
+        home.add(desk.into_pass());
     }
-    Ok(passes)
+    home.finish()
 }
