@@ -7,6 +7,7 @@ pub mod DeviceLemmas
 pub mod HeldLemmas
 pub mod KeyLemmas
 pub mod LiftLemmas
+pub mod MeetLemmas
 pub mod OrderLemmas
 pub mod StandingLemmas
 pub mod StationLemmas

@@ -1,6 +1,6 @@
 -- Each call of a front is its parts, with the stations that its desks have then.
 use Rattle.std.proofs.Common.{◌≡◌, ◌⊎◌, ◌∙◌, refl, sym, ap, subst, inl, inr, ℕ, zero, suc, ◌<◌, ◌+◌, ◌==◌, Bool, true, false, not, ◌&&◌, ◌||◌, List, [], ◌∷◌, ◌++◌, Option, Some, None, length, nat_lt, slice_get, slice_set, eq-eqb, eqb-true}
-use Rattle.std.specs.Prelude.{Result, Ok, Err, cond, filter_map, is_none}
+use Rattle.std.specs.Prelude.{Result, Ok, Err, cond, filter_map, is_none, map}
 use Rattle.std.specs.declared.alloc.AllocError.{AllocError}
 use Rattle.std.specs.List.{AllByRecursion, AllZip, cons_option, list_any}
 use Rattle.std.specs.Map.{lookup}
@@ -16,7 +16,7 @@ use Rattle.rd_base.specs.declared.journal.Key.{Key}
 use Rattle.rd_base.specs.declared.status.Status.{Status}
 use Rattle.rd_client.specs.Core as client
 use Rattle.rd_client.specs.Order.{is_client_ready}
-use Rattle.rd_client.specs.Core.{ClientCoreState, ClientDevice, Outgoing, has_device, is_device, is_gone, max_asked, may_be_asked, plain, tell_added, tell_removed}
+use Rattle.rd_client.specs.Core.{ClientCoreState, ClientDevice, Outgoing, device_marked, has_device, is_device, is_gone, max_asked, may_be_asked, plain, tell_added, tell_removed}
 use Rattle.rd_client.specs.declared.heard.Heard.{Heard}
 use Rattle.rd_client.specs.declared.heard.Heard.TheVariants.{Nothing, Ask, Print}
 use Rattle.rd_core.specs.Core as core
@@ -45,13 +45,14 @@ use Rattle.rd_station.specs.declared.refusals.PutWhy.{PutWhy}
 use Rattle.rd_station.specs.declared.refusals.PutWhy.TheVariants as why
 use Rattle.rd_turn.specs.declared.object.Entry.{Entry}
 use Rattle.rd_turn.specs.History.{Leads}
+use Rattle.rd_world.specs.Control.{Act, added, removed}
 use Rattle.rd_world.specs.Devices.{PrinterNames, printer_data}
 use Rattle.rd_world.specs.Events.{completion_message}
 use Rattle.rd_world.specs.Talk.{Has}
 use Rattle.rd_world.specs.World.{Kept}
 use Rattle.rd_front.specs.Calls.{RanOut, hinders}
-use Rattle.rd_served.specs.Histories.{Among, AreFollowed, AreStationed, CallGoes, FollowsAt, HearBefore, HearsAs, HearsBefore, HistoryGoes, IsFollowed, IsHeardBy, OpensEach, StartsBy, handed_out, may_start, stopped_by}
-use Rattle.rd_served.specs.Parts.{AsksBy, Comes, EndsEach, FitsCall, MayBeDirect, IsOpenCall, MayForget, FrontPart, PartGoes, PartsGo, announced_by, asking_by, begins, begun_by, calls, cut_by, directs, duplicate_by, duplicate_of, ended_front, ends, forgets, handed_by, heard_in, hears, is_lost, is_present_as, is_start, tells_device, is_unfit, keeps, learns, misplaces, refreshes, sends, stops, tells_gone, tells_there, tries, unwritten, writes}
+use Rattle.rd_served.specs.Histories.{Among, AreFollowed, AreStationed, CallGoes, FollowsAt, HearBefore, HearsAs, HearsBefore, HistoryGoes, IsFollowed, IsHeardBy, OpensEach, StartsBy, TellsOnce, handed_out, may_start, stopped_by}
+use Rattle.rd_served.specs.Parts.{AsksBy, Comes, EndsEach, FitsCall, MayBeDirect, IsOpenCall, MayForget, FrontPart, PartGoes, PartsGo, act_told, announced_by, asking_by, begins, begun_by, calls, cut_by, directs, duplicate_by, duplicate_of, ended_front, ends, forgets, handed_by, heard_in, hears, is_lost, is_present_as, is_start, tells_device, is_unfit, keeps, learns, misplaces, refreshes, sends, stops, tells_gone, tells_there, tries, unwritten, writes}
 use Rattle.rd_served.specs.Served.{Asking, IsStationed, Served, asks, hands, idle, refused}
 use Rattle.rd_served.proofs.DeviceLemmas.{gone_marked, place_same, present_marked}
 use Rattle.rd_served.proofs.LiftLemmas.{lifted}
@@ -460,7 +461,7 @@ put p k back q did = by (may_be_asked ((p.client).core).shake) refl did
 -- ---- what a whole call tells
 
 -- What is said of the parts of a call beside its reply, by whether it may hear a message or try a job again.
-pub record Whole (starts : Bool) (p : FrontState) (back : FrontReply) (h : Messages) (q : FrontState) (after : List Of) : Type 0 where
+pub record Whole (starts : Bool) (Acts : List Act → Type 0) (p : FrontState) (back : FrontReply) (h : Messages) (q : FrontState) (after : List Of) : Type 0 where
   pub came : Came (MayStop back) p idle [] h q idle after
   pub says : Says back came.parts
   pub nothing : handed_out back ≡ []
@@ -468,6 +469,7 @@ pub record Whole (starts : Bool) (p : FrontState) (back : FrontReply) (h : Messa
   pub first : StartsBy starts came.parts
   pub follows : hinders back ≡ false → AreFollowed p.desks came.parts
   pub opens : hinders back ≡ false → OpensEach (served p idle came.stations) came.parts (served q idle after) came.goes
+  pub acts : Acts (filter_map act_told came.parts)
 
 -- ---- what is heard before the channel stops
 
@@ -535,6 +537,30 @@ all_untold : (desks : List DeviceDeskState) (xs : List FrontPart) → AllByRecur
 all_untold desks [] all = tt
 all_untold desks (x ∷ xs) all = (one_untold desks x xs all.0, all_untold desks xs all.1)
 
+one_unacted : (x : FrontPart) → tells_device x ≡ false → act_told x ≡ None
+one_unacted (tells_gone device (Ok done)) none = absurd (cc (none))
+one_unacted (tells_there device (Ok done)) none = absurd (cc (none))
+one_unacted (tells_gone device (Err error)) none = refl
+one_unacted (tells_there device (Err error)) none = refl
+one_unacted (hears channel message answer) none = refl
+one_unacted tries none = refl
+one_unacted keeps none = refl
+one_unacted forgets none = refl
+one_unacted misplaces none = refl
+one_unacted (directs st answer) none = refl
+one_unacted (calls place id does back items) none = refl
+one_unacted (sends channel sent) none = refl
+one_unacted (writes device c) none = refl
+one_unacted (unwritten device c) none = refl
+one_unacted (learns n answer) none = refl
+one_unacted (refreshes device) none = refl
+one_unacted (begins channel) none = refl
+one_unacted (ends over told) none = refl
+
+none_acted : (xs : List FrontPart) → AllByRecursion (λ x. tells_device x ≡ false) xs → filter_map act_told xs ≡ []
+none_acted [] all = refl
+none_acted (x ∷ xs) all = ap (λ (o : Option Act). cons_option o (filter_map act_told xs)) (one_unacted x all.0) ∙ none_acted xs all.1
+
 unstarted : (back : FrontReply) (xs : List FrontPart) → AllByRecursion (IsFine back) xs → AllByRecursion (λ x. is_start x ≡ false) xs
 unstarted back xs all = all_as (IsFine back) (λ x. is_start x ≡ false) (λ x fine. fine.2) xs all
 
@@ -542,8 +568,8 @@ untold : (back : FrontReply) (xs : List FrontPart) → AllByRecursion (IsFine ba
 untold back xs all = all_as (IsFine back) (λ x. tells_device x ≡ false) (λ x fine. fine.1) xs all
 
 -- a call whose parts are fine
-abbrev whole_of : (starts : Bool) (p q : FrontState) (back : FrontReply) (after : List Of) (c : Came (IsFine back) p idle [] [] q idle after) → Says back c.parts → handed_out back ≡ [] → Whole starts p back [] q after
-whole_of starts p q back after c says nothing =
+abbrev whole_of : (starts : Bool) (Acts : List Act → Type 0) → Acts [] → (p q : FrontState) (back : FrontReply) (after : List Of) (c : Came (IsFine back) p idle [] [] q idle after) → Says back c.parts → handed_out back ≡ [] → Whole starts Acts p back [] q after
+whole_of starts Acts none p q back after c says nothing =
     let started = unstarted back c.parts c.each in
     record {
       came = came_as (IsFine back) (MayStop back) p q idle idle [] [] after (fine_stops back) c;
@@ -553,14 +579,15 @@ whole_of starts p q back after c says nothing =
       first = none_start starts c.parts started;
       follows = λ found. all_untold p.desks c.parts (untold back c.parts c.each);
       opens = λ found. none_opens (served p idle c.stations) (served q idle after) c.parts c.goes started;
+      acts = subst Acts (sym (none_acted c.parts (untold back c.parts c.each))) none;
     }
 
-whole : (starts : Bool) (p q : FrontState) (back : FrontReply) → Answers p idle back [] q idle → (after : List Of) → AreStationed q.desks after → Whole starts p back [] q after
-whole starts p q back answer after at = let (c, says, nothing) = answer after at in whole_of starts p q back after c says nothing
+whole : (starts : Bool) (Acts : List Act → Type 0) → Acts [] → (p q : FrontState) (back : FrontReply) → Answers p idle back [] q idle → (after : List Of) → AreStationed q.desks after → Whole starts Acts p back [] q after
+whole starts Acts none p q back answer after at = let (c, says, nothing) = answer after at in whole_of starts Acts none p q back after c says nothing
 
 -- the job that is kept back is tried once more
-retries : (p : FrontState) (kept : Option Kept) → p.kept ≡ kept → p.on ≡ true → (back : FrontReply) (q : FrontState) → FrontRetries p kept back q → (after : List Of) → AreStationed q.desks after → Whole true p back [] q after
-retries p None is on back q did after at = whole true p q back (quiet p q idle idle back [] (quiet_as back _ did.0 (done_quiet None p)) (same p q idle did.1)) after at
+retries : (p : FrontState) (kept : Option Kept) → p.kept ≡ kept → p.on ≡ true → (back : FrontReply) (q : FrontState) → FrontRetries p kept back q → (after : List Of) → AreStationed q.desks after → Whole true (TellsOnce call.Retry back) p back [] q after
+retries p None is on back q did after at = whole true (TellsOnce call.Retry back) refl p q back (quiet p q idle idle back [] (quiet_as back _ did.0 (done_quiet None p)) (same p q idle did.1)) after at
 retries p (Some k) is on back q did after at =
     let without : FrontState = record p { kept = None } in
     let (then, says, nothing) = put without k back q did after at in
@@ -573,6 +600,7 @@ retries p (Some k) is on back q did after at =
       first = unstarted back then.parts then.each;
       follows = λ found. (tt, all_untold p.desks then.parts (untold back then.parts then.each));
       opens = λ found. tt;
+      acts = none_acted then.parts (untold back then.parts then.each);
     }
 
 -- ---- announcements
@@ -787,7 +815,7 @@ wrong_hinders ready p channel message (Ok h) back q did is = absurd (cc (is))
 
 -- a message is heard, and the rest follows
 hears_all : (p : FrontState) (message : List ℕ) → may_hear p ≡ true → (back : FrontReply) (q : FrontState) (did : FrontHears p message back q) → (after : List Of) → AreStationed q.desks after
-    → Whole true p back (filter_map heard_in (hears p.channel message did.0 ∷ []) ++ []) q after
+    → Whole true (TellsOnce (call.Hear message) back) p back (filter_map heard_in (hears p.channel message did.0 ∷ []) ++ []) q after
 unfolding parts_append
 hears_all p message may back q did after at =
     let (then, says, nothing, opened) = follows (is_front_ready p) did.1 did.0 back q (ap (λ (s : FrontState). s.on) (did.2).1 ∙ on_of p.on (is_none p.kept && nat_lt (p.client).asked max_asked) may) did.3 after at in
@@ -802,6 +830,7 @@ hears_all p message may back q did after at =
       first = unstarted back then.parts then.each;
       follows = λ found. (tt, all_untold p.desks then.parts (untold back then.parts then.each));
       opens = λ found answer was now device told. subst (λ (ds : List DeviceDeskState). FollowsAt ds device announced_by then.parts) desks (opened answer was now found device told);
+      acts = none_acted then.parts (untold back then.parts then.each);
     }
 
 -- ---- a channel begins
@@ -902,12 +931,12 @@ abbrev IsToldGone : FrontState → ℕ → Type 0
 IsToldGone s device = Has (plain (removal_bytes (device ∷ []))) ((s.client).core).outbox
 
 -- It is cut off at its desk, where it has one.
-cuts : (p : FrontState) (device : ℕ) (place : Option ℕ) (q : FrontState) → IsToldGone p device → is_told_there p device ≡ false → desk_place p.desks device ≡ place → CutsAt p place q
+cuts : (p : FrontState) (device : ℕ) (place : Option ℕ) (q : FrontState) → IsToldGone p device → is_told_there p device ≡ false → is_gone p.client device ≡ true → desk_place p.desks device ≡ place → CutsAt p place q
     → (after : List Of) → AreStationed q.desks after → (c : Came IsPlain p idle [] [] q idle after) × FollowsAt p.desks device cut_by c.parts
-cuts p device None q told off is did after at = (same p q idle did after at, inl is)
-cuts p device (Some place) q told off is did after at =
+cuts p device None q told off gone is did after at = (same p q idle did after at, inl is)
+cuts p device (Some place) q told off gone is did after at =
     let id : device ≡ ((did.1).before).id = desk_of p.desks place device (did.1).before is (did.1).there in
-    let c = called IsPlain p q idle idle place desk.Remove did.0 tt did.1 (λ stations. refl) (λ stations. (refl, subst (IsToldGone p) id told, subst (λ (n : ℕ). is_told_there p n ≡ false) id off))
+    let c = called IsPlain p q idle idle place desk.Remove did.0 tt did.1 (λ stations. refl) (λ stations. (refl, subst (IsToldGone p) id told, subst (λ (n : ℕ). is_told_there p n ≡ false) id off, subst (λ (n : ℕ). is_gone p.client n ≡ true) id gone))
     (λ items. remove_fit did.0 (did.1).before (did.1).after (did.1).called place ((did.1).before).id items) after at in
     (c, inr (inl (ap (λ (n : ℕ). Some n) (sym id))))
 
@@ -930,14 +959,27 @@ told_off p q device is =
     subst (λ (c : ClientCoreState). (is_client_ready (c.core).shake && (has_device c device && not (is_gone c device))) ≡ false) (sym is)
     (never_both (is_client_ready ((tell_removed p.client device).core).shake) (has_device (tell_removed p.client device) device) (is_gone (tell_removed p.client device) device) (gone_marked device (p.client).devices))
 
-abbrev Wholes : Bool → FrontState → FrontReply → FrontState → Type 0
-Wholes starts p back q = (after : List Of) → AreStationed q.desks after → Whole starts p back [] q after
+-- its mark says that it is gone
+has_marked : (device : ℕ) (ds : List ClientDevice) → list_any (is_device device) ds ≡ true → list_any (is_device device) (map (device_marked device true) ds) ≡ true
+has_marked device [] has = absurd (cc (has))
+has_marked device (x ∷ ds) has = by (is_device device x) refl has (has_marked device ds)
+  where
+    by : (b : Bool) → is_device device x ≡ b → (b || list_any (is_device device) ds) ≡ true → (list_any (is_device device) ds ≡ true → list_any (is_device device) (map (device_marked device true) ds) ≡ true)
+        → let y : ClientDevice = cond b (record x { removed = true }) x in (is_device device y || list_any (is_device device) (map (device_marked device true) ds)) ≡ true
+    by true e some more = λ i. e i || list_any (is_device device) (map (device_marked device true) ds)
+    by false e some more = later_true (is_device device x) _ (more some)
 
-removes_by : (p next : FrontState) (device : ℕ) (answer : Result (Unit {0}) AllocError) → p.on ≡ true → ClientDoes p (client.tells_removed device answer) (one_if_done answer) next → (back : FrontReply) (q : FrontState) → RemovesBy next device answer back q → Wholes false p back q
+marked_gone : (p q : FrontState) (device : ℕ) → has_device p.client device ≡ true → q.client ≡ tell_removed p.client device → is_gone q.client device ≡ true
+marked_gone p q device has is = subst (λ (c : ClientCoreState). is_gone c device ≡ true) (sym is) (gone_marked device (p.client).devices ∙ has_marked device (p.client).devices has)
+
+abbrev Wholes : Bool → (List Act → Type 0) → FrontState → FrontReply → FrontState → Type 0
+Wholes starts Acts p back q = (after : List Of) → AreStationed q.desks after → Whole starts Acts p back [] q after
+
+removes_by : (p next : FrontState) (device : ℕ) (answer : Result (Unit {0}) AllocError) → p.on ≡ true → ClientDoes p (client.tells_removed device answer) (one_if_done answer) next → (back : FrontReply) (q : FrontState) → RemovesBy next device answer back q → Wholes false (TellsOnce (call.Remove device) back) p back q
 removes_by p next device (Ok done) on told back q did after at =
     let none : IsQuiet back = quiet_as back _ did.0 (done_quiet (desk_place next.desks device) q) in
     let desks : next.desks ≡ p.desks = core_desks p next (p.unsent + 1) told.1 in
-    let (c, follow) = cuts next device (desk_place next.desks device) q (told_gone p next device (told.0).1) (told_off p next device (told.0).1) refl did.1 after at in
+    let (c, follow) = cuts next device (desk_place next.desks device) q (told_gone p next device (told.0).1) (told_off p next device (told.0).1) (marked_gone p next device ((told.0).0).1 (told.0).1) refl did.1 after at in
     let first = beside_if (MayStop back) p next idle idle (tells_gone device (Ok done)) [] [] (λ never. absurd (cc (never))) desks refl refl (λ stations. (told, refl, refl, on, refl)) c.stations c.at in
     record {
       came = came_on (MayStop back) p next q idle idle idle [] [] [] [] after (came_as IsPlain (MayStop back) next q idle idle [] [] after (plain_stops back) c) first;
@@ -947,13 +989,15 @@ removes_by p next device (Ok done) on told back q did after at =
       first = (refl, all_as IsPlain (λ x. is_start x ≡ false) (λ x plain. plain.2) c.parts c.each);
       follows = λ found. (subst (λ (ds : List DeviceDeskState). FollowsAt ds device cut_by c.parts) desks follow, all_untold p.desks c.parts (all_as IsPlain (λ x. tells_device x ≡ false) (λ x plain. plain.1) c.parts c.each));
       opens = λ found. tt;
+      acts = subst (λ (r : FrontReply). TellsOnce (call.Remove device) r (removed device ∷ filter_map act_told c.parts)) (sym did.0)
+          (ap (λ (more : List Act). removed device ∷ more) (none_acted c.parts (all_as IsPlain (λ x. tells_device x ≡ false) (λ x plain. plain.1) c.parts c.each)));
     }
 removes_by p next device (Err error) on told back q did after at =
-    whole false p q back (joins_last p next q idle idle idle back [] []
+    whole false (TellsOnce (call.Remove device) back) (subst (λ (r : FrontReply). TellsOnce (call.Remove device) r []) (sym did.0) refl) p q back (joins_last p next q idle idle idle back [] []
     (beside p next idle idle (tells_gone device (Err error)) [] [] (refl, refl, refl) (core_desks p next (p.unsent + 0) told.1) refl refl (λ stations. (told, refl, refl, on, refl)))
     (quiet next q idle idle back [] (quiet_as back reply.Memory did.0 memory_quiet) (same next q idle did.1))) after at
 
-removes_all : (p : FrontState) (device : ℕ) → p.on ≡ true → (back : FrontReply) (q : FrontState) → FrontRemoves p device back q → Wholes false p back q
+removes_all : (p : FrontState) (device : ℕ) → p.on ≡ true → (back : FrontReply) (q : FrontState) → FrontRemoves p device back q → Wholes false (TellsOnce (call.Remove device) back) p back q
 removes_all p device on back q did = removes_by p did.1 device did.0 on did.2 back q did.3
 
 -- a device that was gone is there
@@ -964,8 +1008,13 @@ there_again p q device on may is = (
   ap (λ (c : ClientCoreState). list_any (is_present_as device) c.devices) is ∙ present_marked device (p.client).devices may.1,
 )
 
+-- it was told that it is there again, whether memory was found for its desk or not
+told_once : (device : ℕ) (found : Bool) (s : FrontState) → TellsOnce (call.Add device) (done_where found s) (added device ∷ [])
+told_once device true s = refl
+told_once device false s = inr refl
+
 adds_by : (p next then : FrontState) (device : ℕ) (answer : Result (Unit {0}) AllocError) → p.on ≡ true → next.on ≡ p.on → next.desks ≡ p.desks → Does p idle [] [] next idle → ClientDoes next (client.tells_added device answer) (one_if_done answer) then
-    → (back : FrontReply) (q : FrontState) → AddsBy then device answer back q → Wholes false p back q
+    → (back : FrontReply) (q : FrontState) → AddsBy then device answer back q → Wholes false (TellsOnce (call.Add device) back) p back q
 adds_by p next then device (Ok done) on still desks before told back q did after at =
     let none : IsQuiet back = quiet_as back (done_where did.0 q) did.2 (where_quiet did.0 q) in
     let same_desks : then.desks ≡ next.desks = core_desks next then (next.unsent + 1) told.1 in
@@ -978,6 +1027,9 @@ adds_by p next then device (Ok done) on still desks before told back q did after
     let came_all = came_on (MayStop back) p next q idle idle idle [] [] [] [] after later (came_as IsPlain (MayStop back) p next idle idle [] [] later.stations (plain_stops back) first) in
     let started : AllByRecursion (λ x. is_start x ≡ false) (first.parts ++ tells_there device (Ok done) ∷ c.parts) =
     all_append (λ x. is_start x ≡ false) first.parts (tells_there device (Ok done) ∷ c.parts) (all_as IsPlain (λ x. is_start x ≡ false) (λ x plain. plain.2) first.parts first.each) (refl, unstarted_then) in
+    let one_act : filter_map act_told (first.parts ++ tells_there device (Ok done) ∷ c.parts) ≡ added device ∷ [] =
+    filter_map-append act_told first.parts (tells_there device (Ok done) ∷ c.parts)
+    ∙ (λ i. none_acted first.parts (all_as IsPlain (λ x. tells_device x ≡ false) (λ x plain. plain.1) first.parts first.each) i ++ added device ∷ none_acted c.parts untold_then i) in
     record {
       came = came_all;
       says = quiet_says back came_all.parts none;
@@ -989,34 +1041,36 @@ adds_by p next then device (Ok done) on still desks before told back q did after
         all_untold p.desks c.parts untold_then,
       );
       opens = λ found. none_opens (served p idle came_all.stations) (served q idle after) came_all.parts came_all.goes started;
+      acts = subst (λ (acts : List Act). TellsOnce (call.Add device) back acts) (sym one_act) (subst (λ (r : FrontReply). TellsOnce (call.Add device) r (added device ∷ [])) (sym did.2) (told_once device did.0 q));
     }
 adds_by p next then device (Err error) on still desks before told back q did after at =
-    whole false p q back (joins_last p next q idle idle idle back [] [] before (joins_last next then q idle idle idle back [] []
+    whole false (TellsOnce (call.Add device) back) (subst (λ (r : FrontReply). TellsOnce (call.Add device) r []) (sym did.0) (inl refl)) p q back (joins_last p next q idle idle idle back [] [] before (joins_last next then q idle idle idle back [] []
     (beside next then idle idle (tells_there device (Err error)) [] [] (refl, refl, refl) (core_desks next then (next.unsent + 0) told.1) refl refl (λ stations. (told, refl, refl, still ∙ on, refl)))
     (quiet then q idle idle back [] (quiet_as back reply.Memory did.0 memory_quiet) (same then q idle did.1)))) after at
 
-adds_if : (found : Bool) (p next : FrontState) (device : ℕ) → p.on ≡ true → next.on ≡ p.on → next.desks ≡ p.desks → Does p idle [] [] next idle → (back : FrontReply) (q : FrontState) → AddsIf found next device back q → Wholes false p back q
+adds_if : (found : Bool) (p next : FrontState) (device : ℕ) → p.on ≡ true → next.on ≡ p.on → next.desks ≡ p.desks → Does p idle [] [] next idle → (back : FrontReply) (q : FrontState) → AddsIf found next device back q → Wholes false (TellsOnce (call.Add device) back) p back q
 adds_if true p next device on still desks before back q did = adds_by p next did.1 device did.0 on still desks before did.2 back q did.3
 adds_if false p next device on still desks before back q did =
-    whole false p q back (joins_last p next q idle idle idle back [] [] before (quiet next q idle idle back [] (quiet_as back reply.Memory did.0 memory_quiet) (same next q idle did.1)))
+    whole false (TellsOnce (call.Add device) back) (subst (λ (r : FrontReply). TellsOnce (call.Add device) r []) (sym did.0) (inl refl)) p q back (joins_last p next q idle idle idle back [] [] before (quiet next q idle idle back [] (quiet_as back reply.Memory did.0 memory_quiet) (same next q idle did.1)))
 
 -- a device's data leaves the desks
 refreshed_still : (p : FrontState) (device : ℕ) (found : Bool) (q : FrontState) → Refreshes p device found q → q.desks ≡ p.desks
 refreshed_still p device true q did = ap (λ (s : FrontState). s.desks) did ∙ (refreshed_desks p device).0
 refreshed_still p device false q did = ap (λ (s : FrontState). s.desks) did
 
-adds_all : (p : FrontState) (device : ℕ) → p.on ≡ true → (back : FrontReply) (q : FrontState) → FrontAdds p device back q → Wholes false p back q
+adds_all : (p : FrontState) (device : ℕ) → p.on ≡ true → (back : FrontReply) (q : FrontState) → FrontAdds p device back q → Wholes false (TellsOnce (call.Add device) back) p back q
 adds_all p device on back q did =
     let still = still_one p device did.0 did.1 did.2 in
     adds_if did.0 p did.1 device on still.0 (refreshed_still p device did.0 did.1 did.2) (refreshes_one p device did.0 did.1 did.2) back q did.3
 
 -- where a call fits
-wholes_on : (starts b : Bool) (other back : FrontReply) (p q : FrontState) (does : Type 0) → IsQuiet other → (b ≡ true → does → Wholes starts p back q) → Where b other back p q does → Wholes starts p back q
-wholes_on starts true other back p q does none on did = on refl did
-wholes_on starts false other back p q does none on did = whole starts p q back (not_done other back p q none did)
+wholes_on : (starts : Bool) (Acts : List Act → Type 0) (b : Bool) (other back : FrontReply) (p q : FrontState) (does : Type 0) → (back ≡ other → Acts []) → IsQuiet other → (b ≡ true → does → Wholes starts Acts p back q) → Where b other back p q does → Wholes starts Acts p back q
+wholes_on starts Acts true other back p q does acted none on did = on refl did
+wholes_on starts Acts false other back p q does acted none on did = whole starts Acts (acted did.0) p q back (not_done other back p q none did)
 
-wholes_unless : (starts : Bool) (p : FrontState) (back : FrontReply) (q : FrontState) (does : Type 0) (fits : Bool) → (fits ≡ true → does → Wholes starts p back q) → Where fits reply.Refused back p q (Where (not (is_front_full p)) reply.Full back p q does) → Wholes starts p back q
-wholes_unless starts p back q does fits on did = wholes_on starts fits reply.Refused back p q _ refused_quiet (λ is d. wholes_on starts (not (is_front_full p)) reply.Full back p q does full_quiet (λ less. on is) d) did
+wholes_unless : (starts : Bool) (Acts : List Act → Type 0) (p : FrontState) (back : FrontReply) (q : FrontState) (does : Type 0) (fits : Bool) → (back ≡ reply.Refused → Acts []) → (back ≡ reply.Full → Acts []) → (fits ≡ true → does → Wholes starts Acts p back q)
+    → Where fits reply.Refused back p q (Where (not (is_front_full p)) reply.Full back p q does) → Wholes starts Acts p back q
+wholes_unless starts Acts p back q does fits refusing filling on did = wholes_on starts Acts fits reply.Refused back p q _ refusing refused_quiet (λ is d. wholes_on starts Acts (not (is_front_full p)) reply.Full back p q does filling full_quiet (λ less. on is) d) did
 
 -- ---- the writer
 
@@ -1195,7 +1249,7 @@ among_stops back (x ∷ ps) all (inl here) = all.0 here
 among_stops back (x ∷ ps) all (inr later) = among_stops back ps all.1 later
 
 -- a call by its parts
-called_by : (p q : FrontState) (does : FrontCall) (back : FrontReply) (h : Messages) (after : List Of) (w : Whole (may_start does back) p back h q after) → HearsAs does back (filter_map heard_in (w.came).parts) → ((channel : ℕ) → does ≡ call.Begin channel → HasBegun channel back (w.came).parts)
+called_by : (p q : FrontState) (does : FrontCall) (back : FrontReply) (h : Messages) (after : List Of) (w : Whole (may_start does back) (TellsOnce does back) p back h q after) → HearsAs does back (filter_map heard_in (w.came).parts) → ((channel : ℕ) → does ≡ call.Begin channel → HasBegun channel back (w.came).parts)
     → Called p does back q after
 called_by p q does back h after w heard begun_there =
     let c = w.came in
@@ -1217,6 +1271,7 @@ called_by p q does back h after w heard begun_there =
           before = w.before;
           first = w.first;
           begun = λ channel place full is done. begun_there channel is place full done;
+          acts = w.acts;
         };
         follows = w.follows;
         opens = w.opens;
@@ -1228,7 +1283,7 @@ abbrev IsOther : FrontCall → Type 0
 IsOther does = (channel : ℕ) → does ≡ call.Begin channel → ⊥
 
 -- the same without a message
-silent : (p : FrontState) (does : FrontCall) (back : FrontReply) (q : FrontState) → IsOther does → ((h : Messages) → h ≡ [] → HearsAs does back h) → Wholes (may_start does back) p back q → (after : List Of) → AreStationed q.desks after → Called p does back q after
+silent : (p : FrontState) (does : FrontCall) (back : FrontReply) (q : FrontState) → IsOther does → ((h : Messages) → h ≡ [] → HearsAs does back h) → Wholes (may_start does back) (TellsOnce does back) p back q → (after : List Of) → AreStationed q.desks after → Called p does back q after
 silent p does back q other none made after at =
     let w = made after at in
     called_by p q does back [] after w (none (filter_map heard_in (w.came).parts) (w.came).hears) (λ channel is. absurd (other channel is))
@@ -1336,7 +1391,7 @@ hears_other message channel is = cc (is)
 -- a message is heard, where one may be
 unheard : (message : List ℕ) (p : FrontState) (other back : FrontReply) (q : FrontState) → IsQuiet other → IsHeardBy message other [] → (back ≡ other) × (q ≡ p) → (after : List Of) → AreStationed q.desks after → Called p (call.Hear message) back q after
 unheard message p other back q none says did after at =
-    let w = whole (may_start (call.Hear message) back) p q back (not_done other back p q none did) after at in
+    let w = whole (may_start (call.Hear message) back) (TellsOnce (call.Hear message) back) refl p q back (not_done other back p q none did) after at in
     called_by p q (call.Hear message) back [] after w (subst (IsHeardBy message back) (sym (w.came).hears) (subst (λ (r : FrontReply). IsHeardBy message r []) (sym did.0) says)) (λ channel is. absurd (hears_other message channel is))
 
 hears_call : (p : FrontState) (message : List ℕ) (back : FrontReply) (q : FrontState) → FrontStep p (call.Hear message) back q → (after : List Of) → AreStationed q.desks after → Called p (call.Hear message) back q after
@@ -1345,7 +1400,7 @@ hears_call p message back q did after at = by (may_hear p) refl did
     here : may_hear p ≡ true → FrontHears p message back q → Called p (call.Hear message) back q after
     here may does =
         let said = follows_said (is_front_ready p) does.1 does.0 back q does.3 in
-        let w = subst (λ (b : Bool). Whole b p back (filter_map heard_in (hears p.channel message does.0 ∷ []) ++ []) q after) (sym (said_hears message back said)) (hears_all p message may back q does after at) in
+        let w = subst (λ (b : Bool). Whole b (TellsOnce (call.Hear message) back) p back (filter_map heard_in (hears p.channel message does.0 ∷ []) ++ []) q after) (sym (said_hears message back said)) (hears_all p message may back q does after at) in
         called_by p q (call.Hear message) back (filter_map heard_in (hears p.channel message does.0 ∷ []) ++ []) after w (heard_as p.channel message does.0 back (filter_map heard_in (w.came).parts) does.1 q (is_front_ready p) does.3 said.0 said.1 (w.came).hears)
         (λ channel is. absurd (hears_other message channel is))
 
@@ -1381,6 +1436,7 @@ hands_call channel p place room (reply.Messages filled left) q did after at =
           before = none_before false c.parts c.hears;
           first = started;
           begun = λ begun_channel at_place full is. absurd (cc (is));
+          acts = none_acted c.parts (all_as IsPlain (λ x. tells_device x ≡ false) (λ x plain. plain.1) c.parts c.each);
         };
         follows = λ found. all_untold p.desks c.parts (all_as IsPlain (λ x. tells_device x ≡ false) (λ x plain. plain.1) c.parts c.each);
         opens = λ found. none_opens (served p idle c.stations) (served q idle after) c.parts c.goes started;
@@ -1401,28 +1457,28 @@ next_call : (same_channel : Bool) (channel : ℕ) (p : FrontState) (place : ℕ)
     → Called p (call.Next channel place room) back q after
 next_call true channel p place room back q did after at = hands_call channel p place room back q did after at
 next_call false channel p place room back q did after at =
-    silent p (call.Next channel place room) back q (λ begun_channel is. cc (is)) (λ h is. is) (whole false p q back (not_done (none_for room) back p q (λ is. cc (is), λ key is. cc (is), refl) did)) after at
+    silent p (call.Next channel place room) back q (λ begun_channel is. cc (is)) (λ h is. is) (whole false (TellsOnce (call.Next channel place room) back) refl p q back (not_done (none_for room) back p q (λ is. cc (is), λ key is. cc (is), refl) did)) after at
 
 pub call_goes : (p : FrontState) (does : FrontCall) (back : FrontReply) (q : FrontState) → FrontStep p does back q → (after : List Of) → AreStationed q.desks after → Called p does back q after
 call_goes p (call.Begin channel) back q did after at =
     let (c, says, nothing, begun_there) = begins_where p channel back q (may_begin p channel) refl did after at in
-    let w = whole_of false p q back after c says nothing in
+    let w = whole_of false (TellsOnce (call.Begin channel) back) refl p q back after c says nothing in
     called_by p q (call.Begin channel) back [] after w c.hears (λ other is. let equal : channel ≡ other = cc (is) in subst (λ (n : ℕ). HasBegun n back c.parts) equal begun_there)
 call_goes p (call.Hear message) back q did after at = hears_call p message back q did after at
-call_goes p call.Retry back q did after at = silent p call.Retry back q (λ begun_channel is. cc (is)) (λ h is. is) (wholes_unless (may_start call.Retry back) p back q _ p.on (λ on does. λ then at_then. subst (λ (b : Bool). Whole b p back [] q then) (sym (said_retries back (retried_said p p.kept back q does))) (retries p p.kept refl on back q does then at_then)) did) after at
+call_goes p call.Retry back q did after at = silent p call.Retry back q (λ begun_channel is. cc (is)) (λ h is. is) (wholes_unless (may_start call.Retry back) (TellsOnce call.Retry back) p back q _ p.on (λ is. refl) (λ is. refl) (λ on does. λ then at_then. subst (λ (b : Bool). Whole b (TellsOnce call.Retry back) p back [] q then) (sym (said_retries back (retried_said p p.kept back q does))) (retries p p.kept refl on back q does then at_then)) did) after at
 call_goes p (call.Next channel place room) back q did after at = next_call (channel == p.channel) channel p place room back q did after at
 call_goes p (call.Remove device) back q did after at =
-    silent p (call.Remove device) back q (λ begun_channel is. cc (is)) (λ h is. is) (wholes_unless false p back q _ (may_remove p device) (λ may does. removes_all p device (on_of p.on (is_told_there p device) may) back q does) did) after at
+    silent p (call.Remove device) back q (λ begun_channel is. cc (is)) (λ h is. is) (wholes_unless false (TellsOnce (call.Remove device) back) p back q _ (may_remove p device) (λ is. subst (λ (r : FrontReply). TellsOnce (call.Remove device) r []) (sym is) refl) (λ is. subst (λ (r : FrontReply). TellsOnce (call.Remove device) r []) (sym is) refl) (λ may does. removes_all p device (on_of p.on (is_told_there p device) may) back q does) did) after at
 call_goes p (call.Add device) back q did after at =
-    silent p (call.Add device) back q (λ begun_channel is. cc (is)) (λ h is. is) (wholes_unless false p back q _ (may_add p device) (λ may does. adds_all p device (on_of p.on (is_front_ready p && is_gone p.client device) may) back q does) did) after at
+    silent p (call.Add device) back q (λ begun_channel is. cc (is)) (λ h is. is) (wholes_unless false (TellsOnce (call.Add device) back) p back q _ (may_add p device) (λ is. subst (λ (r : FrontReply). TellsOnce (call.Add device) r []) (sym is) refl) (λ is. subst (λ (r : FrontReply). TellsOnce (call.Add device) r []) (sym is) refl) (λ may does. adds_all p device (on_of p.on (is_front_ready p && is_gone p.client device) may) back q does) did) after at
 call_goes p call.Look back q did after at =
-    silent p call.Look back q (λ begun_channel is. cc (is)) (λ h is. is) (whole false p q back (quiet p q idle idle back [] (quiet_as back _ did.0 (λ is. cc (is), λ key is. cc (is), refl)) (same p q idle did.1))) after at
+    silent p call.Look back q (λ begun_channel is. cc (is)) (λ h is. is) (whole false (TellsOnce call.Look back) refl p q back (quiet p q idle idle back [] (quiet_as back _ did.0 (λ is. cc (is), λ key is. cc (is), refl)) (same p q idle did.1))) after at
 call_goes p call.EndChannel back q did after at =
     silent p call.EndChannel back q (λ begun_channel is. cc (is)) (λ h is. is)
-    (wholes_on false p.on reply.Refused back p q _ refused_quiet (λ on (does : (back ≡ done_at None q) × ChannelEnds p q). whole false p q back (quiet p q idle idle back [] (quiet_as back _ does.0 (done_quiet None q)) (channel_ends p q does.1))) did) after at
+    (wholes_on false (TellsOnce call.EndChannel back) p.on reply.Refused back p q _ (λ is. refl) refused_quiet (λ on (does : (back ≡ done_at None q) × ChannelEnds p q). whole false (TellsOnce call.EndChannel back) refl p q back (quiet p q idle idle back [] (quiet_as back _ does.0 (done_quiet None q)) (channel_ends p q does.1))) did) after at
 call_goes p call.EndSession back q did after at =
     silent p call.EndSession back q (λ begun_channel is. cc (is)) (λ h is. is)
-    (wholes_on false (not p.over) reply.Refused back p q _ refused_quiet (λ on (does : (back ≡ done_at None q) × SessionEnds p q). whole false p q back (quiet p q idle idle back [] (quiet_as back _ does.0 (done_quiet None q)) (session_ends p q does.1))) did) after at
+    (wholes_on false (TellsOnce call.EndSession back) (not p.over) reply.Refused back p q _ (λ is. refl) refused_quiet (λ on (does : (back ≡ done_at None q) × SessionEnds p q). whole false (TellsOnce call.EndSession back) refl p q back (quiet p q idle idle back [] (quiet_as back _ does.0 (done_quiet None q)) (session_ends p q does.1))) did) after at
 
 -- A history with the stations after it.
 pub record History (p : FrontState) (entries : List (Entry FrontCall FrontReply)) (q : FrontState) (after : List Of) : Type 0 where

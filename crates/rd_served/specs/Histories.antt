@@ -14,9 +14,10 @@ use Rattle.rd_hello.specs.declared.end_fault.EndFault.TheVariants as fault
 use Rattle.rd_journals.specs.Stations.{IsFit}
 use Rattle.rd_station.specs.Station.{new_station}
 use Rattle.rd_turn.specs.declared.object.Entry.{Entry}
+use Rattle.rd_world.specs.Control.{Act, added, removed}
 use Rattle.rd_world.specs.Devices.{device_parked}
 use Rattle.rd_world.specs.declared.device.SessionDevice.{SessionDevice}
-use Rattle.rd_served.specs.Parts.{FrontPart, PartsGo, announced_by, begins, begun_by, cut_by, duplicate_of, handed_by, heard_in, hears, is_lost, is_start, is_unfit, stops, tells_gone, tells_there}
+use Rattle.rd_served.specs.Parts.{FrontPart, PartsGo, act_told, announced_by, begins, begun_by, cut_by, duplicate_of, handed_by, heard_in, hears, is_lost, is_start, is_unfit, stops, tells_gone, tells_there}
 use Rattle.rd_served.specs.Served.{IsStationed, Served, idle}
 
 -- the messages that a reply hands out
@@ -91,6 +92,13 @@ OpensEach old (hears channel message answer ∷ ps) new goes =
     answer ≡ Ok Nothing → is_front_ready old.front ≡ false → is_front_ready (goes.0).front ≡ true → (device : ℕ) → is_told_there (goes.0).front device ≡ true → FollowsAt (old.front).desks device announced_by ps
 OpensEach old _ new goes = Unit {0}
 
+-- By a call that is done the host is told of the call's device, once; by others of none. Where no memory was found for the desk of a device that is there again, the host may have been told of it.
+abbrev pub TellsOnce : FrontCall → FrontReply → List Act → Type 0
+TellsOnce (call.Remove device) (reply.Done at full) acts = acts ≡ removed device ∷ []
+TellsOnce (call.Add device) (reply.Done at full) acts = acts ≡ added device ∷ []
+TellsOnce (call.Add device) reply.Memory acts = (acts ≡ []) ⊎ (acts ≡ added device ∷ [])
+TellsOnce does back acts = acts ≡ []
+
 -- What a call and its reply say of the parts. A part stops the channel only where the reply hinders, and the call's message is heard before it.
 pub record TellsParts (does : FrontCall) (back : FrontReply) (parts : List FrontPart) : Type 0 where
   pub unfit : back ≡ reply.Unfit → Among (λ p. is_unfit p ≡ true) parts
@@ -100,6 +108,7 @@ pub record TellsParts (does : FrontCall) (back : FrontReply) (parts : List Front
   pub before : HearBefore false parts
   pub first : StartsBy (may_start does back) parts
   pub begun : (channel : ℕ) (at : Option ℕ) (full : Bool) → does ≡ call.Begin channel → back ≡ reply.Done at full → Among (λ p. begun_by p ≡ Some channel) parts
+  pub acts : TellsOnce does back (filter_map act_told parts)
 
 -- A call's parts: they lead from the front before it to the front after it, between which nothing is under way.
 pub record CallGoes (old : Served) (does : FrontCall) (back : FrontReply) (parts : List FrontPart) (new : Served) : Type 0 where

@@ -7,7 +7,7 @@ use Rattle.rd_base.specs.declared.journal.Key.{Key}
 use Rattle.rd_base.specs.declared.status.Status.{Status}
 use Rattle.rd_base.specs.Statuses.{insufficient_resources, no_such_device}
 use Rattle.rd_client.specs.Core as client
-use Rattle.rd_client.specs.Core.{ClientDevice, Outgoing, is_device, is_present, may_be_asked, plain}
+use Rattle.rd_client.specs.Core.{ClientDevice, Outgoing, is_device, is_gone, is_present, may_be_asked, plain}
 use Rattle.rd_client.specs.declared.heard.Heard.{Heard}
 use Rattle.rd_client.specs.declared.heard.Heard.TheVariants.{Ask}
 use Rattle.rd_desk.specs.declared.calls.DeskCall.{DeskCall}
@@ -25,6 +25,7 @@ use Rattle.rd_printer.specs.declared.notice.Notice.{Notice}
 use Rattle.rd_station.specs.declared.answers.Completion.{Completion}
 use Rattle.rd_station.specs.declared.refusals.PutWhy.{PutWhy}
 use Rattle.rd_station.specs.declared.refusals.PutWhy.TheVariants as why
+use Rattle.rd_world.specs.Control.{Act, added, removed}
 use Rattle.rd_world.specs.Events.{completion_message}
 use Rattle.rd_world.specs.Talk.{Has}
 use Rattle.rd_world.specs.World.{Kept}
@@ -105,7 +106,7 @@ is_present_as device d = is_device device d && is_present d
 -- A completion is collected where the core has nothing to write. A device is announced to its desk once the host is told of it on the channel that is on, and cut off there once the core has to write that it is gone, while nothing is under way.
 abbrev pub FitsCall : Served → ℕ → DeskCall → Type 0
 FitsCall s id desk.Collect = (((s.front).client).core).outbox ≡ []
-FitsCall s id desk.Remove = (s.asking ≡ idle) × Has (plain (removal_bytes (id ∷ []))) (((s.front).client).core).outbox × (is_told_there s.front id ≡ false)
+FitsCall s id desk.Remove = (s.asking ≡ idle) × Has (plain (removal_bytes (id ∷ []))) (((s.front).client).core).outbox × (is_told_there s.front id ≡ false) × (is_gone (s.front).client id ≡ true)
 FitsCall s id desk.Announce = (s.asking ≡ idle) × ((s.front).on ≡ true) × (is_front_ready s.front ≡ true) × (list_any (is_present_as id) ((s.front).client).devices ≡ true)
 FitsCall s id _ = Unit {0}
 
@@ -233,6 +234,12 @@ abbrev pub tells_device : FrontPart → Bool
 tells_device (tells_gone device (Ok done)) = true
 tells_device (tells_there device (Ok done)) = true
 tells_device _ = false
+
+-- what it is told
+abbrev pub act_told : FrontPart → Option Act
+act_told (tells_gone device (Ok done)) = Some (removed device)
+act_told (tells_there device (Ok done)) = Some (added device)
+act_told _ = None
 
 -- the device that is announced to its desk, where memory was found for that; and the one that is cut off there
 abbrev pub announced_by : FrontPart → Option ℕ

@@ -29,6 +29,7 @@ use Rattle.rd_world.specs.Talk.{Deed, client_read, request_at}
 use Rattle.rd_world.specs.World.{Kept}
 use Rattle.rd_served.proofs.CauseLemmas.{new_at}
 use Rattle.rd_served.proofs.KeyLemmas.{IsUnder}
+use Rattle.rd_served.proofs.MeetLemmas.{CallsMeet, PartsMeet}
 use Rattle.rd_served.proofs.StandingLemmas.{IsKnownAt, begins_known, part_known}
 use Rattle.rd_served.proofs.WalkLemmas.{none_opens}
 use Rattle.rd_served.specs.Deeds.{deeds_after, deeds_of, deeds_of_calls}
@@ -208,23 +209,31 @@ module _ (devices : List Announce) (desks : List DeviceDeskState) (have : HaveDe
     ids : ids_of (q.front).desks ≡ ids_of desks
 
   -- the stations are open but for what these parts still do, or a channel is still to begin
+  abbrev SaidAt : Served → List Deed → FrontPart → Type 0
+  SaidAt p deeds x = AreSaid p deeds
+
   abbrev Ahead : List FrontPart → Served → Type 0
   Ahead ps p = IsOpenBut (DueIn ps) (CutIn ps) p ⊎ ((channel : ℕ) × Among (λ x. begun_by x ≡ Some channel) ps)
 
   goes_on : (ps : List FrontPart) (starts : Bool) (first : List DeviceDeskState) (G : Type 0) (p q : Served) (deeds : List Deed) (goes : PartsGo p ps q) → ids_of first ≡ ids_of desks → StartsBy starts ps → (starts ≡ true → IsOpen p)
-      → (G → AreFollowed first ps) → (G → OpensEach p ps q goes) → (G → Ahead ps p) → At p deeds → AreFine FitsCompletion (deeds_after ps deeds) → AreOff p → AreSaid p deeds → AreUnworn p deeds → After q (deeds_after ps deeds) G
-  goes_on [] starts first G p q deeds goes same all opened followed opens ahead at fine off said unworn = subst (λ (v : Served). After v deeds G) (sym goes) (record {
-    said = said;
-    unworn = unworn;
-    off = off;
-    opened = λ g. elim (ahead g) [ inl is ↦ is | inr later ↦ absurd later.1 ];
-    known = at.known;
-    own = at.own;
-    ids = at.ids;
-  })
+      → (G → AreFollowed first ps) → (G → OpensEach p ps q goes) → (G → Ahead ps p) → At p deeds → AreFine FitsCompletion (deeds_after ps deeds) → AreOff p → AreSaid p deeds → AreUnworn p deeds → After q (deeds_after ps deeds) G × PartsMeet SaidAt p deeds ps q goes
+  goes_on [] starts first G p q deeds goes same all opened followed opens ahead at fine off said unworn = (
+    subst (λ (v : Served). After v deeds G) (sym goes) (record {
+      said = said;
+      unworn = unworn;
+      off = off;
+      opened = λ g. elim (ahead g) [ inl is ↦ is | inr later ↦ absurd later.1 ];
+      known = at.known;
+      own = at.own;
+      ids = at.ids;
+    }),
+    tt,
+  )
   goes_on (x ∷ ps) starts first G p q deeds goes same all opened followed opens ahead at fine off said unworn =
+      let (after, each) =
       goes_on ps false first G next q (deeds_of x ++ deeds) goes.2 same (later_starts starts x ps all) (λ no. absurd (cc (no))) (λ g. (followed g).1) (λ g. none_opens next q ps goes.2 (later_starts starts x ps all)) then_ahead then_at fine then_off (part_said devices desks have writable p next x deeds goes.1 at said)
-      (part_unworn devices desks have writable p next x deeds goes.1 at said unworn)
+      (part_unworn devices desks have writable p next x deeds goes.1 at said unworn) in
+      (after, (said, each))
     where
       next : Served
       next = goes.0
@@ -266,8 +275,8 @@ module _ (devices : List Announce) (desks : List DeviceDeskState) (have : HaveDe
     live = λ place d s here lives. let so = is.live place d s here lives in (so.0, elim so.1 [ inl told ↦ inl told | inr never ↦ absurd never ]);
   }
 
-  one_call : (was : Bool) (does : FrontCall) (back : FrontReply) (ps : List FrontPart) (p q : Served) (deeds : List Deed) → CallGoes p does back ps q → (may_start does back ≡ true → was ≡ false) → IsKnownAt p deeds → IsOwn devices p deeds → ids_of (p.front).desks ≡ ids_of desks
-      → AreFine FitsCompletion (deeds_after ps deeds) → AreOff p → (was ≡ false → IsOpen p) → AreSaid p deeds → AreUnworn p deeds → After q (deeds_after ps deeds) (hindered_by was does back ≡ false)
+  one_call : (was : Bool) (does : FrontCall) (back : FrontReply) (ps : List FrontPart) (p q : Served) (deeds : List Deed) → (goes : CallGoes p does back ps q) → (may_start does back ≡ true → was ≡ false) → IsKnownAt p deeds → IsOwn devices p deeds → ids_of (p.front).desks ≡ ids_of desks
+      → AreFine FitsCompletion (deeds_after ps deeds) → AreOff p → (was ≡ false → IsOpen p) → AreSaid p deeds → AreUnworn p deeds → After q (deeds_after ps deeds) (hindered_by was does back ≡ false) × PartsMeet SaidAt p deeds ps q goes.goes
   one_call was does back ps p q deeds goes starts known own ids fine off opened said unworn =
       goes_on ps (may_start does back) (p.front).desks (hindered_by was does back ≡ false) p q deeds goes.goes ids (goes.tells).first (λ is. opened (starts is)) (λ g. goes.follows (unhindered was does back g).0) (λ g. goes.opens (unhindered was does back g).0) ahead at fine off said unworn
     where
@@ -287,22 +296,25 @@ module _ (devices : List Announce) (desks : List DeviceDeskState) (have : HaveDe
         open_way = λ k under. absurd (subst (λ (a : Asking). IsUnder a k) goes.before under);
       }
 
-  pub history_said : (entries : List (Entry FrontCall FrontReply)) (parts : List (List FrontPart)) (was : Bool) (p q : Served) (deeds : List Deed) → HistoryGoes p entries parts q → StartUnhindered was entries → IsKnownAt p deeds → IsOwn devices p deeds → ids_of (p.front).desks ≡ ids_of desks
-      → AreFine FitsCompletion (deeds_of_calls parts deeds) → AreOff p → (was ≡ false → IsOpen p) → AreSaid p deeds → AreUnworn p deeds → AreSaid q (deeds_of_calls parts deeds) × AreUnworn q (deeds_of_calls parts deeds) × (hindered_after was entries ≡ false → IsOpen q)
-  history_said [] [] was p q deeds goes unhindered_all known own ids fine off opened said unworn = (subst (λ (v : Served). AreSaid v deeds) (sym goes) said, subst (λ (v : Served). AreUnworn v deeds) (sym goes) unworn, λ is. subst IsOpen (sym goes) (opened is))
+  pub history_said : (entries : List (Entry FrontCall FrontReply)) (parts : List (List FrontPart)) (was : Bool) (p q : Served) (deeds : List Deed) → (goes : HistoryGoes p entries parts q) → StartUnhindered was entries → IsKnownAt p deeds → IsOwn devices p deeds → ids_of (p.front).desks ≡ ids_of desks
+      → AreFine FitsCompletion (deeds_of_calls parts deeds) → AreOff p → (was ≡ false → IsOpen p) → AreSaid p deeds → AreUnworn p deeds
+      → AreSaid q (deeds_of_calls parts deeds) × AreUnworn q (deeds_of_calls parts deeds) × (hindered_after was entries ≡ false → IsOpen q) × CallsMeet SaidAt p deeds entries parts q goes
+  history_said [] [] was p q deeds goes unhindered_all known own ids fine off opened said unworn = (subst (λ (v : Served). AreSaid v deeds) (sym goes) said, subst (λ (v : Served). AreUnworn v deeds) (sym goes) unworn, (λ is. subst IsOpen (sym goes) (opened is)), tt)
   history_said [] (ps ∷ parts) was p q deeds goes unhindered_all known own ids fine off opened said unworn = absurd goes
   history_said (e ∷ entries) [] was p q deeds goes unhindered_all known own ids fine off opened said unworn = absurd goes
   history_said (e ∷ entries) (ps ∷ parts) was p q deeds goes unhindered_all known own ids fine off opened said unworn =
-      let after = one_call was e.call e.reply ps p goes.0 deeds goes.1 unhindered_all.0 known own ids (λ c k r read. fine c k r (grown_calls parts (deeds_after ps deeds) c k r read)) off opened said unworn in
-      history_said entries parts (hindered_by was e.call e.reply) goes.0 q (deeds_after ps deeds) goes.2 unhindered_all.1 after.known after.own after.ids fine after.off after.opened after.said after.unworn
+      let (after, each) = one_call was e.call e.reply ps p goes.0 deeds goes.1 unhindered_all.0 known own ids (λ c k r read. fine c k r (grown_calls parts (deeds_after ps deeds) c k r read)) off opened said unworn in
+      let more = history_said entries parts (hindered_by was e.call e.reply) goes.0 q (deeds_after ps deeds) goes.2 unhindered_all.1 after.known after.own after.ids fine after.off after.opened after.said after.unworn in
+      (more.0, more.1, more.2, (each, more.3))
 
 -- ---- the beginning
 
 begins_off : (devices : List Announce) (p : Served) → BeginsWith devices p → (place : ℕ) (d : DeviceDeskState) (s : Of) → IsDeskAt p place d s → s.live ≡ false
 begins_off devices p start place d s here = ap (λ (x : Of). x.live) (new_at (p.front).desks p.stations start.new.new.desks start.new.stationed place d s here.0 here.1).1
 
-pub all_said : (devices : List Announce) (old new : Served) (entries : List (Entry FrontCall FrontReply)) (parts : List (List FrontPart)) → BeginsWith devices old → HaveDesks devices (old.front).desks → HistoryGoes old entries parts new → AreFine FitsCompletion (deeds_of_calls parts [])
-    → StartUnhindered false entries → AreSaid new (deeds_of_calls parts []) × AreUnworn new (deeds_of_calls parts []) × (hindered_after false entries ≡ false → IsOpen new)
+pub all_said : (devices : List Announce) (old new : Served) (entries : List (Entry FrontCall FrontReply)) (parts : List (List FrontPart)) → BeginsWith devices old → HaveDesks devices (old.front).desks → (goes : HistoryGoes old entries parts new) → AreFine FitsCompletion (deeds_of_calls parts [])
+    → StartUnhindered false entries
+    → AreSaid new (deeds_of_calls parts []) × AreUnworn new (deeds_of_calls parts []) × (hindered_after false entries ≡ false → IsOpen new) × CallsMeet (λ p before x. AreSaid p before) old [] entries parts new goes
 all_said devices old new entries parts start have goes fine unhindered_all =
     history_said devices (old.front).desks have start.writable entries parts false old new [] goes unhindered_all (begins_known old start.new.new start.new.apart start.new.stationed start.new.idle_is) (begins_own devices old start) refl fine
     (λ off. begins_off devices old start) (λ is. record {

@@ -132,7 +132,7 @@ ends_comes over (d ∷ ds) (s ∷ ss) (t ∷ ts) (e ∷ es) (u ∷ us) deeds end
 ends_comes over ds ss ts es us deeds ended each = absurd ended
 
 -- a key that comes is that of the job that is under way
-comes_next : (p q : Served) (place id : ℕ) (does : DeskCall) (back : DeskReply) (items : List Item) → IsKeyed p → (at : CallsAt p place id does back items q) → (key : Key) → ComesBy (told_by does back) key → ((p.front).on ≡ true) × (key.channel ≡ (p.front).channel)
+pub comes_next : (p q : Served) (place id : ℕ) (does : DeskCall) (back : DeskReply) (items : List Item) → IsKeyed p → (at : CallsAt p place id does back items q) → (key : Key) → ComesBy (told_by does back) key → ((p.front).on ≡ true) × (key.channel ≡ (p.front).channel)
 comes_next p q place id (desk.Put job) (replied.Put (Ok done)) items keyed at key (inl same) =
     let c : Comes p place job = (at.asking_is).0 in
     let next = keyed.asking c.kept (subst (λ (a : Asking). IsUnder a c.kept) (sym c.asked) refl) in

@@ -1,6 +1,9 @@
+pub mod AwayLemmas
 pub mod CallLemmas
+pub mod CutLemmas
 pub mod DeskLemmas
 pub mod LaterLemmas
+pub mod LeftLemmas
 pub mod OpenLemmas
 pub mod PlaceLemmas
 pub mod RefuseLemmas

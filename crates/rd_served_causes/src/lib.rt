@@ -6,6 +6,6 @@
 mod laws;
 
 pub use laws::{
-    fronts_answer, fronts_refuse_as_they_said, fronts_say_who_is_there,
-    requests_come_unworn_to_fronts, starts_are_heard_unhindered,
+    devices_are_cut_where_removed, fronts_answer, fronts_leave_answers, fronts_refuse_as_they_said,
+    fronts_say_who_is_there, requests_come_unworn_to_fronts, starts_are_heard_unhindered,
 };

@@ -52,7 +52,7 @@ use Rattle.rd_served_order.proofs.OwnLemmas.{IsOwn, each_keeps, part_own, stored
 abbrev outbox_of : Served → List Outgoing
 outbox_of p = (((p.front).client).core).outbox
 
-abbrev ready_of : Served → Bool
+abbrev pub ready_of : Served → Bool
 ready_of p = is_client_ready (((p.front).client).core).shake
 
 -- ---- what waits to be told
@@ -70,7 +70,7 @@ waiting_untold os more all = waiting_more os more ∙ ap (λ (ms : List (List �
 waiting_told : (os : List Outgoing) (m : List ℕ) → is_telling m ≡ true → tellings_waiting (os ++ plain m ∷ []) ≡ tellings_waiting os ++ m ∷ []
 waiting_told os m told = waiting_more os (plain m ∷ []) ∙ ap (λ (b : Bool). tellings_waiting os ++ (if b then m ∷ [] else [])) told
 
-waiting_first : (o : Outgoing) (rest : List Outgoing) → tellings_waiting (o ∷ rest) ≡ filter is_telling (o.message ∷ []) ++ tellings_waiting rest
+pub waiting_first : (o : Outgoing) (rest : List Outgoing) → tellings_waiting (o ∷ rest) ≡ filter is_telling (o.message ∷ []) ++ tellings_waiting rest
 waiting_first o rest = waiting_more (o ∷ []) rest
 
 one_telling : (list : List Announce) → is_telling (list_bytes list) ≡ true
@@ -84,7 +84,7 @@ kept_tellings : (x e : ℕ) (item : Item) (deeds : List Deed) → tellings_on x 
 kept_tellings x e item deeds = refl
 
 -- a message of its own is written on the channel, by whichever deed
-own_tells : (c channel : ℕ) (m : List ℕ) (answers : Option Key) (deeds : List Deed) → AreOnChannel c (sent_by channel m answers) → tellings_on c (sent_by channel m answers ++ deeds) ≡ tellings_on c deeds ++ filter is_telling (m ∷ [])
+pub own_tells : (c channel : ℕ) (m : List ℕ) (answers : Option Key) (deeds : List Deed) → AreOnChannel c (sent_by channel m answers) → tellings_on c (sent_by channel m answers ++ deeds) ≡ tellings_on c deeds ++ filter is_telling (m ∷ [])
 own_tells c channel m None deeds here =
     wrote_more c (on c channel m) (client_wrote c deeds) ∙ ap (λ (ms : List (List ℕ)). tellings_on c deeds ++ filter is_telling ms) (moved_here c channel m [] here.0)
 own_tells c channel m (Some key) deeds here =
@@ -243,7 +243,7 @@ module _ (devices : List Announce) where
 
   -- ---- each part
 
-  part_telling : AreWritable devices → (p q : Served) (x : FrontPart) (deeds : List Deed) (until : ℕ → List Deed) (acts : ℕ → List Act) → PartGoes p x q → AreOnChannel (p.front).channel (deeds_of x) → IsKnownAt p deeds → IsOwn devices p deeds → IsOrdered devices p deeds until
+  pub part_telling : AreWritable devices → (p q : Served) (x : FrontPart) (deeds : List Deed) (until : ℕ → List Deed) (acts : ℕ → List Act) → PartGoes p x q → AreOnChannel (p.front).channel (deeds_of x) → IsKnownAt p deeds → IsOwn devices p deeds → IsOrdered devices p deeds until
       → IsTelling p deeds until acts → IsTelling q (deeds_of x ++ deeds) (until_by x deeds until) (λ y. acts y ++ part_acts y p x)
   part_telling writable p q (part.hears channel m answer) deeds until acts goes here known own ordered is = unacted q _ until acts (by answer ((goes.3).0).1)
     where

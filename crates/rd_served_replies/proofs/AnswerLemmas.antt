@@ -45,6 +45,7 @@ use Rattle.rd_served.specs.Parts.{AsksBy, CallsAt, FrontPart, PartGoes, PartsGo,
 use Rattle.rd_served.specs.Parts as part
 use Rattle.rd_served.specs.Served.{Asking, Served, hands, idle}
 use Rattle.rd_served.proofs.CauseLemmas.{AnyRequest}
+use Rattle.rd_served.proofs.MeetLemmas.{CallsMeet, PartsMeet}
 use Rattle.rd_served.proofs.StandingLemmas.{IsKnownAt, IsUnserved, came_here, direct_under, ended_outbox, part_known, parts_known, sent_first}
 use Rattle.rd_served_replies.specs.Premises.{GiveOwn}
 use Rattle.rd_served_replies.proofs.BeginLemmas.{IsOneOf}
@@ -316,3 +317,26 @@ module _ (devices : List (ℕ × Declared)) (fit : AreFit devices) (final : List
   history_replied (e ∷ entries) (ps ∷ parts) p q deeds goes known follows gives grown is =
       history_replied entries parts goes.0 q (deeds_after ps deeds) goes.2 (parts_known ps p goes.0 deeds (goes.1).goes known) (parts_followed (IsOneOf devices) ps p goes.0 deeds (goes.1).goes known follows) gives grown
       (parts_replied ps p goes.0 deeds (goes.1).goes known follows (history_gives entries parts goes.0 q goes.2 gives) (λ c k r read. grown c k r (grown_calls parts (deeds_after ps deeds) c k r read)) is)
+
+  -- so it is at each part
+  parts_replying : (ps : List FrontPart) (p q : Served) (deeds : List Deed) (goes : PartsGo p ps q) → IsKnownAt p deeds → IsFollowed (IsOneOf devices) p deeds → GiveOwn (q.front).desks → Grown (deeds_after ps deeds) final
+      → AreReplied (replies_read devices final) p deeds → PartsMeet (λ v before x. AreReplied (replies_read devices final) v before) p deeds ps q goes
+  parts_replying [] p q deeds same known follows gives grown is = tt
+  parts_replying (x ∷ ps) p q deeds goes known follows gives grown is = (
+    is,
+    parts_replying ps goes.0 q (deeds_of x ++ deeds) goes.2 (part_known p goes.0 x deeds goes.1 known) (part_followed (IsOneOf devices) p goes.0 x deeds goes.1 known.keyed known.told follows) gives grown
+        (part_replied p goes.0 x deeds goes.1 known follows (parts_give ps goes.0 q goes.2 gives) (λ c k r read. grown c k r (grown_after ps (deeds_of x ++ deeds) c k r read)) is),
+  )
+
+  pub history_replying : (entries : List (Entry FrontCall FrontReply)) (parts : List (List FrontPart)) (p q : Served) (deeds : List Deed) (goes : HistoryGoes p entries parts q) → IsKnownAt p deeds → IsFollowed (IsOneOf devices) p deeds → GiveOwn (q.front).desks → Grown (deeds_of_calls parts deeds) final
+      → AreReplied (replies_read devices final) p deeds → CallsMeet (λ v before x. AreReplied (replies_read devices final) v before) p deeds entries parts q goes
+  history_replying [] [] p q deeds same known follows gives grown is = tt
+  history_replying [] (ps ∷ parts) p q deeds goes known follows gives grown is = absurd goes
+  history_replying (e ∷ entries) [] p q deeds goes known follows gives grown is = absurd goes
+  history_replying (e ∷ entries) (ps ∷ parts) p q deeds goes known follows gives grown is =
+      let give = history_gives entries parts goes.0 q goes.2 gives in
+      let grow : Grown (deeds_after ps deeds) final = λ c k r read. grown c k r (grown_calls parts (deeds_after ps deeds) c k r read) in (
+        parts_replying ps p goes.0 deeds (goes.1).goes known follows give grow is,
+        history_replying entries parts goes.0 q (deeds_after ps deeds) goes.2 (parts_known ps p goes.0 deeds (goes.1).goes known) (parts_followed (IsOneOf devices) ps p goes.0 deeds (goes.1).goes known follows) gives grown
+            (parts_replied ps p goes.0 deeds (goes.1).goes known follows give grow is),
+      )

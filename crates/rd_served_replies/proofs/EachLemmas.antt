@@ -23,9 +23,10 @@ use Rattle.rd_served.specs.Histories.{BeginsNew, HistoryGoes}
 use Rattle.rd_served.specs.Parts.{FrontPart}
 use Rattle.rd_served.specs.Served.{Served}
 use Rattle.rd_served.proofs.KeyLemmas.{keyed_lawful}
+use Rattle.rd_served.proofs.MeetLemmas.{CallsMeet}
 use Rattle.rd_served.proofs.StandingLemmas.{IsKnownAt, history_known}
 use Rattle.rd_served_replies.specs.Premises.{AreOpened, GiveOwn}
-use Rattle.rd_served_replies.proofs.AnswerLemmas.{AreReplied, history_replied}
+use Rattle.rd_served_replies.proofs.AnswerLemmas.{AreReplied, history_replied, history_replying}
 use Rattle.rd_served_replies.proofs.GoneLemmas.{AreGone, history_gone}
 use Rattle.rd_served_replies.proofs.HostLemmas.{calls_host, since_read}
 use Rattle.rd_served_replies.proofs.BeginLemmas.{first_of, known_first}
@@ -43,6 +44,12 @@ pub replied_then : (devices : List (ℕ × Declared)) (old new : Served) (entrie
     → AllByRecursion IsOfBytes (deeds_of_calls parts []) → AreReplied (replies_read devices (deeds_of_calls parts [])) new (deeds_of_calls parts [])
 replied_then devices old new entries parts begins opened goes gives bytes =
     history_replied devices opened.fit (deeds_of_calls parts []) (all_fine (deeds_of_calls parts []) bytes) entries parts old new [] goes (known_first old begins) (first_of devices old begins opened) gives
+    (grown_more [] (deeds_of_calls parts [])) (replied_first devices (deeds_of_calls parts []) old begins)
+
+pub all_replying : (devices : List (ℕ × Declared)) (old new : Served) (entries : List (Entry FrontCall FrontReply)) (parts : List (List FrontPart)) → BeginsNew old → AreOpened devices (old.front).desks → (goes : HistoryGoes old entries parts new) → GiveOwn (new.front).desks
+    → AllByRecursion IsOfBytes (deeds_of_calls parts []) → CallsMeet (λ p before x. AreReplied (replies_read devices (deeds_of_calls parts [])) p before) old [] entries parts new goes
+all_replying devices old new entries parts begins opened goes gives bytes =
+    history_replying devices opened.fit (deeds_of_calls parts []) (all_fine (deeds_of_calls parts []) bytes) entries parts old new [] goes (known_first old begins) (first_of devices old begins opened) gives
     (grown_more [] (deeds_of_calls parts [])) (replied_first devices (deeds_of_calls parts []) old begins)
 
 pub all_replied : (devices : List (ℕ × Declared)) (old new : Served) (entries : List (Entry FrontCall FrontReply)) (parts : List (List FrontPart)) → BeginsNew old → AreOpened devices (old.front).desks → HistoryGoes old entries parts new → GiveOwn (new.front).desks

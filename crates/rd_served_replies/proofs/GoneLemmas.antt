@@ -270,7 +270,7 @@ ends_gone p q over told deeds goes is = record {
 -- ---- a desk is called
 
 -- each call but a removal stores no such cut
-none_removed : (middle last : Of) (does : DeskCall) (back : DeskReply) → IsOpenCall does → (does ≢ desk.Remove) → SessionDeskStep middle does back last → AreNoRemovals (told_by does back)
+pub none_removed : (middle last : Of) (does : DeskCall) (back : DeskReply) → IsOpenCall does → (does ≢ desk.Remove) → SessionDeskStep middle does back last → AreNoRemovals (told_by does back)
 none_removed middle last desk.Announce (replied.Announced answer) own other step = (tt, tt)
 none_removed middle last desk.Announce (replied.Put answer) own other step = absurd step.1
 none_removed middle last desk.Announce (replied.Unfit job) own other step = absurd step.1
@@ -301,7 +301,7 @@ none_removed middle last (desk.Work runs) back own other step = absurd own
 none_removed middle last desk.DropChannel back own other step = absurd own
 none_removed middle last desk.End back own other step = absurd own
 
-is_remove : (does : DeskCall) → (does ≡ desk.Remove) ⊎ (does ≢ desk.Remove)
+pub is_remove : (does : DeskCall) → (does ≡ desk.Remove) ⊎ (does ≢ desk.Remove)
 is_remove desk.Remove = inl refl
 is_remove desk.Announce = inr (λ e. cc (e))
 is_remove (desk.Put job) = inr (λ e. cc (e))

@@ -115,7 +115,7 @@ steps_mild (call ∷ others) old new own steps =
       mild = λ has. elim (has_append (Cut Removed) first.more later.more has) [ inl one ↦ first.mild one | inr other ↦ later.mild other ];
     }
 
-work_no_removals : (list : List StationCall) → AllByRecursion IsWork list → AreNoRemovals list
+pub work_no_removals : (list : List StationCall) → AllByRecursion IsWork list → AreNoRemovals list
 work_no_removals [] work = tt
 work_no_removals (call ∷ others) work = (one call work.0, work_no_removals others work.1)
   where
@@ -130,7 +130,7 @@ work_no_removals (call ∷ others) work = (one call work.0, work_no_removals oth
     one drops is = absurd is
     one ends is = absurd is
 
-cancel : (xs ys zs : List Item) → xs ++ ys ≡ xs ++ zs → ys ≡ zs
+pub cancel : (xs ys zs : List Item) → xs ++ ys ≡ xs ++ zs → ys ≡ zs
 cancel [] ys zs is = is
 cancel (x ∷ xs) ys zs is = cancel xs ys zs (cc (is))
 

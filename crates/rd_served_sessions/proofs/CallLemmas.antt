@@ -17,7 +17,7 @@ use Rattle.rd_workers.specs.Reading.{AllPlain}
 use Rattle.rd_served.specs.Histories.{may_start}
 use Rattle.rd_served_refusals.specs.Heeding.{hindered_by}
 use Rattle.rd_served_causes.specs.Causes.{StartUnhindered}
-use Rattle.rd_workers.proofs.RunLemmas.{AreMiddle, HearsSurely, HearsTo, IsMiddle, IsSure, hears_to, hindered, plainly}
+use Rattle.rd_workers.proofs.RunLemmas.{AreMiddle, DoesSurely, HearsTo, IsMiddle, IsSure, hears_to, hindered, plainly}
 use Rattle.rd_served_sessions.proofs.StillLemmas.{begun_to, is_messages, next_says}
 
 -- ---- calls for messages
@@ -28,7 +28,7 @@ pub record AsksOnly (does : FrontCall) (back : FrontReply) : Type 0 where
   pub heard : given_by does back ≡ []
   pub begins : (now : ℕ) → begun_to now does back ≡ now
   pub bytes : HearsBytes does
-  pub surely : HearsSurely does back
+  pub surely : DoesSurely does back
 
 pub asks_only : (does : FrontCall) (back : FrontReply) → asks_any does ≡ true → AsksOnly does back
 asks_only (call.Next channel place room) back asks = record { starts = refl; heard = refl; begins = λ now. refl; bytes = tt; surely = tt }
@@ -88,33 +88,41 @@ lift_starts (e ∷ entries) p q was leads starts = by (λ w. lift_starts entries
     )
     by more false is these = (these.0, more (hindered_by was e.call e.reply) these.1)
 
--- ---- what is heard on a channel
+-- ---- what calls give on a channel
 
-abbrev pub on_channel : ℕ → ℕ → List (List ℕ) → List (List ℕ)
-on_channel c now messages = if now == c then messages else []
+abbrev pub on_channel : {A : Type 0} → ℕ → ℕ → List A → List A
+on_channel c now xs = if now == c then xs else []
 
--- what calls hear on a channel, from where another began last
-abbrev pub heard_on : ℕ → ℕ → List FrontEntry → List (List ℕ)
-heard_on c now [] = []
-heard_on c now (e ∷ entries) = on_channel c now (given_by e.call e.reply) ++ heard_on c (begun_to now e.call e.reply) entries
-
-pub none_on : (c now : ℕ) → on_channel c now [] ≡ []
-none_on c now = by (now == c)
+pub none_on : {A : Type 0} (c now : ℕ) → on_channel {A = A} c now [] ≡ []
+none_on {A} c now = by (now == c)
   where
-    by : (b : Bool) → ◌≡◌ {A = List (List ℕ)} (if b then [] else []) []
+    by : (b : Bool) → ◌≡◌ {A = List A} (if b then [] else []) []
     by true = refl
     by false = refl
 
-pub lift_heard : (c : ℕ) (entries : List FrontEntry) (now : ℕ) → heard_on c now entries ≡ heard_on c now (reader_calls entries)
-lift_heard c [] now = refl
-lift_heard c (e ∷ entries) now = by (lift_heard c entries) (asks_any e.call) refl
+pub on_both : {A : Type 0} (c now : ℕ) (xs ys : List A) → on_channel c now (xs ++ ys) ≡ on_channel c now xs ++ on_channel c now ys
+on_both c now xs ys = by (now == c)
   where
-    by : ((n : ℕ) → heard_on c n entries ≡ heard_on c n (reader_calls entries)) → (b : Bool) → asks_any e.call ≡ b → heard_on c now (e ∷ entries) ≡ heard_on c now (if b then reader_calls entries else e ∷ reader_calls entries)
-    by more true is =
-        let only = asks_only e.call e.reply is in
-        ap (λ (ms : List (List ℕ)). on_channel c now ms ++ heard_on c (begun_to now e.call e.reply) entries) only.heard
-        ∙ ap (λ (ms : List (List ℕ)). ms ++ heard_on c (begun_to now e.call e.reply) entries) (none_on c now) ∙ ap (λ (n : ℕ). heard_on c n entries) (only.begins now) ∙ more now
-    by more false is = ap (λ (ms : List (List ℕ)). on_channel c now (given_by e.call e.reply) ++ ms) (more (begun_to now e.call e.reply))
+    by : (b : Bool) → (if b then xs ++ ys else []) ≡ (if b then xs else []) ++ (if b then ys else [])
+    by true = refl
+    by false = refl
+
+pub other_number : {A : Type 0} (c now : ℕ) (xs : List A) → (now ≡ c → ⊥) → on_channel c now xs ≡ []
+other_number c now xs apart = by (now == c) refl
+  where
+    by : (b : Bool) → (now == c) ≡ b → (if b then xs else []) ≡ []
+    by true same = absurd (apart (eqb-true now c same))
+    by false other = refl
+
+same_number : {A : Type 0} (c : ℕ) (xs : List A) → on_channel c c xs ≡ xs
+same_number c xs = ap (λ (b : Bool). if b then xs else []) (eq-eqb c c refl)
+
+-- what a channel's calls give, and calls for messages and those by which channels begin and end don't
+pub record GivesInside {A : Type 0} (given : FrontCall → FrontReply → List A) : Type 0 where
+  pub asked : (does : FrontCall) (back : FrontReply) → asks_any does ≡ true → given does back ≡ []
+  pub begins : (channel : ℕ) (back : FrontReply) → given (call.Begin channel) back ≡ []
+  pub ends : (back : FrontReply) → given call.EndChannel back ≡ []
+  pub over : (back : FrontReply) → given call.EndSession back ≡ []
 
 -- ---- the reader's calls start nothing once a reply hindered
 
@@ -177,14 +185,7 @@ runs_start [] later each sure starts was = starts was
 runs_start (r ∷ runs) later each sure starts was =
     subst (StartUnhindered was) (sym (append_assoc r.calls (calls_by_all runs) later)) (run_starts r (calls_by_all runs ++ later) each.0 sure.0 (runs_start runs later each.1 sure.1 starts) was)
 
--- ---- what they hear
-
-pub on_both : (c now : ℕ) (xs ys : List (List ℕ)) → on_channel c now (xs ++ ys) ≡ on_channel c now xs ++ on_channel c now ys
-on_both c now xs ys = by (now == c)
-  where
-    by : (b : Bool) → (if b then xs ++ ys else []) ≡ (if b then xs else []) ++ (if b then ys else [])
-    by true = refl
-    by false = refl
+-- ---- what they give
 
 middle_begun : (now : ℕ) (does : FrontCall) (back : FrontReply) → IsMiddle does → begun_to now does back ≡ now
 middle_begun now (call.Begin channel) back middle = absurd middle
@@ -197,85 +198,108 @@ middle_begun now call.Look back middle = refl
 middle_begun now call.EndChannel back middle = refl
 middle_begun now call.EndSession back middle = refl
 
-middle_heard : (c now : ℕ) (calls later : List FrontEntry) → AreMiddle calls → heard_on c now (calls ++ later) ≡ on_channel c now (messages_heard calls) ++ heard_on c now later
-middle_heard c now [] later middle = ap (λ (ms : List (List ℕ)). ms ++ heard_on c now later) (sym (none_on c now))
-middle_heard c now (e ∷ calls) later middle =
-    let here = given_by e.call e.reply in
-    ap (λ (n : ℕ). on_channel c now here ++ heard_on c n (calls ++ later)) (middle_begun now e.call e.reply middle.0)
-    ∙ ap (λ (ms : List (List ℕ)). on_channel c now here ++ ms) (middle_heard c now calls later middle.1)
-    ∙ sym (append_assoc (on_channel c now here) (on_channel c now (messages_heard calls)) (heard_on c now later))
-    ∙ ap (λ (ms : List (List ℕ)). ms ++ heard_on c now later) (sym (on_both c now here (messages_heard calls)))
+module _ {A : Type 0} (given : FrontCall → FrontReply → List A) where
+  -- one after the other
+  abbrev pub given_in : List FrontEntry → List A
+  given_in [] = []
+  given_in (e ∷ entries) = given e.call e.reply ++ given_in entries
 
--- what was heard on a channel by runs
-abbrev pub heard_of : ℕ → List ChannelRun → List (List ℕ)
-heard_of c [] = []
-heard_of c (r ∷ runs) = on_channel c (r.reading).channel (messages_heard (r.reading).calls) ++ heard_of c runs
+  -- on a channel, from where another began last
+  abbrev pub given_on : ℕ → ℕ → List FrontEntry → List A
+  given_on c now [] = []
+  given_on c now (e ∷ entries) = on_channel c now (given e.call e.reply) ++ given_on c (begun_to now e.call e.reply) entries
 
-run_heard : (c now : ℕ) (r : ChannelRun) (later : List FrontEntry) → IsChannelRun r → AreMiddle (r.reading).calls
-    → heard_on c now (r.calls ++ later) ≡ on_channel c (r.reading).channel (messages_heard (r.reading).calls) ++ heard_on c (r.reading).channel later
-run_heard c now r later is middle =
-    let w = is.whole in
-    let calls = (r.reading).calls in
-    let channel = (r.reading).channel in
-    let rest = (calls ++ w.end ∷ []) ++ later in
-    let begun : begun_to now (w.begin).call (w.begin).reply ≡ channel = λ i. begun_to now ((w.begins).0 i) (((w.begins).1).2 i) in
-    let none : given_by (w.begin).call (w.begin).reply ≡ [] = ap (λ (does : FrontCall). given_by does (w.begin).reply) (w.begins).0 in
-    let last : heard_on c channel (w.end ∷ later) ≡ heard_on c channel later =
-    ap (λ (does : FrontCall). on_channel c channel (given_by does (w.end).reply) ++ heard_on c (begun_to channel does (w.end).reply) later) w.ends ∙ ap (λ (ms : List (List ℕ)). ms ++ heard_on c channel later) (none_on c channel) in
-    ap (λ (es : List FrontEntry). heard_on c now (es ++ later)) w.whole_are
-    ∙ ap (λ (ms : List (List ℕ)). on_channel c now ms ++ heard_on c (begun_to now (w.begin).call (w.begin).reply) rest) none ∙ ap (λ (ms : List (List ℕ)). ms ++ heard_on c (begun_to now (w.begin).call (w.begin).reply) rest) (none_on c now)
-    ∙ ap (λ (n : ℕ). heard_on c n rest) begun ∙ ap (heard_on c channel) (append_assoc calls (w.end ∷ []) later) ∙ middle_heard c channel calls (w.end ∷ later) middle
-    ∙ ap (λ (ms : List (List ℕ)). on_channel c channel (messages_heard calls) ++ ms) last
+  -- by runs
+  abbrev pub given_of : ℕ → List ChannelRun → List A
+  given_of c [] = []
+  given_of c (r ∷ runs) = on_channel c (r.reading).channel (given_in (r.reading).calls) ++ given_of c runs
 
-pub runs_heard : (c : ℕ) (runs : List ChannelRun) (later : List FrontEntry) (now : ℕ) → AllByRecursion IsChannelRun runs → AllByRecursion (λ (r : ChannelRun). AreMiddle (r.reading).calls) runs
-    → ((n : ℕ) → heard_on c n later ≡ []) → heard_on c now (calls_by_all runs ++ later) ≡ heard_of c runs
-runs_heard c [] later now each middle none = none now
-runs_heard c (r ∷ runs) later now each middle none =
-    ap (heard_on c now) (append_assoc r.calls (calls_by_all runs) later) ∙ run_heard c now r (calls_by_all runs ++ later) each.0 middle.0
-    ∙ ap (λ (ms : List (List ℕ)). on_channel c (r.reading).channel (messages_heard (r.reading).calls) ++ ms) (runs_heard c runs later (r.reading).channel each.1 middle.1 none)
+  middle_given : (c now : ℕ) (calls later : List FrontEntry) → AreMiddle calls → given_on c now (calls ++ later) ≡ on_channel c now (given_in calls) ++ given_on c now later
+  middle_given c now [] later middle = ap (λ (xs : List A). xs ++ given_on c now later) (sym (none_on c now))
+  middle_given c now (e ∷ calls) later middle =
+      let here = given e.call e.reply in
+      ap (λ (n : ℕ). on_channel c now here ++ given_on c n (calls ++ later)) (middle_begun now e.call e.reply middle.0)
+      ∙ ap (λ (xs : List A). on_channel c now here ++ xs) (middle_given c now calls later middle.1)
+      ∙ sym (append_assoc (on_channel c now here) (on_channel c now (given_in calls)) (given_on c now later))
+      ∙ ap (λ (xs : List A). xs ++ given_on c now later) (sym (on_both c now here (given_in calls)))
 
--- ---- which run a channel is of
+  -- none has a channel up to where they begin
+  pub none_below : (c n : ℕ) (runs : List ChannelRun) → HaveNumbers n runs → c ≤ n → given_of c runs ≡ []
+  none_below c n [] have low = refl
+  none_below c n (r ∷ runs) have low =
+      ap (λ (xs : List A). xs ++ given_of c runs) (other_number c (r.reading).channel (given_in (r.reading).calls) (λ same. let is = have.0 in omega (arith, is, same, low))) ∙ none_below c (suc n) runs have.1 (omega (arith, low))
 
-other_number : (c now : ℕ) (messages : List (List ℕ)) → (now ≡ c → ⊥) → on_channel c now messages ≡ []
-other_number c now messages apart = by (now == c) refl
-  where
-    by : (b : Bool) → (now == c) ≡ b → (if b then messages else []) ≡ []
-    by true same = absurd (apart (eqb-true now c same))
-    by false other = refl
+  -- nor one above all
+  pub none_above : (c n : ℕ) (runs : List ChannelRun) → HaveNumbers n runs → n + length runs < c → given_of c runs ≡ []
+  none_above c n [] have high = refl
+  none_above c n (r ∷ runs) have high =
+      ap (λ (xs : List A). xs ++ given_of c runs) (other_number c (r.reading).channel (given_in (r.reading).calls) (λ same. let is = have.0 in omega (arith, is, same, high))) ∙ none_above c (suc n) runs have.1 (omega (arith, high))
 
-same_number : (c : ℕ) (messages : List (List ℕ)) → on_channel c c messages ≡ messages
-same_number c messages = ap (λ (b : Bool). if b then messages else []) (eq-eqb c c refl)
+  abbrev IsGivenIn : List ChannelRun → ChannelRun → Type 0
+  IsGivenIn runs r = given_of (r.reading).channel runs ≡ given_in (r.reading).calls
 
--- none has a channel up to where they begin
-pub none_below : (c n : ℕ) (runs : List ChannelRun) → HaveNumbers n runs → c ≤ n → heard_of c runs ≡ []
-none_below c n [] have low = refl
-none_below c n (r ∷ runs) have low =
-    ap (λ (ms : List (List ℕ)). ms ++ heard_of c runs) (other_number c (r.reading).channel (messages_heard (r.reading).calls) (λ same. let is = have.0 in omega (arith, is, same, low))) ∙ none_below c (suc n) runs have.1 (omega (arith, low))
+  more_given : (n : ℕ) (first : ChannelRun) (all runs : List ChannelRun) → (first.reading).channel ≤ n → HaveNumbers n runs → AllByRecursion (IsGivenIn all) runs → AllByRecursion (IsGivenIn (first ∷ all)) runs
+  more_given n first all [] low have heard = tt
+  more_given n first all (r ∷ runs) low have heard = (
+    ap (λ (xs : List A). xs ++ given_of (r.reading).channel all) (other_number (r.reading).channel (first.reading).channel (given_in (first.reading).calls) (λ same. let is = have.0 in omega (arith, is, same, low))) ∙ heard.0,
+    more_given (suc n) first all runs (omega (arith, low)) have.1 heard.1,
+  )
 
--- nor one above all
-pub none_above : (c n : ℕ) (runs : List ChannelRun) → HaveNumbers n runs → n + length runs < c → heard_of c runs ≡ []
-none_above c n [] have high = refl
-none_above c n (r ∷ runs) have high =
-    ap (λ (ms : List (List ℕ)). ms ++ heard_of c runs) (other_number c (r.reading).channel (messages_heard (r.reading).calls) (λ same. let is = have.0 in omega (arith, is, same, high))) ∙ none_above c (suc n) runs have.1 (omega (arith, high))
+  -- what was given on a run's channel is what it gave
+  pub own_given : (n : ℕ) (runs : List ChannelRun) → HaveNumbers n runs → AllByRecursion (λ (r : ChannelRun). given_of (r.reading).channel runs ≡ given_in (r.reading).calls) runs
+  own_given n [] have = tt
+  own_given n (r ∷ runs) have = (
+    ap (λ (xs : List A). xs ++ given_of (r.reading).channel runs) (same_number (r.reading).channel (given_in (r.reading).calls))
+        ∙ ap (λ (xs : List A). given_in (r.reading).calls ++ xs) (none_below (r.reading).channel (suc n) runs have.1 (let is = have.0 in omega (arith, is))) ∙ append-nil (given_in (r.reading).calls),
+    more_given (suc n) r runs runs (let is = have.0 in omega (arith, is)) have.1 (own_given (suc n) runs have.1),
+  )
 
-abbrev IsHeardIn : List ChannelRun → ChannelRun → Type 0
-IsHeardIn runs r = heard_of (r.reading).channel runs ≡ messages_heard (r.reading).calls
+  module _ (inside : GivesInside given) where
+    pub lift_given : (c : ℕ) (entries : List FrontEntry) (now : ℕ) → given_on c now entries ≡ given_on c now (reader_calls entries)
+    lift_given c [] now = refl
+    lift_given c (e ∷ entries) now = by (lift_given c entries) (asks_any e.call) refl
+      where
+        by : ((n : ℕ) → given_on c n entries ≡ given_on c n (reader_calls entries)) → (b : Bool) → asks_any e.call ≡ b → given_on c now (e ∷ entries) ≡ given_on c now (if b then reader_calls entries else e ∷ reader_calls entries)
+        by more true is =
+            ap (λ (xs : List A). on_channel c now xs ++ given_on c (begun_to now e.call e.reply) entries) (inside.asked e.call e.reply is)
+            ∙ ap (λ (xs : List A). xs ++ given_on c (begun_to now e.call e.reply) entries) (none_on c now) ∙ ap (λ (n : ℕ). given_on c n entries) ((asks_only e.call e.reply is).begins now) ∙ more now
+        by more false is = ap (λ (xs : List A). on_channel c now (given e.call e.reply) ++ xs) (more (begun_to now e.call e.reply))
 
-more_heard : (n : ℕ) (first : ChannelRun) (all runs : List ChannelRun) → (first.reading).channel ≤ n → HaveNumbers n runs → AllByRecursion (IsHeardIn all) runs → AllByRecursion (IsHeardIn (first ∷ all)) runs
-more_heard n first all [] low have heard = tt
-more_heard n first all (r ∷ runs) low have heard = (
-  ap (λ (ms : List (List ℕ)). ms ++ heard_of (r.reading).channel all) (other_number (r.reading).channel (first.reading).channel (messages_heard (first.reading).calls) (λ same. let is = have.0 in omega (arith, is, same, low))) ∙ heard.0,
-  more_heard (suc n) first all runs (omega (arith, low)) have.1 heard.1,
-)
+    run_given : (c now : ℕ) (r : ChannelRun) (later : List FrontEntry) → IsChannelRun r → AreMiddle (r.reading).calls
+        → given_on c now (r.calls ++ later) ≡ on_channel c (r.reading).channel (given_in (r.reading).calls) ++ given_on c (r.reading).channel later
+    run_given c now r later is middle =
+        let w = is.whole in
+        let calls = (r.reading).calls in
+        let channel = (r.reading).channel in
+        let rest = (calls ++ w.end ∷ []) ++ later in
+        let begun : begun_to now (w.begin).call (w.begin).reply ≡ channel = λ i. begun_to now ((w.begins).0 i) (((w.begins).1).2 i) in
+        let none : given (w.begin).call (w.begin).reply ≡ [] = ap (λ (does : FrontCall). given does (w.begin).reply) (w.begins).0 ∙ inside.begins channel (w.begin).reply in
+        let nothing : given (w.end).call (w.end).reply ≡ [] = ap (λ (does : FrontCall). given does (w.end).reply) w.ends ∙ inside.ends (w.end).reply in
+        let last : given_on c channel (w.end ∷ later) ≡ given_on c channel later =
+        ap (λ (xs : List A). on_channel c channel xs ++ given_on c (begun_to channel (w.end).call (w.end).reply) later) nothing
+        ∙ ap (λ (xs : List A). xs ++ given_on c (begun_to channel (w.end).call (w.end).reply) later) (none_on c channel) ∙ ap (λ (does : FrontCall). given_on c (begun_to channel does (w.end).reply) later) w.ends in
+        ap (λ (es : List FrontEntry). given_on c now (es ++ later)) w.whole_are
+        ∙ ap (λ (xs : List A). on_channel c now xs ++ given_on c (begun_to now (w.begin).call (w.begin).reply) rest) none ∙ ap (λ (xs : List A). xs ++ given_on c (begun_to now (w.begin).call (w.begin).reply) rest) (none_on c now)
+        ∙ ap (λ (n : ℕ). given_on c n rest) begun ∙ ap (given_on c channel) (append_assoc calls (w.end ∷ []) later) ∙ middle_given c channel calls (w.end ∷ later) middle
+        ∙ ap (λ (xs : List A). on_channel c channel (given_in calls) ++ xs) last
 
--- what was heard on a run's channel is what it heard
-pub own_heard : (n : ℕ) (runs : List ChannelRun) → HaveNumbers n runs → AllByRecursion (λ (r : ChannelRun). heard_of (r.reading).channel runs ≡ messages_heard (r.reading).calls) runs
-own_heard n [] have = tt
-own_heard n (r ∷ runs) have = (
-  ap (λ (ms : List (List ℕ)). ms ++ heard_of (r.reading).channel runs) (same_number (r.reading).channel (messages_heard (r.reading).calls))
-      ∙ ap (λ (ms : List (List ℕ)). messages_heard (r.reading).calls ++ ms) (none_below (r.reading).channel (suc n) runs have.1 (let is = have.0 in omega (arith, is))) ∙ append-nil (messages_heard (r.reading).calls),
-  more_heard (suc n) r runs runs (let is = have.0 in omega (arith, is)) have.1 (own_heard (suc n) runs have.1),
-)
+    -- what calls of runs give, and of the call that ends the session
+    pub runs_given : (c : ℕ) (runs : List ChannelRun) (last : FrontEntry) (now : ℕ) → last.call ≡ call.EndSession → AllByRecursion IsChannelRun runs → AllByRecursion (λ (r : ChannelRun). AreMiddle (r.reading).calls) runs
+        → given_on c now (calls_by_all runs ++ last ∷ []) ≡ given_of c runs
+    runs_given c [] last now over each middle = ap (λ (xs : List A). on_channel c now xs ++ []) (ap (λ (does : FrontCall). given does last.reply) over ∙ inside.over last.reply) ∙ append-nil (on_channel {A = A} c now []) ∙ none_on c now
+    runs_given c (r ∷ runs) last now over each middle =
+        ap (given_on c now) (append_assoc r.calls (calls_by_all runs) (last ∷ [])) ∙ run_given c now r (calls_by_all runs ++ last ∷ []) each.0 middle.0
+        ∙ ap (λ (xs : List A). on_channel c (r.reading).channel (given_in (r.reading).calls) ++ xs) (runs_given c runs last (r.reading).channel over each.1 middle.1)
+
+-- ---- what they hear
+
+-- messages are heard on a channel
+pub hears_inside : GivesInside given_by
+hears_inside = record { asked = λ does back asks. (asks_only does back asks).heard; begins = λ channel back. refl; ends = λ back. refl; over = λ back. refl }
+
+pub heard_in_all : (calls : List FrontEntry) → given_in given_by calls ≡ messages_heard calls
+heard_in_all [] = refl
+heard_in_all (e ∷ calls) = ap (λ (ms : List (List ℕ)). given_by e.call e.reply ++ ms) (heard_in_all calls)
 
 -- ---- which channels begin
 

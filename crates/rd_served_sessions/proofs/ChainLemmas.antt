@@ -27,8 +27,8 @@ use Rattle.rd_served.specs.Histories.{AreStationed, CallGoes, HearsAs, HistoryGo
 use Rattle.rd_served.specs.Parts.{FrontPart, PartGoes, PartsGo, begins, calls, directs, ends, forgets, handed_by, heard_in, is_start, keeps, learns, misplaces, refreshes, sends, tells_gone, tells_there, tries, unwritten, writes}
 use Rattle.rd_served.specs.Parts as part
 use Rattle.rd_served.specs.Served.{Served, idle}
-use Rattle.rd_served_sessions.proofs.CallLemmas.{heard_on, none_on, on_channel}
-use Rattle.rd_workers.proofs.RunLemmas.{HearsSurely}
+use Rattle.rd_served_sessions.proofs.CallLemmas.{given_on, none_on, on_channel}
+use Rattle.rd_workers.proofs.RunLemmas.{DoesSurely}
 use Rattle.rd_served_sessions.proofs.StillLemmas.{NextSays, begun_to, is_messages, next_says, refreshed_same, silent, tracks}
 
 abbrev Of : Type 0
@@ -206,7 +206,7 @@ parts_read c true (x ∷ ps) p q goes first before = rest_unread c ps (deeds_of 
     by (begins channel) one = silent_by (begins channel) refl
     by (ends over told) one = silent_by (ends over told) refl
 
-surely_heard : (does : FrontCall) (back : FrontReply) (heard : List (List ℕ)) → HearsAs does back heard → HearsSurely does back → heard ≡ given_by does back
+surely_heard : (does : FrontCall) (back : FrontReply) (heard : List (List ℕ)) → HearsAs does back heard → DoesSurely does back → heard ≡ given_by does back
 surely_heard (call.Hear message) reply.Refused heard is sure = is
 surely_heard (call.Hear message) reply.Full heard is sure = is
 surely_heard (call.Hear message) reply.Memory heard is sure = absurd sure
@@ -255,21 +255,21 @@ heard_turned c now does back = by (now == c)
     by false = refl
 
 -- What a history reads on a channel is what its calls hear there.
-pub history_read : (c : ℕ) (entries : List FrontEntry) (parts : List (List FrontPart)) (p q : Served) (goes : HistoryGoes p entries parts q) → StepsToo p entries parts q goes → AllByRecursion (λ (e : FrontEntry). HearsSurely e.call e.reply) entries
-    → (deeds : List Deed) → client_read c (deeds_of_calls parts deeds) ≡ reverse (heard_on c (p.front).channel entries) ++ client_read c deeds
+pub history_read : (c : ℕ) (entries : List FrontEntry) (parts : List (List FrontPart)) (p q : Served) (goes : HistoryGoes p entries parts q) → StepsToo p entries parts q goes → AllByRecursion (λ (e : FrontEntry). DoesSurely e.call e.reply) entries
+    → (deeds : List Deed) → client_read c (deeds_of_calls parts deeds) ≡ reverse (given_on given_by c (p.front).channel entries) ++ client_read c deeds
 history_read c [] [] p q goes steps sure deeds = refl
 history_read c [] (ps ∷ parts) p q goes steps sure deeds = absurd goes
 history_read c (e ∷ entries) [] p q goes steps sure deeds = absurd goes
 history_read c (e ∷ entries) (ps ∷ parts) p q goes steps sure deeds =
     let now = (p.front).channel in
     let mine = on_channel c now (given_by e.call e.reply) in
-    let others = heard_on c (begun_to now e.call e.reply) entries in
+    let others = given_on given_by c (begun_to now e.call e.reply) entries in
     let did = goes.1 in
     let heard : filter_map heard_in ps ≡ given_by e.call e.reply = surely_heard e.call e.reply (filter_map heard_in ps) did.heard sure.0 in
     let one : client_read c (deeds_after ps deeds) ≡ mine ++ client_read c deeds =
     parts_read c (may_start e.call e.reply) ps p goes.0 did.goes (did.tells).first deeds ∙ ap (λ (ms : List (List ℕ)). on_channel c now ms ++ client_read c deeds) heard in
     history_read c entries parts goes.0 q goes.2 steps.1 sure.1 (deeds_after ps deeds)
-    ∙ ap (λ (n : ℕ). reverse (heard_on c n entries) ++ client_read c (deeds_after ps deeds)) (tracks p.front e.call e.reply (goes.0).front steps.0)
+    ∙ ap (λ (n : ℕ). reverse (given_on given_by c n entries) ++ client_read c (deeds_after ps deeds)) (tracks p.front e.call e.reply (goes.0).front steps.0)
     ∙ ap (λ (ms : List (List ℕ)). reverse others ++ ms) one
     ∙ sym (append_assoc (reverse others) mine (client_read c deeds))
     ∙ ap (λ (ms : List (List ℕ)). (reverse others ++ ms) ++ client_read c deeds) (sym (heard_turned c now e.call e.reply))
@@ -305,7 +305,7 @@ none_wrote : (c n : ℕ) (x : FrontPart) (before : List Deed) → handed_by x �
 none_wrote c n x before is =
     part_unwrote c x before is ∙ nothing_on c n (client_wrote c before) ∙ ap (λ (o : Option (List ℕ)). on_channel c n (cons_option o []) ++ client_wrote c before) (sym is)
 
-part_wrote : (c n : ℕ) (x : FrontPart) (before : List Deed) → AreOnChannel n (deeds_of x) → client_wrote c (deeds_of x ++ before) ≡ on_channel c n (cons_option (handed_by x) []) ++ client_wrote c before
+pub part_wrote : (c n : ℕ) (x : FrontPart) (before : List Deed) → AreOnChannel n (deeds_of x) → client_wrote c (deeds_of x ++ before) ≡ on_channel c n (cons_option (handed_by x) []) ++ client_wrote c before
 part_wrote c n (sends channel (Some o)) before here = by o.answers here
   where
     by : (answers : Option Key) → AreOnChannel n (sent_by channel o.message answers) → client_wrote c (sent_by channel o.message answers ++ before) ≡ on_channel c n (o.message ∷ []) ++ client_wrote c before

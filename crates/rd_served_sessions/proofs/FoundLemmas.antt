@@ -37,7 +37,7 @@ unbegun_as s t channel on asked is none = let was = is (sym channel ∙ none) in
 client_unbegun : (s t : FrontState) (unsent : ℕ) → t ≡ record s { client = t.client; unsent = unsent } → (t.client).asked ≡ (s.client).asked → IsUnbegun s → IsUnbegun t
 client_unbegun s t unsent is asked unbegun = unbegun_as s t (ap (λ (x : FrontState). x.channel) is) (ap (λ (x : FrontState). x.on) is) asked unbegun
 
-part_unbegun : (p q : Served) (x : FrontPart) → PartGoes p x q → IsUnbegun p.front → IsUnbegun q.front
+pub part_unbegun : (p q : Served) (x : FrontPart) → PartGoes p x q → IsUnbegun p.front → IsUnbegun q.front
 part_unbegun p q (part.hears channel message answer) goes is = λ none.
     let was = is (sym (ap (λ (s : FrontState). s.channel) (goes.3).1) ∙ none) in
     absurd (let may = (both_true (p.front).on _ goes.2).0 in let off = was.0 in cc (may, off))
@@ -72,7 +72,7 @@ parts_unbegun [] p q goes is = subst (λ (s : Served). IsUnbegun s.front) (sym g
 parts_unbegun (x ∷ ps) p q goes is = parts_unbegun ps goes.0 q goes.2 (part_unbegun p goes.0 x goes.1 is)
 
 -- so no completion was collected
-none_collected : (p : Served) (deeds : List Deed) (device : ℕ) (c : Completion) → IsKnownAt p deeds → IsUnbegun p.front → (p.front).channel ≡ 0 → p.asking ≡ hands device c → ⊥
+pub none_collected : (p : Served) (deeds : List Deed) (device : ℕ) (c : Completion) → IsKnownAt p deeds → IsUnbegun p.front → (p.front).channel ≡ 0 → p.asking ≡ hands device c → ⊥
 none_collected p deeds device c known unbegun none asking =
     let came = ((known.standing).handing device c asking).1 in
     let (place, s, there, names) = came_here p deeds known.told known.standing device c.key came in

@@ -1,8 +1,11 @@
+pub mod ActLemmas
 pub mod CallLemmas
 pub mod ChainLemmas
 pub mod CloseLemmas
+pub mod DoesLemmas
 pub mod DoneLemmas
 pub mod FirstLemmas
 pub mod FoundLemmas
 pub mod SessionLemmas
 pub mod StillLemmas
+pub mod UnwrittenLemmas

@@ -1,16 +1,17 @@
 -- A session that was served: the history of its front tells the deeds of the client.
-use Rattle.std.proofs.Common.{◌≡◌, ◌≢◌, ◌⊎◌, ◌∙◌, ◌≤◌, ◌<◌, refl, sym, ap, subst, inl, inr, ℕ, zero, suc, ◌+◌, Bool, true, false, List, [], ◌∷◌, ◌++◌, length, map, reverse, Some, slice_get, append-nil, arith, ne_eqb}
-use Rattle.std.specs.Prelude.{if◌then◌else◌}
-use Rattle.std.specs.List.{AllByRecursion, AllZip, zip}
+use Rattle.std.proofs.Common.{◌≡◌, ◌≢◌, ◌⊎◌, ◌∙◌, ◌≤◌, ◌<◌, refl, sym, ap, subst, inl, inr, ℕ, zero, suc, ◌+◌, Bool, true, false, List, [], ◌∷◌, ◌++◌, length, map, reverse, Option, Some, slice_get, append-nil, arith, ne_eqb}
+use Rattle.std.specs.Prelude.{filter_map, if◌then◌else◌}
+use Rattle.std.specs.List.{AllByRecursion, AllZip, flat_map, zip}
 use Rattle.std.specs.Map.{keys_of, lookup}
 use Rattle.std.specs.Ordering.{nat_cmp}
 use Rattle.std.specs.BTreeMap.{is_at}
 use Rattle.std.proofs.lemmas.Bool.{cases_eq}
+use Rattle.std.proofs.KnownBytes.{Appends-nil}
 use Rattle.std.proofs.lemmas.List.{reverse-reverse}
 use Rattle.rd_base.specs.declared.journal.Item.{Item}
 use Rattle.rd_base.specs.History.{History}
 use Rattle.rd_base.specs.Lawful.{IsLawful}
-use Rattle.rd_carry.specs.Outgoing.{HasWritten}
+use Rattle.rd_carry.specs.Outgoing.{HasWritten, OutgoingState}
 use Rattle.rd_carry.specs.declared.ended.Ended.{Ended}
 use Rattle.rd_carry.specs.declared.ended.Ended.TheVariants as ended
 use Rattle.rd_client.specs.Events.{AreWritable}
@@ -33,6 +34,7 @@ use Rattle.rd_script.specs.declared.line.NumberedLine.{NumberedLine}
 use Rattle.rd_station.specs.Tied.{IsTied}
 use Rattle.rd_turn.specs.History.{Leads}
 use Rattle.rd_world.specs.Devices.{Declared, device_cut, device_step}
+use Rattle.rd_world.specs.Acts.{act_by, tellings_on}
 use Rattle.rd_world.specs.Opening.{AreOpenable}
 use Rattle.rd_world.specs.Recording.{announced_of}
 use Rattle.rd_world.specs.Session.{replies_read, request_read}
@@ -40,7 +42,7 @@ use Rattle.rd_world.specs.Talk.{Deed, Has, client_read, client_moves, client_wro
 use Rattle.rd_world.specs.Told.{AreAnswered}
 use Rattle.rd_workers.specs.Channels.{ChannelRun, HaveNumbers, IsChannelRun, LinkerTold, calls_by_all}
 use Rattle.rd_workers.specs.Lines.{at_lines}
-use Rattle.rd_workers.specs.Logs.{AllFound, asks_any, messages_by, messages_for, messages_heard, reader_calls}
+use Rattle.rd_workers.specs.Logs.{AllFound, asks_any, given_by, messages_by, messages_for, messages_heard, reader_calls}
 use Rattle.rd_workers.specs.Served.{IsWritten, ServesBooks}
 use Rattle.rd_served.proofs.CauseLemmas.{AnyRequest}
 use Rattle.rd_served.proofs.ChannelLemmas.{begins_here, history_on}
@@ -53,32 +55,39 @@ use Rattle.rd_served.specs.Histories.{AreStationed, HistoryGoes, may_start}
 use Rattle.rd_served.specs.Parts.{FrontPart, PartsGo}
 use Rattle.rd_served.specs.Served.{IsStationed, Served, Works, idle}
 use Rattle.rd_served_causes.proofs.CallLemmas.{all_said, heard_unhindered}
+use Rattle.rd_served_causes.proofs.CutLemmas.{all_cut}
+use Rattle.rd_served_causes.proofs.LeftLemmas.{all_left, bytes_in_room}
 use Rattle.rd_served_causes.proofs.PlaceLemmas.{ids_of, part_ids}
 use Rattle.rd_served_causes.specs.Causes.{StartUnhindered}
+use Rattle.rd_served_causes.specs.Left.{IsLeftOf}
 use Rattle.rd_served_order.proofs.OrderLemmas.{begins_order, history_ordered}
 use Rattle.rd_served_order.proofs.OwnLemmas.{begins_own}
 use Rattle.rd_served_order.proofs.SentLemmas.{history_tells, room_at, tells_order}
 use Rattle.rd_served_order.specs.Orders.{AreMovesInOrder, is_gone_until, none_until}
 use Rattle.rd_served_order.specs.Sent.{AreSentInOrder}
-use Rattle.rd_served_refusals.proofs.BytesLemmas.{bytes_name}
+use Rattle.rd_served_order.specs.Tellings.{TellsReady, acts_on}
 use Rattle.rd_served_refusals.proofs.HinderLemmas.{hear_before}
-use Rattle.rd_served_refusals.proofs.InLineLemmas.{begins_line_all, history_line, point_of}
-use Rattle.rd_served_refusals.proofs.PointLemmas.{in_order, passes_each}
-use Rattle.rd_served_refusals.specs.Heeding.{HearInRoom, HearsInRoom, PassesNone}
+use Rattle.rd_served_refusals.proofs.InLineLemmas.{begins_line_all, history_line}
+use Rattle.rd_served_refusals.proofs.PointLemmas.{in_order}
+use Rattle.rd_served_refusals.specs.Heeding.{HearInRoom}
 use Rattle.rd_served_replies.proofs.BeginLemmas.{IsOneOf, first_of, known_first}
 use Rattle.rd_served_replies.proofs.EachLemmas.{all_answered}
 use Rattle.rd_served_replies.proofs.FollowLemmas.{history_followed}
 use Rattle.rd_served_replies.proofs.LedLemmas.{led_tied}
 use Rattle.rd_served_replies.proofs.ReadLemmas.{all_fine, history_bytes}
-use Rattle.rd_served_sessions.proofs.CallLemmas.{BeginsUpTo, asks_only, begun_up_to, heard_of, heard_on, lift_all, lift_heard, lift_starts, none_above, none_below, none_on, on_channel, own_heard, runs_heard, runs_start, runs_up_to, unbegun_up_to}
+use Rattle.rd_served_sessions.proofs.DoesLemmas.{session_does}
+use Rattle.rd_served_sessions.proofs.ActLemmas.{acts_inside, done_in_all, given_reader, history_act, history_acts, runs_act}
+use Rattle.rd_served_sessions.proofs.CallLemmas.{BeginsUpTo, GivesInside, asks_only, begun_up_to, given_in, given_of, given_on, heard_in_all, hears_inside, lift_all, lift_given, lift_starts, none_above, none_below, none_on, on_channel, own_given, runs_given, runs_start, runs_up_to, unbegun_up_to}
 use Rattle.rd_served_sessions.proofs.ChainLemmas.{Chain, chain_of, history_read, history_wrote}
 use Rattle.rd_served_sessions.proofs.CloseLemmas.{WereClosed, closed_own, were_closed}
 use Rattle.rd_served_sessions.proofs.DoneLemmas.{IsDone, all_done, works_same}
 use Rattle.rd_served_sessions.proofs.FirstLemmas.{IsBegun, all_at, at_same, found_at, session_begun}
 use Rattle.rd_served_sessions.proofs.FoundLemmas.{history_found}
-use Rattle.rd_workers.proofs.RunLemmas.{AreRuns, HearsSurely, IsSure, calls_bytes, calls_surely, no_rest, runs_middle, runs_of}
+use Rattle.rd_workers.proofs.RunLemmas.{AreRuns, DoesSurely, IsSure, calls_bytes, calls_surely, no_rest, runs_middle, runs_of}
 use Rattle.rd_served_sessions.proofs.StillLemmas.{next_says, tracks}
-use Rattle.rd_served_sessions.specs.Sessions.{IsServedRun, IsToldSession}
+use Rattle.rd_served_sessions.proofs.UnwrittenLemmas.{history_unwritten}
+use Rattle.rd_served_sessions.specs.Acts.{RunsDo, act_done, acts_done, none_gone}
+use Rattle.rd_served_sessions.specs.Sessions.{IsServedRun, IsToldSession, TellsRun}
 
 abbrev Of : Type 0
 Of = SessionStation
@@ -148,18 +157,7 @@ keys_map : (devices : List (ℕ × Declared)) → map (λ (d : ℕ × Declared).
 keys_map [] = refl
 keys_map (d ∷ devices) = ap (λ (l : List ℕ). d.0 ∷ l) (keys_map devices)
 
--- ---- small facts
-
-bytes_room : (does : FrontCall) → HearsBytes does → HearsInRoom does
-bytes_room (call.Hear message) bytes = bytes_name message bytes
-bytes_room (call.Begin channel) bytes = tt
-bytes_room call.Retry bytes = tt
-bytes_room (call.Next channel place room) bytes = tt
-bytes_room (call.Remove device) bytes = tt
-bytes_room (call.Add device) bytes = tt
-bytes_room call.Look bytes = tt
-bytes_room call.EndChannel bytes = tt
-bytes_room call.EndSession bytes = tt
+-- ---- messages
 
 -- nothing is handed out for a channel after the last
 none_after : (most c : ℕ) → most < c → (entries : List FrontEntry) (p q : FrontState) → Leads FrontStep p entries q → p.channel ≤ most → AllByRecursion (λ (e : FrontEntry). BeginsUpTo most e.call e.reply) entries → messages_for c entries ≡ []
@@ -195,6 +193,22 @@ none_after most c high (e ∷ entries) p q leads low upto =
     one call.EndSession back step = refl
 
 -- ---- the session
+
+none_behind : (xs ys : List ℕ) → [] ≡ xs ++ ys → ys ≡ []
+none_behind [] [] is = refl
+none_behind [] (y ∷ ys) is = absurd (cc (is))
+none_behind (x ∷ xs) ys is = absurd (cc (is))
+
+-- a half to which nothing was put begins as it is
+begins_bare : (held : Option (List ℕ)) (s : OutgoingState) → HasWritten held [] s → HasWritten s.held [] s
+begins_bare held s w = record {
+  fit = tt;
+  written = [];
+  rest = [];
+  frames_are = refl;
+  wrote = Appends-nil s.held;
+  waits = λ sound. sym (none_behind w.written w.rest w.frames_are) ∙ w.waits sound;
+}
 
 module _ (devices : List (ℕ × Declared)) (openable : AreOpenable devices) (fit : AreFit devices) (writable : AreWritable (announced_of devices)) (numbered : List NumberedLine) (channels : ℕ) (by : Ended) (books : List (ℕ × History)) (old new : LinkerTold)
     (not : by ≢ ended.Memory) (b : ServesBooks devices (at_lines numbered) channels by books old new)
@@ -250,8 +264,8 @@ module _ (devices : List (ℕ × Declared)) (openable : AreOpenable devices) (fi
       hear_bytes : HearBytes Entries
       hear_bytes = of_calls (λ does back. HearsBytes does) (λ does back asks. (asks_only does back asks).bytes) (λ back. tt) (calls_bytes runs are.each)
 
-      hear_surely : AllByRecursion (λ (e : FrontEntry). HearsSurely e.call e.reply) Entries
-      hear_surely = of_calls HearsSurely (λ does back asks. (asks_only does back asks).surely) (λ back. tt) (calls_surely runs are.each are.sure)
+      hear_surely : AllByRecursion (λ (e : FrontEntry). DoesSurely e.call e.reply) Entries
+      hear_surely = of_calls DoesSurely (λ does back asks. (asks_only does back asks).surely) (λ back. tt) (calls_surely runs are.each are.sure)
 
       up_to : AllByRecursion (λ (e : FrontEntry). BeginsUpTo (length runs) e.call e.reply) Entries
       up_to = of_calls (BeginsUpTo (length runs)) (λ does back asks. unbegun_up_to (length runs) does back (λ channel is. let none = ap asks_any is in cc (asks, none))) (λ back. tt)
@@ -296,7 +310,7 @@ module _ (devices : List (ℕ × Declared)) (openable : AreOpenable devices) (fi
           c.goes known_first_here refl (λ x y. refl) channel device
 
       in_room : HearInRoom Entries
-      in_room = to_all (λ (e : FrontEntry). HearsBytes e.call) (λ (e : FrontEntry). HearsInRoom e.call) (λ e bytes. bytes_room e.call bytes) Entries hear_bytes
+      in_room = bytes_in_room Entries hear_bytes
 
       answered : AreAnswered (replies_read devices Deeds) Deeds
       answered =
@@ -312,13 +326,13 @@ module _ (devices : List (ℕ × Declared)) (openable : AreOpenable devices) (fi
 
       -- ---- messages
 
-      read_is : (n : ℕ) → client_read n Deeds ≡ reverse (heard_of n runs)
+      -- what calls give on a channel is what its run gave
+      of_runs : {A : Type 0} (given : FrontCall → FrontReply → List A) → GivesInside given → (n : ℕ) → given_on given n First.channel Entries ≡ given_of given n runs
+      of_runs given inside n = lift_given given inside n Entries First.channel ∙ ap (given_on given n First.channel) whole ∙ runs_given given inside n runs End First.channel (((b.front).served).called).over are.each (runs_middle runs are)
+
+      read_is : (n : ℕ) → client_read n Deeds ≡ reverse (given_of given_by n runs)
       read_is n =
-          history_read n Entries c.parts Old New c.goes c.steps hear_surely [] ∙ append-nil (reverse (heard_on n First.channel Entries))
-          ∙ ap reverse (lift_heard n Entries First.channel ∙ ap (heard_on n First.channel) whole ∙ runs_heard n runs (End ∷ []) First.channel are.each (runs_middle runs are) ended_hears)
-        where
-          ended_hears : (m : ℕ) → heard_on n m (End ∷ []) ≡ []
-          ended_hears m = ap (λ (does : FrontCall). heard_on n m (record End { call = does } ∷ [])) (((b.front).served).called).over ∙ append-nil (on_channel n m []) ∙ none_on n m
+          history_read n Entries c.parts Old New c.goes c.steps hear_surely [] ∙ append-nil (reverse (given_on given_by n First.channel Entries)) ∙ ap reverse (of_runs given_by hears_inside n)
 
       wrote_is : (n : ℕ) → reverse (client_wrote n Deeds) ≡ messages_for n Entries
       wrote_is n =
@@ -326,7 +340,7 @@ module _ (devices : List (ℕ × Declared)) (openable : AreOpenable devices) (fi
           let here = history_on Entries c.parts Old New c.goes (begins_at Old new_here.new new_here.stationed refl) (begins_here Old (new_here.new).nothing refl) in
           ap reverse (history_wrote n Entries c.parts Old New c.goes c.steps here [] ∙ append-nil (reverse (messages_for n Entries))) ∙ reverse-reverse (messages_for n Entries)
 
-      run_told : (r : ChannelRun) → (IsKnownRun r × (heard_of (r.reading).channel runs ≡ messages_heard (r.reading).calls)) → IsServedRun Deeds r
+      run_told : (r : ChannelRun) → (IsKnownRun r × (given_of given_by (r.reading).channel runs ≡ given_in given_by (r.reading).calls)) → IsServedRun Deeds r
       run_told r told =
           let is = (told.0).0.0 in
           let sure = (told.0).0.1 in
@@ -338,23 +352,28 @@ module _ (devices : List (ℕ × Declared)) (openable : AreOpenable devices) (fi
           sym (puts.messages_are ∙ ap (λ (ms : List (List ℕ)). puts.put ++ ms) (puts.all sure.fed) ∙ append-nil puts.put) ∙ ap (λ (n : ℕ). messages_for n Entries) is.channel ∙ sym (wrote_is (r.reading).channel) in
           record {
             is = is;
-            read = read_is (r.reading).channel ∙ ap reverse (told.1 ∙ sym all);
-            written = subst (λ (ms : List (List ℕ)). HasWritten r.held ms (r.wrote).ended) put (puts.since r.held [] is.began);
+            read = read_is (r.reading).channel ∙ ap reverse (told.1 ∙ heard_in_all (r.reading).calls ∙ sym all);
+            written = subst (λ (ms : List (List ℕ)). HasWritten ((r.wrote).began).held ms (r.wrote).ended) put (puts.since ((r.wrote).began).held [] (begins_bare r.held (r.wrote).began is.began));
             flushed = half.flushed;
             stopped = λ stopped. elim (half.stopped stopped) [ inl failed ↦ failed | inr starved ↦ absurd (let fed = sure.fed in cc (starved, fed)) ];
           }
 
       runs_told : AllByRecursion (IsServedRun Deeds) runs
       runs_told =
-          to_all (λ (r : ChannelRun). IsKnownRun r × (heard_of (r.reading).channel runs ≡ messages_heard (r.reading).calls)) (IsServedRun Deeds) run_told runs
-          (both_all IsKnownRun (λ (r : ChannelRun). heard_of (r.reading).channel runs ≡ messages_heard (r.reading).calls) runs known_runs (own_heard 0 runs are.numbered))
+          to_all (λ (r : ChannelRun). IsKnownRun r × (given_of given_by (r.reading).channel runs ≡ given_in given_by (r.reading).calls)) (IsServedRun Deeds) run_told runs
+          (both_all IsKnownRun (λ (r : ChannelRun). given_of given_by (r.reading).channel runs ≡ given_in given_by (r.reading).calls) runs known_runs (own_given given_by 0 runs are.numbered))
 
       unread : (n : ℕ) → (n ≡ 0) ⊎ (length runs < n) → client_read n Deeds ≡ []
-      unread n (inl none) = read_is n ∙ ap reverse (none_below n 0 runs are.numbered (omega (arith, none)))
-      unread n (inr above) = read_is n ∙ ap reverse (none_above n 0 runs are.numbered (omega (arith, above)))
+      unread n (inl none) = read_is n ∙ ap reverse (none_below given_by n 0 runs are.numbered (omega (arith, none)))
+      unread n (inr above) = read_is n ∙ ap reverse (none_above given_by n 0 runs are.numbered (omega (arith, above)))
 
-      unwritten : (n : ℕ) → length runs < n → client_wrote n Deeds ≡ []
-      unwritten n above =
+      unwritten : (n : ℕ) → (n ≡ 0) ⊎ (length runs < n) → client_wrote n Deeds ≡ []
+      unwritten n (inl none) =
+          let new_here = (begun.begins).new in
+          let here = history_on Entries c.parts Old New c.goes (begins_at Old new_here.new new_here.stationed refl) (begins_here Old (new_here.new).nothing refl) in
+          ap (λ (m : ℕ). client_wrote m Deeds) none
+          ∙ history_unwritten Entries c.parts Old New [] c.goes here (record { known = known_first_here; unbegun = λ none. (begun.off, begun.unasked); unsaid = λ none. (new_here.new).nothing })
+      unwritten n (inr above) =
           sym (reverse-reverse (client_wrote n Deeds)) ∙ ap reverse (wrote_is n ∙ none_after (length runs) n above Entries First Last (b.front).leads (let is = begun.first in omega (arith, is)) up_to)
 
       -- ---- journals
@@ -419,36 +438,69 @@ module _ (devices : List (ℕ × Declared)) (openable : AreOpenable devices) (fi
           (history_on Entries c.parts Old New c.goes (begins_at Old is.new is.stationed refl) (begins_here Old (is.new).nothing refl))
           known_first_here (begins_own b.announced Old begun.begins) (begins_order b.announced Old begun.begins)).orders n)
 
-      passes_of : (n : ℕ) → (rest : List Deed) × PassesNone n Deeds rest
-      passes_of n =
-          let line = history_line Entries c.parts false Old New [] c.goes known_first_here in_room (hear_before Entries c.parts Old New c.goes (heard_unhindered Entries false starts)) (begins_line_all Old ((begun.begins).new).new refl) in
-          passes_each line.0 (point_of New) Deeds line.1 n
+      -- ---- what was left
 
-      all_told : AreStationed Last.desks mids → IsToldSession devices numbered channels by books old new
+      left_of : (n : ℕ) → (rest : List Deed) × IsLeftOf (replies_read devices Deeds) (announced_of devices) (is_gone_until c.parts n) (acts_on n Old Entries c.parts New c.goes) n Deeds rest
+      left_of n =
+          subst (λ (list : List Announce). (rest : List Deed) × IsLeftOf (replies_read devices Deeds) list (is_gone_until c.parts n) (acts_on n Old Entries c.parts New c.goes) n Deeds rest) (b.opens).announced_are
+          (all_left b.announced devices Old New Entries c.parts begun.begins begun.have begun.opened c.goes (closed_own Last.desks b.stations b.closes) hear_bytes starts n)
+
+      run_tells : (r : ChannelRun) → given_of act_done (r.reading).channel runs ≡ given_in act_done (r.reading).calls → TellsRun (announced_of devices) (is_gone_until c.parts) Deeds (λ n. (left_of n).0) r
+      run_tells r own =
+          let n = (r.reading).channel in
+          let left = (left_of n).1 in
+          let acts : acts_on n Old Entries c.parts New c.goes ≡ acts_done (r.reading).calls =
+          history_acts n Entries c.parts Old New c.goes c.steps hear_surely ∙ of_runs act_done acts_inside n ∙ own ∙ done_in_all (r.reading).calls in
+          record { ready = left.ready; tells = subst (TellsReady left.ready (announced_of devices) (is_gone_until c.parts n) n (tellings_on n ((left_of n).0 ++ Deeds))) acts left.tells }
+
+      acts_are : filter_map act_by (reverse Deeds) ≡ flat_map (λ (r : ChannelRun). acts_done (r.reading).calls) runs
+      acts_are =
+          history_act Entries c.parts Old New c.goes hear_surely [] ∙ given_reader Entries ∙ ap (given_in act_done) whole ∙ runs_act runs End (((b.front).served).called).over are.each
+
+      lines_do_so : RunsDo (map (λ (a : Announce). a.id) (announced_of devices)) (is_gone_until c.parts) none_gone runs
+      lines_do_so =
+          let start = (begun.begins).new in
+          subst (λ (list : List Announce). RunsDo (map (λ (a : Announce). a.id) list) (is_gone_until c.parts) none_gone runs) (b.opens).announced_are
+          (session_does b.announced runs End (at_lines numbered) are.left Entries c.parts Old New c.goes c.steps hear_surely whole (((b.front).served).called).over are.each are.lines_go (begins_known Old start.new start.apart start.stationed start.idle_is) (begins_own b.announced Old begun.begins))
+
+      runs_tell : AllByRecursion (TellsRun (announced_of devices) (is_gone_until c.parts) Deeds (λ n. (left_of n).0)) runs
+      runs_tell =
+          to_all (λ (r : ChannelRun). given_of act_done (r.reading).channel runs ≡ given_in act_done (r.reading).calls) (TellsRun (announced_of devices) (is_gone_until c.parts) Deeds (λ n. (left_of n).0)) run_tells runs
+          (own_given act_done 0 runs are.numbered)
+
+      all_told : AreStationed Last.desks mids → IsToldSession devices numbered channels by Entries books old new
       all_told at = record {
         deeds = Deeds;
         gone = is_gone_until c.parts;
+        rest = λ n. (left_of n).0;
         runs = runs;
         calls = Calls;
         done = ((b.front).served).done;
         ends = (((b.front).served).called).ends;
         calls_are = are.calls_are;
+        called = (End, (((b.front).served).called).all_are);
+        handed = wrote_is;
         done_are = are.done_are;
         numbered = are.numbered;
+        does = lines_do_so;
+        lines_go = (record { calls = Calls; done = ((b.front).served).done; lines = are.left; linker = new }, are.lines_go);
         each = runs_told;
         unread = unread;
         unwritten = unwritten;
         told = answered;
-        heeded = passes_of;
+        heeded = λ n. ((left_of n).1).heeded;
         stands = (known.standing).stand;
         order = in_order_of;
-        journals = b.books_are ∙ journals_are at;
+        tells = runs_tell;
+        acts = acts_are;
+        cuts = all_cut b.announced Old New Entries c.parts begun.begins c.goes;
+        journals = b.journals_are ∙ journals_are at;
         lawful = lawful_of at;
         marked = marked_of at;
       }
 
     -- The session is told by its front's history.
-    pub session_told : IsToldSession devices numbered channels by books old new
+    pub session_told : IsToldSession devices numbered channels by Entries books old new
     session_told =
         let (runs, are) = runs_of (at_lines numbered) channels by Calls ((b.front).served).done old new not (((b.front).served).called).ends in
         all_told runs are closed.mids closed.works (chained closed.mids closed.stationed) closed.stationed

@@ -1,16 +1,18 @@
 -- What is known of a client's session over a socket, from what its workers served: there are deeds of the client that its bytes and its journals come from.
-use Rattle.std.specs.Prelude.{◌≡◌, ◌⊎◌, ℕ, ◌<◌, Bool, true, List, [], length, map, reverse}
-use Rattle.std.specs.List.{AllByRecursion}
+use Rattle.std.specs.Prelude.{◌∷◌, ◌≡◌, ◌⊎◌, ℕ, ◌<◌, Bool, true, List, [], ◌++◌, filter_map, length, map, reverse}
+use Rattle.std.specs.List.{AllByRecursion, flat_map}
 use Rattle.rd_base.specs.declared.journal.Item.{Item}
 use Rattle.rd_base.specs.History.{History}
 use Rattle.rd_base.specs.Lawful.{IsLawful}
 use Rattle.rd_carry.specs.declared.ended.Ended.{Ended}
 use Rattle.rd_carry.specs.Outgoing.{HasWritten}
 use Rattle.rd_client.specs.Events.{AreWritable}
+use Rattle.rd_devices.specs.declared.list.Announce.{Announce}
 use Rattle.rd_drive.specs.Replies.{AreToldBy}
 use Rattle.rd_front.specs.Calls.{FrontEntry}
 use Rattle.rd_runs.specs.Premises.{AreBounded}
 use Rattle.rd_script.specs.declared.line.NumberedLine.{NumberedLine}
+use Rattle.rd_world.specs.Acts.{act_by, tellings_on}
 use Rattle.rd_world.specs.Devices.{Declared, device_cut, device_step}
 use Rattle.rd_world.specs.Joining.{Stands}
 use Rattle.rd_world.specs.Opening.{AreDeclared, bare_lines}
@@ -18,12 +20,14 @@ use Rattle.rd_world.specs.Recording.{announced_of}
 use Rattle.rd_world.specs.Run.{declared_devices}
 use Rattle.rd_world.specs.Session.{journals_of, replies_read, request_read}
 use Rattle.rd_world.specs.Talk.{Deed, EachAfter, client_moves, client_read, client_wrote, journal}
-use Rattle.rd_world.specs.Told.{AreAnswered}
-use Rattle.rd_workers.specs.Channels.{ChannelRun, EndsByCalls, HaveNumbers, IsChannelRun, LinkerTold, calls_by_all}
+use Rattle.rd_world.specs.Told.{AreAnswered, IsHeeded}
+use Rattle.rd_workers.specs.Channels.{AllGoByLines, ChannelRun, EndsByCalls, HaveNumbers, IsChannelRun, LinkerTold, Standing, calls_by_all}
 use Rattle.rd_workers.specs.Lines.{at_lines}
-use Rattle.rd_workers.specs.Logs.{Wrote}
+use Rattle.rd_workers.specs.Logs.{Wrote, messages_for, reader_calls}
 use Rattle.rd_served_order.specs.Orders.{AreMovesInOrder}
-use Rattle.rd_served_refusals.specs.Heeding.{PassesNone}
+use Rattle.rd_served_order.specs.Tellings.{TellsReady}
+use Rattle.rd_served_causes.specs.Cuts.{CutsRemoved}
+use Rattle.rd_served_sessions.specs.Acts.{RunsDo, acts_done, none_gone}
 
 -- Lines within the limits of a script, which declare devices that are within their bounds and can be announced. Those of each script that was read are so.
 pub record AreServable (lines : List NumberedLine) : Type 0 where
@@ -36,32 +40,48 @@ pub record AreServable (lines : List NumberedLine) : Type 0 where
 pub record IsServedRun (deeds : List Deed) (r : ChannelRun) : Type 0 where
   pub is : IsChannelRun r
   pub read : client_read (r.reading).channel deeds ≡ reverse ((r.reading).incoming).messages
-  pub written : HasWritten r.held (reverse (client_wrote (r.reading).channel deeds)) (r.wrote).ended
+  pub written : HasWritten ((r.wrote).began).held (reverse (client_wrote (r.reading).channel deeds)) (r.wrote).ended
   pub flushed : ((r.wrote).ended).pending ≡ []
   pub stopped : (r.wrote).stopped ≡ true → 0 < ((r.wrote).ended).faults
 
--- The client's half of a session of these devices, by which channels of these lines were served up to this end.
-pub record IsToldSession (devices : List (ℕ × Declared)) (lines : List NumberedLine) (channels : ℕ) (by : Ended) (books : List (ℕ × History)) (old new : LinkerTold) : Type 0 where
-  -- what the client did, the newest first, and which devices were gone when a channel began
+-- What was told of devices on a channel, and what was still to be told as it ended, says that the channel began, by the list of the devices that weren't gone then, and after that what its calls did, all of it, in order; before the client was ready nothing was told or done.
+pub record TellsRun (devices : List Announce) (gone : ℕ → ℕ → Bool) (deeds : List Deed) (rest : ℕ → List Deed) (r : ChannelRun) : Type 0 where
+  pub ready : Bool
+  pub tells : let c = (r.reading).channel in TellsReady ready devices (gone c) c (tellings_on c (rest c ++ deeds)) (acts_done (r.reading).calls)
+
+-- The client's half of a session of these devices, by which channels of these lines were served up to this end, by these calls of the front.
+pub record IsToldSession (devices : List (ℕ × Declared)) (lines : List NumberedLine) (channels : ℕ) (by : Ended) (entries : List FrontEntry) (books : List (ℕ × History)) (old new : LinkerTold) : Type 0 where
+  -- what the client did, the newest first; which devices were gone when a channel began; and what was still to be written on it as it ended, the newest first
   pub deeds : List Deed
   pub gone : ℕ → ℕ → Bool
+  pub rest : ℕ → List Deed
   -- what was done on each channel, and how the session ended
   pub runs : List ChannelRun
   pub calls : List FrontEntry
   pub done : List Wrote
   pub ends : EndsByCalls (at_lines lines) channels by calls done old new
   pub calls_are : calls ≡ calls_by_all runs
+  pub called : (last : FrontEntry) × (reader_calls entries ≡ calls ++ last ∷ [])
+  pub handed : (c : ℕ) → reverse (client_wrote c deeds) ≡ messages_for c entries
   pub done_are : done ≡ map (λ (r : ChannelRun). r.wrote) runs
   pub numbered : HaveNumbers 0 runs
+  -- the calls of each channel go by the script's lines
+  pub lines_go : (here : Standing) × AllGoByLines runs (at_lines lines) here.lines
   pub each : AllByRecursion (IsServedRun deeds) runs
-  -- on no other channel was anything read; nor was anything written after the last
+  -- on no other channel was anything read or written
   pub unread : (c : ℕ) → (c ≡ 0) ⊎ (length runs < c) → client_read c deeds ≡ []
-  pub unwritten : (c : ℕ) → length runs < c → client_wrote c deeds ≡ []
-  -- what the client tells are its answers, which stand after their requests, and pass none of these over but the last on a channel; and it tells them in order
+  pub unwritten : (c : ℕ) → (c ≡ 0) ⊎ (length runs < c) → client_wrote c deeds ≡ []
+  -- what the client tells are its answers, which stand after their requests, and with the rest of a channel pass none of these over but the last there; and it tells them in order
   pub told : AreAnswered (replies_read devices deeds) deeds
-  pub heeded : (c : ℕ) → (rest : List Deed) × PassesNone c deeds rest
+  pub heeded : (c : ℕ) → IsHeeded (replies_read devices deeds) c deeds (rest c)
   pub stands : EachAfter Stands deeds
   pub order : (c : ℕ) → AreMovesInOrder (announced_of devices) (gone c) (client_moves c deeds)
+  -- of its devices it tells what the calls of each channel did, and these did all that was done; and only what was removed is cut off as gone
+  pub tells : AllByRecursion (TellsRun (announced_of devices) gone deeds rest) runs
+  pub acts : filter_map act_by (reverse deeds) ≡ flat_map (λ (r : ChannelRun). acts_done (r.reading).calls) runs
+  pub cuts : EachAfter CutsRemoved deeds
+  -- each line that acts does what there is to do then, and else nothing; which devices were gone as a channel began is by what was done before
+  pub does : RunsDo (map (λ (a : Announce). a.id) (announced_of devices)) gone none_gone runs
   -- the books have one journal of each device, which is lawful, and whose marks are those of the device, by the requests that were read
   pub journals : journals_of books ≡ map {B = ℕ × List Item} (λ (d : ℕ × Declared). (d.0, reverse (journal d.0 deeds))) devices
   pub lawful : AllByRecursion (λ (d : ℕ × Declared). IsLawful (reverse (journal d.0 deeds))) devices

@@ -5,4 +5,4 @@
 
 mod laws;
 
-pub use laws::sessions_are_told;
+pub use laws::{scripts_are_servable, sessions_are_told};

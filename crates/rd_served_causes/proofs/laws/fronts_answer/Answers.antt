@@ -1,15 +1,13 @@
-use Rattle.std.proofs.Common.{[], refl, subst}
+use Rattle.std.proofs.Common.{[], refl}
 use Rattle.rd_refused.proofs.AnswerLemmas.{all_answer}
 use Rattle.rd_world.specs.Session.{replies_read}
-use Rattle.rd_world.specs.Talk.{EachAfter}
-use Rattle.rd_world.specs.Told.{Answers}
 use Rattle.rd_served.proofs.StandingLemmas.{begins_known, history_known}
 use Rattle.rd_served.specs.Deeds.{deeds_of_calls}
-use Rattle.rd_served_refusals.proofs.LineLemmas.{once_before}
+use Rattle.rd_served_refusals.specs.Heeding.{left_by}
 use Rattle.rd_served_replies.proofs.EachLemmas.{all_answered, replied_then}
 use Rattle.rd_served_replies.proofs.ReadLemmas.{all_fine, history_bytes}
 use Rattle.rd_served_causes.proofs.CallLemmas.{all_said}
-use Rattle.rd_served_causes.proofs.RestLemmas.{rest_answers}
+use Rattle.rd_served_causes.proofs.RestLemmas.{rest_answers, rest_refuses}
 use Rattle.rd_served_causes.proofs.laws.fronts_answer.Goals as goal
 
 pub returns-clause-written : goal.returns-clause-written
@@ -25,7 +23,6 @@ returns-clause-left c announced devices old new entries parts begins have opened
     let read = history_bytes entries parts old new [] goes bytes tt in
     let said = (all_said announced old new entries parts begins have goes (all_fine deeds read) unhindered).0 in
     let known = history_known entries parts old new [] goes (begins_known old begins.new.new begins.new.apart begins.new.stationed begins.new.idle_is) in
-    subst (EachAfter (Answers (replies_read devices deeds))) (once_before (new.front).channel (((new.front).client).core).outbox [] deeds)
-    (rest_answers (replies_read devices deeds) new deeds known (new.front).channel (((new.front).client).core).outbox deeds (λ x. refl) (λ d. refl) said.out (known.standing).out
-    (replied_then devices old new entries parts begins.new opened goes gives read).out
-    (all_answer (replies_read devices deeds) deeds said.each (all_answered devices old new entries parts begins.new opened goes gives read)))
+    rest_answers (replies_read devices deeds) (left_by new.front) deeds
+    (rest_refuses new deeds known (new.front).channel (((new.front).client).core).outbox [] (λ x. refl) (λ d. refl) said.out (known.standing).out (replied_then devices old new entries parts begins.new opened goes gives read).out tt)
+    (all_answer (replies_read devices deeds) deeds said.each (all_answered devices old new entries parts begins.new opened goes gives read))
