@@ -1,7 +1,7 @@
 //! The command `client` over channels in memory: its status, what it prints, and what its notes say.
+use crate::running::run_on;
 use rd_base::{Books, Bytes, Calls, MemSink, MemSource};
-use rd_cli::run;
-use rd_link::{FixedClock, MemLinker, NoGate};
+use rd_link::MemLinker;
 use std::alloc::{AllocError, Global};
 use std::process::Abort;
 use std::sync::Wait;
@@ -152,7 +152,7 @@ fn left_by(
     let mut notes = MemSink::new(alloc, calls(alloc, &[])?);
     let mut linker = linker_of(alloc, row)?;
     let mut books = Books::new(alloc);
-    let status = run(
+    let status = run_on(
         rt,
         alloc,
         words.as_slice(),
@@ -161,8 +161,6 @@ fn left_by(
         &mut recording,
         &mut notes,
         &mut linker,
-        &FixedClock(0),
-        &NoGate {},
         &mut books,
     );
     Ok(Remains {

@@ -6,4 +6,6 @@ mod clients;
 #[cfg(test)]
 mod programs;
 #[cfg(test)]
+mod running;
+#[cfg(test)]
 mod tests;

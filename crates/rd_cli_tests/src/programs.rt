@@ -1,7 +1,8 @@
 //! The program over real files: its exit status, what it prints, and the recording that it leaves in the current folder.
+use crate::running::program_on;
 use rd_base::{Bytes, Calls, FileSink, MemSink, MemSource, Sink, StdSink};
-use rd_cli::{program, words_of};
-use rd_link::{FixedClock, MemLinker, NoGate};
+use rd_cli::words_of;
+use rd_link::MemLinker;
 use std::alloc::{AllocError, Global};
 use std::env::FillError;
 use std::fs;
@@ -38,7 +39,7 @@ fn ended<K: Sink>(
     let mut recording = FileSink::new(rt, path);
     let mut notes = MemSink::new(alloc, never(alloc));
     let mut linker = MemLinker::new(alloc, Vec::new(alloc), never(alloc))?;
-    Ok(program(
+    Ok(program_on(
         rt,
         alloc,
         Ok(words.as_slice()),
@@ -47,8 +48,6 @@ fn ended<K: Sink>(
         &mut recording,
         &mut notes,
         &mut linker,
-        &FixedClock(0),
-        &NoGate {},
     ))
 }
 
@@ -139,7 +138,7 @@ fn ends_with_6_without_memory_for_its_words(rt: HostRuntime) -> Result<(), Fail>
     let mut recording = MemSink::new(alloc, never(alloc));
     let mut notes = MemSink::new(alloc, never(alloc));
     let mut linker = MemLinker::new(alloc, Vec::new(alloc), never(alloc))?;
-    let code = program(
+    let code = program_on(
         &rt,
         alloc,
         Err(AllocError),
@@ -148,8 +147,6 @@ fn ends_with_6_without_memory_for_its_words(rt: HostRuntime) -> Result<(), Fail>
         &mut recording,
         &mut notes,
         &mut linker,
-        &FixedClock(0),
-        &NoGate {},
     );
     assert!(rt; code == ExitCode::from(6));
     assert_eq!(rt; notes.bytes(), b"rdr: out of memory\n".as_slice());

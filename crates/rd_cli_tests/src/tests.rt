@@ -1,7 +1,7 @@
 //! What ends a command, and what it leaves: the report, the recording, the journal and the notes.
+use crate::running::run_on;
 use rd_base::{Books, Bytes, Calls, Cause, Item, Key, MemSink, MemSource};
-use rd_cli::run;
-use rd_link::{FixedClock, MemLinker, NoGate};
+use rd_link::MemLinker;
 use std::alloc::{AllocError, Global};
 use std::process::Abort;
 use std::sync::Wait;
@@ -93,7 +93,7 @@ fn command(
     let mut notes = sink(alloc, &[])?;
     let mut linker = MemLinker::new(alloc, Vec::new(alloc), Calls::of(Vec::new(alloc)))?;
     let mut books = Books::new(alloc);
-    let status = run(
+    let status = run_on(
         rt,
         alloc,
         words.as_slice(),
@@ -102,8 +102,6 @@ fn command(
         &mut recording,
         &mut notes,
         &mut linker,
-        &FixedClock(0),
-        &NoGate {},
         &mut books,
     );
     copies_of(alloc, status, [&output, &recording, &notes], &books)
