@@ -101,12 +101,12 @@ abbrev pub ServesBooks : List (ℕ × Declared) → List AtLine → ℕ → Ende
 ServesBooks devices lines channels by books old new = ServesJournals devices lines channels by (journals_of books) old new
 
 -- Memory ran out: before anything was connected, and the books have nothing; or as the journals were stored, and the books have the first of them.
-abbrev pub ServesSome : List (ℕ × Declared) → List AtLine → ℕ → List (ℕ × History) → (old new : LinkerTold) → Type 0
-ServesSome devices lines channels books old new =
+abbrev pub ServesStarved : List (ℕ × Declared) → List AtLine → ℕ → List (ℕ × History) → (old new : LinkerTold) → Type 0
+ServesStarved devices lines channels books old new =
     ((new ≡ old) × (books ≡ [])) ⊎ ((by : Ended) × (journals : List (ℕ × List Item)) × ServesJournals devices lines channels by journals old new × StoresSome journals books)
 
 -- The devices of a script's lines were served, on as many channels as these say, up to this end, and their journals are in the books, or as many as there was memory for.
 abbrev pub HasServedLines : List NumberedLine → Ended → List (ℕ × History) → (old new : LinkerTold) → Type 0
 HasServedLines lines by books old new =
     ServesBooks (declared_devices (bare_lines lines)) (at_lines lines) (channels_of lines) by books old new
-    ⊎ ((by ≡ ended.Memory) × ServesSome (declared_devices (bare_lines lines)) (at_lines lines) (channels_of lines) books old new)
+    ⊎ ((by ≡ ended.Memory) × ServesStarved (declared_devices (bare_lines lines)) (at_lines lines) (channels_of lines) books old new)

@@ -12,7 +12,7 @@ ghost use Rattle.rd_workers.specs.Channels.{told_as};
 ghost use Rattle.rd_workers.specs.Lines.{at_lines};
 ghost use Rattle.rd_workers.specs.Logs.{AllWrite};
 ghost use Rattle.rd_workers.specs.Passes.{AreNew, ComesBack, IsRejoined, IsPassOf, IsUnused};
-ghost use Rattle.rd_workers.specs.Served.{HasServedLines, IsRead, ServesBooks, ServesEntries, ServesHome, ServesSome};
+ghost use Rattle.rd_workers.specs.Served.{HasServedLines, IsRead, ServesBooks, ServesEntries, ServesHome, ServesStarved};
 ghost use Rattle.rd_world.specs.Run.{declared_devices};
 ghost use Rattle.rd_world.specs.Opening.{AreDeclared, bare_lines};
 ghost use Rattle.rd_world.specs.Stations.{IsReachedBy};
@@ -79,7 +79,7 @@ fn serve<R: Threads + Wait + Sync, L: Linker, X: Outside + Sync>(
     requires few { plan.workers ≤ 16 }
     requires books { books.old ≡ [] }
     ensures served { IfOk result (λ ended. ServesBooks (declared_devices (bare_lines plan.entry.lines.now)) (at_lines plan.entry.lines.now) plan.entry.channels ended books.new (told_as (L.linked linker.old) (L.failures linker.old)) (told_as (L.linked linker.new) (L.failures linker.new))) }
-    ensures err { OnErr result (ServesSome (declared_devices (bare_lines plan.entry.lines.now)) (at_lines plan.entry.lines.now) plan.entry.channels books.new (told_as (L.linked linker.old) (L.failures linker.old)) (told_as (L.linked linker.new) (L.failures linker.new))) }
+    ensures err { OnErr result (ServesStarved (declared_devices (bare_lines plan.entry.lines.now)) (at_lines plan.entry.lines.now) plan.entry.channels books.new (told_as (L.linked linker.old) (L.failures linker.old)) (told_as (L.linked linker.new) (L.failures linker.new))) }
     ensures faults { IfOk result (λ ended. TellsFaults ended (L.failures linker.old) (L.failures linker.new) (L.trouble linker.old) (L.trouble linker.new)) }
     ensures lawful { AreLawfulBooks books.new }
     ensures moments { RunAtTold (X.moment outside.now) books.new }
