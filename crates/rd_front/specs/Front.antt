@@ -38,7 +38,7 @@ use Rattle.rd_front.specs.declared.calls.Rest.{Rest}
 use Rattle.rd_front.specs.declared.calls.Rest.TheVariants as rest
 use Rattle.rd_front.specs.declared.next.Got.{Got}
 use Rattle.rd_front.specs.declared.next.Got.TheVariants as got
-use Rattle.rd_front.specs.Room.{MessageRoom}
+use Rattle.rd_room.specs.Room.{MessageRoom}
 use Rattle.rd_front.specs.State.{DeviceDeskState, FrontState, IsCalled}
 
 -- so many messages in the core's outbox, and nothing more is heard, nor told of a device

@@ -1,5 +1,4 @@
 pub mod Calls
-pub mod Room
 pub mod State
 pub mod Front
 pub mod Kept

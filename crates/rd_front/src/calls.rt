@@ -1,8 +1,8 @@
 //! The calls of a front, and its replies.
 
-use crate::room::Room;
 use rd_base::{Bytes, Key};
 use rd_hello::EndFault;
+use rd_room::Room;
 
 /// A call of a front. The writer makes `Next`, and the reader all others.
 #[derive(Drop)]

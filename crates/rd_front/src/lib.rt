@@ -12,11 +12,9 @@ mod hearing;
 mod kept_job;
 mod laws;
 mod next;
-mod room;
 mod telling;
 
 pub use calls::{FrontCall, FrontReply, Rest};
 pub use device_desk::DeviceDesk;
 pub use front::Front;
 pub use laws::{a_front_is_there, fronts_call_desks, fronts_count_messages};
-pub use room::Room;

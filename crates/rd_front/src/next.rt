@@ -10,10 +10,10 @@ ghost use Rattle.rd_front.specs.declared.calls.FrontCall.TheVariants as Call;
 
 use crate::calls::{FrontReply, Rest};
 use crate::front::Front;
-use crate::room::Room;
 use rd_base::Bytes;
 use rd_desk::{DeskCall, DeskReply};
 use rd_irp::{Head, write_completion};
+use rd_room::Room;
 use rd_station::Completion;
 use std::alloc::Global;
 use std::sync::Wait;

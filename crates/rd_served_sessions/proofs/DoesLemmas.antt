@@ -14,7 +14,7 @@ use Rattle.rd_desk.specs.declared.calls.DeskReply.{DeskReply}
 use Rattle.rd_devices.specs.declared.list.Announce.{Announce}
 use Rattle.rd_front.specs.Calls.{FrontEntry}
 use Rattle.rd_front.specs.Front.{AddsBy, AddsIf, Announces, Collects, CutsAt, DeskDoes, Fills, FillsBy, FrontAdds, FrontRemoves, FrontStep, GivesBy, GivesNext, Hands, Refreshes, RemovesBy, Where, desk_place, done_where, is_front_full, is_front_ready, may_add, may_remove, none_for, standing_of}
-use Rattle.rd_front.specs.Room.{MessageRoom}
+use Rattle.rd_room.specs.Room.{MessageRoom}
 use Rattle.rd_front.specs.State.{FrontState}
 use Rattle.rd_front.specs.declared.calls.FrontCall.{FrontCall}
 use Rattle.rd_front.specs.declared.calls.FrontCall.TheVariants as call

@@ -4,7 +4,7 @@ use Rattle.std.specs.List.{AllByRecursion}
 use Rattle.rd_client.specs.Core as client
 use Rattle.rd_front.specs.Calls.{FrontEntry, RanOut}
 use Rattle.rd_front.specs.Front.{FrontStep, with_new_data}
-use Rattle.rd_front.specs.Room.{MessageRoom}
+use Rattle.rd_room.specs.Room.{MessageRoom}
 use Rattle.rd_front.specs.State.{FrontState}
 use Rattle.rd_front.specs.declared.calls.FrontCall.{FrontCall}
 use Rattle.rd_front.specs.declared.calls.FrontCall.TheVariants as call

@@ -20,7 +20,7 @@ use Rattle.rd_drive.proofs.AllLemmas.{all_append}
 use Rattle.rd_drive.specs.Replies.{AreToldBy}
 use Rattle.rd_front.specs.Calls.{FrontEntry, HearBytes, HearsBytes}
 use Rattle.rd_front.specs.Front.{FrontStep}
-use Rattle.rd_front.specs.Room.{MessageRoom}
+use Rattle.rd_room.specs.Room.{MessageRoom}
 use Rattle.rd_front.specs.State.{DeviceDeskState, FrontState, SessionDeskStep, SessionStation}
 use Rattle.rd_front.specs.declared.calls.FrontCall.{FrontCall}
 use Rattle.rd_front.specs.declared.calls.FrontCall.TheVariants as call

@@ -16,7 +16,7 @@ use Rattle.rd_desk.specs.declared.calls.DeskReply.{DeskReply}
 use Rattle.rd_desk.specs.declared.calls.DeskReply.TheVariants as replied
 use Rattle.rd_drive.specs.declared.plan.Job.{Job}
 use Rattle.rd_front.specs.Front.{AddsBy, AddsIf, Announces, AnnouncesOne, AnnouncesUnless, AnswersDirectly, BeginsIf, ChannelEnds, ClientDoes, Collects, CutsAt, DeskDoes, Each, Fills, FillsBy, FollowsFrom, FrontAdds, FrontBegins, FrontHears, FrontRemoves, FrontRetries, FrontStep, GivesBy, GivesNext, Hands, HeardBy, OpeningEnds, PutBy, Puts, PutsIf, RefreshesOne, Refreshes, RefusedPut, RemovesBy, SessionEnds, Then, Where, desk_place, done_at, done_if, done_where, is_front_full, is_front_ready, may_add, may_begin, may_hear, may_remove, none_for, with_new_data}
-use Rattle.rd_front.specs.Room.{MessageRoom}
+use Rattle.rd_room.specs.Room.{MessageRoom}
 use Rattle.rd_front.specs.State.{FrontState}
 use Rattle.rd_front.specs.declared.calls.FrontCall.{FrontCall}
 use Rattle.rd_front.specs.declared.calls.FrontCall.TheVariants as call

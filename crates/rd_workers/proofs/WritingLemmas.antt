@@ -5,7 +5,7 @@ use Rattle.std.specs.Prelude.{Result, Ok, Err, OnOk, OnErr, is_ok, if◌then◌e
 use Rattle.rd_carry.specs.Outgoing.{HasWritten, OutgoingState, having_put}
 use Rattle.rd_drive.proofs.AllLemmas.{all_append}
 use Rattle.rd_front.specs.Calls.{FrontEntry, RanOut}
-use Rattle.rd_front.specs.Room.{MessageRoom, first_in_room, first_of_room}
+use Rattle.rd_room.specs.Room.{MessageRoom, first_in_room, first_of_room}
 use Rattle.rd_front.specs.declared.calls.FrontCall.TheVariants as call
 use Rattle.rd_front.specs.declared.calls.FrontReply.{FrontReply}
 use Rattle.rd_front.specs.declared.calls.FrontReply.TheVariants as reply

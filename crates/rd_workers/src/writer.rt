@@ -13,8 +13,9 @@ ghost use Rattle.rd_workers.specs.declared.writer.WriterCall.TheVariants as Call
 use rd_base::Bytes;
 use rd_carry::Outgoing;
 use rd_chunk::MAX_MESSAGE;
-use rd_front::{FrontCall, FrontReply, Rest, Room};
+use rd_front::{FrontCall, FrontReply, Rest};
 use rd_link::Hang;
+use rd_room::Room;
 use rd_turn::{Caller, Object};
 use std::marker::Model;
 use std::sync::Wait;

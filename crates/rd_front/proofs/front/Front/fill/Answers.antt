@@ -2,7 +2,7 @@ use Rattle.std.proofs.Common.{◌<◌, ◌≤◌, ◌∙◌, sym, ap, subst, rul
 use Rattle.rd_front.specs.declared.next.Got.{Got}
 use Rattle.rd_front.specs.declared.next.Got.TheVariants as got
 use Rattle.rd_front.specs.Front.{GivesNext}
-use Rattle.rd_front.specs.Room.{MessageRoom}
+use Rattle.rd_room.specs.Room.{MessageRoom}
 use Rattle.rd_front.proofs.FillLemmas.{FillsOn, fills_all, fills_more, fills_nothing, fills_wanting}
 use Rattle.rd_front.proofs.front.Front.fill.Goals as goal
 

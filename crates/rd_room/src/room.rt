@@ -1,7 +1,7 @@
 //! The room for messages that a writer takes at once.
 
 ghost use Rattle.std.specs.Prelude.{◌≡◌, ◌<◌, ◌∷◌, ◌++◌, ◌↔◌, [], length, IfOk, IsTrue};
-ghost use Rattle.rd_front.specs.Room.{first_in_room};
+ghost use Rattle.rd_room.specs.Room.{first_in_room};
 
 use rd_base::Bytes;
 use std::alloc::{AllocError, Global};
@@ -18,7 +18,7 @@ pub struct Room {
 impl Model for Room {
     ghost use Rattle.std.specs.Prelude.{◌≤◌, length};
     ghost use Rattle.std.specs.VecDeque.{deque_capacity};
-    ghost use Rattle.rd_front.specs.Room.{MessageRoom};
+    ghost use Rattle.rd_room.specs.Room.{MessageRoom};
 
     ghost Value = { MessageRoom };
 
@@ -46,14 +46,14 @@ impl Room {
     }
 
     /// Whether another message may come.
-    pub(crate) fn has_place(&self) -> bool
+    pub fn has_place(&self) -> bool
         ensures { IsTrue result ↔ (length self.now.messages < self.now.places) }
     {
         self.messages.len() < self.places
     }
 
     /// A message comes last. It takes no memory.
-    pub(crate) fn add(&mut self, message: Bytes)
+    pub fn add(&mut self, message: Bytes)
         requires { length self.old.messages < self.old.places }
         ensures { self.new ≡ record self.old { messages = self.old.messages ++ message ∷ [] } }
     {
@@ -61,7 +61,7 @@ impl Room {
     }
 
     /// No messages are left.
-    pub(crate) fn clear(&mut self)
+    pub fn clear(&mut self)
         ensures { self.new ≡ record self.old { messages = [] } }
     {
         self.messages.clear();
