@@ -1,7 +1,7 @@
 //! The command `client` over channels in memory: its status, what it prints, and what its notes say.
 use crate::running::run_on;
 use rd_base::{Books, Bytes, Calls, MemSink, MemSource};
-use rd_link::MemLinker;
+use rd_link::{FixedClock, MemLinker, NoGate};
 use std::alloc::{AllocError, Global};
 use std::process::Abort;
 use std::sync::Wait;
@@ -161,6 +161,8 @@ fn left_by(
         &mut recording,
         &mut notes,
         &mut linker,
+        &FixedClock(0),
+        &NoGate {},
         &mut books,
     );
     Ok(Remains {

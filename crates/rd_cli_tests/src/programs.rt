@@ -2,7 +2,7 @@
 use crate::running::program_on;
 use rd_base::{Bytes, Calls, FileSink, MemSink, MemSource, Sink, StdSink};
 use rd_cli::words_of;
-use rd_link::MemLinker;
+use rd_link::{FixedClock, MemLinker, NoGate};
 use std::alloc::{AllocError, Global};
 use std::env::FillError;
 use std::fs;
@@ -48,6 +48,8 @@ fn ended<K: Sink>(
         &mut recording,
         &mut notes,
         &mut linker,
+        &FixedClock(0),
+        &NoGate {},
     ))
 }
 
@@ -147,6 +149,8 @@ fn ends_with_6_without_memory_for_its_words(rt: HostRuntime) -> Result<(), Fail>
         &mut recording,
         &mut notes,
         &mut linker,
+        &FixedClock(0),
+        &NoGate {},
     );
     assert!(rt; code == ExitCode::from(6));
     assert_eq!(rt; notes.bytes(), b"rdr: out of memory\n".as_slice());

@@ -1,16 +1,16 @@
-//! The top call over any streams and any linker: whoever calls it needs nothing of what it promises.
+//! The top call over any streams, linker, clock and gate: whoever calls it needs nothing of what it promises.
 ghost use Rattle.std.specs.Prelude.{◌≡◌, []};
 
 use rd_base::{Books, Sink, Source};
 use rd_cli::{program, run};
-use rd_link::{FixedClock, Linker, NoGate};
+use rd_link::{Clock, Gate, Linker};
 use std::alloc::{AllocError, Global};
 use std::process::ExitCode;
 use std::sync::Wait;
 use std::thread::Threads;
 
 /// Runs a command, and returns its status.
-pub(crate) fn run_on<I: Source, K: Sink, L: Linker>(
+pub(crate) fn run_on<I: Source, K: Sink, L: Linker, C: Clock + Sync, G: Gate + Sync>(
     rt: &(impl Threads + Wait + Sync),
     alloc: Global,
     words: &[String],
@@ -19,27 +19,27 @@ pub(crate) fn run_on<I: Source, K: Sink, L: Linker>(
     recording: &mut K,
     notes: &mut K,
     linker: &mut L,
+    clock: &C,
+    gate: &G,
     books: &mut Books,
 ) -> u8
     requires { books.old ≡ [] }
 {
     run(
-        rt,
-        alloc,
-        words,
-        input,
-        output,
-        recording,
-        notes,
-        linker,
-        &FixedClock(0),
-        &NoGate {},
-        books,
+        rt, alloc, words, input, output, recording, notes, linker, clock, gate, books,
     )
 }
 
 /// Runs the program, and returns its exit status.
-pub(crate) fn program_on<I: Source, K: Sink, W: Sink, N: Sink, L: Linker>(
+pub(crate) fn program_on<
+    I: Source,
+    K: Sink,
+    W: Sink,
+    N: Sink,
+    L: Linker,
+    C: Clock + Sync,
+    G: Gate + Sync,
+>(
     rt: &(impl Threads + Wait + Sync),
     alloc: Global,
     words: Result<&[String], AllocError>,
@@ -48,17 +48,10 @@ pub(crate) fn program_on<I: Source, K: Sink, W: Sink, N: Sink, L: Linker>(
     recording: &mut W,
     notes: &mut N,
     linker: &mut L,
+    clock: &C,
+    gate: &G,
 ) -> ExitCode {
     program(
-        rt,
-        alloc,
-        words,
-        input,
-        output,
-        recording,
-        notes,
-        linker,
-        &FixedClock(0),
-        &NoGate {},
+        rt, alloc, words, input, output, recording, notes, linker, clock, gate,
     )
 }

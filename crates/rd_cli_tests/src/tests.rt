@@ -1,7 +1,7 @@
 //! What ends a command, and what it leaves: the report, the recording, the journal and the notes.
 use crate::running::run_on;
 use rd_base::{Books, Bytes, Calls, Cause, Item, Key, MemSink, MemSource};
-use rd_link::MemLinker;
+use rd_link::{FixedClock, MemLinker, NoGate};
 use std::alloc::{AllocError, Global};
 use std::process::Abort;
 use std::sync::Wait;
@@ -102,6 +102,8 @@ fn command(
         &mut recording,
         &mut notes,
         &mut linker,
+        &FixedClock(0),
+        &NoGate {},
         &mut books,
     );
     copies_of(alloc, status, [&output, &recording, &notes], &books)

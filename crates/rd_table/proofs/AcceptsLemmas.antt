@@ -52,7 +52,7 @@ accepts_numbered entries t number a leads one =
     let whole : table_history entries ≡ since.0 ++ asked ∷ h = ap table_history one.place ∙ (history_more one.before (e ∷ one.later) ∙ since.1) in
     let (new, grown) = accepted_since since.0 (asked ∷ h) in
     let is : accepted_of (after h) one.application one.named one.op ≡ a = sym one.request in
-    let step = parted.2.1 in
+    let step = parted.2.1.0 in
     let numbered : number ≡ suc (parted.0).count = next_number parted.0 parted.2.0 one.application one.named one.op number step.1 in
     let counted : (parted.0).count ≡ length (accepted_in h) = ap (λ (s : TableState). s.count) (sym goes_there.is) ∙ (sound h goes_there.holds).count in (
       new,
@@ -128,7 +128,7 @@ found past [] t holds leads i a at over =
     absurd (omega (arith, over, slice_get_within (accepted_in (table_history past)) i a here))
 found past (e ∷ rest) t holds leads i a at over =
     let h : List Call = table_history past in
-    let (made, told, step) = one_made (table_call e.call e.reply) (λ (c : TableCall). TableStep (after h) c leads.0) leads.1 in
+    let (made, told, step) = one_made (table_call e.call e.reply) (λ (c : TableCall). TableStep (after h) c leads.0) leads.1.0 in
     let on = goes h holds made leads.0 step in
     let past' : List E = past ++ e ∷ [] in
     let grown : table_history past' ≡ done_by (after h) made ++ h = history_more past (e ∷ []) ∙ ap (done_by_all h) (told_first e [] made told) in

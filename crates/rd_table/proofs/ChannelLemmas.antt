@@ -55,6 +55,6 @@ pub stage_told : (entries before later : List E) (t : TableState) (by : ℕ) (st
 stage_told entries before later t by stage leads place =
     let parted = Leads-parted PendingStep new_table before (entry by ask.Stage (reply.Stands stage) ∷ later) t (subst (λ (es : List E). Leads PendingStep new_table es t) place leads) in
     let there = led_goes before parted.0 parted.1 in
-    let step = parted.2.1 in
+    let step = parted.2.1.0 in
     let so : looked parted.0 ≡ (lives_begun (table_history before), on_channel (table_history before)) = ap looked (sym there.is) ∙ looks_so (table_history before) there.holds in
     (ap (λ (s : Stage). s.lives) (sym step.0) ∙ ap (λ (x : ℕ × Bool). x.0) so, ap (λ (s : Stage). s.channel) (sym step.0) ∙ ap (λ (x : ℕ × Bool). x.1) so)

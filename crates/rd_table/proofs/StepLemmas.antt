@@ -42,7 +42,7 @@ handed_more xs ys = ap (flat_map handed_out_by) (told_more xs ys) ∙ flat_map-a
 pub led_steps : (s t : TableState) (entries : List E) → Leads PendingStep s entries t → TableSteps s (table_calls entries) t
 led_steps s t [] leads = leads
 led_steps s t (e ∷ entries) leads =
-    let (made, told, step) = one_made (table_call e.call e.reply) (λ (c : TableCall). TableStep s c leads.0) leads.1 in
+    let (made, told, step) = one_made (table_call e.call e.reply) (λ (c : TableCall). TableStep s c leads.0) leads.1.0 in
     subst (λ (calls : List TableCall). TableSteps s calls t) (sym (told_first e entries made told)) (leads.0, step, led_steps leads.0 t entries leads.2)
 
 -- ---- the history that calls make

@@ -1,5 +1,6 @@
 -- A host's table as an object, which the threads of a host call one after the other. No public standard has one: these are this project's own rules.
-use Rattle.std.specs.Prelude.{List, Option, Some, None, IsSomeAnd, filter_map}
+use Rattle.std.specs.Prelude.{List, Option, Some, None, Ok, IsSomeAnd, filter_map}
+use Rattle.rd_pending.specs.Known.{IsKnown}
 use Rattle.rd_pending.specs.Table.{TableCall, TableState, TableStep, begins, begins_unfit, completes, drops, drops_sent, lives, removes, sends, stages, submits, submits_unfit, takes}
 use Rattle.rd_turn.specs.declared.object.Entry.{Entry}
 use Rattle.rd_table.specs.declared.calls.PendingCall.{PendingCall}
@@ -27,6 +28,11 @@ table_call _ _ = None
 abbrev pub table_calls : List (Entry PendingCall PendingReply) → List TableCall
 table_calls entries = filter_map (λ (e : Entry PendingCall PendingReply). table_call e.call e.reply) entries
 
+-- an outcome that is handed out is one that comes of a request: a body that completes it, or why there is none
+abbrev pub HandsKnown : PendingReply → Type 0
+HandsKnown (reply.Taken (Ok taken)) = IsKnown taken.outcome
+HandsKnown _ = Unit {0}
+
 -- The table before a call and after it: the reply is one to the call, and both are a step of the table.
 abbrev pub PendingStep : TableState → PendingCall → PendingReply → TableState → Type 0
-PendingStep old asked answer new = IsSomeAnd (table_call asked answer) (λ made. TableStep old made new)
+PendingStep old asked answer new = IsSomeAnd (table_call asked answer) (λ made. TableStep old made new) × HandsKnown answer

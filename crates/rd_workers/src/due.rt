@@ -8,7 +8,7 @@ use std::marker::Model;
 
 /// What such a line does.
 #[derive(Clone, Copy)]
-pub(crate) enum Act {
+pub enum Act {
     Remove(u32),
     Add(u32),
     Drop,
@@ -16,7 +16,7 @@ pub(crate) enum Act {
 
 /// A line that acts on the channel of this number, once so many requests were heard there, and what it does.
 #[derive(Clone, Copy)]
-pub(crate) struct AtLine {
+pub struct AtLine {
     channel: u32,
     requests: u64,
     act: Act,

@@ -10,4 +10,5 @@ mod session;
 mod storing;
 mod writer;
 
+pub use due::{Act, AtLine};
 pub use session::serve_client;
