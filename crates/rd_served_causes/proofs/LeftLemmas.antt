@@ -1,5 +1,5 @@
 -- What was left of each channel as it ended stays what it was: later nothing is read, written or stored of it.
-use Rattle.std.proofs.Common.{◌≡◌, ◌∙◌, ◌≤◌, refl, sym, ap, subst, inl, inr, ℕ, Bool, true, false, List, [], ◌∷◌, ◌++◌, length, reverse, Option, Some, None, append-nil, append_assoc, arith, ne_eqb}
+use Rattle.std.proofs.Common.{◌≡◌, ◌∙◌, ◌≤◌, refl, sym, ap, subst, inl, inr, ℕ, ◌==◌, ◌&&◌, Bool, true, false, List, [], ◌∷◌, ◌++◌, length, reverse, Option, Some, None, append-nil, append_assoc, arith, eq-eqb, ne_eqb}
 use Rattle.std.specs.Prelude.{Ok, Err, filter, if◌then◌else◌}
 use Rattle.std.specs.List.{AllByRecursion}
 use Rattle.std.specs.Option.{option_map_or}
@@ -53,7 +53,7 @@ use Rattle.rd_served_causes.proofs.CallLemmas.{all_said, heard_unhindered}
 use Rattle.rd_served_causes.proofs.RestLemmas.{RefuseRightly, RefusesRightly, rest_answers, rest_refuses}
 use Rattle.rd_served_causes.proofs.SayLemmas.{AllRight, AreSaid, IsWornFor, RightAt}
 use Rattle.rd_served_causes.specs.Causes.{HaveDesks, StartUnhindered}
-use Rattle.rd_served_causes.specs.Left.{IsLeftOf}
+use Rattle.rd_served_causes.specs.Left.{IsLeftOf, none_left, rest_now, rest_of, rests_after, rests_by, rests_calls}
 
 abbrev outbox_of : Served → List Outgoing
 outbox_of p = (((p.front).client).core).outbox
@@ -153,6 +153,22 @@ on_over devices replies p deeds until acts is tells = record {
       ∙ once_told (p.front).channel (outbox_of p) deeds (right_own (IsWornFor p deeds) (p.front).channel (outbox_of p) (client_wrote (p.front).channel deeds) (is.said).out))) tells;
 }
 
+-- ---- which channel's rest changes
+
+-- another's is what it was
+rest_kept : (s : FrontState) (rests : ℕ → List Deed) (c : ℕ) → (c ≡ s.channel → s.on ≡ false) → rest_now s rests c ≡ rests c
+rest_kept s rests c off = by s.on refl
+  where
+    by : (b : Bool) → s.on ≡ b → rest_now s rests c ≡ rests c
+    by false e = ap (λ (b : Bool). if b && s.channel == c then left_by s else rests c) e
+    by true e =
+        ap (λ (b : Bool). if s.on && b then left_by s else rests c) (ne_eqb s.channel c (λ (same : s.channel ≡ c). let none = off (sym same) in cc (e, none)))
+        ∙ ap (λ (b : Bool). if b && false then left_by s else rests c) e
+
+-- that of the channel that is on is what stands in the outbox
+rest_left : (s : FrontState) (rests : ℕ → List Deed) (c : ℕ) → s.on ≡ true → c ≡ s.channel → rest_now s rests c ≡ left_by s
+rest_left s rests c on same = let here = eq-eqb s.channel c (sym same) in λ i. if on i && here i then left_by s else rests c
+
 -- ---- each part
 
 -- no channel begins or ends
@@ -206,127 +222,126 @@ unacted_on c p q (ends over told) goes other = refl
 
 module _ (devices : List Announce) (replies : Replies) where
   -- of each channel that isn't on
-  abbrev pub AreOver : Served → List Deed → (ℕ → List Deed) → (ℕ → List Act) → Type 0
-  AreOver p deeds until acts = (c : ℕ) → (c ≡ (p.front).channel → (p.front).on ≡ false) → (rest : List Deed) × IsOver devices c deeds (Gone until c) (acts c) rest
+  abbrev pub AreOver : Served → List Deed → (ℕ → List Deed) → (ℕ → List Act) → (ℕ → List Deed) → Type 0
+  AreOver p deeds until acts rests = (c : ℕ) → (c ≡ (p.front).channel → (p.front).on ≡ false) → IsOver devices c deeds (Gone until c) (acts c) (rests c)
 
   -- what is known of each part
   abbrev pub IsFact : Served → List Deed → FrontPart → Type 0
   IsFact p deeds x = EndsHeeded p deeds x × (AreSaid p deeds × AreReplied replies p deeds)
 
   -- What is known at a point of a history.
-  pub record IsHere (p : Served) (deeds : List Deed) (until : ℕ → List Deed) (acts : ℕ → List Act) : Type 0 where
+  pub record IsHere (p : Served) (deeds : List Deed) (until : ℕ → List Deed) (acts : ℕ → List Act) (rests : ℕ → List Deed) : Type 0 where
     pub known : IsKnownAt p deeds
     pub own : IsOwn devices p deeds
     pub ordered : IsOrdered devices p deeds until
     pub telling : IsTelling devices p deeds until acts
-    pub over : AreOver p deeds until acts
+    pub over : AreOver p deeds until acts rests
 
   -- of a channel on which a part does nothing
-  kept_over : (c : ℕ) (p q : Served) (x : FrontPart) (deeds : List Deed) (until then_until : ℕ → List Deed) (acts : ℕ → List Act) → PartGoes p x q → AreOnChannel (p.front).channel (deeds_of x) → then_until c ≡ until c → (c ≡ (p.front).channel → (p.front).on ≡ false)
-      → IsHere p deeds until acts → (rest : List Deed) × IsOver devices c (deeds_of x ++ deeds) (Gone then_until c) (acts c ++ part_acts c p x) rest
-  kept_over c p q x deeds until then_until acts goes here same other is =
-      let (rest, was) = is.over c other in
-      let away = part_away c p q x goes (is.known).keyed here (is.ordered).off (is.own).handing other in (
-        rest,
-        over_same devices c (deeds_of x ++ deeds) deeds (Gone then_until c) (acts c ++ part_acts c p x) rest (all_same c (deeds_of x) deeds away)
-            (subst (λ (before : List Deed). IsOver devices c deeds (λ device. is_removed device before) (acts c ++ part_acts c p x) rest) (sym same)
-            (subst (λ (things : List Act). IsOver devices c deeds (Gone until c) things rest) (sym (ap (λ (more : List Act). acts c ++ more) (unacted_on c p q x goes other) ∙ append-nil (acts c))) was)),
-      )
+  kept_over : (c : ℕ) (p q : Served) (x : FrontPart) (deeds : List Deed) (until then_until : ℕ → List Deed) (acts : ℕ → List Act) (rests : ℕ → List Deed) → PartGoes p x q → AreOnChannel (p.front).channel (deeds_of x) → then_until c ≡ until c → (c ≡ (p.front).channel → (p.front).on ≡ false)
+      → IsHere p deeds until acts rests → IsOver devices c (deeds_of x ++ deeds) (Gone then_until c) (acts c ++ part_acts c p x) (rests c)
+  kept_over c p q x deeds until then_until acts rests goes here same other is =
+      let was = is.over c other in
+      let away = part_away c p q x goes (is.known).keyed here (is.ordered).off (is.own).handing other in
+      over_same devices c (deeds_of x ++ deeds) deeds (Gone then_until c) (acts c ++ part_acts c p x) (rests c) (all_same c (deeds_of x) deeds away)
+      (subst (λ (before : List Deed). IsOver devices c deeds (λ device. is_removed device before) (acts c ++ part_acts c p x) (rests c)) (sym same)
+      (subst (λ (things : List Act). IsOver devices c deeds (Gone until c) things (rests c)) (sym (ap (λ (more : List Act). acts c ++ more) (unacted_on c p q x goes other) ∙ append-nil (acts c))) was))
 
-  steady_over : (p q : Served) (x : FrontPart) (deeds : List Deed) (until : ℕ → List Deed) (acts : ℕ → List Act) → IsSteady x → until_by x deeds until ≡ until → PartGoes p x q → AreOnChannel (p.front).channel (deeds_of x) → IsHere p deeds until acts
-      → AreOver q (deeds_of x ++ deeds) (until_by x deeds until) (λ c. acts c ++ part_acts c p x)
-  steady_over p q x deeds until acts steady same goes here is c other =
+  steady_over : (p q : Served) (x : FrontPart) (deeds : List Deed) (until : ℕ → List Deed) (acts : ℕ → List Act) (rests : ℕ → List Deed) → IsSteady x → until_by x deeds until ≡ until → PartGoes p x q → AreOnChannel (p.front).channel (deeds_of x) → IsHere p deeds until acts rests
+      → AreOver q (deeds_of x ++ deeds) (until_by x deeds until) (λ c. acts c ++ part_acts c p x) rests
+  steady_over p q x deeds until acts rests steady same goes here is c other =
       let still = part_steady p q x steady goes in
-      kept_over c p q x deeds until (until_by x deeds until) acts goes here (ap (λ (f : ℕ → List Deed). f c) same) (λ now. sym still.1 ∙ other (now ∙ sym still.0)) is
+      kept_over c p q x deeds until (until_by x deeds until) acts rests goes here (ap (λ (f : ℕ → List Deed). f c) same) (λ now. sym still.1 ∙ other (now ∙ sym still.0)) is
 
-  part_over : (p q : Served) (x : FrontPart) (deeds : List Deed) (until : ℕ → List Deed) (acts : ℕ → List Act) → PartGoes p x q → AreOnChannel (p.front).channel (deeds_of x) → IsFact p deeds x → IsHere p deeds until acts
-      → AreOver q (deeds_of x ++ deeds) (until_by x deeds until) (λ c. acts c ++ part_acts c p x)
-  part_over p q (begins channel) deeds until acts goes here fact is c other =
-      kept_over c p q (begins channel) deeds until (until_by (begins channel) deeds until) acts goes here
+  part_over : (p q : Served) (x : FrontPart) (deeds : List Deed) (until : ℕ → List Deed) (acts : ℕ → List Act) (rests : ℕ → List Deed) → PartGoes p x q → AreOnChannel (p.front).channel (deeds_of x) → IsFact p deeds x → IsHere p deeds until acts rests
+      → AreOver q (deeds_of x ++ deeds) (until_by x deeds until) (λ c. acts c ++ part_acts c p x) (rests_by p x rests)
+  part_over p q (begins channel) deeds until acts rests goes here fact is c other =
+      kept_over c p q (begins channel) deeds until (until_by (begins channel) deeds until) acts rests goes here
       (ap (λ (b : Bool). if b then deeds else until c) (ne_eqb channel c (λ (same : channel ≡ c).
       let off = other (sym same ∙ sym (ap (λ (s : Served). (s.front).channel) goes.3)) in
       let now = ap (λ (s : Served). (s.front).on) goes.3 in
       cc (off, now))))
       (λ now. goes.1) is
-  part_over p q (ends over told) deeds until acts goes here fact is c other = elim (cases_eq c (p.front).channel) [
+  part_over p q (ends over told) deeds until acts rests goes here fact is c other = elim (cases_eq c (p.front).channel) [
     | inl same ↦ by (p.front).on refl same
     | inr apart ↦ kept (λ same. absurd (apart same))
   ]
     where
-      kept : (c ≡ (p.front).channel → (p.front).on ≡ false) → (rest : List Deed) × IsOver devices c (stored_each told ++ deeds) (Gone until c) (acts c ++ []) rest
-      kept off = kept_over c p q (ends over told) deeds until until acts goes here refl off is
+      kept : (c ≡ (p.front).channel → (p.front).on ≡ false) → IsOver devices c (stored_each told ++ deeds) (Gone until c) (acts c ++ []) (rest_now p.front rests c)
+      kept off = subst (λ (rest : List Deed). IsOver devices c (stored_each told ++ deeds) (Gone until c) (acts c ++ []) rest) (sym (rest_kept p.front rests c off)) (kept_over c p q (ends over told) deeds until until acts rests goes here refl off is)
 
-      by : (b : Bool) → (p.front).on ≡ b → c ≡ (p.front).channel → (rest : List Deed) × IsOver devices c (stored_each told ++ deeds) (Gone until c) (acts c ++ []) rest
+      by : (b : Bool) → (p.front).on ≡ b → c ≡ (p.front).channel → IsOver devices c (stored_each told ++ deeds) (Gone until c) (acts c ++ []) (rest_now p.front rests c)
       by false off same = kept (λ e. off)
       by true now same =
-          let last = on_over devices replies p deeds until acts (record { known = is.known; passes = fact.0 now; said = (fact.1).0; replied = (fact.1).1 }) ((is.telling).now now) in (
-            left_by p.front,
-            over_same devices c (stored_each told ++ deeds) deeds (Gone until c) (acts c ++ []) (left_by p.front)
-                (all_same c (stored_each told) deeds (ends_away c over (p.front).desks p.stations told (q.front).desks q.stations goes.1))
-                (subst (λ (things : List Act). IsOver devices c deeds (Gone until c) things (left_by p.front)) (sym (append-nil (acts c)))
-                (subst (λ (n : ℕ). IsOver devices n deeds (Gone until n) (acts n) (left_by p.front)) (sym same) last)),
-          )
-  part_over p q (hears channel m answer) deeds until acts goes here fact is c other = steady_over p q (hears channel m answer) deeds until acts tt refl goes here is c other
-  part_over p q tries deeds until acts goes here fact is c other = steady_over p q tries deeds until acts tt refl goes here is c other
-  part_over p q keeps deeds until acts goes here fact is c other = steady_over p q keeps deeds until acts tt refl goes here is c other
-  part_over p q forgets deeds until acts goes here fact is c other = steady_over p q forgets deeds until acts tt refl goes here is c other
-  part_over p q misplaces deeds until acts goes here fact is c other = steady_over p q misplaces deeds until acts tt refl goes here is c other
-  part_over p q (directs st answer) deeds until acts goes here fact is c other = steady_over p q (directs st answer) deeds until acts tt refl goes here is c other
-  part_over p q (calls place id does back items) deeds until acts goes here fact is c other = steady_over p q (calls place id does back items) deeds until acts tt refl goes here is c other
-  part_over p q (tells_gone device answer) deeds until acts goes here fact is c other = steady_over p q (tells_gone device answer) deeds until acts tt refl goes here is c other
-  part_over p q (tells_there device answer) deeds until acts goes here fact is c other = steady_over p q (tells_there device answer) deeds until acts tt refl goes here is c other
-  part_over p q (sends channel o) deeds until acts goes here fact is c other = steady_over p q (sends channel o) deeds until acts tt refl goes here is c other
-  part_over p q (writes device done) deeds until acts goes here fact is c other = steady_over p q (writes device done) deeds until acts tt refl goes here is c other
-  part_over p q (unwritten device done) deeds until acts goes here fact is c other = steady_over p q (unwritten device done) deeds until acts tt refl goes here is c other
-  part_over p q (learns n answer) deeds until acts goes here fact is c other = steady_over p q (learns n answer) deeds until acts tt refl goes here is c other
-  part_over p q (refreshes device) deeds until acts goes here fact is c other = steady_over p q (refreshes device) deeds until acts tt refl goes here is c other
+          let last = on_over devices replies p deeds until acts (record { known = is.known; passes = fact.0 now; said = (fact.1).0; replied = (fact.1).1 }) ((is.telling).now now) in
+          subst (λ (rest : List Deed). IsOver devices c (stored_each told ++ deeds) (Gone until c) (acts c ++ []) rest) (sym (rest_left p.front rests c now same))
+          (over_same devices c (stored_each told ++ deeds) deeds (Gone until c) (acts c ++ []) (left_by p.front)
+          (all_same c (stored_each told) deeds (ends_away c over (p.front).desks p.stations told (q.front).desks q.stations goes.1))
+          (subst (λ (things : List Act). IsOver devices c deeds (Gone until c) things (left_by p.front)) (sym (append-nil (acts c)))
+          (subst (λ (n : ℕ). IsOver devices n deeds (Gone until n) (acts n) (left_by p.front)) (sym same) last)))
+  part_over p q (hears channel m answer) deeds until acts rests goes here fact is c other = steady_over p q (hears channel m answer) deeds until acts rests tt refl goes here is c other
+  part_over p q tries deeds until acts rests goes here fact is c other = steady_over p q tries deeds until acts rests tt refl goes here is c other
+  part_over p q keeps deeds until acts rests goes here fact is c other = steady_over p q keeps deeds until acts rests tt refl goes here is c other
+  part_over p q forgets deeds until acts rests goes here fact is c other = steady_over p q forgets deeds until acts rests tt refl goes here is c other
+  part_over p q misplaces deeds until acts rests goes here fact is c other = steady_over p q misplaces deeds until acts rests tt refl goes here is c other
+  part_over p q (directs st answer) deeds until acts rests goes here fact is c other = steady_over p q (directs st answer) deeds until acts rests tt refl goes here is c other
+  part_over p q (calls place id does back items) deeds until acts rests goes here fact is c other = steady_over p q (calls place id does back items) deeds until acts rests tt refl goes here is c other
+  part_over p q (tells_gone device answer) deeds until acts rests goes here fact is c other = steady_over p q (tells_gone device answer) deeds until acts rests tt refl goes here is c other
+  part_over p q (tells_there device answer) deeds until acts rests goes here fact is c other = steady_over p q (tells_there device answer) deeds until acts rests tt refl goes here is c other
+  part_over p q (sends channel o) deeds until acts rests goes here fact is c other = steady_over p q (sends channel o) deeds until acts rests tt refl goes here is c other
+  part_over p q (writes device done) deeds until acts rests goes here fact is c other = steady_over p q (writes device done) deeds until acts rests tt refl goes here is c other
+  part_over p q (unwritten device done) deeds until acts rests goes here fact is c other = steady_over p q (unwritten device done) deeds until acts rests tt refl goes here is c other
+  part_over p q (learns n answer) deeds until acts rests goes here fact is c other = steady_over p q (learns n answer) deeds until acts rests tt refl goes here is c other
+  part_over p q (refreshes device) deeds until acts rests goes here fact is c other = steady_over p q (refreshes device) deeds until acts rests tt refl goes here is c other
 
   module _ (writable : AreWritable devices) where
-    part_here : (p q : Served) (x : FrontPart) (deeds : List Deed) (until : ℕ → List Deed) (acts : ℕ → List Act) → PartGoes p x q → AreOnChannel (p.front).channel (deeds_of x) → IsFact p deeds x → IsHere p deeds until acts
-        → IsHere q (deeds_of x ++ deeds) (until_by x deeds until) (λ c. acts c ++ part_acts c p x)
-    part_here p q x deeds until acts goes here fact is = record {
+    part_here : (p q : Served) (x : FrontPart) (deeds : List Deed) (until : ℕ → List Deed) (acts : ℕ → List Act) (rests : ℕ → List Deed) → PartGoes p x q → AreOnChannel (p.front).channel (deeds_of x) → IsFact p deeds x → IsHere p deeds until acts rests
+        → IsHere q (deeds_of x ++ deeds) (until_by x deeds until) (λ c. acts c ++ part_acts c p x) (rests_by p x rests)
+    part_here p q x deeds until acts rests goes here fact is = record {
       known = part_known p q x deeds goes is.known;
       own = part_own devices p q x deeds goes (is.known).keyed is.own;
       ordered = part_ordered devices writable p q x deeds until goes here is.known is.own is.ordered;
       telling = part_telling devices writable p q x deeds until acts goes here is.known is.own is.ordered is.telling;
-      over = part_over p q x deeds until acts goes here fact is;
+      over = part_over p q x deeds until acts rests goes here fact is;
     }
 
-    acts_as : (q : Served) (deeds : List Deed) (until : ℕ → List Deed) (acts others : ℕ → List Act) → ((c : ℕ) → acts c ≡ others c) → IsHere q deeds until acts → IsHere q deeds until others
-    acts_as q deeds until acts others same is = subst (IsHere q deeds until) (λ i c. same c i) is
+    acts_as : (q : Served) (deeds : List Deed) (until : ℕ → List Deed) (acts others : ℕ → List Act) (rests : ℕ → List Deed) → ((c : ℕ) → acts c ≡ others c) → IsHere q deeds until acts rests → IsHere q deeds until others rests
+    acts_as q deeds until acts others rests same is = subst (λ (things : ℕ → List Act). IsHere q deeds until things rests) (λ i c. same c i) is
 
-    parts_here : (ps : List FrontPart) (p q : Served) (goes : PartsGo p ps q) (deeds : List Deed) (until : ℕ → List Deed) (acts : ℕ → List Act) → PartsOnChannel p ps q goes → PartsMeet IsFact p deeds ps q goes → IsHere p deeds until acts
-        → IsHere q (deeds_after ps deeds) (until_after ps deeds until) (λ c. acts c ++ parts_acts c p ps q goes)
-    parts_here [] p q goes deeds until acts here fact is = acts_as q deeds until acts (λ c. acts c ++ []) (λ c. sym (append-nil (acts c))) (subst (λ (s : Served). IsHere s deeds until acts) (sym goes) is)
-    parts_here (x ∷ ps) p q goes deeds until acts here fact is =
+    parts_here : (ps : List FrontPart) (p q : Served) (goes : PartsGo p ps q) (deeds : List Deed) (until : ℕ → List Deed) (acts : ℕ → List Act) (rests : ℕ → List Deed) → PartsOnChannel p ps q goes → PartsMeet IsFact p deeds ps q goes → IsHere p deeds until acts rests
+        → IsHere q (deeds_after ps deeds) (until_after ps deeds until) (λ c. acts c ++ parts_acts c p ps q goes) (rests_after p ps q goes rests)
+    parts_here [] p q goes deeds until acts rests here fact is = acts_as q deeds until acts (λ c. acts c ++ []) rests (λ c. sym (append-nil (acts c))) (subst (λ (s : Served). IsHere s deeds until acts rests) (sym goes) is)
+    parts_here (x ∷ ps) p q goes deeds until acts rests here fact is =
         acts_as q (deeds_after ps (deeds_of x ++ deeds)) (until_after ps (deeds_of x ++ deeds) (until_by x deeds until)) (λ c. (acts c ++ part_acts c p x) ++ parts_acts c goes.0 ps q goes.2) (λ c. acts c ++ (part_acts c p x ++ parts_acts c goes.0 ps q goes.2))
-        (λ c. append_assoc (acts c) (part_acts c p x) (parts_acts c goes.0 ps q goes.2))
-        (parts_here ps goes.0 q goes.2 (deeds_of x ++ deeds) (until_by x deeds until) (λ c. acts c ++ part_acts c p x) here.1 fact.1 (part_here p goes.0 x deeds until acts goes.1 here.0 fact.0 is))
+        (rests_after goes.0 ps q goes.2 (rests_by p x rests)) (λ c. append_assoc (acts c) (part_acts c p x) (parts_acts c goes.0 ps q goes.2))
+        (parts_here ps goes.0 q goes.2 (deeds_of x ++ deeds) (until_by x deeds until) (λ c. acts c ++ part_acts c p x) (rests_by p x rests) here.1 fact.1 (part_here p goes.0 x deeds until acts rests goes.1 here.0 fact.0 is))
 
-    pub history_here : (entries : List (Entry FrontCall FrontReply)) (parts : List (List FrontPart)) (p q : Served) (goes : HistoryGoes p entries parts q) (deeds : List Deed) (until : ℕ → List Deed) (acts : ℕ → List Act) → EachOnChannel p entries parts q goes
-        → CallsMeet IsFact p deeds entries parts q goes → IsHere p deeds until acts → IsHere q (deeds_of_calls parts deeds) (until_calls parts deeds until) (λ c. acts c ++ acts_on c p entries parts q goes)
-    history_here [] [] p q goes deeds until acts here fact is = acts_as q deeds until acts (λ c. acts c ++ []) (λ c. sym (append-nil (acts c))) (subst (λ (s : Served). IsHere s deeds until acts) (sym goes) is)
-    history_here [] (ps ∷ parts) p q goes deeds until acts here fact is = absurd goes
-    history_here (e ∷ entries) [] p q goes deeds until acts here fact is = absurd goes
-    history_here (e ∷ entries) (ps ∷ parts) p q goes deeds until acts here fact is =
+    pub history_here : (entries : List (Entry FrontCall FrontReply)) (parts : List (List FrontPart)) (p q : Served) (goes : HistoryGoes p entries parts q) (deeds : List Deed) (until : ℕ → List Deed) (acts : ℕ → List Act) (rests : ℕ → List Deed) → EachOnChannel p entries parts q goes
+        → CallsMeet IsFact p deeds entries parts q goes → IsHere p deeds until acts rests
+        → IsHere q (deeds_of_calls parts deeds) (until_calls parts deeds until) (λ c. acts c ++ acts_on c p entries parts q goes) (rests_calls p entries parts q goes rests)
+    history_here [] [] p q goes deeds until acts rests here fact is = acts_as q deeds until acts (λ c. acts c ++ []) rests (λ c. sym (append-nil (acts c))) (subst (λ (s : Served). IsHere s deeds until acts rests) (sym goes) is)
+    history_here [] (ps ∷ parts) p q goes deeds until acts rests here fact is = absurd goes
+    history_here (e ∷ entries) [] p q goes deeds until acts rests here fact is = absurd goes
+    history_here (e ∷ entries) (ps ∷ parts) p q goes deeds until acts rests here fact is =
         acts_as q (deeds_of_calls parts (deeds_after ps deeds)) (until_calls parts (deeds_after ps deeds) (until_after ps deeds until)) (λ c. (acts c ++ parts_acts c p ps goes.0 (goes.1).goes) ++ acts_on c goes.0 entries parts q goes.2)
-        (λ c. acts c ++ (parts_acts c p ps goes.0 (goes.1).goes ++ acts_on c goes.0 entries parts q goes.2)) (λ c. append_assoc (acts c) (parts_acts c p ps goes.0 (goes.1).goes) (acts_on c goes.0 entries parts q goes.2))
-        (history_here entries parts goes.0 q goes.2 (deeds_after ps deeds) (until_after ps deeds until) (λ c. acts c ++ parts_acts c p ps goes.0 (goes.1).goes) here.1 fact.1 (parts_here ps p goes.0 (goes.1).goes deeds until acts here.0 fact.0 is))
+        (λ c. acts c ++ (parts_acts c p ps goes.0 (goes.1).goes ++ acts_on c goes.0 entries parts q goes.2)) (rests_calls goes.0 entries parts q goes.2 (rests_after p ps goes.0 (goes.1).goes rests))
+        (λ c. append_assoc (acts c) (parts_acts c p ps goes.0 (goes.1).goes) (acts_on c goes.0 entries parts q goes.2))
+        (history_here entries parts goes.0 q goes.2 (deeds_after ps deeds) (until_after ps deeds until) (λ c. acts c ++ parts_acts c p ps goes.0 (goes.1).goes) (rests_after p ps goes.0 (goes.1).goes rests) here.1 fact.1
+        (parts_here ps p goes.0 (goes.1).goes deeds until acts rests here.0 fact.0 is))
 
   -- of each channel, at the end
-  pub each_over : (p : Served) (deeds : List Deed) (until : ℕ → List Deed) (acts : ℕ → List Act) → ((p.front).on ≡ true → PassesNone (p.front).channel deeds (left_by p.front)) → AreSaid p deeds → AreReplied replies p deeds → IsHere p deeds until acts
-      → (c : ℕ) → (rest : List Deed) × IsOver devices c deeds (Gone until c) (acts c) rest
-  each_over p deeds until acts passes said replied is c = elim (cases_eq c (p.front).channel) [
+  pub each_over : (p : Served) (deeds : List Deed) (until : ℕ → List Deed) (acts : ℕ → List Act) (rests : ℕ → List Deed) → ((p.front).on ≡ true → PassesNone (p.front).channel deeds (left_by p.front)) → AreSaid p deeds → AreReplied replies p deeds → IsHere p deeds until acts rests
+      → (c : ℕ) → IsOver devices c deeds (Gone until c) (acts c) (rest_now p.front rests c)
+  each_over p deeds until acts rests passes said replied is c = elim (cases_eq c (p.front).channel) [
     | inl same ↦ by (p.front).on refl same
-    | inr apart ↦ is.over c (λ same. absurd (apart same))
+    | inr apart ↦ subst (λ (rest : List Deed). IsOver devices c deeds (Gone until c) (acts c) rest) (sym (rest_kept p.front rests c (λ same. absurd (apart same)))) (is.over c (λ same. absurd (apart same)))
   ]
     where
-      by : (b : Bool) → (p.front).on ≡ b → c ≡ (p.front).channel → (rest : List Deed) × IsOver devices c deeds (Gone until c) (acts c) rest
-      by false off same = is.over c (λ e. off)
-      by true now same = (
-        left_by p.front,
-        subst (λ (n : ℕ). IsOver devices n deeds (Gone until n) (acts n) (left_by p.front)) (sym same) (on_over devices replies p deeds until acts (record { known = is.known; passes = passes now; said = said; replied = replied }) ((is.telling).now now)),
-      )
+      by : (b : Bool) → (p.front).on ≡ b → c ≡ (p.front).channel → IsOver devices c deeds (Gone until c) (acts c) (rest_now p.front rests c)
+      by false off same = subst (λ (rest : List Deed). IsOver devices c deeds (Gone until c) (acts c) rest) (sym (rest_kept p.front rests c (λ e. off))) (is.over c (λ e. off))
+      by true now same =
+          subst (λ (rest : List Deed). IsOver devices c deeds (Gone until c) (acts c) rest) (sym (rest_left p.front rests c now same))
+          (subst (λ (n : ℕ). IsOver devices n deeds (Gone until n) (acts n) (left_by p.front)) (sym same) (on_over devices replies p deeds until acts (record { known = is.known; passes = passes now; said = said; replied = replied }) ((is.telling).now now)))
 
 -- nothing was done yet
 pub none_over : (devices : List Announce) (c : ℕ) (gone : ℕ → Bool) → IsOver devices c [] gone [] []
@@ -377,7 +392,7 @@ bytes_in_room (e ∷ entries) bytes = (bytes_room e.call bytes.0, bytes_in_room 
 
 pub all_left : (announced : List Announce) (devices : List (ℕ × Declared)) (old new : Served) (entries : List (Entry FrontCall FrontReply)) (parts : List (List FrontPart)) → BeginsWith announced old → HaveDesks announced (old.front).desks → AreOpened devices (old.front).desks
     → (goes : HistoryGoes old entries parts new) → GiveOwn (new.front).desks → HearBytes entries → StartUnhindered false entries → (c : ℕ)
-    → (rest : List Deed) × IsLeftOf (replies_read devices (deeds_of_calls parts [])) announced (is_gone_until parts c) (acts_on c old entries parts new goes) c (deeds_of_calls parts []) rest
+    → IsLeftOf (replies_read devices (deeds_of_calls parts [])) announced (is_gone_until parts c) (acts_on c old entries parts new goes) c (deeds_of_calls parts []) (rest_of old entries parts new goes c)
 all_left announced devices old new entries parts opening have opened goes gives bytes starts c =
     let deeds = deeds_of_calls parts [] in
     let replies = replies_read devices deeds in
@@ -395,12 +410,12 @@ all_left announced devices old new entries parts opening have opened goes gives 
     both_calls EndsHeeded (λ p sofar x. AreSaid p sofar × AreReplied replies p sofar) entries parts old new [] goes (calls_heeded entries parts old new [] goes (history_heeded entries parts false old new [] goes known room before first))
     (both_calls (λ p sofar x. AreSaid p sofar) (λ p sofar x. AreReplied replies p sofar) entries parts old new [] goes said.3 (all_replying devices old new entries parts is opened goes gives read)) in
     let last =
-    history_here announced replies opening.writable entries parts old new goes [] none_until (λ x. []) here facts (record {
+    history_here announced replies opening.writable entries parts old new goes [] none_until (λ x. []) none_left here facts (record {
       known = known;
       own = begins_own announced old opening;
       ordered = begins_order announced old opening;
       telling = begins_telling announced old opening;
-      over = λ x other. ([], none_over announced x (Gone none_until x));
+      over = λ x other. none_over announced x (Gone none_until x);
     }) in
-    let (rest, over) = each_over announced replies new deeds (until_calls parts [] none_until) (λ x. acts_on x old entries parts new goes) (λ on. passes_now stopped (point_of new) deeds on line) said.0 replied last c in
-    (rest, over_left replies announced c deeds (is_gone_until parts c) (acts_on c old entries parts new goes) rest (all_answer replies deeds (said.0).each (all_answered devices old new entries parts is opened goes gives read)) over)
+    let over = each_over announced replies new deeds (until_calls parts [] none_until) (λ x. acts_on x old entries parts new goes) (rests_calls old entries parts new goes none_left) (λ on. passes_now stopped (point_of new) deeds on line) said.0 replied last c in
+    over_left replies announced c deeds (is_gone_until parts c) (acts_on c old entries parts new goes) (rest_of old entries parts new goes c) (all_answer replies deeds (said.0).each (all_answered devices old new entries parts is opened goes gives read)) over

@@ -22,7 +22,7 @@ ghost use Rattle.rd_front.specs.Calls.{HearBytes};
 ghost use Rattle.rd_served_replies.specs.Premises.{AreOpened, GiveOwn};
 ghost use Rattle.rd_served_causes.specs.Causes.{HaveDesks, StartUnhindered, hindered_after};
 ghost use Rattle.rd_served_causes.specs.Cuts.{CutsRemoved};
-ghost use Rattle.rd_served_causes.specs.Left.{IsLeftOf};
+ghost use Rattle.rd_served_causes.specs.Left.{IsLeftOf, rest_of};
 ghost use Rattle.rd_served_causes.specs.Open.{IsOpen};
 
 /// Where a message is heard, or a job tried again, only where no reply hindered since the channel began, no message is heard anywhere else.
@@ -62,11 +62,11 @@ pub fn fronts_answer()
         → EachAfter (Answers (replies_read devices (deeds_of_calls parts []))) (left_by new.front ++ deeds_of_calls parts []) }
 {}
 
-/// Of each channel there is a rest, of what stood in the outbox as it ended, or stands there now: with that no request was passed over but the last, each completion is the answer to its key, and what was told of devices is all that the front was told to tell.
+/// With what stood in the outbox as a channel ended, or stands there now, no request was passed over there but the last, each completion is the answer to its key, and what was told of devices is all that the front was told to tell.
 pub fn fronts_leave_answers()
     ensures { (announced : List Announce) (devices : List (ℕ × Declared)) (old new : Served) (entries : List (Entry FrontCall FrontReply)) (parts : List (List FrontPart)) → BeginsWith announced old
         → HaveDesks announced old.front.desks → AreOpened devices old.front.desks → (goes : HistoryGoes old entries parts new) → GiveOwn new.front.desks → HearBytes entries → StartUnhindered false entries → (c : ℕ)
-        → (rest : List Deed) × IsLeftOf (replies_read devices (deeds_of_calls parts [])) announced (is_gone_until parts c) (acts_on c old entries parts new goes) c (deeds_of_calls parts []) rest }
+        → IsLeftOf (replies_read devices (deeds_of_calls parts [])) announced (is_gone_until parts c) (acts_on c old entries parts new goes) c (deeds_of_calls parts []) (rest_of old entries parts new goes c) }
 {}
 
 /// A device is cut off as one that is gone only after it was removed, once for each removal.

@@ -1,5 +1,5 @@
 -- What the front is told to tell of devices on each channel, by the calls of its history.
-use Rattle.std.proofs.Common.{◌≡◌, ◌∙◌, ◌≤◌, refl, sym, ap, subst, ℕ, ◌==◌, Bool, true, false, List, [], ◌∷◌, ◌++◌, map, reverse, Option, Some, None, append-nil, append_assoc, arith}
+use Rattle.std.proofs.Common.{◌≡◌, ◌∙◌, ◌≤◌, refl, sym, ap, ℕ, Bool, true, false, List, [], ◌∷◌, ◌++◌, map, reverse, Option, Some, None, append-nil, append_assoc, arith}
 use Rattle.std.specs.Prelude.{Ok, Err, filter_map, if◌then◌else◌}
 use Rattle.std.specs.List.{AllByRecursion, cons_option, flat_map}
 use Rattle.std.proofs.lemmas.List.{reverse-append}
@@ -15,7 +15,7 @@ use Rattle.rd_front.specs.declared.calls.FrontReply.{FrontReply}
 use Rattle.rd_front.specs.declared.calls.FrontReply.TheVariants as reply
 use Rattle.rd_hello.specs.declared.end_fault.EndFault.TheVariants as fault
 use Rattle.rd_world.specs.Acts.{act_by}
-use Rattle.rd_world.specs.Control.{Act, added, removed}
+use Rattle.rd_world.specs.Control.{Act}
 use Rattle.rd_world.specs.Talk.{Deed, stores}
 use Rattle.rd_workers.specs.Channels.{ChannelRun, IsChannelRun, calls_by_all}
 use Rattle.rd_workers.specs.Logs.{asks_any, reader_calls}
@@ -27,7 +27,7 @@ use Rattle.rd_served_order.specs.Tellings.{acts_on, part_acts, parts_acts}
 use Rattle.rd_workers.proofs.RunLemmas.{DoesSurely}
 use Rattle.rd_served_sessions.proofs.CallLemmas.{GivesInside, given_in, given_on, none_on, on_both, on_channel}
 use Rattle.rd_served_sessions.proofs.ChainLemmas.{StepsToo, part_rises, parts_rise}
-use Rattle.rd_served_sessions.proofs.StillLemmas.{begun_to, tracks}
+use Rattle.rd_served_sessions.proofs.StillLemmas.{tracks}
 use Rattle.rd_served_sessions.specs.Acts.{act_done, acts_done}
 
 -- ---- parts
@@ -210,7 +210,7 @@ part_act (ends over told) = none_acts (stored_each told) (each_none told)
 acts_more : (more deeds : List Deed) → filter_map act_by (reverse (more ++ deeds)) ≡ filter_map act_by (reverse deeds) ++ filter_map act_by (reverse more)
 acts_more more deeds = ap (filter_map act_by) (reverse-append more deeds) ∙ filter_map-append act_by (reverse deeds) (reverse more)
 
-parts_act : (ps : List FrontPart) (deeds : List Deed) → filter_map act_by (reverse (deeds_after ps deeds)) ≡ filter_map act_by (reverse deeds) ++ filter_map act_told ps
+pub parts_act : (ps : List FrontPart) (deeds : List Deed) → filter_map act_by (reverse (deeds_after ps deeds)) ≡ filter_map act_by (reverse deeds) ++ filter_map act_told ps
 parts_act [] deeds = sym (append-nil (filter_map act_by (reverse deeds)))
 parts_act (x ∷ ps) deeds =
     parts_act ps (deeds_of x ++ deeds) ∙ ap (λ (xs : List Act). xs ++ filter_map act_told ps) (acts_more (deeds_of x) deeds ∙ ap (λ (xs : List Act). filter_map act_by (reverse deeds) ++ xs) (part_act x))

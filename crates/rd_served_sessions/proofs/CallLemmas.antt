@@ -53,7 +53,7 @@ messages_unhindered was reply.Memory is = absurd (cc (is))
 messages_unhindered was reply.Full is = absurd (cc (is))
 messages_unhindered was reply.Refused is = absurd (cc (is))
 
-asked_unhindered : (p q : FrontState) (was : Bool) (does : FrontCall) (back : FrontReply) → FrontStep p does back q → asks_any does ≡ true → hindered_by was does back ≡ was
+pub asked_unhindered : (p q : FrontState) (was : Bool) (does : FrontCall) (back : FrontReply) → FrontStep p does back q → asks_any does ≡ true → hindered_by was does back ≡ was
 asked_unhindered p q was (call.Next channel place room) back step asks = messages_unhindered was back (next_says p channel place room back q step).gives
 asked_unhindered p q was (call.Begin channel) back step asks = absurd (cc (asks))
 asked_unhindered p q was (call.Hear message) back step asks = absurd (cc (asks))
@@ -126,7 +126,7 @@ pub record GivesInside {A : Type 0} (given : FrontCall → FrontReply → List A
 
 -- ---- the reader's calls start nothing once a reply hindered
 
-plain_by : (does : FrontCall) (back : FrontReply) → hinders back ≡ false → hindered_by false does back ≡ false
+pub plain_by : (does : FrontCall) (back : FrontReply) → hinders back ≡ false → hindered_by false does back ≡ false
 plain_by (call.Begin channel) (reply.Done at full) is = refl
 plain_by (call.Begin channel) (reply.Stands ready asked) is = is
 plain_by (call.Begin channel) reply.Kept is = is

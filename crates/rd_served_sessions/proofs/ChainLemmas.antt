@@ -60,7 +60,7 @@ chain_of p (e ∷ entries) q leads after at =
 
 -- ---- what stations store is neither read nor written
 
-stored_unwritten : (d c : ℕ) (xs : List Item) (deeds : List Deed) → client_wrote c (map (stores d) xs ++ deeds) ≡ client_wrote c deeds
+pub stored_unwritten : (d c : ℕ) (xs : List Item) (deeds : List Deed) → client_wrote c (map (stores d) xs ++ deeds) ≡ client_wrote c deeds
 stored_unwritten d c [] deeds = refl
 stored_unwritten d c (x ∷ xs) deeds = stored_unwritten d c xs deeds
 
@@ -75,7 +75,7 @@ each_unread (t ∷ told) c deeds = ap (client_read c) (append_assoc (stored_each
 -- ---- what a part reads
 
 -- whether a part hears a message
-abbrev hears_one : FrontPart → Bool
+abbrev pub hears_one : FrontPart → Bool
 hears_one (part.hears channel message answer) = true
 hears_one _ = false
 
@@ -98,7 +98,7 @@ start_hears (begins channel) is = refl
 start_hears (ends over told) is = refl
 
 -- one that hears none reads none
-part_unread : (c : ℕ) (x : FrontPart) (before : List Deed) → hears_one x ≡ false → client_read c (deeds_of x ++ before) ≡ client_read c before
+pub part_unread : (c : ℕ) (x : FrontPart) (before : List Deed) → hears_one x ≡ false → client_read c (deeds_of x ++ before) ≡ client_read c before
 part_unread c (part.hears channel message answer) before is = absurd (cc (is))
 part_unread c tries before is = refl
 part_unread c keeps before is = refl
@@ -141,14 +141,14 @@ part_unheard (refreshes device) is = refl
 part_unheard (begins channel) is = refl
 part_unheard (ends over told) is = refl
 
-abbrev StartNone : List FrontPart → Type 0
+abbrev pub StartNone : List FrontPart → Type 0
 StartNone ps = AllByRecursion (λ (x : FrontPart). is_start x ≡ false) ps
 
-rest_unread : (c : ℕ) (ps : List FrontPart) (before : List Deed) → StartNone ps → client_read c (deeds_after ps before) ≡ client_read c before
+pub rest_unread : (c : ℕ) (ps : List FrontPart) (before : List Deed) → StartNone ps → client_read c (deeds_after ps before) ≡ client_read c before
 rest_unread c [] before none = refl
 rest_unread c (x ∷ ps) before none = rest_unread c ps (deeds_of x ++ before) none.1 ∙ part_unread c x before (start_hears x none.0)
 
-rest_unheard : (ps : List FrontPart) → StartNone ps → filter_map heard_in ps ≡ []
+pub rest_unheard : (ps : List FrontPart) → StartNone ps → filter_map heard_in ps ≡ []
 rest_unheard [] none = refl
 rest_unheard (x ∷ ps) none = ap (λ (o : Option (List ℕ)). cons_option o (filter_map heard_in ps)) (part_unheard x (start_hears x none.0)) ∙ rest_unheard ps none.1
 
@@ -170,7 +170,7 @@ hear_read c channel message (Err (fault.Grammar bad)) before = one_on c channel 
 hear_read c channel message (Ok heard) before = one_on c channel message (client_read c before)
 
 -- What a call reads stands on the channel that began last.
-parts_read : (c : ℕ) (starts : Bool) (ps : List FrontPart) (p q : Served) → PartsGo p ps q → StartsBy starts ps → (before : List Deed)
+pub parts_read : (c : ℕ) (starts : Bool) (ps : List FrontPart) (p q : Served) → PartsGo p ps q → StartsBy starts ps → (before : List Deed)
     → client_read c (deeds_after ps before) ≡ on_channel c (p.front).channel (filter_map heard_in ps) ++ client_read c before
 parts_read c false ps p q goes first before =
     rest_unread c ps before first ∙ nothing_on c (p.front).channel (client_read c before) ∙ ap (λ (ms : List (List ℕ)). on_channel c (p.front).channel ms ++ client_read c before) (sym (rest_unheard ps first))
@@ -206,7 +206,7 @@ parts_read c true (x ∷ ps) p q goes first before = rest_unread c ps (deeds_of 
     by (begins channel) one = silent_by (begins channel) refl
     by (ends over told) one = silent_by (ends over told) refl
 
-surely_heard : (does : FrontCall) (back : FrontReply) (heard : List (List ℕ)) → HearsAs does back heard → DoesSurely does back → heard ≡ given_by does back
+pub surely_heard : (does : FrontCall) (back : FrontReply) (heard : List (List ℕ)) → HearsAs does back heard → DoesSurely does back → heard ≡ given_by does back
 surely_heard (call.Hear message) reply.Refused heard is sure = is
 surely_heard (call.Hear message) reply.Full heard is sure = is
 surely_heard (call.Hear message) reply.Memory heard is sure = absurd sure
@@ -454,7 +454,7 @@ module _ (c : ℕ) (p q : Served) (ps : List FrontPart) (before : List Deed) whe
   next_wrote channel place room reply.Full goes step here = call_unwrote (call.Next channel place room) reply.Full refl goes.handed
   next_wrote channel place room reply.Refused goes step here = call_unwrote (call.Next channel place room) reply.Refused refl goes.handed
 
-  call_wrote : (does : FrontCall) (back : FrontReply) → (goes : CallGoes p does back ps q) → FrontStep p.front does back q.front → PartsOnChannel p ps q goes.goes → Writes does back
+  pub call_wrote : (does : FrontCall) (back : FrontReply) → (goes : CallGoes p does back ps q) → FrontStep p.front does back q.front → PartsOnChannel p ps q goes.goes → Writes does back
   call_wrote (call.Next channel place room) back goes step here = next_wrote channel place room back goes step here
   call_wrote (call.Begin channel) back goes step here = unasked_wrote (call.Begin channel) back goes step refl
   call_wrote (call.Hear message) back goes step here = unasked_wrote (call.Hear message) back goes step refl

@@ -31,7 +31,7 @@ use Rattle.rd_workers.specs.Lines.{IsCallFor, LinesGo, LinesStand, LinesStep, at
 use Rattle.rd_workers.specs.Logs.{asks_any, reader_calls}
 use Rattle.rd_served.proofs.KeyLemmas.{both_true, did_calm, refreshed_calm, sent_calm}
 use Rattle.rd_served.proofs.StandingLemmas.{IsKnownAt, parts_known, refreshed_more}
-use Rattle.rd_served.specs.Deeds.{deeds_after, deeds_of, deeds_of_calls, sent_by}
+use Rattle.rd_served.specs.Deeds.{deeds_after, deeds_of, sent_by}
 use Rattle.rd_served.specs.Histories.{Among, CallGoes, HistoryGoes}
 use Rattle.rd_served.specs.Parts.{FrontPart, PartGoes, PartsGo, act_told, begins, begun_by, calls, directs, ends, forgets, hears, keeps, learns, misplaces, refreshes, sends, tells_gone, tells_there, tries, unwritten, writes}
 use Rattle.rd_served.specs.Served.{Served}
@@ -46,9 +46,9 @@ use Rattle.rd_served_sessions.specs.Acts.{RunsDo, act_done, acts_done, gone_afte
 -- ---- a channel stays open, and its client ready
 
 -- The same channel is on, and its client as ready as before.
-record IsAsOpen (old new : FrontState) : Type 0 where
-  on : new.on ≡ old.on
-  ready : is_front_ready new ≡ is_front_ready old
+pub record IsAsOpen (old new : FrontState) : Type 0 where
+  pub on : new.on ≡ old.on
+  pub ready : is_front_ready new ≡ is_front_ready old
 
 as_open : (s : FrontState) → IsAsOpen s s
 as_open s = record { on = refl; ready = refl }
@@ -65,11 +65,11 @@ desk_open old place does back new did = record { on = ap (λ (s : FrontState). s
 client_open : (old new : FrontState) (unsent : ℕ) → new ≡ record old { client = new.client; unsent = unsent } → ((new.client).core).shake ≡ ((old.client).core).shake → IsAsOpen old new
 client_open old new unsent is shake = record { on = ap (λ (s : FrontState). s.on) is; ready = ap is_client_ready shake }
 
-where_open : (b : Bool) (other back : FrontReply) (old new : FrontState) (does : Type 0) → (does → IsAsOpen old new) → Where b other back old new does → IsAsOpen old new
+pub where_open : (b : Bool) (other back : FrontReply) (old new : FrontState) (does : Type 0) → (does → IsAsOpen old new) → Where b other back old new does → IsAsOpen old new
 where_open true other back old new does on did = on did
 where_open false other back old new does on did = open_same old new did.1
 
-unless_full : (fits : Bool) (old : FrontState) (back : FrontReply) (new : FrontState) (does : Type 0) → (does → IsAsOpen old new) → Where fits reply.Refused back old new (Where (not (is_front_full old)) reply.Full back old new does) → IsAsOpen old new
+pub unless_full : (fits : Bool) (old : FrontState) (back : FrontReply) (new : FrontState) (does : Type 0) → (does → IsAsOpen old new) → Where fits reply.Refused back old new (Where (not (is_front_full old)) reply.Full back old new does) → IsAsOpen old new
 unless_full fits old back new does on did = where_open fits reply.Refused back old new _ (where_open (not (is_front_full old)) reply.Full back old new does on) did
 
 cuts_open : (old : FrontState) (place : Option ℕ) (new : FrontState) → CutsAt old place new → IsAsOpen old new
@@ -80,7 +80,7 @@ announces_open : (old : FrontState) (place : Option ℕ) (found : Bool) (new : F
 announces_open old None found new did = open_same old new did.1
 announces_open old (Some place) found new did = desk_open old place _ did.0 new did.1
 
-removes_open : (old : FrontState) (device : ℕ) (back : FrontReply) (new : FrontState) → FrontRemoves old device back new → IsAsOpen old new
+pub removes_open : (old : FrontState) (device : ℕ) (back : FrontReply) (new : FrontState) → FrontRemoves old device back new → IsAsOpen old new
 removes_open old device back new did =
     open_then old did.1 new
     (client_open old did.1 _ (did.2).1 (did_calm did.0 (client.tell_removed old.client device) old.client (did.1).client ((did.2).0).1 refl refl refl).2) (by did.0 did.3)
@@ -93,7 +93,7 @@ refreshes_open : (old : FrontState) (device : ℕ) (found : Bool) (new : FrontSt
 refreshes_open old device true new did = record { on = ap (λ (s : FrontState). s.on) did ∙ (refreshed_calm old device).0.on; ready = ap is_front_ready did ∙ ap (λ c. is_client_ready c.shake) (refreshed_more old device).1 }
 refreshes_open old device false new did = open_same old new did
 
-adds_open : (old : FrontState) (device : ℕ) (back : FrontReply) (new : FrontState) → FrontAdds old device back new → IsAsOpen old new
+pub adds_open : (old : FrontState) (device : ℕ) (back : FrontReply) (new : FrontState) → FrontAdds old device back new → IsAsOpen old new
 adds_open old device back new did = open_then old did.1 new (refreshes_open old device did.0 did.1 did.2) (by did.0 did.3)
   where
     told : (mid : FrontState) (answer : Result (Unit {0}) AllocError) → AddsBy mid device answer back new → IsAsOpen mid new
@@ -126,7 +126,7 @@ fills_open (suc most) old place messages left new did = open_then old did.1 new 
     by others got.Nothing so = open_same did.1 new so.2
     by others got.Memory so = open_same did.1 new so.2
 
-hands_open : (old : FrontState) (place : ℕ) (room : MessageRoom) (back : FrontReply) (new : FrontState) → Hands old place room back new → IsAsOpen old new
+pub hands_open : (old : FrontState) (place : ℕ) (room : MessageRoom) (back : FrontReply) (new : FrontState) → Hands old place room back new → IsAsOpen old new
 hands_open old place room (reply.Messages filled left) new did = fills_open room.places old place filled.messages left new did.1
 hands_open old place room (reply.Done at full) new did = absurd did
 hands_open old place room (reply.Stands ready asked) new did = absurd did

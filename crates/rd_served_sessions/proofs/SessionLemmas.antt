@@ -1,5 +1,5 @@
 -- A session that was served: the history of its front tells the deeds of the client.
-use Rattle.std.proofs.Common.{◌≡◌, ◌≢◌, ◌⊎◌, ◌∙◌, ◌≤◌, ◌<◌, refl, sym, ap, subst, inl, inr, ℕ, zero, suc, ◌+◌, Bool, true, false, List, [], ◌∷◌, ◌++◌, length, map, reverse, Option, Some, slice_get, append-nil, arith, ne_eqb}
+use Rattle.std.proofs.Common.{◌≡◌, ◌≢◌, ◌⊎◌, ◌∙◌, ◌≤◌, ◌<◌, refl, sym, ap, subst, inl, inr, ℕ, zero, suc, ◌+◌, Bool, true, false, List, [], ◌∷◌, ◌++◌, length, map, reverse, Option, Some, None, slice_get, append-nil, arith, ne_eqb, ◌==◌, ◌||◌, eq-eqb}
 use Rattle.std.specs.Prelude.{filter_map, if◌then◌else◌}
 use Rattle.std.specs.List.{AllByRecursion, AllZip, flat_map, zip}
 use Rattle.std.specs.Map.{keys_of, lookup}
@@ -14,6 +14,7 @@ use Rattle.rd_base.specs.Lawful.{IsLawful}
 use Rattle.rd_carry.specs.Outgoing.{HasWritten, OutgoingState}
 use Rattle.rd_carry.specs.declared.ended.Ended.{Ended}
 use Rattle.rd_carry.specs.declared.ended.Ended.TheVariants as ended
+use Rattle.rd_client.specs.Core.{new_client}
 use Rattle.rd_client.specs.Events.{AreWritable}
 use Rattle.rd_devices.specs.declared.list.Announce.{Announce}
 use Rattle.rd_drive.proofs.AllLemmas.{all_append}
@@ -35,10 +36,11 @@ use Rattle.rd_station.specs.Tied.{IsTied}
 use Rattle.rd_turn.specs.History.{Leads}
 use Rattle.rd_world.specs.Devices.{Declared, device_cut, device_step}
 use Rattle.rd_world.specs.Acts.{act_by, tellings_on}
+use Rattle.rd_world.specs.Control.{is_among}
 use Rattle.rd_world.specs.Opening.{AreOpenable}
 use Rattle.rd_world.specs.Recording.{announced_of}
 use Rattle.rd_world.specs.Session.{replies_read, request_read}
-use Rattle.rd_world.specs.Talk.{Deed, Has, client_read, client_moves, client_wrote, journal}
+use Rattle.rd_world.specs.Talk.{Deed, EachAfter, Has, client_read, client_moves, client_wrote, journal}
 use Rattle.rd_world.specs.Told.{AreAnswered}
 use Rattle.rd_workers.specs.Channels.{ChannelRun, HaveNumbers, IsChannelRun, LinkerTold, calls_by_all}
 use Rattle.rd_workers.specs.Lines.{at_lines}
@@ -50,7 +52,7 @@ use Rattle.rd_served.proofs.KeyLemmas.{begins_at, keyed_lawful}
 use Rattle.rd_served.proofs.OrderLemmas.{history_order}
 use Rattle.rd_served.proofs.StandingLemmas.{IsKnownAt, begins_known, history_known}
 use Rattle.rd_served.proofs.WalkLemmas.{served}
-use Rattle.rd_served.specs.Deeds.{deeds_of_calls}
+use Rattle.rd_served.specs.Deeds.{EachOnChannel, deeds_of_calls}
 use Rattle.rd_served.specs.Histories.{AreStationed, HistoryGoes, may_start}
 use Rattle.rd_served.specs.Parts.{FrontPart, PartsGo}
 use Rattle.rd_served.specs.Served.{IsStationed, Served, Works, idle}
@@ -59,11 +61,11 @@ use Rattle.rd_served_causes.proofs.CutLemmas.{all_cut}
 use Rattle.rd_served_causes.proofs.LeftLemmas.{all_left, bytes_in_room}
 use Rattle.rd_served_causes.proofs.PlaceLemmas.{ids_of, part_ids}
 use Rattle.rd_served_causes.specs.Causes.{StartUnhindered}
-use Rattle.rd_served_causes.specs.Left.{IsLeftOf}
+use Rattle.rd_served_causes.specs.Left.{IsLeftOf, rest_of}
 use Rattle.rd_served_order.proofs.OrderLemmas.{begins_order, history_ordered}
 use Rattle.rd_served_order.proofs.OwnLemmas.{begins_own}
 use Rattle.rd_served_order.proofs.SentLemmas.{history_tells, room_at, tells_order}
-use Rattle.rd_served_order.specs.Orders.{AreMovesInOrder, is_gone_until, none_until}
+use Rattle.rd_served_order.specs.Orders.{AreMovesInOrder, BeginsWith, is_gone_until, none_until}
 use Rattle.rd_served_order.specs.Sent.{AreSentInOrder}
 use Rattle.rd_served_order.specs.Tellings.{TellsReady, acts_on}
 use Rattle.rd_served_refusals.proofs.HinderLemmas.{hear_before}
@@ -80,13 +82,29 @@ use Rattle.rd_served_sessions.proofs.ActLemmas.{acts_inside, done_in_all, given_
 use Rattle.rd_served_sessions.proofs.CallLemmas.{BeginsUpTo, GivesInside, asks_only, begun_up_to, given_in, given_of, given_on, heard_in_all, hears_inside, lift_all, lift_given, lift_starts, none_above, none_below, none_on, on_channel, own_given, runs_given, runs_start, runs_up_to, unbegun_up_to}
 use Rattle.rd_served_sessions.proofs.ChainLemmas.{Chain, chain_of, history_read, history_wrote}
 use Rattle.rd_served_sessions.proofs.CloseLemmas.{WereClosed, closed_own, were_closed}
+use Rattle.rd_served_sessions.proofs.ComingLemmas.{all_coming}
+use Rattle.rd_served_sessions.proofs.AnnounceLemmas.{all_announce, first_kept}
+use Rattle.rd_served_sessions.proofs.DropLemmas.{AreDropped, all_dropped}
 use Rattle.rd_served_sessions.proofs.DoneLemmas.{IsDone, all_done, works_same}
+use Rattle.rd_served_sessions.proofs.EndingLemmas.{given_replies, history_causes, replies_each, replies_inside}
 use Rattle.rd_served_sessions.proofs.FirstLemmas.{IsBegun, all_at, at_same, found_at, session_begun}
+use Rattle.rd_served_sessions.proofs.FollowLemmas.{new_follows}
 use Rattle.rd_served_sessions.proofs.FoundLemmas.{history_found}
-use Rattle.rd_workers.proofs.RunLemmas.{AreRuns, DoesSurely, IsSure, calls_bytes, calls_surely, no_rest, runs_middle, runs_of}
+use Rattle.rd_served_sessions.proofs.LookLemmas.{LookUnhindered, session_looks}
+use Rattle.rd_served_sessions.proofs.MoveLemmas.{session_moves}
+use Rattle.rd_served_sessions.proofs.PartedLemmas.{ComeReady, IsCutFor, all_cut_for, parted_all}
+use Rattle.rd_served_sessions.proofs.PlacedLemmas.{first_last, first_open, first_point, history_placed}
+use Rattle.rd_served_sessions.proofs.ReadyLemmas.{history_ready}
+use Rattle.rd_served_sessions.proofs.StoredLemmas.{all_groups, groups_of}
+use Rattle.rd_workers.proofs.RunLemmas.{AreRuns, DoesSurely, IsSure, calls_bytes, calls_surely, no_rest, runs_middle, runs_of, AreMiddle}
 use Rattle.rd_served_sessions.proofs.StillLemmas.{next_says, tracks}
+use Rattle.rd_served_sessions.proofs.UnderLemmas.{history_comes}
 use Rattle.rd_served_sessions.proofs.UnwrittenLemmas.{history_unwritten}
 use Rattle.rd_served_sessions.specs.Acts.{RunsDo, act_done, acts_done, none_gone}
+use Rattle.rd_served_sessions.specs.Parted.{AreInPlace, ArePartedAt}
+use Rattle.rd_served_sessions.specs.Placed.{AreDoneBy, ArePlaced, ComesLast, all_done_by}
+use Rattle.rd_served_sessions.specs.Announcing.{AnnouncesOwn}
+use Rattle.rd_served_sessions.specs.Causes.{HaveCauses, IsCausedReply}
 use Rattle.rd_served_sessions.specs.Sessions.{IsServedRun, IsToldSession, TellsRun}
 
 abbrev Of : Type 0
@@ -153,6 +171,15 @@ books_of : (deeds : List Deed) (devices : List (ℕ × Declared)) → map (book 
 books_of deeds [] = refl
 books_of deeds (d ∷ devices) = ap (λ (l : List (ℕ × List Item)). book deeds d.0 ∷ l) (books_of deeds devices)
 
+among_at : {A : Type 0} (f : A → ℕ) (xs : List A) (i : ℕ) (x : A) → slice_get xs i ≡ Some x → (n : ℕ) → f x ≡ n → is_among (map f xs) n ≡ true
+among_at f [] i x there n is = absurd (cc (there))
+among_at f (y ∷ xs) zero x there n is = let same : y ≡ x = cc (there) in ap (λ (b : Bool). b || is_among (map f xs) n) (eq-eqb (f y) n (ap f same ∙ is))
+among_at f (y ∷ xs) (suc i) x there n is = by (f y == n) (among_at f xs i x there n is)
+  where
+    by : (b : Bool) → is_among (map f xs) n ≡ true → (b || is_among (map f xs) n) ≡ true
+    by true more = refl
+    by false more = more
+
 keys_map : (devices : List (ℕ × Declared)) → map (λ (d : ℕ × Declared). d.0) devices ≡ keys_of devices
 keys_map [] = refl
 keys_map (d ∷ devices) = ap (λ (l : List ℕ). d.0 ∷ l) (keys_map devices)
@@ -210,7 +237,7 @@ begins_bare held s w = record {
   waits = λ sound. sym (none_behind w.written w.rest w.frames_are) ∙ w.waits sound;
 }
 
-module _ (devices : List (ℕ × Declared)) (openable : AreOpenable devices) (fit : AreFit devices) (writable : AreWritable (announced_of devices)) (numbered : List NumberedLine) (channels : ℕ) (by : Ended) (books : List (ℕ × History)) (old new : LinkerTold)
+module _ (devices : List (ℕ × Declared)) (openable : AreOpenable devices) (fit : AreFit devices) (writable : AreWritable (announced_of devices)) (numbered : List NumberedLine) (in_place : AreInPlace numbered) (channels : ℕ) (by : Ended) (books : List (ℕ × History)) (old new : LinkerTold)
     (not : by ≢ ended.Memory) (b : ServesBooks devices (at_lines numbered) channels by books old new)
   where
     abbrev Entries : List FrontEntry
@@ -440,18 +467,21 @@ module _ (devices : List (ℕ × Declared)) (openable : AreOpenable devices) (fi
 
       -- ---- what was left
 
-      left_of : (n : ℕ) → (rest : List Deed) × IsLeftOf (replies_read devices Deeds) (announced_of devices) (is_gone_until c.parts n) (acts_on n Old Entries c.parts New c.goes) n Deeds rest
+      abbrev Rest : ℕ → List Deed
+      Rest = rest_of Old Entries c.parts New c.goes
+
+      left_of : (n : ℕ) → IsLeftOf (replies_read devices Deeds) (announced_of devices) (is_gone_until c.parts n) (acts_on n Old Entries c.parts New c.goes) n Deeds (Rest n)
       left_of n =
-          subst (λ (list : List Announce). (rest : List Deed) × IsLeftOf (replies_read devices Deeds) list (is_gone_until c.parts n) (acts_on n Old Entries c.parts New c.goes) n Deeds rest) (b.opens).announced_are
+          subst (λ (list : List Announce). IsLeftOf (replies_read devices Deeds) list (is_gone_until c.parts n) (acts_on n Old Entries c.parts New c.goes) n Deeds (Rest n)) (b.opens).announced_are
           (all_left b.announced devices Old New Entries c.parts begun.begins begun.have begun.opened c.goes (closed_own Last.desks b.stations b.closes) hear_bytes starts n)
 
-      run_tells : (r : ChannelRun) → given_of act_done (r.reading).channel runs ≡ given_in act_done (r.reading).calls → TellsRun (announced_of devices) (is_gone_until c.parts) Deeds (λ n. (left_of n).0) r
+      run_tells : (r : ChannelRun) → given_of act_done (r.reading).channel runs ≡ given_in act_done (r.reading).calls → TellsRun (announced_of devices) (is_gone_until c.parts) Deeds Rest r
       run_tells r own =
           let n = (r.reading).channel in
-          let left = (left_of n).1 in
+          let left = left_of n in
           let acts : acts_on n Old Entries c.parts New c.goes ≡ acts_done (r.reading).calls =
           history_acts n Entries c.parts Old New c.goes c.steps hear_surely ∙ of_runs act_done acts_inside n ∙ own ∙ done_in_all (r.reading).calls in
-          record { ready = left.ready; tells = subst (TellsReady left.ready (announced_of devices) (is_gone_until c.parts n) n (tellings_on n ((left_of n).0 ++ Deeds))) acts left.tells }
+          record { ready = left.ready; tells = subst (TellsReady left.ready (announced_of devices) (is_gone_until c.parts n) n (tellings_on n (Rest n ++ Deeds))) acts left.tells }
 
       acts_are : filter_map act_by (reverse Deeds) ≡ flat_map (λ (r : ChannelRun). acts_done (r.reading).calls) runs
       acts_are =
@@ -463,16 +493,79 @@ module _ (devices : List (ℕ × Declared)) (openable : AreOpenable devices) (fi
           subst (λ (list : List Announce). RunsDo (map (λ (a : Announce). a.id) list) (is_gone_until c.parts) none_gone runs) (b.opens).announced_are
           (session_does b.announced runs End (at_lines numbered) are.left Entries c.parts Old New c.goes c.steps hear_surely whole (((b.front).served).called).over are.each are.lines_go (begins_known Old start.new start.apart start.stationed start.idle_is) (begins_own b.announced Old begun.begins))
 
-      runs_tell : AllByRecursion (TellsRun (announced_of devices) (is_gone_until c.parts) Deeds (λ n. (left_of n).0)) runs
+      -- ---- where deeds stand
+
+      on_channels : EachOnChannel Old Entries c.parts New c.goes
+      on_channels = let start = (begun.begins).new in history_on Entries c.parts Old New c.goes (begins_at Old start.new start.stationed refl) (begins_here Old (start.new).nothing refl)
+
+      looks : LookUnhindered false Entries
+      looks = session_looks Entries First Last (b.front).leads runs End whole (((b.front).served).called).over are.each are.sure
+
+      done_by : AreDoneBy 0 [] Entries (groups_of c.parts)
+      done_by = history_placed b.announced Entries c.parts Old New c.goes begun.first c.steps on_channels hear_surely looks (first_point b.announced Old begun.begins) (first_open b.announced Old begun.begins) (sym begun.unasked)
+
+      come_ready : ComeReady None Entries (groups_of c.parts)
+      come_ready =
+          history_ready b.announced Entries c.parts false None Old New [] c.goes c.steps on_channels hear_surely looks (first_point b.announced Old begun.begins) (first_open b.announced Old begun.begins) (λ none. sym begun.unasked) (λ looked. absurd (cc (looked)))
+
+      placed_here : ArePlaced Entries Deeds
+      placed_here = record { groups = groups_of c.parts; each = done_by; all = all_groups c.parts [] }
+
+      comes_last : EachAfter ComesLast Deeds
+      comes_last = history_comes Entries c.parts Old New [] c.goes known_first_here.keyed known_first_here.told (first_last b.announced Old begun.begins) tt
+
+      parted_here : ArePartedAt numbered Deeds
+      parted_here =
+          let same : Deeds ≡ all_done_by (groups_of c.parts) [] = all_groups c.parts [] in
+          let moves = session_moves numbered Entries runs are.left End whole (((b.front).served).called).over are.each are.lines_go are.numbered in
+          let each = all_cut_for numbered Entries (groups_of c.parts) done_by moves come_ready (subst (EachAfter ComesLast) same comes_last) in
+          parted_all numbered in_place Deeds (subst (EachAfter (IsCutFor numbered)) (sym same) each) comes_last
+
+      runs_tell : AllByRecursion (TellsRun (announced_of devices) (is_gone_until c.parts) Deeds Rest) runs
       runs_tell =
-          to_all (λ (r : ChannelRun). given_of act_done (r.reading).channel runs ≡ given_in act_done (r.reading).calls) (TellsRun (announced_of devices) (is_gone_until c.parts) Deeds (λ n. (left_of n).0)) run_tells runs
+          to_all (λ (r : ChannelRun). given_of act_done (r.reading).channel runs ≡ given_in act_done (r.reading).calls) (TellsRun (announced_of devices) (is_gone_until c.parts) Deeds Rest) run_tells runs
           (own_given act_done 0 runs are.numbered)
+
+      -- ---- ends
+
+      causes_on : (n : ℕ) → AllByRecursion (IsCausedReply Deeds n) (given_of given_replies n runs)
+      causes_on n =
+          subst (AllByRecursion (IsCausedReply Deeds n)) (of_runs given_replies replies_inside n)
+          (history_causes n Entries c.parts false false Old New [] c.goes c.steps (hear_before Entries c.parts Old New c.goes (heard_unhindered Entries false starts)) starts
+          known_first_here.keyed known_first_here.told (new_follows Old begun.off refl ((begun.begins).new).new.kept))
+
+      replies_told : (r : ChannelRun) → (AreMiddle (r.reading).calls × (given_of given_replies (r.reading).channel runs ≡ given_in given_replies (r.reading).calls)) → HaveCauses Deeds r
+      replies_told r told =
+          replies_each (IsCausedReply Deeds (r.reading).channel) (r.reading).calls told.0 (subst (AllByRecursion (IsCausedReply Deeds (r.reading).channel)) told.1 (causes_on (r.reading).channel))
+
+      replies_caused : AllByRecursion (HaveCauses Deeds) runs
+      replies_caused =
+          to_all (λ (r : ChannelRun). AreMiddle (r.reading).calls × (given_of given_replies (r.reading).channel runs ≡ given_in given_replies (r.reading).calls)) (HaveCauses Deeds) replies_told runs
+          (both_all (λ (r : ChannelRun). AreMiddle (r.reading).calls) (λ (r : ChannelRun). given_of given_replies (r.reading).channel runs ≡ given_in given_replies (r.reading).calls) runs (runs_middle runs are) (own_given given_replies 0 runs are.numbered))
+
+      -- nothing is stored but for the devices
+      unowned : (device : ℕ) → is_among (map (λ (d : ℕ × Declared). d.0) devices) device ≡ false → (j : List Item) → journal device Deeds ≡ j → j ≡ []
+      unowned device other [] is = refl
+      unowned device other (x ∷ j) is =
+          let (place, d, s, at, id) = (known.standing).owned device x (subst (Has x) (sym is) (inl refl)) in
+          let (e, there, same) = at_same (λ (y : DeviceDeskState). y.id) (λ (y : ℕ × Declared). y.0) Last.desks devices (last_ids ∙ sym (keys_map devices)) place d at.0 in
+          absurd (let some = among_at (λ (y : ℕ × Declared). y.0) devices place e there device (same ∙ id) in cc (some, other))
+
+      announced_all : AllByRecursion (AnnouncesOwn devices) Deeds
+      announced_all =
+          all_announce devices Entries c.parts Old New c.goes
+          (first_kept devices openable Old (ap (λ (s : FrontState). s.client) ((b.front).begins).is ∙ ap new_client (b.opens).announced_are) (ap (λ (s : FrontState). s.printers) ((b.front).begins).is ∙ (b.opens).printers_are)) [] tt
+
+      dropped : AreDropped Deeds
+      dropped =
+          let is = (begun.begins).new in
+          all_dropped runs End Entries c.parts Old New c.goes c.steps (history_on Entries c.parts Old New c.goes (begins_at Old is.new is.stationed refl) (begins_here Old (is.new).nothing refl)) is whole (((b.front).served).called).over are.each
 
       all_told : AreStationed Last.desks mids → IsToldSession devices numbered channels by Entries books old new
       all_told at = record {
         deeds = Deeds;
         gone = is_gone_until c.parts;
-        rest = λ n. (left_of n).0;
+        rest = Rest;
         runs = runs;
         calls = Calls;
         done = ((b.front).served).done;
@@ -483,12 +576,22 @@ module _ (devices : List (ℕ × Declared)) (openable : AreOpenable devices) (fi
         done_are = are.done_are;
         numbered = are.numbered;
         does = lines_do_so;
+        placed = placed_here;
+        last = comes_last;
+        parted = parted_here;
+        opening = Old;
+        final = New;
+        parts = c.parts;
+        goes = c.goes;
+        opens = subst (λ (list : List Announce). BeginsWith list Old) (b.opens).announced_are begun.begins;
+        done_so = refl;
+        left = λ n. refl;
         lines_go = (record { calls = Calls; done = ((b.front).served).done; lines = are.left; linker = new }, are.lines_go);
         each = runs_told;
         unread = unread;
         unwritten = unwritten;
         told = answered;
-        heeded = λ n. ((left_of n).1).heeded;
+        heeded = λ n. (left_of n).heeded;
         stands = (known.standing).stand;
         order = in_order_of;
         tells = runs_tell;
@@ -497,6 +600,12 @@ module _ (devices : List (ℕ × Declared)) (openable : AreOpenable devices) (fi
         journals = b.journals_are ∙ journals_are at;
         lawful = lawful_of at;
         marked = marked_of at;
+        caused = replies_caused;
+        comes = all_coming b.announced Old New Entries c.parts begun.begins begun.have c.goes (all_fine Deeds (history_bytes Entries c.parts Old New [] c.goes hear_bytes tt)) starts;
+        own = λ device other. unowned device other (journal device Deeds) refl;
+        drops = dropped.each;
+        cut_off = dropped.last;
+        announces = announced_all;
       }
 
     -- The session is told by its front's history.

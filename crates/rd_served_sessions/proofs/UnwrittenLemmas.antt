@@ -1,5 +1,5 @@
 -- Before the first channel nothing is written: nothing stands in the outbox, and no completion is collected.
-use Rattle.std.proofs.Common.{◌≡◌, ◌⊎◌, ◌∙◌, refl, sym, ap, subst, inl, inr, ℕ, List, [], ◌∷◌, ◌++◌, Option, Some, None, arith}
+use Rattle.std.proofs.Common.{◌≡◌, ◌∙◌, refl, sym, ap, subst, inl, inr, ℕ, List, [], ◌∷◌, ◌++◌, Option, Some, None, arith}
 use Rattle.std.specs.List.{cons_option}
 use Rattle.std.proofs.lemmas.Bool.{cases_eq}
 use Rattle.rd_client.specs.Core.{Outgoing}
@@ -8,7 +8,7 @@ use Rattle.rd_front.specs.Front.{with_new_data}
 use Rattle.rd_front.specs.State.{FrontState}
 use Rattle.rd_world.specs.Talk.{Deed, client_wrote}
 use Rattle.rd_served.proofs.KeyLemmas.{IsKeyed, both_true, refreshed_calm}
-use Rattle.rd_served.proofs.StandingLemmas.{IsKnownAt, direct_under, ended_outbox, part_known, parts_known, refreshed_more, sent_first, sent_none}
+use Rattle.rd_served.proofs.StandingLemmas.{IsKnownAt, direct_under, ended_outbox, part_known, refreshed_more, sent_first, sent_none}
 use Rattle.rd_served.specs.Deeds.{AreOnChannel, EachOnChannel, PartsOnChannel, deeds_after, deeds_of, deeds_of_calls}
 use Rattle.rd_served.specs.Histories.{HistoryGoes}
 use Rattle.rd_served.specs.Parts.{FrontPart, PartGoes, PartsGo, begins, calls, directs, ends, forgets, handed_by, keeps, learns, misplaces, refreshes, sends, tells_gone, tells_there, tries, unwritten, writes}

@@ -1,5 +1,5 @@
 -- What is known of a client's session over a socket, from what its workers served: there are deeds of the client that its bytes and its journals come from.
-use Rattle.std.specs.Prelude.{◌∷◌, ◌≡◌, ◌⊎◌, ℕ, ◌<◌, Bool, true, List, [], ◌++◌, filter_map, length, map, reverse}
+use Rattle.std.specs.Prelude.{◌∷◌, ◌≡◌, ◌⊎◌, ℕ, ◌<◌, Bool, true, false, List, [], ◌++◌, filter_map, length, map, reverse}
 use Rattle.std.specs.List.{AllByRecursion, flat_map}
 use Rattle.rd_base.specs.declared.journal.Item.{Item}
 use Rattle.rd_base.specs.History.{History}
@@ -13,6 +13,7 @@ use Rattle.rd_front.specs.Calls.{FrontEntry}
 use Rattle.rd_runs.specs.Premises.{AreBounded}
 use Rattle.rd_script.specs.declared.line.NumberedLine.{NumberedLine}
 use Rattle.rd_world.specs.Acts.{act_by, tellings_on}
+use Rattle.rd_world.specs.Control.{is_among}
 use Rattle.rd_world.specs.Devices.{Declared, device_cut, device_step}
 use Rattle.rd_world.specs.Joining.{Stands}
 use Rattle.rd_world.specs.Opening.{AreDeclared, bare_lines}
@@ -24,16 +25,28 @@ use Rattle.rd_world.specs.Told.{AreAnswered, IsHeeded}
 use Rattle.rd_workers.specs.Channels.{AllGoByLines, ChannelRun, EndsByCalls, HaveNumbers, IsChannelRun, LinkerTold, Standing, calls_by_all}
 use Rattle.rd_workers.specs.Lines.{at_lines}
 use Rattle.rd_workers.specs.Logs.{Wrote, messages_for, reader_calls}
-use Rattle.rd_served_order.specs.Orders.{AreMovesInOrder}
+use Rattle.rd_served.specs.Deeds.{deeds_of_calls}
+use Rattle.rd_served.specs.Histories.{HistoryGoes}
+use Rattle.rd_served.specs.Parts.{FrontPart}
+use Rattle.rd_served.specs.Served.{Served}
+use Rattle.rd_served_order.specs.Orders.{AreMovesInOrder, BeginsWith}
 use Rattle.rd_served_order.specs.Tellings.{TellsReady}
 use Rattle.rd_served_causes.specs.Cuts.{CutsRemoved}
+use Rattle.rd_served_causes.specs.Left.{rest_of}
 use Rattle.rd_served_sessions.specs.Acts.{RunsDo, acts_done, none_gone}
+use Rattle.rd_served_sessions.specs.Parted.{AreInPlace, ArePartedAt}
+use Rattle.rd_served_sessions.specs.Placed.{ArePlaced, ComesLast}
+use Rattle.rd_served_sessions.specs.Announcing.{AnnouncesOwn}
+use Rattle.rd_served_sessions.specs.Causes.{HaveCauses}
+use Rattle.rd_served_sessions.specs.Comings.{ComesThere}
+use Rattle.rd_served_sessions.specs.Drops.{EndsFirst, uncut_keys}
 
--- Lines within the limits of a script, which declare devices that are within their bounds and can be announced. Those of each script that was read are so.
+-- Lines within the limits of a script, which declare devices that are within their bounds and can be announced, and stand in the order of their places. Those of each script that was read are so.
 pub record AreServable (lines : List NumberedLine) : Type 0 where
   pub declared : AreDeclared lines
   pub bounded : AreBounded lines
   pub writable : AreWritable (announced_of (declared_devices (bare_lines lines)))
+  pub placed : AreInPlace lines
 
 -- What the client read on a channel are all messages that came on it; and what it wrote there was put to the channel's other half, which has nothing waiting. That nothing more could be
 -- written was said only where a write had failed.
@@ -82,7 +95,30 @@ pub record IsToldSession (devices : List (ℕ × Declared)) (lines : List Number
   pub cuts : EachAfter CutsRemoved deeds
   -- each line that acts does what there is to do then, and else nothing; which devices were gone as a channel began is by what was done before
   pub does : RunsDo (map (λ (a : Announce). a.id) (announced_of devices)) gone none_gone runs
+  -- what each call did stands by itself, behind what was done before it; and a request comes only while it is the last that was read
+  pub placed : ArePlaced entries deeds
+  pub last : EachAfter ComesLast deeds
+  -- a line that removes a device parts the requests of its channel: those that came to the device before it was cut off, and those that come after
+  pub parted : ArePartedAt lines deeds
+  -- these are the deeds of the front's history by parts, from a new front over a client with these devices on; and what was still to be written on a channel is what stood in the core's outbox as it ended
+  pub opening : Served
+  pub final : Served
+  pub parts : List (List FrontPart)
+  pub goes : HistoryGoes opening entries parts final
+  pub opens : BeginsWith (announced_of devices) opening
+  pub done_so : deeds ≡ deeds_of_calls parts []
+  pub left : (c : ℕ) → rest c ≡ rest_of opening entries parts final goes c
   -- the books have one journal of each device, which is lawful, and whose marks are those of the device, by the requests that were read
   pub journals : journals_of books ≡ map {B = ℕ × List Item} (λ (d : ℕ × Declared). (d.0, reverse (journal d.0 deeds))) devices
   pub lawful : AllByRecursion (λ (d : ℕ × Declared). IsLawful (reverse (journal d.0 deeds))) devices
   pub marked : AllByRecursion (λ (d : ℕ × Declared). AreToldBy device_step device_cut (request_read deeds) (d.1).state (reverse (journal d.0 deeds))) devices
+  -- where the front found that a message is wrong, or that a completion id is in use, it's so
+  pub caused : AllByRecursion (HaveCauses deeds) runs
+  -- a request comes only where its device is there for the host, and only to the session's own devices anything is stored
+  pub comes : EachAfter ComesThere deeds
+  pub own : (device : ℕ) → is_among (map (λ (d : ℕ × Declared). d.0) devices) device ≡ false → journal device deeds ≡ []
+  -- a channel that ends leaves nothing under way: its requests were cut off before anything is done on a later one, or at the session's end, and nothing is stored of them after that
+  pub drops : EachAfter EndsFirst deeds
+  pub cut_off : (device : ℕ) → uncut_keys (journal device deeds) ≡ []
+  -- what announces devices has the type, the name and the data that were declared
+  pub announces : AllByRecursion (AnnouncesOwn devices) deeds

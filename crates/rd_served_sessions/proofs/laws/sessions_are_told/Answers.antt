@@ -8,4 +8,4 @@ use Rattle.rd_served_sessions.proofs.laws.sessions_are_told.Goals as goal
 
 pub returns : goal.returns
 returns c lines by books old new servable not serves =
-    session_told (declared_devices (bare_lines lines)) (declared_openable lines servable.declared) (bounded_fit lines servable.bounded) servable.writable lines (channels_of lines) by books old new not serves
+    session_told (declared_devices (bare_lines lines)) (declared_openable lines servable.declared) (bounded_fit lines servable.bounded) servable.writable lines servable.placed (channels_of lines) by books old new not serves

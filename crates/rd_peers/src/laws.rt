@@ -1,0 +1,26 @@
+//! What joins two processes, as a contract of a function that does nothing.
+
+ghost use Rattle.std.specs.Prelude.{◌≡◌, ℕ, ◌<◌, List, length};
+ghost use Rattle.rd_base.specs.History.{History};
+ghost use Rattle.rd_carry.specs.declared.ended.Ended.{Ended};
+ghost use Rattle.rd_front.specs.Calls.{FrontEntry};
+ghost use Rattle.rd_peers.specs.Peers.{clients_part};
+ghost use Rattle.rd_script.specs.declared.line.NumberedLine.{NumberedLine};
+ghost use Rattle.rd_served_sessions.specs.Sessions.{AreServable, IsToldSession};
+ghost use Rattle.rd_workers.specs.Channels.{LinkerTold};
+ghost use Rattle.rd_world.specs.HostDeeds.{MayDo, side_of};
+ghost use Rattle.rd_world.specs.Joining.{AreJoined, IsCarried, Joins};
+ghost use Rattle.rd_world.specs.Opening.{bare_lines};
+ghost use Rattle.rd_world.specs.Run.{declared_devices};
+ghost use Rattle.rd_world.specs.Session.{replies_in};
+ghost use Rattle.rd_world.specs.Talk.{AtEachPoint, Deed, EachAfter, journal};
+ghost use Rattle.rd_world.specs.Told.{worn_entries};
+
+/// A client whose session came to what is promised of it, and a host that keeps its table, are joined where messages are carried between them and no journal is worn: so all that the joining law says holds of
+/// them.
+pub fn clients_are_joined()
+    ensures { (lines : List NumberedLine) (channels : ℕ) (by : Ended) (entries : List FrontEntry) (books : List (ℕ × History)) (old new : LinkerTold) → AreServable lines
+        → (session : IsToldSession (declared_devices (bare_lines lines)) lines channels by entries books old new) (client : ℕ) (deeds : List Deed) → clients_part deeds ≡ session.deeds
+        → AtEachPoint IsCarried deeds → EachAfter (λ before deed. MayDo (side_of client before) deed) deeds → ((device : ℕ) → length (journal device deeds) < worn_entries)
+        → let replies = replies_in (declared_devices (bare_lines lines)) deeds in AreJoined client replies deeds × Joins client replies deeds }
+{}
