@@ -26,9 +26,10 @@ use Rattle.rd_served.specs.Served.{Served}
 use Rattle.rd_served_order.specs.Tellings.{acts_on, part_acts, parts_acts}
 use Rattle.rd_workers.proofs.RunLemmas.{DoesSurely}
 use Rattle.rd_served_sessions.proofs.CallLemmas.{GivesInside, given_in, given_on, none_on, on_both, on_channel}
-use Rattle.rd_served_sessions.proofs.ChainLemmas.{StepsToo, part_rises, parts_rise}
+use Rattle.rd_served_sessions.proofs.ChainLemmas.{part_rises, parts_rise}
 use Rattle.rd_served_sessions.proofs.StillLemmas.{tracks}
 use Rattle.rd_served_sessions.specs.Acts.{act_done, acts_done}
+use Rattle.rd_served_sessions.specs.Steps.{AreSteps}
 
 -- ---- parts
 
@@ -130,7 +131,7 @@ module _ (c : ℕ) (p q : Served) (ps : List FrontPart) where
   call_acts call.EndSession back goes step sure = still_acts call.EndSession back goes (tracks p.front call.EndSession back q.front step) sure
 
 -- What a front was told to tell on a channel is what the calls there did.
-pub history_acts : (c : ℕ) (entries : List FrontEntry) (parts : List (List FrontPart)) (p q : Served) (goes : HistoryGoes p entries parts q) → StepsToo p entries parts q goes → AllByRecursion (λ (e : FrontEntry). DoesSurely e.call e.reply) entries
+pub history_acts : (c : ℕ) (entries : List FrontEntry) (parts : List (List FrontPart)) (p q : Served) (goes : HistoryGoes p entries parts q) → AreSteps p entries parts q goes → AllByRecursion (λ (e : FrontEntry). DoesSurely e.call e.reply) entries
     → acts_on c p entries parts q goes ≡ given_on act_done c (p.front).channel entries
 history_acts c [] [] p q goes steps sure = refl
 history_acts c [] (ps ∷ parts) p q goes steps sure = absurd goes

@@ -30,17 +30,12 @@ use Rattle.rd_served.specs.Served.{Served, idle}
 use Rattle.rd_served_sessions.proofs.CallLemmas.{given_on, none_on, on_channel}
 use Rattle.rd_workers.proofs.RunLemmas.{DoesSurely}
 use Rattle.rd_served_sessions.proofs.StillLemmas.{NextSays, begun_to, is_messages, next_says, refreshed_same, silent, tracks}
+use Rattle.rd_served_sessions.specs.Steps.{AreSteps}
 
 abbrev Of : Type 0
 Of = SessionStation
 
 -- ---- both at once
-
--- Each call of a history by parts is a step of the front.
-abbrev pub StepsToo : (old : Served) (entries : List FrontEntry) (parts : List (List FrontPart)) (new : Served) → HistoryGoes old entries parts new → Type 0
-StepsToo old [] [] new goes = Unit {0}
-StepsToo old (e ∷ es) (ps ∷ pss) new goes = FrontStep old.front e.call e.reply (goes.0).front × StepsToo goes.0 es pss new goes.2
-StepsToo old _ _ new goes = ⊥
 
 -- A history with the stations after it.
 pub record Chain (p : FrontState) (entries : List FrontEntry) (q : FrontState) (after : List Of) : Type 0 where
@@ -48,7 +43,7 @@ pub record Chain (p : FrontState) (entries : List FrontEntry) (q : FrontState) (
   pub at : AreStationed p.desks stations
   pub parts : List (List FrontPart)
   pub goes : HistoryGoes (served p idle stations) entries parts (served q idle after)
-  pub steps : StepsToo (served p idle stations) entries parts (served q idle after) goes
+  pub steps : AreSteps (served p idle stations) entries parts (served q idle after) goes
 
 pub chain_of : (p : FrontState) (entries : List FrontEntry) (q : FrontState) → Leads FrontStep p entries q → (after : List Of) → AreStationed q.desks after → Chain p entries q after
 chain_of p [] q is after at =
@@ -255,7 +250,7 @@ heard_turned c now does back = by (now == c)
     by false = refl
 
 -- What a history reads on a channel is what its calls hear there.
-pub history_read : (c : ℕ) (entries : List FrontEntry) (parts : List (List FrontPart)) (p q : Served) (goes : HistoryGoes p entries parts q) → StepsToo p entries parts q goes → AllByRecursion (λ (e : FrontEntry). DoesSurely e.call e.reply) entries
+pub history_read : (c : ℕ) (entries : List FrontEntry) (parts : List (List FrontPart)) (p q : Served) (goes : HistoryGoes p entries parts q) → AreSteps p entries parts q goes → AllByRecursion (λ (e : FrontEntry). DoesSurely e.call e.reply) entries
     → (deeds : List Deed) → client_read c (deeds_of_calls parts deeds) ≡ reverse (given_on given_by c (p.front).channel entries) ++ client_read c deeds
 history_read c [] [] p q goes steps sure deeds = refl
 history_read c [] (ps ∷ parts) p q goes steps sure deeds = absurd goes
@@ -466,7 +461,7 @@ module _ (c : ℕ) (p q : Served) (ps : List FrontPart) (before : List Deed) whe
   call_wrote call.EndSession back goes step here = unasked_wrote call.EndSession back goes step refl
 
 -- What a history writes on a channel is what its calls hand out for it.
-pub history_wrote : (c : ℕ) (entries : List FrontEntry) (parts : List (List FrontPart)) (p q : Served) (goes : HistoryGoes p entries parts q) → StepsToo p entries parts q goes → EachOnChannel p entries parts q goes
+pub history_wrote : (c : ℕ) (entries : List FrontEntry) (parts : List (List FrontPart)) (p q : Served) (goes : HistoryGoes p entries parts q) → AreSteps p entries parts q goes → EachOnChannel p entries parts q goes
     → (deeds : List Deed) → client_wrote c (deeds_of_calls parts deeds) ≡ reverse (messages_for c entries) ++ client_wrote c deeds
 history_wrote c [] [] p q goes steps here deeds = refl
 history_wrote c [] (ps ∷ parts) p q goes steps here deeds = absurd goes

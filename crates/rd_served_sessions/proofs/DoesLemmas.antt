@@ -39,9 +39,10 @@ use Rattle.rd_served_order.proofs.OwnLemmas.{IsOwn, MarksAre, each_keeps, part_o
 use Rattle.rd_served_order.specs.Orders.{is_gone_until, none_until, until_after, until_by, until_calls}
 use Rattle.rd_workers.proofs.RunLemmas.{DoesSurely}
 use Rattle.rd_served_sessions.proofs.ActLemmas.{asked_undone, told_done}
-use Rattle.rd_served_sessions.proofs.ChainLemmas.{StepsToo, part_rises, parts_rise}
+use Rattle.rd_served_sessions.proofs.ChainLemmas.{part_rises, parts_rise}
 use Rattle.rd_served_sessions.proofs.StillLemmas.{tracks}
 use Rattle.rd_served_sessions.specs.Acts.{RunsDo, act_done, acts_done, gone_after, gone_by, line_acting, line_does, lines_acting, lines_do, none_gone}
+use Rattle.rd_served_sessions.specs.Steps.{AreSteps}
 
 -- ---- a channel stays open, and its client ready
 
@@ -530,7 +531,7 @@ module _ (devices : List Announce) where
   begins_as entries parts p q r ps call.EndSession back deeds until goes step more = tt
 
   -- in a whole history each line does what its call did
-  pub history_does : (entries : List FrontEntry) (parts : List (List FrontPart)) (p q : Served) (deeds : List Deed) (until : ℕ → List Deed) (was : Option ℕ) (goes : HistoryGoes p entries parts q) → StepsToo p entries parts q goes → AllByRecursion (λ (e : FrontEntry). DoesSurely e.call e.reply) entries → ActLooked was entries
+  pub history_does : (entries : List FrontEntry) (parts : List (List FrontPart)) (p q : Served) (deeds : List Deed) (until : ℕ → List Deed) (was : Option ℕ) (goes : HistoryGoes p entries parts q) → AreSteps p entries parts q goes → AllByRecursion (λ (e : FrontEntry). DoesSurely e.call e.reply) entries → ActLooked was entries
       → IsKnownAt p deeds → IsOwn devices p deeds → IsLooked p.front was → EachDoes devices (λ n d. is_removed d (until_calls parts deeds until n)) (λ d. is_removed d deeds) entries
   history_does [] [] p q deeds until was goes steps sure acts known own is = tt
   history_does [] (ps ∷ parts) p q deeds until was goes steps sure acts known own is = absurd goes
@@ -588,7 +589,7 @@ module _ (devices : List Announce) where
         (first, read.0, runs_do runs later (gone_after gone (acts_done calls)) each.1 after)
 
   -- So it is in a session, whose reader's calls are those of its runs and the one that ends it.
-  pub session_does : (runs : List ChannelRun) (last : FrontEntry) (lines left : Lines) (entries : List FrontEntry) (parts : List (List FrontPart)) (p q : Served) (goes : HistoryGoes p entries parts q) → StepsToo p entries parts q goes
+  pub session_does : (runs : List ChannelRun) (last : FrontEntry) (lines left : Lines) (entries : List FrontEntry) (parts : List (List FrontPart)) (p q : Served) (goes : HistoryGoes p entries parts q) → AreSteps p entries parts q goes
       → AllByRecursion (λ (e : FrontEntry). DoesSurely e.call e.reply) entries → reader_calls entries ≡ calls_by_all runs ++ last ∷ [] → last.call ≡ call.EndSession → AllByRecursion IsChannelRun runs → AllGoByLines runs lines left → IsKnownAt p [] → IsOwn devices p []
       → RunsDo (map (λ (a : Announce). a.id) devices) (is_gone_until parts) none_gone runs
   session_does runs last lines left entries parts p q goes steps sure whole over each go known own =

@@ -39,8 +39,8 @@ use Rattle.rd_served.specs.Histories.{HistoryGoes}
 use Rattle.rd_served.specs.Parts.{EndsEach, FrontPart, PartGoes, PartsGo, begins, calls, directs, ended_front, forgets, keeps, learns, misplaces, refreshes, sends, tells_gone, tells_there, tries, unwritten, writes}
 use Rattle.rd_served.specs.Parts as part
 use Rattle.rd_served.specs.Served.{CallsDesk, IsWork, Served, Works}
-use Rattle.rd_served_sessions.proofs.ChainLemmas.{StepsToo}
 use Rattle.rd_served_sessions.proofs.StillLemmas.{ends_over}
+use Rattle.rd_served_sessions.specs.Steps.{AreSteps}
 
 abbrev Of : Type 0
 Of = SessionStation
@@ -261,7 +261,7 @@ history_stays (e ∷ entries) [] p q goes is = absurd goes
 history_stays (e ∷ entries) (ps ∷ parts) p q goes is = history_stays entries parts goes.0 q goes.2 (parts_stay ps p goes.0 (goes.1).goes is)
 
 -- A history in which the session was ended is over.
-history_ended : (entries : List FrontEntry) (parts : List (List FrontPart)) (p q : Served) (goes : HistoryGoes p entries parts q) → StepsToo p entries parts q goes → (last : FrontEntry) → Has last entries → last.call ≡ call.EndSession → (q.front).over ≡ true
+history_ended : (entries : List FrontEntry) (parts : List (List FrontPart)) (p q : Served) (goes : HistoryGoes p entries parts q) → AreSteps p entries parts q goes → (last : FrontEntry) → Has last entries → last.call ≡ call.EndSession → (q.front).over ≡ true
 history_ended [] parts p q goes steps last has over = absurd has
 history_ended (e ∷ entries) [] p q goes steps last has over = absurd goes
 history_ended (e ∷ entries) (ps ∷ parts) p q goes steps last (inl here) over =
@@ -289,7 +289,7 @@ has_read (e ∷ entries) x has = by (has_read entries x) (asks_any e.call) has
     by more false (inr among) = inr (more among)
 
 -- So at the end of a reader's session each station is done.
-pub all_done : (entries : List FrontEntry) (parts : List (List FrontPart)) (p q : Served) (goes : HistoryGoes p entries parts q) → StepsToo p entries parts q goes → (p.front).over ≡ false
+pub all_done : (entries : List FrontEntry) (parts : List (List FrontPart)) (p q : Served) (goes : HistoryGoes p entries parts q) → AreSteps p entries parts q goes → (p.front).over ≡ false
     → (own : List FrontEntry) (last : FrontEntry) → reader_calls entries ≡ own ++ last ∷ [] → last.call ≡ call.EndSession → (x : Of) → Has x q.stations → IsDone x
 all_done entries parts p q goes steps fresh own last are over =
     history_over entries parts p q goes (λ is. absurd (cc (fresh, is)))

@@ -33,11 +33,12 @@ use Rattle.rd_served_causes.proofs.LaterLemmas.{comes_next}
 use Rattle.rd_served_causes.proofs.StepLemmas.{part_off}
 use Rattle.rd_served_causes.specs.Open.{AreOff}
 use Rattle.rd_served_sessions.proofs.CallLemmas.{other_number}
-use Rattle.rd_served_sessions.proofs.ChainLemmas.{StepsToo, part_rises, part_wrote, parts_rise, stored_unwritten}
+use Rattle.rd_served_sessions.proofs.ChainLemmas.{part_rises, part_wrote, parts_rise, stored_unwritten}
 use Rattle.rd_served_sessions.proofs.CutOffLemmas.{AreCutOff, called_names, held_now, reached_cut, uncut_all}
 use Rattle.rd_served_sessions.proofs.FollowLemmas.{part_keeping}
 use Rattle.rd_served_sessions.proofs.StillLemmas.{begun_to, tracks}
 use Rattle.rd_served_sessions.specs.Drops.{EndsFirst, NoneLater, UncutAreOf, uncut_keys}
+use Rattle.rd_served_sessions.specs.Steps.{AreSteps}
 
 abbrev Of : Type 0
 Of = SessionStation
@@ -293,7 +294,7 @@ call_off was does back ps p q goes step off is = by does step is
     by call.Look did ended = still call.Look did refl ended
     by call.EndSession did ended = still call.EndSession did refl ended
 
-history_off : (entries : List FrontEntry) (parts : List (List FrontPart)) (was : Bool) (p q : Served) (goes : HistoryGoes p entries parts q) → StepsToo p entries parts q goes → (was ≡ true → (p.front).on ≡ false) → ended_after was entries ≡ true → (q.front).on ≡ false
+history_off : (entries : List FrontEntry) (parts : List (List FrontPart)) (was : Bool) (p q : Served) (goes : HistoryGoes p entries parts q) → AreSteps p entries parts q goes → (was ≡ true → (p.front).on ≡ false) → ended_after was entries ≡ true → (q.front).on ≡ false
 history_off [] [] was p q goes steps off is = ap (λ (s : Served). (s.front).on) goes ∙ off is
 history_off [] (ps ∷ parts) was p q goes steps off is = absurd goes
 history_off (e ∷ entries) [] was p q goes steps off is = absurd goes
@@ -346,7 +347,7 @@ pub record AreDropped (deeds : List Deed) : Type 0 where
   pub each : EachAfter EndsFirst deeds
   pub last : (device : ℕ) → uncut_keys (journal device deeds) ≡ []
 
-pub all_dropped : (runs : List ChannelRun) (last : FrontEntry) (entries : List FrontEntry) (parts : List (List FrontPart)) (old new : Served) (goes : HistoryGoes old entries parts new) → StepsToo old entries parts new goes → EachOnChannel old entries parts new goes → BeginsNew old
+pub all_dropped : (runs : List ChannelRun) (last : FrontEntry) (entries : List FrontEntry) (parts : List (List FrontPart)) (old new : Served) (goes : HistoryGoes old entries parts new) → AreSteps old entries parts new goes → EachOnChannel old entries parts new goes → BeginsNew old
     → reader_calls entries ≡ calls_by_all runs ++ last ∷ [] → last.call ≡ call.EndSession → AllByRecursion IsChannelRun runs → AreDropped (deeds_of_calls parts [])
 all_dropped runs last entries parts old new goes steps here start whole over each =
     let is = history_dropping entries parts old new [] goes here (record {

@@ -38,12 +38,13 @@ use Rattle.rd_served.specs.Served.{Served}
 use Rattle.rd_served_causes.specs.Causes.{StartUnhindered}
 use Rattle.rd_served_refusals.specs.Heeding.{CallsHearBefore, hindered_by, stopped_after}
 use Rattle.rd_served_sessions.proofs.CallLemmas.{GivesInside, given_in, given_on, on_channel}
-use Rattle.rd_served_sessions.proofs.ChainLemmas.{StepsToo, part_rises, parts_read, parts_rise, rest_unheard, rest_unread}
+use Rattle.rd_served_sessions.proofs.ChainLemmas.{part_rises, parts_read, parts_rise, rest_unheard, rest_unread}
 use Rattle.rd_served_sessions.proofs.FollowLemmas.{Follows, SaysTo, parts_follow, says_to}
 use Rattle.rd_served_sessions.proofs.StillLemmas.{begun_to, tracks}
 use Rattle.rd_served_sessions.proofs.UnsentLemmas.{IsEnded, history_sent}
 use Rattle.rd_served_sessions.proofs.UseLemmas.{deeds_more, refused_in}
 use Rattle.rd_served_sessions.specs.Causes.{IsCausedReply, LastIsWrong, WasInUse}
+use Rattle.rd_served_sessions.specs.Steps.{AreSteps}
 
 -- ---- which calls say that a message is wrong, or that a completion id is in use
 
@@ -470,7 +471,7 @@ module _ (e : FrontEntry) (ps : List FrontPart) (entries : List FrontEntry) (par
         by (reply.Messages filled left) is = tt
 
 -- By each reply on a channel what was read there is as it says.
-pub history_causes : (c : ℕ) (entries : List FrontEntry) (parts : List (List FrontPart)) (was hindered : Bool) (p q : Served) (deeds : List Deed) (goes : HistoryGoes p entries parts q) → StepsToo p entries parts q goes → CallsHearBefore was parts → StartUnhindered hindered entries → IsKeyed p → IsTold p deeds → Follows was p deeds
+pub history_causes : (c : ℕ) (entries : List FrontEntry) (parts : List (List FrontPart)) (was hindered : Bool) (p q : Served) (deeds : List Deed) (goes : HistoryGoes p entries parts q) → AreSteps p entries parts q goes → CallsHearBefore was parts → StartUnhindered hindered entries → IsKeyed p → IsTold p deeds → Follows was p deeds
     → AllByRecursion (IsCausedReply (deeds_of_calls parts deeds) c) (given_on given_replies c (p.front).channel entries)
 history_causes c [] [] was hindered p q deeds goes steps before starts keyed told follows = tt
 history_causes c [] (ps ∷ parts) was hindered p q deeds goes steps before starts keyed told follows = absurd goes

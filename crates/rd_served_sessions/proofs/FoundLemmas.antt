@@ -21,8 +21,9 @@ use Rattle.rd_served.specs.Parts.{FrontPart, PartGoes, PartsGo, begins, calls, d
 use Rattle.rd_served.specs.Parts as part
 use Rattle.rd_served.specs.Served.{Served, hands}
 use Rattle.rd_served_sessions.proofs.CallLemmas.{BeginsUpTo, begun_up_to}
-use Rattle.rd_served_sessions.proofs.ChainLemmas.{StepsToo, part_rises, parts_rise}
+use Rattle.rd_served_sessions.proofs.ChainLemmas.{part_rises, parts_rise}
 use Rattle.rd_served_sessions.proofs.StillLemmas.{NextSays, is_messages, next_says, silent, tracks}
+use Rattle.rd_served_sessions.specs.Steps.{AreSteps}
 
 -- ---- before the first channel
 
@@ -175,7 +176,7 @@ call_found most p q does back ps deeds low step found goes known unbegun = elim 
 ]
 
 -- No part of a history is a completion that is lost.
-pub history_found : (most : ℕ) (entries : List FrontEntry) (parts : List (List FrontPart)) (p q : Served) (deeds : List Deed) (goes : HistoryGoes p entries parts q) → StepsToo p entries parts q goes → (p.front).channel ≤ most
+pub history_found : (most : ℕ) (entries : List FrontEntry) (parts : List (List FrontPart)) (p q : Served) (deeds : List Deed) (goes : HistoryGoes p entries parts q) → AreSteps p entries parts q goes → (p.front).channel ≤ most
     → AllByRecursion (λ (e : FrontEntry). BeginsUpTo most e.call e.reply) entries → ((c : ℕ) → 0 < c → c ≤ most → AllFound c entries) → IsKnownAt p deeds → IsUnbegun p.front
     → AllByRecursion (λ (ps : List FrontPart). AllByRecursion (λ (x : FrontPart). is_lost x ≡ false) ps) parts
 history_found most [] [] p q deeds goes steps low begins_so found known unbegun = tt

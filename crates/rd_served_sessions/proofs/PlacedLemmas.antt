@@ -28,7 +28,7 @@ use Rattle.rd_served_refusals.specs.Heeding.{hindered_by}
 use Rattle.rd_served_causes.specs.Open.{IsDeskAt}
 use Rattle.rd_served_sessions.proofs.ActLemmas.{parts_act, told_done}
 use Rattle.rd_served_sessions.proofs.CallLemmas.{on_channel}
-use Rattle.rd_served_sessions.proofs.ChainLemmas.{StepsToo, call_wrote, parts_read, surely_heard}
+use Rattle.rd_served_sessions.proofs.ChainLemmas.{call_wrote, parts_read, surely_heard}
 use Rattle.rd_served_sessions.proofs.LookLemmas.{IsCounted, LookUnhindered, call_counted, call_looks}
 use Rattle.rd_served_sessions.proofs.RemovalLemmas.{AreLiveTold, HasCut, IsPoint, call_cuts}
 use Rattle.rd_served_sessions.proofs.StillLemmas.{begun_to, tracks}
@@ -36,6 +36,7 @@ use Rattle.rd_served_sessions.proofs.StoredLemmas.{deeds_split, groups_of}
 use Rattle.rd_served_sessions.proofs.UnderLemmas.{IsLast, came_on, idle_none, none_came}
 use Rattle.rd_served_sessions.specs.Acts.{act_done}
 use Rattle.rd_served_sessions.specs.Placed.{AreDoneBy, IsDoneBy, begun_after}
+use Rattle.rd_served_sessions.specs.Steps.{AreSteps}
 
 -- ---- the channel that began last
 
@@ -122,7 +123,7 @@ module _ (devices : List Announce) (was : Bool) (does : FrontCall) (back : Front
 -- ---- a whole history
 
 module _ (devices : List Announce) where
-  calls_placed : (entries : List FrontEntry) (parts : List (List FrontPart)) (was : Bool) (p q : Served) (deeds : List Deed) (goes : HistoryGoes p entries parts q) → StepsToo p entries parts q goes → EachOnChannel p entries parts q goes
+  calls_placed : (entries : List FrontEntry) (parts : List (List FrontPart)) (was : Bool) (p q : Served) (deeds : List Deed) (goes : HistoryGoes p entries parts q) → AreSteps p entries parts q goes → EachOnChannel p entries parts q goes
       → AllByRecursion (λ (e : FrontEntry). DoesSurely e.call e.reply) entries → LookUnhindered was entries → IsPoint devices p deeds → AreLiveTold p → (was ≡ false → IsCounted p deeds) → AreDoneBy (p.front).channel deeds entries (groups_of parts)
   calls_placed [] [] was p q deeds goes steps here sure looks is opened counted = tt
   calls_placed [] (ps ∷ parts) was p q deeds goes steps here sure looks is opened counted = absurd goes
@@ -138,7 +139,7 @@ module _ (devices : List Announce) where
       )
 
   -- So each call of a history from the beginning on did what it is to do.
-  pub history_placed : (entries : List FrontEntry) (parts : List (List FrontPart)) (p q : Served) (goes : HistoryGoes p entries parts q) → (p.front).channel ≡ 0 → StepsToo p entries parts q goes → EachOnChannel p entries parts q goes
+  pub history_placed : (entries : List FrontEntry) (parts : List (List FrontPart)) (p q : Served) (goes : HistoryGoes p entries parts q) → (p.front).channel ≡ 0 → AreSteps p entries parts q goes → EachOnChannel p entries parts q goes
       → AllByRecursion (λ (e : FrontEntry). DoesSurely e.call e.reply) entries → LookUnhindered false entries → IsPoint devices p [] → AreLiveTold p → IsCounted p [] → AreDoneBy 0 [] entries (groups_of parts)
   history_placed entries parts p q goes first steps here sure looks is opened counted =
       subst (λ (n : ℕ). AreDoneBy n [] entries (groups_of parts)) first (calls_placed entries parts false p q [] goes steps here sure looks is opened (λ none. counted))

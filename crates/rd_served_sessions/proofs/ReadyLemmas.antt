@@ -27,7 +27,6 @@ use Rattle.rd_served.specs.Served.{Asking, Served, idle}
 use Rattle.rd_served_refusals.specs.Heeding.{hindered_by}
 use Rattle.rd_served_causes.proofs.OpenLemmas.{IsQuietCall, quiet_call, worked}
 use Rattle.rd_served_causes.specs.Open.{IsDeskAt}
-use Rattle.rd_served_sessions.proofs.ChainLemmas.{StepsToo}
 use Rattle.rd_served_sessions.proofs.DoesLemmas.{IsAsOpen, adds_open, hands_open, removes_open, unless_full, where_open}
 use Rattle.rd_served_sessions.proofs.LookLemmas.{LookUnhindered, IsCounted}
 use Rattle.rd_served_sessions.proofs.PartedLemmas.{ComeReady, ready_by}
@@ -35,6 +34,7 @@ use Rattle.rd_served_sessions.proofs.PlacedLemmas.{call_open, call_point, counte
 use Rattle.rd_served_sessions.proofs.RemovalLemmas.{AreLiveTold, IsPoint}
 use Rattle.rd_served_sessions.proofs.StoredLemmas.{StoresIn, ends_lack, groups_of, has_split, part_stores}
 use Rattle.rd_served_sessions.proofs.UnderLemmas.{comes_under, ends_came, idle_none, under_kept}
+use Rattle.rd_served_sessions.specs.Steps.{AreSteps}
 
 abbrev Of : Type 0
 Of = SessionStation
@@ -194,7 +194,7 @@ step_unready old new was call.EndSession back step is = none_unready new
 
 module _ (devices : List Announce) where
   -- In a history no request comes by a call before which it was looked up that the client isn't ready.
-  pub history_ready : (entries : List FrontEntry) (parts : List (List FrontPart)) (was : Bool) (looked : Option Bool) (p q : Served) (deeds : List Deed) (goes : HistoryGoes p entries parts q) → StepsToo p entries parts q goes → EachOnChannel p entries parts q goes
+  pub history_ready : (entries : List FrontEntry) (parts : List (List FrontPart)) (was : Bool) (looked : Option Bool) (p q : Served) (deeds : List Deed) (goes : HistoryGoes p entries parts q) → AreSteps p entries parts q goes → EachOnChannel p entries parts q goes
       → AllByRecursion (λ (e : FrontEntry). DoesSurely e.call e.reply) entries → LookUnhindered was entries → IsPoint devices p deeds → AreLiveTold p → (was ≡ false → IsCounted p deeds) → IsUnready p.front looked → ComeReady looked entries (groups_of parts)
   history_ready [] [] was looked p q deeds goes steps here sure looks is opened counted unready = tt
   history_ready [] (ps ∷ parts) was looked p q deeds goes steps here sure looks is opened counted unready = absurd goes

@@ -571,7 +571,7 @@ module _ (devices : List (ℕ × Declared)) (openable : AreOpenable devices) (fi
         done = ((b.front).served).done;
         ends = (((b.front).served).called).ends;
         calls_are = are.calls_are;
-        called = (End, (((b.front).served).called).all_are);
+        called = (End, (((b.front).served).called).all_are, (((b.front).served).called).over);
         handed = wrote_is;
         done_are = are.done_are;
         numbered = are.numbered;
@@ -583,6 +583,7 @@ module _ (devices : List (ℕ × Declared)) (openable : AreOpenable devices) (fi
         final = New;
         parts = c.parts;
         goes = c.goes;
+        steps = c.steps;
         opens = subst (λ (list : List Announce). BeginsWith list Old) (b.opens).announced_are begun.begins;
         done_so = refl;
         left = λ n. refl;

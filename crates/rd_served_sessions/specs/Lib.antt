@@ -6,3 +6,4 @@ pub mod Causes
 pub mod Comings
 pub mod Drops
 pub mod Sessions
+pub mod Steps

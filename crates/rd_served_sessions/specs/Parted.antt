@@ -33,7 +33,7 @@ AreInPlace (l ∷ lines) = AllByRecursion (λ (m : NumberedLine). IsNotBefore (l
 -- ---- what a removal parts
 
 -- Where a device was cut off as one that is gone, between what was done before and what was done later: a line of the script removes it, which acts where so many requests were read on its
--- channel, the last on which anything was read. None of them had come to the device whose index is at the line's number or above; and later only those come that were read since, and the last that
+-- channel, and on no later one anything was. None of them had come to the device whose index is at the line's number or above; and later only those come that were read since, and the last that
 -- was read before, which may have been kept back: so none whose index is below that number, but for the one directly below.
 pub record IsParted (lines : List NumberedLine) (device : ℕ) (later before : List Deed) : Type 0 where
   pub channel : ℕ

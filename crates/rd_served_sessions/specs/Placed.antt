@@ -24,7 +24,7 @@ abbrev pub begun_after : ℕ → FrontCall → FrontReply → ℕ
 begun_after channel (call.Begin number) (reply.Done at full) = number
 begun_after channel does back = channel
 
--- Where it is looked up how far the channel is, and the client is ready, so many requests were read there before.
+-- Where it is looked up how far the channel is, and the reply says that the client is ready, so many requests were read there before as it says.
 abbrev pub LooksAt : ℕ → List Deed → FrontCall → FrontReply → Type 0
 LooksAt channel before call.Look (reply.Stands true asked) = asked ≡ requests_read channel before
 LooksAt channel before does back = Unit {0}

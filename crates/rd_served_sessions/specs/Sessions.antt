@@ -10,6 +10,7 @@ use Rattle.rd_client.specs.Events.{AreWritable}
 use Rattle.rd_devices.specs.declared.list.Announce.{Announce}
 use Rattle.rd_drive.specs.Replies.{AreToldBy}
 use Rattle.rd_front.specs.Calls.{FrontEntry}
+use Rattle.rd_front.specs.declared.calls.FrontCall.TheVariants as call
 use Rattle.rd_runs.specs.Premises.{AreBounded}
 use Rattle.rd_script.specs.declared.line.NumberedLine.{NumberedLine}
 use Rattle.rd_world.specs.Acts.{act_by, tellings_on}
@@ -36,6 +37,7 @@ use Rattle.rd_served_causes.specs.Left.{rest_of}
 use Rattle.rd_served_sessions.specs.Acts.{RunsDo, acts_done, none_gone}
 use Rattle.rd_served_sessions.specs.Parted.{AreInPlace, ArePartedAt}
 use Rattle.rd_served_sessions.specs.Placed.{ArePlaced, ComesLast}
+use Rattle.rd_served_sessions.specs.Steps.{AreSteps}
 use Rattle.rd_served_sessions.specs.Announcing.{AnnouncesOwn}
 use Rattle.rd_served_sessions.specs.Causes.{HaveCauses}
 use Rattle.rd_served_sessions.specs.Comings.{ComesThere}
@@ -74,7 +76,7 @@ pub record IsToldSession (devices : List (ℕ × Declared)) (lines : List Number
   pub done : List Wrote
   pub ends : EndsByCalls (at_lines lines) channels by calls done old new
   pub calls_are : calls ≡ calls_by_all runs
-  pub called : (last : FrontEntry) × (reader_calls entries ≡ calls ++ last ∷ [])
+  pub called : (last : FrontEntry) × (reader_calls entries ≡ calls ++ last ∷ []) × (last.call ≡ call.EndSession)
   pub handed : (c : ℕ) → reverse (client_wrote c deeds) ≡ messages_for c entries
   pub done_are : done ≡ map (λ (r : ChannelRun). r.wrote) runs
   pub numbered : HaveNumbers 0 runs
@@ -100,11 +102,12 @@ pub record IsToldSession (devices : List (ℕ × Declared)) (lines : List Number
   pub last : EachAfter ComesLast deeds
   -- a line that removes a device parts the requests of its channel: those that came to the device before it was cut off, and those that come after
   pub parted : ArePartedAt lines deeds
-  -- these are the deeds of the front's history by parts, from a new front over a client with these devices on; and what was still to be written on a channel is what stood in the core's outbox as it ended
+  -- these are the deeds of the front's history by parts, from a new front over a client with these devices on, each call of which is a step of the front; and what was still to be written on a channel is what stood in the core's outbox as it ended
   pub opening : Served
   pub final : Served
   pub parts : List (List FrontPart)
   pub goes : HistoryGoes opening entries parts final
+  pub steps : AreSteps opening entries parts final goes
   pub opens : BeginsWith (announced_of devices) opening
   pub done_so : deeds ≡ deeds_of_calls parts []
   pub left : (c : ℕ) → rest c ≡ rest_of opening entries parts final goes c
