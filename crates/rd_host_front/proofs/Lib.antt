@@ -1,0 +1,10 @@
+pub mod CoreLemmas
+pub mod ReplyLemmas
+pub mod FillLemmas
+pub mod ListedLemmas
+pub mod StepLemmas
+pub mod CountLemmas
+pub mod PassLemmas
+pub mod GoingLemmas
+pub mod AskedLemmas
+pub mod HandedLemmas

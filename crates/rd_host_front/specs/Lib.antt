@@ -1,0 +1,5 @@
+pub mod State
+pub mod HostFront
+pub mod Kept
+pub mod Asked
+pub mod Parts
