@@ -26,7 +26,7 @@ use Rattle.rd_world.specs.Events.{target_of}
 use Rattle.rd_world.specs.Hearing.{next_asked, with_outcome}
 use Rattle.rd_world.specs.Run.{asked_by}
 use Rattle.rd_world.specs.World.{ApplicationState, Asked}
-use Rattle.rd_issuer.specs.Issues.{AsksOn, Does, DoesAll, Goes, IsAsking, IsNext, Issue, Issues, TablePass, after_submit, after_take, at_table, calls_by, holds_nothing}
+use Rattle.rd_issuer.specs.Issues.{OnlyAsks, Does, DoesAll, Goes, IsAsking, ComesNext, Issue, Issues, TablePass, after_submit, after_take, at_table, calls_of_issues, holds_nothing}
 
 abbrev E : Type 0
 E = Entry PendingCall PendingReply
@@ -37,12 +37,12 @@ does_more : (a : ℕ) (x y z : ApplicationState) (xs ys : List Issue) → DoesAl
 does_more a x y z [] ys first second = subst (λ (s : ApplicationState). DoesAll a s ys z) first second
 does_more a x y z (i ∷ xs) ys first second = (first.0, first.1, does_more a first.0 y z xs ys first.2 second)
 
-calls_more : (pass : ℕ) (xs ys : List Issue) → calls_by pass (xs ++ ys) ≡ calls_by pass xs ++ calls_by pass ys
+calls_more : (pass : ℕ) (xs ys : List Issue) → calls_of_issues pass (xs ++ ys) ≡ calls_of_issues pass xs ++ calls_of_issues pass ys
 calls_more pass [] ys = refl
 calls_more pass (holds_nothing ∷ xs) ys = calls_more pass xs ys
 calls_more pass (at_table does back ∷ xs) ys = ap (λ (es : List E). entry pass does back ∷ es) (calls_more pass xs ys)
 
-asks_more : (first second third : List E) → AsksOn first second → AsksOn second third → AsksOn first third
+asks_more : (first second third : List E) → OnlyAsks first second → OnlyAsks second third → OnlyAsks first third
 asks_more first second third one other = record {
   more = one.more ++ other.more;
   goes_on = other.goes_on ∙ (ap (λ (es : List E). es ++ other.more) one.goes_on ∙ append_assoc first one.more other.more);
@@ -53,7 +53,7 @@ issues_more : (a pass : ℕ) (x y z : ApplicationState) (first second third : Li
 issues_more a pass x y z first second third one other = record {
   issues = one.issues ++ other.issues;
   does = does_more a x y z one.issues other.issues one.does other.does;
-  calls = other.calls ∙ (ap (λ (es : List E). es ++ calls_by pass other.issues) one.calls ∙ (append_assoc first (calls_by pass one.issues) (calls_by pass other.issues) ∙ ap (λ (es : List E). first ++ es) (sym (calls_more pass one.issues other.issues))));
+  calls = other.calls ∙ (ap (λ (es : List E). es ++ calls_of_issues pass other.issues) one.calls ∙ (append_assoc first (calls_of_issues pass one.issues) (calls_of_issues pass other.issues) ∙ ap (λ (es : List E). first ++ es) (sym (calls_more pass one.issues other.issues))));
 }
 
 -- ---- with a pass
@@ -74,7 +74,7 @@ goes_then a found x y z p q r one other =
     let number : q.number ≡ p.number = one.same.0 in
     record {
       same = (other.same.0 ∙ one.same.0, other.same.1 ∙ one.same.1, other.same.2 ∙ one.same.2, other.same.3 ∙ one.same.3);
-      asks = asks_more (calls_of p.number p.seen) (calls_of p.number q.seen) (calls_of p.number r.seen) one.asks (subst (λ (n : ℕ). AsksOn (calls_of n q.seen) (calls_of n r.seen)) number other.asks);
+      asks = asks_more (calls_of p.number p.seen) (calls_of p.number q.seen) (calls_of p.number r.seen) one.asks (subst (λ (n : ℕ). OnlyAsks (calls_of n q.seen) (calls_of n r.seen)) number other.asks);
       issued = λ was. issues_more a p.number x y z (calls_of p.number p.seen) (calls_of p.number q.seen) (calls_of p.number r.seen) (one.issued refl)
           (subst (λ (n : ℕ). Issues a n y z (calls_of n q.seen) (calls_of n r.seen)) number (other.issued was));
     }
@@ -115,12 +115,12 @@ asks_op l asked op o for is by_line = by (asked_by l) for (sym is ∙ by_line)
     by None first second = absurd (cc (first))
     by (Some x) first second = let one : x.1 ≡ asked = cc (first) in let other : op ≡ (x.1).op = cc (second) in other ∙ ap (λ (y : Asked). y.op) one
 
-pub goes_refused : (a : ℕ) (found : Bool) (x y : ApplicationState) (p : TablePass) (asked : Asked) → IsNext x asked → target_of x asked ≡ None → (found ≡ true → y ≡ with_outcome x (outcome.Refused refusal.NoHandle) None asked) → Goes a found x y p p
+pub goes_refused : (a : ℕ) (found : Bool) (x y : ApplicationState) (p : TablePass) (asked : Asked) → ComesNext x asked → target_of x asked ≡ None → (found ≡ true → y ≡ with_outcome x (outcome.Refused refusal.NoHandle) None asked) → Goes a found x y p p
 goes_refused a true x y p asked next none ended = goes_unheld a x y p (asked, next, none, ended refl)
 goes_refused a false x y p asked next none ended = goes_failed a x y p
 
 pub goes_submit : (a : ℕ) (found : Bool) (x y : ApplicationState) (p q : TablePass) (asked : Asked) (named : Target) (op : Op) (back : PendingReply) → IsSamePass p q
-    → calls_of p.number q.seen ≡ calls_of p.number p.seen ++ entry p.number (call.Submit a named op) back ∷ [] → IsNext x asked → target_of x asked ≡ Some named → op ≡ asked.op
+    → calls_of p.number q.seen ≡ calls_of p.number p.seen ++ entry p.number (call.Submit a named op) back ∷ [] → ComesNext x asked → target_of x asked ≡ Some named → op ≡ asked.op
     → (found ≡ true → (answer : Result ℕ SubmitNo) × (back ≡ reply.Submitted answer) × (y ≡ after_submit x asked answer)) → Goes a found x y p q
 goes_submit a found x y p q asked named op back same called next target is answered =
     goes_call a found x y p q (call.Submit a named op) back same called tt (λ was.

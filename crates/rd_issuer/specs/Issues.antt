@@ -28,8 +28,8 @@ pub data Issue : Type 0 where
   at_table : PendingCall → PendingReply → Issue
 
 -- the line that is issued next asks for this
-abbrev pub IsNext : ApplicationState → Asked → Type 0
-IsNext x asked = (may_issue x ≡ true) × (next_asked x ≡ Some asked)
+abbrev pub ComesNext : ApplicationState → Asked → Type 0
+ComesNext x asked = (may_issue x ≡ true) × (next_asked x ≡ Some asked)
 
 -- A request that is accepted is awaited; and a line whose request isn't is refused, for its cause.
 abbrev pub after_submit : ApplicationState → Asked → Result ℕ SubmitNo → ApplicationState
@@ -43,9 +43,9 @@ after_take x asked (Err cause) = x
 
 -- The application of a number does one thing: it asks for what its next line says, of the device or the file that this names, or looks for the outcome that it awaits.
 abbrev pub Does : ℕ → ApplicationState → Issue → ApplicationState → Type 0
-Does a old holds_nothing new = (asked : Asked) × IsNext old asked × (target_of old asked ≡ None) × (new ≡ with_outcome old (outcome.Refused refusal.NoHandle) None asked)
+Does a old holds_nothing new = (asked : Asked) × ComesNext old asked × (target_of old asked ≡ None) × (new ≡ with_outcome old (outcome.Refused refusal.NoHandle) None asked)
 Does a old (at_table (call.Submit application named op) (reply.Submitted answer)) new =
-    (asked : Asked) × IsNext old asked × (application ≡ a) × (target_of old asked ≡ Some named) × (op ≡ asked.op) × (new ≡ after_submit old asked answer)
+    (asked : Asked) × ComesNext old asked × (application ≡ a) × (target_of old asked ≡ Some named) × (op ≡ asked.op) × (new ≡ after_submit old asked answer)
 Does a old (at_table (call.Take number) (reply.Taken answer)) new = (asked : Asked) × (next_asked old ≡ Some asked) × (old.awaits ≡ Some number) × (new ≡ after_take old asked answer)
 Does a old _ new = ⊥
 
@@ -56,16 +56,16 @@ DoesAll a old [] new = new ≡ old
 DoesAll a old (i ∷ issues) new = (next : ApplicationState) × Does a old i next × DoesAll a next issues new
 
 -- the calls that the pass of this number makes by that
-abbrev pub calls_by : ℕ → List Issue → List (Entry PendingCall PendingReply)
-calls_by pass [] = []
-calls_by pass (holds_nothing ∷ issues) = calls_by pass issues
-calls_by pass (at_table does back ∷ issues) = entry pass does back ∷ calls_by pass issues
+abbrev pub calls_of_issues : ℕ → List Issue → List (Entry PendingCall PendingReply)
+calls_of_issues pass [] = []
+calls_of_issues pass (holds_nothing ∷ issues) = calls_of_issues pass issues
+calls_of_issues pass (at_table does back ∷ issues) = entry pass does back ∷ calls_of_issues pass issues
 
 -- An application goes on by what it does, and the own calls of its pass by the calls of that.
 pub record Issues (a pass : ℕ) (old new : ApplicationState) (before after : List (Entry PendingCall PendingReply)) : Type 0 where
   pub issues : List Issue
   pub does : DoesAll a old issues new
-  pub calls : after ≡ before ++ calls_by pass issues
+  pub calls : after ≡ before ++ calls_of_issues pass issues
 
 -- a call by which an application asks for something, or looks for an outcome
 abbrev pub IsAsking : Entry PendingCall PendingReply → Type 0
@@ -77,7 +77,7 @@ IsAsking e = by e.call
     by _ = ⊥
 
 -- The own calls of a pass go on by such calls alone.
-pub record AsksOn (before after : List (Entry PendingCall PendingReply)) : Type 0 where
+pub record OnlyAsks (before after : List (Entry PendingCall PendingReply)) : Type 0 where
   pub more : List (Entry PendingCall PendingReply)
   pub goes_on : after ≡ before ++ more
   pub asking : AllByRecursion IsAsking more
@@ -89,7 +89,7 @@ TablePass = PassState TableState PendingCall PendingReply
 -- An application goes on with its pass: by calls that ask and take alone; and where memory was found it does what these say.
 pub record Goes (a : ℕ) (found : Bool) (old new : ApplicationState) (before after : TablePass) : Type 0 where
   pub same : IsSamePass before after
-  pub asks : AsksOn (calls_of before.number before.seen) (calls_of before.number after.seen)
+  pub asks : OnlyAsks (calls_of before.number before.seen) (calls_of before.number after.seen)
   pub issued : found ≡ true → Issues a before.number old new (calls_of before.number before.seen) (calls_of before.number after.seen)
 
 -- ---- where it stops
