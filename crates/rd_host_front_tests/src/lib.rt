@@ -1,0 +1,8 @@
+//! The tests of `rd_host_front`, by its public calls. They stand beside it, since a crate with tests of its own is proved twice.
+#![tactic(auto)]
+
+mod one_table;
+#[cfg(test)]
+mod tests;
+
+pub use one_table::{on_one_table, over_turn};
