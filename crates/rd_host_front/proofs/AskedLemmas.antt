@@ -147,6 +147,6 @@ module _ {W : Type 0} where
   pub hear_asks : (old : HostFrontState) (channel : ℕ) (message : List ℕ) (back : HostFrontReply W) (new : HostFrontState) → is_channel_on old channel ≡ true → has_many_unsent old ≡ false
       → HostFrontStep old (call.Hear channel message) back new → AsksTable old message back new
   hear_asks old channel message back new on few step =
-      let heard = subst (λ (b : Bool). MatchBool b (MatchBool (has_many_unsent old) (Declines reply.Full back old new) (HearsMessage old message back new)) (Declines reply.Over back old new)) on step in
-      let did = subst (λ (b : Bool). MatchBool b (Declines reply.Full back old new) (HearsMessage old message back new)) few heard in
+      let heard = subst (λ (b : Bool). MatchBool b (MatchBool (has_many_unsent old) (Declines (reply.Full message) back old new) (HearsMessage old message back new)) (Declines reply.Over back old new)) on step in
+      let did = subst (λ (b : Bool). MatchBool b (Declines (reply.Full message) back old new) (HearsMessage old message back new)) few heard in
       message_asks old message back new did

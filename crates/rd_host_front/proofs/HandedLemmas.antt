@@ -85,7 +85,7 @@ module _ {W : Type 0} where
   hands_out old room (reply.Stray device id) new did = absurd did
   hands_out old room (reply.BodyBad bad) new did = absurd did
   hands_out old room reply.Memory new did = absurd did
-  hands_out old room reply.Full new did = absurd did
+  hands_out old room (reply.Full message) new did = absurd did
   hands_out old room reply.Over new did = absurd did
 
   pub next_hands : (old : HostFrontState) (channel : ℕ) (room : MessageRoom) (back : HostFrontReply W) (new : HostFrontState) → is_channel_on old channel ≡ true

@@ -128,7 +128,7 @@ module _ (R : HostFrontState → HostFrontState → Type 0) (by : Carries R) whe
     hands old room (reply.Stray device id) new did = absurd did
     hands old room (reply.BodyBad bad) new did = absurd did
     hands old room reply.Memory new did = absurd did
-    hands old room reply.Full new did = absurd did
+    hands old room (reply.Full message) new did = absurd did
     hands old room reply.Over new did = absurd did
 
     drops_by : (dropped : Bool) (first : PassOfTable) (old : HostFrontState) (back : HostFrontReply W) (new : HostFrontState) → ((old.core).core).outbox ≡ [] → DropsBy dropped first old back new → R old new

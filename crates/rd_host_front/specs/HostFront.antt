@@ -317,7 +317,7 @@ module _ {W : Type 0} where
   HostFrontStep old (call.Begin channel first) back new =
       MatchBool (may_begin_on old channel first) (BeginsChannel old channel first back new) (HandsBack first came.Refused back old new)
   HostFrontStep old (call.Hear channel message) back new =
-      MatchBool (is_channel_on old channel) (MatchBool (has_many_unsent old) (Declines reply.Full back old new) (HearsMessage old message back new))
+      MatchBool (is_channel_on old channel) (MatchBool (has_many_unsent old) (Declines (reply.Full message) back old new) (HearsMessage old message back new))
       (Declines reply.Over back old new)
   HostFrontStep old (call.Next channel room) back new =
       MatchBool (is_channel_on old channel) (HandsOver old room back new) (Declines (none_over room) back old new)

@@ -47,8 +47,8 @@ pub enum HostFrontReply<W: TableTurn> {
     BodyBad(Bad),
     /// No memory was found for all that was to be done.
     Memory,
-    /// 1,024 messages may stand in the core's outbox, so nothing was done.
-    Full,
+    /// 1,024 messages may stand in the core's outbox, so nothing was done. The message comes back.
+    Full(Bytes),
     /// The channel of this number has ended, or another began last, so nothing was done.
     Over,
     /// Messages to be written, in order.

@@ -36,7 +36,7 @@ impl<'a, W: TableTurn, T: Wait> HostFront<'a, W, T> {
             return HostFrontReply::Over;
         }
         if self.is_full() {
-            return HostFrontReply::Full;
+            return HostFrontReply::Full(message);
         }
         self.hear_message(message)
     }

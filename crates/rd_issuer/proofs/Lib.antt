@@ -1,1 +1,2 @@
 pub mod IssueLemmas
+pub mod StintLemmas

@@ -1,1 +1,3 @@
 pub mod Issues
+pub mod Stints
+pub mod SideBySide

@@ -10,8 +10,8 @@ ghost use Rattle.rd_world.specs.Events.{may_issue};
 ghost use Rattle.rd_issuer.specs.Issues.{Goes, Rests};
 
 use crate::answers::{given_handle, is_patient, refusal_of, reported_outcome};
-use crate::sleepers::Sleepers;
 use rd_script::{Outcome, Refusal};
+use rd_sleepers::Sleepers;
 use rd_table::{PendingCall, PendingReply, Table};
 use rd_turn::Caller;
 use rd_world::{Application, op_of};

@@ -68,14 +68,15 @@ impl Place {
     }
 }
 
-/// The places where the threads of a host sleep: the applications until the outcome of a number may be there, where numbers that are 64 apart have the same place, and the one that sends
-/// until a request was submitted.
+/// The places where the threads of a host sleep: the applications until the outcome of a number may be there, where numbers that are 64 apart have the same place; the one that sends
+/// until a request was submitted; and those that wait for how the channel stands, until devices came or went, messages were sent, or the channel ended.
 ///
 /// Nothing is promised of who is woken, or when: whoever is looks again. Who first reads how often it was rung, then looks, and then waits, misses nothing.
 #[derive(Drop)]
 pub struct Sleepers {
     outcomes: Vec<Place>,
     requests: Place,
+    changes: Place,
 }
 
 impl Sleepers {
@@ -88,6 +89,7 @@ impl Sleepers {
         Ok(Sleepers {
             outcomes,
             requests: Place::new(),
+            changes: Place::new(),
         })
     }
 
@@ -133,6 +135,21 @@ impl Sleepers {
     /// Something is to be sent: whoever sends is woken.
     pub fn ring_request<T: Wait>(&self, rt: &T) {
         self.requests.ring(rt);
+    }
+
+    /// How often it was rung so far for a change of the channel.
+    pub fn changes<T: Wait>(&self, rt: &T) -> u64 {
+        self.changes.rung(rt)
+    }
+
+    /// Sleeps until it was rung more often for a change of the channel.
+    pub fn wait_for_change<T: Wait>(&self, rt: &T, times: u64) {
+        self.changes.wait(rt, times);
+    }
+
+    /// The channel stands otherwise than before: all that wait for that are woken.
+    pub fn ring_change<T: Wait>(&self, rt: &T) {
+        self.changes.ring(rt);
     }
 
     fn place_of(&self, number: u64) -> Option<&Place> {

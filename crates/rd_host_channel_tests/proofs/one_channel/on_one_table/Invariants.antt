@@ -1,0 +1,5 @@
+use Rattle.rd_host_channel_tests.proofs.one_channel.on_one_table.Given as goal
+
+-- the turn that was just made
+abbrev pub ghosts-over_turn : goal.ghosts-over_turn
+ghosts-over_turn g a = record { turn = a.turn.now }

@@ -1,0 +1,10 @@
+//! The tests of `rd_host_channel`, by its public calls. They stand beside it, since a crate with tests of its own is proved twice.
+#![tactic(auto)]
+
+mod handing;
+mod one_channel;
+#[cfg(test)]
+mod tests;
+
+pub use handing::{Handing, written};
+pub use one_channel::{on_one_table, over_turn};
