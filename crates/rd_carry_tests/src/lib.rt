@@ -2,10 +2,14 @@
 //! proved twice.
 #![tactic(auto)]
 
+#[cfg(test)]
 mod echo;
+#[cfg(test)]
 mod moved;
 #[cfg(test)]
 mod tests;
 
+#[cfg(test)]
 pub use echo::echo_all;
+#[cfg(test)]
 pub use moved::flush_in_thread;

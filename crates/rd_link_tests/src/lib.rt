@@ -2,8 +2,10 @@
 //! proved twice.
 #![tactic(auto)]
 
+#[cfg(test)]
 mod echo;
 #[cfg(test)]
 mod tests;
 
+#[cfg(test)]
 pub use echo::{echo_once, pass_on};

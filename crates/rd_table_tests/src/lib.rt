@@ -1,8 +1,10 @@
 //! The tests of `rd_table`, by its public calls. They stand beside it, since a crate with tests of its own is proved twice.
 #![tactic(auto)]
 
+#[cfg(test)]
 mod side_by_side;
 #[cfg(test)]
 mod tests;
 
+#[cfg(test)]
 pub use side_by_side::{ask_side_by_side, ask_two};
