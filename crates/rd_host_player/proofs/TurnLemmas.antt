@@ -48,7 +48,7 @@ module _ {F W : Type 0} where
   stops_turn : (turn : TurnOfTable) (why : Stop) (old new : PlayState F W) → Stops turn why old new → new.at ≡ old.at
   stops_turn turn stop.Connect old new (here, next, stage, issued, comes, looks, shut) =
       ap (λ (s : PlayState F W). s.at) looks.1 ∙ control_turn control.Connect here next comes ∙ issued_turn old here issued
-  stops_turn turn stop.End old new (here, next, issued, none, ended, rest) = issued_turn next new rest ∙ ended_turn here next ended ∙ issued_turn old here issued
+  stops_turn turn stop.End old new (here, next, issued, none, ended, rest, all) = issued_turn next new rest ∙ ended_turn here next ended ∙ issued_turn old here issued
 
   -- So it stays while a script is played on a channel,
   pub plays_turn : (turn : TurnOfTable) (devices : ℕ) (why : Stop) (old new : PlayState F W) → Plays turn devices why old new → new.at ≡ old.at
@@ -61,4 +61,4 @@ module _ {F W : Type 0} where
 
   -- and while what is left of it is issued.
   pub plays_out_turn : (old new : PlayState F W) → PlaysOut old new → new.at ≡ old.at
-  plays_out_turn old new (times, here, passed, issued, none) = issued_turn here new issued ∙ passed_turn times old here passed
+  plays_out_turn old new (times, here, passed, issued, none, all) = issued_turn here new issued ∙ passed_turn times old here passed

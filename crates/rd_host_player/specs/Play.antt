@@ -1,6 +1,6 @@
 -- What the calling thread of a host does: it comes to the lines of the script, has the applications issue theirs, and looks at channels and ends them. No public standard has one: these are
 -- this project's own rules.
-use Rattle.std.specs.Prelude.{◌≡◌, ◌⊎◌, ◌≤◌, ◌+◌, ◌==◌, ℕ, zero, suc, Bool, true, false, List, [], ◌∷◌, length, slice_get, slice_set, Option, Some, None}
+use Rattle.std.specs.Prelude.{◌≡◌, ◌⊎◌, ◌≤◌, ◌+◌, ◌==◌, ℕ, zero, suc, Bool, true, false, List, [], ◌∷◌, length, slice_get, slice_set, All, Option, Some, None}
 use Rattle.rd_host_channel.specs.Calls.{HostPass}
 use Rattle.rd_host_front.specs.declared.calls.Came.{Came}
 use Rattle.rd_host_front.specs.declared.calls.Came.TheVariants as came
@@ -10,6 +10,7 @@ use Rattle.rd_host_front.specs.declared.calls.HostFrontReply.{HostFrontReply}
 use Rattle.rd_host_front.specs.declared.calls.HostFrontReply.TheVariants as reply
 use Rattle.rd_host_front.specs.Kept.{IsHandedBack}
 use Rattle.rd_host_front.specs.State.{PassCalls, PassOfTable, TurnOfTable}
+use Rattle.rd_issuer.specs.Issues.{HasAllOutcomes}
 use Rattle.rd_issuer.specs.SideBySide.{RanSideBySide}
 use Rattle.rd_issuer.specs.declared.issuer.Issuer.{Issuer}
 use Rattle.rd_pending.specs.declared.calls.Stage.{Stage}
@@ -56,6 +57,10 @@ HasCome line old new = by (asked_by line)
     by : Option (ℕ × Asked) → Type 0
     by None = new ≡ old
     by (Some asked) = QueuedAt asked.0 old new
+
+-- Of each application all lines that the script came to have their outcomes.
+abbrev pub HaveAllOutcomes : List Issuer → Type 0
+HaveAllOutcomes issuers = All (λ (i : Issuer). HasAllOutcomes i.application) issuers
 
 -- ---- what the calling thread keeps
 
@@ -159,11 +164,11 @@ module _ {F W : Type 0} where
   Acted turn zero old new = new ≡ old
   Acted turn (suc n) old new = (here : PlayState F W) × Acted turn n old here × Acts turn here new
 
-  -- Lines are issued, and then a channel is to begin where none is open; or the script is at its end, with which the channel ends, and what is left then is issued.
+  -- Lines are issued, and then a channel is to begin where none is open; or the script is at its end, with which the channel ends, and what is left then is issued: each line has its outcome.
   abbrev pub Stops : TurnOfTable → Stop → PlayState F W → PlayState F W → Type 0
   Stops turn stop.Connect old new =
       (here : PlayState F W) × (next : PlayState F W) × (stage : Stage) × Issued old here × ComesToControl control.Connect here next × Looks turn stage next new × (stage.channel ≡ false)
-  Stops turn stop.End old new = (here : PlayState F W) × (next : PlayState F W) × Issued old here × (here.lines ≡ []) × Ended here next × Issued next new
+  Stops turn stop.End old new = (here : PlayState F W) × (next : PlayState F W) × Issued old here × (here.lines ≡ []) × Ended here next × Issued next new × HaveAllOutcomes new.issuers
 
   -- What it does on a channel that began.
   abbrev pub Plays : TurnOfTable → ℕ → Stop → PlayState F W → PlayState F W → Type 0
@@ -176,6 +181,6 @@ module _ {F W : Type 0} where
   Passed (suc n) old new =
       (here : PlayState F W) × (next : PlayState F W) × (c : Control) × Passed n old here × Issued here next × ComesToControl c next new
 
-  -- It issues all lines that are left.
+  -- It issues all lines that are left: each has its outcome.
   abbrev pub PlaysOut : PlayState F W → PlayState F W → Type 0
-  PlaysOut old new = (times : ℕ) × (here : PlayState F W) × Passed times old here × Issued here new × (new.lines ≡ [])
+  PlaysOut old new = (times : ℕ) × (here : PlayState F W) × Passed times old here × Issued here new × (new.lines ≡ []) × HaveAllOutcomes new.issuers

@@ -1,6 +1,6 @@
 //! The calling thread of a host: it comes to the lines of the script, has the applications issue theirs, and acts the control lines.
 
-ghost use Rattle.std.specs.Prelude.{◌≡◌, ◌≢◌, ◌<◌, ◌≤◌, ◌+◌, ◌∷◌, ℕ, suc, [], false, true, Some, length, slice_get, IfNone, IfSome, IfOk, IsTrue, OnOk};
+ghost use Rattle.std.specs.Prelude.{◌≡◌, ◌≢◌, ◌<◌, ◌≤◌, ◌+◌, ◌∷◌, ◌↔◌, ℕ, suc, [], false, true, Some, length, slice_get, IfNone, IfSome, IfOk, IsTrue, OnOk};
 ghost use Rattle.rd_issuer.specs.declared.issuer.Issuer.{Issuer};
 ghost use Rattle.rd_host_front.specs.declared.calls.HostFrontCall.TheVariants as Call;
 ghost use Rattle.rd_host_front.specs.declared.calls.HostFrontReply.TheVariants as Reply;
@@ -8,12 +8,13 @@ ghost use Rattle.rd_host_front.specs.Kept.{IsHandedBack};
 ghost use Rattle.rd_host_front.specs.State.{IsFirstOf, PassCalls};
 ghost use Rattle.rd_host_player.specs.declared.player.Stop.TheVariants as Stops_at;
 ghost use Rattle.rd_pending.specs.declared.calls.Stage.{Stage};
+ghost use Rattle.rd_issuer.specs.Issues.{HasAllOutcomes};
 ghost use Rattle.rd_issuer.specs.SideBySide.{RanSideBySide};
 ghost use Rattle.rd_table.specs.declared.calls.PendingCall.TheVariants as Ask;
 ghost use Rattle.rd_table.specs.declared.calls.PendingReply.TheVariants as Answer;
 ghost use Rattle.rd_turn.specs.History.{calls_of};
 ghost use Rattle.rd_turn.specs.Pass.{GoesOn, after_split, max_made, new_pass};
-ghost use Rattle.rd_host_player.specs.Play.{Acts, AtControl, Begins, CallsFront, CameTo, ComesTo, ComesToControl, Ended, IsReady, Issued, JoinsFront, Looks, Plays, PlaysOut, Ran, Runs, Stops, TriesToEnd, Waited, HasCome, QueuedAt, queued};
+ghost use Rattle.rd_host_player.specs.Play.{Acts, AtControl, Begins, CallsFront, CameTo, ComesTo, ComesToControl, Ended, IsReady, Issued, JoinsFront, Looks, Plays, PlaysOut, Ran, Runs, Stops, TriesToEnd, Waited, HasCome, HaveAllOutcomes, QueuedAt, queued};
 
 use crate::handing::HandsBack;
 use crate::plan::{Control, acted_by};
@@ -36,7 +37,7 @@ use std::thread::Threads;
 pub enum Stop {
     /// A line begins a channel, and none is open.
     Connect,
-    /// The script is at its end, and so is the channel.
+    /// The script is at its end, and so is the channel. Each line has its outcome.
     End,
 }
 
@@ -264,6 +265,7 @@ impl<'f, 's, W: TableTurn + 'f, F: HandsBack<W> + 'f, T: Threads + Wait + Sync> 
             None => {
                 self.end_channel()?;
                 self.issue()?;
+                self.check_outcomes()?;
                 Ok(Some(Stop::End))
             }
         }
@@ -282,17 +284,27 @@ impl<'f, 's, W: TableTurn + 'f, F: HandsBack<W> + 'f, T: Threads + Wait + Sync> 
         }
     }
 
-    /// Issues all lines that are left, where no channel is to begin any more.
+    /// Issues all lines that are left, where no channel is open and none is to begin any more. Each has its outcome then.
     pub fn play_out(&mut self) -> Result<(), AllocError>
         ensures { OnOk result (PlaysOut self.old self.new) }
     {
         for _ in self.rt.forever() {
             self.issue()?;
             if self.next_control()?.is_none() {
-                return Ok(());
+                return self.check_outcomes();
             }
         }
         unreachable!()
+    }
+
+    /// All lines that the script came to have their outcomes, as they do once no channel is open.
+    fn check_outcomes(&self) -> Result<(), AllocError>
+        ensures { OnOk result (HaveAllOutcomes self.now.issuers) }
+    {
+        if have_all_outcomes(self.issuers.as_slice()) {
+            return Ok(());
+        }
+        Err(AllocError)
     }
 
     /// Looks how far the channel got.
@@ -491,6 +503,20 @@ fn queue(issuer: &mut Issuer<'_>) -> Result<(), AllocError>
     }
     issuer.application.queue();
     Ok(())
+}
+
+/// Whether all lines of applications that the script came to have their outcomes.
+fn have_all_outcomes(issuers: &[Issuer<'_>]) -> bool
+    ensures { IsTrue result ↔ HaveAllOutcomes issuers.now }
+{
+    issuers.iter().all(has_all_outcomes)
+}
+
+/// Whether all lines of an application that the script came to have their outcomes.
+fn has_all_outcomes(issuer: &Issuer<'_>) -> bool
+    ensures { IsTrue result ↔ HasAllOutcomes issuer.now.application }
+{
+    !issuer.application.may_issue() && issuer.application.awaits().is_none()
 }
 
 /// The numbers of the requests whose outcomes are awaited.

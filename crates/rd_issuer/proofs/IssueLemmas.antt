@@ -1,11 +1,13 @@
--- An application goes on with its pass, one thing after the other.
-use Rattle.std.proofs.Common.{◌≡◌, ◌∙◌, refl, sym, ap, subst, ℕ, Bool, true, false, List, [], ◌∷◌, ◌++◌, Option, Some, None, Result, Ok, Err, append-nil, append_assoc}
-use Rattle.std.specs.Prelude.{OnOk, is_ok}
+-- An application goes on with its pass, one thing after the other, until it rests.
+use Rattle.std.proofs.Common.{◌≡◌, ◌≢◌, ◌∙◌, ◌&&◌, refl, sym, ap, subst, inr, ℕ, Bool, true, false, List, [], ◌∷◌, ◌++◌, Option, Some, None, Result, Ok, Err, append-nil, append_assoc}
+use Rattle.std.specs.Prelude.{OnOk, is_none, is_ok, length, nat_lt}
 use Rattle.std.specs.Option.{option_map, option_map_or}
 use Rattle.rd_drive.proofs.AllLemmas.{all_append}
 use Rattle.rd_irp.specs.declared.op.Op.{Op}
 use Rattle.rd_pending.specs.declared.calls.SubmitNo.{SubmitNo}
+use Rattle.rd_pending.specs.declared.calls.SubmitNo.TheVariants as submit_no
 use Rattle.rd_pending.specs.declared.calls.TakeNo.{TakeNo}
+use Rattle.rd_pending.specs.declared.calls.TakeNo.TheVariants as take_no
 use Rattle.rd_pending.specs.declared.calls.Taken.{Taken}
 use Rattle.rd_pending.specs.declared.calls.Target.{Target}
 use Rattle.rd_pending.specs.Table.{TableState}
@@ -22,11 +24,11 @@ use Rattle.rd_turn.specs.History.{IsLegal, Leads, calls_of, entry}
 use Rattle.rd_turn.specs.Pass.{Called, IsSamePass}
 use Rattle.rd_turn.proofs.HistoryLemmas.{Leads-parted}
 use Rattle.rd_world.specs.Applications.{AsksFor}
-use Rattle.rd_world.specs.Events.{target_of}
+use Rattle.rd_world.specs.Events.{may_issue, target_of}
 use Rattle.rd_world.specs.Hearing.{next_asked, with_outcome}
 use Rattle.rd_world.specs.Run.{asked_by}
 use Rattle.rd_world.specs.World.{ApplicationState, Asked}
-use Rattle.rd_issuer.specs.Issues.{OnlyAsks, Does, DoesAll, Goes, IsAsking, ComesNext, Issue, Issues, TablePass, after_submit, after_take, at_table, calls_of_issues, holds_nothing}
+use Rattle.rd_issuer.specs.Issues.{OnlyAsks, Does, DoesAll, Goes, IsAsking, ComesNext, Issue, Issues, Rests, TablePass, after_submit, after_take, at_table, calls_of_issues, holds_nothing, is_patient}
 
 abbrev E : Type 0
 E = Entry PendingCall PendingReply
@@ -121,17 +123,45 @@ goes_refused a false x y p asked next none ended = goes_failed a x y p
 
 pub goes_submit : (a : ℕ) (found : Bool) (x y : ApplicationState) (p q : TablePass) (asked : Asked) (named : Target) (op : Op) (back : PendingReply) → IsSamePass p q
     → calls_of p.number q.seen ≡ calls_of p.number p.seen ++ entry p.number (call.Submit a named op) back ∷ [] → ComesNext x asked → target_of x asked ≡ Some named → op ≡ asked.op
-    → (found ≡ true → (answer : Result ℕ SubmitNo) × (back ≡ reply.Submitted answer) × (y ≡ after_submit x asked answer)) → Goes a found x y p q
+    → (found ≡ true → (answer : Result ℕ SubmitNo) × (back ≡ reply.Submitted answer) × (answer ≢ Err submit_no.Memory) × (y ≡ after_submit x asked answer)) → Goes a found x y p q
 goes_submit a found x y p q asked named op back same called next target is answered =
     goes_call a found x y p q (call.Submit a named op) back same called tt (λ was.
-    let (answer, as_answered, new) = answered was in subst (λ (b : PendingReply). Does a x (at_table (call.Submit a named op) b) y) (sym as_answered) (asked, next, refl, target, is, new))
+    let (answer, as_answered, memory, new) = answered was in
+    subst (λ (b : PendingReply). Does a x (at_table (call.Submit a named op) b) y) (sym as_answered) (asked, next, refl, target, is, memory, new))
 
 pub goes_take : (a : ℕ) (found : Bool) (x y : ApplicationState) (p q : TablePass) (asked : Asked) (number : ℕ) (back : PendingReply) (answer : Result Taken TakeNo) → IsSamePass p q
     → calls_of p.number q.seen ≡ calls_of p.number p.seen ++ entry p.number (call.Take number) back ∷ [] → back ≡ reply.Taken answer → next_asked x ≡ Some asked → x.awaits ≡ Some number
-    → (found ≡ true → y ≡ after_take x asked answer) → Goes a found x y p q
-goes_take a found x y p q asked number back answer same called as_answered next awaits new =
+    → (found ≡ true → (answer ≢ Err take_no.Unknown) × (y ≡ after_take x asked answer)) → Goes a found x y p q
+goes_take a found x y p q asked number back answer same called as_answered next awaits done =
     goes_call a found x y p q (call.Take number) back same called tt (λ was.
-    subst (λ (b : PendingReply). Does a x (at_table (call.Take number) b) y) (sym as_answered) (asked, next, awaits, new was))
+    let (known, new) = done was in subst (λ (b : PendingReply). Does a x (at_table (call.Take number) b) y) (sym as_answered) (asked, next, awaits, known, new))
+
+-- ---- where it stops
+
+-- Who awaits an outcome issues no line.
+issues_none : (x : ApplicationState) (number : ℕ) → x.awaits ≡ Some number → may_issue x ≡ false
+issues_none x number awaits = ap (λ (o : Option ℕ). nat_lt (length x.outcomes) x.queued && is_none o) awaits ∙ by (nat_lt (length x.outcomes) x.queued)
+  where
+    by : (b : Bool) → (b && false) ≡ false
+    by true = refl
+    by false = refl
+
+-- It rests where its line is patient and its last look was in vain.
+pub rests_waiting : (x : ApplicationState) (asked : Asked) (number : ℕ) (p q : TablePass) (back : PendingReply) → next_asked x ≡ Some asked → is_patient asked.op ≡ true → x.awaits ≡ Some number → IsSamePass p q
+    → calls_of p.number q.seen ≡ calls_of p.number p.seen ++ entry p.number (call.Take number) back ∷ [] → back ≡ reply.Taken (Err take_no.NotYet) → Rests x (calls_of q.number q.seen)
+rests_waiting x asked number p q back next patient awaits same called answered = (
+  issues_none x number awaits,
+  inr (record {
+    asked = asked;
+    next = next;
+    patient = patient;
+    number = number;
+    awaits = awaits;
+    pass = p.number;
+    before = calls_of p.number p.seen;
+    looked = ap (λ (n : ℕ). calls_of n q.seen) same.0 ∙ (called ∙ ap (λ (b : PendingReply). calls_of p.number p.seen ++ entry p.number (call.Take number) b ∷ []) answered);
+  }),
+)
 
 -- ---- a reply
 

@@ -157,7 +157,8 @@ ran_with turn before after place old new s t of fresh issued found came is =
       number = ap (λ (i : Issuer). i.number) is ∙ (issued.number ∙ of.number);
       issued = issues_same s.number old.number s.pass.number n s.application old.application t.application new.application (calls_of s.pass.number s.pass.seen) [] (calls_of s.pass.number t.pass.seen) (calls_of n after.seen)
           of.number of.pass of.application (sym (ap (λ (i : Issuer). i.application) is)) fresh (ap (λ (k : ℕ). calls_of k t.pass.seen) of.pass ∙ sym all) (issued.goes.issued found);
-      rests = subst Rests (sym (ap (λ (i : Issuer). i.application) is)) (issued.rests found);
+      rests = subst (λ (l : List E). Rests new.application l) (sym all) (subst (λ (k : ℕ). Rests new.application (calls_of k t.pass.seen)) number
+          (subst (λ (x : ApplicationState). Rests x (calls_of t.pass.number t.pass.seen)) (sym (ap (λ (i : Issuer). i.application) is)) (issued.rests found)));
       fresh = none;
       joined = subst (λ (l : List E). Contains after.joined (n, length l)) (sym all) (subst (λ (k : ℕ). Contains after.joined (k, length (calls_of k t.pass.seen))) number came.joined);
     }

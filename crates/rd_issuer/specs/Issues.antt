@@ -1,10 +1,12 @@
 -- What an application of a host does on its thread: it issues its lines one after the other, and takes what comes of each. No public standard has one: these are this project's own rules.
-use Rattle.std.specs.Prelude.{◌≡◌, ◌⊎◌, ℕ, Bool, true, false, List, [], ◌∷◌, ◌++◌, None, Some, Result, Ok, Err}
+use Rattle.std.specs.Prelude.{◌≡◌, ◌≢◌, ◌⊎◌, ℕ, Bool, true, false, List, [], ◌∷◌, ◌++◌, None, Some, Result, Ok, Err}
 use Rattle.std.specs.List.{AllByRecursion}
 use Rattle.rd_irp.specs.declared.op.Op.{Op}
 use Rattle.rd_irp.specs.declared.op.Op.TheVariants.{Lock, Notify}
 use Rattle.rd_pending.specs.declared.calls.SubmitNo.{SubmitNo}
+use Rattle.rd_pending.specs.declared.calls.SubmitNo.TheVariants as submit_no
 use Rattle.rd_pending.specs.declared.calls.TakeNo.{TakeNo}
+use Rattle.rd_pending.specs.declared.calls.TakeNo.TheVariants as take_no
 use Rattle.rd_pending.specs.declared.calls.Taken.{Taken}
 use Rattle.rd_pending.specs.Table.{TableState}
 use Rattle.rd_script.specs.declared.outcome.Outcome.TheVariants as outcome
@@ -41,12 +43,14 @@ abbrev pub after_take : ApplicationState → Asked → Result Taken TakeNo → A
 after_take x asked (Ok taken) = with_outcome x (reported_outcome taken.outcome) (given_handle taken) asked
 after_take x asked (Err cause) = x
 
--- The application of a number does one thing: it asks for what its next line says, of the device or the file that this names, or looks for the outcome that it awaits.
+-- The application of a number does one thing: it asks for what its next line says, of the device or the file that this names, or looks for the outcome that it awaits. Want of memory
+-- is no answer to the one, and that the number isn't known is none to the other.
 abbrev pub Does : ℕ → ApplicationState → Issue → ApplicationState → Type 0
 Does a old holds_nothing new = (asked : Asked) × ComesNext old asked × (target_of old asked ≡ None) × (new ≡ with_outcome old (outcome.Refused refusal.NoHandle) None asked)
 Does a old (at_table (call.Submit application named op) (reply.Submitted answer)) new =
-    (asked : Asked) × ComesNext old asked × (application ≡ a) × (target_of old asked ≡ Some named) × (op ≡ asked.op) × (new ≡ after_submit old asked answer)
-Does a old (at_table (call.Take number) (reply.Taken answer)) new = (asked : Asked) × (next_asked old ≡ Some asked) × (old.awaits ≡ Some number) × (new ≡ after_take old asked answer)
+    (asked : Asked) × ComesNext old asked × (application ≡ a) × (target_of old asked ≡ Some named) × (op ≡ asked.op) × (answer ≢ Err submit_no.Memory) × (new ≡ after_submit old asked answer)
+Does a old (at_table (call.Take number) (reply.Taken answer)) new =
+    (asked : Asked) × (next_asked old ≡ Some asked) × (old.awaits ≡ Some number) × (answer ≢ Err take_no.Unknown) × (new ≡ after_take old asked answer)
 Does a old _ new = ⊥
 
 -- ---- one after the other
@@ -100,6 +104,21 @@ is_patient (Lock operation wait ranges) = wait
 is_patient (Notify tree filter) = true
 is_patient _ = false
 
--- Each line that the script came to has its outcome; or the next one without is patient, and its request was accepted.
-abbrev pub Rests : ApplicationState → Type 0
-Rests x = (may_issue x ≡ false) × ((x.awaits ≡ None) ⊎ ((asked : Asked) × (next_asked x ≡ Some asked) × (is_patient asked.op ≡ true)))
+-- Each line that the script came to has its outcome.
+abbrev pub HasAllOutcomes : ApplicationState → Type 0
+HasAllOutcomes x = (may_issue x ≡ false) × (x.awaits ≡ None)
+
+-- The next line without an outcome is patient, and its request was accepted. The last of these calls looked for its outcome, which wasn't there yet.
+pub record WaitsAt (x : ApplicationState) (calls : List (Entry PendingCall PendingReply)) : Type 0 where
+  pub asked : Asked
+  pub next : next_asked x ≡ Some asked
+  pub patient : is_patient asked.op ≡ true
+  pub number : ℕ
+  pub awaits : x.awaits ≡ Some number
+  pub pass : ℕ
+  pub before : List (Entry PendingCall PendingReply)
+  pub looked : calls ≡ before ++ entry pass (call.Take number) (reply.Taken (Err take_no.NotYet)) ∷ []
+
+-- Of an application whose pass made these calls: each line that the script came to has its outcome, or the next one without is waited for.
+abbrev pub Rests : ApplicationState → List (Entry PendingCall PendingReply) → Type 0
+Rests x calls = (may_issue x ≡ false) × ((x.awaits ≡ None) ⊎ WaitsAt x calls)

@@ -4,11 +4,11 @@ use Rattle.rd_turn.specs.History.{calls_of}
 use Rattle.rd_issuer.specs.declared.issuer.Issuer.{Issuer}
 use Rattle.rd_issuer.specs.Issues.{Issues, Rests, TablePass}
 
--- An application went on by what it did, and rests. The calls of the pass of this number are the calls of that; pass 0 had seen none of them before, and that pass was joined to it.
+-- An application went on by what it did, and rests by that. The calls of the pass of this number are the calls of that; pass 0 had seen none of them before, and that pass was joined to it.
 pub record RanWith (before after : TablePass) (pass : ℕ) (old new : Issuer) : Type 0 where
   pub number : new.number ≡ old.number
   pub issued : Issues old.number pass old.application new.application [] (calls_of pass after.seen)
-  pub rests : Rests new.application
+  pub rests : Rests new.application (calls_of pass after.seen)
   pub fresh : calls_of pass before.seen ≡ []
   pub joined : Contains after.joined (pass, length (calls_of pass after.seen))
 

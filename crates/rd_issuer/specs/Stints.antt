@@ -42,7 +42,7 @@ pub record HasIssued (old new : StintState) : Type 0 where
   pub number : new.number ≡ old.number
   pub turn : new.turn ≡ old.turn
   pub goes : Goes old.number new.found old.application new.application old.pass new.pass
-  pub rests : new.found ≡ true → Rests new.application
+  pub rests : new.found ≡ true → Rests new.application (calls_of new.pass.number new.pass.seen)
 
 -- ---- joins
 

@@ -1,7 +1,8 @@
 //! What an application reads off the table's answers.
 
-ghost use Rattle.std.specs.Prelude.{◌≡◌, IfOk};
+ghost use Rattle.std.specs.Prelude.{◌≡◌, ◌≢◌, IfOk};
 ghost use Rattle.rd_pending.specs.Known.{IsKnown};
+ghost use Rattle.rd_pending.specs.declared.calls.SubmitNo.TheVariants as Cause;
 ghost use Rattle.rd_script.specs.Report.{IsCountableOutcome};
 ghost use Rattle.rd_world.specs.Events.{refusal_of};
 ghost use Rattle.rd_world.specs.Hearing.{given_handle, reported_outcome};
@@ -17,7 +18,8 @@ use std::alloc::AllocError;
 
 /// Why a line whose request isn't accepted is refused. Want of memory is no cause.
 pub(crate) fn refusal_of(cause: SubmitNo) -> Result<Refusal, AllocError>
-    ensures { IfOk result (λ why. why ≡ refusal_of cause) }
+    ensures why { IfOk result (λ why. why ≡ refusal_of cause) }
+    ensures memory { IfOk result (λ why. cause ≢ Cause.Memory) }
 {
     match cause {
         SubmitNo::NoChannel => Ok(Refusal::NoChannel),

@@ -10,6 +10,7 @@ ghost use Rattle.rd_world.specs.Events.{may_issue};
 ghost use Rattle.rd_issuer.specs.Issues.{Goes, Rests};
 
 use crate::answers::{given_handle, is_patient, refusal_of, reported_outcome};
+use rd_pending::TakeNo;
 use rd_script::{Outcome, Refusal};
 use rd_sleepers::Sleepers;
 use rd_table::{PendingCall, PendingReply, Table};
@@ -18,8 +19,8 @@ use rd_world::{Application, op_of};
 use std::alloc::AllocError;
 use std::sync::Wait;
 
-/// Issues the lines of an application, one after the other, and waits for the outcome of each, until all to which the script came have one, or the next one waits that is patient. Where
-/// memory runs out it stops.
+/// Issues the lines of an application, one after the other, and waits for the outcome of each, until all to which the script came have one, or the next one waits that is patient and has
+/// none yet. Where memory runs out it stops.
 pub fn issue_lines<T: Wait>(
     rt: &T,
     table: &mut Caller<'_, Table>,
@@ -29,7 +30,7 @@ pub fn issue_lines<T: Wait>(
 ) -> Result<(), AllocError>
     ensures turn { table.new.turn.now ≡ table.old.turn.now }
     ensures goes { Goes number (is_ok result) application.old application.new table.old.pass table.new.pass }
-    ensures rests { OnOk result (Rests application.new) }
+    ensures rests { OnOk result (Rests application.new (calls_of table.new.pass.number table.new.pass.seen)) }
 {
     for _ in rt.forever() {
         if !issue_or_take(rt, table, sleepers, number, application)? {
@@ -49,7 +50,7 @@ fn issue_or_take<T: Wait>(
 ) -> Result<bool, AllocError>
     ensures turn { table.new.turn.now ≡ table.old.turn.now }
     ensures goes { Goes number (is_ok result) application.old application.new table.old.pass table.new.pass }
-    ensures rests { IfOk result (λ more. more ≡ false → Rests application.new) }
+    ensures rests { IfOk result (λ more. more ≡ false → Rests application.new (calls_of table.new.pass.number table.new.pass.seen)) }
 {
     if let Some(request) = application.awaits() {
         return take(rt, table, sleepers, number, application, request);
@@ -112,7 +113,7 @@ fn take<T: Wait>(
     requires queued { length application.old.outcomes < application.old.queued }
     ensures turn { table.new.turn.now ≡ table.old.turn.now }
     ensures goes { Goes number (is_ok result) application.old application.new table.old.pass table.new.pass }
-    ensures rests { IfOk result (λ more. more ≡ false → Rests application.new) }
+    ensures rests { IfOk result (λ more. more ≡ false → Rests application.new (calls_of table.new.pass.number table.new.pass.seen)) }
 {
     let times = sleepers.outcomes(rt, request);
     let line = application.next();
@@ -122,13 +123,15 @@ fn take<T: Wait>(
             application.end_line(reported_outcome(taken), given)?;
             Ok(true)
         }
-        PendingReply::Taken(Err(_)) => {
+        PendingReply::Taken(Err(TakeNo::NotYet)) => {
             if is_patient(line) {
                 return Ok(false);
             }
             sleepers.wait_for_outcome(rt, request, times);
             Ok(true)
         }
+        // What is awaited is known.
+        PendingReply::Taken(Err(TakeNo::Unknown)) => Err(AllocError),
         _ => unreachable!(),
     }
 }

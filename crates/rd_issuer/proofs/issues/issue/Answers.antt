@@ -26,7 +26,7 @@ returns-clause-goes g c =
     goes_submit c.args.number (is_ok c.match-call_table.result) x c.match-call_table.application c.args.table.now.pass c.call_table.new.table.pass asked c.in-Some.target c.in-Some-2.op c.call_table.result
     c.call_table.ensures.same c.call_table.ensures.called (c.requires, next) (sym (c.target.ensures asked for) ∙ c.in-Some.is) op
     (λ found. elim c.match-call_table.branch [
-      | in-Submitted-Ok w ↦ (Ok w.in-Submitted-Ok.request, w.in-Submitted-Ok.is ∙ ap (λ (r : Result ℕ SubmitNo). reply.Submitted r) w.in-Submitted-Ok.field-0-is, w.application-is ∙ w.await_outcome.ensures)
+      | in-Submitted-Ok w ↦ (Ok w.in-Submitted-Ok.request, w.in-Submitted-Ok.is ∙ ap (λ (r : Result ℕ SubmitNo). reply.Submitted r) w.in-Submitted-Ok.field-0-is, λ is. absurd (cc (is)), w.application-is ∙ w.await_outcome.ensures)
       | in-Submitted-Err+in_ok-refusal_of-in-Submitted-Err w ↦
           let why : Refusal = w.in_ok-refusal_of-in-Submitted-Err.field-0 in
           let ended : w.end_line-in-Submitted-Err.new.self ≡ with_outcome x (outcome.Refused why) None asked =
@@ -34,7 +34,8 @@ returns-clause-goes g c =
           (on_ok w.end_line-in-Submitted-Err.result w.end_line-in-Submitted-Err.ensures (sym (ap is_ok w.result-is) ∙ found)) in (
             Err w.in-Submitted-Err.cause,
             w.in-Submitted-Err.is ∙ ap (λ (r : Result ℕ SubmitNo). reply.Submitted r) w.in-Submitted-Err.field-0-is,
-            w.application-is ∙ (ended ∙ ap (λ (r : Refusal). with_outcome x (outcome.Refused r) None asked) w.in_ok-refusal_of-in-Submitted-Err.ensures),
+            λ is. w.in_ok-refusal_of-in-Submitted-Err.ensures.memory (cc (is)),
+            w.application-is ∙ (ended ∙ ap (λ (r : Refusal). with_outcome x (outcome.Refused r) None asked) w.in_ok-refusal_of-in-Submitted-Err.ensures.why),
           )
       | in_default-call_table w ↦ let no_one : false ≡ true = sym (ap is_ok w.result-is) ∙ found in absurd (cc (no_one))
     ])

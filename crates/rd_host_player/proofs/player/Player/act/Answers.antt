@@ -27,8 +27,8 @@ returns-in-Some-Connect-clause-stops g c =
     let comes = of_some (λ (k : Control). ComesToControl k c.issue.new.self c.next_control.new.self) c.in_ok-next_control.field-0 control.Connect is c.in_ok-next_control.ensures.some in
     if_some_map c.go_on.result c.go_on.ensures.stops (λ why looks. subst (λ (w : Stop). Stops g.W.TableTurn.turn w c.args.self.now c.go_on.new.self) (sym looks.0) (c.issue.new.self, c.next_control.new.self, looks.1, c.in_ok-issue.ensures, comes, looks.2, looks.3))
 
-pub returns-in_ok-issue-in-None-clause-stops : goal.returns-in_ok-issue-in-None-clause-stops
-returns-in_ok-issue-in-None-clause-stops g c =
+pub returns-in_ok-check_outcomes-in-None-clause-stops : goal.returns-in_ok-check_outcomes-in-None-clause-stops
+returns-in_ok-check_outcomes-in-None-clause-stops g c =
     let left = of_none _ c.in_ok-next_control.field-0 c.in-None.is c.in_ok-next_control.ensures.none in
     let ended = subst (λ (s : PlayState g.row.F.Denot g.row.W.Denot). Ended s c.end_channel-in-None.new.self) left.1 c.in_ok-end_channel-in-None.ensures in
-    (c.issue.new.self, c.end_channel-in-None.new.self, c.in_ok-issue.ensures, left.0, ended, c.in_ok-issue-in-None.ensures)
+    (c.issue.new.self, c.end_channel-in-None.new.self, c.in_ok-issue.ensures, left.0, ended, c.in_ok-issue-in-None.ensures, c.in_ok-check_outcomes-in-None.ensures)
