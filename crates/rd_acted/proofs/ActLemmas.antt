@@ -3,8 +3,8 @@ use Rattle.std.proofs.Common.{◌≡◌, ◌∙◌, refl, sym, ap, ℕ, ◌+◌,
 use Rattle.std.specs.Prelude.{filter_map, if◌then◌else◌, is_some}
 use Rattle.std.specs.List.{AllByRecursion, cons_option}
 use Rattle.std.specs.Option.{option_map_or}
-use Rattle.rd_controls.proofs.Numbers.{picked_reverse, reverse_cons}
-use Rattle.rd_controls.specs.Controls.{control_with}
+use Rattle.rd_rest.proofs.ControlsNumbers.{picked_reverse, reverse_cons}
+use Rattle.rd_rest.specs.ControlsControls.{control_with}
 use Rattle.rd_printer.specs.declared.notice.Notice.{Notice}
 use Rattle.rd_script.specs.declared.line.Line.{Line}
 use Rattle.rd_script.specs.declared.line.Line.TheVariants as line

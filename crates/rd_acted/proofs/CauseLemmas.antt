@@ -9,7 +9,7 @@ use Rattle.rd_base.specs.declared.journal.Cause.{Cause}
 use Rattle.rd_base.specs.declared.journal.Cause.TheVariants.{Dropped, Removed}
 use Rattle.rd_base.specs.declared.journal.Item.{Item}
 use Rattle.rd_base.specs.declared.journal.Item.TheVariants.{Came, Cancelled, Cut, Ran, Sent}
-use Rattle.rd_controls.proofs.Numbers.{picked_reverse, reverse_cons}
+use Rattle.rd_rest.proofs.ControlsNumbers.{picked_reverse, reverse_cons}
 use Rattle.rd_world.specs.Acts.{IsCutThere, IsDone, cause_in, cut_last, of_channel, there_at}
 use Rattle.rd_world.specs.Control.{present}
 use Rattle.rd_world.specs.Devices.{Declared}

@@ -15,15 +15,15 @@ use Rattle.rd_client.specs.Core.{ClientCoreState, ClientDevice, Outgoing, announ
 use Rattle.rd_client.specs.Order.{is_client_ready}
 use Rattle.rd_client.specs.declared.heard.Heard.{Heard}
 use Rattle.rd_client.specs.declared.heard.Heard.TheVariants.{Nothing, Ask, Print}
-use Rattle.rd_controls.proofs.Numbers.{reverse_cons}
-use Rattle.rd_controls.proofs.Unseen.{client_ready}
+use Rattle.rd_rest.proofs.ControlsNumbers.{reverse_cons}
+use Rattle.rd_rest.proofs.ControlsUnseen.{client_ready}
 use Rattle.rd_devices.specs.declared.list.Announce.{Announce}
 use Rattle.rd_drive.specs.declared.plan.Job.{Job}
 use Rattle.rd_hello.specs.declared.client.ClientState.{ClientState}
 use Rattle.rd_hello.specs.declared.client.ClientState.TheVariants as state
 use Rattle.rd_hello.specs.declared.end_fault.EndFault.{EndFault}
-use Rattle.rd_journals.proofs.HeldLemmas.{found_then, stored_deeds, turned_has}
-use Rattle.rd_runs.proofs.Parts.{announced_by, cut_by, told_added, told_removed}
+use Rattle.rd_rest.proofs.JournalsHeldLemmas.{found_then, stored_deeds, turned_has}
+use Rattle.rd_rest.proofs.RunsParts.{announced_by, cut_by, told_added, told_removed}
 use Rattle.rd_station.specs.Station as station
 use Rattle.rd_station.specs.Station.{StationState}
 use Rattle.rd_world.specs.Devices.{Declared, PrinterNames, device_cut}

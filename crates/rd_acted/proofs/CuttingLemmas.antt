@@ -14,8 +14,8 @@ use Rattle.rd_base.specs.declared.journal.Cause.TheVariants.{Dropped, Removed}
 use Rattle.rd_base.specs.declared.journal.Item.{Item}
 use Rattle.rd_base.specs.declared.journal.Item.TheVariants.{Came, Cut}
 use Rattle.rd_base.specs.declared.journal.Key.{Key}
-use Rattle.rd_controls.proofs.Numbers.{reverse_cons}
-use Rattle.rd_journals.proofs.HeldLemmas.{has_elsewhere, has_here, stored_deeds}
+use Rattle.rd_rest.proofs.ControlsNumbers.{reverse_cons}
+use Rattle.rd_rest.proofs.JournalsHeldLemmas.{has_elsewhere, has_here, stored_deeds}
 use Rattle.rd_station.specs.Station as station
 use Rattle.rd_station.specs.Station.{StationState}
 use Rattle.rd_world.specs.Acts.{IsCutThere, IsDone, cut_last, there_at}

@@ -15,15 +15,15 @@ use Rattle.rd_base.specs.declared.journal.Key.{Key}
 use Rattle.rd_client.specs.Core as client
 use Rattle.rd_client.specs.Core.{ClientCoreState, Outgoing, has_device, is_gone}
 use Rattle.rd_client.specs.Order.{is_client_ready}
-use Rattle.rd_controls.proofs.Unseen.{client_ready}
-use Rattle.rd_journals.proofs.ChannelLemmas.{all_refreshed, begun_on}
-use Rattle.rd_journals.proofs.RunLemmas.{behind_orderly}
-use Rattle.rd_journals.specs.Orderly.{Orderly}
-use Rattle.rd_runs.proofs.Parts.{IsBehind, MayBe, Part, accepts, adds_one, announced_by, applies_one, begins, by_parts, client_gets, client_hears_one, client_keeps_part, client_sends_one, collects_one, done, draws_one, ends, hands_out, host_gets, host_hears_one, host_keeps_part, host_sends_one, idle_one, queues_one, refreshed_by, refuses, removes_one, takes_one, tells_one, told_added, tries_one}
-use Rattle.rd_runs.proofs.Reaching.{both}
-use Rattle.rd_runs.proofs.Standing.{Stands, needs_open, shut_now}
-use Rattle.rd_runs.proofs.Together.{knows}
-use Rattle.rd_runs.specs.Premises.{RunPremises}
+use Rattle.rd_rest.proofs.ControlsUnseen.{client_ready}
+use Rattle.rd_rest.proofs.JournalsChannelLemmas.{all_refreshed, begun_on}
+use Rattle.rd_rest.proofs.JournalsRunLemmas.{behind_orderly}
+use Rattle.rd_rest.specs.JournalsOrderly.{Orderly}
+use Rattle.rd_rest.proofs.RunsParts.{IsBehind, MayBe, Part, accepts, adds_one, announced_by, applies_one, begins, by_parts, client_gets, client_hears_one, client_keeps_part, client_sends_one, collects_one, done, draws_one, ends, hands_out, host_gets, host_hears_one, host_keeps_part, host_sends_one, idle_one, queues_one, refreshed_by, refuses, removes_one, takes_one, tells_one, told_added, tries_one}
+use Rattle.rd_rest.proofs.RunsReaching.{both}
+use Rattle.rd_rest.proofs.RunsStanding.{Stands, needs_open, shut_now}
+use Rattle.rd_rest.proofs.RunsTogether.{knows}
+use Rattle.rd_rest.specs.RunsPremises.{RunPremises}
 use Rattle.rd_script.specs.declared.line.NumberedLine.{NumberedLine}
 use Rattle.rd_station.specs.Station as station
 use Rattle.rd_station.specs.Station.{StationState}

@@ -6,7 +6,7 @@ use Rattle.std.specs.Option.{option_and_then, option_map}
 use Rattle.rd_client.specs.Core.{HostSays, client_side}
 use Rattle.rd_client.specs.Order as client
 use Rattle.rd_client.specs.Order.{ClientOrder, ClientStanding, ClientTelling, client_at_first, client_part}
-use Rattle.rd_controls.proofs.Numbers.{picked_reverse, reverse_cons}
+use Rattle.rd_rest.proofs.ControlsNumbers.{picked_reverse, reverse_cons}
 use Rattle.rd_core.specs.Hearing.{Meaning, nothing, opens, said, says, wrong}
 use Rattle.rd_core.specs.Order as order
 use Rattle.rd_devices.specs.declared.list.Announce.{Announce}

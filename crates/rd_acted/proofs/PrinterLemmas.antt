@@ -14,7 +14,7 @@ use Rattle.rd_base.specs.declared.packet.Packet.TheVariants as packet
 use Rattle.rd_base.specs.declared.status.Status.{Status}
 use Rattle.rd_base.proofs.LayoutLemmas.{meets}
 use Rattle.rd_base.proofs.SpellingLemmas.{message_spelled}
-use Rattle.rd_controls.proofs.Numbers.{reverse_cons}
+use Rattle.rd_rest.proofs.ControlsNumbers.{reverse_cons}
 use Rattle.rd_core.specs.Hearing as hearing
 use Rattle.rd_core.specs.Hearing.{Meaning, messages_of, nothing, opens, says, wrong}
 use Rattle.rd_devices.specs.DeviceReply.{reply_bytes}
@@ -32,7 +32,7 @@ use Rattle.rd_host.specs.Core.{HostCoreState, as_it_is, host_hear, host_hear_mad
 use Rattle.rd_host.specs.Served.{is_served_type}
 use Rattle.rd_host.specs.declared.act.Act.{Act}
 use Rattle.rd_host.specs.declared.act.Act.TheVariants as act
-use Rattle.rd_journals.proofs.ChannelLemmas.{all_refreshed, begun_on}
+use Rattle.rd_rest.proofs.JournalsChannelLemmas.{all_refreshed, begun_on}
 use Rattle.rd_pending.proofs.Tame.{newest}
 use Rattle.rd_pending.specs.Outcomes.{Accepted}
 use Rattle.rd_pending.specs.Table as table
@@ -41,13 +41,13 @@ use Rattle.rd_pending.specs.declared.calls.LiveNo.{LiveNo}
 use Rattle.rd_printer.specs.Notice.{HasWholePort, IsWritableNotice, notice, notice_bytes}
 use Rattle.rd_printer.specs.declared.notice.Notice.{Notice}
 use Rattle.rd_printer.proofs.NoticeLemmas.{IsInRange, notice_spelled}
-use Rattle.rd_runs.proofs.AskedLemmas.{tellable_lines}
-use Rattle.rd_runs.proofs.HostLemmas.{IsHostOf, host_channel, sending_opens}
-use Rattle.rd_runs.proofs.Insides.{AreOwn, IsInside, Outside, added_inside, all_dropped_inside, applied_inside, hears_inside, put_inside, removed_inside, stationed}
-use Rattle.rd_runs.proofs.Parts.{IsBehind, MayBe, Part, accepts, adds_one, applies_one, begins, by_parts, client_gets, client_hears_one, client_keeps_part, client_sends_one, collects_one, done, draws_one, ends, hands_out, host_gets, host_hears_one, host_keeps_part, host_sends_one, idle_one, queues_one, refuses, removes_one, takes_one, tells_one, tries_one}
-use Rattle.rd_runs.proofs.Standing.{Stands, needs_open, shut_now}
-use Rattle.rd_runs.proofs.Together.{knows}
-use Rattle.rd_runs.specs.Premises.{RunPremises}
+use Rattle.rd_rest.proofs.RunsAskedLemmas.{tellable_lines}
+use Rattle.rd_rest.proofs.RunsHostLemmas.{IsHostOf, host_channel, sending_opens}
+use Rattle.rd_rest.proofs.RunsInsides.{AreOwn, IsInside, Outside, added_inside, all_dropped_inside, applied_inside, hears_inside, put_inside, removed_inside, stationed}
+use Rattle.rd_rest.proofs.RunsParts.{IsBehind, MayBe, Part, accepts, adds_one, applies_one, begins, by_parts, client_gets, client_hears_one, client_keeps_part, client_sends_one, collects_one, done, draws_one, ends, hands_out, host_gets, host_hears_one, host_keeps_part, host_sends_one, idle_one, queues_one, refuses, removes_one, takes_one, tells_one, tries_one}
+use Rattle.rd_rest.proofs.RunsStanding.{Stands, needs_open, shut_now}
+use Rattle.rd_rest.proofs.RunsTogether.{knows}
+use Rattle.rd_rest.specs.RunsPremises.{RunPremises}
 use Rattle.rd_script.specs.declared.line.Line.{Line}
 use Rattle.rd_script.specs.declared.line.Line.TheVariants as line
 use Rattle.rd_script.specs.declared.line.NumberedLine.{NumberedLine}

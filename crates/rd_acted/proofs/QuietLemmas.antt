@@ -14,8 +14,8 @@ use Rattle.rd_client.specs.Core.{ClientCoreState, ClientDevice, HostSays, Outgoi
 use Rattle.rd_client.specs.Order.{is_client_ready}
 use Rattle.rd_client.specs.declared.heard.Heard.{Heard}
 use Rattle.rd_client.specs.declared.heard.Heard.TheVariants.{Nothing, Ask, Print}
-use Rattle.rd_controls.proofs.ReadyLemmas.{client_kept}
-use Rattle.rd_controls.proofs.Unseen.{client_ready}
+use Rattle.rd_rest.proofs.ControlsReadyLemmas.{client_kept}
+use Rattle.rd_rest.proofs.ControlsUnseen.{client_ready}
 use Rattle.rd_core.specs.Core.{CoreState}
 use Rattle.rd_core.specs.Hearing as hearing
 use Rattle.rd_core.specs.Hearing.{Meaning, messages_of, nothing, opens, says, wrong}

@@ -1,12 +1,12 @@
 -- What waits to be told on the channel that is open, in every world that lines come to.
 use Rattle.std.proofs.Common.{◌≡◌, ◌∙◌, refl, sym, ap, subst, inl, inr, ℕ, Bool, true, false, List, [], ◌∷◌, ◌++◌, length, Some}
 use Rattle.rd_base.specs.declared.journal.Key.{Key}
-use Rattle.rd_controls.proofs.Unseen.{client_ready}
+use Rattle.rd_rest.proofs.ControlsUnseen.{client_ready}
 use Rattle.rd_printer.specs.Notice.{notice_bytes}
-use Rattle.rd_runs.proofs.Parts.{IsBehind}
-use Rattle.rd_runs.proofs.Standing.{Stands}
-use Rattle.rd_runs.proofs.Together.{knows}
-use Rattle.rd_runs.specs.Premises.{RunPremises}
+use Rattle.rd_rest.proofs.RunsParts.{IsBehind}
+use Rattle.rd_rest.proofs.RunsStanding.{Stands}
+use Rattle.rd_rest.proofs.RunsTogether.{knows}
+use Rattle.rd_rest.specs.RunsPremises.{RunPremises}
 use Rattle.rd_script.specs.declared.line.NumberedLine.{NumberedLine}
 use Rattle.rd_world.specs.Acts.{Tells, notices_on, tellings_on}
 use Rattle.rd_world.specs.Control.{lists}

@@ -10,7 +10,7 @@ use Rattle.rd_client.specs.Core.{ClientCoreState, HostSays, Outgoing, client_beg
 use Rattle.rd_client.specs.Order.{is_client_ready}
 use Rattle.rd_client.specs.declared.heard.Heard.{Heard}
 use Rattle.rd_client.specs.declared.heard.Heard.TheVariants.{Nothing, Ask, Print}
-use Rattle.rd_controls.proofs.Numbers.{picked_reverse, reverse_cons}
+use Rattle.rd_rest.proofs.ControlsNumbers.{picked_reverse, reverse_cons}
 use Rattle.rd_core.specs.Core.{CoreState}
 use Rattle.rd_core.specs.Hearing as hearing
 use Rattle.rd_core.specs.Hearing.{Meaning, nothing, opens, said, says, wrong}
@@ -20,15 +20,15 @@ use Rattle.rd_drive.proofs.AllLemmas.{all_append}
 use Rattle.rd_drive.specs.declared.plan.Job.{Job}
 use Rattle.rd_hello.specs.declared.client.ClientState.{ClientState}
 use Rattle.rd_hello.specs.declared.end_fault.EndFault.{EndFault}
-use Rattle.rd_journals.proofs.ChannelLemmas.{all_refreshed, begun_on}
-use Rattle.rd_journals.proofs.RunLemmas.{behind_orderly}
-use Rattle.rd_journals.specs.Orderly.{Orderly}
-use Rattle.rd_journals.specs.Stations.{AreFit, IsFit}
+use Rattle.rd_rest.proofs.JournalsChannelLemmas.{all_refreshed, begun_on}
+use Rattle.rd_rest.proofs.JournalsRunLemmas.{behind_orderly}
+use Rattle.rd_rest.specs.JournalsOrderly.{Orderly}
+use Rattle.rd_rest.specs.JournalsStations.{AreFit, IsFit}
 use Rattle.rd_printer.specs.Cache as cache
 use Rattle.rd_printer.specs.Cache.{CacheState, heard_all}
 use Rattle.rd_printer.specs.declared.notice.Notice.{Notice}
-use Rattle.rd_runs.specs.Premises.{DeviceFits, RunPremises}
-use Rattle.rd_runs.proofs.Parts.{IsBehind, MayBe, by_parts, Part, accepts, adds_one, announced_by, applies_one, begins, client_gets, client_hears_one, client_keeps_part, client_sends_one, collects_one, done, draws_one, ends, hands_out, host_gets, host_hears_one, host_keeps_part, host_sends_one, idle_one, queues_one, refreshed_by, refuses, removes_one, takes_one, tells_one, told_added, told_removed, tries_one}
+use Rattle.rd_rest.specs.RunsPremises.{DeviceFits, RunPremises}
+use Rattle.rd_rest.proofs.RunsParts.{IsBehind, MayBe, by_parts, Part, accepts, adds_one, announced_by, applies_one, begins, client_gets, client_hears_one, client_keeps_part, client_sends_one, collects_one, done, draws_one, ends, hands_out, host_gets, host_hears_one, host_keeps_part, host_sends_one, idle_one, queues_one, refreshed_by, refuses, removes_one, takes_one, tells_one, told_added, told_removed, tries_one}
 use Rattle.rd_script.specs.declared.line.NumberedLine.{NumberedLine}
 use Rattle.rd_station.specs.Station as station
 use Rattle.rd_station.specs.Station.{StationState}

@@ -4,21 +4,21 @@ use Rattle.std.specs.Prelude.{All, if◌then◌else◌}
 use Rattle.std.specs.List.{range_with_len}
 use Rattle.std.specs.Option.{option_map_or}
 use Rattle.rd_base.specs.declared.journal.Key.{Key}
-use Rattle.rd_controls.proofs.Leading.{does_as_said}
-use Rattle.rd_controls.proofs.Unseen.{client_ready}
-use Rattle.rd_controls.specs.Controls.{AreOrderedLines, DoAsSaid, EndsAs, control_with}
-use Rattle.rd_joined.proofs.RoomLemmas.{unworn}
+use Rattle.rd_rest.proofs.ControlsLeading.{does_as_said}
+use Rattle.rd_rest.proofs.ControlsUnseen.{client_ready}
+use Rattle.rd_rest.specs.ControlsControls.{AreOrderedLines, DoAsSaid, EndsAs, control_with}
+use Rattle.rd_rest.proofs.JoinedRoomLemmas.{unworn}
 use Rattle.rd_printer.specs.Notice.{notice_bytes}
 use Rattle.rd_printer.specs.declared.notice.Notice.{Notice}
 use Rattle.rd_rest.proofs.RunLemmas.{run_left}
-use Rattle.rd_runs.proofs.HostLemmas.{host_channel}
-use Rattle.rd_runs.proofs.Parts.{IsBehind, reached_behind}
-use Rattle.rd_runs.proofs.Reaching.{run_reached, run_rests}
-use Rattle.rd_runs.proofs.Resting.{quiet}
-use Rattle.rd_runs.proofs.Standing.{Stands}
-use Rattle.rd_runs.proofs.Together.{knows}
-use Rattle.rd_runs.specs.Moves.{Reached}
-use Rattle.rd_runs.specs.Premises.{RunPremises}
+use Rattle.rd_rest.proofs.RunsHostLemmas.{host_channel}
+use Rattle.rd_rest.proofs.RunsParts.{IsBehind, reached_behind}
+use Rattle.rd_rest.proofs.RunsReaching.{run_reached, run_rests}
+use Rattle.rd_rest.proofs.RunsResting.{quiet}
+use Rattle.rd_rest.proofs.RunsStanding.{Stands}
+use Rattle.rd_rest.proofs.RunsTogether.{knows}
+use Rattle.rd_rest.specs.RunsMoves.{Reached}
+use Rattle.rd_rest.specs.RunsPremises.{RunPremises}
 use Rattle.rd_script.specs.declared.line.NumberedLine.{NumberedLine}
 use Rattle.rd_world.specs.Acts.{AreActed, AreSaid, Opens, Tells, is_settled_host, notices_on, of_channel, tellings_due, tellings_on}
 use Rattle.rd_world.specs.Control.{Control, Telling, control_of}

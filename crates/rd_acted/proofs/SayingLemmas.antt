@@ -3,7 +3,7 @@ use Rattle.std.proofs.Common.{◌≡◌, ◌∙◌, refl, sym, ap, ℕ, ◌+◌,
 use Rattle.std.specs.Prelude.{filter, if◌then◌else◌, take}
 use Rattle.std.specs.List.{AllZip, cons_option}
 use Rattle.std.proofs.lemmas.List.Elements.{filter-append}
-use Rattle.rd_controls.proofs.Numbers.{reverse_cons}
+use Rattle.rd_rest.proofs.ControlsNumbers.{reverse_cons}
 use Rattle.rd_world.specs.Acts.{Tells, cache_after, is_telling, list_of, tellings_on}
 use Rattle.rd_world.specs.Control.{Telling, addition, lists, removal}
 use Rattle.rd_world.specs.Devices.{Declared}

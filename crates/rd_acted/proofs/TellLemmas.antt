@@ -10,19 +10,19 @@ use Rattle.rd_base.specs.declared.packet.Packet.TheVariants as packet
 use Rattle.rd_client.specs.Core as client
 use Rattle.rd_client.specs.Core.{ClientCoreState, ClientDevice, Outgoing, client_begin, client_hear, device_marked, listed, listed_one, plain}
 use Rattle.rd_client.specs.Order.{is_client_ready}
-use Rattle.rd_controls.proofs.Unseen.{client_ready}
+use Rattle.rd_rest.proofs.ControlsUnseen.{client_ready}
 use Rattle.rd_core.specs.Core.{CoreState}
 use Rattle.rd_devices.specs.DeviceList.{list_bytes}
 use Rattle.rd_devices.specs.Removal.{removal_bytes}
 use Rattle.rd_drive.proofs.AllLemmas.{all_append}
 use Rattle.rd_hello.specs.declared.client.ClientState.{ClientState}
-use Rattle.rd_journals.proofs.ChannelLemmas.{all_refreshed, begun_on}
+use Rattle.rd_rest.proofs.JournalsChannelLemmas.{all_refreshed, begun_on}
 use Rattle.rd_printer.specs.Cache.{CacheState}
-use Rattle.rd_runs.proofs.Parts.{IsBehind, MayBe, Part, adds_one, announced_by, begins, by_parts, client_hears_one, client_sends_one, done, ends, refreshed_by, removes_one, told_added, told_removed}
-use Rattle.rd_runs.proofs.Reaching.{both}
-use Rattle.rd_runs.proofs.Standing.{Stands, needs_open}
-use Rattle.rd_runs.proofs.Together.{knows}
-use Rattle.rd_runs.specs.Premises.{RunPremises}
+use Rattle.rd_rest.proofs.RunsParts.{IsBehind, MayBe, Part, adds_one, announced_by, begins, by_parts, client_hears_one, client_sends_one, done, ends, refreshed_by, removes_one, told_added, told_removed}
+use Rattle.rd_rest.proofs.RunsReaching.{both}
+use Rattle.rd_rest.proofs.RunsStanding.{Stands, needs_open}
+use Rattle.rd_rest.proofs.RunsTogether.{knows}
+use Rattle.rd_rest.specs.RunsPremises.{RunPremises}
 use Rattle.rd_script.specs.declared.line.NumberedLine.{NumberedLine}
 use Rattle.rd_station.specs.Station as station
 use Rattle.rd_station.specs.Station.{StationState}

@@ -12,14 +12,14 @@ use Rattle.std.proofs.lemmas.List.{length-reverse}
 use Rattle.rd_base.specs.declared.journal.Item.{Item}
 use Rattle.rd_base.specs.declared.journal.Item.TheVariants.{Came, Cancelled, Ran, Sent}
 use Rattle.rd_client.specs.Core.{ClientDevice, announce_in, is_present}
-use Rattle.rd_controls.proofs.Unseen.{client_ready}
+use Rattle.rd_rest.proofs.ControlsUnseen.{client_ready}
 use Rattle.rd_devices.specs.declared.list.Announce.{Announce}
 use Rattle.rd_drive.specs.Device.{is_parked, is_starved}
 use Rattle.rd_drive.specs.Stepped.{Stepped}
 use Rattle.rd_drive.specs.declared.plan.Job.{Job}
 use Rattle.rd_irp.specs.Fits.{kind_of}
-use Rattle.rd_journals.proofs.HeldLemmas.{found_then, stored_deeds, turned_has}
-use Rattle.rd_journals.specs.Orderly.{Orderly}
+use Rattle.rd_rest.proofs.JournalsHeldLemmas.{found_then, stored_deeds, turned_has}
+use Rattle.rd_rest.specs.JournalsOrderly.{Orderly}
 use Rattle.rd_station.proofs.Soundness.{few}
 use Rattle.rd_station.specs.Station as station
 use Rattle.rd_station.specs.Station.{StationState, entry_count, held, is_key, max_entries, put_refusal, put_unless}

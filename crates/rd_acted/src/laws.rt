@@ -7,10 +7,10 @@ ghost use Rattle.rd_acted.specs.Acted.{AreReadWell, EndsTold, GoWell, HaveActed,
 ghost use Rattle.rd_acted.specs.Waiting.{notices_waiting, tellings_waiting};
 ghost use Rattle.rd_base.specs.declared.journal.Key.{Key};
 ghost use Rattle.rd_client.specs.Order.{ClientOrder, is_client_ready};
-ghost use Rattle.rd_controls.specs.Controls.{AreOrderedLines, DoAsSaid, control_with};
+ghost use Rattle.rd_rest.specs.ControlsControls.{AreOrderedLines, DoAsSaid, control_with};
 ghost use Rattle.rd_printer.specs.Notice.{notice_bytes};
-ghost use Rattle.rd_runs.specs.Moves.{Reached};
-ghost use Rattle.rd_runs.specs.Premises.{RunPremises};
+ghost use Rattle.rd_rest.specs.RunsMoves.{Reached};
+ghost use Rattle.rd_rest.specs.RunsPremises.{RunPremises};
 ghost use Rattle.rd_script.specs.Script.{script_of};
 ghost use Rattle.rd_script.specs.declared.keyword.Mode.TheVariants as Mode;
 ghost use Rattle.rd_script.specs.declared.script.Script.{Script};

@@ -9,8 +9,8 @@ use Rattle.std.specs.declared.cmp.Ordering.{Ordering}
 use Rattle.std.specs.declared.cmp.Ordering.TheVariants.{Equal, Greater, Less}
 use Rattle.rd_client.specs.Core.{announce_in, is_device, present_device}
 use Rattle.rd_dirinfo.specs.Paths.{Names}
-use Rattle.rd_runs.proofs.BeginningLemmas.{Unset, begins_as}
-use Rattle.rd_runs.specs.Premises.{RunPremises}
+use Rattle.rd_refused.proofs.RunsBeginningLemmas.{Unset, begins_as}
+use Rattle.rd_refused.specs.RunsPremises.{RunPremises}
 use Rattle.rd_script.specs.declared.line.Line.{Line}
 use Rattle.rd_script.specs.declared.line.Line.TheVariants as line
 use Rattle.rd_script.specs.declared.line.NumberedLine.{NumberedLine}

@@ -17,14 +17,14 @@ use Rattle.rd_devices.specs.declared.list.Announce.{Announce}
 use Rattle.rd_drive.specs.declared.plan.Job.{Job}
 use Rattle.rd_hello.specs.declared.client.ClientState.{ClientState}
 use Rattle.rd_hello.specs.declared.end_fault.EndFault.{EndFault}
-use Rattle.rd_journals.proofs.ChannelLemmas.{all_refreshed, begun_on}
-use Rattle.rd_journals.proofs.ClientLemmas.{channel_of}
-use Rattle.rd_journals.proofs.OrderlyLemmas.{ready_came}
-use Rattle.rd_journals.proofs.RunLemmas.{behind_orderly}
-use Rattle.rd_journals.specs.Orderly.{Orderly}
-use Rattle.rd_journals.specs.Standing.{IsOut, IsStanding, IsUnserved, pending_of}
-use Rattle.rd_journals.specs.Stations.{AreFit}
-use Rattle.rd_runs.proofs.Parts.{IsBehind, MayBe, Part, accepts, adds_one, announced_by, applies_one, begins, by_parts, client_gets, client_hears_one, client_keeps_part, client_sends_one, collects_one, done, draws_one, ends, hands_out, host_gets, host_hears_one, host_keeps_part, host_sends_one, idle_one, queues_one, refreshed_by, refuses, removes_one, takes_one, tells_one, told_added, told_removed, tries_one}
+use Rattle.rd_refused.proofs.JournalsChannelLemmas.{all_refreshed, begun_on}
+use Rattle.rd_refused.proofs.JournalsClientLemmas.{channel_of}
+use Rattle.rd_refused.proofs.JournalsOrderlyLemmas.{ready_came}
+use Rattle.rd_refused.proofs.JournalsRunLemmas.{behind_orderly}
+use Rattle.rd_refused.specs.JournalsOrderly.{Orderly}
+use Rattle.rd_refused.specs.JournalsStanding.{IsOut, IsStanding, IsUnserved, pending_of}
+use Rattle.rd_refused.specs.JournalsStations.{AreFit}
+use Rattle.rd_refused.proofs.RunsParts.{IsBehind, MayBe, Part, accepts, adds_one, announced_by, applies_one, begins, by_parts, client_gets, client_hears_one, client_keeps_part, client_sends_one, collects_one, done, draws_one, ends, hands_out, host_gets, host_hears_one, host_keeps_part, host_sends_one, idle_one, queues_one, refreshed_by, refuses, removes_one, takes_one, tells_one, told_added, told_removed, tries_one}
 use Rattle.rd_script.specs.declared.line.NumberedLine.{NumberedLine}
 use Rattle.rd_station.specs.Station.{StationState, collect_first, held, new_station, put_refusal, put_unless}
 use Rattle.rd_station.specs.declared.answers.Completion.{Completion}
@@ -50,16 +50,16 @@ use Rattle.rd_drive.specs.Stepped.{Stepped}
 use Rattle.rd_irp.specs.declared.completion.Head.{Head}
 use Rattle.rd_station.specs.declared.held.InHand.{InHand}
 use Rattle.rd_station.specs.Station.{is_key}
-use Rattle.rd_runs.specs.Premises.{RunPremises}
+use Rattle.rd_refused.specs.RunsPremises.{RunPremises}
 use Rattle.rd_world.proofs.Messages.{head_read}
 use Rattle.rd_world.specs.Told.{came, is_of_device, sent, told}
-use Rattle.rd_journals.specs.Jobs.{FitsCompletion, IsCompletionOf}
-use Rattle.rd_journals.specs.Told.{InOrder}
-use Rattle.rd_journals.proofs.CameLemmas.{came_true, fines, never_came, was_ready}
-use Rattle.rd_journals.proofs.CompletionLemmas.{lost_ranged, ready_completes, runs_good}
-use Rattle.rd_journals.proofs.HeldLemmas.{stored_deeds, turned_has}
-use Rattle.rd_journals.proofs.ServingLemmas.{behind_standing, came_is_named}
-use Rattle.rd_journals.proofs.WorkLemmas.{behind_working}
+use Rattle.rd_refused.specs.JournalsJobs.{FitsCompletion, IsCompletionOf}
+use Rattle.rd_refused.specs.JournalsTold.{InOrder}
+use Rattle.rd_refused.proofs.JournalsCameLemmas.{came_true, fines, never_came, was_ready}
+use Rattle.rd_refused.proofs.JournalsCompletionLemmas.{lost_ranged, ready_completes, runs_good}
+use Rattle.rd_refused.proofs.JournalsHeldLemmas.{stored_deeds, turned_has}
+use Rattle.rd_refused.proofs.JournalsServingLemmas.{behind_standing, came_is_named}
+use Rattle.rd_refused.proofs.JournalsWorkLemmas.{behind_working}
 use Rattle.std.specs.Prelude.{nat_le}
 use Rattle.rd_base.specs.declared.journal.Cause.{Cause}
 use Rattle.rd_drive.specs.Device.{is_parked, is_starved}

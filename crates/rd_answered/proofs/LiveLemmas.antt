@@ -11,9 +11,9 @@ use Rattle.rd_drive.specs.Device.{is_parked}
 use Rattle.rd_drive.specs.Stepped.{Stepped}
 use Rattle.rd_drive.specs.declared.plan.Job.{Job}
 use Rattle.rd_irp.specs.Fits.{kind_of}
-use Rattle.rd_journals.proofs.HeldLemmas.{found_then}
-use Rattle.rd_journals.specs.Orderly.{HasStation, Orderly}
-use Rattle.rd_runs.proofs.Parts.{announced_by}
+use Rattle.rd_refused.proofs.JournalsHeldLemmas.{found_then}
+use Rattle.rd_refused.specs.JournalsOrderly.{HasStation, Orderly}
+use Rattle.rd_refused.proofs.RunsParts.{announced_by}
 use Rattle.rd_station.proofs.Calls.{reached_kept}
 use Rattle.rd_station.proofs.Holding.{size_held}
 use Rattle.rd_station.specs.Station as station

@@ -7,18 +7,18 @@ use Rattle.rd_base.specs.declared.journal.Key.{Key}
 use Rattle.rd_base.specs.Lawful.{IsLawful}
 use Rattle.rd_drive.specs.Ranged.{IsReplyInRange}
 use Rattle.rd_irp.specs.declared.request.Request.{Request}
-use Rattle.rd_journals.proofs.CameLemmas.{fines}
-use Rattle.rd_journals.proofs.CompletionLemmas.{lost_ranged, runs_good}
-use Rattle.rd_journals.proofs.ReplyLemmas.{replies_grow, replies_once}
-use Rattle.rd_journals.proofs.RunLemmas.{behind_orderly, hears_open, orderly_lawful}
-use Rattle.rd_journals.proofs.ServingLemmas.{behind_standing}
-use Rattle.rd_journals.proofs.WorkLemmas.{behind_working}
-use Rattle.rd_journals.specs.Jobs.{FitsCompletion}
-use Rattle.rd_journals.specs.Stations.{AreFit}
-use Rattle.rd_runs.proofs.Insides.{hears_inside}
-use Rattle.rd_runs.proofs.Parts.{IsBehind, MayBe, Part, accepts, adds_one, applies_one, begins, by_parts, client_gets, client_hears_one, client_keeps_part, client_sends_one, collects_one, done, draws_one, ends, hands_out, host_gets, host_hears_one, host_keeps_part, host_sends_one, idle_one, queues_one, refuses, removes_one, takes_one, tells_one, tries_one}
-use Rattle.rd_runs.proofs.Together.{knows}
-use Rattle.rd_runs.specs.Premises.{RunPremises}
+use Rattle.rd_refused.proofs.JournalsCameLemmas.{fines}
+use Rattle.rd_refused.proofs.JournalsCompletionLemmas.{lost_ranged, runs_good}
+use Rattle.rd_refused.proofs.JournalsReplyLemmas.{replies_grow, replies_once}
+use Rattle.rd_refused.proofs.JournalsRunLemmas.{behind_orderly, hears_open, orderly_lawful}
+use Rattle.rd_refused.proofs.JournalsServingLemmas.{behind_standing}
+use Rattle.rd_refused.proofs.JournalsWorkLemmas.{behind_working}
+use Rattle.rd_refused.specs.JournalsJobs.{FitsCompletion}
+use Rattle.rd_refused.specs.JournalsStations.{AreFit}
+use Rattle.rd_refused.proofs.RunsInsides.{hears_inside}
+use Rattle.rd_refused.proofs.RunsParts.{IsBehind, MayBe, Part, accepts, adds_one, applies_one, begins, by_parts, client_gets, client_hears_one, client_keeps_part, client_sends_one, collects_one, done, draws_one, ends, hands_out, host_gets, host_hears_one, host_keeps_part, host_sends_one, idle_one, queues_one, refuses, removes_one, takes_one, tells_one, tries_one}
+use Rattle.rd_refused.proofs.RunsTogether.{knows}
+use Rattle.rd_refused.specs.RunsPremises.{RunPremises}
 use Rattle.rd_script.specs.declared.line.NumberedLine.{NumberedLine}
 use Rattle.rd_world.proofs.Joining.{all_join}
 use Rattle.rd_world.proofs.Journals.{plain_of}

@@ -19,18 +19,18 @@ use Rattle.rd_drive.specs.Ranged.{IsReplyInRange}
 use Rattle.rd_irp.specs.declared.completion.Head.{Head}
 use Rattle.rd_irp.specs.declared.completion.Reply.{Reply}
 use Rattle.rd_irp.specs.declared.request.Request.{Request}
-use Rattle.rd_journals.proofs.CameLemmas.{came_true, fines, was_ready}
-use Rattle.rd_journals.proofs.ChannelLemmas.{all_refreshed, begun_on}
-use Rattle.rd_journals.proofs.ClientLemmas.{channel_of}
-use Rattle.rd_journals.proofs.CompletionLemmas.{lost_ranged, ready_completes, runs_good}
-use Rattle.rd_journals.proofs.HeldLemmas.{found_then, stored_deeds}
-use Rattle.rd_journals.proofs.HostLemmas.{hears_same, sends_same}
-use Rattle.rd_journals.proofs.OrderlyLemmas.{ready_came}
-use Rattle.rd_journals.proofs.RunLemmas.{behind_orderly, hears_open, left, opened, right}
-use Rattle.rd_journals.proofs.WorkLemmas.{behind_working, grown_more}
-use Rattle.rd_journals.specs.Jobs.{FitsCompletion, IsCompletionOf}
-use Rattle.rd_journals.specs.Orderly.{HasStation, Orderly}
-use Rattle.rd_journals.specs.Stations.{AreFit}
+use Rattle.rd_refused.proofs.JournalsCameLemmas.{came_true, fines, was_ready}
+use Rattle.rd_refused.proofs.JournalsChannelLemmas.{all_refreshed, begun_on}
+use Rattle.rd_refused.proofs.JournalsClientLemmas.{channel_of}
+use Rattle.rd_refused.proofs.JournalsCompletionLemmas.{lost_ranged, ready_completes, runs_good}
+use Rattle.rd_refused.proofs.JournalsHeldLemmas.{found_then, stored_deeds}
+use Rattle.rd_refused.proofs.JournalsHostLemmas.{hears_same, sends_same}
+use Rattle.rd_refused.proofs.JournalsOrderlyLemmas.{ready_came}
+use Rattle.rd_refused.proofs.JournalsRunLemmas.{behind_orderly, hears_open, left, opened, right}
+use Rattle.rd_refused.proofs.JournalsWorkLemmas.{behind_working, grown_more}
+use Rattle.rd_refused.specs.JournalsJobs.{FitsCompletion, IsCompletionOf}
+use Rattle.rd_refused.specs.JournalsOrderly.{HasStation, Orderly}
+use Rattle.rd_refused.specs.JournalsStations.{AreFit}
 use Rattle.rd_pending.proofs.Neutral.{channel_kept}
 use Rattle.rd_pending.specs.History as call
 use Rattle.rd_pending.specs.Table.{TableState}
@@ -40,12 +40,12 @@ use Rattle.rd_pending.specs.declared.calls.Taken.{Taken}
 use Rattle.rd_refused.proofs.MarkLemmas.{addition_marks, refresh_marks, removal_marks}
 use Rattle.rd_refused.proofs.SaidLemmas.{completion_says}
 use Rattle.rd_refused.specs.Refused.{MarksSay, RefusesDirectly}
-use Rattle.rd_runs.proofs.Insides.{hears_inside}
-use Rattle.rd_runs.proofs.KeysOn.{AnswersOn}
-use Rattle.rd_runs.proofs.Parts.{IsBehind, MayBe, Part, accepts, adds_one, announced_by, applies_one, begins, by_parts, client_gets, client_hears_one, client_keeps_part, client_sends_one, collects_one, cut_by, done, draws_one, ends, hands_out, host_gets, host_hears_one, host_keeps_part, host_sends_one, idle_one, queues_one, refreshed_by, refuses, removes_one, takes_one, tells_one, told_added, told_removed, tries_one}
-use Rattle.rd_runs.proofs.Together.{knows}
-use Rattle.rd_runs.proofs.TrafficLemmas.{Traffic}
-use Rattle.rd_runs.specs.Premises.{RunPremises}
+use Rattle.rd_refused.proofs.RunsInsides.{hears_inside}
+use Rattle.rd_refused.proofs.RunsKeysOn.{AnswersOn}
+use Rattle.rd_refused.proofs.RunsParts.{IsBehind, MayBe, Part, accepts, adds_one, announced_by, applies_one, begins, by_parts, client_gets, client_hears_one, client_keeps_part, client_sends_one, collects_one, cut_by, done, draws_one, ends, hands_out, host_gets, host_hears_one, host_keeps_part, host_sends_one, idle_one, queues_one, refreshed_by, refuses, removes_one, takes_one, tells_one, told_added, told_removed, tries_one}
+use Rattle.rd_refused.proofs.RunsTogether.{knows}
+use Rattle.rd_refused.proofs.RunsTrafficLemmas.{Traffic}
+use Rattle.rd_refused.specs.RunsPremises.{RunPremises}
 use Rattle.rd_script.specs.declared.line.NumberedLine.{NumberedLine}
 use Rattle.rd_station.specs.Station as station
 use Rattle.rd_station.specs.Station.{StationState, collect_first}

@@ -19,16 +19,16 @@ use Rattle.rd_irp.specs.Fits.{BodyFits, kind_of}
 use Rattle.rd_irp.specs.declared.completion.Body.TheVariants.{Fault}
 use Rattle.rd_irp.specs.declared.completion.Head.{Head}
 use Rattle.rd_irp.specs.declared.request.Request.{Request}
-use Rattle.rd_journals.proofs.AskingLemmas.{HeardAs, hears}
-use Rattle.rd_journals.proofs.ClientLemmas.{next_job, read_by}
-use Rattle.rd_journals.proofs.WritingLemmas.{AddsOwn, hear_adds}
-use Rattle.rd_journals.proofs.CompletionLemmas.{completes as completes_with}
-use Rattle.rd_journals.proofs.HeldLemmas.{found_then, has_elsewhere, has_here}
-use Rattle.rd_journals.specs.Jobs.{AreFine, FitsCompletion}
-use Rattle.rd_journals.specs.Orderly.{HasStation, IsNext, Orderly}
+use Rattle.rd_refused.proofs.JournalsAskingLemmas.{HeardAs, hears}
+use Rattle.rd_refused.proofs.JournalsClientLemmas.{next_job, read_by}
+use Rattle.rd_refused.proofs.JournalsWritingLemmas.{AddsOwn, hear_adds}
+use Rattle.rd_refused.proofs.JournalsCompletionLemmas.{completes as completes_with}
+use Rattle.rd_refused.proofs.JournalsHeldLemmas.{found_then, has_elsewhere, has_here}
+use Rattle.rd_refused.specs.JournalsJobs.{AreFine, FitsCompletion}
+use Rattle.rd_refused.specs.JournalsOrderly.{HasStation, IsNext, Orderly}
 use Rattle.rd_refused.proofs.SaidLemmas.{completion_says}
-use Rattle.rd_runs.proofs.Insides.{AreOwn, IsOwn, stationed}
-use Rattle.rd_runs.proofs.Parts.{announced_by}
+use Rattle.rd_refused.proofs.RunsInsides.{AreOwn, IsOwn, stationed}
+use Rattle.rd_refused.proofs.RunsParts.{announced_by}
 use Rattle.rd_station.specs.Station as station
 use Rattle.rd_station.specs.Station.{StationState, put_refusal, put_unless}
 use Rattle.rd_station.specs.declared.refusals.PutWhy.{PutWhy}

@@ -23,7 +23,7 @@ use Rattle.rd_hello.specs.declared.end_fault.EndFault.{EndFault}
 use Rattle.rd_hello.specs.declared.hello.Hello.{Hello}
 use Rattle.rd_irp.specs.declared.completion.Head.{Head}
 use Rattle.rd_irp.specs.declared.completion.Reply.{Reply}
-use Rattle.rd_journals.proofs.WritingLemmas.{AreOwn}
+use Rattle.rd_refused.proofs.JournalsWritingLemmas.{AreOwn}
 use Rattle.rd_refused.proofs.MarkLemmas.{first_marks}
 use Rattle.rd_refused.proofs.SaidLemmas.{hello_says}
 use Rattle.rd_refused.specs.Refused.{RefusesDirectly}

@@ -3,18 +3,18 @@ use Rattle.std.proofs.Common.{◌≡◌, ℕ, ◌≤◌, Bool, List, [], refl, l
 use Rattle.rd_base.specs.declared.journal.Key.{Key}
 use Rattle.rd_joined.proofs.RoomLemmas.{unworn}
 use Rattle.rd_joined.proofs.ScriptLemmas.{script_premises}
-use Rattle.rd_journals.proofs.AnswerLemmas.{reached_spelled}
-use Rattle.rd_journals.proofs.DeclaredLemmas.{bounded_fit}
-use Rattle.rd_journals.proofs.RunLemmas.{orderly_lawful, reached_orderly}
+use Rattle.rd_refused.proofs.JournalsAnswerLemmas.{reached_spelled}
+use Rattle.rd_refused.proofs.JournalsDeclaredLemmas.{bounded_fit}
+use Rattle.rd_refused.proofs.JournalsRunLemmas.{orderly_lawful, reached_orderly}
 use Rattle.rd_refused.proofs.AnswerLemmas.{all_answer}
 use Rattle.rd_refused.specs.Refused.{RefusesDirectly}
-use Rattle.rd_replied.proofs.GoneLemmas.{reached_gone}
-use Rattle.rd_replied.proofs.MatchLemmas.{all_same}
-use Rattle.rd_replied.proofs.SinceLemmas.{all_since}
-use Rattle.rd_runs.proofs.Parts.{reached_behind}
-use Rattle.rd_runs.proofs.Together.{known}
-use Rattle.rd_runs.specs.Moves.{Reached}
-use Rattle.rd_runs.specs.Premises.{RunPremises}
+use Rattle.rd_refused.proofs.RepliedGoneLemmas.{reached_gone}
+use Rattle.rd_refused.proofs.RepliedMatchLemmas.{all_same}
+use Rattle.rd_refused.proofs.RepliedSinceLemmas.{all_since}
+use Rattle.rd_refused.proofs.RunsParts.{reached_behind}
+use Rattle.rd_refused.proofs.RunsTogether.{known}
+use Rattle.rd_refused.specs.RunsMoves.{Reached}
+use Rattle.rd_refused.specs.RunsPremises.{RunPremises}
 use Rattle.rd_script.specs.Script.{script_of}
 use Rattle.rd_script.specs.declared.keyword.Mode.{Mode}
 use Rattle.rd_script.specs.declared.line.NumberedLine.{NumberedLine}

@@ -7,7 +7,7 @@ use Rattle.rd_client.specs.Core.{ClientCoreState, Outgoing, announces, has_devic
 use Rattle.rd_client.specs.Order.{is_client_ready}
 use Rattle.rd_devices.specs.declared.list.Announce.{Announce}
 use Rattle.rd_irp.specs.declared.completion.Head.{Head}
-use Rattle.rd_journals.specs.Orderly.{HasStation}
+use Rattle.rd_refused.specs.JournalsOrderly.{HasStation}
 use Rattle.rd_refused.specs.Refused.{RefusesDirectly}
 use Rattle.rd_script.specs.declared.line.Line.{Line}
 use Rattle.rd_script.specs.declared.line.Line.TheVariants as line

@@ -7,7 +7,7 @@ use Rattle.std.specs.Str.Parse.{ParsesUnsigned, digits_value}
 use Rattle.std.proofs.lemmas.Bool.Decides.{nat_tests}
 use Rattle.std.proofs.lemmas.Fmt.{decimal-digits_value, decimal_digit, first_decimal, parse-decimal}
 use Rattle.std.proofs.lemmas.Str.Parse.{IsNumeralModel, numerals_by_value, parse_plain}
-use Rattle.rd_cli.specs.Shapes.{FindsLoad, FindsLoadNumber, IsLoadNumber}
+use Rattle.rd_cli.specs.Shapes.{FindsAt, FindsLoad, FindsLoadNumber, IsLoadNumber, is_path}
 
 -- the number of digits
 own : IsNumeralModel (λ ds. all_ascii_digits ds ≡ true) (digits_value 10)
@@ -90,6 +90,13 @@ pub two_words : {X : Type 0} (bytes : X → List ℕ) (xs : List X) (x y : X) (f
 two_words bytes xs x y first second least below is_x is_y named said =
     let both : xs ≡ x ∷ y ∷ [] = two_items xs x y least below ∙ ap₂ (λ (a b : _). a ∷ b ∷ []) (sym is_x) (sym is_y) in
     ap (map bytes) both ∙ ap₂ (λ (a b : List ℕ). a ∷ b ∷ []) named said
+
+-- Two words are a command of this name at no path, where the first is another or the second is no path.
+pub not_at : {X : Type 0} (bytes : X → List ℕ) (xs : List X) (x y : X) (name : List ℕ) → 2 ≤ length xs → length xs < 3 → x ≡ get_or xs 0 x → y ≡ get_or xs 1 y
+    → (bytes x ≡ name → is_path (bytes y) ≡ true → ⊥) → FindsAt name (map bytes xs) None
+not_at bytes xs x y name least below is_x is_y other path (words, good) =
+    let both = sym (two_words bytes xs x y (bytes x) (bytes y) least below is_x is_y refl refl) ∙ words in
+    other (ap (λ (ws : List (List ℕ)). get_or ws 0 []) both) (ap (λ (ws : List (List ℕ)). is_path (get_or ws 1 [])) both ∙ good)
 
 pub found_words : {X : Type 0} (bytes : X → List ℕ) (xs : List X) (x y : X) (found : Option ℕ) → 2 ≤ length xs → length xs < 3 → x ≡ get_or xs 0 x → y ≡ get_or xs 1 y → bytes x ≡ codes "load"
     → FindsLoadNumber (bytes y) found → FindsLoad (map bytes xs) found

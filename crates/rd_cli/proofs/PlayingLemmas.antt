@@ -9,7 +9,7 @@ use Rattle.rd_script.specs.declared.keyword.Mode.TheVariants as mode
 use Rattle.rd_script.specs.Script.{BadLine}
 use Rattle.rd_ended.proofs.CutRuns.{cut_off}
 use Rattle.rd_headline.proofs.SessionLemmas.{runs_are_whole}
-use Rattle.rd_loads.specs.AllPremises.{MeetPremises}
+use Rattle.rd_headline.specs.LoadsAllPremises.{MeetPremises}
 use Rattle.rd_world.specs.Recording.{recording_of_deeds}
 use Rattle.rd_world.specs.Session.{IsRun, journals_of}
 use Rattle.rd_world.specs.Talk.{Deed}

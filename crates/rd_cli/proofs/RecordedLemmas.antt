@@ -7,7 +7,7 @@ use Rattle.rd_cli.specs.Headline.{Played}
 use Rattle.rd_cli.specs.Outside.{Stream, Wrote}
 use Rattle.rd_cli.proofs.DecodingLemmas.{all_read}
 use Rattle.rd_decode.specs.Recording.{decoded}
-use Rattle.rd_printed.specs.Printed.{lines_by}
+use Rattle.rd_readable.specs.PrintedPrinted.{lines_by}
 use Rattle.rd_readable.proofs.SessionLemmas.{recording_good, recording_lines}
 use Rattle.rd_script.specs.declared.outcome.Outcomes.{Outcomes}
 use Rattle.rd_script.specs.declared.script.Script.{Script}

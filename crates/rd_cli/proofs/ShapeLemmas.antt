@@ -22,7 +22,7 @@ use Rattle.clap.proofs.FaultLemmas.{stopped_fault}
 use Rattle.clap.proofs.OnLiterals.{clap_on_literals}
 use Rattle.rd_cli.specs.declared.words.Command.{Command}
 use Rattle.rd_cli.specs.declared.words.Command.TheVariants as command
-use Rattle.rd_cli.specs.Shapes.{HasShape, IsClient, StopsForWords, is_flag, is_path}
+use Rattle.rd_cli.specs.Shapes.{HasShape, IsAt, StopsForWords, is_flag, is_path}
 use Rattle.rd_cli.specs.declared.stop.Stop.{Stop}
 use Rattle.rd_cli.specs.declared.stop.Stop.TheVariants as stop
 use Rattle.rd_cli.specs.Parser.{IsNameOf, commands}
@@ -143,7 +143,7 @@ not_true : (b : Bool) → not b ≡ true → b ≡ false
 not_true true is = absurd (cc)
 not_true false is = refl
 
--- a client's path
+-- a path
 path_no_flag : (word : Text) → is_path word ≡ true → is_flag word ≡ false
 path_no_flag [] good = absurd (cc)
 path_no_flag (byte ∷ word) good = not_true (byte == 45) good
@@ -156,6 +156,7 @@ plain_words words (command.Load number) (is, within) =
     let above : 48 < get_or (decimal number) 0 0 = first_decimal number (omega (arith, within.0)) (omega (arith, within.1)) in
     ap (λ ws. list_any is_flag ws) is ∙ ap (λ (b : Bool). b || false) (digit_no_flag (decimal number) above)
 plain_words words (command.Client path) (is, good) = ap (λ ws. list_any is_flag ws) is ∙ ap (λ (b : Bool). b || false) (path_no_flag path.now good)
+plain_words words (command.Host path) (is, good) = ap (λ ws. list_any is_flag ws) is ∙ ap (λ (b : Bool). b || false) (path_no_flag path.now good)
 
 -- ---- what a parse gives
 -- The subcommand's name is that of its rows.
@@ -190,6 +191,7 @@ met_shape words name (Ok command.Both) meeting said = met_word words name (codes
 met_shape words name (Ok command.Decode) meeting said = met_word words name (codes "decode") meeting said
 met_shape words name (Ok (command.Load number)) meeting said = absurd said
 met_shape words name (Ok (command.Client path)) meeting said = absurd said
+met_shape words name (Ok (command.Host path)) meeting said = absurd said
 met_shape words name (Err s) meeting said = tt
 
 named : (name : Option Text) (c : Plain) → name ≡ Some (name_of c) → IsNameOf name (command_of c)
@@ -201,10 +203,10 @@ met_none words name (Ok c) meeting said = tt
 met_none words name (Err s) meeting said = absurd (said.1 (command_of meeting.command) (named name meeting.command meeting.named))
 
 -- An `Err` that isn't for memory is for words that are no command.
-pub refused : (app : App) (words : List Text) (s : Stop) → app ≡ commands → ((path : List ℕ) → ¬ (IsClient words path)) → ((number : ℕ) → ¬ (HasShape words (command.Load number))) → (takes app words ≡ true → s ≡ stop.Memory)
-    → (s ≡ stop.Words) ⊎ (s ≡ stop.Memory) → StopsForWords words s
-refused app words s is no_client no_load passes (inr memory) = subst (λ s. StopsForWords words s) (sym memory) tt
-refused app words s is no_client no_load passes (inl bad) = subst (λ s. StopsForWords words s) (sym bad) none
+pub refused : (app : App) (words : List Text) (s : Stop) → app ≡ commands → ((path : List ℕ) → ¬ (IsAt (codes "client") words path)) → ((path : List ℕ) → ¬ (IsAt (codes "host") words path))
+    → ((number : ℕ) → ¬ (HasShape words (command.Load number))) → (takes app words ≡ true → s ≡ stop.Memory) → (s ≡ stop.Words) ⊎ (s ≡ stop.Memory) → StopsForWords words s
+refused app words s is no_client no_host no_load passes (inr memory) = subst (λ s. StopsForWords words s) (sym memory) tt
+refused app words s is no_client no_host no_load passes (inl bad) = subst (λ s. StopsForWords words s) (sym bad) none
   where
     not_both : stop.Words ≡ stop.Memory → ⊥
     not_both is = absurd (cc)
@@ -217,3 +219,4 @@ refused app words s is no_client no_load passes (inl bad) = subst (λ s. StopsFo
     none command.Decode shape = not_named decode shape
     none (command.Load number) shape = no_load number shape
     none (command.Client path) shape = no_client path.now shape
+    none (command.Host path) shape = no_host path.now shape

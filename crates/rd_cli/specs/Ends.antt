@@ -8,12 +8,13 @@ use Rattle.rd_cli.specs.Playing.{IsEndOfBoth}
 use Rattle.rd_cli.specs.Decoding.{IsEndOfDecode}
 use Rattle.rd_cli.specs.Loading.{IsEndOfLoad}
 use Rattle.rd_cli.specs.Client.{IsEndOfClient}
+use Rattle.rd_cli.specs.Host.{IsEndOfHost}
 use Rattle.rd_cli.specs.declared.words.Command.{Command}
 use Rattle.rd_cli.specs.declared.words.Command.TheVariants as command
 use Rattle.rd_cli.specs.declared.stop.Stop.TheVariants as stop
 
--- how each command ends with a status; but for `client` none uses the linker; `decode` and `client` touch no recording, `decode` stores no journal, and
--- `load` reads no input
+-- how each command ends with a status; but for `client` and `host` none uses the linker; `decode`, `client` and `host` touch no recording, `decode` and `host` store no
+-- journal, and `load` reads no input
 abbrev pub EndsCommand : {S K R L : Type 0} → Command → (before after : Outside S K R) → (linked linked_after : Linked L) → List (ℕ × History) → ℕ → Type 0
 EndsCommand command.Both before after linked linked_after books status = IsEndOfBoth before after books status × (linked_after ≡ linked)
 EndsCommand command.Decode before after linked linked_after books status =
@@ -22,6 +23,8 @@ EndsCommand (command.Load number) before after linked linked_after books status 
     IsEndOfLoad number before.output after.output before.recording after.recording books status × (after.input ≡ before.input) × (linked_after ≡ linked)
 EndsCommand (command.Client path) before after linked linked_after books status =
     IsEndOfClient before.input after.input before.output after.output linked linked_after books status × (after.recording ≡ before.recording)
+EndsCommand (command.Host path) before after linked linked_after books status =
+    IsEndOfHost before.input after.input before.output after.output linked linked_after status × (after.recording ≡ before.recording) × (books ≡ [])
 
 -- Words that are no command are refused, and nothing but the output was touched. It says so, unless the write of that failed or memory ran out before.
 pub record RefusesWords {S K R L : Type 0} (before after : Outside S K R) (linked linked_after : Linked L) (books : List (ℕ × History)) (status : ℕ) : Type 0 where

@@ -20,7 +20,7 @@ pub record AreFaultless {S K R : Type 0} (before after : Outside S K R) : Type 0
   pub output : IsFaultless before.output after.output
   pub recording : IsFaultless before.recording after.recording
 
--- What gives the channels of a client: itself, what it tells of them, where it can, and its counts of channels that couldn't be had, and of faults on channels; and the moment at which
+-- What gives the channels of a client or a host: itself, what it tells of them, where it can, and its counts of channels that couldn't be had, and of faults on channels; and the moment at which
 -- requests run, where the clock tells one.
 pub record Linked (L : Type 0) : Type 0 where
   pub itself : L

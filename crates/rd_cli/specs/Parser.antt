@@ -10,6 +10,7 @@ IsNameOf name command.Both = name ≡ Some (codes "both")
 IsNameOf name command.Decode = name ≡ Some (codes "decode")
 IsNameOf name (command.Load number) = ⊥
 IsNameOf name (command.Client path) = ⊥
+IsNameOf name (command.Host path) = ⊥
 
 -- no command
 abbrev pub no_command : App

@@ -19,26 +19,27 @@ abbrev pub FindsLoadNumber : List ℕ → Option ℕ → Type 0
 FindsLoadNumber word (Some number) = (word ≡ decimal number) × IsLoadNumber number
 FindsLoadNumber word None = (number : ℕ) → IsLoadNumber number → ¬ (word ≡ decimal number)
 
--- whether a word may be a client's path: it isn't empty, and no flag
+-- whether a word may be a path: it isn't empty, and no flag
 abbrev pub is_path : List ℕ → Bool
 is_path [] = false
 is_path (byte ∷ rest) = not (byte == 45)
 
--- the words are the client of the host at this path
-abbrev pub IsClient : List (List ℕ) → List ℕ → Type 0
-IsClient words path = (words ≡ codes "client" ∷ path ∷ []) × (is_path path ≡ true)
+-- the words are a command of this name at this path
+abbrev pub IsAt : List ℕ → List (List ℕ) → List ℕ → Type 0
+IsAt name words path = (words ≡ name ∷ path ∷ []) × (is_path path ≡ true)
 
--- the words are a client of this path, or of none
-abbrev pub FindsClient : List (List ℕ) → Option (List ℕ) → Type 0
-FindsClient words (Some path) = IsClient words path
-FindsClient words None = (path : List ℕ) → ¬ (IsClient words path)
+-- the words are a command of this name at this path, or at none
+abbrev pub FindsAt : List ℕ → List (List ℕ) → Option (List ℕ) → Type 0
+FindsAt name words (Some path) = IsAt name words path
+FindsAt name words None = (path : List ℕ) → ¬ (IsAt name words path)
 
 -- the words are this command
 abbrev pub HasShape : List (List ℕ) → Command → Type 0
 HasShape words command.Both = words ≡ codes "both" ∷ []
 HasShape words command.Decode = words ≡ codes "decode" ∷ []
 HasShape words (command.Load number) = (words ≡ codes "load" ∷ decimal number ∷ []) × IsLoadNumber number
-HasShape words (command.Client path) = IsClient words path.now
+HasShape words (command.Client path) = IsAt (codes "client") words path.now
+HasShape words (command.Host path) = IsAt (codes "host") words path.now
 
 -- the words are the load of this number, or of none
 abbrev pub FindsLoad : List (List ℕ) → Option ℕ → Type 0

@@ -76,7 +76,7 @@ message_word (message.Order state packet) = codes "Order"
 message_word (message.Grammar bad) = field_word bad.why
 message_word message.Memory = codes "Memory"
 
--- the word for what is wrong with what the host sent
+-- the word for what is wrong with what the other side sent
 abbrev pub end_word : EndWhy → List ℕ
 end_word (end.Chunk cause) = chunk_word cause
 end_word (end.Message fault) = message_word fault
@@ -89,7 +89,7 @@ abbrev pub in_message : ℕ → EndWhy → List ℕ
 in_message n (end.Chunk cause) = codes "\n"
 in_message n _ = codes " in " ++ decimal n ++ codes "\n"
 
--- the line for what is wrong with what the host sent on a channel
+-- the line for what is wrong with what the other side sent on a channel
 abbrev pub channel_line : (channel at message : ℕ) → EndWhy → List ℕ
 channel_line channel at n cause = codes "channel " ++ decimal channel ++ codes " at " ++ decimal at ++ codes " " ++ end_word cause ++ in_message n cause
 

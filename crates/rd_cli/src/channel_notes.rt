@@ -1,5 +1,5 @@
-//! What the notes say to a person of the channel whose end is that of a client's session: what is wrong with what came on it. No contract speaks of
-//! it, and where it can't be said it is left out.
+//! What the notes say to a person of the channel whose end is that of a session: what is wrong with what came on it. No contract speaks of it, and
+//! where it can't be said it is left out.
 
 use rd_base::{Sink, Why, write_all};
 use rd_carry::{EndWhy, Ended};
@@ -7,8 +7,8 @@ use rd_chunk::ChunkWhy;
 use rd_hello::EndFault;
 use std::alloc::{AllocError, Global};
 
-/// Says which channel ended a session, and why, if what came on it did.
-pub fn note_channel<N: Sink>(alloc: Global, notes: &mut N, ended: Ended) {
+/// Says which channel ended a session, and why, if what the peer sent on it did.
+pub fn note_channel<N: Sink>(alloc: Global, notes: &mut N, peer: &str, ended: Ended) {
     if let Ended::Channel {
         channel,
         at,
@@ -16,7 +16,7 @@ pub fn note_channel<N: Sink>(alloc: Global, notes: &mut N, ended: Ended) {
         why,
     } = ended
     {
-        if let Ok(note) = channel_note(alloc, channel, at, message, why) {
+        if let Ok(note) = channel_note(alloc, peer, channel, at, message, why) {
             let _ = write_all(notes, note.as_bytes());
         }
     }
@@ -24,6 +24,7 @@ pub fn note_channel<N: Sink>(alloc: Global, notes: &mut N, ended: Ended) {
 
 fn channel_note(
     alloc: Global,
+    peer: &str,
     channel: u32,
     at: u64,
     message: u64,
@@ -32,13 +33,13 @@ fn channel_note(
     let said = said_of(why);
     match why {
         EndWhy::Chunk(_) => format!(in alloc;
-            "rdr: channel {channel}: in the frame at byte {at} of what the host sent, {said}\n"
+            "rdr: channel {channel}: in the frame at byte {at} of what the {peer} sent, {said}\n"
         ),
         EndWhy::Message(EndFault::Order { state, packet }) => format!(in alloc;
-            "rdr: channel {channel}: after {message} messages the host sent packet {packet:#06x}, which isn't read in state {state}\n"
+            "rdr: channel {channel}: after {message} messages the {peer} sent packet {packet:#06x}, which isn't read in state {state}\n"
         ),
         _ => format!(in alloc;
-            "rdr: channel {channel}: after {message} messages the host sent one in which, at byte {at}, {said}\n"
+            "rdr: channel {channel}: after {message} messages the {peer} sent one in which, at byte {at}, {said}\n"
         ),
     }
 }

@@ -90,7 +90,7 @@ fn why_word(why: FaultWhy) -> &'static str
     }
 }
 
-/// The line for what is wrong with what the host sent on a channel.
+/// The line for what is wrong with what the other side sent on a channel.
 fn channel_line(
     alloc: Global,
     channel: u32,
@@ -115,7 +115,7 @@ fn in_message(alloc: Global, message: u64, why: EndWhy) -> Result<String, AllocE
     }
 }
 
-/// The word for what is wrong with what the host sent.
+/// The word for what is wrong with what the other side sent.
 fn end_word(why: EndWhy) -> &'static str
     ensures { result.now ≡ end_word why }
 {

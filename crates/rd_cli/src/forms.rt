@@ -1,10 +1,13 @@
 //! The forms of a script's lines, and what their words stand for.
 
-/// Each form of a line that `both` or `client` reads: of these `client` reads `workers` to `printer`, and those with `at`. A word that begins with a capital letter stands for what may be chosen.
-pub const FORMS: [&str; 45] = [
+/// Each form of a line. `client` reads `workers` to `printer`, and those with `at`; `host` reads `devices`, `drop`, `connect`, and those of
+/// applications; `both` reads all but `devices`, `channels`, `real`, and those with `at`. A word that begins with a capital letter stands for what
+/// may be chosen.
+pub const FORMS: [&str; 46] = [
     "seed NUM",
     "clock NUM",
     "piece NUM",
+    "devices NUM",
     "workers NUM",
     "channels NUM",
     "drive D NAME",

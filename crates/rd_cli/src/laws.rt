@@ -8,7 +8,7 @@ ghost use Rattle.rd_cli.specs.Outside.{Stream};
 ghost use Rattle.rd_cli.specs.Summary.{summary_of};
 ghost use Rattle.rd_cli.specs.Worked.{outcomes_worked};
 ghost use Rattle.rd_decode.specs.Recording.{decoded};
-ghost use Rattle.rd_printed.specs.Printed.{lines_by};
+ghost use Rattle.rd_readable.specs.PrintedPrinted.{lines_by};
 ghost use Rattle.rd_script.specs.declared.outcome.Outcomes.{Outcomes};
 ghost use Rattle.rd_script.specs.declared.script.Script.{Script};
 

@@ -4,7 +4,7 @@
 //! It stands on all layers below. `program` is what `main` calls, with the words that `words_of` finds. `run` finds the command that the words are, by
 //! `clap`, and runs it: `both` reads a script whole, plays it through both sides of its session, whose every frame goes into a recording, and reports what
 //! came of each line; `load` plays the script of a number and prints a summary of what came of it; `client` serves a script's devices over a
-//! linker's channels, by threads; `decode` prints a recording.
+//! linker's channels, and `host` plays a script's applications over them, both by threads; `decode` prints a recording.
 //!
 //! Cost: `both` reads its input once, in pieces of 8,192 bytes, and writes its report once; `load` goes once over the bytes that were read; what `decode` costs stands in `rd_decode`.
 #![tactic(auto)]
@@ -16,12 +16,14 @@ mod client;
 mod decoding;
 mod ending;
 mod forms;
+mod host;
 mod idle_notes;
 mod input;
 mod laws;
 mod load;
 mod notes;
 mod playing;
+mod serving;
 mod stop;
 mod summary;
 mod top;
@@ -31,4 +33,4 @@ pub use arguments::words_of;
 pub use decoding::decode;
 pub use laws::{recordings_are_read, summaries_are_as_listed};
 pub use top::{program, run};
-pub use words::path_of;
+pub use words::{client_path_of, host_path_of};

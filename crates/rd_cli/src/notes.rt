@@ -20,6 +20,8 @@ usage: rdr both < SCRIPT
        rdr client PATH < SCRIPT
          serves the devices of a client's script over the channels that it dials at the socket PATH, one after the other, and prints how many
          requests each of them ran
+       rdr host PATH < SCRIPT
+         plays a host's script over the channels that are dialed at the socket PATH, where it listens, and prints what came of each line
        rdr decode < RECORDING
          prints a line for each message of a recording, and names the first fault (docs/RECORDING.md)
 ";

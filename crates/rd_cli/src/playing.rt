@@ -4,7 +4,7 @@ ghost use Rattle.std.specs.Prelude.{◌≡◌, [], IfErr, IfOk};
 ghost use Rattle.rd_cli.specs.Headline.{Played};
 ghost use Rattle.rd_cli.specs.Outside.{stream};
 ghost use Rattle.rd_cli.specs.Playing.{StopsForRecording};
-ghost use Rattle.rd_loads.specs.AllPremises.{MeetPremises};
+ghost use Rattle.rd_headline.specs.LoadsAllPremises.{MeetPremises};
 ghost use Rattle.rd_script.specs.Report.{AreCountable};
 
 use crate::stop::Stop;

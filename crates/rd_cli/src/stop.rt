@@ -27,16 +27,16 @@ pub enum Stop {
     Recording,
     /// This is the first fault of the recording that was to be printed.
     Fault(Fault),
-    /// What the host sent on a client's channel is wrong. The fields are those of `Ended::Channel`.
+    /// What the other side sent on a channel is wrong. The fields are those of `Ended::Channel`.
     Channel {
         channel: u32,
         at: u64,
         message: u64,
         why: EndWhy,
     },
-    /// A client's channel couldn't be had, or failed.
+    /// A channel couldn't be had, or failed.
     Link,
-    /// The recording, or what came on a client's channel, has 2^40 bytes or more.
+    /// The recording, or what came on a channel, has 2^40 bytes or more.
     Long,
     Memory,
 }

@@ -9,6 +9,7 @@ use crate::both::both;
 use crate::client::client;
 use crate::decoding::decode;
 use crate::ending::end;
+use crate::host::host;
 use crate::load::load;
 use crate::notes::note_usage;
 use crate::stop::Stop;
@@ -22,13 +23,15 @@ use std::thread::Threads;
 
 /// Runs a command and returns the exit status.
 ///
-/// `words` are the command's words without the program's name. `both` reads a script from `input` to its end, plays it, writes a
-/// recording of all frames to `recording` meanwhile, and then the report to `output`. `load` does the same with the script of its
-/// number, reads no input, and writes a summary of one line in the report's place. `decode` reads a recording from `input` and prints its lines to
-/// `output`. `client` reads a client's script from `input` to its end, serves its devices on one channel of `linker` after the other, and then writes
-/// to `output` how many requests each of them ran; `linker` is to dial the path, `clock` tells the moments of the requests, and each worker passes
-/// `gate`. No other command uses these. `books` is to be empty; a session that comes to its end stores its devices' journals there. `notes` is for
-/// people: it gets the usage where the words are no command, what is wrong with a line of a script or on a channel, and why lines did nothing.
+/// `words` are the command's words without the program's name. `both` reads a script from `input` to its end, plays it, writes a recording of all
+/// frames to `recording` meanwhile, and then the report to `output`. `load` does the same with the script of its number, reads no input, and writes a
+/// summary of one line in the report's place. `decode` reads a recording from `input` and prints its lines to `output`. `client` reads a client's
+/// script from `input` to its end, serves its devices on one channel of `linker` after the other, and then writes to `output` how many requests each
+/// of them ran; `linker` is to dial the path, `clock` tells the moments of the requests, and each worker passes `gate`. `host` reads a host's script
+/// from `input` to its end, plays it on one channel of `linker` after the other, and then writes to `output` what came of each line; `linker` is to
+/// listen at the path. No other command uses these. `books` is to be empty; a session of `both`, `load` or `client` that comes to its end stores its
+/// devices' journals there. `notes` is for people: it gets the usage where the words are no command, what is wrong with a line of a script or on a
+/// channel, and why lines did nothing.
 ///
 /// | status | comes where |
 /// |---|---|
@@ -36,8 +39,8 @@ use std::thread::Threads;
 /// | 1 | the words are no command (`bad words` on `output`), or a line of the script is refused (`line N WHY`) |
 /// | 2 | a read of the input failed |
 /// | 3 | a write to the output or the recording failed |
-/// | 4 | what should be a recording has a fault (`fault at A WHY`), or what came on a client's channel (`channel C at A WHY`) |
-/// | 5 | a client's channel couldn't be had, or a read or a write on it failed |
+/// | 4 | what should be a recording has a fault (`fault at A WHY`), or what came on a channel (`channel C at A WHY`) |
+/// | 5 | a channel couldn't be had, or a read or a write on it failed |
 /// | 6 | memory ran out |
 /// | 7 | what should be a recording, or came on a channel, has 2^40 bytes or more (`long`) |
 ///
@@ -77,6 +80,7 @@ pub fn run<
         Ok(Command::Client(_)) => client(
             rt, alloc, input, output, notes, linker, clock, gate, books,
         ),
+        Ok(Command::Host(_)) => host(rt, alloc, input, output, notes, linker),
         Err(stop) => {
             if let Stop::Words = stop {
                 note_usage(notes);

@@ -1,9 +1,9 @@
 //! The command that the words are.
 
-ghost use Rattle.std.specs.Prelude.{◌≡◌, ◌⊎◌, ℕ, false, List, IfOk, IfErr, get_or, map, nat_lt, option_map, string_bytes};
+ghost use Rattle.std.specs.Prelude.{◌≡◌, ◌⊎◌, ℕ, false, List, IfOk, IfErr, codes, get_or, map, nat_lt, option_map, string_bytes};
 ghost use Rattle.std.specs.List.{list_any};
 ghost use Rattle.clap.specs.Words.{app_of};
-ghost use Rattle.rd_cli.specs.Shapes.{FindsClient, FindsLoad, FindsLoadNumber, HasShape, IsClient, StopsForWords, is_flag, is_path};
+ghost use Rattle.rd_cli.specs.Shapes.{FindsAt, FindsLoad, FindsLoadNumber, HasShape, IsAt, StopsForWords, is_flag, is_path};
 ghost use Rattle.rd_cli.specs.declared.words.Command.{Command};
 ghost use Rattle.rd_cli.specs.Parser.{IsNameOf, commands};
 
@@ -24,6 +24,8 @@ pub enum Command<'a> {
     Load(u32),
     /// The client of the host that listens at this path.
     Client(&'a str),
+    /// The host that listens at this path.
+    Host(&'a str),
 }
 
 /// The command whose shape the words have.
@@ -34,8 +36,11 @@ pub fn command_of(alloc: Global, words: &[String]) -> Result<Command<'_>, Stop>
     if has_flag(words) {
         return Err(Stop::Words);
     }
-    if let Some(path) = path_of(words) {
+    if let Some(path) = client_path_of(words) {
         return Ok(Command::Client(path));
+    }
+    if let Some(path) = host_path_of(words) {
+        return Ok(Command::Host(path));
     }
     match load_of(words) {
         Some(number) => Ok(Command::Load(number)),
@@ -61,12 +66,26 @@ fn is_flag(word: &String) -> bool
 }
 
 /// The path of the client that the words are, if they are one.
-pub fn path_of(words: &[String]) -> Option<&str>
-    ensures { FindsClient (map string_bytes words.now) (option_map (λ path. path.now) result) }
+pub fn client_path_of(words: &[String]) -> Option<&str>
+    ensures { FindsAt (codes "client") (map string_bytes words.now) (option_map (λ path. path.now) result) }
+{
+    path_of("client", words)
+}
+
+/// The path of the host that the words are, if they are one.
+pub fn host_path_of(words: &[String]) -> Option<&str>
+    ensures { FindsAt (codes "host") (map string_bytes words.now) (option_map (λ path. path.now) result) }
+{
+    path_of("host", words)
+}
+
+/// The path of the command of this name that the words are, if they are one.
+fn path_of<'a>(name: &str, words: &'a [String]) -> Option<&'a str>
+    ensures { FindsAt name.now (map string_bytes words.now) (option_map (λ path. path.now) result) }
 {
     match words {
-        [name, path] => {
-            if name.as_str() == "client" && is_path(path.as_bytes()) {
+        [first, path] => {
+            if first.as_str() == name && is_path(path.as_bytes()) {
                 Some(path.as_str())
             } else {
                 None
@@ -76,7 +95,7 @@ pub fn path_of(words: &[String]) -> Option<&str>
     }
 }
 
-/// Whether a word may be a client's path: it isn't empty, and no flag.
+/// Whether a word may be a path: it isn't empty, and no flag.
 fn is_path(word: &[u8]) -> bool
     ensures { result ≡ is_path word.now }
 {
@@ -132,7 +151,8 @@ fn is_above_zero(word: &[u8]) -> bool
 /// The command of one word that the parser finds in words of which none begins with a hyphen.
 fn parsed<'a>(alloc: Global, words: &[String]) -> Result<Command<'a>, Stop>
     requires plain { list_any is_flag (map string_bytes words.now) ≡ false }
-    requires no_client { (path : List ℕ) → ¬ (IsClient (map string_bytes words.now) path) }
+    requires no_client { (path : List ℕ) → ¬ (IsAt (codes "client") (map string_bytes words.now) path) }
+    requires no_host { (path : List ℕ) → ¬ (IsAt (codes "host") (map string_bytes words.now) path) }
     requires no_load { (number : ℕ) → ¬ (HasShape (map string_bytes words.now) (Command.Load number)) }
     ensures command { IfOk result (HasShape (map string_bytes words.now)) }
     ensures err { IfErr result (StopsForWords (map string_bytes words.now)) }

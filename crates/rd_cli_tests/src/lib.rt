@@ -2,7 +2,9 @@
 #![tactic(auto)]
 
 #[cfg(test)]
-mod clients;
+mod channels;
+#[cfg(test)]
+mod outside;
 #[cfg(test)]
 mod programs;
 #[cfg(test)]

@@ -1,6 +1,7 @@
 //! The program over real files: its exit status, what it prints, and the recording that it leaves in the current folder.
+use crate::outside::{sink, source, strings};
 use crate::running::program_on;
-use rd_base::{Bytes, Calls, FileSink, MemSink, MemSource, Sink, StdSink};
+use rd_base::{Calls, FileSink, MemSink, Sink, StdSink};
 use rd_cli::words_of;
 use rd_link::{FixedClock, MemLinker, NoGate};
 use std::alloc::{AllocError, Global};
@@ -34,11 +35,11 @@ fn ended<K: Sink>(
     output: &mut K,
 ) -> Result<ExitCode, AllocError> {
     let alloc = rt.alloc();
-    let words = vec![in alloc; String::from_str(alloc, word)?]?;
-    let mut input = MemSource::new(Bytes::of(input.to_vec(alloc)?), never(alloc));
+    let words = strings(alloc, &[word])?;
+    let mut input = source(alloc, input, &[])?;
+    let mut linker = MemLinker::new(alloc, Vec::new(alloc), never(alloc))?;
     let mut recording = FileSink::new(rt, path);
     let mut notes = MemSink::new(alloc, never(alloc));
-    let mut linker = MemLinker::new(alloc, Vec::new(alloc), never(alloc))?;
     Ok(program_on(
         rt,
         alloc,
@@ -60,7 +61,7 @@ fn printed(
     word: &str,
     input: &[u8],
 ) -> Result<(ExitCode, MemSink), AllocError> {
-    let mut output = MemSink::new(rt.alloc(), never(rt.alloc()));
+    let mut output = sink(rt.alloc(), &[])?;
     let code = ended(rt, path, word, input, &mut output)?;
     Ok((code, output))
 }
@@ -135,10 +136,10 @@ fn ends_with_3_on_a_full_disk(rt: HostRuntime) -> Result<(), Fail> {
 #[test]
 fn ends_with_6_without_memory_for_its_words(rt: HostRuntime) -> Result<(), Fail> {
     let alloc = rt.alloc();
-    let mut input = MemSource::new(Bytes::of(Vec::new(alloc)), never(alloc));
-    let mut output = MemSink::new(alloc, never(alloc));
-    let mut recording = MemSink::new(alloc, never(alloc));
-    let mut notes = MemSink::new(alloc, never(alloc));
+    let mut input = source(alloc, b"", &[])?;
+    let mut output = sink(alloc, &[])?;
+    let mut recording = sink(alloc, &[])?;
+    let mut notes = sink(alloc, &[])?;
     let mut linker = MemLinker::new(alloc, Vec::new(alloc), never(alloc))?;
     let code = program_on(
         &rt,

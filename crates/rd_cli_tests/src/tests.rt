@@ -1,7 +1,7 @@
 //! What ends a command, and what it leaves: the report, the recording, the journal and the notes.
-use crate::running::run_on;
-use rd_base::{Books, Bytes, Calls, Cause, Item, Key, MemSink, MemSource};
-use rd_link::{FixedClock, MemLinker, NoGate};
+use crate::outside::{Outside, Remains, sink, source, strings};
+use rd_base::{Books, Calls, Cause, Item, Key};
+use rd_link::MemLinker;
 use std::alloc::{AllocError, Global};
 use std::process::Abort;
 use std::sync::Wait;
@@ -67,17 +67,22 @@ const RECORDING: &str = "5244525245433031\
 /// No call on the outside fails.
 const NEVER: [&[u64]; 3] = [&[], &[], &[]];
 
-/// What a command leaves.
-#[derive(Drop)]
-struct Remains {
-    status: u8,
-    output: Vec<u8>,
-    recording: Vec<u8>,
-    notes: Vec<u8>,
-    journal: Vec<Item>,
+/// What a command over a script is run on, with no channel. The reads, the writes to the output and those to the recording with these numbers fail.
+fn outside_of(
+    alloc: Global,
+    script: &[u8],
+    [reads, outputs, recordings]: [&[u64]; 3],
+) -> Result<Outside, AllocError> {
+    Ok(Outside {
+        input: source(alloc, script, reads)?,
+        output: sink(alloc, outputs)?,
+        recording: sink(alloc, recordings)?,
+        notes: sink(alloc, &[])?,
+        linker: MemLinker::new(alloc, Vec::new(alloc), Calls::of(Vec::new(alloc)))?,
+    })
 }
 
-/// A command over a script, with no channel. The reads, the writes to the output and those to the recording with these numbers fail.
+/// What a command leaves of a script.
 fn command(
     rt: &(impl Threads + Wait + Sync + AllocGlobal),
     words: &[&str],
@@ -85,62 +90,9 @@ fn command(
     fails: [&[u64]; 3],
 ) -> Result<Remains, AllocError> {
     let alloc = rt.alloc();
-    let [reads, outputs, recordings] = fails;
     let words = strings(alloc, words)?;
-    let mut input = source(alloc, script, reads)?;
-    let mut output = sink(alloc, outputs)?;
-    let mut recording = sink(alloc, recordings)?;
-    let mut notes = sink(alloc, &[])?;
-    let mut linker = MemLinker::new(alloc, Vec::new(alloc), Calls::of(Vec::new(alloc)))?;
-    let mut books = Books::new(alloc);
-    let status = run_on(
-        rt,
-        alloc,
-        words.as_slice(),
-        &mut input,
-        &mut output,
-        &mut recording,
-        &mut notes,
-        &mut linker,
-        &FixedClock(0),
-        &NoGate {},
-        &mut books,
-    );
-    copies_of(alloc, status, [&output, &recording, &notes], &books)
-}
-
-fn strings(alloc: Global, words: &[&str]) -> Result<Vec<String>, AllocError> {
-    words
-        .iter()
-        .map(|word| String::from_str(alloc, word))
-        .try_collect(alloc)
-}
-
-/// A source of a script whose reads with these numbers fail.
-fn source(alloc: Global, script: &[u8], fails: &[u64]) -> Result<MemSource, AllocError> {
-    let fails = Calls::of(fails.to_vec(alloc)?);
-    Ok(MemSource::new(Bytes::of(script.to_vec(alloc)?), fails))
-}
-
-/// An empty sink whose writes with these numbers fail.
-fn sink(alloc: Global, fails: &[u64]) -> Result<MemSink, AllocError> {
-    Ok(MemSink::new(alloc, Calls::of(fails.to_vec(alloc)?)))
-}
-
-/// A status, and copies of what a command left in its sinks and books.
-fn copies_of(
-    alloc: Global,
-    status: u8,
-    [output, recording, notes]: [&MemSink; 3],
-    books: &Books,
-) -> Result<Remains, AllocError> {
-    Ok(Remains {
-        status,
-        output: output.bytes().to_vec(alloc)?,
-        recording: recording.bytes().to_vec(alloc)?,
-        notes: notes.bytes().to_vec(alloc)?,
-        journal: entries(books).to_vec(alloc)?,
-    })
+    let outside = outside_of(alloc, script, fails)?;
+    Ok(outside.run(rt, alloc, words.as_slice()))
 }
 
 /// The entries of the drive's journal.
@@ -161,11 +113,7 @@ fn ends(
 ) -> Result<(), Fail> {
     let left = command(rt, words, script, fails)?;
     assert_eq!(rt;
-        (
-            left.status,
-            left.output.as_slice(),
-            left.recording.as_slice()
-        ),
+        (left.status, left.output.bytes(), left.recording.bytes()),
         wanted,
         "{words:?}, {fails:?}"
     );
@@ -195,8 +143,8 @@ fn completed(index: u64) -> [Item; 3] {
 #[test]
 fn keeps_a_journal(rt: HostRuntime) -> Result<(), Fail> {
     let left = command(&rt, &["both"], SCRIPT, NEVER)?;
-    let entries = [completed(0), completed(1), completed(2)];
-    assert_eq!(rt; left.journal.as_slice(), entries.as_flattened());
+    let wanted = [completed(0), completed(1), completed(2)];
+    assert_eq!(rt; entries(&left.books), wanted.as_flattened());
     Ok(())
 }
 
@@ -226,7 +174,7 @@ fn comes_to(
     wanted: (u8, &[u8]),
 ) -> Result<Remains, Fail> {
     let left = command(rt, words, script, NEVER)?;
-    assert_eq!(rt; (left.status, left.output.as_slice()), wanted, "{words:?}");
+    assert_eq!(rt; (left.status, left.output.bytes()), wanted, "{words:?}");
     Ok(left)
 }
 
@@ -262,9 +210,9 @@ document 2.1 6869
 fn plays_whole_sessions(rt: HostRuntime) -> Result<(), Fail> {
     let left = comes_to(&rt, &["both"], WHOLE, (0, WHOLE_REPORT))?;
     // The drive's journal ends with the removal.
-    assert!(rt; matches!(left.journal.as_slice(), [.., Item::Cut(Cause::Removed)]));
+    assert!(rt; matches!(entries(&left.books), [.., Item::Cut(Cause::Removed)]));
     // The channel's end is what is recorded last.
-    assert!(rt; left.recording.as_slice().ends_with(b"\x03"));
+    assert!(rt; left.recording.bytes().ends_with(b"\x03"));
     Ok(())
 }
 
@@ -275,21 +223,17 @@ const LOAD: &[u8] = b"load 2 accepted 24 done 24 lost 0 bytes 32768 sum 98304\n"
 fn plays_a_load(rt: HostRuntime) -> Result<(), Fail> {
     let words = ["load", "2"];
     let left = comes_to(&rt, &words, b"nothing is read", (0, LOAD))?;
-    assert_eq!(rt; left.recording.len(), 68_855);
+    assert_eq!(rt; left.recording.bytes().len(), 68_855);
     // What is recorded goes out in pieces: where the first can't be written, the second isn't.
     let first = [[1].as_slice(), &[], &[1]];
     ends(&rt, &words, b"", first, (3, b"", b""))?;
     // Where the second can't be, the first has been.
     let second = [[1].as_slice(), &[], &[2]];
     let cut = command(&rt, &words, b"", second)?;
-    let written = cut.recording.len();
-    assert_eq!(rt; (cut.status, cut.output.as_slice()), (3, b"".as_slice()));
+    let written = cut.recording.bytes().len();
+    assert_eq!(rt; (cut.status, cut.output.bytes()), (3, b"".as_slice()));
     assert!(rt; 65_536 <= written && written < 68_855, "{written}");
-    assert!(rt;
-        left.recording
-            .as_slice()
-            .starts_with(cut.recording.as_slice())
-    );
+    assert!(rt; left.recording.bytes().starts_with(cut.recording.bytes()));
     Ok(())
 }
 
@@ -320,7 +264,7 @@ fn writes_lines_in_pieces(rt: HostRuntime) -> Result<(), Fail> {
     let second = [[].as_slice(), &[2], &[]];
     let left = command(&rt, &["decode"], recording.as_slice(), second)?;
     assert_eq!(rt; left.status, 3);
-    let written = left.output.len();
+    let written = left.output.bytes().len();
     assert!(rt; 0 < written && written < 200_000, "{written}");
     Ok(())
 }
@@ -370,7 +314,7 @@ fn holds_scripts_to_their_most_lines(rt: HostRuntime) -> Result<(), Fail> {
     ] {
         let script = vec![in rt.alloc(); b'\n'; lines]?;
         let left = comes_to(&rt, &["both"], script.as_slice(), wanted)?;
-        assert_eq!(rt; left.recording.is_empty(), left.status != 0);
+        assert_eq!(rt; left.recording.bytes().is_empty(), left.status != 0);
     }
     Ok(())
 }
@@ -408,6 +352,11 @@ fn knows_each_command_by_its_words(rt: HostRuntime) -> Result<(), Fail> {
         &["client", "-"],
         &["client", "a", "b"],
         &["a", "client"],
+        &["host"],
+        &["host", ""],
+        &["host", "-"],
+        &["host", "a", "b"],
+        &["a", "host"],
     ] {
         refuses(&rt, words, SCRIPT, b"bad words\n")?;
     }
@@ -452,6 +401,7 @@ fn tells_people_what_is_wrong(rt: HostRuntime) -> Result<(), Fail> {
         (["help"], SCRIPT, "rdr decode < RECORDING"),
         (["help"], SCRIPT, "rdr load N"),
         (["help"], SCRIPT, "rdr client PATH < SCRIPT"),
+        (["help"], SCRIPT, "rdr host PATH < SCRIPT"),
         (["decode"], CUT, ""),
         (
             ["both"],
@@ -472,7 +422,7 @@ fn tells_people_what_is_wrong(rt: HostRuntime) -> Result<(), Fail> {
         (["both"], SCRIPT, ""),
     ] {
         let left = command(&rt, &words, script, NEVER)?;
-        let notes = std::str::from_utf8(left.notes.as_slice())?;
+        let notes = std::str::from_utf8(left.notes.bytes())?;
         assert!(rt;
             notes.contains(told) && notes.is_empty() == told.is_empty(),
             "{notes}"

@@ -32,7 +32,7 @@ use Rattle.rd_world.specs.Events.{deed_on}
 use Rattle.rd_world.specs.Talk.{Deed, EndsWith, Has, client_read, client_reads, completes, head_in, is_request, journal, request_in, tells, stores, removes, adds, submits, takes, host_begins, host_ends, host_writes, host_reads, client_writes}
 use Rattle.rd_world.specs.Told.{CompletesWith, came, came_as, is_of_device, requests_to, told, told_at}
 use Rattle.rd_world.specs.World.{Kept, WorldState}
-use Rattle.rd_runs.proofs.Insides.{AreOwn, IsInside, IsOwn}
+use Rattle.rd_journals.proofs.RunsInsides.{AreOwn, IsInside, IsOwn}
 use Rattle.rd_directs.specs.Turns.{InTurn, DirectTurn, TurnIn, Turns, kept_at, never, said}
 
 -- ---- lists

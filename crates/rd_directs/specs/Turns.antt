@@ -6,7 +6,7 @@ use Rattle.rd_base.specs.declared.journal.Key.{Key}
 use Rattle.rd_client.specs.Core.{Outgoing}
 use Rattle.rd_hello.specs.declared.end_fault.EndFault.{EndFault}
 use Rattle.rd_irp.specs.declared.request.Request.{Request}
-use Rattle.rd_runs.proofs.Parts.{IsBehind, MayBe, Part, client_hears_one, tries_one}
+use Rattle.rd_journals.proofs.RunsParts.{IsBehind, MayBe, Part, client_hears_one, tries_one}
 use Rattle.rd_script.specs.declared.line.NumberedLine.{NumberedLine}
 use Rattle.rd_station.specs.Station.{StationState, held}
 use Rattle.rd_world.specs.Events.{deed_on}

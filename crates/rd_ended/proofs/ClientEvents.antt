@@ -6,9 +6,9 @@ use Rattle.rd_client.specs.Events.{waiting_messages}
 use Rattle.rd_client.specs.declared.heard.Heard.{Heard}
 use Rattle.rd_hello.specs.declared.end_fault.EndFault.{EndFault}
 use Rattle.rd_hello.specs.ClientTable.{client_number}
-use Rattle.rd_orders.proofs.Meeting.{heard_client, inside_traffic, put_client}
-use Rattle.rd_runs.proofs.Insides.{IsInside, Outside, hears_inside, put_inside}
-use Rattle.rd_runs.proofs.TrafficLemmas.{Traffic, traffic}
+use Rattle.rd_opening.proofs.OrdersMeeting.{heard_client, inside_traffic, put_client}
+use Rattle.rd_told.proofs.RunsInsides.{IsInside, Outside, hears_inside, put_inside}
+use Rattle.rd_told.proofs.RunsTrafficLemmas.{Traffic, traffic}
 use Rattle.rd_station.specs.Station as station
 use Rattle.rd_station.specs.Station.{StationState}
 use Rattle.rd_station.specs.declared.refusals.PutWhy.{PutWhy}

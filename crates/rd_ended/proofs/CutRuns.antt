@@ -3,9 +3,9 @@ use Rattle.std.proofs.Common.{◌≡◌, ◌∙◌, sym, ap, ℕ, Bool, List, �
 use Rattle.std.specs.Io.KnownBytes.{Appends}
 use Rattle.std.proofs.lemmas.List.{take-append-drop}
 use Rattle.rd_base.specs.declared.journal.Key.{Key}
-use Rattle.rd_orders.specs.Orders.{DeclaresWritable}
-use Rattle.rd_runs.proofs.Reaching.{run_reached}
-use Rattle.rd_runs.specs.Premises.{RunPremises}
+use Rattle.rd_opening.specs.OrdersOrders.{DeclaresWritable}
+use Rattle.rd_told.proofs.RunsReaching.{run_reached}
+use Rattle.rd_told.specs.RunsPremises.{RunPremises}
 use Rattle.rd_script.specs.declared.line.NumberedLine.{NumberedLine}
 use Rattle.rd_world.specs.Recording.{recording_of_deeds}
 use Rattle.rd_world.specs.Run.{Most, WorldRun, run_of}

@@ -10,20 +10,20 @@ use Rattle.std.proofs.lemmas.Bool.{cases_eq}
 use Rattle.std.proofs.lemmas.Bool.Decides.{nat_tests}
 use Rattle.rd_base.specs.declared.journal.Key.{Key}
 use Rattle.rd_drive.specs.declared.plan.Job.{Job}
-use Rattle.rd_journals.proofs.DeclaredLemmas.{bounded_fit}
-use Rattle.rd_journals.proofs.RunLemmas.{reached_orderly}
-use Rattle.rd_orders.proofs.PhaseLemmas.{IsGreeting}
-use Rattle.rd_orders.specs.Orders.{DeclaresWritable}
+use Rattle.rd_told.proofs.JournalsDeclaredLemmas.{bounded_fit}
+use Rattle.rd_told.proofs.JournalsRunLemmas.{reached_orderly}
+use Rattle.rd_opening.proofs.OrdersPhaseLemmas.{IsGreeting}
+use Rattle.rd_opening.specs.OrdersOrders.{DeclaresWritable}
 use Rattle.rd_opening.proofs.Greeting.{IsOpening, opening_step}
 use Rattle.rd_opening.proofs.Rounds.{IsOfRound, IsRoundEvent, round_event_keeps}
 use Rattle.rd_pending.proofs.MapLemmas.{beside, inserted}
-use Rattle.rd_runs.proofs.BeginningLemmas.{Unset, begins_as}
-use Rattle.rd_runs.proofs.Parts.{IsBehind, IsBehindWithin, MayBe, Part, client_gets, client_hears_one, client_keeps_part, client_sends_one, done, hands_out, host_gets, host_hears_one, host_keeps_part, host_sends_one, one_part, part_weight, reached_behind}
-use Rattle.rd_runs.proofs.Reaching.{both}
-use Rattle.rd_runs.proofs.Together.{known}
-use Rattle.rd_runs.proofs.TrafficLemmas.{carried_last}
-use Rattle.rd_runs.specs.Moves.{IsOfLines, MayPass, Reached, ReachedWithin, RunMove, after_move, draws, event_weight, happens, idle, queues, weight}
-use Rattle.rd_runs.specs.Premises.{RunPremises}
+use Rattle.rd_told.proofs.RunsBeginningLemmas.{Unset, begins_as}
+use Rattle.rd_told.proofs.RunsParts.{IsBehind, IsBehindWithin, MayBe, Part, client_gets, client_hears_one, client_keeps_part, client_sends_one, done, hands_out, host_gets, host_hears_one, host_keeps_part, host_sends_one, one_part, part_weight, reached_behind}
+use Rattle.rd_told.proofs.RunsReaching.{both}
+use Rattle.rd_told.proofs.RunsTogether.{known}
+use Rattle.rd_told.proofs.RunsTrafficLemmas.{carried_last}
+use Rattle.rd_told.specs.RunsMoves.{IsOfLines, MayPass, Reached, ReachedWithin, RunMove, after_move, draws, event_weight, happens, idle, queues, weight}
+use Rattle.rd_told.specs.RunsPremises.{RunPremises}
 use Rattle.rd_script.specs.declared.line.NumberedLine.{NumberedLine}
 use Rattle.rd_station.specs.declared.answers.Completion.{Completion}
 use Rattle.rd_station.specs.declared.answers.Given.{Given}

@@ -24,10 +24,10 @@ use Rattle.rd_pending.specs.declared.calls.SubmitNo.{SubmitNo}
 use Rattle.rd_pending.specs.declared.calls.Target.{Target}
 use Rattle.rd_pending.specs.Table as table
 use Rattle.rd_pending.specs.Table.{TableState}
-use Rattle.rd_runs.proofs.Insides.{IsInside, stationed}
-use Rattle.rd_runs.proofs.KeysOn.{AnswersOn, sent_on}
-use Rattle.rd_runs.proofs.Reaching.{both}
-use Rattle.rd_runs.proofs.TrafficLemmas.{Traffic, client_writes_here, completes_here, traffic}
+use Rattle.rd_told.proofs.RunsInsides.{IsInside, stationed}
+use Rattle.rd_told.proofs.RunsKeysOn.{AnswersOn, sent_on}
+use Rattle.rd_told.proofs.RunsReaching.{both}
+use Rattle.rd_told.proofs.RunsTrafficLemmas.{Traffic, client_writes_here, completes_here, traffic}
 use Rattle.rd_script.specs.declared.outcome.Outcome.{Outcome}
 use Rattle.rd_script.specs.declared.outcome.Outcome.TheVariants as outcome
 use Rattle.rd_script.specs.declared.outcome.Refusal.TheVariants as refusal

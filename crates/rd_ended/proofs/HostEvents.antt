@@ -13,7 +13,7 @@ use Rattle.rd_pending.specs.declared.calls.Taken.{Taken}
 use Rattle.rd_pending.specs.declared.calls.TakeNo.{TakeNo}
 use Rattle.rd_pending.specs.Table as table
 use Rattle.rd_pending.specs.Table.{TableState}
-use Rattle.rd_runs.proofs.TrafficLemmas.{Traffic, host_reads_here, traffic}
+use Rattle.rd_told.proofs.RunsTrafficLemmas.{Traffic, host_reads_here, traffic}
 use Rattle.rd_script.specs.declared.outcome.Outcome.{Outcome}
 use Rattle.rd_world.specs.Hearing.{given_handle, holding_under, host_handles, host_handles_first, host_hears, next_asked, reported_outcome, takes_awaited, takes_from, takes_outcome, with_outcome}
 use Rattle.rd_world.specs.Run.{host_count}

@@ -7,8 +7,8 @@ use Rattle.std.proofs.Math.Nat.{le-max_left, le-min, min-le_right, mod-lt}
 use Rattle.std.proofs.lemmas.Bool.Decides.{nat_tests}
 use Rattle.rd_base.specs.declared.journal.Key.{Key}
 use Rattle.rd_drive.proofs.AllLemmas.{all_append}
-use Rattle.rd_runs.proofs.Reaching.{both}
-use Rattle.rd_runs.specs.Moves.{event_weight}
+use Rattle.rd_told.proofs.RunsReaching.{both}
+use Rattle.rd_told.specs.RunsMoves.{event_weight}
 use Rattle.rd_world.proofs.RoundsLemmas.{client_sends_more, client_sent, host_sends_more, host_sent, round}
 use Rattle.rd_world.specs.Events.{Event, act, apply_job, client_has_message, client_read, client_send, client_sends_next, collect, host_has_message, host_read, host_send, host_sends_next, is_empty, is_enabled, is_read, issue, take_job}
 use Rattle.rd_world.specs.Run.{NextStep, all_client_sends, all_host_sends, application_ids, choices, chosen, client_reads_all, device_ids, drawing, drawn_count, event, hand_numbers, host_count, host_reads_all, is_quiet, picked, reads_client, reads_host, rounds, settled, settles_by, takes_of, when_enabled, where_true, while_enabled}

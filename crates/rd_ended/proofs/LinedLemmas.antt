@@ -17,8 +17,8 @@ use Rattle.rd_pending.specs.declared.calls.TakeNo.{TakeNo}
 use Rattle.rd_pending.specs.declared.calls.Target.{Target}
 use Rattle.rd_pending.specs.Table as table
 use Rattle.rd_pending.specs.Table.{TableState}
-use Rattle.rd_runs.proofs.Insides.{IsInside, Outside, added_inside, all_dropped_inside, all_refreshed_inside, applied_inside, removed_inside}
-use Rattle.rd_runs.proofs.Parts.{refreshed_by}
+use Rattle.rd_told.proofs.RunsInsides.{IsInside, Outside, added_inside, all_dropped_inside, all_refreshed_inside, applied_inside, removed_inside}
+use Rattle.rd_told.proofs.RunsParts.{refreshed_by}
 use Rattle.rd_script.specs.declared.outcome.Outcome.{Outcome}
 use Rattle.rd_script.specs.declared.outcome.Outcome.TheVariants as outcome
 use Rattle.rd_script.specs.declared.outcome.Refusal.TheVariants as refusal

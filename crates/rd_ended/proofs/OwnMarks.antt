@@ -13,14 +13,14 @@ use Rattle.std.proofs.lemmas.List.{length-map}
 use Rattle.std.proofs.lemmas.List.Elements.{All-from_recursion, All-head, All-tail}
 use Rattle.rd_base.specs.declared.journal.Item.{Item}
 use Rattle.rd_base.specs.declared.journal.Key.{Key}
-use Rattle.rd_joined.proofs.BookLemmas.{named}
-use Rattle.rd_joined.proofs.JournalLemmas.{each_found}
-use Rattle.rd_journals.proofs.DeclaredLemmas.{bounded_fit}
-use Rattle.rd_journals.proofs.RunLemmas.{reached_orderly}
-use Rattle.rd_journals.specs.Orderly.{Orderly}
+use Rattle.rd_told.proofs.JoinedBookLemmas.{named}
+use Rattle.rd_told.proofs.JoinedJournalLemmas.{each_found}
+use Rattle.rd_told.proofs.JournalsDeclaredLemmas.{bounded_fit}
+use Rattle.rd_told.proofs.JournalsRunLemmas.{reached_orderly}
+use Rattle.rd_told.specs.JournalsOrderly.{Orderly}
 use Rattle.rd_irp.specs.declared.request.Request.{Request}
-use Rattle.rd_runs.specs.Moves.{Reached}
-use Rattle.rd_runs.specs.Premises.{RunPremises}
+use Rattle.rd_told.specs.RunsMoves.{Reached}
+use Rattle.rd_told.specs.RunsPremises.{RunPremises}
 use Rattle.rd_script.specs.declared.line.NumberedLine.{NumberedLine}
 use Rattle.rd_station.specs.Memory.{NamesKey}
 use Rattle.rd_station.specs.Station.{StationState}

@@ -13,7 +13,7 @@ use Rattle.rd_drive.specs.declared.plan.Job.{Job}
 use Rattle.rd_hello.specs.ClientTable.{client_number}
 use Rattle.rd_hello.specs.Moves.{is_of}
 use Rattle.rd_pending.proofs.MapLemmas.{beside, inserted, same_key}
-use Rattle.rd_runs.proofs.TrafficLemmas.{Traffic, traffic}
+use Rattle.rd_told.proofs.RunsTrafficLemmas.{Traffic, traffic}
 use Rattle.rd_station.specs.Station.{StationState}
 use Rattle.rd_world.proofs.RoundsLemmas.{client_count}
 use Rattle.rd_world.specs.declared.device.SessionDevice.{SessionDevice}

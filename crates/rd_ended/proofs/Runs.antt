@@ -4,31 +4,31 @@ use Rattle.std.specs.Prelude.{if◌then◌else◌, is_some}
 use Rattle.std.specs.List.{AllByRecursion}
 use Rattle.std.specs.Option.{option_and_then, option_map_or}
 use Rattle.rd_base.specs.declared.journal.Key.{Key}
-use Rattle.rd_controls.proofs.Walking.{does_keeps}
+use Rattle.rd_opening.proofs.ControlsWalking.{does_keeps}
 use Rattle.rd_hello.specs.Hello.{hello_bytes}
 use Rattle.rd_hello.specs.Own.{host_announce}
 use Rattle.rd_opening.proofs.Greeting.{IsOpening}
 use Rattle.rd_opening.proofs.TellingCounts.{tellings}
-use Rattle.rd_orders.proofs.Meeting.{behind_meets, inside_traffic}
-use Rattle.rd_orders.proofs.PhaseLemmas.{IsGreeting, announces_greet}
-use Rattle.rd_orders.specs.Orders.{DeclaresWritable}
+use Rattle.rd_opening.proofs.OrdersMeeting.{behind_meets, inside_traffic}
+use Rattle.rd_opening.proofs.OrdersPhaseLemmas.{IsGreeting, announces_greet}
+use Rattle.rd_opening.specs.OrdersOrders.{DeclaresWritable}
 use Rattle.rd_pending.specs.Table as table
 use Rattle.rd_pending.specs.Table.{TableState}
 use Rattle.rd_printer.specs.declared.notice.Notice.{Notice}
-use Rattle.rd_runs.proofs.Insides.{all_refreshed_inside}
-use Rattle.rd_runs.proofs.Parts.{reached_behind}
-use Rattle.rd_runs.proofs.Standing.{is_off, shut_now}
-use Rattle.rd_runs.proofs.Together.{known}
-use Rattle.rd_runs.proofs.TrafficLemmas.{Traffic, no_traffic, traffic}
-use Rattle.rd_runs.specs.Moves.{IsOfLines, Reached, event_weight}
-use Rattle.rd_runs.specs.Premises.{RunPremises}
+use Rattle.rd_told.proofs.RunsInsides.{all_refreshed_inside}
+use Rattle.rd_told.proofs.RunsParts.{reached_behind}
+use Rattle.rd_told.proofs.RunsStanding.{is_off, shut_now}
+use Rattle.rd_told.proofs.RunsTogether.{known}
+use Rattle.rd_told.proofs.RunsTrafficLemmas.{Traffic, no_traffic, traffic}
+use Rattle.rd_told.specs.RunsMoves.{IsOfLines, Reached, event_weight}
+use Rattle.rd_told.specs.RunsPremises.{RunPremises}
 use Rattle.rd_script.specs.declared.line.Errand.{Errand}
 use Rattle.rd_script.specs.declared.line.Line.{Line}
 use Rattle.rd_script.specs.declared.line.Line.TheVariants as line
 use Rattle.rd_script.specs.declared.line.NumberedLine.{NumberedLine}
 use Rattle.rd_world.proofs.FuelLemmas.{AreWithin, IsKept, both, kept_then, connects_on_more, ends_session_more, first_within, plays_line_more, plays_more, second_within, settled_more}
 use Rattle.rd_world.proofs.Written.{sound_side}
-use Rattle.rd_runs.proofs.BelowLemmas.{channel_is}
+use Rattle.rd_told.proofs.RunsBelowLemmas.{channel_is}
 use Rattle.rd_world.proofs.PlayingLemmas.{may_connect}
 use Rattle.rd_world.specs.Devices.{PrinterNames}
 use Rattle.rd_world.specs.Events as event

@@ -13,14 +13,14 @@ use Rattle.rd_drive.specs.declared.plan.Job.{Job}
 use Rattle.rd_drive.specs.Planned.{Planned}
 use Rattle.rd_irp.specs.declared.op.Op.{Op}
 use Rattle.rd_irp.specs.declared.op.Op.TheVariants as op
-use Rattle.rd_journals.proofs.DeclaredLemmas.{bounded_fit}
-use Rattle.rd_journals.proofs.DeviceLemmas.{comes}
-use Rattle.rd_journals.proofs.RunLemmas.{reached_orderly}
-use Rattle.rd_journals.specs.Stations.{IsFit}
-use Rattle.rd_orders.specs.Orders.{DeclaresWritable}
+use Rattle.rd_told.proofs.JournalsDeclaredLemmas.{bounded_fit}
+use Rattle.rd_told.proofs.JournalsDeviceLemmas.{comes}
+use Rattle.rd_told.proofs.JournalsRunLemmas.{reached_orderly}
+use Rattle.rd_told.specs.JournalsStations.{IsFit}
+use Rattle.rd_opening.specs.OrdersOrders.{DeclaresWritable}
 use Rattle.rd_pending.proofs.MapLemmas.{inserted}
-use Rattle.rd_runs.specs.Moves.{Reached}
-use Rattle.rd_runs.specs.Premises.{RunPremises}
+use Rattle.rd_told.specs.RunsMoves.{Reached}
+use Rattle.rd_told.specs.RunsPremises.{RunPremises}
 use Rattle.rd_script.specs.declared.line.Errand.{Errand}
 use Rattle.rd_script.specs.declared.line.Errand.TheVariants as errand
 use Rattle.rd_script.specs.declared.line.Line.{Line}

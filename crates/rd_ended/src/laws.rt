@@ -3,9 +3,9 @@
 ghost use Rattle.std.specs.Io.KnownBytes.{Appends};
 ghost use Rattle.std.specs.Prelude.{◌≡◌, ℕ, Bool, List, Ok, Option, Some};
 ghost use Rattle.rd_base.specs.declared.journal.Key.{Key};
-ghost use Rattle.rd_orders.specs.Orders.{DeclaresWritable};
-ghost use Rattle.rd_runs.specs.Moves.{Reached};
-ghost use Rattle.rd_runs.specs.Premises.{RunPremises};
+ghost use Rattle.rd_opening.specs.OrdersOrders.{DeclaresWritable};
+ghost use Rattle.rd_told.specs.RunsMoves.{Reached};
+ghost use Rattle.rd_told.specs.RunsPremises.{RunPremises};
 ghost use Rattle.rd_script.specs.declared.keyword.Mode.{Mode};
 ghost use Rattle.rd_script.specs.declared.line.NumberedLine.{NumberedLine};
 ghost use Rattle.rd_script.specs.declared.script.Script.{Script};

@@ -3,20 +3,20 @@ use Rattle.std.proofs.Common.{◌≡◌, ◌∙◌, refl, sym, ap, subst, inl, i
 use Rattle.std.specs.Prelude.{filter, slice_get}
 use Rattle.std.proofs.lemmas.Option.{slice_get_cases}
 use Rattle.rd_base.specs.declared.journal.Key.{Key}
-use Rattle.rd_answered.proofs.SessionLemmas.{reached_joined, reached_joins}
-use Rattle.rd_answered.specs.Refusing.{DeclareInRoom}
-use Rattle.rd_orders.specs.Orders.{DeclaresWritable}
+use Rattle.rd_said.proofs.AnsweredSessionLemmas.{reached_joined, reached_joins}
+use Rattle.rd_said.specs.AnsweredRefusing.{DeclareInRoom}
+use Rattle.rd_said.specs.OrdersOrders.{DeclaresWritable}
 use Rattle.rd_outcomes.proofs.AwaitedLemmas.{awaited_unknown}
 use Rattle.rd_pending.specs.Outcomes.{Accepted}
 use Rattle.rd_pending.specs.Table.{TableState, awaits, untaken_at}
 use Rattle.rd_pending.proofs.CountLemmas.{pairs}
 use Rattle.rd_pending.proofs.FateLemmas.{waiting}
 use Rattle.rd_pending.proofs.Sound.{Sound, held, own_slot}
-use Rattle.rd_runs.proofs.Resting.{client_heard_all, host_heard_all, quiet}
-use Rattle.rd_runs.proofs.HostLemmas.{host_channel}
-use Rattle.rd_runs.proofs.Together.{known}
-use Rattle.rd_runs.specs.Moves.{Reached}
-use Rattle.rd_runs.specs.Premises.{RunPremises}
+use Rattle.rd_said.proofs.RunsResting.{client_heard_all, host_heard_all, quiet}
+use Rattle.rd_said.proofs.RunsHostLemmas.{host_channel}
+use Rattle.rd_said.proofs.RunsTogether.{known}
+use Rattle.rd_said.specs.RunsMoves.{Reached}
+use Rattle.rd_said.specs.RunsPremises.{RunPremises}
 use Rattle.rd_script.specs.declared.line.NumberedLine.{NumberedLine}
 use Rattle.rd_world.specs.Host.{HostSide, first_waiting}
 use Rattle.rd_world.specs.HostDeeds.{calls_of, side_of}

@@ -13,8 +13,8 @@ use Rattle.rd_host.specs.Served.{is_served_type}
 use Rattle.rd_host.specs.declared.act.Act.{Act}
 use Rattle.rd_host.specs.declared.act.Act.TheVariants as act
 use Rattle.rd_irp.specs.declared.completion.Head.{Head}
-use Rattle.rd_orders.proofs.Meeting.{behind_meets}
-use Rattle.rd_orders.specs.Orders.{DeclaresWritable}
+use Rattle.rd_said.proofs.OrdersMeeting.{behind_meets}
+use Rattle.rd_said.specs.OrdersOrders.{DeclaresWritable}
 use Rattle.rd_pending.specs.declared.calls.CompleteNo.{CompleteNo}
 use Rattle.rd_pending.specs.declared.calls.Completed.{Completed}
 use Rattle.rd_pending.specs.Outcomes.{Accepted, Tidings}
@@ -24,14 +24,14 @@ use Rattle.rd_pending.specs.Table.{TableState, awaits}
 use Rattle.rd_pending.specs.History.{heard_on}
 use Rattle.rd_pending.proofs.CountLemmas.{pairs}
 use Rattle.rd_pending.proofs.Tame.{newest, newest_pairs, with_pair}
-use Rattle.rd_runs.proofs.Insides.{AreOwn, IsInside, IsOwn, all_dropped_inside, applied_inside, hears_inside, put_inside, removed_inside, added_inside, stationed}
-use Rattle.rd_runs.proofs.Parts.{IsBehind, MayBe, Part, accepts, adds_one, applies_one, begins, by_parts, client_gets, client_hears_one, client_keeps_part, client_sends_one, collects_one, done, draws_one, ends, hands_out, host_gets, host_hears_one, host_keeps_part, host_sends_one, idle_one, queues_one, reached_behind, refuses, removes_one, takes_one, tells_one, tries_one}
-use Rattle.rd_runs.proofs.Standing.{needs_open}
-use Rattle.rd_runs.proofs.Together.{knows}
-use Rattle.rd_runs.proofs.BeginningLemmas.{Unset, begins_as}
-use Rattle.rd_runs.specs.Moves.{Reached}
-use Rattle.rd_runs.specs.Premises.{RunPremises}
-use Rattle.rd_journals.proofs.ChannelLemmas.{all_refreshed, begun_on}
+use Rattle.rd_said.proofs.RunsInsides.{AreOwn, IsInside, IsOwn, all_dropped_inside, applied_inside, hears_inside, put_inside, removed_inside, added_inside, stationed}
+use Rattle.rd_said.proofs.RunsParts.{IsBehind, MayBe, Part, accepts, adds_one, applies_one, begins, by_parts, client_gets, client_hears_one, client_keeps_part, client_sends_one, collects_one, done, draws_one, ends, hands_out, host_gets, host_hears_one, host_keeps_part, host_sends_one, idle_one, queues_one, reached_behind, refuses, removes_one, takes_one, tells_one, tries_one}
+use Rattle.rd_said.proofs.RunsStanding.{needs_open}
+use Rattle.rd_said.proofs.RunsTogether.{knows}
+use Rattle.rd_said.proofs.RunsBeginningLemmas.{Unset, begins_as}
+use Rattle.rd_said.specs.RunsMoves.{Reached}
+use Rattle.rd_said.specs.RunsPremises.{RunPremises}
+use Rattle.rd_said.proofs.JournalsChannelLemmas.{all_refreshed, begun_on}
 use Rattle.rd_script.specs.declared.line.NumberedLine.{NumberedLine}
 use Rattle.rd_station.specs.Station.{StationState}
 use Rattle.rd_world.specs.Devices.{PrinterNames}

@@ -1,25 +1,25 @@
 -- What every run comes to is a whole session.
 use Rattle.std.proofs.Common.{◌≡◌, ◌∙◌, refl, sym, ap, subst, ℕ, true, List, map, Some, None}
 use Rattle.rd_base.specs.History.{History}
-use Rattle.rd_acted.proofs.ActLemmas.{acts_by_deeds, control_by_acts}
-use Rattle.rd_acted.proofs.ReadLemmas.{behind_read_as}
-use Rattle.rd_acted.specs.Acted.{control_after, control_by_deeds, without_idle}
-use Rattle.rd_answered.proofs.SessionLemmas.{reached_joined, reached_joins}
-use Rattle.rd_joined.proofs.BookLemmas.{marked, named, still_clock, stored as stored_deeds}
-use Rattle.rd_journals.proofs.DeclaredLemmas.{bounded_fit}
-use Rattle.rd_journals.specs.Stations.{AreFit}
-use Rattle.rd_orders.proofs.RecordedLemmas.{reached_recorded}
-use Rattle.rd_rest.proofs.FullLemmas.{none_kept_back}
-use Rattle.rd_runs.proofs.Parts.{reached_behind}
-use Rattle.rd_runs.proofs.Reaching.{run_reached}
-use Rattle.rd_runs.specs.Moves.{Reached}
+use Rattle.rd_said.proofs.ActedActLemmas.{acts_by_deeds, control_by_acts}
+use Rattle.rd_said.proofs.ActedReadLemmas.{behind_read_as}
+use Rattle.rd_said.specs.ActedActed.{control_after, control_by_deeds, without_idle}
+use Rattle.rd_said.proofs.AnsweredSessionLemmas.{reached_joined, reached_joins}
+use Rattle.rd_said.proofs.JoinedBookLemmas.{marked, named, still_clock, stored as stored_deeds}
+use Rattle.rd_said.proofs.JournalsDeclaredLemmas.{bounded_fit}
+use Rattle.rd_said.specs.JournalsStations.{AreFit}
+use Rattle.rd_said.proofs.OrdersRecordedLemmas.{reached_recorded}
+use Rattle.rd_said.proofs.RestFullLemmas.{none_kept_back}
+use Rattle.rd_said.proofs.RunsParts.{reached_behind}
+use Rattle.rd_said.proofs.RunsReaching.{run_reached}
+use Rattle.rd_said.specs.RunsMoves.{Reached}
 use Rattle.rd_script.specs.declared.line.NumberedLine.{NumberedLine}
 use Rattle.rd_script.specs.declared.outcome.Outcomes.{Outcomes}
 use Rattle.rd_script.specs.declared.script.Script.{Script}
 use Rattle.rd_script.specs.Report.{report_of}
-use Rattle.rd_told.proofs.OpenLemmas.{stored_open}
-use Rattle.rd_told.proofs.PlainLemmas.{written_plainly}
-use Rattle.rd_told.proofs.PrintedLemmas.{documents_told}
+use Rattle.rd_said.proofs.ToldOpenLemmas.{stored_open}
+use Rattle.rd_said.proofs.ToldPlainLemmas.{written_plainly}
+use Rattle.rd_said.proofs.ToldPrintedLemmas.{documents_told}
 use Rattle.rd_world.specs.Acts.{AreActed, control_by, left_open}
 use Rattle.rd_world.specs.Control.{Control, Telling}
 use Rattle.rd_world.specs.Devices.{Declared}
@@ -33,7 +33,7 @@ use Rattle.rd_world.specs.World.{WorldState, journals_in, marks_of}
 use Rattle.rd_headline.proofs.StillLemmas.{run_still, says_done, still}
 use Rattle.rd_headline.proofs.WholeLemmas.{all_completed, all_read, run_acts, run_outcomes, well}
 use Rattle.rd_loads.specs.AllPremises.{MeetPremises}
-use Rattle.rd_rest.proofs.RunLemmas.{RestsStill, run_at_end}
+use Rattle.rd_said.proofs.RestRunLemmas.{RestsStill, run_at_end}
 use Rattle.rd_said.proofs.ToldLemmas.{ended_left}
 use Rattle.std.specs.Prelude.{[]}
 

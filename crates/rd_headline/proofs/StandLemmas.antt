@@ -2,14 +2,14 @@
 use Rattle.std.proofs.Common.{◌≡◌, refl, sym, ap, subst, ℕ, ◌+◌, ◌≤◌, Bool, true, List, [], ◌∷◌, length, Some, None, Option, arith}
 use Rattle.std.specs.Option.{IfSome}
 use Rattle.rd_base.specs.declared.journal.Key.{Key}
-use Rattle.rd_controls.proofs.Walking.{IsOpening, opening_rounds_keep}
+use Rattle.rd_said.proofs.ControlsWalking.{IsOpening, opening_rounds_keep}
 use Rattle.rd_opening.proofs.ChannelLemmas.{behind_channels}
 use Rattle.rd_opening.proofs.Opened.{connected_opens}
-use Rattle.rd_orders.specs.Orders.{DeclaresWritable}
+use Rattle.rd_said.specs.OrdersOrders.{DeclaresWritable}
 use Rattle.rd_outcomes.specs.Opened.{ChannelsOpen}
-use Rattle.rd_runs.proofs.Parts.{reached_behind}
-use Rattle.rd_runs.specs.Moves.{IsOfLines, MayPass, Reached, ReachedWithin, event_weight, happens}
-use Rattle.rd_runs.specs.Premises.{RunPremises}
+use Rattle.rd_said.proofs.RunsParts.{reached_behind}
+use Rattle.rd_said.specs.RunsMoves.{IsOfLines, MayPass, Reached, ReachedWithin, event_weight, happens}
+use Rattle.rd_said.specs.RunsPremises.{RunPremises}
 use Rattle.rd_script.specs.declared.line.NumberedLine.{NumberedLine}
 use Rattle.rd_world.specs.Acts.{HasOpened}
 use Rattle.rd_world.specs.Devices.{Declared}

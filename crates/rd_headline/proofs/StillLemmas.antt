@@ -6,29 +6,29 @@ use Rattle.std.proofs.lemmas.List.Elements.{All-from_recursion}
 use Rattle.std.specs.List.{AllByRecursion}
 use Rattle.std.specs.Option.{IfSome}
 use Rattle.rd_base.specs.declared.journal.Key.{Key}
-use Rattle.rd_acted.proofs.ActLemmas.{acts_by_deeds, control_by_acts}
-use Rattle.rd_acted.proofs.DueLemmas.{notices_are_due, told_is_due}
-use Rattle.rd_acted.proofs.EndedLemmas.{behind_over}
-use Rattle.rd_acted.proofs.OrderLemmas.{orders_read}
-use Rattle.rd_acted.proofs.RunLemmas.{all_noticed, all_told}
-use Rattle.rd_acted.specs.Acted.{AreReadWell, control_after, control_by_deeds, due_on, notices_due, without_idle}
-use Rattle.rd_answered.specs.Refusing.{DeclareInRoom}
+use Rattle.rd_said.proofs.ActedActLemmas.{acts_by_deeds, control_by_acts}
+use Rattle.rd_said.proofs.ActedDueLemmas.{notices_are_due, told_is_due}
+use Rattle.rd_said.proofs.ActedEndedLemmas.{behind_over}
+use Rattle.rd_said.proofs.ActedOrderLemmas.{orders_read}
+use Rattle.rd_said.proofs.ActedRunLemmas.{all_noticed, all_told}
+use Rattle.rd_said.specs.ActedActed.{AreReadWell, control_after, control_by_deeds, due_on, notices_due, without_idle}
+use Rattle.rd_said.specs.AnsweredRefusing.{DeclareInRoom}
 use Rattle.rd_client.specs.Order.{is_client_ready}
-use Rattle.rd_controls.proofs.Leading.{rests_where_settled}
-use Rattle.rd_controls.proofs.Numbers.{picked_reverse}
-use Rattle.rd_controls.specs.Controls.{AreOrderedLines, RestsAt}
+use Rattle.rd_said.proofs.ControlsLeading.{rests_where_settled}
+use Rattle.rd_said.proofs.ControlsNumbers.{picked_reverse}
+use Rattle.rd_said.specs.ControlsControls.{AreOrderedLines, RestsAt}
 use Rattle.rd_opening.proofs.QuietLemmas.{both_ready, host_settled}
 use Rattle.rd_opening.proofs.SentLemmas.{all_sent}
-use Rattle.rd_orders.proofs.ClientOrdering.{behind_client_ordered}
-use Rattle.rd_orders.proofs.Meeting.{behind_meets}
-use Rattle.rd_orders.specs.Orders.{DeclaresWritable}
+use Rattle.rd_said.proofs.OrdersClientOrdering.{behind_client_ordered}
+use Rattle.rd_said.proofs.OrdersMeeting.{behind_meets}
+use Rattle.rd_said.specs.OrdersOrders.{DeclaresWritable}
 use Rattle.rd_printer.specs.declared.notice.Notice.{Notice}
-use Rattle.rd_rest.proofs.CompletedLemmas.{completed}
-use Rattle.rd_runs.proofs.Parts.{reached_behind}
-use Rattle.rd_runs.proofs.Resting.{client_heard_all, host_heard_all, quiet}
-use Rattle.rd_runs.proofs.Together.{known}
-use Rattle.rd_runs.specs.Moves.{Reached}
-use Rattle.rd_runs.specs.Premises.{RunPremises}
+use Rattle.rd_said.proofs.RestCompletedLemmas.{completed}
+use Rattle.rd_said.proofs.RunsParts.{reached_behind}
+use Rattle.rd_said.proofs.RunsResting.{client_heard_all, host_heard_all, quiet}
+use Rattle.rd_said.proofs.RunsTogether.{known}
+use Rattle.rd_said.specs.RunsMoves.{Reached}
+use Rattle.rd_said.specs.RunsPremises.{RunPremises}
 use Rattle.rd_script.specs.declared.line.NumberedLine.{NumberedLine}
 use Rattle.rd_world.specs.Acts.{act_by, first_control_of, is_settle, of_channel}
 use Rattle.rd_world.specs.Control.{Act, Control, Telling, control_of, controlled, first_control}

@@ -6,29 +6,29 @@ use Rattle.std.proofs.lemmas.List.Elements.{recursion_from_All}
 use Rattle.std.specs.List.{AllByRecursion, list_any, range_with_len}
 use Rattle.std.specs.Option.{IfSome, option_and_then, option_map_or}
 use Rattle.rd_base.specs.declared.journal.Key.{Key}
-use Rattle.rd_acted.proofs.ActLemmas.{acts_by_deeds, control_by_acts}
-use Rattle.rd_acted.proofs.EndedLemmas.{behind_over, channels_end_told}
-use Rattle.rd_acted.proofs.RunLemmas.{acted_whole, run_acted}
-use Rattle.rd_acted.specs.Acted.{AreReadWell, EndsTold, HaveActed, control_after, control_by_deeds, without_idle}
-use Rattle.rd_answered.proofs.SessionLemmas.{reached_joined, reached_joins}
-use Rattle.rd_controls.proofs.Unseen.{Seen, event_unseen}
-use Rattle.rd_controls.proofs.Walking.{settled_keeps}
+use Rattle.rd_said.proofs.ActedActLemmas.{acts_by_deeds, control_by_acts}
+use Rattle.rd_said.proofs.ActedEndedLemmas.{behind_over, channels_end_told}
+use Rattle.rd_said.proofs.ActedRunLemmas.{acted_whole, run_acted}
+use Rattle.rd_said.specs.ActedActed.{AreReadWell, EndsTold, HaveActed, control_after, control_by_deeds, without_idle}
+use Rattle.rd_said.proofs.AnsweredSessionLemmas.{reached_joined, reached_joins}
+use Rattle.rd_said.proofs.ControlsUnseen.{Seen, event_unseen}
+use Rattle.rd_said.proofs.ControlsWalking.{settled_keeps}
 use Rattle.rd_opening.proofs.RunLemmas.{runs_opened, runs_settled}
 use Rattle.rd_opening.proofs.SentLemmas.{open_or_none, opened_as, rest_heard, rest_sent, unbegun_heard}
-use Rattle.rd_orders.proofs.Meeting.{behind_meets}
+use Rattle.rd_said.proofs.OrdersMeeting.{behind_meets}
 use Rattle.rd_outcomes.proofs.LinesLemmas.{lines_end}
 use Rattle.rd_outcomes.proofs.NumberedLemmas.{are_applications, outcomes_numbered}
 use Rattle.rd_outcomes.proofs.PassedLemmas.{are_passed}
-use Rattle.rd_rest.proofs.CompletedLemmas.{completed}
-use Rattle.rd_rest.proofs.FullLemmas.{none_kept_back}
-use Rattle.rd_rest.proofs.LeftLemmas.{left_waits}
-use Rattle.rd_runs.proofs.Parts.{reached_behind}
-use Rattle.rd_runs.proofs.Reaching.{run_reached, run_rests}
-use Rattle.rd_runs.proofs.Resting.{client_heard_all}
-use Rattle.rd_runs.proofs.HostLemmas.{host_channel}
-use Rattle.rd_runs.proofs.Together.{known}
-use Rattle.rd_runs.proofs.TrafficLemmas.{Traffic}
-use Rattle.rd_runs.specs.Moves.{Reached, event_weight}
+use Rattle.rd_said.proofs.RestCompletedLemmas.{completed}
+use Rattle.rd_said.proofs.RestFullLemmas.{none_kept_back}
+use Rattle.rd_said.proofs.RestLeftLemmas.{left_waits}
+use Rattle.rd_said.proofs.RunsParts.{reached_behind}
+use Rattle.rd_said.proofs.RunsReaching.{run_reached, run_rests}
+use Rattle.rd_said.proofs.RunsResting.{client_heard_all}
+use Rattle.rd_said.proofs.RunsHostLemmas.{host_channel}
+use Rattle.rd_said.proofs.RunsTogether.{known}
+use Rattle.rd_said.proofs.RunsTrafficLemmas.{Traffic}
+use Rattle.rd_said.specs.RunsMoves.{Reached, event_weight}
 use Rattle.rd_script.specs.declared.line.NumberedLine.{NumberedLine}
 use Rattle.rd_script.specs.declared.outcome.Outcome.{Outcome}
 use Rattle.rd_world.specs.Acts.{AreActed, Opens, control_by, is_settled_host, left_open, some_wait, waiting_keys}

@@ -19,12 +19,12 @@ use Rattle.rd_journals.proofs.RunLemmas.{orderly_lawful, reached_orderly}
 use Rattle.rd_journals.proofs.WorkLemmas.{behind_working, station_tied}
 use Rattle.rd_irp.specs.declared.completion.Reply.{Reply}
 use Rattle.rd_irp.specs.declared.request.Request.{Request}
-use Rattle.rd_runs.specs.Moves.{RunMove, Reached, draws, happens, idle, after_move, queues}
-use Rattle.rd_runs.specs.Premises.{RunPremises}
-use Rattle.rd_runs.proofs.BeginningLemmas.{Unset, begins_as}
-use Rattle.rd_runs.proofs.Parts.{reached_behind}
-use Rattle.rd_runs.proofs.Reaching.{by_moves}
-use Rattle.rd_runs.proofs.Together.{known}
+use Rattle.rd_journals.specs.RunsMoves.{RunMove, Reached, draws, happens, idle, after_move, queues}
+use Rattle.rd_journals.specs.RunsPremises.{RunPremises}
+use Rattle.rd_journals.proofs.RunsBeginningLemmas.{Unset, begins_as}
+use Rattle.rd_journals.proofs.RunsParts.{reached_behind}
+use Rattle.rd_journals.proofs.RunsReaching.{by_moves}
+use Rattle.rd_journals.proofs.RunsTogether.{known}
 use Rattle.rd_script.specs.declared.line.NumberedLine.{NumberedLine}
 use Rattle.rd_station.specs.Station.{StationState}
 use Rattle.rd_world.specs.declared.device.SessionDevice.{SessionDevice}

@@ -23,10 +23,10 @@ use Rattle.rd_journals.specs.Orderly.{Orderly}
 use Rattle.rd_journals.specs.Reads.{cuts}
 use Rattle.rd_journals.specs.Stations.{AreFit}
 use Rattle.rd_journals.proofs.RunLemmas.{reached_orderly}
-use Rattle.rd_runs.specs.Moves.{Reached}
-use Rattle.rd_runs.proofs.BeginningLemmas.{Unset, begins_as}
-use Rattle.rd_runs.proofs.Parts.{MayBe, Part, accepts, adds_one, applies_one, begins, by_counted_parts, client_gets, client_hears_one, client_keeps_part, client_sends_one, collects_one, cut_by, done, draws_one, ends, hands_out, host_gets, host_hears_one, host_keeps_part, host_sends_one, idle_one, part_weight, parts_weight, queues_one, reached_behind, refreshed_by, refuses, removes_one, takes_one, tells_one, told_added, told_removed, tries_one}
-use Rattle.rd_runs.proofs.RoomLemmas.{OfAll, all_inserted, found_in}
+use Rattle.rd_journals.specs.RunsMoves.{Reached}
+use Rattle.rd_journals.proofs.RunsBeginningLemmas.{Unset, begins_as}
+use Rattle.rd_journals.proofs.RunsParts.{MayBe, Part, accepts, adds_one, applies_one, begins, by_counted_parts, client_gets, client_hears_one, client_keeps_part, client_sends_one, collects_one, cut_by, done, draws_one, ends, hands_out, host_gets, host_hears_one, host_keeps_part, host_sends_one, idle_one, part_weight, parts_weight, queues_one, reached_behind, refreshed_by, refuses, removes_one, takes_one, tells_one, told_added, told_removed, tries_one}
+use Rattle.rd_journals.proofs.RunsRoomLemmas.{OfAll, all_inserted, found_in}
 use Rattle.rd_pending.specs.declared.calls.Taken.{Taken}
 use Rattle.rd_pending.specs.Table.{TableState}
 use Rattle.rd_script.specs.declared.line.NumberedLine.{NumberedLine}

@@ -5,10 +5,10 @@ use Rattle.rd_journals.specs.Reads.{reads_count}
 use Rattle.rd_journals.specs.Stations.{AreFit}
 use Rattle.rd_journals.proofs.RunLemmas.{reached_orderly}
 use Rattle.rd_journals.proofs.ShortLemmas.{orderly_short}
-use Rattle.rd_runs.specs.Moves.{Reached}
-use Rattle.rd_runs.specs.Premises.{RunPremises}
-use Rattle.rd_runs.proofs.Counting.{accepted_few}
-use Rattle.rd_runs.proofs.Together.{known}
+use Rattle.rd_journals.specs.RunsMoves.{Reached}
+use Rattle.rd_journals.specs.RunsPremises.{RunPremises}
+use Rattle.rd_journals.proofs.RunsCounting.{accepted_few}
+use Rattle.rd_journals.proofs.RunsTogether.{known}
 use Rattle.rd_script.specs.declared.line.NumberedLine.{NumberedLine}
 use Rattle.rd_world.specs.Joining.{IsCarried}
 use Rattle.rd_world.specs.Opening.{bare_lines}

@@ -2,9 +2,9 @@
 use Rattle.std.specs.Prelude.{◌≡◌, ℕ, List, Ok}
 use Rattle.rd_journals.specs.Stations.{AreFit}
 use Rattle.rd_journals.proofs.DeclaredLemmas.{bounded_fit}
-use Rattle.rd_runs.specs.Premises.{RunPremises}
-use Rattle.rd_runs.proofs.BoundLemmas.{scripts_are_bounded}
-use Rattle.rd_runs.proofs.FittingLines.{scripts_are_fitting}
+use Rattle.rd_journals.specs.RunsPremises.{RunPremises}
+use Rattle.rd_journals.proofs.RunsBoundLemmas.{scripts_are_bounded}
+use Rattle.rd_journals.proofs.RunsFittingLines.{scripts_are_fitting}
 use Rattle.rd_script.specs.declared.keyword.Mode.{Mode}
 use Rattle.rd_script.specs.declared.script.Script.{Script}
 use Rattle.rd_script.specs.Script.{script_of}

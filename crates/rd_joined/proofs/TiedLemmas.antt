@@ -5,8 +5,8 @@ use Rattle.rd_base.specs.Lawful.{IsLawful}
 use Rattle.rd_journals.proofs.ReplyLemmas.{replies_grow, replies_once}
 use Rattle.rd_journals.proofs.RunLemmas.{orderly_lawful, reached_orderly}
 use Rattle.rd_journals.proofs.ServingLemmas.{reached_standing}
-use Rattle.rd_runs.specs.Moves.{Reached}
-use Rattle.rd_runs.proofs.Together.{known}
+use Rattle.rd_journals.specs.RunsMoves.{Reached}
+use Rattle.rd_journals.proofs.RunsTogether.{known}
 use Rattle.rd_script.specs.declared.keyword.Mode.{Mode}
 use Rattle.rd_script.specs.declared.script.Script.{Script}
 use Rattle.rd_script.specs.Script.{script_of}

@@ -1,1 +1,8 @@
 pub mod Joined
+pub use Rattle.rd_journals.specs.Jobs as JournalsJobs
+pub use Rattle.rd_journals.specs.Orderly as JournalsOrderly
+pub use Rattle.rd_journals.specs.Reads as JournalsReads
+pub use Rattle.rd_journals.specs.Standing as JournalsStanding
+pub use Rattle.rd_journals.specs.Stations as JournalsStations
+pub use Rattle.rd_journals.specs.RunsMoves as RunsMoves
+pub use Rattle.rd_journals.specs.RunsPremises as RunsPremises

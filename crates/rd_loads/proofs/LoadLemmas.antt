@@ -6,15 +6,15 @@ use Rattle.std.proofs.lemmas.List.Elements.{All-from_recursion}
 use Rattle.std.proofs.lemmas.Map.Keys.{IsStrictlyIncreasing-from_sorted}
 use Rattle.rd_answered.specs.Refusing.{DeclaresInRoom}
 use Rattle.rd_client.specs.Events.{AreWritable, IsWritableDevice}
-use Rattle.rd_controls.proofs.Numbers.{numbers}
-use Rattle.rd_controls.specs.Controls.{NamesKnown}
+use Rattle.rd_orders.proofs.ControlsNumbers.{numbers}
+use Rattle.rd_orders.specs.ControlsControls.{NamesKnown}
 use Rattle.rd_dirinfo.specs.declared.naming.Naming.TheVariants as naming
 use Rattle.rd_drive.specs.Bounded.{IsBounded}
 use Rattle.rd_drive.specs.DriveState.{empty_drive}
 use Rattle.rd_loads.specs.AllPremises.{MeetPremises}
 use Rattle.rd_loads.proofs.LoadedLemmas.{IsWithin, drives, each_numbered, load_devices, long_load, long_numbered, numbers_rise, within_lines}
-use Rattle.rd_ranges.specs.Ranges.{AreFreshDevices}
-use Rattle.rd_runs.specs.Premises.{AreBounded, AreSubmittable, DeviceFits, IsSubmittable}
+use Rattle.rd_orders.specs.RangesRanges.{AreFreshDevices}
+use Rattle.rd_answered.specs.RunsPremises.{AreBounded, AreSubmittable, DeviceFits, IsSubmittable}
 use Rattle.rd_script.specs.declared.line.Line.{Line}
 use Rattle.rd_script.specs.declared.line.NumberedLine.{NumberedLine}
 use Rattle.rd_script.specs.Load.{load_lines, load_script, numbered}

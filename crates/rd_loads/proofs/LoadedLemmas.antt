@@ -9,9 +9,9 @@ use Rattle.std.proofs.lemmas.Bool.Decides.{nat_tests}
 use Rattle.std.proofs.lemmas.List.{length-replicate}
 use Rattle.std.proofs.lemmas.List.Elements.{All-from_recursion}
 use Rattle.rd_answered.specs.Refusing.{DeclaresInRoom}
-use Rattle.rd_controls.proofs.Numbers.{Rise, numbers}
-use Rattle.rd_controls.specs.Controls.{NamesKnown}
-use Rattle.rd_runs.specs.Premises.{IsSubmittable}
+use Rattle.rd_orders.proofs.ControlsNumbers.{Rise, numbers}
+use Rattle.rd_orders.specs.ControlsControls.{NamesKnown}
+use Rattle.rd_answered.specs.RunsPremises.{IsSubmittable}
 use Rattle.rd_script.specs.declared.line.Line.{Line}
 use Rattle.rd_script.specs.declared.line.Line.TheVariants as line
 use Rattle.rd_script.specs.declared.line.NumberedLine.{NumberedLine}

@@ -1,12 +1,12 @@
 -- The lines of every script that was read for both sides are as statements on every run take them.
 use Rattle.std.specs.Prelude.{◌≡◌, ℕ, List, Ok}
 use Rattle.rd_answered.proofs.WritableLemmas as answered
-use Rattle.rd_controls.proofs.ScriptLemmas.{scripts_ordered}
-use Rattle.rd_joined.proofs.ScriptLemmas.{script_premises}
+use Rattle.rd_orders.proofs.ControlsScriptLemmas.{scripts_ordered}
+use Rattle.rd_answered.proofs.JoinedScriptLemmas.{script_premises}
 use Rattle.rd_loads.specs.AllPremises.{MeetPremises}
 use Rattle.rd_orders.proofs.AddressLemmas as orders
-use Rattle.rd_ranges.proofs.DeclaredLemmas.{declared_fit}
-use Rattle.rd_ranges.proofs.ScriptLemmas.{scripts_short}
+use Rattle.rd_orders.proofs.RangesDeclaredLemmas.{declared_fit}
+use Rattle.rd_orders.proofs.RangesScriptLemmas.{scripts_short}
 use Rattle.rd_script.specs.Script.{script_of}
 use Rattle.rd_script.specs.declared.keyword.Mode.TheVariants as mode
 use Rattle.rd_script.specs.declared.script.Script.{Script}

@@ -1,10 +1,10 @@
 -- What every run takes of its lines.
 use Rattle.std.specs.Prelude.{ℕ, ◌≤◌, List, length, map}
 use Rattle.rd_answered.specs.Refusing.{DeclareInRoom}
-use Rattle.rd_controls.specs.Controls.{AreOrderedLines}
+use Rattle.rd_orders.specs.ControlsControls.{AreOrderedLines}
 use Rattle.rd_orders.specs.Orders.{DeclaresWritable}
-use Rattle.rd_ranges.specs.Ranges.{AreFreshDevices}
-use Rattle.rd_runs.specs.Premises.{RunPremises}
+use Rattle.rd_orders.specs.RangesRanges.{AreFreshDevices}
+use Rattle.rd_answered.specs.RunsPremises.{RunPremises}
 use Rattle.rd_script.specs.declared.line.NumberedLine.{NumberedLine}
 use Rattle.rd_world.specs.Applications.{AreNumbered}
 use Rattle.rd_world.specs.Devices.{Declared}

@@ -24,9 +24,9 @@ use Rattle.rd_station.specs.declared.answers.Given.{Given}
 use Rattle.rd_station.specs.declared.answers.Given.TheVariants as given
 use Rattle.rd_station.specs.Station as station
 use Rattle.rd_station.specs.Station.{StationState}
-use Rattle.rd_runs.specs.Moves.{IsOfLines, Reached}
-use Rattle.rd_runs.proofs.Parts.{IsRefused, MayBe, Part, accepts, adds_one, announced_by, applies_one, begins, client_gets, client_hears_one, client_keeps_part, client_sends_one, collects_one, done, ends, hands_out, host_gets, host_hears_one, host_keeps_part, host_sends_one, refreshed_by, refuses, removes_one, takes_one, tells_one, told_added, tries_one}
-use Rattle.rd_runs.proofs.Reaching.{both}
+use Rattle.rd_orders.specs.RunsMoves.{IsOfLines, Reached}
+use Rattle.rd_orders.proofs.RunsParts.{IsRefused, MayBe, Part, accepts, adds_one, announced_by, applies_one, begins, client_gets, client_hears_one, client_keeps_part, client_sends_one, collects_one, done, ends, hands_out, host_gets, host_hears_one, host_keeps_part, host_sends_one, refreshed_by, refuses, removes_one, takes_one, tells_one, told_added, tries_one}
+use Rattle.rd_orders.proofs.RunsReaching.{both}
 use Rattle.rd_world.specs.declared.device.SessionDevice.{SessionDevice}
 use Rattle.rd_world.specs.Devices.{PrinterNames}
 use Rattle.rd_world.specs.Events as event

@@ -7,21 +7,21 @@ use Rattle.rd_client.specs.Core as client
 use Rattle.rd_client.specs.Core.{ClientCoreState, Outgoing, client_hear}
 use Rattle.rd_client.specs.Events.{waiting_messages}
 use Rattle.rd_client.specs.Order.{is_client_ready}
-use Rattle.rd_controls.proofs.ReadyLemmas.{client_kept}
+use Rattle.rd_orders.proofs.ControlsReadyLemmas.{client_kept}
 use Rattle.rd_drive.proofs.AllLemmas.{all_append}
 use Rattle.rd_host.specs.Core.{host_hear}
 use Rattle.rd_pending.proofs.Tame.{tame_take}
 use Rattle.rd_pending.specs.declared.calls.Taken.{Taken}
 use Rattle.rd_pending.specs.declared.calls.TakeNo.{TakeNo}
 use Rattle.rd_pending.specs.Table.{TableState}
-use Rattle.rd_runs.proofs.Insides.{IsInside, Outside, hears_inside}
-use Rattle.rd_runs.proofs.KeysOn.{sent_on}
-use Rattle.rd_runs.proofs.Parts.{IsBehind, MayBe, Part, client_gets, client_hears_one, client_keeps_part, client_sends_one, done, hands_out, host_gets, host_hears_one, host_keeps_part, host_sends_one}
-use Rattle.rd_runs.proofs.Standing.{open_inside}
-use Rattle.rd_runs.proofs.Together.{knows}
-use Rattle.rd_runs.proofs.TrafficLemmas.{Traffic, client_reads_here, client_writes_here, completes_here, host_reads_here, host_writes_here, traffic}
-use Rattle.rd_runs.proofs.WayLemmas.{one_read}
-use Rattle.rd_runs.specs.Premises.{RunPremises}
+use Rattle.rd_orders.proofs.RunsInsides.{IsInside, Outside, hears_inside}
+use Rattle.rd_orders.proofs.RunsKeysOn.{sent_on}
+use Rattle.rd_orders.proofs.RunsParts.{IsBehind, MayBe, Part, client_gets, client_hears_one, client_keeps_part, client_sends_one, done, hands_out, host_gets, host_hears_one, host_keeps_part, host_sends_one}
+use Rattle.rd_orders.proofs.RunsStanding.{open_inside}
+use Rattle.rd_orders.proofs.RunsTogether.{knows}
+use Rattle.rd_orders.proofs.RunsTrafficLemmas.{Traffic, client_reads_here, client_writes_here, completes_here, host_reads_here, host_writes_here, traffic}
+use Rattle.rd_orders.proofs.RunsWayLemmas.{one_read}
+use Rattle.rd_orders.specs.RunsPremises.{RunPremises}
 use Rattle.rd_script.specs.declared.line.NumberedLine.{NumberedLine}
 use Rattle.rd_world.specs.Events.{deed_on}
 use Rattle.rd_world.specs.Hearing.{client_hears, with_client}

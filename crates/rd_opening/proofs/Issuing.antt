@@ -9,11 +9,11 @@ use Rattle.rd_pending.specs.declared.calls.SubmitNo.{SubmitNo}
 use Rattle.rd_pending.specs.declared.calls.Target.{Target}
 use Rattle.rd_pending.specs.Table as table
 use Rattle.rd_pending.specs.Table.{TableState, submit_refusal}
-use Rattle.rd_runs.proofs.HostLemmas.{host_channel, opens}
-use Rattle.rd_runs.proofs.Insides.{AreOwn, IsInside, Outside, added_inside, all_dropped_inside, applied_inside, hears_inside, put_inside, removed_inside, stationed}
-use Rattle.rd_runs.proofs.Parts.{MayBe, Part, accepts, adds_one, applies_one, begins, client_gets, client_hears_one, client_keeps_part, client_sends_one, collects_one, done, draws_one, ends, hands_out, host_gets, host_hears_one, host_keeps_part, host_sends_one, idle_one, queues_one, reached_behind, refuses, removes_one, takes_one, tells_one, tries_one}
-use Rattle.rd_runs.proofs.Together.{known}
-use Rattle.rd_runs.specs.Premises.{RunPremises}
+use Rattle.rd_orders.proofs.RunsHostLemmas.{host_channel, opens}
+use Rattle.rd_orders.proofs.RunsInsides.{AreOwn, IsInside, Outside, added_inside, all_dropped_inside, applied_inside, hears_inside, put_inside, removed_inside, stationed}
+use Rattle.rd_orders.proofs.RunsParts.{MayBe, Part, accepts, adds_one, applies_one, begins, client_gets, client_hears_one, client_keeps_part, client_sends_one, collects_one, done, draws_one, ends, hands_out, host_gets, host_hears_one, host_keeps_part, host_sends_one, idle_one, queues_one, reached_behind, refuses, removes_one, takes_one, tells_one, tries_one}
+use Rattle.rd_orders.proofs.RunsTogether.{known}
+use Rattle.rd_orders.specs.RunsPremises.{RunPremises}
 use Rattle.rd_script.specs.declared.line.NumberedLine.{NumberedLine}
 use Rattle.rd_station.specs.Station.{StationState}
 use Rattle.rd_world.specs.Acts.{Opens}

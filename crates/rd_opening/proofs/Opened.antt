@@ -13,15 +13,15 @@ use Rattle.rd_hello.specs.Hello.{hello_bytes}
 use Rattle.rd_hello.specs.Own.{host_announce}
 use Rattle.rd_pending.specs.Table as table
 use Rattle.rd_pending.specs.Table.{TableState}
-use Rattle.rd_runs.proofs.BelowLemmas.{channel_is}
-use Rattle.rd_runs.proofs.Insides.{all_refreshed_inside}
-use Rattle.rd_runs.proofs.Parts.{reached_behind}
-use Rattle.rd_runs.proofs.Resting.{IsQuiet}
-use Rattle.rd_runs.proofs.Standing.{is_off, shut_now}
-use Rattle.rd_runs.proofs.Together.{known}
-use Rattle.rd_runs.proofs.TrafficLemmas.{Traffic, no_traffic, traffic}
-use Rattle.rd_runs.specs.Moves.{Reached, ReachedWithin, happens}
-use Rattle.rd_runs.specs.Premises.{RunPremises}
+use Rattle.rd_orders.proofs.RunsBelowLemmas.{channel_is}
+use Rattle.rd_orders.proofs.RunsInsides.{all_refreshed_inside}
+use Rattle.rd_orders.proofs.RunsParts.{reached_behind}
+use Rattle.rd_orders.proofs.RunsResting.{IsQuiet}
+use Rattle.rd_orders.proofs.RunsStanding.{is_off, shut_now}
+use Rattle.rd_orders.proofs.RunsTogether.{known}
+use Rattle.rd_orders.proofs.RunsTrafficLemmas.{Traffic, no_traffic, traffic}
+use Rattle.rd_orders.specs.RunsMoves.{Reached, ReachedWithin, happens}
+use Rattle.rd_orders.specs.RunsPremises.{RunPremises}
 use Rattle.rd_script.specs.declared.line.NumberedLine.{NumberedLine}
 use Rattle.rd_world.proofs.Written.{sound_side}
 use Rattle.rd_world.specs.Acts.{HasOpened}

@@ -19,14 +19,14 @@ use Rattle.rd_hello.specs.declared.client.ClientState.TheVariants as client_stat
 use Rattle.rd_hello.specs.declared.host.HostState.{HostState}
 use Rattle.rd_hello.specs.declared.host.HostState.TheVariants as host_state
 use Rattle.rd_host.specs.Order.{HostStanding, Replying, is_host_ready}
-use Rattle.rd_runs.proofs.Handled.{handled}
-use Rattle.rd_runs.proofs.Parts.{reached_behind}
-use Rattle.rd_runs.proofs.Resting.{IsQuiet}
-use Rattle.rd_runs.proofs.Together.{known}
-use Rattle.rd_runs.proofs.TrafficLemmas.{traffic}
-use Rattle.rd_runs.proofs.WayLemmas.{IsUnderWay}
-use Rattle.rd_runs.specs.Moves.{Reached}
-use Rattle.rd_runs.specs.Premises.{RunPremises}
+use Rattle.rd_orders.proofs.RunsHandled.{handled}
+use Rattle.rd_orders.proofs.RunsParts.{reached_behind}
+use Rattle.rd_orders.proofs.RunsResting.{IsQuiet}
+use Rattle.rd_orders.proofs.RunsTogether.{known}
+use Rattle.rd_orders.proofs.RunsTrafficLemmas.{traffic}
+use Rattle.rd_orders.proofs.RunsWayLemmas.{IsUnderWay}
+use Rattle.rd_orders.specs.RunsMoves.{Reached}
+use Rattle.rd_orders.specs.RunsPremises.{RunPremises}
 use Rattle.rd_script.specs.declared.line.NumberedLine.{NumberedLine}
 use Rattle.rd_world.proofs.WayStreamLemmas.{first_of_one}
 use Rattle.rd_world.specs.Acts.{is_settled_client, is_settled_host}

@@ -9,9 +9,9 @@ use Rattle.rd_pending.specs.declared.calls.Taken.{Taken}
 use Rattle.rd_pending.specs.declared.calls.TakeNo.{TakeNo}
 use Rattle.rd_pending.specs.Table as table
 use Rattle.rd_pending.specs.Table.{TableState}
-use Rattle.rd_runs.proofs.Parts.{IsBehind, MayBe, Part, client_gets, client_hears_one, client_keeps_part, client_sends_one, done, hands_out, host_gets, host_hears_one, host_keeps_part, host_sends_one, part_weight, reached_behind}
-use Rattle.rd_runs.proofs.Reaching.{both}
-use Rattle.rd_runs.specs.Moves.{IsOfLines, Reached, event_weight, happens}
+use Rattle.rd_orders.proofs.RunsParts.{IsBehind, MayBe, Part, client_gets, client_hears_one, client_keeps_part, client_sends_one, done, hands_out, host_gets, host_hears_one, host_keeps_part, host_sends_one, part_weight, reached_behind}
+use Rattle.rd_orders.proofs.RunsReaching.{both}
+use Rattle.rd_orders.specs.RunsMoves.{IsOfLines, Reached, event_weight, happens}
 use Rattle.rd_script.specs.declared.line.NumberedLine.{NumberedLine}
 use Rattle.rd_world.specs.Events as event
 use Rattle.rd_world.specs.Events.{Event, act, is_enabled, is_read}

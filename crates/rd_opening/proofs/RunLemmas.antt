@@ -5,13 +5,13 @@ use Rattle.std.specs.List.{range_with_len}
 use Rattle.std.specs.Option.{option_map_or}
 use Rattle.std.proofs.lemmas.List.Elements.{All-cons, All-nil}
 use Rattle.rd_base.specs.declared.journal.Key.{Key}
-use Rattle.rd_runs.proofs.Parts.{reached_behind}
-use Rattle.rd_runs.proofs.Reaching.{run_reached, run_rests}
-use Rattle.rd_runs.proofs.HostLemmas.{opens}
-use Rattle.rd_runs.proofs.Resting.{quiet}
-use Rattle.rd_runs.proofs.Together.{known}
-use Rattle.rd_runs.specs.Moves.{Reached}
-use Rattle.rd_runs.specs.Premises.{RunPremises}
+use Rattle.rd_orders.proofs.RunsParts.{reached_behind}
+use Rattle.rd_orders.proofs.RunsReaching.{run_reached, run_rests}
+use Rattle.rd_orders.proofs.RunsHostLemmas.{opens}
+use Rattle.rd_orders.proofs.RunsResting.{quiet}
+use Rattle.rd_orders.proofs.RunsTogether.{known}
+use Rattle.rd_orders.specs.RunsMoves.{Reached}
+use Rattle.rd_orders.specs.RunsPremises.{RunPremises}
 use Rattle.rd_script.specs.declared.line.NumberedLine.{NumberedLine}
 use Rattle.rd_world.specs.Acts.{Opens, is_settled_host}
 use Rattle.rd_world.specs.Opening.{bare_lines}

@@ -4,13 +4,13 @@ use Rattle.std.specs.Prelude.{if◌then◌else◌}
 use Rattle.std.specs.Option.{IfSome, option_and_then, option_map_or}
 use Rattle.std.proofs.lemmas.Bool.{cases_eq}
 use Rattle.rd_base.specs.declared.journal.Key.{Key}
-use Rattle.rd_controls.proofs.Resting.{event_grows, then_more}
-use Rattle.rd_controls.proofs.Unseen.{Seen, event_unseen}
-use Rattle.rd_controls.proofs.Walking.{does_keeps, settled_keeps}
+use Rattle.rd_orders.proofs.ControlsResting.{event_grows, then_more}
+use Rattle.rd_orders.proofs.ControlsUnseen.{Seen, event_unseen}
+use Rattle.rd_orders.proofs.ControlsWalking.{does_keeps, settled_keeps}
 use Rattle.rd_printer.specs.declared.notice.Notice.{Notice}
-use Rattle.rd_runs.proofs.BeginningLemmas.{Unset, begins_as}
-use Rattle.rd_runs.specs.Moves.{IsOfLines, MayPass, ReachedWithin, RunMove, after_move, draws, event_weight, happens, idle, queues, weight}
-use Rattle.rd_runs.specs.Premises.{RunPremises}
+use Rattle.rd_orders.proofs.RunsBeginningLemmas.{Unset, begins_as}
+use Rattle.rd_orders.specs.RunsMoves.{IsOfLines, MayPass, ReachedWithin, RunMove, after_move, draws, event_weight, happens, idle, queues, weight}
+use Rattle.rd_orders.specs.RunsPremises.{RunPremises}
 use Rattle.rd_script.specs.declared.line.Line.{Line}
 use Rattle.rd_script.specs.declared.line.Line.TheVariants as line
 use Rattle.rd_script.specs.declared.line.NumberedLine.{NumberedLine}
@@ -29,7 +29,7 @@ use Rattle.rd_opening.proofs.Issuing.{AreOpened, OpenedFor, inside_comes, opened
 use Rattle.rd_opening.proofs.Opened.{connected_opens}
 use Rattle.rd_opening.proofs.Rounds.{IsRoundEvent, round_event_keeps, rounds_keep}
 use Rattle.rd_opening.specs.Issued.{ComesOpened}
-use Rattle.rd_runs.proofs.Insides.{all_refreshed_inside}
+use Rattle.rd_orders.proofs.RunsInsides.{all_refreshed_inside}
 
 free_keeps : (e : Event) → event_weight e ≡ 0 → KeepsChannels e
 free_keeps event.connect free = absurd (omega (arith, free))

@@ -6,19 +6,19 @@ use Rattle.std.specs.Option.{IfSome, option_map_or}
 use Rattle.std.proofs.lemmas.Bool.{cases_Bool, cases_eq}
 use Rattle.rd_base.specs.declared.journal.Key.{Key}
 use Rattle.rd_client.specs.Core.{Outgoing}
-use Rattle.rd_runs.proofs.BeginningLemmas.{Unset, begins_as}
-use Rattle.rd_runs.proofs.HostLemmas.{opens}
-use Rattle.rd_runs.proofs.Insides.{added_inside, all_dropped_inside, all_refreshed_inside, applied_inside, hears_inside, put_inside, removed_inside, stationed}
-use Rattle.rd_runs.proofs.KeysOn.{sent_on}
-use Rattle.rd_runs.proofs.KeysOnLemmas.{collected_on}
-use Rattle.rd_runs.proofs.Parts.{IsBehind, MayBe, Part, accepts, adds_one, applies_one, begins, by_parts, client_gets, client_hears_one, client_keeps_part, client_sends_one, collects_one, done, draws_one, ends, hands_out, host_gets, host_hears_one, host_keeps_part, host_sends_one, idle_one, queues_one, reached_behind, refuses, removes_one, takes_one, tells_one, tries_one}
-use Rattle.rd_runs.proofs.Reaching.{run_reached, run_rests}
-use Rattle.rd_runs.proofs.Resting.{IsQuiet, quiet}
-use Rattle.rd_runs.proofs.Standing.{needs_open}
-use Rattle.rd_runs.proofs.Together.{Knows, known, knows}
-use Rattle.rd_runs.proofs.TrafficLemmas.{Traffic, client_reads_else, client_writes_else, completes_else, host_reads_else, host_writes_else, no_traffic, traffic}
-use Rattle.rd_runs.specs.Moves.{Reached}
-use Rattle.rd_runs.specs.Premises.{RunPremises}
+use Rattle.rd_orders.proofs.RunsBeginningLemmas.{Unset, begins_as}
+use Rattle.rd_orders.proofs.RunsHostLemmas.{opens}
+use Rattle.rd_orders.proofs.RunsInsides.{added_inside, all_dropped_inside, all_refreshed_inside, applied_inside, hears_inside, put_inside, removed_inside, stationed}
+use Rattle.rd_orders.proofs.RunsKeysOn.{sent_on}
+use Rattle.rd_orders.proofs.RunsKeysOnLemmas.{collected_on}
+use Rattle.rd_orders.proofs.RunsParts.{IsBehind, MayBe, Part, accepts, adds_one, applies_one, begins, by_parts, client_gets, client_hears_one, client_keeps_part, client_sends_one, collects_one, done, draws_one, ends, hands_out, host_gets, host_hears_one, host_keeps_part, host_sends_one, idle_one, queues_one, reached_behind, refuses, removes_one, takes_one, tells_one, tries_one}
+use Rattle.rd_orders.proofs.RunsReaching.{run_reached, run_rests}
+use Rattle.rd_orders.proofs.RunsResting.{IsQuiet, quiet}
+use Rattle.rd_orders.proofs.RunsStanding.{needs_open}
+use Rattle.rd_orders.proofs.RunsTogether.{Knows, known, knows}
+use Rattle.rd_orders.proofs.RunsTrafficLemmas.{Traffic, client_reads_else, client_writes_else, completes_else, host_reads_else, host_writes_else, no_traffic, traffic}
+use Rattle.rd_orders.specs.RunsMoves.{Reached}
+use Rattle.rd_orders.specs.RunsPremises.{RunPremises}
 use Rattle.rd_script.specs.declared.line.NumberedLine.{NumberedLine}
 use Rattle.rd_station.specs.Station.{StationState}
 use Rattle.rd_world.specs.declared.device.SessionDevice.{SessionDevice}

@@ -17,15 +17,15 @@ use Rattle.rd_pending.specs.declared.calls.Target.{Target}
 use Rattle.rd_pending.specs.Table as table
 use Rattle.rd_pending.specs.Table.{TableState, accept, device_in, file_in, next_id, submit_refusal}
 use Rattle.rd_host.specs.Core.{host_hear}
-use Rattle.rd_runs.proofs.BeginningLemmas.{Unset, begins_as}
-use Rattle.rd_runs.proofs.BelowLemmas.{channel_is}
-use Rattle.rd_runs.proofs.HostLemmas.{host_channel, opens}
-use Rattle.rd_runs.proofs.Insides.{AreOwn, IsInside, Outside, added_inside, all_dropped_inside, all_refreshed_inside, applied_inside, hears_inside, put_inside, removed_inside, stationed}
-use Rattle.rd_runs.proofs.Parts.{IsBehind, MayBe, Part, accepts, adds_one, applies_one, begins, by_parts, client_gets, client_hears_one, client_keeps_part, client_sends_one, collects_one, done, draws_one, ends, hands_out, host_gets, host_hears_one, host_keeps_part, host_sends_one, idle_one, queues_one, refuses, removes_one, takes_one, tells_one, tries_one}
-use Rattle.rd_runs.proofs.Standing.{is_off, needs_open, open_inside, shut_now}
-use Rattle.rd_runs.proofs.Together.{Knows, knows}
-use Rattle.rd_runs.proofs.TrafficLemmas.{Traffic, host_writes_else, host_writes_here, other_number, same_number}
-use Rattle.rd_runs.specs.Premises.{RunPremises}
+use Rattle.rd_orders.proofs.RunsBeginningLemmas.{Unset, begins_as}
+use Rattle.rd_orders.proofs.RunsBelowLemmas.{channel_is}
+use Rattle.rd_orders.proofs.RunsHostLemmas.{host_channel, opens}
+use Rattle.rd_orders.proofs.RunsInsides.{AreOwn, IsInside, Outside, added_inside, all_dropped_inside, all_refreshed_inside, applied_inside, hears_inside, put_inside, removed_inside, stationed}
+use Rattle.rd_orders.proofs.RunsParts.{IsBehind, MayBe, Part, accepts, adds_one, applies_one, begins, by_parts, client_gets, client_hears_one, client_keeps_part, client_sends_one, collects_one, done, draws_one, ends, hands_out, host_gets, host_hears_one, host_keeps_part, host_sends_one, idle_one, queues_one, refuses, removes_one, takes_one, tells_one, tries_one}
+use Rattle.rd_orders.proofs.RunsStanding.{is_off, needs_open, open_inside, shut_now}
+use Rattle.rd_orders.proofs.RunsTogether.{Knows, knows}
+use Rattle.rd_orders.proofs.RunsTrafficLemmas.{Traffic, host_writes_else, host_writes_here, other_number, same_number}
+use Rattle.rd_orders.specs.RunsPremises.{RunPremises}
 use Rattle.rd_script.specs.declared.line.NumberedLine.{NumberedLine}
 use Rattle.rd_station.specs.Station.{StationState}
 use Rattle.rd_world.proofs.Hearings.{AreQuiet, quiet}

@@ -1,1 +1,2 @@
 pub mod Issued
+pub use Rattle.rd_orders.specs.Orders as OrdersOrders

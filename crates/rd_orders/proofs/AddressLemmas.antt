@@ -9,7 +9,7 @@ use Rattle.std.proofs.lemmas.List.{length-replicate}
 use Rattle.std.proofs.lemmas.List.Elements.{All-cons, All-nil}
 use Rattle.rd_client.specs.Events.{AreWritable, IsWritableDevice}
 use Rattle.rd_dirinfo.specs.Paths.{Names}
-use Rattle.rd_runs.proofs.RoomLemmas.{all_inserted}
+use Rattle.rd_controls.proofs.RunsRoomLemmas.{all_inserted}
 use Rattle.rd_script.proofs.RowLemmas.{ok_same, then_ok}
 use Rattle.rd_script.specs.Numbers.{number_word}
 use Rattle.rd_script.specs.Row.{Row, done, met_words, test, words_of, ◌>>=◌}

@@ -10,17 +10,17 @@ use Rattle.rd_client.specs.Order.{ClientOrder}
 use Rattle.rd_devices.specs.declared.list.Announce.{Announce}
 use Rattle.rd_hello.specs.declared.client.ClientState.TheVariants as client_state
 use Rattle.rd_hello.specs.Moves.{Move, reads, writes}
-use Rattle.rd_runs.proofs.BeginningLemmas.{Unset, begins_as}
-use Rattle.rd_runs.proofs.Insides.{AreOwn, IsInside, Outside, added_inside, all_dropped_inside, all_refreshed_inside, applied_inside, hears_inside, put_inside, removed_inside, stationed}
-use Rattle.rd_runs.proofs.KeysOn.{all_dropped_client, sent_on}
-use Rattle.rd_runs.proofs.Parts.{IsBehind, MayBe, Part, accepts, adds_one, applies_one, begins, by_parts, client_gets, client_hears_one, client_keeps_part, client_sends_one, collects_one, done, draws_one, ends, hands_out, host_gets, host_hears_one, host_keeps_part, host_sends_one, idle_one, queues_one, refreshed_by, refuses, removes_one, takes_one, tells_one, told_added, told_removed, tries_one}
-use Rattle.rd_runs.proofs.Reaching.{both}
-use Rattle.rd_runs.proofs.SizeLemmas.{ClientFits}
-use Rattle.rd_runs.proofs.Standing.{needs_open, open_inside}
-use Rattle.rd_runs.proofs.Together.{Knows, knows}
-use Rattle.rd_runs.proofs.TrafficLemmas.{other_number, same_number, traffic}
-use Rattle.rd_runs.proofs.WayLemmas.{one_read}
-use Rattle.rd_runs.specs.Premises.{RunPremises}
+use Rattle.rd_controls.proofs.RunsBeginningLemmas.{Unset, begins_as}
+use Rattle.rd_controls.proofs.RunsInsides.{AreOwn, IsInside, Outside, added_inside, all_dropped_inside, all_refreshed_inside, applied_inside, hears_inside, put_inside, removed_inside, stationed}
+use Rattle.rd_controls.proofs.RunsKeysOn.{all_dropped_client, sent_on}
+use Rattle.rd_controls.proofs.RunsParts.{IsBehind, MayBe, Part, accepts, adds_one, applies_one, begins, by_parts, client_gets, client_hears_one, client_keeps_part, client_sends_one, collects_one, done, draws_one, ends, hands_out, host_gets, host_hears_one, host_keeps_part, host_sends_one, idle_one, queues_one, refreshed_by, refuses, removes_one, takes_one, tells_one, told_added, told_removed, tries_one}
+use Rattle.rd_controls.proofs.RunsReaching.{both}
+use Rattle.rd_controls.proofs.RunsSizeLemmas.{ClientFits}
+use Rattle.rd_controls.proofs.RunsStanding.{needs_open, open_inside}
+use Rattle.rd_controls.proofs.RunsTogether.{Knows, knows}
+use Rattle.rd_controls.proofs.RunsTrafficLemmas.{other_number, same_number, traffic}
+use Rattle.rd_controls.proofs.RunsWayLemmas.{one_read}
+use Rattle.rd_controls.specs.RunsPremises.{RunPremises}
 use Rattle.rd_script.specs.declared.line.NumberedLine.{NumberedLine}
 use Rattle.rd_station.specs.Station.{StationState}
 use Rattle.rd_world.specs.declared.device.SessionDevice.{SessionDevice}

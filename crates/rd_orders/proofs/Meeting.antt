@@ -69,20 +69,20 @@ use Rattle.rd_station.specs.declared.refusals.PutWhy.{PutWhy}
 use Rattle.rd_station.specs.declared.refusals.PutWhy.TheVariants as why
 use Rattle.rd_station.specs.Station as station
 use Rattle.rd_station.specs.Station.{StationState}
-use Rattle.rd_runs.proofs.AskedLemmas.{tellable_lines}
-use Rattle.rd_runs.proofs.Insides.{AreOwn, IsInside, Outside, added_inside, all_dropped_inside, all_refreshed_inside, applied_inside, hears_inside, put_inside, removed_inside, stationed}
-use Rattle.rd_runs.proofs.KeysOn.{all_dropped_client, sent_on}
-use Rattle.rd_runs.proofs.KeysOnLemmas.{collected_on}
-use Rattle.rd_runs.proofs.Parts.{IsBehind, MayBe, Part, by_parts, accepts, adds_one, announced_by, applies_one, begins, client_gets, client_hears_one, client_keeps_part, client_sends_one, collects_one, cut_by, done, draws_one, ends, hands_out, host_gets, host_hears_one, host_keeps_part, host_sends_one, idle_one, queues_one, refreshed_by, refuses, removes_one, takes_one, tells_one, told_added, told_removed, tries_one}
-use Rattle.rd_runs.proofs.Reaching.{both}
-use Rattle.rd_runs.proofs.SizeLemmas.{ClientFits, data_few, refreshed_fits}
-use Rattle.rd_runs.proofs.Standing.{needs_open, open_inside, shut_now, is_off}
-use Rattle.rd_runs.proofs.Together.{Knows, knows}
-use Rattle.rd_runs.proofs.BeginningLemmas.{Unset, begins_as}
-use Rattle.rd_runs.proofs.TrafficLemmas.{Traffic, client_reads_here, client_writes_here, completes_here, host_reads_here, host_writes_here, no_traffic, traffic}
-use Rattle.rd_runs.proofs.WayLemmas.{one_read}
-use Rattle.rd_runs.specs.Premises.{RunPremises}
-use Rattle.rd_runs.proofs.BelowLemmas.{channel_is}
+use Rattle.rd_controls.proofs.RunsAskedLemmas.{tellable_lines}
+use Rattle.rd_controls.proofs.RunsInsides.{AreOwn, IsInside, Outside, added_inside, all_dropped_inside, all_refreshed_inside, applied_inside, hears_inside, put_inside, removed_inside, stationed}
+use Rattle.rd_controls.proofs.RunsKeysOn.{all_dropped_client, sent_on}
+use Rattle.rd_controls.proofs.RunsKeysOnLemmas.{collected_on}
+use Rattle.rd_controls.proofs.RunsParts.{IsBehind, MayBe, Part, by_parts, accepts, adds_one, announced_by, applies_one, begins, client_gets, client_hears_one, client_keeps_part, client_sends_one, collects_one, cut_by, done, draws_one, ends, hands_out, host_gets, host_hears_one, host_keeps_part, host_sends_one, idle_one, queues_one, refreshed_by, refuses, removes_one, takes_one, tells_one, told_added, told_removed, tries_one}
+use Rattle.rd_controls.proofs.RunsReaching.{both}
+use Rattle.rd_controls.proofs.RunsSizeLemmas.{ClientFits, data_few, refreshed_fits}
+use Rattle.rd_controls.proofs.RunsStanding.{needs_open, open_inside, shut_now, is_off}
+use Rattle.rd_controls.proofs.RunsTogether.{Knows, knows}
+use Rattle.rd_controls.proofs.RunsBeginningLemmas.{Unset, begins_as}
+use Rattle.rd_controls.proofs.RunsTrafficLemmas.{Traffic, client_reads_here, client_writes_here, completes_here, host_reads_here, host_writes_here, no_traffic, traffic}
+use Rattle.rd_controls.proofs.RunsWayLemmas.{one_read}
+use Rattle.rd_controls.specs.RunsPremises.{RunPremises}
+use Rattle.rd_controls.proofs.RunsBelowLemmas.{channel_is}
 use Rattle.rd_hello.specs.Hello.{hello_bytes}
 use Rattle.rd_hello.specs.Own.{host_announce}
 use Rattle.rd_world.specs.HostDeeds.{side_of}

@@ -2,14 +2,14 @@
 use Rattle.std.specs.Prelude.{◌≡◌, ℕ, Bool, List, Ok, refl}
 use Rattle.std.proofs.lemmas.List.Elements.{All-from_recursion}
 use Rattle.rd_base.specs.declared.journal.Key.{Key}
-use Rattle.rd_runs.proofs.BoundLemmas.{scripts_are_bounded}
-use Rattle.rd_runs.proofs.Carrying.{IsFit}
-use Rattle.rd_runs.proofs.FittingLines.{scripts_are_fitting}
-use Rattle.rd_runs.proofs.Parts.{reached_behind}
-use Rattle.rd_runs.proofs.Reaching.{run_reached}
-use Rattle.rd_runs.proofs.Together.{known}
-use Rattle.rd_runs.specs.Moves.{Reached}
-use Rattle.rd_runs.specs.Premises.{RunPremises}
+use Rattle.rd_controls.proofs.RunsBoundLemmas.{scripts_are_bounded}
+use Rattle.rd_controls.proofs.RunsCarrying.{IsFit}
+use Rattle.rd_controls.proofs.RunsFittingLines.{scripts_are_fitting}
+use Rattle.rd_controls.proofs.RunsParts.{reached_behind}
+use Rattle.rd_controls.proofs.RunsReaching.{run_reached}
+use Rattle.rd_controls.proofs.RunsTogether.{known}
+use Rattle.rd_controls.specs.RunsMoves.{Reached}
+use Rattle.rd_controls.specs.RunsPremises.{RunPremises}
 use Rattle.rd_script.specs.Script.{script_of}
 use Rattle.rd_script.specs.declared.keyword.Mode.{Mode}
 use Rattle.rd_script.specs.declared.line.NumberedLine.{NumberedLine}

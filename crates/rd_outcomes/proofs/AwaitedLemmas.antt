@@ -22,11 +22,11 @@ use Rattle.rd_pending.specs.Table as table
 use Rattle.rd_pending.specs.Table.{Fate, TableState, Untaken, accept, awaited, awaits, fate_at, known, untaken_at}
 use Rattle.rd_pending.proofs.Effects as effects
 use Rattle.rd_pending.proofs.MapLemmas.{beside, inserted, kept}
-use Rattle.rd_runs.proofs.BeginningLemmas.{Unset, begins_as}
-use Rattle.rd_runs.proofs.Insides.{IsInside, Outside, all_dropped_inside, applied_inside, hears_inside, put_inside, removed_inside, added_inside}
-use Rattle.rd_runs.proofs.Parts.{MayBe, Part, accepts, adds_one, applies_one, begins, client_gets, client_hears_one, client_keeps_part, client_sends_one, collects_one, done, draws_one, ends, hands_out, host_gets, host_handling_keeps, host_hears_one, host_keeps_part, host_sends_one, idle_one, queues_one, refreshed_by, refuses, removes_one, takes_one, tells_one, told_added, tries_one}
-use Rattle.rd_runs.proofs.Reaching.{by_moves}
-use Rattle.rd_runs.specs.Moves.{MayPass, Reached, RunMove, after_move, draws, happens, idle, queues}
+use Rattle.rd_controls.proofs.RunsBeginningLemmas.{Unset, begins_as}
+use Rattle.rd_controls.proofs.RunsInsides.{IsInside, Outside, all_dropped_inside, applied_inside, hears_inside, put_inside, removed_inside, added_inside}
+use Rattle.rd_controls.proofs.RunsParts.{MayBe, Part, accepts, adds_one, applies_one, begins, client_gets, client_hears_one, client_keeps_part, client_sends_one, collects_one, done, draws_one, ends, hands_out, host_gets, host_handling_keeps, host_hears_one, host_keeps_part, host_sends_one, idle_one, queues_one, refreshed_by, refuses, removes_one, takes_one, tells_one, told_added, tries_one}
+use Rattle.rd_controls.proofs.RunsReaching.{by_moves}
+use Rattle.rd_controls.specs.RunsMoves.{MayPass, Reached, RunMove, after_move, draws, happens, idle, queues}
 use Rattle.rd_script.specs.declared.line.Line.{Line}
 use Rattle.rd_script.specs.declared.line.NumberedLine.{NumberedLine}
 use Rattle.rd_script.specs.declared.outcome.Outcome.{Outcome}

@@ -15,11 +15,11 @@ use Rattle.rd_pending.specs.declared.calls.Handle.{Handle}
 use Rattle.rd_pending.specs.declared.calls.Target.{Target}
 use Rattle.rd_pending.specs.Table as table
 use Rattle.rd_pending.proofs.MapLemmas.{beside, inserted}
-use Rattle.rd_runs.proofs.Insides.{AreOwn, IsInside, Outside, added_inside, all_dropped_inside, applied_inside, hears_inside, put_inside, removed_inside, stationed}
-use Rattle.rd_runs.proofs.Parts.{IsBehind, IsBehindWithin, IsRefused, MayBe, Part, accepts, adds_one, all_take_keeps, announced_by, applies_one, begins, client_gets, client_hears_one, client_keeps_part, client_sends_one, collects_one, done, draws_one, ends, event_keeps, hands_out, host_gets, host_hears_one, host_keeps_part, host_sends_one, idle_one, is_issue, one_part, part_weight, queues_one, reached_behind, refreshed_by, refuses, removes_one, takes_one, tells_one, told_added, tries_keeps, tries_one, within_behind}
-use Rattle.rd_runs.proofs.Together.{knows}
-use Rattle.rd_runs.specs.Moves.{IsOfLines, MayPass, Reached, ReachedWithin, event_weight, happens}
-use Rattle.rd_runs.specs.Premises.{RunPremises}
+use Rattle.rd_controls.proofs.RunsInsides.{AreOwn, IsInside, Outside, added_inside, all_dropped_inside, applied_inside, hears_inside, put_inside, removed_inside, stationed}
+use Rattle.rd_controls.proofs.RunsParts.{IsBehind, IsBehindWithin, IsRefused, MayBe, Part, accepts, adds_one, all_take_keeps, announced_by, applies_one, begins, client_gets, client_hears_one, client_keeps_part, client_sends_one, collects_one, done, draws_one, ends, event_keeps, hands_out, host_gets, host_hears_one, host_keeps_part, host_sends_one, idle_one, is_issue, one_part, part_weight, queues_one, reached_behind, refreshed_by, refuses, removes_one, takes_one, tells_one, told_added, tries_keeps, tries_one, within_behind}
+use Rattle.rd_controls.proofs.RunsTogether.{knows}
+use Rattle.rd_controls.specs.RunsMoves.{IsOfLines, MayPass, Reached, ReachedWithin, event_weight, happens}
+use Rattle.rd_controls.specs.RunsPremises.{RunPremises}
 use Rattle.rd_script.specs.declared.line.NumberedLine.{NumberedLine}
 use Rattle.rd_script.specs.declared.outcome.Outcome.{Outcome}
 use Rattle.rd_script.specs.declared.outcome.Outcome.TheVariants as outcome

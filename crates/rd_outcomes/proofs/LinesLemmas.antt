@@ -18,10 +18,10 @@ use Rattle.rd_controls.proofs.Walking.{IsOpening, opening_rounds_keep}
 use Rattle.rd_controls.specs.Controls.{AreOrderedLines}
 use Rattle.rd_journals.proofs.ChannelLemmas.{all_refreshed, begun_on}
 use Rattle.rd_pending.proofs.MapLemmas.{beside, inserted}
-use Rattle.rd_runs.specs.Moves.{ReachedWithin}
-use Rattle.rd_runs.specs.Premises.{RunPremises}
-use Rattle.rd_runs.proofs.BeginningLemmas.{Unset, begins_as}
-use Rattle.rd_runs.proofs.Parts.{IsBehind, IsBehindWithin, MayBe, Part, all_take_keeps, begins, client_all_keeps, client_gets, client_send_keeps, done, host_gets, host_handling_keeps, host_send_keeps, is_issue, one_part, part_weight, within_behind}
+use Rattle.rd_controls.specs.RunsMoves.{ReachedWithin}
+use Rattle.rd_controls.specs.RunsPremises.{RunPremises}
+use Rattle.rd_controls.proofs.RunsBeginningLemmas.{Unset, begins_as}
+use Rattle.rd_controls.proofs.RunsParts.{IsBehind, IsBehindWithin, MayBe, Part, all_take_keeps, begins, client_all_keeps, client_gets, client_send_keeps, done, host_gets, host_handling_keeps, host_send_keeps, is_issue, one_part, part_weight, within_behind}
 use Rattle.rd_script.specs.declared.line.Line.{Line}
 use Rattle.rd_script.specs.declared.line.NumberedLine.{NumberedLine}
 use Rattle.rd_script.specs.declared.outcome.Outcome.{Outcome}

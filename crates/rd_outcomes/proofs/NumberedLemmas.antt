@@ -13,9 +13,9 @@ use Rattle.std.proofs.lemmas.Bool.{cases_eq}
 use Rattle.rd_base.specs.declared.journal.Key.{Key}
 use Rattle.rd_journals.proofs.ChannelLemmas.{all_refreshed, begun_on}
 use Rattle.rd_pending.proofs.MapLemmas.{rises_with}
-use Rattle.rd_runs.proofs.BeginningLemmas.{Unset, begins_as}
-use Rattle.rd_runs.proofs.Parts.{MayBe, Part, accepts, begins, by_parts, done, hands_out, queues_one, reached_behind, refuses}
-use Rattle.rd_runs.specs.Moves.{Reached}
+use Rattle.rd_controls.proofs.RunsBeginningLemmas.{Unset, begins_as}
+use Rattle.rd_controls.proofs.RunsParts.{MayBe, Part, accepts, begins, by_parts, done, hands_out, queues_one, reached_behind, refuses}
+use Rattle.rd_controls.specs.RunsMoves.{Reached}
 use Rattle.rd_script.specs.declared.line.NumberedLine.{NumberedLine}
 use Rattle.rd_script.specs.declared.outcome.Outcome.{Outcome}
 use Rattle.rd_script.specs.Report.{numbered_from}

@@ -15,10 +15,10 @@ use Rattle.rd_pending.specs.Table.{TableState, device_in, file_in, next_id}
 use Rattle.rd_pending.proofs.Effects as effects
 use Rattle.rd_pending.proofs.MapLemmas.{free_within}
 use Rattle.rd_pending.proofs.Tame.{Tame, tame_take}
-use Rattle.rd_runs.proofs.BelowLemmas.{below_is, channel_is, channels_below}
-use Rattle.rd_runs.proofs.Together.{known}
-use Rattle.rd_runs.specs.Moves.{Reached}
-use Rattle.rd_runs.specs.Premises.{RunPremises}
+use Rattle.rd_controls.proofs.RunsBelowLemmas.{below_is, channel_is, channels_below}
+use Rattle.rd_controls.proofs.RunsTogether.{known}
+use Rattle.rd_controls.specs.RunsMoves.{Reached}
+use Rattle.rd_controls.specs.RunsPremises.{RunPremises}
 use Rattle.rd_script.specs.declared.line.NumberedLine.{NumberedLine}
 use Rattle.rd_world.specs.Host.{HostSide, first_waiting, hears, next_message, side_sends}
 use Rattle.rd_world.specs.HostDeeds.{IsInRange, side_of}

@@ -1,7 +1,7 @@
 -- What a session's lines take of the channels that begin.
 use Rattle.std.specs.Prelude.{◌≡◌, ℕ, ◌+◌, ◌≤◌, Bool, true, List, length, Some}
 use Rattle.rd_base.specs.declared.journal.Key.{Key}
-use Rattle.rd_runs.specs.Moves.{ReachedWithin}
+use Rattle.rd_controls.specs.RunsMoves.{ReachedWithin}
 use Rattle.rd_script.specs.declared.line.NumberedLine.{NumberedLine}
 use Rattle.rd_world.specs.Acts.{Opens}
 use Rattle.rd_world.specs.Events.{connect, is_enabled}

@@ -18,12 +18,12 @@ use Rattle.rd_drive.specs.Replies.{KeyedReply, replies_by}
 use Rattle.rd_front.specs.Calls.{FrontEntry}
 use Rattle.rd_irp.specs.declared.completion.Reply.{Reply}
 use Rattle.rd_irp.specs.declared.request.Request.{Request}
-use Rattle.rd_journals.proofs.DeclaredLemmas.{bounded_fit}
-use Rattle.rd_journals.proofs.ReplyLemmas.{replies_grow, replies_once}
-use Rattle.rd_journals.specs.Reads.{ComesRead}
-use Rattle.rd_joined.specs.Joined.{AreTied}
-use Rattle.rd_joined.proofs.TiedLemmas.{joined_with}
-use Rattle.rd_replied.proofs.MatchLemmas.{gives_same}
+use Rattle.rd_served_sessions.proofs.JournalsDeclaredLemmas.{bounded_fit}
+use Rattle.rd_served_sessions.proofs.JournalsReplyLemmas.{replies_grow, replies_once}
+use Rattle.rd_served_sessions.specs.JournalsReads.{ComesRead}
+use Rattle.rd_served_sessions.specs.JoinedJoined.{AreTied}
+use Rattle.rd_served_sessions.proofs.JoinedTiedLemmas.{joined_with}
+use Rattle.rd_served_sessions.proofs.RepliedMatchLemmas.{gives_same}
 use Rattle.rd_printer.specs.Printer.{new_printer}
 use Rattle.rd_script.specs.declared.line.NumberedLine.{NumberedLine}
 use Rattle.rd_served_sessions.specs.Sessions.{AreServable, IsToldSession}

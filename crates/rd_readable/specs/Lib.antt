@@ -1,0 +1,1 @@
+pub use Rattle.rd_printed.specs.Printed as PrintedPrinted

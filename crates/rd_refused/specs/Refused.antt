@@ -3,7 +3,7 @@ use Rattle.std.specs.Prelude.{◌≡◌, ℕ, ◌&&◌, not, false, List, Some}
 use Rattle.rd_client.specs.Core.{ClientCoreState, has_device, is_gone}
 use Rattle.rd_irp.specs.declared.completion.Reply.{Reply}
 use Rattle.rd_irp.specs.declared.request.Request.{Request}
-use Rattle.rd_journals.specs.Jobs.{IsRefusalOf}
+use Rattle.rd_replied.specs.JournalsJobs.{IsRefusalOf}
 use Rattle.rd_world.specs.Talk.{Deed, client_read, completes, journal, request_at}
 use Rattle.rd_world.specs.Told.{CompletesWith, IsDirect, came, is_said_gone}
 

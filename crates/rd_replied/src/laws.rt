@@ -3,8 +3,8 @@
 ghost use Rattle.std.specs.Prelude.{◌≡◌, Bool, List};
 ghost use Rattle.rd_base.specs.declared.journal.Key.{Key};
 ghost use Rattle.rd_script.specs.declared.line.NumberedLine.{NumberedLine};
-ghost use Rattle.rd_runs.specs.Moves.{Reached};
-ghost use Rattle.rd_runs.specs.Premises.{RunPremises};
+ghost use Rattle.rd_journals.specs.RunsMoves.{Reached};
+ghost use Rattle.rd_journals.specs.RunsPremises.{RunPremises};
 ghost use Rattle.rd_world.specs.Opening.{bare_lines};
 ghost use Rattle.rd_world.specs.Run.{declared_devices};
 ghost use Rattle.rd_world.specs.Session.{replies_in};

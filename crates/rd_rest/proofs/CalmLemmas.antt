@@ -15,8 +15,8 @@ use Rattle.rd_devices.specs.declared.list.Announce.{Announce}
 use Rattle.rd_drive.specs.declared.plan.Job.{Job}
 use Rattle.rd_hello.specs.declared.client.ClientState.{ClientState}
 use Rattle.rd_hello.specs.declared.end_fault.EndFault.{EndFault}
-use Rattle.rd_journals.proofs.HeldLemmas.{found_then}
-use Rattle.rd_runs.proofs.Parts.{announced_by, cut_by, refreshed_by, told_added, told_removed}
+use Rattle.rd_answered.proofs.JournalsHeldLemmas.{found_then}
+use Rattle.rd_answered.proofs.RunsParts.{announced_by, cut_by, refreshed_by, told_added, told_removed}
 use Rattle.rd_station.specs.Station as station
 use Rattle.rd_station.specs.Station.{StationState, announce, cancelled_parked, cancelled_waiting, collect_first, entry_count, marked_removed, max_entries, put_unless}
 use Rattle.rd_station.specs.declared.answers.Completion.{Completion}

@@ -13,26 +13,26 @@ use Rattle.rd_base.specs.declared.journal.Cause.TheVariants.{Dropped, Removed}
 use Rattle.rd_base.specs.declared.journal.Item.{Item}
 use Rattle.rd_base.specs.declared.journal.Item.TheVariants.{Came, Cancelled, Cut, Ran, Sent}
 use Rattle.rd_base.specs.declared.journal.Key.{Key}
-use Rattle.rd_directs.specs.Turns.{kept_at, never, said}
+use Rattle.rd_answered.specs.DirectsTurns.{kept_at, never, said}
 use Rattle.rd_drive.specs.Device.{Parked}
 use Rattle.rd_drive.specs.Replies.{last_state_by}
 use Rattle.rd_drive.specs.declared.plan.Job.{Job}
 use Rattle.rd_world.proofs.Messages.{head_read}
 use Rattle.rd_irp.specs.declared.completion.Head.{Head}
 use Rattle.rd_irp.specs.declared.request.Request.{Request}
-use Rattle.rd_journals.proofs.ClientLemmas.{channel_open}
-use Rattle.rd_journals.proofs.DeclaredLemmas.{bounded_fit}
-use Rattle.rd_journals.proofs.RunLemmas.{reached_orderly}
-use Rattle.rd_journals.specs.Orderly.{Orderly, current}
+use Rattle.rd_answered.proofs.JournalsClientLemmas.{channel_open}
+use Rattle.rd_answered.proofs.JournalsDeclaredLemmas.{bounded_fit}
+use Rattle.rd_answered.proofs.JournalsRunLemmas.{reached_orderly}
+use Rattle.rd_answered.specs.JournalsOrderly.{Orderly, current}
 use Rattle.rd_pending.proofs.MapLemmas.{same_key}
 use Rattle.rd_rest.proofs.OverLemmas.{reached_over}
 use Rattle.rd_rest.proofs.RestLemmas.{rest_at}
 use Rattle.rd_rest.proofs.TurnsLemmas.{reached_in_turn}
-use Rattle.rd_runs.proofs.HostLemmas.{host_channel}
-use Rattle.rd_runs.proofs.Resting.{quiet}
-use Rattle.rd_runs.proofs.Together.{known}
-use Rattle.rd_runs.specs.Moves.{Reached}
-use Rattle.rd_runs.specs.Premises.{RunPremises}
+use Rattle.rd_answered.proofs.RunsHostLemmas.{host_channel}
+use Rattle.rd_answered.proofs.RunsResting.{quiet}
+use Rattle.rd_answered.proofs.RunsTogether.{known}
+use Rattle.rd_answered.specs.RunsMoves.{Reached}
+use Rattle.rd_answered.specs.RunsPremises.{RunPremises}
 use Rattle.rd_script.specs.declared.line.NumberedLine.{NumberedLine}
 use Rattle.rd_station.proofs.Calls.{reached_keeps}
 use Rattle.rd_station.proofs.Holding.{in_held}

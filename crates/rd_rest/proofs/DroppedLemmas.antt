@@ -7,11 +7,11 @@ use Rattle.rd_base.specs.declared.journal.Key.{Key}
 use Rattle.rd_client.specs.Core.{Outgoing}
 use Rattle.rd_drive.specs.declared.plan.Job.{Job}
 use Rattle.rd_irp.specs.declared.op.Op.{Op}
-use Rattle.rd_journals.proofs.DeclaredLemmas.{bounded_fit}
-use Rattle.rd_journals.proofs.RunLemmas.{reached_orderly, sends_open}
-use Rattle.rd_journals.proofs.ServingLemmas.{all_dropped}
-use Rattle.rd_journals.proofs.StandingLemmas.{still_not}
-use Rattle.rd_journals.specs.Orderly.{Orderly}
+use Rattle.rd_answered.proofs.JournalsDeclaredLemmas.{bounded_fit}
+use Rattle.rd_answered.proofs.JournalsRunLemmas.{reached_orderly, sends_open}
+use Rattle.rd_answered.proofs.JournalsServingLemmas.{all_dropped}
+use Rattle.rd_answered.proofs.JournalsStandingLemmas.{still_not}
+use Rattle.rd_answered.specs.JournalsOrderly.{Orderly}
 use Rattle.rd_pending.proofs.Neutral.{channel_kept}
 use Rattle.rd_pending.specs.History as call
 use Rattle.rd_pending.specs.declared.calls.Handle.{Handle}
@@ -24,10 +24,10 @@ use Rattle.rd_pending.specs.Table as table
 use Rattle.rd_pending.specs.Table.{TableState}
 use Rattle.rd_rest.proofs.RestLemmas.{no_hand_full}
 use Rattle.rd_rest.specs.Ending.{AreTakes, IsClosed}
-use Rattle.rd_runs.proofs.HostLemmas.{host_channel}
-use Rattle.rd_runs.proofs.Together.{known}
-use Rattle.rd_runs.specs.Moves.{IsOfLines, MayPass, Reached, draws, event_weight, happens}
-use Rattle.rd_runs.specs.Premises.{RunPremises}
+use Rattle.rd_answered.proofs.RunsHostLemmas.{host_channel}
+use Rattle.rd_answered.proofs.RunsTogether.{known}
+use Rattle.rd_answered.specs.RunsMoves.{IsOfLines, MayPass, Reached, draws, event_weight, happens}
+use Rattle.rd_answered.specs.RunsPremises.{RunPremises}
 use Rattle.rd_script.specs.declared.line.NumberedLine.{NumberedLine}
 use Rattle.rd_script.specs.declared.outcome.Outcome.{Outcome}
 use Rattle.rd_script.specs.declared.outcome.Outcome.TheVariants as outcome

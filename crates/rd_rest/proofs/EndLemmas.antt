@@ -18,21 +18,21 @@ use Rattle.rd_drive.specs.Device.{Parked}
 use Rattle.rd_drive.specs.Replies.{last_state_by}
 use Rattle.rd_host.specs.Order as host
 use Rattle.rd_host.specs.Order.{HostStanding, host_at_first}
-use Rattle.rd_journals.proofs.DeclaredLemmas.{bounded_fit}
-use Rattle.rd_journals.proofs.HeldLemmas.{found_then}
-use Rattle.rd_journals.proofs.RunLemmas.{reached_orderly}
-use Rattle.rd_journals.specs.Orderly.{Orderly, current}
+use Rattle.rd_answered.proofs.JournalsDeclaredLemmas.{bounded_fit}
+use Rattle.rd_answered.proofs.JournalsHeldLemmas.{found_then}
+use Rattle.rd_answered.proofs.JournalsRunLemmas.{reached_orderly}
+use Rattle.rd_answered.specs.JournalsOrderly.{Orderly, current}
 use Rattle.rd_pending.specs.History.{lives_before}
 use Rattle.rd_rest.proofs.CompletedLemmas.{any_true, end_cases, flat_has, keeps_at}
 use Rattle.rd_rest.proofs.LeftLemmas.{any_of, flat_in, found_of, key_has, left_waits, over_waits, same_tests}
 use Rattle.rd_rest.proofs.OverLemmas.{reached_over}
 use Rattle.rd_rest.specs.Ending.{AreTakes, EndsAtRest, IsClosed, IsTake}
-use Rattle.rd_runs.proofs.HostLemmas.{host_channel}
-use Rattle.rd_runs.proofs.Insides.{AreOwn, IsOwn, Outside, all_dropped_inside}
-use Rattle.rd_runs.proofs.Standing.{open_now}
-use Rattle.rd_runs.proofs.Together.{known}
-use Rattle.rd_runs.specs.Moves.{Reached}
-use Rattle.rd_runs.specs.Premises.{RunPremises}
+use Rattle.rd_answered.proofs.RunsHostLemmas.{host_channel}
+use Rattle.rd_answered.proofs.RunsInsides.{AreOwn, IsOwn, Outside, all_dropped_inside}
+use Rattle.rd_answered.proofs.RunsStanding.{open_now}
+use Rattle.rd_answered.proofs.RunsTogether.{known}
+use Rattle.rd_answered.specs.RunsMoves.{Reached}
+use Rattle.rd_answered.specs.RunsPremises.{RunPremises}
 use Rattle.rd_script.specs.declared.line.NumberedLine.{NumberedLine}
 use Rattle.rd_station.proofs.Members.{has_map, map_has}
 use Rattle.rd_station.proofs.Remembering.{came_named}

@@ -23,12 +23,12 @@ use Rattle.rd_hello.specs.declared.end_fault.EndFault.{EndFault}
 use Rattle.rd_irp.specs.Fits.{kind_of}
 use Rattle.rd_irp.specs.declared.op.Op.{Op}
 use Rattle.rd_irp.specs.declared.op.Op.TheVariants as op
-use Rattle.rd_journals.proofs.DeclaredLemmas.{bounded_fit}
-use Rattle.rd_journals.proofs.DeviceLemmas.{comes}
-use Rattle.rd_journals.proofs.HeldLemmas.{has_elsewhere, has_here}
-use Rattle.rd_journals.proofs.RunLemmas.{not_opened, reached_orderly}
-use Rattle.rd_journals.specs.Orderly.{Orderly}
-use Rattle.rd_journals.specs.Stations.{IsFit, IsOn}
+use Rattle.rd_answered.proofs.JournalsDeclaredLemmas.{bounded_fit}
+use Rattle.rd_answered.proofs.JournalsDeviceLemmas.{comes}
+use Rattle.rd_answered.proofs.JournalsHeldLemmas.{has_elsewhere, has_here}
+use Rattle.rd_answered.proofs.JournalsRunLemmas.{not_opened, reached_orderly}
+use Rattle.rd_answered.specs.JournalsOrderly.{Orderly}
+use Rattle.rd_answered.specs.JournalsStations.{IsFit, IsOn}
 use Rattle.rd_pending.specs.declared.calls.SubmitNo.{SubmitNo}
 use Rattle.rd_pending.specs.declared.calls.Taken.{Taken}
 use Rattle.rd_pending.specs.declared.calls.TakeNo.{TakeNo}
@@ -37,11 +37,11 @@ use Rattle.rd_pending.specs.declared.calls.Target.{Target}
 use Rattle.rd_pending.specs.Table as table
 use Rattle.rd_pending.specs.Table.{TableState}
 use Rattle.rd_rest.proofs.RestLemmas.{rest_at}
-use Rattle.rd_runs.proofs.BeginningLemmas.{Unset, begins_as}
-use Rattle.rd_runs.proofs.Parts.{announced_by, cut_by, refreshed_by, told_added, told_removed}
-use Rattle.rd_runs.proofs.Reaching.{Steps, by_moves}
-use Rattle.rd_runs.specs.Moves.{RunMove, Reached, after_move, draws, happens, idle, queues}
-use Rattle.rd_runs.specs.Premises.{RunPremises}
+use Rattle.rd_answered.proofs.RunsBeginningLemmas.{Unset, begins_as}
+use Rattle.rd_answered.proofs.RunsParts.{announced_by, cut_by, refreshed_by, told_added, told_removed}
+use Rattle.rd_answered.proofs.RunsReaching.{Steps, by_moves}
+use Rattle.rd_answered.specs.RunsMoves.{RunMove, Reached, after_move, draws, happens, idle, queues}
+use Rattle.rd_answered.specs.RunsPremises.{RunPremises}
 use Rattle.rd_script.specs.declared.line.NumberedLine.{NumberedLine}
 use Rattle.rd_script.specs.declared.outcome.Outcome.{Outcome}
 use Rattle.rd_script.specs.declared.outcome.Outcome.TheVariants as outcome

@@ -11,13 +11,13 @@ use Rattle.rd_drive.specs.Device.{is_parked, is_starved}
 use Rattle.rd_drive.specs.Stepped.{Stepped}
 use Rattle.rd_drive.specs.declared.plan.Job.{Job}
 use Rattle.rd_irp.specs.Fits.{kind_of}
-use Rattle.rd_journals.proofs.HeldLemmas.{found_then}
+use Rattle.rd_answered.proofs.JournalsHeldLemmas.{found_then}
 use Rattle.rd_rest.proofs.CalmLemmas.{Calm, IsCalm, added, all_refreshed_calm, calm_by, calm_same, calm_station, collected_calm, hears_calm, put_calm, removed}
 use Rattle.rd_rest.specs.Rest.{AreInHands}
-use Rattle.rd_runs.proofs.BeginningLemmas.{Unset, begins_as, first_idle}
-use Rattle.rd_runs.proofs.IdleLemmas.{AreIdle, cut_idle}
-use Rattle.rd_runs.proofs.Parts.{IsBehind, MayBe, Part, accepts, adds_one, applies_one, begins, by_parts, client_gets, client_hears_one, client_keeps_part, client_sends_one, collects_one, done, draws_one, ends, hands_out, host_gets, host_hears_one, host_keeps_part, host_sends_one, idle_one, queues_one, reached_behind, refuses, removes_one, takes_one, tells_one, tries_one}
-use Rattle.rd_runs.specs.Moves.{Reached}
+use Rattle.rd_answered.proofs.RunsBeginningLemmas.{Unset, begins_as, first_idle}
+use Rattle.rd_answered.proofs.RunsIdleLemmas.{AreIdle, cut_idle}
+use Rattle.rd_answered.proofs.RunsParts.{IsBehind, MayBe, Part, accepts, adds_one, applies_one, begins, by_parts, client_gets, client_hears_one, client_keeps_part, client_sends_one, collects_one, done, draws_one, ends, hands_out, host_gets, host_hears_one, host_keeps_part, host_sends_one, idle_one, queues_one, reached_behind, refuses, removes_one, takes_one, tells_one, tries_one}
+use Rattle.rd_answered.specs.RunsMoves.{Reached}
 use Rattle.rd_script.specs.declared.line.NumberedLine.{NumberedLine}
 use Rattle.rd_station.proofs.Members.{filter_has, find_has, has_append, has_right, key_self, same_key}
 use Rattle.rd_station.specs.Station as station

@@ -15,7 +15,7 @@ use Rattle.rd_controls.proofs.Unseen.{client_ready, event_unseen, host_ready, se
 use Rattle.rd_controls.proofs.Walking.{round_keeps, does_keeps, rounds_keep, settled_keeps, settled_rests}
 use Rattle.rd_controls.specs.Controls.{AreReady, AreOrderedLines, NamesKnown}
 use Rattle.rd_printer.specs.declared.notice.Notice.{Notice}
-use Rattle.rd_runs.specs.Moves.{IsOfLines, MayPass, RunMove, ReachedWithin, draws, event_weight, happens, idle, after_move, queues, weight, Reached}
+use Rattle.rd_answered.specs.RunsMoves.{IsOfLines, MayPass, RunMove, ReachedWithin, draws, event_weight, happens, idle, after_move, queues, weight, Reached}
 use Rattle.rd_script.specs.declared.line.Errand.{Errand}
 use Rattle.rd_script.specs.declared.line.Line.{Line}
 use Rattle.rd_script.specs.declared.line.Line.TheVariants as line
@@ -29,7 +29,7 @@ use Rattle.rd_world.specs.Events.{Event, act, is_channel_open, is_enabled}
 use Rattle.rd_world.specs.Run.{Most, applications_of, asked_by, by_event, choices, connects_on, controls, declared_devices, does, drawing, ends_session, event_of, idles, is_quiet, new_world, notice_of, plays, plays_line, queueing, run_of, setting, settled, some_left, world_of, rounds}
 use Rattle.rd_world.specs.Talk.{Has}
 use Rattle.rd_controls.proofs.Opening.{begins_at, opened}
-use Rattle.rd_runs.specs.Premises.{RunPremises}
+use Rattle.rd_answered.specs.RunsPremises.{RunPremises}
 use Rattle.rd_world.specs.World.{Asked, WorldState}
 
 both_true : (a b : Bool) → a ≡ true → b ≡ true → (a && b) ≡ true

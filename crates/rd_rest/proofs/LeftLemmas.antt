@@ -15,17 +15,17 @@ use Rattle.rd_base.specs.declared.journal.Item.TheVariants.{Came, Cancelled, Cut
 use Rattle.rd_base.specs.declared.journal.Key.{Key}
 use Rattle.rd_drive.specs.Device.{Parked}
 use Rattle.rd_drive.specs.Replies.{last_state_by}
-use Rattle.rd_joined.proofs.JournalLemmas.{each_found}
-use Rattle.rd_journals.proofs.DeclaredLemmas.{bounded_fit}
-use Rattle.rd_journals.proofs.HeldLemmas.{turned_has}
-use Rattle.rd_journals.proofs.ReplyLemmas.{fit_at}
-use Rattle.rd_journals.specs.Orderly.{current}
+use Rattle.rd_answered.proofs.JoinedJournalLemmas.{each_found}
+use Rattle.rd_answered.proofs.JournalsDeclaredLemmas.{bounded_fit}
+use Rattle.rd_answered.proofs.JournalsHeldLemmas.{turned_has}
+use Rattle.rd_answered.proofs.JournalsReplyLemmas.{fit_at}
+use Rattle.rd_answered.specs.JournalsOrderly.{current}
 use Rattle.rd_rest.proofs.CompletedLemmas.{any_true, end_cases, entry_has, keeps_at, named_waits, not_over, ordered, parked_waits, waits_as}
 use Rattle.rd_rest.proofs.OverLemmas.{reached_over}
 use Rattle.rd_rest.proofs.ParkedLemmas.{reached_left_parked}
 use Rattle.rd_rest.proofs.WaitingLemmas.{waits_run}
-use Rattle.rd_runs.specs.Moves.{Reached}
-use Rattle.rd_runs.specs.Premises.{RunPremises}
+use Rattle.rd_answered.specs.RunsMoves.{Reached}
+use Rattle.rd_answered.specs.RunsPremises.{RunPremises}
 use Rattle.rd_script.specs.declared.line.NumberedLine.{NumberedLine}
 use Rattle.rd_station.proofs.Members.{from_contains, has_append, has_map, key_self, map_has, to_contains}
 use Rattle.rd_station.proofs.Members.{same_key as one_key}

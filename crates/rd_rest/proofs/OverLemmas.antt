@@ -7,21 +7,21 @@ use Rattle.rd_base.specs.declared.journal.Item.{Item}
 use Rattle.rd_base.specs.declared.journal.Item.TheVariants.{Cut}
 use Rattle.rd_base.specs.declared.journal.Key.{Key}
 use Rattle.rd_drive.specs.declared.plan.Job.{Job}
-use Rattle.rd_journals.proofs.HeldLemmas.{found_then}
-use Rattle.rd_journals.proofs.RunLemmas.{behind_orderly}
-use Rattle.rd_journals.proofs.ServingLemmas.{all_dropped}
-use Rattle.rd_journals.proofs.StandingLemmas.{still_not}
-use Rattle.rd_journals.specs.Orderly.{Orderly, current}
-use Rattle.rd_journals.specs.Stations.{AreFit}
+use Rattle.rd_answered.proofs.JournalsHeldLemmas.{found_then}
+use Rattle.rd_answered.proofs.JournalsRunLemmas.{behind_orderly}
+use Rattle.rd_answered.proofs.JournalsServingLemmas.{all_dropped}
+use Rattle.rd_answered.proofs.JournalsStandingLemmas.{still_not}
+use Rattle.rd_answered.specs.JournalsOrderly.{Orderly, current}
+use Rattle.rd_answered.specs.JournalsStations.{AreFit}
 use Rattle.rd_rest.proofs.CalmLemmas.{Calm, IsCalm, added, all_refreshed_calm, collected_calm, hears_calm, put_calm, removed}
 use Rattle.rd_rest.proofs.HandLemmas.{Gave, gave_back, took}
 use Rattle.rd_rest.specs.Rest.{AreOver}
-use Rattle.rd_runs.proofs.BeginningLemmas.{Unset, begins_as}
-use Rattle.rd_runs.proofs.Insides.{IsInside, Outside, added_inside, hears_inside, put_inside, removed_inside, stationed}
-use Rattle.rd_runs.proofs.Parts.{MayBe, Part, accepts, adds_one, applies_one, begins, by_parts, client_gets, client_hears_one, client_keeps_part, client_sends_one, collects_one, done, draws_one, ends, hands_out, host_gets, host_hears_one, host_keeps_part, host_sends_one, idle_one, queues_one, reached_behind, refuses, removes_one, takes_one, tells_one, tries_one}
-use Rattle.rd_runs.proofs.Standing.{open_inside}
-use Rattle.rd_runs.specs.Moves.{Reached}
-use Rattle.rd_runs.specs.Premises.{RunPremises}
+use Rattle.rd_answered.proofs.RunsBeginningLemmas.{Unset, begins_as}
+use Rattle.rd_answered.proofs.RunsInsides.{IsInside, Outside, added_inside, hears_inside, put_inside, removed_inside, stationed}
+use Rattle.rd_answered.proofs.RunsParts.{MayBe, Part, accepts, adds_one, applies_one, begins, by_parts, client_gets, client_hears_one, client_keeps_part, client_sends_one, collects_one, done, draws_one, ends, hands_out, host_gets, host_hears_one, host_keeps_part, host_sends_one, idle_one, queues_one, reached_behind, refuses, removes_one, takes_one, tells_one, tries_one}
+use Rattle.rd_answered.proofs.RunsStanding.{open_inside}
+use Rattle.rd_answered.specs.RunsMoves.{Reached}
+use Rattle.rd_answered.specs.RunsPremises.{RunPremises}
 use Rattle.rd_script.specs.declared.line.NumberedLine.{NumberedLine}
 use Rattle.rd_station.specs.Memory.{NamesKey}
 use Rattle.rd_station.specs.Station as station

@@ -3,13 +3,13 @@ use Rattle.std.proofs.Common.{◌≡◌, ◌∙◌, refl, sym, ap, subst, inl, i
 use Rattle.rd_base.specs.declared.journal.Item.{Item}
 use Rattle.rd_base.specs.declared.journal.Item.TheVariants.{Ran}
 use Rattle.rd_base.specs.declared.journal.Key.{Key}
-use Rattle.rd_journals.proofs.HeldLemmas.{found_then}
+use Rattle.rd_answered.proofs.JournalsHeldLemmas.{found_then}
 use Rattle.rd_rest.proofs.CalmLemmas.{Calm, IsCalm, added, all_refreshed_calm, calm_by, calm_same, calm_station, collected_calm, hears_calm, put_calm, removed}
 use Rattle.rd_rest.proofs.HandLemmas.{Gave, begins_idle, gave_back, took, took_parked}
 use Rattle.rd_rest.specs.Rest.{AreLeftParked}
-use Rattle.rd_runs.proofs.IdleLemmas.{cut_idle}
-use Rattle.rd_runs.proofs.Parts.{MayBe, Part, accepts, adds_one, applies_one, begins, by_parts, client_gets, client_hears_one, client_keeps_part, client_sends_one, collects_one, done, draws_one, ends, hands_out, host_gets, host_hears_one, host_keeps_part, host_sends_one, idle_one, queues_one, reached_behind, refuses, removes_one, takes_one, tells_one, tries_one}
-use Rattle.rd_runs.specs.Moves.{Reached}
+use Rattle.rd_answered.proofs.RunsIdleLemmas.{cut_idle}
+use Rattle.rd_answered.proofs.RunsParts.{MayBe, Part, accepts, adds_one, applies_one, begins, by_parts, client_gets, client_hears_one, client_keeps_part, client_sends_one, collects_one, done, draws_one, ends, hands_out, host_gets, host_hears_one, host_keeps_part, host_sends_one, idle_one, queues_one, reached_behind, refuses, removes_one, takes_one, tells_one, tries_one}
+use Rattle.rd_answered.specs.RunsMoves.{Reached}
 use Rattle.rd_script.specs.declared.line.NumberedLine.{NumberedLine}
 use Rattle.rd_station.proofs.Members.{has_left, has_right}
 use Rattle.rd_station.specs.Station as station

@@ -13,8 +13,8 @@ use Rattle.rd_pending.proofs.MapLemmas.{same_key}
 use Rattle.rd_rest.proofs.HandLemmas.{reached_in_hands}
 use Rattle.rd_rest.proofs.OverLemmas.{reached_some}
 use Rattle.rd_rest.specs.Rest.{IsAtRest}
-use Rattle.rd_runs.specs.Moves.{Reached}
-use Rattle.rd_runs.specs.Premises.{RunPremises}
+use Rattle.rd_answered.specs.RunsMoves.{Reached}
+use Rattle.rd_answered.specs.RunsPremises.{RunPremises}
 use Rattle.rd_script.specs.declared.line.NumberedLine.{NumberedLine}
 use Rattle.rd_station.specs.Station.{StationState}
 use Rattle.rd_station.specs.declared.answers.Completion.{Completion}

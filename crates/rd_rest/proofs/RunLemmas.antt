@@ -4,12 +4,12 @@ use Rattle.std.specs.Prelude.{IfSome, filter_map}
 use Rattle.rd_base.specs.declared.journal.Key.{Key}
 use Rattle.rd_controls.proofs.ScriptLemmas.{scripts_ordered}
 use Rattle.rd_controls.specs.Controls.{AreOrderedLines, DoAsSaid}
-use Rattle.rd_joined.proofs.ScriptLemmas.{script_premises}
+use Rattle.rd_answered.proofs.JoinedScriptLemmas.{script_premises}
 use Rattle.rd_rest.proofs.EndLemmas.{at_end, left_is_said}
 use Rattle.rd_rest.proofs.LastLemmas.{runs_end}
 use Rattle.rd_rest.specs.Ending.{EndsAtRest}
-use Rattle.rd_runs.specs.Moves.{Reached}
-use Rattle.rd_runs.specs.Premises.{RunPremises}
+use Rattle.rd_answered.specs.RunsMoves.{Reached}
+use Rattle.rd_answered.specs.RunsPremises.{RunPremises}
 use Rattle.rd_script.specs.Script.{script_of}
 use Rattle.rd_script.specs.declared.keyword.Mode.TheVariants as mode
 use Rattle.rd_script.specs.declared.line.NumberedLine.{NumberedLine}

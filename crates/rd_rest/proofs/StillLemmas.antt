@@ -5,9 +5,9 @@ use Rattle.rd_base.specs.declared.journal.Key.{Key}
 use Rattle.rd_rest.proofs.CompletedLemmas.{completed}
 use Rattle.rd_rest.proofs.FullLemmas.{none_kept_back}
 use Rattle.rd_rest.specs.Ending.{IsToldAll}
-use Rattle.rd_runs.proofs.Resting.{client_heard_all, host_heard_all}
-use Rattle.rd_runs.specs.Moves.{Reached}
-use Rattle.rd_runs.specs.Premises.{RunPremises}
+use Rattle.rd_answered.proofs.RunsResting.{client_heard_all, host_heard_all}
+use Rattle.rd_answered.specs.RunsMoves.{Reached}
+use Rattle.rd_answered.specs.RunsPremises.{RunPremises}
 use Rattle.rd_script.specs.declared.line.NumberedLine.{NumberedLine}
 use Rattle.rd_world.specs.Control.{Control}
 use Rattle.rd_world.specs.Opening.{bare_lines}

@@ -7,21 +7,21 @@ use Rattle.rd_answered.specs.Refusing.{DeclareInRoom}
 use Rattle.rd_base.specs.declared.journal.Item.{Item}
 use Rattle.rd_base.specs.declared.journal.Item.TheVariants.{Came}
 use Rattle.rd_base.specs.declared.journal.Key.{Key}
-use Rattle.rd_directs.proofs.AloneLemmas.{kept_open, none_held, none_met}
-use Rattle.rd_directs.proofs.DirectLemmas.{begins_turns, part_turns}
-use Rattle.rd_directs.specs.Turns.{InTurn, MeetsNone}
+use Rattle.rd_answered.proofs.DirectsAloneLemmas.{kept_open, none_held, none_met}
+use Rattle.rd_answered.proofs.DirectsDirectLemmas.{begins_turns, part_turns}
+use Rattle.rd_answered.specs.DirectsTurns.{InTurn, MeetsNone}
 use Rattle.rd_drive.specs.Ranged.{IsReplyInRange}
-use Rattle.rd_journals.proofs.CameLemmas.{fines}
-use Rattle.rd_journals.proofs.CompletionLemmas.{lost_ranged, runs_good}
-use Rattle.rd_journals.proofs.DeclaredLemmas.{bounded_fit}
-use Rattle.rd_journals.proofs.RunLemmas.{behind_orderly, hears_open}
-use Rattle.rd_journals.proofs.WorkLemmas.{behind_working}
-use Rattle.rd_journals.specs.Jobs.{FitsCompletion}
-use Rattle.rd_journals.specs.Stations.{AreFit}
-use Rattle.rd_runs.proofs.Insides.{hears_inside}
-use Rattle.rd_runs.proofs.Parts.{IsBehind, MayBe, Part, by_parts, client_hears_one, done, reached_behind, tries_one}
-use Rattle.rd_runs.specs.Moves.{Reached}
-use Rattle.rd_runs.specs.Premises.{RunPremises}
+use Rattle.rd_answered.proofs.JournalsCameLemmas.{fines}
+use Rattle.rd_answered.proofs.JournalsCompletionLemmas.{lost_ranged, runs_good}
+use Rattle.rd_answered.proofs.JournalsDeclaredLemmas.{bounded_fit}
+use Rattle.rd_answered.proofs.JournalsRunLemmas.{behind_orderly, hears_open}
+use Rattle.rd_answered.proofs.JournalsWorkLemmas.{behind_working}
+use Rattle.rd_answered.specs.JournalsJobs.{FitsCompletion}
+use Rattle.rd_answered.specs.JournalsStations.{AreFit}
+use Rattle.rd_answered.proofs.RunsInsides.{hears_inside}
+use Rattle.rd_answered.proofs.RunsParts.{IsBehind, MayBe, Part, by_parts, client_hears_one, done, reached_behind, tries_one}
+use Rattle.rd_answered.specs.RunsMoves.{Reached}
+use Rattle.rd_answered.specs.RunsPremises.{RunPremises}
 use Rattle.rd_script.specs.declared.line.NumberedLine.{NumberedLine}
 use Rattle.rd_world.proofs.Lists.{each_end, each_weaker}
 use Rattle.rd_world.specs.Joining.{IsAlone}

@@ -13,8 +13,8 @@ use Rattle.rd_drive.specs.declared.step.End.{End}
 use Rattle.rd_drive.specs.declared.step.Step.{Step}
 use Rattle.rd_drive.specs.declared.step.Step.TheVariants as step
 use Rattle.rd_irp.specs.declared.request.Request.{Request}
-use Rattle.rd_journals.proofs.DeviceLemmas.{cut_fits, step_fits}
-use Rattle.rd_journals.specs.Stations.{IsFit}
+use Rattle.rd_answered.proofs.JournalsDeviceLemmas.{cut_fits, step_fits}
+use Rattle.rd_answered.specs.JournalsStations.{IsFit}
 use Rattle.rd_printer.proofs.PrinterLemmas.{printers_step}
 use Rattle.rd_station.proofs.Members.{has_append}
 use Rattle.rd_world.proofs.Journals.{HasRun}

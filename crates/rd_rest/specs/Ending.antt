@@ -4,7 +4,7 @@ use Rattle.std.specs.Option.{option_map_or}
 use Rattle.rd_drive.specs.declared.plan.Job.{Job}
 use Rattle.rd_base.specs.declared.journal.Key.{Key}
 use Rattle.rd_controls.specs.Controls.{AreReady}
-use Rattle.rd_runs.specs.Moves.{Reached}
+use Rattle.rd_answered.specs.RunsMoves.{Reached}
 use Rattle.rd_script.specs.declared.line.NumberedLine.{NumberedLine}
 use Rattle.rd_world.specs.Acts.{act_by, is_settled_host, notices_on, of_channel, tellings_on}
 use Rattle.rd_world.specs.Control.{Control}

@@ -5,7 +5,7 @@ use Rattle.rd_base.specs.declared.journal.Item.{Item}
 use Rattle.rd_base.specs.declared.journal.Item.TheVariants.{Cut, Ran}
 use Rattle.rd_base.specs.declared.journal.Key.{Key}
 use Rattle.rd_drive.specs.declared.plan.Job.{Job}
-use Rattle.rd_journals.specs.Orderly.{current}
+use Rattle.rd_answered.specs.JournalsOrderly.{current}
 use Rattle.rd_station.specs.Memory.{NamesKey}
 use Rattle.rd_station.specs.Station.{StationState}
 use Rattle.rd_station.specs.declared.held.InHand.{InHand}

@@ -5,21 +5,21 @@ use Rattle.std.specs.List.{AllByRecursion, cons_option}
 use Rattle.std.specs.Option.{IfSome, option_map_or}
 use Rattle.std.proofs.lemmas.List.Elements.{filter-append}
 use Rattle.rd_acted.proofs.TellLemmas.{TellsAs}
-use Rattle.rd_answered.specs.Refusing.{IsSaying}
+use Rattle.rd_acted.specs.AnsweredRefusing.{IsSaying}
 use Rattle.rd_base.specs.declared.journal.Cause.TheVariants.{Dropped}
 use Rattle.rd_base.specs.declared.journal.Item.{Item}
 use Rattle.rd_base.specs.declared.journal.Item.TheVariants.{Cut}
 use Rattle.rd_base.specs.declared.journal.Key.{Key}
 use Rattle.rd_base.specs.Lawful.{IsBelow}
 use Rattle.rd_client.specs.Core.{Outgoing}
-use Rattle.rd_directs.specs.Turns.{DirectTurn, InTurn, kept_at, never, said}
-use Rattle.rd_journals.proofs.CameLemmas.{never_came}
-use Rattle.rd_journals.proofs.HeldLemmas.{stored_deeds}
-use Rattle.rd_journals.proofs.ServingLemmas.{came_is_named}
-use Rattle.rd_journals.specs.Jobs.{IsSpelledOut}
-use Rattle.rd_journals.specs.Orderly.{IsNext, Orderly}
-use Rattle.rd_journals.specs.Standing.{IsNamed, IsOut, IsStanding, IsUnserved, pending_of}
-use Rattle.rd_runs.proofs.KeysOn.{AnswersOn}
+use Rattle.rd_acted.specs.DirectsTurns.{DirectTurn, InTurn, kept_at, never, said}
+use Rattle.rd_acted.proofs.JournalsCameLemmas.{never_came}
+use Rattle.rd_acted.proofs.JournalsHeldLemmas.{stored_deeds}
+use Rattle.rd_acted.proofs.JournalsServingLemmas.{came_is_named}
+use Rattle.rd_acted.specs.JournalsJobs.{IsSpelledOut}
+use Rattle.rd_acted.specs.JournalsOrderly.{IsNext, Orderly}
+use Rattle.rd_acted.specs.JournalsStanding.{IsNamed, IsOut, IsStanding, IsUnserved, pending_of}
+use Rattle.rd_acted.proofs.RunsKeysOn.{AnswersOn}
 use Rattle.rd_station.specs.Station as station
 use Rattle.rd_station.specs.Station.{StationState}
 use Rattle.rd_world.specs.Devices.{Declared, device_cut}

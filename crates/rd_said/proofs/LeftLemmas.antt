@@ -6,31 +6,31 @@ use Rattle.std.specs.BTreeMap.{is_at}
 use Rattle.rd_acted.proofs.OrderLemmas.{orders_read}
 use Rattle.rd_acted.proofs.TellLemmas.{behind_tells}
 use Rattle.rd_acted.specs.Acted.{AreReadWell}
-use Rattle.rd_answered.proofs.SessionLemmas.{reached_good}
-use Rattle.rd_answered.specs.Refusing.{DeclareInRoom}
+use Rattle.rd_acted.proofs.AnsweredSessionLemmas.{reached_good}
+use Rattle.rd_acted.specs.AnsweredRefusing.{DeclareInRoom}
 use Rattle.rd_base.specs.declared.journal.Key.{Key}
 use Rattle.rd_client.specs.Core.{Outgoing}
-use Rattle.rd_journals.proofs.AnswerLemmas.{reached_spelled}
-use Rattle.rd_journals.proofs.ChannelLemmas.{all_refreshed, begun_on}
-use Rattle.rd_journals.proofs.DeclaredLemmas.{bounded_fit}
-use Rattle.rd_journals.proofs.RunLemmas.{behind_orderly}
-use Rattle.rd_journals.proofs.ServingLemmas.{behind_standing}
-use Rattle.rd_journals.specs.Stations.{AreFit}
+use Rattle.rd_acted.proofs.JournalsAnswerLemmas.{reached_spelled}
+use Rattle.rd_acted.proofs.JournalsChannelLemmas.{all_refreshed, begun_on}
+use Rattle.rd_acted.proofs.JournalsDeclaredLemmas.{bounded_fit}
+use Rattle.rd_acted.proofs.JournalsRunLemmas.{behind_orderly}
+use Rattle.rd_acted.proofs.JournalsServingLemmas.{behind_standing}
+use Rattle.rd_acted.specs.JournalsStations.{AreFit}
 use Rattle.rd_orders.proofs.ClientOrdering.{behind_client_ordered}
 use Rattle.rd_orders.proofs.Meeting.{behind_meets}
 use Rattle.rd_orders.specs.Orders.{DeclaresWritable}
-use Rattle.rd_runs.proofs.HostLemmas.{host_channel}
-use Rattle.rd_runs.proofs.Insides.{all_dropped_inside}
-use Rattle.rd_runs.proofs.Parts.{IsBehind, MayBe, Part, adds_one, announced_by, begins, done, draws_one, ends, event_keeps, idle_one, is_issue, part_weight, queues_one, reached_behind, refreshed_by, removes_one, tells_one, told_added, tries_keeps, all_take_keeps}
-use Rattle.rd_runs.proofs.Reaching.{Steps, by_moves}
-use Rattle.rd_runs.proofs.Standing.{open_now}
-use Rattle.rd_runs.proofs.Together.{knows}
-use Rattle.rd_runs.specs.Moves.{IsOfLines, Reached, RunMove, after_move, draws, happens, idle, queues}
-use Rattle.rd_runs.specs.Premises.{RunPremises}
+use Rattle.rd_acted.proofs.RunsHostLemmas.{host_channel}
+use Rattle.rd_acted.proofs.RunsInsides.{all_dropped_inside}
+use Rattle.rd_acted.proofs.RunsParts.{IsBehind, MayBe, Part, adds_one, announced_by, begins, done, draws_one, ends, event_keeps, idle_one, is_issue, part_weight, queues_one, reached_behind, refreshed_by, removes_one, tells_one, told_added, tries_keeps, all_take_keeps}
+use Rattle.rd_acted.proofs.RunsReaching.{Steps, by_moves}
+use Rattle.rd_acted.proofs.RunsStanding.{open_now}
+use Rattle.rd_acted.proofs.RunsTogether.{knows}
+use Rattle.rd_acted.specs.RunsMoves.{IsOfLines, Reached, RunMove, after_move, draws, happens, idle, queues}
+use Rattle.rd_acted.specs.RunsPremises.{RunPremises}
 use Rattle.rd_script.specs.declared.line.NumberedLine.{NumberedLine}
 use Rattle.rd_station.specs.Station.{StationState}
-use Rattle.rd_rest.proofs.TurnsLemmas.{reached_in_turn}
-use Rattle.rd_told.proofs.OpenLemmas.{stored_open}
+use Rattle.rd_acted.proofs.RestTurnsLemmas.{reached_in_turn}
+use Rattle.rd_acted.proofs.ToldOpenLemmas.{stored_open}
 use Rattle.rd_world.proofs.BeginningLemmas.{begun_by}
 use Rattle.rd_world.proofs.Lists.{each_end}
 use Rattle.rd_world.proofs.OpeningLemmas.{lines_begin}

@@ -7,11 +7,11 @@ use Rattle.std.specs.Option.{IfSome, option_map_or}
 use Rattle.rd_acted.proofs.SayingLemmas.{say_zip, wrote_more}
 use Rattle.rd_acted.specs.Acted.{SayFirst, due_on}
 use Rattle.rd_acted.specs.Waiting.{tellings_waiting}
-use Rattle.rd_answered.proofs.SayingLemmas.{refuses_so}
-use Rattle.rd_answered.specs.Refusing.{AllRefuse, RefusesGone}
+use Rattle.rd_acted.proofs.AnsweredSayingLemmas.{refuses_so}
+use Rattle.rd_acted.specs.AnsweredRefusing.{AllRefuse, RefusesGone}
 use Rattle.rd_base.specs.declared.journal.Key.{Key}
 use Rattle.rd_client.specs.Core.{Outgoing}
-use Rattle.rd_directs.specs.Turns.{never, said}
+use Rattle.rd_acted.specs.DirectsTurns.{never, said}
 use Rattle.rd_world.specs.Acts.{Tells, is_telling, of_channel, tellings_on}
 use Rattle.rd_world.specs.Control.{Telling}
 use Rattle.rd_world.specs.Devices.{Declared}

@@ -6,12 +6,12 @@ use Rattle.std.specs.Option.{IfSome, option_map_or}
 use Rattle.rd_acted.proofs.SayingLemmas.{say_as}
 use Rattle.rd_acted.specs.Acted.{SayFirst, due_on, there_of}
 use Rattle.rd_acted.specs.Waiting.{tellings_waiting}
-use Rattle.rd_answered.specs.Refusing.{AllRefuse}
+use Rattle.rd_acted.specs.AnsweredRefusing.{AllRefuse}
 use Rattle.rd_base.specs.declared.journal.Item.{Item}
 use Rattle.rd_base.specs.declared.journal.Item.TheVariants.{Came, Cancelled, Cut, Ran, Sent}
 use Rattle.rd_base.specs.declared.journal.Key.{Key}
 use Rattle.rd_client.specs.Core.{Outgoing}
-use Rattle.rd_directs.specs.Turns.{never, said}
+use Rattle.rd_acted.specs.DirectsTurns.{never, said}
 use Rattle.rd_world.specs.Acts.{Tells, cache_after, is_telling, list_of, tellings_on}
 use Rattle.rd_world.specs.Control.{Telling, addition, lists, removal}
 use Rattle.rd_world.specs.Devices.{Declared}

@@ -2,18 +2,18 @@
 use Rattle.std.proofs.Common.{◌≡◌, ◌∙◌, sym, ap, subst, ℕ, ◌≤◌, Bool, true, List, [], length, map, Some, Ok}
 use Rattle.rd_acted.proofs.DueLemmas.{told_is_due}
 use Rattle.rd_acted.specs.Acted.{control_by_deeds}
-use Rattle.rd_answered.proofs.SessionLemmas.{reached_answered}
-use Rattle.rd_answered.proofs.WritableLemmas as answered
-use Rattle.rd_answered.specs.Refusing.{DeclareInRoom}
+use Rattle.rd_acted.proofs.AnsweredSessionLemmas.{reached_answered}
+use Rattle.rd_acted.proofs.AnsweredWritableLemmas as answered
+use Rattle.rd_acted.specs.AnsweredRefusing.{DeclareInRoom}
 use Rattle.rd_base.specs.declared.journal.Key.{Key}
 use Rattle.rd_client.specs.Core.{Outgoing}
-use Rattle.rd_joined.proofs.ScriptLemmas.{script_premises}
+use Rattle.rd_acted.proofs.JoinedScriptLemmas.{script_premises}
 use Rattle.rd_orders.proofs.AddressLemmas as orders
 use Rattle.rd_orders.specs.Orders.{DeclaresWritable}
-use Rattle.rd_runs.proofs.Parts.{reached_behind}
-use Rattle.rd_runs.proofs.Together.{knows}
-use Rattle.rd_runs.specs.Moves.{Reached}
-use Rattle.rd_runs.specs.Premises.{RunPremises}
+use Rattle.rd_acted.proofs.RunsParts.{reached_behind}
+use Rattle.rd_acted.proofs.RunsTogether.{knows}
+use Rattle.rd_acted.specs.RunsMoves.{Reached}
+use Rattle.rd_acted.specs.RunsPremises.{RunPremises}
 use Rattle.rd_acted.proofs.ReachedLemmas.{opened_last}
 use Rattle.rd_script.specs.Script.{script_of}
 use Rattle.rd_script.specs.declared.keyword.Mode.{Mode}

@@ -4,11 +4,11 @@ use Rattle.std.specs.List.{AllByRecursion}
 use Rattle.std.specs.Option.{IfSome}
 use Rattle.rd_acted.specs.Acted.{SayFirst, due_on}
 use Rattle.rd_acted.specs.Waiting.{tellings_waiting}
-use Rattle.rd_answered.specs.Refusing.{AllRefuse}
+use Rattle.rd_acted.specs.AnsweredRefusing.{AllRefuse}
 use Rattle.rd_base.specs.declared.journal.Key.{Key}
 use Rattle.rd_client.specs.Core.{Outgoing}
-use Rattle.rd_directs.specs.Turns.{never, said}
-use Rattle.rd_journals.specs.Jobs.{IsAnswerOf, IsRefusalOf}
+use Rattle.rd_acted.specs.DirectsTurns.{never, said}
+use Rattle.rd_acted.specs.JournalsJobs.{IsAnswerOf, IsRefusalOf}
 use Rattle.rd_world.specs.Acts.{Tells, tellings_on}
 use Rattle.rd_world.specs.Devices.{Declared}
 use Rattle.rd_world.specs.Events.{deed_on}

@@ -2,11 +2,11 @@
 
 ghost use Rattle.std.specs.Prelude.{◌≡◌, ℕ, ◌≤◌, Bool, true, List, [], Ok, Some, length, map};
 ghost use Rattle.rd_acted.specs.Acted.{control_by_deeds};
-ghost use Rattle.rd_answered.specs.Refusing.{DeclareInRoom};
+ghost use Rattle.rd_acted.specs.AnsweredRefusing.{DeclareInRoom};
 ghost use Rattle.rd_base.specs.declared.journal.Key.{Key};
 ghost use Rattle.rd_orders.specs.Orders.{DeclaresWritable};
-ghost use Rattle.rd_runs.specs.Moves.{Reached};
-ghost use Rattle.rd_runs.specs.Premises.{RunPremises};
+ghost use Rattle.rd_acted.specs.RunsMoves.{Reached};
+ghost use Rattle.rd_acted.specs.RunsPremises.{RunPremises};
 ghost use Rattle.rd_said.specs.Rest.{deeds_then};
 ghost use Rattle.rd_script.specs.Script.{script_of};
 ghost use Rattle.rd_script.specs.declared.keyword.Mode.{Mode};

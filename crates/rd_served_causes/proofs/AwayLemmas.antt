@@ -10,16 +10,16 @@ use Rattle.rd_drive.proofs.AllLemmas.{all_append}
 use Rattle.rd_front.specs.Front.{end_call}
 use Rattle.rd_front.specs.State.{DeviceDeskState, SessionStation}
 use Rattle.rd_hello.specs.declared.end_fault.EndFault.TheVariants as fault
-use Rattle.rd_journals.proofs.HeldLemmas.{turned_has}
+use Rattle.rd_served_order.proofs.JournalsHeldLemmas.{turned_has}
 use Rattle.rd_station.specs.declared.answers.Completion.{Completion}
 use Rattle.rd_world.specs.Talk.{Deed, EndsWith, Has, adds, client_read, client_reads, client_writes, client_wrote, completes, host_begins, host_ends, host_reads, host_writes, journal, read_by_client, removes, stored_by, stores, submits, takes, tells, written_by_client}
 use Rattle.rd_world.specs.Told.{came, came_as, is_of_device, requests_to, told, told_at, without_last}
-use Rattle.rd_served.proofs.ComesLemmas.{called_comes, end_comes_none}
-use Rattle.rd_served.proofs.KeyLemmas.{IsKeyed, both_true}
-use Rattle.rd_served.proofs.StandingLemmas.{sent_first}
-use Rattle.rd_served.specs.Deeds.{AreOnChannel, deeds_of, sent_by, stored, stored_each}
-use Rattle.rd_served.specs.Parts.{EndsEach, FrontPart, PartGoes, begins, calls, directs, ends, forgets, hears, keeps, learns, misplaces, refreshes, sends, tells_gone, tells_there, tries, unwritten, writes}
-use Rattle.rd_served.specs.Served.{Served, hands}
+use Rattle.rd_served_order.proofs.ServedComesLemmas.{called_comes, end_comes_none}
+use Rattle.rd_served_order.proofs.ServedKeyLemmas.{IsKeyed, both_true}
+use Rattle.rd_served_order.proofs.ServedStandingLemmas.{sent_first}
+use Rattle.rd_served_order.specs.ServedDeeds.{AreOnChannel, deeds_of, sent_by, stored, stored_each}
+use Rattle.rd_served_order.specs.ServedParts.{EndsEach, FrontPart, PartGoes, begins, calls, directs, ends, forgets, hears, keeps, learns, misplaces, refreshes, sends, tells_gone, tells_there, tries, unwritten, writes}
+use Rattle.rd_served_order.specs.ServedServed.{Served, hands}
 use Rattle.rd_served_refusals.specs.Heeding.{PassesNone}
 use Rattle.rd_served_causes.proofs.LaterLemmas.{comes_next}
 

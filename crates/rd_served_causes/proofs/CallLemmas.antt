@@ -1,7 +1,7 @@
 -- Each call of a history leaves what is said as it is to be, and so each refusal has its cause.
 use Rattle.std.proofs.Common.{◌≡◌, ◌⊎◌, ◌∙◌, refl, sym, ap, subst, inl, inr, ℕ, ◌&&◌, ◌||◌, Bool, true, false, not, List, [], ◌∷◌, ◌++◌, Option, Some, Result, Ok, Err}
-use Rattle.rd_answered.proofs.ListedLemmas.{ready_moves}
-use Rattle.rd_answered.proofs.SayingLemmas.{HearsOn, hear_on}
+use Rattle.rd_served_order.proofs.AnsweredListedLemmas.{ready_moves}
+use Rattle.rd_served_order.proofs.AnsweredSayingLemmas.{HearsOn, hear_on}
 use Rattle.rd_client.specs.Core.{ClientCoreState, Outgoing, becomes_ready, client_hear, client_side}
 use Rattle.rd_client.specs.Events.{AreWritable}
 use Rattle.rd_client.specs.Order.{is_client_ready}
@@ -22,22 +22,22 @@ use Rattle.rd_front.specs.declared.calls.FrontReply.TheVariants as reply
 use Rattle.rd_hello.specs.declared.end_fault.EndFault.{EndFault}
 use Rattle.rd_hello.specs.declared.end_fault.EndFault.TheVariants as end_fault
 use Rattle.rd_irp.specs.declared.request.Request.{Request}
-use Rattle.rd_journals.proofs.WorkLemmas.{grown_more}
-use Rattle.rd_journals.specs.Jobs.{AreFine, FitsCompletion}
+use Rattle.rd_served_order.proofs.JournalsWorkLemmas.{grown_more}
+use Rattle.rd_served_order.specs.JournalsJobs.{AreFine, FitsCompletion}
 use Rattle.rd_turn.specs.declared.object.Entry.{Entry}
 use Rattle.rd_world.specs.Talk.{Deed, client_read, request_at}
 use Rattle.rd_world.specs.World.{Kept}
-use Rattle.rd_served.proofs.CauseLemmas.{new_at}
-use Rattle.rd_served.proofs.KeyLemmas.{IsUnder}
-use Rattle.rd_served.proofs.MeetLemmas.{CallsMeet, PartsMeet}
-use Rattle.rd_served.proofs.StandingLemmas.{IsKnownAt, begins_known, part_known}
-use Rattle.rd_served.proofs.WalkLemmas.{none_opens}
-use Rattle.rd_served.specs.Deeds.{deeds_after, deeds_of, deeds_of_calls}
+use Rattle.rd_served_order.proofs.ServedCauseLemmas.{new_at}
+use Rattle.rd_served_order.proofs.ServedKeyLemmas.{IsUnder}
+use Rattle.rd_served_order.proofs.ServedMeetLemmas.{CallsMeet, PartsMeet}
+use Rattle.rd_served_order.proofs.ServedStandingLemmas.{IsKnownAt, begins_known, part_known}
+use Rattle.rd_served_order.proofs.ServedWalkLemmas.{none_opens}
+use Rattle.rd_served_order.specs.ServedDeeds.{deeds_after, deeds_of, deeds_of_calls}
 use Rattle.rd_front.specs.Calls.{hinders}
-use Rattle.rd_served.specs.Histories.{Among, AreFollowed, CallGoes, HistoryGoes, IsFollowed, OpensEach, StartsBy, may_start}
-use Rattle.rd_served.specs.Parts.{AsksBy, Comes, FrontPart, PartGoes, PartsGo, announced_by, asking_by, begins, begun_by, cut_by, directs, ends, forgets, hears, is_start, keeps, learns, misplaces, refreshes, sends, tells_gone, tells_there, tries, unwritten, writes}
-use Rattle.rd_served.specs.Parts as part
-use Rattle.rd_served.specs.Served.{Asking, Served}
+use Rattle.rd_served_order.specs.ServedHistories.{Among, AreFollowed, CallGoes, HistoryGoes, IsFollowed, OpensEach, StartsBy, may_start}
+use Rattle.rd_served_order.specs.ServedParts.{AsksBy, Comes, FrontPart, PartGoes, PartsGo, announced_by, asking_by, begins, begun_by, cut_by, directs, ends, forgets, hears, is_start, keeps, learns, misplaces, refreshes, sends, tells_gone, tells_there, tries, unwritten, writes}
+use Rattle.rd_served_order.specs.ServedParts as part
+use Rattle.rd_served_order.specs.ServedServed.{Asking, Served}
 use Rattle.rd_served_order.proofs.OwnLemmas.{IsOwn, begins_own, part_own}
 use Rattle.rd_served_order.specs.Orders.{BeginsWith}
 use Rattle.rd_served_refusals.specs.Heeding.{HearUnhindered, HearsUnhindered, hindered_by}

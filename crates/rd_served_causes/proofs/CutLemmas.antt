@@ -27,12 +27,12 @@ use Rattle.rd_turn.specs.declared.object.Entry.{Entry}
 use Rattle.rd_world.specs.Devices.{device_cuts, device_parked, device_runs}
 use Rattle.rd_world.specs.Talk.{Deed, EachAfter, Has, client_reads, is_removed, stores}
 use Rattle.rd_world.specs.declared.device.SessionDevice.{SessionDevice}
-use Rattle.rd_served.proofs.CauseLemmas.{found}
-use Rattle.rd_served.proofs.StandingLemmas.{IsKnownAt, begins_known, part_known}
-use Rattle.rd_served.specs.Deeds.{deeds_after, deeds_of, deeds_of_calls, sent_by, stored, stored_each}
-use Rattle.rd_served.specs.Histories.{HistoryGoes}
-use Rattle.rd_served.specs.Parts.{CallsAt, EndsEach, FitsCall, FrontPart, IsOpenCall, PartGoes, PartsGo, begins, calls, directs, ends, forgets, hears, is_present_as, keeps, learns, misplaces, refreshes, sends, tells_gone, tells_there, tries, unwritten, writes}
-use Rattle.rd_served.specs.Served.{Served}
+use Rattle.rd_served_order.proofs.ServedCauseLemmas.{found}
+use Rattle.rd_served_order.proofs.ServedStandingLemmas.{IsKnownAt, begins_known, part_known}
+use Rattle.rd_served_order.specs.ServedDeeds.{deeds_after, deeds_of, deeds_of_calls, sent_by, stored, stored_each}
+use Rattle.rd_served_order.specs.ServedHistories.{HistoryGoes}
+use Rattle.rd_served_order.specs.ServedParts.{CallsAt, EndsEach, FitsCall, FrontPart, IsOpenCall, PartGoes, PartsGo, begins, calls, directs, ends, forgets, hears, is_present_as, keeps, learns, misplaces, refreshes, sends, tells_gone, tells_there, tries, unwritten, writes}
+use Rattle.rd_served_order.specs.ServedServed.{Served}
 use Rattle.rd_served_order.proofs.OwnLemmas.{IsOwn, MarksAre, begins_own, part_own, stored_keeps}
 use Rattle.rd_served_order.specs.Orders.{BeginsWith}
 use Rattle.rd_served_replies.proofs.GoneLemmas.{none_removed}

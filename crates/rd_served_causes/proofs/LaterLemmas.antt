@@ -22,21 +22,21 @@ use Rattle.rd_front.specs.State.{DeviceDeskState, FrontState, SessionStation}
 use Rattle.rd_hello.specs.declared.end_fault.EndFault.{EndFault}
 use Rattle.rd_hello.specs.declared.end_fault.EndFault.TheVariants as end_fault
 use Rattle.rd_irp.specs.declared.completion.Head.{Head}
-use Rattle.rd_journals.proofs.CameLemmas.{came_true}
-use Rattle.rd_journals.proofs.HeldLemmas.{turned_has}
-use Rattle.rd_journals.proofs.ShortLemmas.{came_read}
+use Rattle.rd_served_order.proofs.JournalsCameLemmas.{came_true}
+use Rattle.rd_served_order.proofs.JournalsHeldLemmas.{turned_has}
+use Rattle.rd_served_order.proofs.JournalsShortLemmas.{came_read}
 use Rattle.rd_station.specs.declared.answers.Completion.{Completion}
 use Rattle.rd_world.specs.Events.{completion_message}
 use Rattle.rd_world.specs.Talk.{Deed, EachAfter, Has, adds, client_reads, client_writes, client_wrote, completes, head_in, journal, on, removes, stores, written_by_client}
 use Rattle.rd_world.specs.Told.{ComesUnworn, came, came_as, is_of_device, says_worn}
-use Rattle.rd_served.proofs.CauseLemmas.{found, stored_elsewhere, stored_here}
-use Rattle.rd_served.proofs.ComesLemmas.{ComesBy, called_comes, end_comes_none}
-use Rattle.rd_served.proofs.KeyLemmas.{IsKeyed, IsUnder, refreshed_calm}
-use Rattle.rd_served.proofs.StandingLemmas.{IsKnownAt, sent_first}
-use Rattle.rd_served.specs.Deeds.{deeds_of, sent_by, stored, stored_each}
-use Rattle.rd_served.specs.Parts.{AsksBy, CallsAt, Comes, EndsEach, FrontPart, IsOpenCall, PartGoes, begins, directs, ended_front, ends, forgets, hears, keeps, learns, misplaces, refreshes, sends, tells_gone, tells_there, tries, unwritten, writes}
-use Rattle.rd_served.specs.Parts as part
-use Rattle.rd_served.specs.Served.{Asking, Served, hands, idle}
+use Rattle.rd_served_order.proofs.ServedCauseLemmas.{found, stored_elsewhere, stored_here}
+use Rattle.rd_served_order.proofs.ServedComesLemmas.{ComesBy, called_comes, end_comes_none}
+use Rattle.rd_served_order.proofs.ServedKeyLemmas.{IsKeyed, IsUnder, refreshed_calm}
+use Rattle.rd_served_order.proofs.ServedStandingLemmas.{IsKnownAt, sent_first}
+use Rattle.rd_served_order.specs.ServedDeeds.{deeds_of, sent_by, stored, stored_each}
+use Rattle.rd_served_order.specs.ServedParts.{AsksBy, CallsAt, Comes, EndsEach, FrontPart, IsOpenCall, PartGoes, begins, directs, ended_front, ends, forgets, hears, keeps, learns, misplaces, refreshes, sends, tells_gone, tells_there, tries, unwritten, writes}
+use Rattle.rd_served_order.specs.ServedParts as part
+use Rattle.rd_served_order.specs.ServedServed.{Asking, Served, hands, idle}
 use Rattle.rd_served_refusals.proofs.BytesLemmas.{is_of_own}
 use Rattle.rd_served_causes.proofs.OpenLemmas.{call_grows, ended_on}
 use Rattle.rd_served_causes.proofs.RefuseLemmas.{IsAt, none_comes}

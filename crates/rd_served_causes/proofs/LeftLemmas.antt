@@ -5,7 +5,7 @@ use Rattle.std.specs.List.{AllByRecursion}
 use Rattle.std.specs.Option.{option_map_or}
 use Rattle.std.proofs.lemmas.Bool.{cases_eq}
 use Rattle.std.proofs.lemmas.List.Elements.{All-nil, recursion_from_All}
-use Rattle.rd_acted.specs.Waiting.{tellings_waiting}
+use Rattle.rd_served_order.specs.ActedWaiting.{tellings_waiting}
 use Rattle.rd_base.specs.declared.journal.Key.{Key}
 use Rattle.rd_client.specs.Core.{Outgoing}
 use Rattle.rd_client.specs.Events.{AreWritable}
@@ -16,7 +16,7 @@ use Rattle.rd_front.specs.declared.calls.FrontCall.{FrontCall}
 use Rattle.rd_front.specs.declared.calls.FrontCall.TheVariants as call
 use Rattle.rd_front.specs.declared.calls.FrontReply.{FrontReply}
 use Rattle.rd_irp.specs.declared.completion.Reply.{Reply}
-use Rattle.rd_refused.proofs.AnswerLemmas.{all_answer}
+use Rattle.rd_served_order.proofs.RefusedAnswerLemmas.{all_answer}
 use Rattle.rd_turn.specs.declared.object.Entry.{Entry}
 use Rattle.rd_world.specs.Acts.{is_telling, tellings_on}
 use Rattle.rd_world.specs.Control.{Act, added, removed}
@@ -25,14 +25,14 @@ use Rattle.rd_world.specs.Events.{deed_on}
 use Rattle.rd_world.specs.Session.{replies_read}
 use Rattle.rd_world.specs.Talk.{Deed, EachAfter, Has, client_wrote, client_writes, completes, is_removed, journal, request_at}
 use Rattle.rd_world.specs.Told.{Answers, IsDirect, IsLeft, Replies, is_said_gone, worn_entries}
-use Rattle.rd_served.proofs.ChannelLemmas.{begins_here, history_on}
-use Rattle.rd_served.proofs.KeyLemmas.{begins_at, refreshed_calm}
-use Rattle.rd_served.proofs.MeetLemmas.{CallsMeet, PartsMeet}
-use Rattle.rd_served.proofs.StandingLemmas.{IsKnownAt, begins_known, part_known}
-use Rattle.rd_served.specs.Deeds.{AreOnChannel, EachOnChannel, PartsOnChannel, deeds_after, deeds_of, deeds_of_calls, stored_each}
-use Rattle.rd_served.specs.Histories.{HistoryGoes}
-use Rattle.rd_served.specs.Parts.{FrontPart, PartGoes, PartsGo, begins, calls, directs, ends, forgets, hears, keeps, learns, misplaces, refreshes, sends, tells_gone, tells_there, tries, unwritten, writes}
-use Rattle.rd_served.specs.Served.{Served}
+use Rattle.rd_served_order.proofs.ServedChannelLemmas.{begins_here, history_on}
+use Rattle.rd_served_order.proofs.ServedKeyLemmas.{begins_at, refreshed_calm}
+use Rattle.rd_served_order.proofs.ServedMeetLemmas.{CallsMeet, PartsMeet}
+use Rattle.rd_served_order.proofs.ServedStandingLemmas.{IsKnownAt, begins_known, part_known}
+use Rattle.rd_served_order.specs.ServedDeeds.{AreOnChannel, EachOnChannel, PartsOnChannel, deeds_after, deeds_of, deeds_of_calls, stored_each}
+use Rattle.rd_served_order.specs.ServedHistories.{HistoryGoes}
+use Rattle.rd_served_order.specs.ServedParts.{FrontPart, PartGoes, PartsGo, begins, calls, directs, ends, forgets, hears, keeps, learns, misplaces, refreshes, sends, tells_gone, tells_there, tries, unwritten, writes}
+use Rattle.rd_served_order.specs.ServedServed.{Served}
 use Rattle.rd_served_order.proofs.OrderLemmas.{Gone, IsOrdered, begins_order, part_ordered}
 use Rattle.rd_served_order.proofs.OwnLemmas.{IsOwn, begins_own, part_own}
 use Rattle.rd_served_order.proofs.TellingLemmas.{IsTelling, begins_telling, own_tells, part_telling, ready_of, waiting_first}

@@ -2,8 +2,8 @@
 use Rattle.std.proofs.Common.{◌≡◌, ◌∙◌, refl, sym, ap, subst, ℕ, zero, suc, ◌≤◌, ◌==◌, ◌||◌, ◌&&◌, Bool, true, false, not, List, [], ◌∷◌, map, Some, Ok, Err, arith, slice_get, eq-eqb, eqb-true}
 use Rattle.std.specs.Prelude.{nat_eq}
 use Rattle.std.specs.List.{AllByRecursion, IsDistinct, list_any}
-use Rattle.rd_answered.proofs.ListedLemmas.{gone_own, has_marked}
-use Rattle.rd_answered.specs.Refusing.{is_told_by}
+use Rattle.rd_served_order.proofs.AnsweredListedLemmas.{gone_own, has_marked}
+use Rattle.rd_served_order.specs.AnsweredRefusing.{is_told_by}
 use Rattle.rd_base.specs.declared.journal.Item.{Item}
 use Rattle.rd_client.specs.Core.{ClientCoreState, ClientDevice, announce_in, is_device, with_mark}
 use Rattle.rd_client.specs.Order.{is_client_ready}
@@ -20,9 +20,9 @@ use Rattle.rd_station.specs.Tied.{IsReached}
 use Rattle.rd_station.specs.declared.refusals.AnnounceNo.TheVariants as announce_no
 use Rattle.rd_world.specs.Devices.{device_cuts, device_parked, device_runs}
 use Rattle.rd_world.specs.declared.device.SessionDevice.{SessionDevice}
-use Rattle.rd_served.proofs.KeyLemmas.{IsKeyed, has_at}
-use Rattle.rd_served.specs.Parts.{CallsAt, EndsEach, IsOpenCall, ended_front, is_present_as}
-use Rattle.rd_served.specs.Served.{IsWork, Served}
+use Rattle.rd_served_order.proofs.ServedKeyLemmas.{IsKeyed, has_at}
+use Rattle.rd_served_order.specs.ServedParts.{CallsAt, EndsEach, IsOpenCall, ended_front, is_present_as}
+use Rattle.rd_served_order.specs.ServedServed.{IsWork, Served}
 use Rattle.rd_served_causes.proofs.DeskLemmas.{IsPlain, Stays, announce_open, removed_off, steps_stay}
 use Rattle.rd_served_causes.specs.Open.{IsDeskAt}
 use Rattle.rd_served_causes.specs.Worn.{IsWorn}

@@ -8,10 +8,10 @@ use Rattle.std.specs.Ordering.{nat_cmp}
 use Rattle.std.specs.BTreeMap.{is_at}
 use Rattle.std.proofs.lemmas.List.{length-append, length-reverse}
 use Rattle.std.proofs.lemmas.List.Elements.{All-head, All-tail}
-use Rattle.rd_answered.proofs.ListedLemmas.{room_of, spells, told_refreshed}
-use Rattle.rd_answered.proofs.ReadyLemmas.{client_kept}
-use Rattle.rd_answered.proofs.SayingLemmas.{hear_marks, hear_on, then_more}
-use Rattle.rd_answered.specs.Refusing.{HasRoomToAnnounce, SaysMarks, is_told_by, written_then}
+use Rattle.rd_served_order.proofs.AnsweredListedLemmas.{room_of, spells, told_refreshed}
+use Rattle.rd_served_order.proofs.AnsweredReadyLemmas.{client_kept}
+use Rattle.rd_served_order.proofs.AnsweredSayingLemmas.{hear_marks, hear_on, then_more}
+use Rattle.rd_served_order.specs.AnsweredRefusing.{HasRoomToAnnounce, SaysMarks, is_told_by, written_then}
 use Rattle.rd_base.specs.Statuses.{insufficient_resources, no_such_device}
 use Rattle.rd_base.specs.declared.journal.Item.{Item}
 use Rattle.rd_base.specs.declared.journal.Item.TheVariants.{Came, Cancelled, Cut, Ran, Sent}
@@ -40,15 +40,15 @@ use Rattle.rd_hello.specs.declared.end_fault.EndFault.TheVariants as end_fault
 use Rattle.rd_irp.specs.Fits.{BodyFits, kind_of}
 use Rattle.rd_irp.specs.declared.completion.Body.TheVariants.{Fault}
 use Rattle.rd_irp.specs.declared.request.Request.{Request}
-use Rattle.rd_journals.proofs.CameLemmas.{came_true}
-use Rattle.rd_journals.proofs.CompletionLemmas.{completes as completes_with}
-use Rattle.rd_journals.proofs.HeldLemmas.{turned_has}
-use Rattle.rd_journals.proofs.ShortLemmas.{came_read}
-use Rattle.rd_journals.proofs.WritingLemmas.{hear_adds}
-use Rattle.rd_journals.specs.Jobs.{AreFine, FitsCompletion}
-use Rattle.rd_refused.proofs.MarkLemmas.{addition_marks, removal_marks}
-use Rattle.rd_refused.proofs.SaidLemmas.{completion_says}
-use Rattle.rd_refused.specs.Refused.{MarksSay, RefusesDirectly}
+use Rattle.rd_served_order.proofs.JournalsCameLemmas.{came_true}
+use Rattle.rd_served_order.proofs.JournalsCompletionLemmas.{completes as completes_with}
+use Rattle.rd_served_order.proofs.JournalsHeldLemmas.{turned_has}
+use Rattle.rd_served_order.proofs.JournalsShortLemmas.{came_read}
+use Rattle.rd_served_order.proofs.JournalsWritingLemmas.{hear_adds}
+use Rattle.rd_served_order.specs.JournalsJobs.{AreFine, FitsCompletion}
+use Rattle.rd_served_order.proofs.RefusedMarkLemmas.{addition_marks, removal_marks}
+use Rattle.rd_served_order.proofs.RefusedSaidLemmas.{completion_says}
+use Rattle.rd_served_order.specs.RefusedRefused.{MarksSay, RefusesDirectly}
 use Rattle.rd_station.proofs.Calls.{reached_kept}
 use Rattle.rd_station.proofs.Members.{has_append, to_contains}
 use Rattle.rd_station.proofs.Remembering.{came_named}
@@ -59,14 +59,14 @@ use Rattle.rd_world.specs.Events.{completion_message}
 use Rattle.rd_world.specs.Talk.{Deed, EachAfter, Has, adds, client_reads, client_writes, client_wrote, completes, head_in, journal, on, removes, stores}
 use Rattle.rd_world.specs.Told.{CompletesWith, came, came_as, is_said_gone, worn_entries}
 use Rattle.rd_world.specs.World.{Kept}
-use Rattle.rd_served.proofs.CauseLemmas.{IsJobAt, found, some_same, stored_elsewhere, stored_here}
-use Rattle.rd_served.proofs.ComesLemmas.{ComesBy, called_comes}
-use Rattle.rd_served.proofs.KeyLemmas.{IsNextJob, IsUnder, has_at}
-use Rattle.rd_served.proofs.StandingLemmas.{IsKnownAt, came_here, direct_under, ended_outbox, sent_first, sent_none}
-use Rattle.rd_served.specs.Deeds.{deeds_of, sent_by, stored, stored_each}
-use Rattle.rd_served.specs.Parts.{CallsAt, FrontPart, MayBeDirect, PartGoes, begins, directs, ended_front, ends, forgets, hears, keeps, learns, misplaces, refreshes, sends, tells_gone, tells_there, tries, unwritten, writes}
-use Rattle.rd_served.specs.Parts as part
-use Rattle.rd_served.specs.Served.{Served, hands, idle}
+use Rattle.rd_served_order.proofs.ServedCauseLemmas.{IsJobAt, found, some_same, stored_elsewhere, stored_here}
+use Rattle.rd_served_order.proofs.ServedComesLemmas.{ComesBy, called_comes}
+use Rattle.rd_served_order.proofs.ServedKeyLemmas.{IsNextJob, IsUnder, has_at}
+use Rattle.rd_served_order.proofs.ServedStandingLemmas.{IsKnownAt, came_here, direct_under, ended_outbox, sent_first, sent_none}
+use Rattle.rd_served_order.specs.ServedDeeds.{deeds_of, sent_by, stored, stored_each}
+use Rattle.rd_served_order.specs.ServedParts.{CallsAt, FrontPart, MayBeDirect, PartGoes, begins, directs, ended_front, ends, forgets, hears, keeps, learns, misplaces, refreshes, sends, tells_gone, tells_there, tries, unwritten, writes}
+use Rattle.rd_served_order.specs.ServedParts as part
+use Rattle.rd_served_order.specs.ServedServed.{Served, hands, idle}
 use Rattle.rd_served_order.proofs.OwnLemmas.{IsOwn, each_keeps, stored_keeps}
 use Rattle.rd_served_causes.proofs.DeskLemmas.{put_came}
 use Rattle.rd_served_causes.proofs.OpenLemmas.{StaysHere, call_grows, ended_on, reached_at, worked, worn_still}

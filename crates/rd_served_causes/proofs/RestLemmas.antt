@@ -8,13 +8,13 @@ use Rattle.rd_base.specs.declared.journal.Key.{Key}
 use Rattle.rd_client.specs.Core.{Outgoing}
 use Rattle.rd_irp.specs.declared.completion.Reply.{Reply}
 use Rattle.rd_irp.specs.declared.request.Request.{Request}
-use Rattle.rd_journals.specs.Jobs.{IsAnswerOf, IsRefusalOf}
-use Rattle.rd_journals.specs.Standing.{IsOut}
+use Rattle.rd_served_order.specs.JournalsJobs.{IsAnswerOf, IsRefusalOf}
+use Rattle.rd_served_order.specs.JournalsStanding.{IsOut}
 use Rattle.rd_world.specs.Events.{deed_on}
 use Rattle.rd_world.specs.Talk.{Deed, EachAfter, Has, client_read, client_writes, client_wrote, completes, journal, request_at}
 use Rattle.rd_world.specs.Told.{Answers, CompletesWith, IsDirect, Replies, came}
-use Rattle.rd_served.proofs.StandingLemmas.{IsKnownAt, IsUnserved, came_here}
-use Rattle.rd_served.specs.Served.{Served}
+use Rattle.rd_served_order.proofs.ServedStandingLemmas.{IsKnownAt, IsUnserved, came_here}
+use Rattle.rd_served_order.specs.ServedServed.{Served}
 use Rattle.rd_served_refusals.specs.Heeding.{once_written}
 use Rattle.rd_served_causes.proofs.RefuseLemmas.{came_has, worn_same}
 use Rattle.rd_served_causes.proofs.SayLemmas.{AllRight, IsWornFor, RightAt, one_right, right_so}

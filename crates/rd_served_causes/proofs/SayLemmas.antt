@@ -1,7 +1,7 @@
 -- What a client said of its devices is what its marks say, and what it refused, or will, it refused behind that.
 use Rattle.std.proofs.Common.{◌≡◌, ◌⊎◌, ◌∙◌, refl, sym, ap, subst, inl, inr, ℕ, ◌<◌, ◌≤◌, ◌==◌, Bool, true, false, cond, List, [], ◌∷◌, ◌++◌, length, Option, Some, None}
 use Rattle.std.specs.List.{list_any}
-use Rattle.rd_answered.specs.Refusing.{SaysMarks, written_then}
+use Rattle.rd_served_order.specs.AnsweredRefusing.{SaysMarks, written_then}
 use Rattle.rd_base.specs.Statuses.{insufficient_resources, no_such_device}
 use Rattle.rd_base.specs.declared.journal.Key.{Key}
 use Rattle.rd_base.specs.declared.status.Status.{Status}
@@ -10,12 +10,12 @@ use Rattle.rd_devices.specs.declared.list.Announce.{Announce}
 use Rattle.rd_front.specs.State.{DeviceDeskState, SessionStation}
 use Rattle.rd_irp.specs.declared.completion.Head.{Head}
 use Rattle.rd_irp.specs.declared.completion.Reply.{Reply}
-use Rattle.rd_journals.proofs.WritingLemmas.{AreOwn}
-use Rattle.rd_refused.specs.Refused.{RefusesDirectly}
+use Rattle.rd_served_order.proofs.JournalsWritingLemmas.{AreOwn}
+use Rattle.rd_served_order.specs.RefusedRefused.{RefusesDirectly}
 use Rattle.rd_world.proofs.Messages.{head_read}
 use Rattle.rd_world.specs.Talk.{Deed, EachAfter, announced_in, removed_in, client_wrote, completes, head_in, journal}
 use Rattle.rd_world.specs.Told.{came, is_said_gone, worn_entries}
-use Rattle.rd_served.specs.Served.{Served}
+use Rattle.rd_served_order.specs.ServedServed.{Served}
 use Rattle.rd_served_causes.specs.Open.{IsDeskAt}
 use Rattle.rd_served_causes.specs.Worn.{IsWorn}
 

@@ -7,9 +7,9 @@ use Rattle.std.specs.Map.{lookup}
 use Rattle.std.specs.Option.{option_map_or}
 use Rattle.std.specs.Ordering.{nat_cmp}
 use Rattle.std.specs.BTreeMap.{is_at}
-use Rattle.rd_answered.proofs.ListedLemmas.{told_other, told_refreshed, told_removed_off}
-use Rattle.rd_answered.proofs.ReadyLemmas.{KeepsClient, client_kept}
-use Rattle.rd_answered.specs.Refusing.{is_told_by}
+use Rattle.rd_served_order.proofs.AnsweredListedLemmas.{told_other, told_refreshed, told_removed_off}
+use Rattle.rd_served_order.proofs.AnsweredReadyLemmas.{KeepsClient, client_kept}
+use Rattle.rd_served_order.specs.AnsweredRefusing.{is_told_by}
 use Rattle.rd_base.specs.declared.journal.Item.{Item}
 use Rattle.rd_client.specs.Core as client
 use Rattle.rd_client.specs.Core.{ClientCoreState, ClientDevice, Outgoing, announces, client_hear, client_side, has_device, is_gone}
@@ -29,11 +29,11 @@ use Rattle.rd_hello.specs.declared.end_fault.EndFault.TheVariants as fault
 use Rattle.rd_station.specs.declared.refusals.AnnounceNo.TheVariants as announce_no
 use Rattle.rd_world.specs.Devices.{PrinterNames, device_cuts, device_parked, device_runs, printer_data}
 use Rattle.rd_world.specs.Talk.{Deed}
-use Rattle.rd_served.proofs.CauseLemmas.{IsTold, found}
-use Rattle.rd_served.proofs.KeyLemmas.{IsKeyed, both_true}
-use Rattle.rd_served.specs.Parts.{CallsAt, FitsCall, FrontPart, IsOpenCall, PartGoes, announced_by, begins, cut_by, directs, ends, forgets, hears, keeps, learns, misplaces, refreshes, sends, tells_gone, tells_there, tries, unwritten, writes}
-use Rattle.rd_served.specs.Parts as part
-use Rattle.rd_served.specs.Served.{Served}
+use Rattle.rd_served_order.proofs.ServedCauseLemmas.{IsTold, found}
+use Rattle.rd_served_order.proofs.ServedKeyLemmas.{IsKeyed, both_true}
+use Rattle.rd_served_order.specs.ServedParts.{CallsAt, FitsCall, FrontPart, IsOpenCall, PartGoes, announced_by, begins, cut_by, directs, ends, forgets, hears, keeps, learns, misplaces, refreshes, sends, tells_gone, tells_there, tries, unwritten, writes}
+use Rattle.rd_served_order.specs.ServedParts as part
+use Rattle.rd_served_order.specs.ServedServed.{Served}
 use Rattle.rd_served_causes.proofs.DeskLemmas.{announce_open, removed_off}
 use Rattle.rd_served_causes.proofs.OpenLemmas.{IsQuietCall, StaysHere, each_off, ended_on, memory_same, present_stays, quiet_call, told_added, worked, worn_still}
 use Rattle.rd_served_causes.proofs.PlaceLemmas.{has_place}

@@ -13,11 +13,11 @@ use Rattle.rd_station.specs.declared.refusals.PutWhy.{PutWhy}
 use Rattle.rd_station.specs.declared.refusals.PutWhy.TheVariants as why
 use Rattle.rd_world.specs.Devices.{device_cuts, device_parked, device_runs}
 use Rattle.rd_world.specs.World.{Kept}
-use Rattle.rd_served.proofs.KeyLemmas.{IsKeyed}
-use Rattle.rd_served.proofs.WalkLemmas.{desk_of}
-use Rattle.rd_served.specs.Parts.{CallsAt, Comes, FrontPart, PartGoes, asking_by, begins, directs, ends, forgets, hears, keeps, learns, misplaces, refreshes, sends, tells_gone, tells_there, tries, unwritten, writes}
-use Rattle.rd_served.specs.Parts as part
-use Rattle.rd_served.specs.Served.{Asking, Served, asks, hands, idle, refused}
+use Rattle.rd_served_order.proofs.ServedKeyLemmas.{IsKeyed}
+use Rattle.rd_served_order.proofs.ServedWalkLemmas.{desk_of}
+use Rattle.rd_served_order.specs.ServedParts.{CallsAt, Comes, FrontPart, PartGoes, asking_by, begins, directs, ends, forgets, hears, keeps, learns, misplaces, refreshes, sends, tells_gone, tells_there, tries, unwritten, writes}
+use Rattle.rd_served_order.specs.ServedParts as part
+use Rattle.rd_served_order.specs.ServedServed.{Asking, Served, asks, hands, idle, refused}
 use Rattle.rd_served_causes.proofs.DeskLemmas.{put_gone, put_worn}
 use Rattle.rd_served_causes.proofs.OpenLemmas.{StaysHere, quiet_call, worked, worn_still}
 use Rattle.rd_served_causes.proofs.StepLemmas.{refreshed_front}

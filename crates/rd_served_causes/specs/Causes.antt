@@ -7,7 +7,7 @@ use Rattle.rd_front.specs.State.{DeviceDeskState}
 use Rattle.rd_front.specs.declared.calls.FrontCall.{FrontCall}
 use Rattle.rd_front.specs.declared.calls.FrontReply.{FrontReply}
 use Rattle.rd_turn.specs.declared.object.Entry.{Entry}
-use Rattle.rd_served.specs.Histories.{may_start}
+use Rattle.rd_served_order.specs.ServedHistories.{may_start}
 use Rattle.rd_served_refusals.specs.Heeding.{hindered_by}
 
 -- each device that is announced has a desk

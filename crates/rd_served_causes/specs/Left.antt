@@ -9,9 +9,9 @@ use Rattle.rd_world.specs.Acts.{tellings_on}
 use Rattle.rd_world.specs.Control.{Act}
 use Rattle.rd_world.specs.Talk.{Deed}
 use Rattle.rd_world.specs.Told.{IsHeeded, Replies}
-use Rattle.rd_served.specs.Histories.{HistoryGoes}
-use Rattle.rd_served.specs.Parts.{FrontPart, PartsGo, ends}
-use Rattle.rd_served.specs.Served.{Served}
+use Rattle.rd_served_order.specs.ServedHistories.{HistoryGoes}
+use Rattle.rd_served_order.specs.ServedParts.{FrontPart, PartsGo, ends}
+use Rattle.rd_served_order.specs.ServedServed.{Served}
 use Rattle.rd_served_order.specs.Tellings.{TellsReady}
 use Rattle.rd_served_refusals.specs.Heeding.{left_by}
 

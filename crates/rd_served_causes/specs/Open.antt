@@ -2,7 +2,7 @@
 use Rattle.std.specs.Prelude.{◌≡◌, ◌⊎◌, ℕ, true, false, slice_get, Some}
 use Rattle.rd_front.specs.Front.{is_told_there}
 use Rattle.rd_front.specs.State.{DeviceDeskState, SessionStation}
-use Rattle.rd_served.specs.Served.{Served}
+use Rattle.rd_served_order.specs.ServedServed.{Served}
 use Rattle.rd_served_causes.specs.Worn.{IsWorn}
 
 -- a desk with its station

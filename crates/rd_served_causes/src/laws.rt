@@ -1,20 +1,20 @@
 //! What holds of the refusals of a front, as contracts of functions that do nothing.
 
 ghost use Rattle.std.specs.Prelude.{◌≡◌, ◌++◌, ℕ, List, [], true, false};
-ghost use Rattle.rd_answered.specs.Refusing.{SaysMarks, written_then};
+ghost use Rattle.rd_served_order.specs.AnsweredRefusing.{SaysMarks, written_then};
 ghost use Rattle.rd_devices.specs.declared.list.Announce.{Announce};
 ghost use Rattle.rd_front.specs.declared.calls.FrontCall.{FrontCall};
 ghost use Rattle.rd_front.specs.declared.calls.FrontReply.{FrontReply};
-ghost use Rattle.rd_refused.specs.Refused.{RefusesDirectly};
+ghost use Rattle.rd_served_order.specs.RefusedRefused.{RefusesDirectly};
 ghost use Rattle.rd_turn.specs.declared.object.Entry.{Entry};
 ghost use Rattle.rd_world.specs.Devices.{Declared};
 ghost use Rattle.rd_world.specs.Session.{replies_read};
 ghost use Rattle.rd_world.specs.Talk.{Deed, EachAfter, client_wrote};
 ghost use Rattle.rd_world.specs.Told.{Answers, ComesUnworn};
-ghost use Rattle.rd_served.specs.Deeds.{deeds_of_calls};
-ghost use Rattle.rd_served.specs.Histories.{HistoryGoes};
-ghost use Rattle.rd_served.specs.Parts.{FrontPart};
-ghost use Rattle.rd_served.specs.Served.{Served};
+ghost use Rattle.rd_served_order.specs.ServedDeeds.{deeds_of_calls};
+ghost use Rattle.rd_served_order.specs.ServedHistories.{HistoryGoes};
+ghost use Rattle.rd_served_order.specs.ServedParts.{FrontPart};
+ghost use Rattle.rd_served_order.specs.ServedServed.{Served};
 ghost use Rattle.rd_served_order.specs.Orders.{BeginsWith, is_gone_until};
 ghost use Rattle.rd_served_order.specs.Tellings.{acts_on};
 ghost use Rattle.rd_served_refusals.specs.Heeding.{HearUnhindered, left_by};

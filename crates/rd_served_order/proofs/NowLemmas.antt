@@ -24,8 +24,8 @@ use Rattle.rd_hello.specs.declared.client.ClientState.{ClientState}
 use Rattle.rd_hello.specs.declared.end_fault.EndFault.{EndFault}
 use Rattle.rd_hello.specs.Moves.{Move, reads, writes}
 use Rattle.rd_irp.specs.Completion.{completion_head}
-use Rattle.rd_journals.proofs.AskingLemmas as asking
-use Rattle.rd_journals.proofs.AskingLemmas.{HeardAs}
+use Rattle.rd_served.proofs.JournalsAskingLemmas as asking
+use Rattle.rd_served.proofs.JournalsAskingLemmas.{HeardAs}
 use Rattle.rd_served.specs.Served.{Asking, hands}
 use Rattle.rd_station.specs.declared.answers.Completion.{Completion}
 use Rattle.rd_served_order.specs.Orders.{AreMovesInOrder, IsCutAt}

@@ -28,8 +28,8 @@ use Rattle.rd_front.specs.declared.calls.FrontReply.{FrontReply}
 use Rattle.rd_hello.specs.Moves.{Move, reads, writes}
 use Rattle.rd_hello.specs.declared.end_fault.EndFault.{EndFault}
 use Rattle.rd_hello.specs.declared.end_fault.EndFault.TheVariants as fault
-use Rattle.rd_journals.specs.Reads.{IsGiven}
-use Rattle.rd_runs.proofs.SizeLemmas.{data_few}
+use Rattle.rd_served.specs.JournalsReads.{IsGiven}
+use Rattle.rd_served.proofs.RunsSizeLemmas.{data_few}
 use Rattle.rd_station.specs.declared.answers.Completion.{Completion}
 use Rattle.rd_turn.specs.declared.object.Entry.{Entry}
 use Rattle.rd_world.proofs.ClientLemmas.{refresh_elsewhere}

@@ -21,8 +21,8 @@ use Rattle.rd_core.specs.Core as core
 use Rattle.rd_core.specs.Core.{CoreState}
 use Rattle.rd_core.specs.Hearing as hearing
 use Rattle.rd_core.proofs.KeptLemmas.{kept_new}
-use Rattle.rd_controls.proofs.ReadyLemmas as ready
-use Rattle.rd_controls.proofs.ReadyLemmas.{hear_ready}
+use Rattle.rd_acted.proofs.ControlsReadyLemmas as ready
+use Rattle.rd_acted.proofs.ControlsReadyLemmas.{hear_ready}
 use Rattle.rd_desk.specs.declared.calls.DeskCall.{DeskCall}
 use Rattle.rd_desk.specs.declared.calls.DeskCall.TheVariants as desk
 use Rattle.rd_desk.specs.declared.calls.DeskReply.{DeskReply}
@@ -38,11 +38,11 @@ use Rattle.rd_hello.specs.declared.end_fault.EndFault.{EndFault}
 use Rattle.rd_hello.specs.declared.end_fault.EndFault.TheVariants as fault
 use Rattle.rd_hello.specs.declared.hello.Hello.{Hello}
 use Rattle.rd_hello.specs.declared.hello.Hello.TheVariants as greeting
-use Rattle.rd_journals.proofs.AskingLemmas as asking
-use Rattle.rd_journals.proofs.AskingLemmas.{HeardAs}
-use Rattle.rd_journals.specs.Reads.{IsGiven}
-use Rattle.rd_journals.specs.Stations.{IsIdle, IsOn}
-use Rattle.rd_runs.proofs.SizeLemmas.{ClientFits, added_fits, begun_fits, data_few, direct_fits, emptied_fits, heard_fits, refreshed_fits, removed_fits, sent_fits}
+use Rattle.rd_served.proofs.JournalsAskingLemmas as asking
+use Rattle.rd_served.proofs.JournalsAskingLemmas.{HeardAs}
+use Rattle.rd_served.specs.JournalsReads.{IsGiven}
+use Rattle.rd_served.specs.JournalsStations.{IsIdle, IsOn}
+use Rattle.rd_served.proofs.RunsSizeLemmas.{ClientFits, added_fits, begun_fits, data_few, direct_fits, emptied_fits, heard_fits, refreshed_fits, removed_fits, sent_fits}
 use Rattle.rd_station.specs.Memory.{NamesKey}
 use Rattle.rd_station.specs.Station.{held}
 use Rattle.rd_station.specs.declared.answers.Completion.{Completion}

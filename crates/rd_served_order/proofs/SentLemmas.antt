@@ -10,8 +10,8 @@ use Rattle.rd_front.specs.State.{DeviceDeskState, FrontState, SessionStation}
 use Rattle.rd_front.specs.declared.calls.FrontCall.{FrontCall}
 use Rattle.rd_front.specs.declared.calls.FrontReply.{FrontReply}
 use Rattle.rd_hello.specs.declared.end_fault.EndFault.TheVariants as fault
-use Rattle.rd_journals.specs.Standing.{IsOut}
-use Rattle.rd_journals.proofs.CameLemmas.{never_came}
+use Rattle.rd_served.specs.JournalsStanding.{IsOut}
+use Rattle.rd_served.proofs.JournalsCameLemmas.{never_came}
 use Rattle.rd_station.specs.Station.{is_key}
 use Rattle.rd_turn.specs.declared.object.Entry.{Entry}
 use Rattle.rd_world.specs.Events.{completion_message}

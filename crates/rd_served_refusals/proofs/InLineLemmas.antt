@@ -30,12 +30,12 @@ use Rattle.rd_hello.specs.declared.end_fault.EndFault.TheVariants as fault
 use Rattle.rd_irp.specs.Fits.{kind_of}
 use Rattle.rd_irp.specs.declared.completion.Body.TheVariants.{Fault}
 use Rattle.rd_irp.specs.declared.request.Request.{Request}
-use Rattle.rd_journals.proofs.AskingLemmas.{HeardAs, hears}
-use Rattle.rd_journals.proofs.CameLemmas.{came_true}
-use Rattle.rd_journals.proofs.ShortLemmas.{came_read}
-use Rattle.rd_journals.proofs.WritingLemmas.{AddsOwn, hear_adds}
-use Rattle.rd_journals.specs.Jobs.{IsJobOf}
-use Rattle.rd_runs.proofs.Insides.{AreOwn}
+use Rattle.rd_served.proofs.JournalsAskingLemmas.{HeardAs, hears}
+use Rattle.rd_served.proofs.JournalsCameLemmas.{came_true}
+use Rattle.rd_served.proofs.JournalsShortLemmas.{came_read}
+use Rattle.rd_served.proofs.JournalsWritingLemmas.{AddsOwn, hear_adds}
+use Rattle.rd_served.specs.JournalsJobs.{IsJobOf}
+use Rattle.rd_served.proofs.RunsInsides.{AreOwn}
 use Rattle.rd_station.specs.Station as station
 use Rattle.rd_station.specs.Station.{put_refusal, put_unless}
 use Rattle.rd_station.specs.declared.answers.Completion.{Completion}

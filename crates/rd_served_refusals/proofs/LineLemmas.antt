@@ -9,12 +9,12 @@ use Rattle.rd_base.specs.declared.journal.Item.TheVariants.{Came, Cancelled, Cut
 use Rattle.rd_base.specs.declared.journal.Key.{Key}
 use Rattle.rd_client.specs.Core.{Outgoing}
 use Rattle.rd_hello.specs.declared.end_fault.EndFault.{EndFault}
-use Rattle.rd_runs.proofs.Insides.{AreOwn, IsOwn}
+use Rattle.rd_served.proofs.RunsInsides.{AreOwn, IsOwn}
 use Rattle.rd_world.specs.Events.{deed_on}
 use Rattle.rd_world.specs.Talk.{Deed, EndsWith, Has, adds, client_read, client_reads, client_writes, completes, host_begins, host_ends, host_reads, host_writes, journal, removes, stores, submits, takes, tells}
 use Rattle.rd_world.specs.Told.{came, came_as, is_of_device, requests_to, told, told_at, without_last}
 use Rattle.rd_world.specs.World.{Kept}
-use Rattle.rd_journals.proofs.CameLemmas.{came_true}
+use Rattle.rd_served.proofs.JournalsCameLemmas.{came_true}
 use Rattle.rd_directs.proofs.TurnLemmas.{none_before, said_ends, turn_left}
 use Rattle.rd_directs.specs.Turns.{DirectTurn, TurnIn, Turns, kept_at, never, said}
 use Rattle.rd_served.specs.Deeds.{sent_by}

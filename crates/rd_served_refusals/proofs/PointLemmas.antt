@@ -9,8 +9,8 @@ use Rattle.rd_base.specs.declared.journal.Key.{Key}
 use Rattle.rd_client.specs.Core.{Outgoing}
 use Rattle.rd_hello.specs.declared.end_fault.EndFault.{EndFault}
 use Rattle.rd_irp.specs.declared.request.Request.{Request}
-use Rattle.rd_journals.specs.Jobs.{AreFine}
-use Rattle.rd_runs.proofs.Insides.{AreOwn, IsOwn}
+use Rattle.rd_served.specs.JournalsJobs.{AreFine}
+use Rattle.rd_served.proofs.RunsInsides.{AreOwn, IsOwn}
 use Rattle.rd_station.proofs.Members.{has_append}
 use Rattle.rd_world.specs.Events.{deed_on}
 use Rattle.rd_world.specs.Talk.{Deed, Has, client_read, client_reads, client_writes, completes, is_request, journal, request_at, request_in}

@@ -23,13 +23,13 @@ use Rattle.rd_front.specs.declared.calls.FrontReply.{FrontReply}
 use Rattle.rd_irp.specs.Fits.{BodyFits, kind_of}
 use Rattle.rd_irp.specs.declared.completion.Reply.{Reply}
 use Rattle.rd_irp.specs.declared.request.Request.{Request}
-use Rattle.rd_journals.specs.Jobs.{AreFine, FitsCompletion, IsAnswerOf, IsJobOf, IsRefusalOf}
-use Rattle.rd_journals.specs.Standing.{IsOut}
-use Rattle.rd_journals.specs.Stations.{AreFit}
-use Rattle.rd_journals.proofs.CameLemmas.{never_came}
-use Rattle.rd_journals.proofs.CompletionLemmas.{completes as completes_with}
-use Rattle.rd_journals.proofs.WorkLemmas.{Grown, grown_more}
-use Rattle.rd_replied.specs.Replied.{AnswersBy, IsGivenBy}
+use Rattle.rd_refused.specs.JournalsJobs.{AreFine, FitsCompletion, IsAnswerOf, IsJobOf, IsRefusalOf}
+use Rattle.rd_refused.specs.JournalsStanding.{IsOut}
+use Rattle.rd_refused.specs.JournalsStations.{AreFit}
+use Rattle.rd_refused.proofs.JournalsCameLemmas.{never_came}
+use Rattle.rd_refused.proofs.JournalsCompletionLemmas.{completes as completes_with}
+use Rattle.rd_refused.proofs.JournalsWorkLemmas.{Grown, grown_more}
+use Rattle.rd_refused.specs.RepliedReplied.{AnswersBy, IsGivenBy}
 use Rattle.rd_station.specs.declared.answers.Completion.{Completion}
 use Rattle.rd_station.proofs.Members.{has_append}
 use Rattle.rd_turn.specs.declared.object.Entry.{Entry}

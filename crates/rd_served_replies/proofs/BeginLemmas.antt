@@ -8,7 +8,7 @@ use Rattle.rd_desk.specs.Desk.{told_calls}
 use Rattle.rd_desk.specs.declared.calls.DeskCall.{DeskCall}
 use Rattle.rd_desk.specs.declared.calls.DeskReply.{DeskReply}
 use Rattle.rd_front.specs.State.{DeviceDeskState, SessionStation}
-use Rattle.rd_journals.specs.Jobs.{IsJobOf}
+use Rattle.rd_refused.specs.JournalsJobs.{IsJobOf}
 use Rattle.rd_station.specs.Station.{new_station}
 use Rattle.rd_turn.specs.declared.object.Entry.{Entry}
 use Rattle.rd_world.specs.Devices.{Declared, device_parked}

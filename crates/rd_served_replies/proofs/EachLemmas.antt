@@ -6,10 +6,10 @@ use Rattle.rd_base.specs.Lawful.{IsLawful}
 use Rattle.rd_base.specs.declared.journal.Item.{Item}
 use Rattle.rd_front.specs.declared.calls.FrontCall.{FrontCall}
 use Rattle.rd_front.specs.declared.calls.FrontReply.{FrontReply}
-use Rattle.rd_journals.proofs.WorkLemmas.{grown_more}
-use Rattle.rd_replied.specs.Removals.{TellsGone}
-use Rattle.rd_replied.specs.Replied.{AnswersBy}
-use Rattle.rd_replied.specs.Since.{AnswersSince}
+use Rattle.rd_refused.proofs.JournalsWorkLemmas.{grown_more}
+use Rattle.rd_refused.specs.RepliedRemovals.{TellsGone}
+use Rattle.rd_refused.specs.RepliedReplied.{AnswersBy}
+use Rattle.rd_refused.specs.RepliedSince.{AnswersSince}
 use Rattle.rd_printer.specs.Printer.{new_printer}
 use Rattle.rd_station.specs.Station.{new_station}
 use Rattle.rd_station.proofs.Calls.{reached_kept, reached_new}

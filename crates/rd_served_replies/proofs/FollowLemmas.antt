@@ -15,8 +15,8 @@ use Rattle.rd_front.specs.State.{DeviceDeskState, FrontState, SessionDeskStep, S
 use Rattle.rd_front.specs.declared.calls.FrontCall.{FrontCall}
 use Rattle.rd_front.specs.declared.calls.FrontReply.{FrontReply}
 use Rattle.rd_irp.specs.declared.request.Request.{Request}
-use Rattle.rd_journals.specs.Jobs.{IsJobOf}
-use Rattle.rd_journals.proofs.WorkLemmas.{Grown, grown_more}
+use Rattle.rd_refused.specs.JournalsJobs.{IsJobOf}
+use Rattle.rd_refused.proofs.JournalsWorkLemmas.{Grown, grown_more}
 use Rattle.rd_station.proofs.Members.{Has}
 use Rattle.rd_turn.specs.declared.object.Entry.{Entry}
 use Rattle.rd_turn.specs.History.{Leads, entry}

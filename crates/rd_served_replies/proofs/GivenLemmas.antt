@@ -16,7 +16,7 @@ use Rattle.rd_desk.proofs.WaitingLemmas.{given_waited, step_goes}
 use Rattle.rd_drive.specs.declared.plan.Job.{Job}
 use Rattle.rd_drive.proofs.AllLemmas.{all_append}
 use Rattle.rd_front.specs.State.{SessionDeskStep, SessionStation}
-use Rattle.rd_journals.proofs.CallLemmas.{OfJob}
+use Rattle.rd_refused.proofs.JournalsCallLemmas.{OfJob}
 use Rattle.rd_station.specs.Station.{StationCall, StationStep, announces, applies, collects, drops, ends, puts, puts_unfit, removes, takes}
 use Rattle.rd_station.specs.declared.answers.Applied.{Applied}
 use Rattle.rd_station.specs.declared.answers.Given.TheVariants as given

@@ -26,14 +26,14 @@ use Rattle.rd_drive.specs.declared.plan.Job.{Job}
 use Rattle.rd_front.specs.State.{FrontState, SessionDeskStep, SessionStation}
 use Rattle.rd_front.specs.declared.calls.FrontCall.{FrontCall}
 use Rattle.rd_front.specs.declared.calls.FrontReply.{FrontReply}
-use Rattle.rd_journals.specs.Jobs.{AreFine, FitsCompletion}
-use Rattle.rd_journals.specs.Reads.{IsGiven}
-use Rattle.rd_journals.specs.Standing.{IsOut}
-use Rattle.rd_journals.specs.Stations.{IsIdle, IsOn}
-use Rattle.rd_journals.proofs.HeldLemmas.{turned_has}
-use Rattle.rd_journals.proofs.ShortLemmas.{came_read}
-use Rattle.rd_journals.proofs.WorkLemmas.{Grown}
-use Rattle.rd_replied.specs.Removals.{IsCutSince, IsGoneSince, IsGoneSoon, TellsGone}
+use Rattle.rd_refused.specs.JournalsJobs.{AreFine, FitsCompletion}
+use Rattle.rd_refused.specs.JournalsReads.{IsGiven}
+use Rattle.rd_refused.specs.JournalsStanding.{IsOut}
+use Rattle.rd_refused.specs.JournalsStations.{IsIdle, IsOn}
+use Rattle.rd_refused.proofs.JournalsHeldLemmas.{turned_has}
+use Rattle.rd_refused.proofs.JournalsShortLemmas.{came_read}
+use Rattle.rd_refused.proofs.JournalsWorkLemmas.{Grown}
+use Rattle.rd_refused.specs.RepliedRemovals.{IsCutSince, IsGoneSince, IsGoneSoon, TellsGone}
 use Rattle.rd_station.specs.Memory.{NamesKey}
 use Rattle.rd_station.specs.Station.{held}
 use Rattle.rd_station.specs.declared.answers.Completion.{Completion}

@@ -21,11 +21,11 @@ use Rattle.rd_drive.specs.Replies.{IsAnswer, KeyedReply, cancellation, replies_b
 use Rattle.rd_drive.specs.declared.plan.Job.{Job}
 use Rattle.rd_front.specs.State.{SessionDeskStep, SessionStation}
 use Rattle.rd_irp.specs.declared.completion.Reply.{Reply}
-use Rattle.rd_journals.specs.Jobs.{AreFine, FitsCompletion, IsCompletionOf, IsJobOf}
-use Rattle.rd_journals.specs.Stations.{AreFit}
-use Rattle.rd_journals.proofs.ReplyLemmas.{fit_at}
-use Rattle.rd_journals.proofs.WorkLemmas.{Grown, grown_more}
-use Rattle.rd_replied.specs.Replied.{IsGivenBy}
+use Rattle.rd_refused.specs.JournalsJobs.{AreFine, FitsCompletion, IsCompletionOf, IsJobOf}
+use Rattle.rd_refused.specs.JournalsStations.{AreFit}
+use Rattle.rd_refused.proofs.JournalsReplyLemmas.{fit_at}
+use Rattle.rd_refused.proofs.JournalsWorkLemmas.{Grown, grown_more}
+use Rattle.rd_refused.specs.RepliedReplied.{IsGivenBy}
 use Rattle.rd_station.specs.Station.{new_station}
 use Rattle.rd_station.specs.declared.answers.Completion.{Completion}
 use Rattle.rd_station.proofs.Members.{from_contains, has_left, has_right, to_contains}

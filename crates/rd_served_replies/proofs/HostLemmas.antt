@@ -11,11 +11,11 @@ use Rattle.rd_base.specs.declared.journal.Key.{Key}
 use Rattle.rd_drive.specs.Replies.{replies_by}
 use Rattle.rd_drive.proofs.AllLemmas.{all_append}
 use Rattle.rd_hello.specs.declared.end_fault.EndFault.TheVariants as fault
-use Rattle.rd_journals.specs.Stations.{AreFit}
-use Rattle.rd_replied.specs.Removals.{TellsGone}
-use Rattle.rd_replied.specs.Replied.{AnswersBy}
-use Rattle.rd_replied.specs.Since.{AnswersSince}
-use Rattle.rd_replied.proofs.SinceLemmas.{all_since}
+use Rattle.rd_refused.specs.JournalsStations.{AreFit}
+use Rattle.rd_refused.specs.RepliedRemovals.{TellsGone}
+use Rattle.rd_refused.specs.RepliedReplied.{AnswersBy}
+use Rattle.rd_refused.specs.RepliedSince.{AnswersSince}
+use Rattle.rd_refused.proofs.RepliedSinceLemmas.{all_since}
 use Rattle.rd_world.specs.Devices.{Declared, device_cut, device_step}
 use Rattle.rd_world.specs.Recording.{no_request}
 use Rattle.rd_world.specs.Session.{replies_in, replies_read}

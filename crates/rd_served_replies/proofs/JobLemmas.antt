@@ -11,7 +11,7 @@ use Rattle.rd_desk.specs.declared.calls.DeskReply.{DeskReply}
 use Rattle.rd_drive.proofs.AllLemmas.{all_append, all_weaker}
 use Rattle.rd_drive.specs.declared.plan.Job.{Job}
 use Rattle.rd_irp.specs.declared.request.Request.{Request}
-use Rattle.rd_journals.specs.Jobs.{IsJobOf}
+use Rattle.rd_refused.specs.JournalsJobs.{IsJobOf}
 use Rattle.rd_station.specs.Station.{StationCall, announces, applies, collects, drops, ends, puts, puts_unfit, removes, takes}
 use Rattle.rd_station.proofs.Members.{Has}
 use Rattle.rd_turn.specs.declared.object.Entry.{Entry}

@@ -22,11 +22,11 @@ use Rattle.rd_irp.specs.Fits.{BodyFits, kind_of}
 use Rattle.rd_irp.specs.Written.{completion_bytes}
 use Rattle.rd_irp.specs.declared.completion.Kind.{Kind}
 use Rattle.rd_irp.specs.declared.request.Request.{Request}
-use Rattle.rd_journals.specs.Jobs.{FitsCompletion, IsCompletionOf, IsIdOf, IsJobOf, IsKindOf, OwnsAll}
-use Rattle.rd_journals.proofs.CallLemmas.{OfJob}
-use Rattle.rd_journals.proofs.CompletionLemmas.{completes as completes_with, lost_ranged, runs_good}
-use Rattle.rd_journals.proofs.OwnLemmas.{IsGood, owns_call}
-use Rattle.rd_journals.proofs.WorkLemmas.{Grown}
+use Rattle.rd_refused.specs.JournalsJobs.{FitsCompletion, IsCompletionOf, IsIdOf, IsJobOf, IsKindOf, OwnsAll}
+use Rattle.rd_refused.proofs.JournalsCallLemmas.{OfJob}
+use Rattle.rd_refused.proofs.JournalsCompletionLemmas.{completes as completes_with, lost_ranged, runs_good}
+use Rattle.rd_refused.proofs.JournalsOwnLemmas.{IsGood, owns_call}
+use Rattle.rd_refused.proofs.JournalsWorkLemmas.{Grown}
 use Rattle.rd_station.specs.Station.{StationCall, announces, applies, collects, drops, ends, new_station, puts, puts_unfit, removes, takes}
 use Rattle.rd_station.specs.Tied.{IsRunBy, IsTied, RunsOwn}
 use Rattle.rd_station.specs.declared.answers.Completion.{Completion}

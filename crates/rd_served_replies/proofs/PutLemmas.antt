@@ -10,7 +10,7 @@ use Rattle.rd_desk.specs.Own.{IsOwnJob, job_come, job_request, no_job_request, r
 use Rattle.rd_drive.specs.declared.plan.Job.{Job}
 use Rattle.rd_front.specs.State.{SessionStation}
 use Rattle.rd_irp.specs.declared.request.Request.{Request}
-use Rattle.rd_journals.specs.Jobs.{IsJobOf}
+use Rattle.rd_refused.specs.JournalsJobs.{IsJobOf}
 use Rattle.rd_station.specs.Station.{StationCall, announces, applies, collects, drops, ends, is_key, puts, puts_unfit, removes, takes}
 use Rattle.rd_station.proofs.Members.{Has, has_append, has_left, has_right, key_self, same_key}
 use Rattle.rd_world.specs.Session.{request_read}

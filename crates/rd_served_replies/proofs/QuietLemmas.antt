@@ -14,7 +14,7 @@ use Rattle.rd_hello.specs.declared.end_fault.EndFault.{EndFault}
 use Rattle.rd_hello.specs.declared.end_fault.EndFault.TheVariants as fault
 use Rattle.rd_station.specs.declared.answers.Completion.{Completion}
 use Rattle.rd_world.specs.Talk.{Deed, adds, client_reads, removes}
-use Rattle.rd_journals.proofs.WritingLemmas.{AddsOwn, adds_own, hear_adds, list_own, removal_own}
+use Rattle.rd_refused.proofs.JournalsWritingLemmas.{AddsOwn, adds_own, hear_adds, list_own, removal_own}
 use Rattle.rd_served.specs.Deeds.{deeds_of}
 use Rattle.rd_served.specs.Parts.{FrontPart, PartGoes, asking_by, begins, calls, directs, ends, forgets, hears, keeps, learns, misplaces, refreshes, sends, tells_gone, tells_there, tries, unwritten, writes}
 use Rattle.rd_served.specs.Served.{Asking, Served, asks, hands, idle}

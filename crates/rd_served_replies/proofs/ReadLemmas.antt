@@ -12,7 +12,7 @@ use Rattle.rd_front.specs.declared.calls.FrontReply.{FrontReply}
 use Rattle.rd_front.specs.declared.calls.FrontReply.TheVariants as reply
 use Rattle.rd_hello.specs.declared.end_fault.EndFault.TheVariants as fault
 use Rattle.rd_irp.specs.declared.request.Request.{Request}
-use Rattle.rd_journals.specs.Jobs.{AreFine, FitsCompletion}
+use Rattle.rd_refused.specs.JournalsJobs.{AreFine, FitsCompletion}
 use Rattle.rd_ranges.proofs.ReadLemmas.{request_room}
 use Rattle.rd_turn.specs.declared.object.Entry.{Entry}
 use Rattle.rd_world.specs.Talk.{Deed, Has, client_read, client_reads, is_request, request_at, request_in, stores}

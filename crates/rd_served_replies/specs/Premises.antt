@@ -9,7 +9,7 @@ use Rattle.rd_desk.specs.declared.calls.DeskCall.{DeskCall}
 use Rattle.rd_desk.specs.declared.calls.DeskReply.{DeskReply}
 use Rattle.rd_front.specs.State.{DeviceDeskState}
 use Rattle.rd_irp.specs.declared.request.Request.{Request}
-use Rattle.rd_journals.specs.Stations.{AreFit}
+use Rattle.rd_refused.specs.JournalsStations.{AreFit}
 use Rattle.rd_station.specs.Station.{new_station}
 use Rattle.rd_turn.specs.History.{calls_of}
 use Rattle.rd_turn.specs.declared.object.Entry.{Entry}

@@ -19,11 +19,11 @@ use Rattle.rd_world.specs.Control.{Act}
 use Rattle.rd_world.specs.Talk.{Deed, stores}
 use Rattle.rd_workers.specs.Channels.{ChannelRun, IsChannelRun, calls_by_all}
 use Rattle.rd_workers.specs.Logs.{asks_any, reader_calls}
-use Rattle.rd_served.specs.Deeds.{deeds_after, deeds_of, deeds_of_calls, sent_by, stored, stored_each}
-use Rattle.rd_served.specs.Histories.{CallGoes, HistoryGoes, TellsOnce}
-use Rattle.rd_served.specs.Parts.{FrontPart, PartsGo, act_told, begins, calls, directs, ends, forgets, hears, keeps, learns, misplaces, refreshes, sends, tells_gone, tells_there, tries, unwritten, writes}
-use Rattle.rd_served.specs.Served.{Served}
-use Rattle.rd_served_order.specs.Tellings.{acts_on, part_acts, parts_acts}
+use Rattle.rd_served_causes.specs.ServedDeeds.{deeds_after, deeds_of, deeds_of_calls, sent_by, stored, stored_each}
+use Rattle.rd_served_causes.specs.ServedHistories.{CallGoes, HistoryGoes, TellsOnce}
+use Rattle.rd_served_causes.specs.ServedParts.{FrontPart, PartsGo, act_told, begins, calls, directs, ends, forgets, hears, keeps, learns, misplaces, refreshes, sends, tells_gone, tells_there, tries, unwritten, writes}
+use Rattle.rd_served_causes.specs.ServedServed.{Served}
+use Rattle.rd_served_causes.specs.ServedOrderTellings.{acts_on, part_acts, parts_acts}
 use Rattle.rd_workers.proofs.RunLemmas.{DoesSurely}
 use Rattle.rd_served_sessions.proofs.CallLemmas.{GivesInside, given_in, given_on, none_on, on_both, on_channel}
 use Rattle.rd_served_sessions.proofs.ChainLemmas.{part_rises, parts_rise}

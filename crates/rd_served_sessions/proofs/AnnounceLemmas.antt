@@ -7,9 +7,9 @@ use Rattle.std.specs.Map.{lookup}
 use Rattle.std.specs.Option.{option_map_or}
 use Rattle.std.specs.Ordering.{nat_cmp}
 use Rattle.std.specs.BTreeMap.{is_at}
-use Rattle.rd_acted.proofs.DataLemmas.{IsShaped}
-use Rattle.rd_acted.proofs.ListLemmas.{first_shaped}
-use Rattle.rd_acted.proofs.QuietLemmas.{AreUntold, HearsTo, completion_untold, hears_to}
+use Rattle.rd_served_causes.proofs.ActedDataLemmas.{IsShaped}
+use Rattle.rd_served_causes.proofs.ActedListLemmas.{first_shaped}
+use Rattle.rd_served_causes.proofs.ActedQuietLemmas.{AreUntold, HearsTo, completion_untold, hears_to}
 use Rattle.rd_base.specs.declared.journal.Item.{Item}
 use Rattle.rd_base.specs.declared.journal.Key.{Key}
 use Rattle.rd_client.specs.Core as client
@@ -33,12 +33,12 @@ use Rattle.rd_world.specs.Devices.{Declared, PrinterNames, announce_of, printer_
 use Rattle.rd_world.specs.Opening.{AreOpenable}
 use Rattle.rd_world.specs.Run.{printers_of}
 use Rattle.rd_world.specs.Talk.{Deed, Has, stores}
-use Rattle.rd_served.proofs.StandingLemmas.{sent_first, sent_none}
-use Rattle.rd_served.specs.Deeds.{deeds_after, deeds_of, deeds_of_calls, sent_by, stored, stored_each}
-use Rattle.rd_served.specs.Histories.{HistoryGoes}
-use Rattle.rd_served.specs.Parts.{FrontPart, PartGoes, PartsGo, begins, calls, directs, ends, forgets, keeps, learns, misplaces, refreshes, sends, tells_gone, tells_there, tries, unwritten, writes}
-use Rattle.rd_served.specs.Parts as part
-use Rattle.rd_served.specs.Served.{Served}
+use Rattle.rd_served_causes.proofs.ServedStandingLemmas.{sent_first, sent_none}
+use Rattle.rd_served_causes.specs.ServedDeeds.{deeds_after, deeds_of, deeds_of_calls, sent_by, stored, stored_each}
+use Rattle.rd_served_causes.specs.ServedHistories.{HistoryGoes}
+use Rattle.rd_served_causes.specs.ServedParts.{FrontPart, PartGoes, PartsGo, begins, calls, directs, ends, forgets, keeps, learns, misplaces, refreshes, sends, tells_gone, tells_there, tries, unwritten, writes}
+use Rattle.rd_served_causes.specs.ServedParts as part
+use Rattle.rd_served_causes.specs.ServedServed.{Served}
 use Rattle.rd_served_sessions.specs.Announcing.{AnnouncesOwn, IsAnnounceOf, TellsOwn}
 
 abbrev outbox_of : Served → List Outgoing

@@ -14,8 +14,8 @@ use Rattle.rd_turn.specs.History.{Leads}
 use Rattle.rd_workers.specs.Channels.{ChannelRun, HaveNumbers, IsChannelRun, calls_by_all}
 use Rattle.rd_workers.specs.Logs.{asks_any, given_by, messages_heard, reader_calls}
 use Rattle.rd_workers.specs.Reading.{AllPlain}
-use Rattle.rd_served.specs.Histories.{may_start}
-use Rattle.rd_served_refusals.specs.Heeding.{hindered_by}
+use Rattle.rd_served_causes.specs.ServedHistories.{may_start}
+use Rattle.rd_served_causes.specs.ServedRefusalsHeeding.{hindered_by}
 use Rattle.rd_served_causes.specs.Causes.{StartUnhindered}
 use Rattle.rd_workers.proofs.RunLemmas.{AreMiddle, DoesSurely, HearsTo, IsMiddle, IsSure, hears_to, hindered, plainly}
 use Rattle.rd_served_sessions.proofs.StillLemmas.{begun_to, is_messages, next_says}

@@ -16,17 +16,17 @@ use Rattle.rd_front.specs.declared.calls.FrontReply.TheVariants as reply
 use Rattle.rd_client.specs.declared.heard.Heard.{Heard}
 use Rattle.rd_hello.specs.declared.end_fault.EndFault.{EndFault}
 use Rattle.rd_hello.specs.declared.end_fault.EndFault.TheVariants as fault
-use Rattle.rd_journals.proofs.HeldLemmas.{stored_unread}
+use Rattle.rd_served_causes.proofs.JournalsHeldLemmas.{stored_unread}
 use Rattle.rd_turn.specs.History.{Leads}
 use Rattle.rd_world.specs.Events.{completion_message}
 use Rattle.rd_world.specs.Talk.{Deed, client_read, client_wrote, on, stores}
 use Rattle.rd_workers.specs.Logs.{asks_any, given_by, messages_by, messages_for}
-use Rattle.rd_served.proofs.WalkLemmas.{call_goes, served}
-use Rattle.rd_served.specs.Deeds.{AreOnChannel, EachOnChannel, PartsOnChannel, deeds_after, deeds_of, deeds_of_calls, sent_by, stored, stored_each}
-use Rattle.rd_served.specs.Histories.{AreStationed, CallGoes, HearsAs, HistoryGoes, StartsBy, handed_out, may_start}
-use Rattle.rd_served.specs.Parts.{FrontPart, PartGoes, PartsGo, begins, calls, directs, ends, forgets, handed_by, heard_in, is_start, keeps, learns, misplaces, refreshes, sends, tells_gone, tells_there, tries, unwritten, writes}
-use Rattle.rd_served.specs.Parts as part
-use Rattle.rd_served.specs.Served.{Served, idle}
+use Rattle.rd_served_causes.proofs.ServedWalkLemmas.{call_goes, served}
+use Rattle.rd_served_causes.specs.ServedDeeds.{AreOnChannel, EachOnChannel, PartsOnChannel, deeds_after, deeds_of, deeds_of_calls, sent_by, stored, stored_each}
+use Rattle.rd_served_causes.specs.ServedHistories.{AreStationed, CallGoes, HearsAs, HistoryGoes, StartsBy, handed_out, may_start}
+use Rattle.rd_served_causes.specs.ServedParts.{FrontPart, PartGoes, PartsGo, begins, calls, directs, ends, forgets, handed_by, heard_in, is_start, keeps, learns, misplaces, refreshes, sends, tells_gone, tells_there, tries, unwritten, writes}
+use Rattle.rd_served_causes.specs.ServedParts as part
+use Rattle.rd_served_causes.specs.ServedServed.{Served, idle}
 use Rattle.rd_served_sessions.proofs.CallLemmas.{given_on, none_on, on_channel}
 use Rattle.rd_workers.proofs.RunLemmas.{DoesSurely}
 use Rattle.rd_served_sessions.proofs.StillLemmas.{NextSays, begun_to, is_messages, next_says, refreshed_same, silent, tracks}

@@ -16,10 +16,10 @@ use Rattle.rd_turn.specs.History.{Leads, calls_of}
 use Rattle.rd_turn.specs.declared.object.Entry.{Entry}
 use Rattle.rd_turn.proofs.HistoryLemmas.{calls_of_none, count_of_none}
 use Rattle.rd_workers.specs.Closed.{ClosesAfter}
-use Rattle.rd_served.proofs.WorkLemmas.{hands_work}
-use Rattle.rd_served.specs.Served.{IsHandCall, IsStationed, Works}
-use Rattle.rd_served_replies.proofs.GivenLemmas.{own_before}
-use Rattle.rd_served_replies.specs.Premises.{GiveOwn, GivesOwn}
+use Rattle.rd_served_causes.proofs.ServedWorkLemmas.{hands_work}
+use Rattle.rd_served_causes.specs.ServedServed.{IsHandCall, IsStationed, Works}
+use Rattle.rd_served_causes.proofs.ServedRepliesGivenLemmas.{own_before}
+use Rattle.rd_served_causes.specs.ServedRepliesPremises.{GiveOwn, GivesOwn}
 
 abbrev Of : Type 0
 Of = SessionStation

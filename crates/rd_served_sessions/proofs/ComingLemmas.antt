@@ -3,7 +3,7 @@ use Rattle.std.proofs.Common.{◌≡◌, ◌⊎◌, ◌∙◌, refl, sym, ap, su
 use Rattle.std.specs.Prelude.{Result, Ok, Err, cond}
 use Rattle.std.specs.List.{list_any}
 use Rattle.std.specs.Option.{option_map_or}
-use Rattle.rd_acted.specs.Acted.{state_read}
+use Rattle.rd_served_causes.specs.ActedActed.{state_read}
 use Rattle.rd_base.specs.declared.journal.Item.{Item}
 use Rattle.rd_base.specs.declared.journal.Item.TheVariants.{Came, Cancelled, Cut, Ran, Sent}
 use Rattle.rd_base.specs.declared.journal.Key.{Key}
@@ -26,9 +26,9 @@ use Rattle.rd_front.specs.State.{DeviceDeskState, SessionStation}
 use Rattle.rd_hello.specs.declared.client.ClientState.{ClientState}
 use Rattle.rd_hello.specs.declared.end_fault.EndFault.{EndFault}
 use Rattle.rd_hello.specs.declared.end_fault.EndFault.TheVariants as fault
-use Rattle.rd_journals.proofs.HeldLemmas.{stored_unread, turned_has}
-use Rattle.rd_journals.proofs.WorkLemmas.{grown_more}
-use Rattle.rd_journals.specs.Jobs.{AreFine, FitsCompletion}
+use Rattle.rd_served_causes.proofs.JournalsHeldLemmas.{stored_unread, turned_has}
+use Rattle.rd_served_causes.proofs.JournalsWorkLemmas.{grown_more}
+use Rattle.rd_served_causes.specs.JournalsJobs.{AreFine, FitsCompletion}
 use Rattle.rd_station.specs.Station as station
 use Rattle.rd_station.specs.Station.{held, max_entries, max_held, entry_count, put_refusal, put_unless}
 use Rattle.rd_station.specs.declared.refusals.PutWhy.{PutWhy}
@@ -36,18 +36,18 @@ use Rattle.rd_station.specs.declared.refusals.PutWhy.TheVariants as why
 use Rattle.rd_world.specs.Talk.{Deed, EachAfter, client_read, is_removed, request_at, stores}
 use Rattle.rd_world.specs.World.{Kept}
 use Rattle.rd_world.specs.Talk.{Has}
-use Rattle.rd_served.proofs.CauseLemmas.{new_at}
-use Rattle.rd_served.proofs.ComesLemmas.{ComesBy, called_comes, end_comes_none}
-use Rattle.rd_served.proofs.KeyLemmas.{IsUnder, both_true}
-use Rattle.rd_served.proofs.StandingLemmas.{IsKnownAt, begins_known, part_known}
-use Rattle.rd_served.specs.Deeds.{deeds_after, deeds_of, deeds_of_calls, sent_by, stored, stored_each}
-use Rattle.rd_served.specs.Histories.{HistoryGoes, StartsBy, may_start, stopped_by}
-use Rattle.rd_served.specs.Parts.{AsksBy, CallsAt, Comes, EndsEach, FrontPart, IsOpenCall, PartGoes, PartsGo, asking_by, begins, directs, ends, forgets, hears, is_start, keeps, learns, misplaces, refreshes, sends, tells_gone, tells_there, tries, unwritten, writes}
-use Rattle.rd_served.specs.Parts as part
-use Rattle.rd_served.specs.Served.{Asking, Served}
-use Rattle.rd_served_order.proofs.OwnLemmas.{IsOwn, MarksAre, begins_own, part_own, stored_keeps}
-use Rattle.rd_served_order.specs.Orders.{BeginsWith}
-use Rattle.rd_served_refusals.specs.Heeding.{hindered_by, stopped_after}
+use Rattle.rd_served_causes.proofs.ServedCauseLemmas.{new_at}
+use Rattle.rd_served_causes.proofs.ServedComesLemmas.{ComesBy, called_comes, end_comes_none}
+use Rattle.rd_served_causes.proofs.ServedKeyLemmas.{IsUnder, both_true}
+use Rattle.rd_served_causes.proofs.ServedStandingLemmas.{IsKnownAt, begins_known, part_known}
+use Rattle.rd_served_causes.specs.ServedDeeds.{deeds_after, deeds_of, deeds_of_calls, sent_by, stored, stored_each}
+use Rattle.rd_served_causes.specs.ServedHistories.{HistoryGoes, StartsBy, may_start, stopped_by}
+use Rattle.rd_served_causes.specs.ServedParts.{AsksBy, CallsAt, Comes, EndsEach, FrontPart, IsOpenCall, PartGoes, PartsGo, asking_by, begins, directs, ends, forgets, hears, is_start, keeps, learns, misplaces, refreshes, sends, tells_gone, tells_there, tries, unwritten, writes}
+use Rattle.rd_served_causes.specs.ServedParts as part
+use Rattle.rd_served_causes.specs.ServedServed.{Asking, Served}
+use Rattle.rd_served_causes.proofs.ServedOrderOwnLemmas.{IsOwn, MarksAre, begins_own, part_own, stored_keeps}
+use Rattle.rd_served_causes.specs.ServedOrderOrders.{BeginsWith}
+use Rattle.rd_served_causes.specs.ServedRefusalsHeeding.{hindered_by, stopped_after}
 use Rattle.rd_served_causes.proofs.CallLemmas.{history_said}
 use Rattle.rd_served_causes.proofs.LaterLemmas.{AreUnworn, comes_next}
 use Rattle.rd_served_causes.proofs.OpenLemmas.{worked}

@@ -16,9 +16,9 @@ use Rattle.rd_drive.specs.Device.{is_parked, is_starved}
 use Rattle.rd_drive.specs.declared.plan.Job.{Job}
 use Rattle.rd_front.specs.State.{DeviceDeskState, SessionStation}
 use Rattle.rd_irp.specs.Fits.{kind_of}
-use Rattle.rd_journals.proofs.HeldLemmas.{turned_has}
-use Rattle.rd_journals.specs.Reads.{IsGiven}
-use Rattle.rd_journals.specs.Stations.{IsIdle, IsOn}
+use Rattle.rd_served_causes.proofs.JournalsHeldLemmas.{turned_has}
+use Rattle.rd_served_causes.specs.JournalsReads.{IsGiven}
+use Rattle.rd_served_causes.specs.JournalsStations.{IsIdle, IsOn}
 use Rattle.rd_station.proofs.Members.{find_has, has_append, has_left, has_map, has_right, map_has, to_contains}
 use Rattle.rd_station.specs.Memory.{NamesKey}
 use Rattle.rd_station.specs.Station as station
@@ -38,12 +38,12 @@ use Rattle.rd_world.proofs.KeysLemmas.{Comes, MayStore, step_stores}
 use Rattle.rd_world.specs.Stations.{IsReachedBy}
 use Rattle.rd_world.specs.Talk.{Has}
 use Rattle.rd_world.specs.declared.device.SessionDevice.{SessionDevice}
-use Rattle.rd_served.proofs.ComesLemmas.{ComesBy, cancel}
-use Rattle.rd_served.proofs.HeldLemmas.{HeldIn, drop_none, end_none, held_less, put_more, ready_held, work_less}
-use Rattle.rd_served.proofs.KeyLemmas.{IsKeyed, current}
-use Rattle.rd_served.proofs.StationLemmas.{Step, put_refused}
-use Rattle.rd_served.proofs.WorkLemmas.{Steps}
-use Rattle.rd_served.specs.Served.{CallsDesk, IsWork, Served}
+use Rattle.rd_served_causes.proofs.ServedComesLemmas.{ComesBy, cancel}
+use Rattle.rd_served_causes.proofs.ServedHeldLemmas.{HeldIn, drop_none, end_none, held_less, put_more, ready_held, work_less}
+use Rattle.rd_served_causes.proofs.ServedKeyLemmas.{IsKeyed, current}
+use Rattle.rd_served_causes.proofs.ServedStationLemmas.{Step, put_refused}
+use Rattle.rd_served_causes.proofs.ServedWorkLemmas.{Steps}
+use Rattle.rd_served_causes.specs.ServedServed.{CallsDesk, IsWork, Served}
 use Rattle.rd_served_sessions.specs.Drops.{uncut_keys}
 
 abbrev Of : Type 0

@@ -29,14 +29,14 @@ use Rattle.rd_world.specs.Talk.{Deed, is_removed}
 use Rattle.rd_workers.specs.Channels.{AllGoByLines, ChannelRun, GoesByThem, IsChannelRun, calls_by_all}
 use Rattle.rd_workers.specs.Lines.{IsCallFor, LinesGo, LinesStand, LinesStep, at_lines, due_now, first_due, having_acted, left_from, lines_stand, was_full}
 use Rattle.rd_workers.specs.Logs.{asks_any, reader_calls}
-use Rattle.rd_served.proofs.KeyLemmas.{both_true, did_calm, refreshed_calm, sent_calm}
-use Rattle.rd_served.proofs.StandingLemmas.{IsKnownAt, parts_known, refreshed_more}
-use Rattle.rd_served.specs.Deeds.{deeds_after, deeds_of, sent_by}
-use Rattle.rd_served.specs.Histories.{Among, CallGoes, HistoryGoes}
-use Rattle.rd_served.specs.Parts.{FrontPart, PartGoes, PartsGo, act_told, begins, begun_by, calls, directs, ends, forgets, hears, keeps, learns, misplaces, refreshes, sends, tells_gone, tells_there, tries, unwritten, writes}
-use Rattle.rd_served.specs.Served.{Served}
-use Rattle.rd_served_order.proofs.OwnLemmas.{IsOwn, MarksAre, each_keeps, part_own, stored_keeps}
-use Rattle.rd_served_order.specs.Orders.{is_gone_until, none_until, until_after, until_by, until_calls}
+use Rattle.rd_served_causes.proofs.ServedKeyLemmas.{both_true, did_calm, refreshed_calm, sent_calm}
+use Rattle.rd_served_causes.proofs.ServedStandingLemmas.{IsKnownAt, parts_known, refreshed_more}
+use Rattle.rd_served_causes.specs.ServedDeeds.{deeds_after, deeds_of, sent_by}
+use Rattle.rd_served_causes.specs.ServedHistories.{Among, CallGoes, HistoryGoes}
+use Rattle.rd_served_causes.specs.ServedParts.{FrontPart, PartGoes, PartsGo, act_told, begins, begun_by, calls, directs, ends, forgets, hears, keeps, learns, misplaces, refreshes, sends, tells_gone, tells_there, tries, unwritten, writes}
+use Rattle.rd_served_causes.specs.ServedServed.{Served}
+use Rattle.rd_served_causes.proofs.ServedOrderOwnLemmas.{IsOwn, MarksAre, each_keeps, part_own, stored_keeps}
+use Rattle.rd_served_causes.specs.ServedOrderOrders.{is_gone_until, none_until, until_after, until_by, until_calls}
 use Rattle.rd_workers.proofs.RunLemmas.{DoesSurely}
 use Rattle.rd_served_sessions.proofs.ActLemmas.{asked_undone, told_done}
 use Rattle.rd_served_sessions.proofs.ChainLemmas.{part_rises, parts_rise}

@@ -34,11 +34,11 @@ use Rattle.rd_world.specs.Devices.{PrinterNames, device_cuts, device_parked, dev
 use Rattle.rd_world.specs.Talk.{Has}
 use Rattle.rd_world.specs.declared.device.SessionDevice.{SessionDevice}
 use Rattle.rd_workers.specs.Logs.{asks_any, reader_calls}
-use Rattle.rd_served.proofs.KeyLemmas.{has_at, has_set}
-use Rattle.rd_served.specs.Histories.{HistoryGoes}
-use Rattle.rd_served.specs.Parts.{EndsEach, FrontPart, PartGoes, PartsGo, begins, calls, directs, ended_front, forgets, keeps, learns, misplaces, refreshes, sends, tells_gone, tells_there, tries, unwritten, writes}
-use Rattle.rd_served.specs.Parts as part
-use Rattle.rd_served.specs.Served.{CallsDesk, IsWork, Served, Works}
+use Rattle.rd_served_causes.proofs.ServedKeyLemmas.{has_at, has_set}
+use Rattle.rd_served_causes.specs.ServedHistories.{HistoryGoes}
+use Rattle.rd_served_causes.specs.ServedParts.{EndsEach, FrontPart, PartGoes, PartsGo, begins, calls, directs, ended_front, forgets, keeps, learns, misplaces, refreshes, sends, tells_gone, tells_there, tries, unwritten, writes}
+use Rattle.rd_served_causes.specs.ServedParts as part
+use Rattle.rd_served_causes.specs.ServedServed.{CallsDesk, IsWork, Served, Works}
 use Rattle.rd_served_sessions.proofs.StillLemmas.{ends_over}
 use Rattle.rd_served_sessions.specs.Steps.{AreSteps}
 

@@ -16,19 +16,19 @@ use Rattle.rd_front.specs.declared.calls.FrontReply.{FrontReply}
 use Rattle.rd_front.specs.declared.calls.FrontReply.TheVariants as reply
 use Rattle.rd_hello.specs.declared.end_fault.EndFault.{EndFault}
 use Rattle.rd_hello.specs.declared.end_fault.EndFault.TheVariants as fault
-use Rattle.rd_journals.proofs.HeldLemmas.{stored_unread, turned_has}
+use Rattle.rd_served_causes.proofs.JournalsHeldLemmas.{stored_unread, turned_has}
 use Rattle.rd_workers.specs.Channels.{ChannelRun, IsChannelRun, calls_by_all}
 use Rattle.rd_workers.specs.Logs.{asks_any, reader_calls}
 use Rattle.rd_world.specs.Talk.{Deed, EachAfter, Has, client_wrote, journal, stores}
-use Rattle.rd_served.proofs.CauseLemmas.{new_at, stored_elsewhere, stored_here}
-use Rattle.rd_served.proofs.ComesLemmas.{called_comes, end_comes_none}
-use Rattle.rd_served.proofs.HeldLemmas.{HeldIn}
-use Rattle.rd_served.proofs.KeyLemmas.{IsKeyed, ended_is, has_at}
-use Rattle.rd_served.proofs.StandingLemmas.{IsKnownAt, begins_known, part_known}
-use Rattle.rd_served.specs.Deeds.{AreOnChannel, EachOnChannel, PartsOnChannel, deeds_after, deeds_of, deeds_of_calls, sent_by, stored, stored_each}
-use Rattle.rd_served.specs.Histories.{BeginsNew, HistoryGoes}
-use Rattle.rd_served.specs.Parts.{EndsEach, FrontPart, PartGoes, PartsGo, begins, calls, directs, ends, forgets, handed_by, hears, keeps, learns, misplaces, refreshes, sends, tells_gone, tells_there, tries, unwritten, writes}
-use Rattle.rd_served.specs.Served.{Served}
+use Rattle.rd_served_causes.proofs.ServedCauseLemmas.{new_at, stored_elsewhere, stored_here}
+use Rattle.rd_served_causes.proofs.ServedComesLemmas.{called_comes, end_comes_none}
+use Rattle.rd_served_causes.proofs.ServedHeldLemmas.{HeldIn}
+use Rattle.rd_served_causes.proofs.ServedKeyLemmas.{IsKeyed, ended_is, has_at}
+use Rattle.rd_served_causes.proofs.ServedStandingLemmas.{IsKnownAt, begins_known, part_known}
+use Rattle.rd_served_causes.specs.ServedDeeds.{AreOnChannel, EachOnChannel, PartsOnChannel, deeds_after, deeds_of, deeds_of_calls, sent_by, stored, stored_each}
+use Rattle.rd_served_causes.specs.ServedHistories.{BeginsNew, HistoryGoes}
+use Rattle.rd_served_causes.specs.ServedParts.{EndsEach, FrontPart, PartGoes, PartsGo, begins, calls, directs, ends, forgets, handed_by, hears, keeps, learns, misplaces, refreshes, sends, tells_gone, tells_there, tries, unwritten, writes}
+use Rattle.rd_served_causes.specs.ServedServed.{Served}
 use Rattle.rd_served_causes.proofs.LaterLemmas.{comes_next}
 use Rattle.rd_served_causes.proofs.StepLemmas.{part_off}
 use Rattle.rd_served_causes.specs.Open.{AreOff}

@@ -29,14 +29,14 @@ use Rattle.rd_world.specs.Talk.{Deed, client_read}
 use Rattle.rd_world.specs.World.{Kept}
 use Rattle.rd_workers.proofs.RunLemmas.{AreMiddle, IsMiddle}
 use Rattle.rd_workers.specs.Logs.{asks_any}
-use Rattle.rd_served.proofs.CauseLemmas.{IsTold, parts_told}
-use Rattle.rd_served.proofs.KeyLemmas.{IsKeyed, both_true, parts_keyed}
-use Rattle.rd_served.specs.Deeds.{deeds_after, deeds_of_calls}
-use Rattle.rd_served.specs.Histories.{Among, CallGoes, HearBefore, HearsAs, HearsBefore, HistoryGoes, StartsBy, handed_out, may_start}
-use Rattle.rd_served.specs.Parts.{FrontPart, PartGoes, PartsGo, begins, begun_by, calls, directs, ends, forgets, heard_in, hears, keeps, learns, misplaces, refreshes, sends, tells_gone, tells_there, tries, unwritten, writes}
-use Rattle.rd_served.specs.Served.{Served}
+use Rattle.rd_served_causes.proofs.ServedCauseLemmas.{IsTold, parts_told}
+use Rattle.rd_served_causes.proofs.ServedKeyLemmas.{IsKeyed, both_true, parts_keyed}
+use Rattle.rd_served_causes.specs.ServedDeeds.{deeds_after, deeds_of_calls}
+use Rattle.rd_served_causes.specs.ServedHistories.{Among, CallGoes, HearBefore, HearsAs, HearsBefore, HistoryGoes, StartsBy, handed_out, may_start}
+use Rattle.rd_served_causes.specs.ServedParts.{FrontPart, PartGoes, PartsGo, begins, begun_by, calls, directs, ends, forgets, heard_in, hears, keeps, learns, misplaces, refreshes, sends, tells_gone, tells_there, tries, unwritten, writes}
+use Rattle.rd_served_causes.specs.ServedServed.{Served}
 use Rattle.rd_served_causes.specs.Causes.{StartUnhindered}
-use Rattle.rd_served_refusals.specs.Heeding.{CallsHearBefore, hindered_by, stopped_after}
+use Rattle.rd_served_causes.specs.ServedRefusalsHeeding.{CallsHearBefore, hindered_by, stopped_after}
 use Rattle.rd_served_sessions.proofs.CallLemmas.{GivesInside, given_in, given_on, on_channel}
 use Rattle.rd_served_sessions.proofs.ChainLemmas.{part_rises, parts_read, parts_rise, rest_unheard, rest_unread}
 use Rattle.rd_served_sessions.proofs.FollowLemmas.{Follows, SaysTo, parts_follow, says_to}

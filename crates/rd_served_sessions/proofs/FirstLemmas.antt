@@ -15,7 +15,7 @@ use Rattle.rd_client.specs.Events.{AreWritable, IsWritableDevice}
 use Rattle.rd_devices.specs.declared.list.Announce.{Announce}
 use Rattle.rd_front.specs.Front.{desk_place}
 use Rattle.rd_front.specs.State.{DeviceDeskState, FrontState, SessionStation}
-use Rattle.rd_journals.specs.Stations.{AreFit, IsFit}
+use Rattle.rd_served_causes.specs.JournalsStations.{AreFit, IsFit}
 use Rattle.rd_pool.specs.Desks.{DeskTurn}
 use Rattle.rd_world.proofs.ApplicationsLemmas.{apart_at, below_of}
 use Rattle.rd_world.specs.Devices.{Declared, PrinterNames, device_parked}
@@ -24,13 +24,13 @@ use Rattle.rd_world.specs.Printers.{AreShortNames}
 use Rattle.rd_world.specs.Run.{printers_of, station_of}
 use Rattle.rd_world.specs.declared.device.SessionDevice.{SessionDevice}
 use Rattle.rd_workers.specs.Served.{IsFrontOf}
-use Rattle.rd_served.specs.Histories.{AreApart, AreStationed, IsNewDesk, IsNewFront}
-use Rattle.rd_served.specs.Served.{Served, idle}
+use Rattle.rd_served_causes.specs.ServedHistories.{AreApart, AreStationed, IsNewDesk, IsNewFront}
+use Rattle.rd_served_causes.specs.ServedServed.{Served, idle}
 use Rattle.rd_served_causes.proofs.PlaceLemmas.{has_place}
 use Rattle.rd_served_causes.specs.Causes.{HaveDesks}
-use Rattle.rd_served_order.specs.Orders.{BeginsWith}
-use Rattle.rd_served_order.specs.Sent.{HaveRoom}
-use Rattle.rd_served_replies.specs.Premises.{AreOpened}
+use Rattle.rd_served_causes.specs.ServedOrderOrders.{BeginsWith}
+use Rattle.rd_served_causes.specs.ServedOrderSent.{HaveRoom}
+use Rattle.rd_served_causes.specs.ServedRepliesPremises.{AreOpened}
 
 -- ---- lists place by place
 

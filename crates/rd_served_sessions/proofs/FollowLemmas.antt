@@ -8,7 +8,7 @@ use Rattle.std.specs.Option.{option_and_then, option_map_or}
 use Rattle.std.specs.Ordering.{nat_cmp}
 use Rattle.std.specs.BTreeMap.{is_at}
 use Rattle.std.proofs.lemmas.Bool.{true≢false}
-use Rattle.rd_acted.specs.Acted.{state_heard, state_read}
+use Rattle.rd_served_causes.specs.ActedActed.{state_heard, state_read}
 use Rattle.rd_base.specs.declared.journal.Item.{Item}
 use Rattle.rd_client.specs.Core as client
 use Rattle.rd_client.specs.Core.{ClientCoreState, HostSays, Outgoing, client_hear, client_hear_made, client_opened, client_side, job_of, listed, plain, with_outgoing}
@@ -30,19 +30,19 @@ use Rattle.rd_hello.specs.declared.client.ClientState.{ClientState}
 use Rattle.rd_hello.specs.declared.end_fault.EndFault.{EndFault}
 use Rattle.rd_hello.specs.declared.end_fault.EndFault.TheVariants as fault
 use Rattle.rd_irp.specs.declared.request.Request.{Request}
-use Rattle.rd_journals.proofs.AskingLemmas as asking
-use Rattle.rd_journals.proofs.AskingLemmas.{HeardAs}
+use Rattle.rd_served_causes.proofs.JournalsAskingLemmas as asking
+use Rattle.rd_served_causes.proofs.JournalsAskingLemmas.{HeardAs}
 use Rattle.rd_world.specs.Devices.{PrinterNames, printer_data}
 use Rattle.rd_world.specs.Talk.{Deed, client_read, client_reads, is_request, request_in}
 use Rattle.rd_world.specs.World.{Kept}
-use Rattle.rd_served.proofs.CauseLemmas.{IsTold, part_told}
-use Rattle.rd_served.proofs.KeyLemmas.{IsKeyed, IsUnder, both_true, ended_is, none_of, part_keyed}
-use Rattle.rd_served.specs.Deeds.{deeds_after, deeds_of}
-use Rattle.rd_served.specs.Histories.{stopped_by}
-use Rattle.rd_served.specs.Parts.{AsksBy, Comes, FrontPart, IsOpenCall, PartGoes, PartsGo, asking_by, begins, calls, directs, ends, forgets, keeps, learns, misplaces, refreshes, sends, stops, tells_gone, tells_there, tries, unwritten, writes}
-use Rattle.rd_served.specs.Parts as part
-use Rattle.rd_served.specs.Served.{Asking, Served, asks, idle}
-use Rattle.rd_served_refusals.specs.Heeding.{stopped_after}
+use Rattle.rd_served_causes.proofs.ServedCauseLemmas.{IsTold, part_told}
+use Rattle.rd_served_causes.proofs.ServedKeyLemmas.{IsKeyed, IsUnder, both_true, ended_is, none_of, part_keyed}
+use Rattle.rd_served_causes.specs.ServedDeeds.{deeds_after, deeds_of}
+use Rattle.rd_served_causes.specs.ServedHistories.{stopped_by}
+use Rattle.rd_served_causes.specs.ServedParts.{AsksBy, Comes, FrontPart, IsOpenCall, PartGoes, PartsGo, asking_by, begins, calls, directs, ends, forgets, keeps, learns, misplaces, refreshes, sends, stops, tells_gone, tells_there, tries, unwritten, writes}
+use Rattle.rd_served_causes.specs.ServedParts as part
+use Rattle.rd_served_causes.specs.ServedServed.{Asking, Served, asks, idle}
+use Rattle.rd_served_causes.specs.ServedRefusalsHeeding.{stopped_after}
 use Rattle.rd_served_sessions.proofs.ChainLemmas.{part_unread}
 
 -- ---- what a client makes of a message

@@ -13,13 +13,13 @@ use Rattle.rd_front.specs.declared.calls.FrontReply.TheVariants as reply
 use Rattle.rd_station.specs.declared.answers.Completion.{Completion}
 use Rattle.rd_world.specs.Talk.{Deed}
 use Rattle.rd_workers.specs.Logs.{AllFound, RunsOutFor}
-use Rattle.rd_served.proofs.KeyLemmas.{both_true, did_calm, ended_is, has_at, refreshed_calm, sent_calm}
-use Rattle.rd_served.proofs.StandingLemmas.{IsKnownAt, came_here, part_known, parts_known}
-use Rattle.rd_served.specs.Deeds.{deeds_after, deeds_of}
-use Rattle.rd_served.specs.Histories.{Among, CallGoes, HistoryGoes}
-use Rattle.rd_served.specs.Parts.{FrontPart, PartGoes, PartsGo, begins, calls, directs, ends, forgets, is_lost, keeps, learns, misplaces, refreshes, sends, tells_gone, tells_there, tries, unwritten, writes}
-use Rattle.rd_served.specs.Parts as part
-use Rattle.rd_served.specs.Served.{Served, hands}
+use Rattle.rd_served_causes.proofs.ServedKeyLemmas.{both_true, did_calm, ended_is, has_at, refreshed_calm, sent_calm}
+use Rattle.rd_served_causes.proofs.ServedStandingLemmas.{IsKnownAt, came_here, part_known, parts_known}
+use Rattle.rd_served_causes.specs.ServedDeeds.{deeds_after, deeds_of}
+use Rattle.rd_served_causes.specs.ServedHistories.{Among, CallGoes, HistoryGoes}
+use Rattle.rd_served_causes.specs.ServedParts.{FrontPart, PartGoes, PartsGo, begins, calls, directs, ends, forgets, is_lost, keeps, learns, misplaces, refreshes, sends, tells_gone, tells_there, tries, unwritten, writes}
+use Rattle.rd_served_causes.specs.ServedParts as part
+use Rattle.rd_served_causes.specs.ServedServed.{Served, hands}
 use Rattle.rd_served_sessions.proofs.CallLemmas.{BeginsUpTo, begun_up_to}
 use Rattle.rd_served_sessions.proofs.ChainLemmas.{part_rises, parts_rise}
 use Rattle.rd_served_sessions.proofs.StillLemmas.{NextSays, is_messages, next_says, silent, tracks}

@@ -27,3 +27,7 @@ pub mod UnderLemmas
 pub mod UnsentLemmas
 pub mod UnwrittenLemmas
 pub mod UseLemmas
+pub use Rattle.rd_served_causes.proofs.JoinedTiedLemmas as JoinedTiedLemmas
+pub use Rattle.rd_served_causes.proofs.JournalsDeclaredLemmas as JournalsDeclaredLemmas
+pub use Rattle.rd_served_causes.proofs.JournalsReplyLemmas as JournalsReplyLemmas
+pub use Rattle.rd_served_causes.proofs.RepliedMatchLemmas as RepliedMatchLemmas

@@ -14,23 +14,23 @@ use Rattle.rd_front.specs.declared.calls.FrontCall.TheVariants as call
 use Rattle.rd_front.specs.declared.calls.FrontReply.{FrontReply}
 use Rattle.rd_front.specs.declared.calls.FrontReply.TheVariants as reply
 use Rattle.rd_hello.specs.declared.end_fault.EndFault.TheVariants as fault
-use Rattle.rd_journals.proofs.AskingLemmas.{HeardAs}
-use Rattle.rd_journals.proofs.AskingLemmas as asking_of
-use Rattle.rd_journals.proofs.HeldLemmas.{stored_unread}
+use Rattle.rd_served_causes.proofs.JournalsAskingLemmas.{HeardAs}
+use Rattle.rd_served_causes.proofs.JournalsAskingLemmas as asking_of
+use Rattle.rd_served_causes.proofs.JournalsHeldLemmas.{stored_unread}
 use Rattle.rd_turn.specs.History.{Leads}
 use Rattle.rd_world.specs.Talk.{Deed, client_read, client_reads, is_request}
 use Rattle.rd_workers.proofs.RunLemmas.{HearsTo, IsSure, hears_to, hindered, plainly}
 use Rattle.rd_workers.specs.Channels.{ChannelRun, IsChannelRun, calls_by_all}
 use Rattle.rd_workers.specs.Logs.{asks_any, reader_calls}
 use Rattle.rd_workers.specs.Reading.{AllPlain}
-use Rattle.rd_served.proofs.CauseLemmas.{IsTold, part_told}
-use Rattle.rd_served.proofs.KeyLemmas.{IsKeyed, did_calm, ended_is, part_keyed, refreshed_calm, sent_calm}
-use Rattle.rd_served.specs.Deeds.{deeds_after, deeds_of, stored_each}
-use Rattle.rd_served.specs.Histories.{Among, CallGoes}
-use Rattle.rd_served.specs.Parts.{FrontPart, PartGoes, PartsGo, begins, begun_by, calls, directs, ends, forgets, keeps, learns, misplaces, refreshes, sends, stops, tells_gone, tells_there, tries, unwritten, writes}
-use Rattle.rd_served.specs.Parts as part
-use Rattle.rd_served.specs.Served.{Served}
-use Rattle.rd_served_refusals.specs.Heeding.{hindered_by}
+use Rattle.rd_served_causes.proofs.ServedCauseLemmas.{IsTold, part_told}
+use Rattle.rd_served_causes.proofs.ServedKeyLemmas.{IsKeyed, did_calm, ended_is, part_keyed, refreshed_calm, sent_calm}
+use Rattle.rd_served_causes.specs.ServedDeeds.{deeds_after, deeds_of, stored_each}
+use Rattle.rd_served_causes.specs.ServedHistories.{Among, CallGoes}
+use Rattle.rd_served_causes.specs.ServedParts.{FrontPart, PartGoes, PartsGo, begins, begun_by, calls, directs, ends, forgets, keeps, learns, misplaces, refreshes, sends, stops, tells_gone, tells_there, tries, unwritten, writes}
+use Rattle.rd_served_causes.specs.ServedParts as part
+use Rattle.rd_served_causes.specs.ServedServed.{Served}
+use Rattle.rd_served_causes.specs.ServedRefusalsHeeding.{hindered_by}
 use Rattle.rd_served_sessions.proofs.CallLemmas.{asked_unhindered, plain_by}
 use Rattle.rd_served_sessions.proofs.ChainLemmas.{part_unread}
 use Rattle.rd_served_sessions.specs.Placed.{LooksAt, requests_read}

@@ -21,7 +21,7 @@ use Rattle.rd_world.specs.Opening.{bare_lines}
 use Rattle.rd_world.specs.Talk.{Deed, EachAfter, EndsWith, Has, client_read, is_request, read_by_client, stores}
 use Rattle.rd_workers.specs.Lines.{IsCallFor, LinesStand, LinesStep, NoneIsDue, at_lines, due_now, first_due, having_acted, left_from, lines_from_on, lines_stand, waits_first, was_full}
 use Rattle.rd_workers.specs.Logs.{given_by}
-use Rattle.rd_served.specs.Histories.{may_start}
+use Rattle.rd_served_causes.specs.ServedHistories.{may_start}
 use Rattle.rd_served_sessions.proofs.PlaceLemmas.{ActsFirst, AreFrom, AreLeftOf, Lines, acts_first, behind_first, ends_has, ends_self, ends_tail, ends_then, from_first, place_at, placed_end, says_line, undue_line, waits_line}
 use Rattle.rd_served_sessions.specs.Acts.{act_done}
 use Rattle.rd_served_sessions.specs.Parted.{AreInPlace, ArePartedAt, IsNotBefore, IsParted, line_place}

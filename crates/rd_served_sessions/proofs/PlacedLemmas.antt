@@ -16,15 +16,15 @@ use Rattle.rd_front.specs.declared.calls.FrontReply.TheVariants as reply
 use Rattle.rd_world.specs.Talk.{Deed, Has, client_read, client_wrote, stores}
 use Rattle.rd_workers.proofs.RunLemmas.{DoesSurely}
 use Rattle.rd_workers.specs.Logs.{given_by, messages_by}
-use Rattle.rd_served.proofs.CauseLemmas.{new_at}
-use Rattle.rd_served.proofs.StandingLemmas.{begins_known}
-use Rattle.rd_served.specs.Deeds.{EachOnChannel, PartsOnChannel, deeds_after}
-use Rattle.rd_served.specs.Histories.{CallGoes, HistoryGoes, StartsBy, may_start}
-use Rattle.rd_served.specs.Parts.{FrontPart, act_told, heard_in}
-use Rattle.rd_served.specs.Served.{Served}
-use Rattle.rd_served_order.proofs.OwnLemmas.{begins_own}
-use Rattle.rd_served_order.specs.Orders.{BeginsWith}
-use Rattle.rd_served_refusals.specs.Heeding.{hindered_by}
+use Rattle.rd_served_causes.proofs.ServedCauseLemmas.{new_at}
+use Rattle.rd_served_causes.proofs.ServedStandingLemmas.{begins_known}
+use Rattle.rd_served_causes.specs.ServedDeeds.{EachOnChannel, PartsOnChannel, deeds_after}
+use Rattle.rd_served_causes.specs.ServedHistories.{CallGoes, HistoryGoes, StartsBy, may_start}
+use Rattle.rd_served_causes.specs.ServedParts.{FrontPart, act_told, heard_in}
+use Rattle.rd_served_causes.specs.ServedServed.{Served}
+use Rattle.rd_served_causes.proofs.ServedOrderOwnLemmas.{begins_own}
+use Rattle.rd_served_causes.specs.ServedOrderOrders.{BeginsWith}
+use Rattle.rd_served_causes.specs.ServedRefusalsHeeding.{hindered_by}
 use Rattle.rd_served_causes.specs.Open.{IsDeskAt}
 use Rattle.rd_served_sessions.proofs.ActLemmas.{parts_act, told_done}
 use Rattle.rd_served_sessions.proofs.CallLemmas.{on_channel}

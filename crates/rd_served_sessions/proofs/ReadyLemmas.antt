@@ -17,14 +17,14 @@ use Rattle.rd_front.specs.declared.calls.FrontReply.{FrontReply}
 use Rattle.rd_world.specs.Talk.{Deed, Has, stores}
 use Rattle.rd_world.specs.World.{Kept}
 use Rattle.rd_workers.proofs.RunLemmas.{DoesSurely}
-use Rattle.rd_served.proofs.CauseLemmas.{found}
-use Rattle.rd_served.proofs.KeyLemmas.{IsUnder, both_true}
-use Rattle.rd_served.proofs.StandingLemmas.{IsKnownAt, part_known, refreshed_more}
-use Rattle.rd_served.specs.Deeds.{EachOnChannel, deeds_after, deeds_of}
-use Rattle.rd_served.specs.Histories.{HistoryGoes, StartsBy, may_start}
-use Rattle.rd_served.specs.Parts.{CallsAt, FitsCall, FrontPart, IsOpenCall, PartGoes, PartsGo, begins, calls, directs, ends, forgets, hears, is_start, keeps, learns, misplaces, refreshes, sends, tells_gone, tells_there, tries, unwritten, writes}
-use Rattle.rd_served.specs.Served.{Asking, Served, idle}
-use Rattle.rd_served_refusals.specs.Heeding.{hindered_by}
+use Rattle.rd_served_causes.proofs.ServedCauseLemmas.{found}
+use Rattle.rd_served_causes.proofs.ServedKeyLemmas.{IsUnder, both_true}
+use Rattle.rd_served_causes.proofs.ServedStandingLemmas.{IsKnownAt, part_known, refreshed_more}
+use Rattle.rd_served_causes.specs.ServedDeeds.{EachOnChannel, deeds_after, deeds_of}
+use Rattle.rd_served_causes.specs.ServedHistories.{HistoryGoes, StartsBy, may_start}
+use Rattle.rd_served_causes.specs.ServedParts.{CallsAt, FitsCall, FrontPart, IsOpenCall, PartGoes, PartsGo, begins, calls, directs, ends, forgets, hears, is_start, keeps, learns, misplaces, refreshes, sends, tells_gone, tells_there, tries, unwritten, writes}
+use Rattle.rd_served_causes.specs.ServedServed.{Asking, Served, idle}
+use Rattle.rd_served_causes.specs.ServedRefusalsHeeding.{hindered_by}
 use Rattle.rd_served_causes.proofs.OpenLemmas.{IsQuietCall, quiet_call, worked}
 use Rattle.rd_served_causes.specs.Open.{IsDeskAt}
 use Rattle.rd_served_sessions.proofs.DoesLemmas.{IsAsOpen, adds_open, hands_open, removes_open, unless_full, where_open}

@@ -22,16 +22,16 @@ use Rattle.rd_station.specs.Station as station
 use Rattle.rd_world.specs.Control.{Act, added, removed}
 use Rattle.rd_world.specs.Talk.{Deed, Has, stores}
 use Rattle.rd_world.specs.declared.device.SessionDevice.{SessionDevice}
-use Rattle.rd_served.proofs.KeyLemmas.{IsKeyed}
-use Rattle.rd_served.proofs.StandingLemmas.{IsKnownAt, part_known}
-use Rattle.rd_served.specs.Deeds.{deeds_after, deeds_of}
-use Rattle.rd_served.specs.Histories.{Among, AreFollowed}
-use Rattle.rd_served.specs.Parts.{CallsAt, FitsCall, FrontPart, PartGoes, PartsGo, act_told, begins, cut_by, directs, ends, forgets, hears, keeps, learns, misplaces, refreshes, sends, tells_gone, tells_there, tries, unwritten, writes}
-use Rattle.rd_served.specs.Parts as part
-use Rattle.rd_served.specs.Served.{CallsDesk, Served}
-use Rattle.rd_served_order.proofs.OwnLemmas.{IsOwn, part_own}
-use Rattle.rd_served_replies.proofs.GoneLemmas.{is_remove, none_removed}
-use Rattle.rd_served_replies.proofs.MildLemmas.{AreNoRemovals, StoresMild, called_mild, cancel, steps_mild, work_no_removals}
+use Rattle.rd_served_causes.proofs.ServedKeyLemmas.{IsKeyed}
+use Rattle.rd_served_causes.proofs.ServedStandingLemmas.{IsKnownAt, part_known}
+use Rattle.rd_served_causes.specs.ServedDeeds.{deeds_after, deeds_of}
+use Rattle.rd_served_causes.specs.ServedHistories.{Among, AreFollowed}
+use Rattle.rd_served_causes.specs.ServedParts.{CallsAt, FitsCall, FrontPart, PartGoes, PartsGo, act_told, begins, cut_by, directs, ends, forgets, hears, keeps, learns, misplaces, refreshes, sends, tells_gone, tells_there, tries, unwritten, writes}
+use Rattle.rd_served_causes.specs.ServedParts as part
+use Rattle.rd_served_causes.specs.ServedServed.{CallsDesk, Served}
+use Rattle.rd_served_causes.proofs.ServedOrderOwnLemmas.{IsOwn, part_own}
+use Rattle.rd_served_causes.proofs.ServedRepliesGoneLemmas.{is_remove, none_removed}
+use Rattle.rd_served_causes.proofs.ServedRepliesMildLemmas.{AreNoRemovals, StoresMild, called_mild, cancel, steps_mild, work_no_removals}
 use Rattle.rd_served_causes.proofs.OpenLemmas.{worked}
 use Rattle.rd_served_causes.proofs.PlaceLemmas.{ids_of, none_by, part_ids}
 use Rattle.rd_served_causes.proofs.StepLemmas.{AreApartIn, LeavesDue, part_off, part_open}

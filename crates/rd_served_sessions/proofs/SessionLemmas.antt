@@ -27,10 +27,10 @@ use Rattle.rd_front.specs.declared.calls.FrontCall.{FrontCall}
 use Rattle.rd_front.specs.declared.calls.FrontCall.TheVariants as call
 use Rattle.rd_front.specs.declared.calls.FrontReply.{FrontReply}
 use Rattle.rd_front.specs.declared.calls.FrontReply.TheVariants as reply
-use Rattle.rd_journals.proofs.ReplyLemmas.{fit_at}
-use Rattle.rd_journals.proofs.WorkLemmas.{grown_more}
-use Rattle.rd_journals.specs.Stations.{AreFit}
-use Rattle.rd_refused.proofs.AnswerLemmas.{all_answer}
+use Rattle.rd_served_causes.proofs.JournalsReplyLemmas.{fit_at}
+use Rattle.rd_served_causes.proofs.JournalsWorkLemmas.{grown_more}
+use Rattle.rd_served_causes.specs.JournalsStations.{AreFit}
+use Rattle.rd_served_causes.proofs.RefusedAnswerLemmas.{all_answer}
 use Rattle.rd_script.specs.declared.line.NumberedLine.{NumberedLine}
 use Rattle.rd_station.specs.Tied.{IsTied}
 use Rattle.rd_turn.specs.History.{Leads}
@@ -46,37 +46,37 @@ use Rattle.rd_workers.specs.Channels.{ChannelRun, HaveNumbers, IsChannelRun, Lin
 use Rattle.rd_workers.specs.Lines.{at_lines}
 use Rattle.rd_workers.specs.Logs.{AllFound, asks_any, given_by, messages_by, messages_for, messages_heard, reader_calls}
 use Rattle.rd_workers.specs.Served.{IsWritten, ServesBooks}
-use Rattle.rd_served.proofs.CauseLemmas.{AnyRequest}
-use Rattle.rd_served.proofs.ChannelLemmas.{begins_here, history_on}
-use Rattle.rd_served.proofs.KeyLemmas.{begins_at, keyed_lawful}
-use Rattle.rd_served.proofs.OrderLemmas.{history_order}
-use Rattle.rd_served.proofs.StandingLemmas.{IsKnownAt, begins_known, history_known}
-use Rattle.rd_served.proofs.WalkLemmas.{served}
-use Rattle.rd_served.specs.Deeds.{EachOnChannel, deeds_of_calls}
-use Rattle.rd_served.specs.Histories.{AreStationed, HistoryGoes, may_start}
-use Rattle.rd_served.specs.Parts.{FrontPart, PartsGo}
-use Rattle.rd_served.specs.Served.{IsStationed, Served, Works, idle}
+use Rattle.rd_served_causes.proofs.ServedCauseLemmas.{AnyRequest}
+use Rattle.rd_served_causes.proofs.ServedChannelLemmas.{begins_here, history_on}
+use Rattle.rd_served_causes.proofs.ServedKeyLemmas.{begins_at, keyed_lawful}
+use Rattle.rd_served_causes.proofs.ServedOrderLemmas.{history_order}
+use Rattle.rd_served_causes.proofs.ServedStandingLemmas.{IsKnownAt, begins_known, history_known}
+use Rattle.rd_served_causes.proofs.ServedWalkLemmas.{served}
+use Rattle.rd_served_causes.specs.ServedDeeds.{EachOnChannel, deeds_of_calls}
+use Rattle.rd_served_causes.specs.ServedHistories.{AreStationed, HistoryGoes, may_start}
+use Rattle.rd_served_causes.specs.ServedParts.{FrontPart, PartsGo}
+use Rattle.rd_served_causes.specs.ServedServed.{IsStationed, Served, Works, idle}
 use Rattle.rd_served_causes.proofs.CallLemmas.{all_said, heard_unhindered}
 use Rattle.rd_served_causes.proofs.CutLemmas.{all_cut}
 use Rattle.rd_served_causes.proofs.LeftLemmas.{all_left, bytes_in_room}
 use Rattle.rd_served_causes.proofs.PlaceLemmas.{ids_of, part_ids}
 use Rattle.rd_served_causes.specs.Causes.{StartUnhindered}
 use Rattle.rd_served_causes.specs.Left.{IsLeftOf, rest_of}
-use Rattle.rd_served_order.proofs.OrderLemmas.{begins_order, history_ordered}
-use Rattle.rd_served_order.proofs.OwnLemmas.{begins_own}
-use Rattle.rd_served_order.proofs.SentLemmas.{history_tells, room_at, tells_order}
-use Rattle.rd_served_order.specs.Orders.{AreMovesInOrder, BeginsWith, is_gone_until, none_until}
-use Rattle.rd_served_order.specs.Sent.{AreSentInOrder}
-use Rattle.rd_served_order.specs.Tellings.{TellsReady, acts_on}
-use Rattle.rd_served_refusals.proofs.HinderLemmas.{hear_before}
-use Rattle.rd_served_refusals.proofs.InLineLemmas.{begins_line_all, history_line}
-use Rattle.rd_served_refusals.proofs.PointLemmas.{in_order}
-use Rattle.rd_served_refusals.specs.Heeding.{HearInRoom}
-use Rattle.rd_served_replies.proofs.BeginLemmas.{IsOneOf, first_of, known_first}
-use Rattle.rd_served_replies.proofs.EachLemmas.{all_answered}
-use Rattle.rd_served_replies.proofs.FollowLemmas.{history_followed}
-use Rattle.rd_served_replies.proofs.LedLemmas.{led_tied}
-use Rattle.rd_served_replies.proofs.ReadLemmas.{all_fine, history_bytes}
+use Rattle.rd_served_causes.proofs.ServedOrderOrderLemmas.{begins_order, history_ordered}
+use Rattle.rd_served_causes.proofs.ServedOrderOwnLemmas.{begins_own}
+use Rattle.rd_served_causes.proofs.ServedOrderSentLemmas.{history_tells, room_at, tells_order}
+use Rattle.rd_served_causes.specs.ServedOrderOrders.{AreMovesInOrder, BeginsWith, is_gone_until, none_until}
+use Rattle.rd_served_causes.specs.ServedOrderSent.{AreSentInOrder}
+use Rattle.rd_served_causes.specs.ServedOrderTellings.{TellsReady, acts_on}
+use Rattle.rd_served_causes.proofs.ServedRefusalsHinderLemmas.{hear_before}
+use Rattle.rd_served_causes.proofs.ServedRefusalsInLineLemmas.{begins_line_all, history_line}
+use Rattle.rd_served_causes.proofs.ServedRefusalsPointLemmas.{in_order}
+use Rattle.rd_served_causes.specs.ServedRefusalsHeeding.{HearInRoom}
+use Rattle.rd_served_causes.proofs.ServedRepliesBeginLemmas.{IsOneOf, first_of, known_first}
+use Rattle.rd_served_causes.proofs.ServedRepliesEachLemmas.{all_answered}
+use Rattle.rd_served_causes.proofs.ServedRepliesFollowLemmas.{history_followed}
+use Rattle.rd_served_causes.proofs.ServedRepliesLedLemmas.{led_tied}
+use Rattle.rd_served_causes.proofs.ServedRepliesReadLemmas.{all_fine, history_bytes}
 use Rattle.rd_served_sessions.proofs.DoesLemmas.{session_does}
 use Rattle.rd_served_sessions.proofs.ActLemmas.{acts_inside, done_in_all, given_reader, history_act, history_acts, runs_act}
 use Rattle.rd_served_sessions.proofs.CallLemmas.{BeginsUpTo, GivesInside, asks_only, begun_up_to, given_in, given_of, given_on, heard_in_all, hears_inside, lift_all, lift_given, lift_starts, none_above, none_below, none_on, on_channel, own_given, runs_given, runs_start, runs_up_to, unbegun_up_to}

@@ -18,24 +18,24 @@ use Rattle.rd_front.specs.declared.calls.FrontCall.{FrontCall}
 use Rattle.rd_front.specs.declared.calls.FrontReply.{FrontReply}
 use Rattle.rd_hello.specs.declared.end_fault.EndFault.{EndFault}
 use Rattle.rd_hello.specs.declared.end_fault.EndFault.TheVariants as fault
-use Rattle.rd_journals.proofs.AskingLemmas.{HeardAs}
-use Rattle.rd_journals.proofs.AskingLemmas as asking_of
-use Rattle.rd_journals.proofs.HeldLemmas.{stored_unread, turned_has}
+use Rattle.rd_served_causes.proofs.JournalsAskingLemmas.{HeardAs}
+use Rattle.rd_served_causes.proofs.JournalsAskingLemmas as asking_of
+use Rattle.rd_served_causes.proofs.JournalsHeldLemmas.{stored_unread, turned_has}
 use Rattle.rd_station.specs.Station as station
 use Rattle.rd_station.specs.declared.refusals.PutWhy.{PutWhy}
 use Rattle.rd_station.specs.declared.refusals.PutWhy.TheVariants as why
 use Rattle.rd_turn.specs.declared.object.Entry.{Entry}
 use Rattle.rd_world.specs.Talk.{Deed, EachAfter, Has, client_read, client_reads, is_request, stores}
 use Rattle.rd_world.specs.World.{Kept}
-use Rattle.rd_served.proofs.CauseLemmas.{IsTold, parts_told, part_told}
-use Rattle.rd_served.proofs.ComesLemmas.{ComesBy, called_comes, end_comes_none}
-use Rattle.rd_served.proofs.KeyLemmas.{IsKeyed, IsUnder, both_true, none_of, part_keyed, parts_keyed, refreshed_calm}
-use Rattle.rd_served.specs.Deeds.{deeds_after, deeds_of, deeds_of_calls, sent_by, stored, stored_each}
-use Rattle.rd_served.specs.Histories.{HistoryGoes, StartsBy}
-use Rattle.rd_served.specs.Parts.{AsksAfter, AsksBy, CallsAt, Comes, EndsEach, FrontPart, IsOpenCall, PartGoes, PartsGo, asking_by, begins, directs, ended_front, ends, forgets, is_start, keeps, learns, misplaces, refreshes, sends, tells_gone, tells_there, tries, unwritten, writes}
-use Rattle.rd_served.specs.Parts as part
-use Rattle.rd_served.specs.Parts.{calls}
-use Rattle.rd_served.specs.Served.{Asking, CallsDesk, Served, idle}
+use Rattle.rd_served_causes.proofs.ServedCauseLemmas.{IsTold, parts_told, part_told}
+use Rattle.rd_served_causes.proofs.ServedComesLemmas.{ComesBy, called_comes, end_comes_none}
+use Rattle.rd_served_causes.proofs.ServedKeyLemmas.{IsKeyed, IsUnder, both_true, none_of, part_keyed, parts_keyed, refreshed_calm}
+use Rattle.rd_served_causes.specs.ServedDeeds.{deeds_after, deeds_of, deeds_of_calls, sent_by, stored, stored_each}
+use Rattle.rd_served_causes.specs.ServedHistories.{HistoryGoes, StartsBy}
+use Rattle.rd_served_causes.specs.ServedParts.{AsksAfter, AsksBy, CallsAt, Comes, EndsEach, FrontPart, IsOpenCall, PartGoes, PartsGo, asking_by, begins, directs, ended_front, ends, forgets, is_start, keeps, learns, misplaces, refreshes, sends, tells_gone, tells_there, tries, unwritten, writes}
+use Rattle.rd_served_causes.specs.ServedParts as part
+use Rattle.rd_served_causes.specs.ServedParts.{calls}
+use Rattle.rd_served_causes.specs.ServedServed.{Asking, CallsDesk, Served, idle}
 use Rattle.rd_served_sessions.proofs.ChainLemmas.{part_rises, part_unread, parts_rise}
 use Rattle.rd_served_sessions.proofs.StoredLemmas.{StoresIn, ends_lack, has_split, part_stores}
 use Rattle.rd_served_sessions.specs.Placed.{ComesLast, requests_read}

@@ -17,21 +17,21 @@ use Rattle.rd_front.specs.Front.{end_call}
 use Rattle.rd_front.specs.State.{DeviceDeskState, FrontState, SessionDeskStep, SessionStation}
 use Rattle.rd_hello.specs.declared.end_fault.EndFault.{EndFault}
 use Rattle.rd_hello.specs.declared.end_fault.EndFault.TheVariants as fault
-use Rattle.rd_journals.proofs.HeldLemmas.{turned_has}
+use Rattle.rd_served_causes.proofs.JournalsHeldLemmas.{turned_has}
 use Rattle.rd_station.proofs.Members.{has_append}
 use Rattle.rd_station.specs.Station.{StationCall, announces, applies, collects, drops, ends, puts, puts_unfit, removes, takes}
 use Rattle.rd_station.specs.declared.answers.Completion.{Completion}
 use Rattle.rd_world.specs.Talk.{Deed, Has, journal, stores}
-use Rattle.rd_served.proofs.CauseLemmas.{stored_elsewhere, stored_here}
-use Rattle.rd_served.proofs.ComesLemmas.{cancel}
-use Rattle.rd_served.proofs.HeldLemmas.{HeldIn}
-use Rattle.rd_served.proofs.KeyLemmas.{IsKeyed, ended_is, has_at, part_keyed, parts_keyed}
-use Rattle.rd_served.proofs.OrderLemmas.{AreNoCollections, IsNoCollection, steps_unsent}
-use Rattle.rd_served.specs.Deeds.{deeds_after, deeds_of, deeds_of_calls, sent_by, stored, stored_each}
-use Rattle.rd_served.specs.Histories.{Among, HistoryGoes}
-use Rattle.rd_served.specs.Parts.{AsksBy, EndsEach, FrontPart, IsOpenCall, PartGoes, PartsGo, begins, calls, directs, forgets, handed_by, hears, is_lost, keeps, learns, misplaces, refreshes, sends, tells_gone, tells_there, tries, unwritten, writes}
-use Rattle.rd_served.specs.Parts as part
-use Rattle.rd_served.specs.Served.{CallsDesk, IsWork, Served, hands, idle}
+use Rattle.rd_served_causes.proofs.ServedCauseLemmas.{stored_elsewhere, stored_here}
+use Rattle.rd_served_causes.proofs.ServedComesLemmas.{cancel}
+use Rattle.rd_served_causes.proofs.ServedHeldLemmas.{HeldIn}
+use Rattle.rd_served_causes.proofs.ServedKeyLemmas.{IsKeyed, ended_is, has_at, part_keyed, parts_keyed}
+use Rattle.rd_served_causes.proofs.ServedOrderLemmas.{AreNoCollections, IsNoCollection, steps_unsent}
+use Rattle.rd_served_causes.specs.ServedDeeds.{deeds_after, deeds_of, deeds_of_calls, sent_by, stored, stored_each}
+use Rattle.rd_served_causes.specs.ServedHistories.{Among, HistoryGoes}
+use Rattle.rd_served_causes.specs.ServedParts.{AsksBy, EndsEach, FrontPart, IsOpenCall, PartGoes, PartsGo, begins, calls, directs, forgets, handed_by, hears, is_lost, keeps, learns, misplaces, refreshes, sends, tells_gone, tells_there, tries, unwritten, writes}
+use Rattle.rd_served_causes.specs.ServedParts as part
+use Rattle.rd_served_causes.specs.ServedServed.{CallsDesk, IsWork, Served, hands, idle}
 use Rattle.rd_served_causes.proofs.LaterLemmas.{comes_next}
 use Rattle.rd_served_sessions.proofs.CutOffLemmas.{called_names, held_now}
 use Rattle.rd_served_sessions.proofs.FollowLemmas.{IsCalmPart, part_keeping}

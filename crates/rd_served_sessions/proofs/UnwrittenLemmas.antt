@@ -7,13 +7,13 @@ use Rattle.rd_front.specs.Calls.{FrontEntry}
 use Rattle.rd_front.specs.Front.{with_new_data}
 use Rattle.rd_front.specs.State.{FrontState}
 use Rattle.rd_world.specs.Talk.{Deed, client_wrote}
-use Rattle.rd_served.proofs.KeyLemmas.{IsKeyed, both_true, refreshed_calm}
-use Rattle.rd_served.proofs.StandingLemmas.{IsKnownAt, direct_under, ended_outbox, part_known, refreshed_more, sent_first, sent_none}
-use Rattle.rd_served.specs.Deeds.{AreOnChannel, EachOnChannel, PartsOnChannel, deeds_after, deeds_of, deeds_of_calls}
-use Rattle.rd_served.specs.Histories.{HistoryGoes}
-use Rattle.rd_served.specs.Parts.{FrontPart, PartGoes, PartsGo, begins, calls, directs, ends, forgets, handed_by, keeps, learns, misplaces, refreshes, sends, tells_gone, tells_there, tries, unwritten, writes}
-use Rattle.rd_served.specs.Parts as part
-use Rattle.rd_served.specs.Served.{Served}
+use Rattle.rd_served_causes.proofs.ServedKeyLemmas.{IsKeyed, both_true, refreshed_calm}
+use Rattle.rd_served_causes.proofs.ServedStandingLemmas.{IsKnownAt, direct_under, ended_outbox, part_known, refreshed_more, sent_first, sent_none}
+use Rattle.rd_served_causes.specs.ServedDeeds.{AreOnChannel, EachOnChannel, PartsOnChannel, deeds_after, deeds_of, deeds_of_calls}
+use Rattle.rd_served_causes.specs.ServedHistories.{HistoryGoes}
+use Rattle.rd_served_causes.specs.ServedParts.{FrontPart, PartGoes, PartsGo, begins, calls, directs, ends, forgets, handed_by, keeps, learns, misplaces, refreshes, sends, tells_gone, tells_there, tries, unwritten, writes}
+use Rattle.rd_served_causes.specs.ServedParts as part
+use Rattle.rd_served_causes.specs.ServedServed.{Served}
 use Rattle.rd_served_sessions.proofs.CallLemmas.{on_channel, other_number, none_on}
 use Rattle.rd_served_sessions.proofs.ChainLemmas.{part_wrote}
 use Rattle.rd_served_sessions.proofs.FoundLemmas.{IsUnbegun, none_collected, part_unbegun}

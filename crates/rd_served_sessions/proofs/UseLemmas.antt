@@ -12,8 +12,8 @@ use Rattle.rd_desk.specs.declared.calls.DeskReply.TheVariants as replied
 use Rattle.rd_drive.specs.declared.plan.Job.{Job}
 use Rattle.rd_front.specs.State.{SessionDeskStep, SessionStation}
 use Rattle.rd_irp.specs.declared.request.Request.{Request}
-use Rattle.rd_journals.proofs.HeldLemmas.{turned_has}
-use Rattle.rd_journals.specs.Jobs.{IsIdOf, IsJobOf}
+use Rattle.rd_served_causes.proofs.JournalsHeldLemmas.{turned_has}
+use Rattle.rd_served_causes.specs.JournalsJobs.{IsIdOf, IsJobOf}
 use Rattle.rd_station.proofs.Members.{to_contains}
 use Rattle.rd_station.proofs.Remembering.{came_named}
 use Rattle.rd_station.specs.Station as station
@@ -24,14 +24,14 @@ use Rattle.rd_station.specs.declared.refusals.PutWhy.TheVariants as why
 use Rattle.rd_world.specs.Talk.{Deed, Has, client_read, is_request, journal, request_at, request_in}
 use Rattle.rd_world.specs.Stations.{IsReachedBy}
 use Rattle.rd_world.specs.World.{Kept}
-use Rattle.rd_served.proofs.CauseLemmas.{AnyRequest, IsTold, job_told, part_told, some_same, tied_then, to_turned}
-use Rattle.rd_served.proofs.HeldLemmas.{HeldIn, found_in_use, held_came, held_unsent, work_less}
-use Rattle.rd_served.proofs.KeyLemmas.{IsKeyed, IsUnder, has_at, middle_named, part_keyed, worked}
-use Rattle.rd_served.proofs.StationLemmas.{put_refused}
-use Rattle.rd_served.specs.Deeds.{deeds_after, deeds_of, stored}
-use Rattle.rd_served.specs.Histories.{Among, StartsBy, stopped_by}
-use Rattle.rd_served.specs.Parts.{CallsAt, Comes, FrontPart, IsOpenCall, PartGoes, PartsGo, begins, calls, directs, duplicate_by, duplicate_of, ends, forgets, handed_by, hears, is_lost, keeps, learns, misplaces, refreshes, sends, tells_gone, tells_there, tries, unwritten, writes}
-use Rattle.rd_served.specs.Served.{Asking, Served, idle}
+use Rattle.rd_served_causes.proofs.ServedCauseLemmas.{AnyRequest, IsTold, job_told, part_told, some_same, tied_then, to_turned}
+use Rattle.rd_served_causes.proofs.ServedHeldLemmas.{HeldIn, found_in_use, held_came, held_unsent, work_less}
+use Rattle.rd_served_causes.proofs.ServedKeyLemmas.{IsKeyed, IsUnder, has_at, middle_named, part_keyed, worked}
+use Rattle.rd_served_causes.proofs.ServedStationLemmas.{put_refused}
+use Rattle.rd_served_causes.specs.ServedDeeds.{deeds_after, deeds_of, stored}
+use Rattle.rd_served_causes.specs.ServedHistories.{Among, StartsBy, stopped_by}
+use Rattle.rd_served_causes.specs.ServedParts.{CallsAt, Comes, FrontPart, IsOpenCall, PartGoes, PartsGo, begins, calls, directs, duplicate_by, duplicate_of, ends, forgets, handed_by, hears, is_lost, keeps, learns, misplaces, refreshes, sends, tells_gone, tells_there, tries, unwritten, writes}
+use Rattle.rd_served_causes.specs.ServedServed.{Asking, Served, idle}
 use Rattle.rd_served_sessions.proofs.ChainLemmas.{StartNone, part_rises, part_unread, parts_rise, rest_unread}
 use Rattle.rd_served_sessions.proofs.FollowLemmas.{Follows, IsLastRead, part_follows, reads_of}
 use Rattle.rd_served_sessions.proofs.UnsentLemmas.{none_after, parts_unsent}

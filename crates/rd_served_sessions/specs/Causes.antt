@@ -1,7 +1,7 @@
 -- Why a client finds that a message is wrong, or that a completion id is in use: what it had read on the channel, and what it had done by then.
 use Rattle.std.specs.Prelude.{◌≡◌, ℕ, true, List, ◌∷◌, ◌++◌, Some}
 use Rattle.std.specs.List.{AllByRecursion}
-use Rattle.rd_acted.specs.Acted.{state_read}
+use Rattle.rd_served_causes.specs.ActedActed.{state_read}
 use Rattle.rd_base.specs.declared.journal.Item.TheVariants.{Came, Sent}
 use Rattle.rd_base.specs.declared.journal.Key.{Key}
 use Rattle.rd_client.specs.Core.{client_side}

@@ -1,7 +1,7 @@
 -- To which devices requests come, and when.
 use Rattle.std.specs.Prelude.{◌≡◌, true, false, List}
 use Rattle.std.specs.Option.{option_map_or}
-use Rattle.rd_acted.specs.Acted.{state_read}
+use Rattle.rd_served_causes.specs.ActedActed.{state_read}
 use Rattle.rd_base.specs.declared.journal.Item.TheVariants.{Came}
 use Rattle.rd_client.specs.Order.{is_client_ready}
 use Rattle.rd_world.specs.Talk.{Deed, client_read, is_removed, stores}

@@ -7,3 +7,5 @@ pub mod Comings
 pub mod Drops
 pub mod Sessions
 pub mod Steps
+pub use Rattle.rd_served_causes.specs.JoinedJoined as JoinedJoined
+pub use Rattle.rd_served_causes.specs.JournalsReads as JournalsReads

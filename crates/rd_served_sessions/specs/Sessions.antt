@@ -11,7 +11,7 @@ use Rattle.rd_devices.specs.declared.list.Announce.{Announce}
 use Rattle.rd_drive.specs.Replies.{AreToldBy}
 use Rattle.rd_front.specs.Calls.{FrontEntry}
 use Rattle.rd_front.specs.declared.calls.FrontCall.TheVariants as call
-use Rattle.rd_runs.specs.Premises.{AreBounded}
+use Rattle.rd_served_causes.specs.RunsPremises.{AreBounded}
 use Rattle.rd_script.specs.declared.line.NumberedLine.{NumberedLine}
 use Rattle.rd_world.specs.Acts.{act_by, tellings_on}
 use Rattle.rd_world.specs.Control.{is_among}
@@ -26,12 +26,12 @@ use Rattle.rd_world.specs.Told.{AreAnswered, IsHeeded}
 use Rattle.rd_workers.specs.Channels.{AllGoByLines, ChannelRun, EndsByCalls, HaveNumbers, IsChannelRun, LinkerTold, Standing, calls_by_all}
 use Rattle.rd_workers.specs.Lines.{at_lines}
 use Rattle.rd_workers.specs.Logs.{Wrote, messages_for, reader_calls}
-use Rattle.rd_served.specs.Deeds.{deeds_of_calls}
-use Rattle.rd_served.specs.Histories.{HistoryGoes}
-use Rattle.rd_served.specs.Parts.{FrontPart}
-use Rattle.rd_served.specs.Served.{Served}
-use Rattle.rd_served_order.specs.Orders.{AreMovesInOrder, BeginsWith}
-use Rattle.rd_served_order.specs.Tellings.{TellsReady}
+use Rattle.rd_served_causes.specs.ServedDeeds.{deeds_of_calls}
+use Rattle.rd_served_causes.specs.ServedHistories.{HistoryGoes}
+use Rattle.rd_served_causes.specs.ServedParts.{FrontPart}
+use Rattle.rd_served_causes.specs.ServedServed.{Served}
+use Rattle.rd_served_causes.specs.ServedOrderOrders.{AreMovesInOrder, BeginsWith}
+use Rattle.rd_served_causes.specs.ServedOrderTellings.{TellsReady}
 use Rattle.rd_served_causes.specs.Cuts.{CutsRemoved}
 use Rattle.rd_served_causes.specs.Left.{rest_of}
 use Rattle.rd_served_sessions.specs.Acts.{RunsDo, acts_done, none_gone}

@@ -2,9 +2,9 @@
 use Rattle.std.specs.Prelude.{List, [], ◌∷◌}
 use Rattle.rd_front.specs.Calls.{FrontEntry}
 use Rattle.rd_front.specs.Front.{FrontStep}
-use Rattle.rd_served.specs.Histories.{HistoryGoes}
-use Rattle.rd_served.specs.Parts.{FrontPart}
-use Rattle.rd_served.specs.Served.{Served}
+use Rattle.rd_served_causes.specs.ServedHistories.{HistoryGoes}
+use Rattle.rd_served_causes.specs.ServedParts.{FrontPart}
+use Rattle.rd_served_causes.specs.ServedServed.{Served}
 
 -- Each call leads the front from where the parts before it left it to where its own leave it, with this reply.
 abbrev pub AreSteps : (old : Served) (entries : List FrontEntry) (parts : List (List FrontPart)) (new : Served) → HistoryGoes old entries parts new → Type 0

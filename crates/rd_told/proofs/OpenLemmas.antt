@@ -22,16 +22,16 @@ use Rattle.rd_drive.specs.declared.plan.Job.{Job}
 use Rattle.rd_hello.specs.declared.client.ClientState.{ClientState}
 use Rattle.rd_hello.specs.declared.end_fault.EndFault.{EndFault}
 use Rattle.rd_irp.specs.Fits.{kind_of}
-use Rattle.rd_journals.proofs.AskingLemmas.{HeardAs, hears}
-use Rattle.rd_journals.proofs.ChannelLemmas.{all_refreshed, begun_on}
-use Rattle.rd_journals.proofs.HeldLemmas.{stored_deeds, turned_has}
-use Rattle.rd_runs.proofs.IdleLemmas.{IsIdle}
-use Rattle.rd_runs.proofs.KeysOnLemmas.{HeldOn, found_one}
-use Rattle.rd_runs.proofs.Parts.{IsBehind, MayBe, Part, accepts, adds_one, announced_by, applies_one, begins, by_parts, client_gets, client_hears_one, client_keeps_part, client_sends_one, collects_one, cut_by, done, draws_one, ends, hands_out, host_gets, host_hears_one, host_keeps_part, host_sends_one, idle_one, queues_one, reached_behind, refreshed_by, refuses, removes_one, takes_one, tells_one, told_added, told_removed, tries_one}
-use Rattle.rd_runs.proofs.Standing.{needs_open}
-use Rattle.rd_runs.proofs.Together.{knows}
-use Rattle.rd_runs.specs.Moves.{Reached}
-use Rattle.rd_runs.specs.Premises.{RunPremises}
+use Rattle.rd_joined.proofs.JournalsAskingLemmas.{HeardAs, hears}
+use Rattle.rd_joined.proofs.JournalsChannelLemmas.{all_refreshed, begun_on}
+use Rattle.rd_joined.proofs.JournalsHeldLemmas.{stored_deeds, turned_has}
+use Rattle.rd_joined.proofs.RunsIdleLemmas.{IsIdle}
+use Rattle.rd_joined.proofs.RunsKeysOnLemmas.{HeldOn, found_one}
+use Rattle.rd_joined.proofs.RunsParts.{IsBehind, MayBe, Part, accepts, adds_one, announced_by, applies_one, begins, by_parts, client_gets, client_hears_one, client_keeps_part, client_sends_one, collects_one, cut_by, done, draws_one, ends, hands_out, host_gets, host_hears_one, host_keeps_part, host_sends_one, idle_one, queues_one, reached_behind, refreshed_by, refuses, removes_one, takes_one, tells_one, told_added, told_removed, tries_one}
+use Rattle.rd_joined.proofs.RunsStanding.{needs_open}
+use Rattle.rd_joined.proofs.RunsTogether.{knows}
+use Rattle.rd_joined.specs.RunsMoves.{Reached}
+use Rattle.rd_joined.specs.RunsPremises.{RunPremises}
 use Rattle.rd_script.specs.declared.line.NumberedLine.{NumberedLine}
 use Rattle.rd_station.specs.Station as station
 use Rattle.rd_station.specs.Station.{StationState, collect_first, is_key, put_refusal, put_unless}

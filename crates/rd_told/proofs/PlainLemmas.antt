@@ -22,16 +22,16 @@ use Rattle.rd_drive.specs.declared.plan.Job.{Job}
 use Rattle.rd_hello.specs.declared.client.ClientState.{ClientState}
 use Rattle.rd_hello.specs.declared.end_fault.EndFault.{EndFault}
 use Rattle.rd_irp.specs.declared.request.Request.{Request}
-use Rattle.rd_journals.proofs.AskingLemmas.{HeardAs, hears}
-use Rattle.rd_journals.proofs.ChannelLemmas.{all_refreshed, begun_on}
-use Rattle.rd_journals.proofs.ClientLemmas.{next_job, read_by}
-use Rattle.rd_journals.proofs.RunLemmas.{IsHandledIn, behind_orderly, hears_open, opened}
-use Rattle.rd_journals.proofs.WritingLemmas.{AddsOwn, adds_own, hear_adds, list_own, removal_own}
-use Rattle.rd_journals.specs.Orderly.{IsNext, Orderly}
-use Rattle.rd_journals.specs.Standing.{IsOut, IsStanding, IsUnserved, pending_of}
-use Rattle.rd_journals.specs.Stations.{AreFit}
-use Rattle.rd_runs.proofs.Parts.{IsBehind, MayBe, Part, accepts, adds_one, announced_by, applies_one, begins, by_parts, client_gets, client_hears_one, client_keeps_part, client_sends_one, collects_one, cut_by, done, draws_one, ends, hands_out, host_gets, host_hears_one, host_keeps_part, host_sends_one, idle_one, queues_one, reached_behind, refreshed_by, refuses, removes_one, takes_one, tells_one, told_added, told_removed, tries_one}
-use Rattle.rd_runs.specs.Moves.{Reached}
+use Rattle.rd_joined.proofs.JournalsAskingLemmas.{HeardAs, hears}
+use Rattle.rd_joined.proofs.JournalsChannelLemmas.{all_refreshed, begun_on}
+use Rattle.rd_joined.proofs.JournalsClientLemmas.{next_job, read_by}
+use Rattle.rd_joined.proofs.JournalsRunLemmas.{IsHandledIn, behind_orderly, hears_open, opened}
+use Rattle.rd_joined.proofs.JournalsWritingLemmas.{AddsOwn, adds_own, hear_adds, list_own, removal_own}
+use Rattle.rd_joined.specs.JournalsOrderly.{IsNext, Orderly}
+use Rattle.rd_joined.specs.JournalsStanding.{IsOut, IsStanding, IsUnserved, pending_of}
+use Rattle.rd_joined.specs.JournalsStations.{AreFit}
+use Rattle.rd_joined.proofs.RunsParts.{IsBehind, MayBe, Part, accepts, adds_one, announced_by, applies_one, begins, by_parts, client_gets, client_hears_one, client_keeps_part, client_sends_one, collects_one, cut_by, done, draws_one, ends, hands_out, host_gets, host_hears_one, host_keeps_part, host_sends_one, idle_one, queues_one, reached_behind, refreshed_by, refuses, removes_one, takes_one, tells_one, told_added, told_removed, tries_one}
+use Rattle.rd_joined.specs.RunsMoves.{Reached}
 use Rattle.rd_script.specs.declared.line.NumberedLine.{NumberedLine}
 use Rattle.rd_station.proofs.Members.{has_append, to_contains}
 use Rattle.rd_station.specs.Station.{StationState, collect_first, held, new_station, put_refusal, put_unless}
@@ -52,10 +52,10 @@ use Rattle.rd_world.specs.declared.device.SessionDevice.{SessionDevice}
 use Rattle.std.specs.List.{cons_option}
 use Rattle.rd_drive.specs.Ranged.{IsReplyInRange}
 use Rattle.rd_station.specs.Station.{is_key}
-use Rattle.rd_runs.specs.Premises.{RunPremises}
+use Rattle.rd_joined.specs.RunsPremises.{RunPremises}
 use Rattle.rd_world.specs.Told.{came}
-use Rattle.rd_journals.proofs.HeldLemmas.{stored_deeds}
-use Rattle.rd_journals.specs.Jobs.{AreFine, FitsCompletion}
+use Rattle.rd_joined.proofs.JournalsHeldLemmas.{stored_deeds}
+use Rattle.rd_joined.specs.JournalsJobs.{AreFine, FitsCompletion}
 use Rattle.rd_drive.specs.Outcome.{fault}
 use Rattle.std.proofs.Common.{lit<, ◌^◌}
 use Rattle.std.proofs.lemmas.List.{reverse-append}
@@ -67,20 +67,20 @@ use Rattle.std.proofs.lemmas.List.Elements.{All-contains}
 use Rattle.rd_drive.specs.Replies.{IsAnswer, KeyedReply, cancellation, replies_by}
 use Rattle.rd_irp.specs.declared.completion.Reply.{Reply}
 use Rattle.rd_irp.specs.Fits.{BodyFits, kind_of}
-use Rattle.rd_runs.proofs.Insides.{AreOwn, IsInside, IsOwn, all_dropped_inside, hears_inside, stationed}
+use Rattle.rd_joined.proofs.RunsInsides.{AreOwn, IsInside, IsOwn, all_dropped_inside, hears_inside, stationed}
 use Rattle.rd_world.specs.Devices.{device_step}
 use Rattle.rd_world.specs.Recording.{no_request}
 use Rattle.rd_world.specs.Session.{replies_read, request_read}
 use Rattle.rd_world.specs.Told.{CompletesWith}
-use Rattle.rd_journals.specs.Jobs.{AreWorking, IsCompletionOf}
+use Rattle.rd_joined.specs.JournalsJobs.{AreWorking, IsCompletionOf}
 use Rattle.rd_told.specs.Plain.{ArePlain, ArePlainOut, CompletesPlainly, IsMade}
 use Rattle.rd_irp.specs.Written.{completion_bytes}
 use Rattle.rd_world.proofs.TestedAnswers.{same_reply}
 use Rattle.rd_world.specs.Session.{IsPlain}
-use Rattle.rd_journals.proofs.CameLemmas.{fines, never_came, was_ready}
-use Rattle.rd_journals.proofs.CompletionLemmas.{completes as completes_with, lost_ranged, ready_completes, runs_good}
-use Rattle.rd_journals.proofs.ServingLemmas.{behind_standing, came_is_named}
-use Rattle.rd_journals.proofs.WorkLemmas.{Grown, behind_working, grown_deed, grown_inside, grown_more, station_tied}
+use Rattle.rd_joined.proofs.JournalsCameLemmas.{fines, never_came, was_ready}
+use Rattle.rd_joined.proofs.JournalsCompletionLemmas.{completes as completes_with, lost_ranged, ready_completes, runs_good}
+use Rattle.rd_joined.proofs.JournalsServingLemmas.{behind_standing, came_is_named}
+use Rattle.rd_joined.proofs.JournalsWorkLemmas.{Grown, behind_working, grown_deed, grown_inside, grown_more, station_tied}
 
 abbrev Of : Type 0
 Of = StationState SessionDevice

@@ -14,21 +14,21 @@ use Rattle.rd_base.specs.declared.journal.Key.{Key}
 use Rattle.rd_drive.specs.Replies.{last_state_by, state_after}
 use Rattle.rd_irp.specs.declared.completion.Reply.{Reply}
 use Rattle.rd_irp.specs.declared.request.Request.{Request}
-use Rattle.rd_journals.specs.Orderly.{Orderly}
-use Rattle.rd_journals.specs.Reads.{ComesRead}
-use Rattle.rd_journals.specs.Stations.{AreFit}
-use Rattle.rd_journals.proofs.DeclaredLemmas.{bounded_fit}
-use Rattle.rd_journals.proofs.RunLemmas.{orderly_lawful, reached_orderly}
-use Rattle.rd_journals.proofs.ShortLemmas.{came_read}
-use Rattle.rd_journals.proofs.WorkLemmas.{behind_working, station_tied}
+use Rattle.rd_joined.specs.JournalsOrderly.{Orderly}
+use Rattle.rd_joined.specs.JournalsReads.{ComesRead}
+use Rattle.rd_joined.specs.JournalsStations.{AreFit}
+use Rattle.rd_joined.proofs.JournalsDeclaredLemmas.{bounded_fit}
+use Rattle.rd_joined.proofs.JournalsRunLemmas.{orderly_lawful, reached_orderly}
+use Rattle.rd_joined.proofs.JournalsShortLemmas.{came_read}
+use Rattle.rd_joined.proofs.JournalsWorkLemmas.{behind_working, station_tied}
 use Rattle.rd_joined.proofs.JournalLemmas.{each_found}
 use Rattle.rd_joined.proofs.RoomLemmas.{carried_now}
-use Rattle.rd_runs.specs.Moves.{RunMove, Reached, draws, happens, idle, after_move, queues}
-use Rattle.rd_runs.specs.Premises.{RunPremises}
-use Rattle.rd_runs.proofs.BeginningLemmas.{Unset, begins_as}
-use Rattle.rd_runs.proofs.Parts.{reached_behind}
-use Rattle.rd_runs.proofs.Reaching.{by_moves}
-use Rattle.rd_runs.proofs.Together.{known}
+use Rattle.rd_joined.specs.RunsMoves.{RunMove, Reached, draws, happens, idle, after_move, queues}
+use Rattle.rd_joined.specs.RunsPremises.{RunPremises}
+use Rattle.rd_joined.proofs.RunsBeginningLemmas.{Unset, begins_as}
+use Rattle.rd_joined.proofs.RunsParts.{reached_behind}
+use Rattle.rd_joined.proofs.RunsReaching.{by_moves}
+use Rattle.rd_joined.proofs.RunsTogether.{known}
 use Rattle.rd_script.specs.declared.line.NumberedLine.{NumberedLine}
 use Rattle.rd_station.specs.Station.{StationState}
 use Rattle.rd_world.specs.declared.device.SessionDevice.{SessionDevice}

@@ -4,13 +4,15 @@
 #![tactic(auto)]
 
 use rd_base::{FileSink, StdSink, StdSource};
-use rd_cli::{path_of, program, words_of};
+use rd_cli::{client_path_of, host_path_of, program, words_of};
 use rd_link::NoGate;
 use rd_unix::{SystemClock, UnixLinker};
 use std::alloc::AllocError;
 use std::fs::File;
 use std::io;
+use std::net::Net;
 use std::process::ExitCode;
+use std::rt::Files;
 
 /// Where the recording goes, in the current folder.
 const RECORDING: &str = "rdr.rec";
@@ -27,16 +29,17 @@ fn main(rt: HostRuntime) -> ExitCode {
         Ok(words) => Ok(words.as_slice()),
         Err(_) => Err(AllocError),
     };
-    // Words that are no client connect nothing.
-    let path = match words {
-        Ok(words) => path_of(words).unwrap_or_default(),
-        Err(_) => "",
+    // Words that are neither a host nor a client connect nothing.
+    let (host, client) = match words {
+        Ok(words) => (host_path_of(words), client_path_of(words)),
+        Err(_) => (None, None),
     };
+    let path = host.or(client).unwrap_or_default();
     let mut input = StdSource::new(rt.reader());
     let mut output = StdSink::new(io::writer(&rt));
     let mut recording = FileSink::new(&rt, RECORDING);
     let mut notes = StdSink::new(rt.stderr());
-    let mut linker = UnixLinker::dial(&rt, path);
+    let mut linker = linker_at(&rt, host, path);
     let clock = SystemClock::new(&rt);
     let code = program(
         &rt,
@@ -55,6 +58,18 @@ fn main(rt: HostRuntime) -> ExitCode {
     say_why(&rt, RECORDING, recording.last_error());
     say_why(&rt, path, linker.last_error());
     code
+}
+
+/// The linker: it listens at the path of a host, where there is one, and dials any other.
+fn linker_at<'a, R: Files + Net>(
+    rt: &'a R,
+    host: Option<&'a str>,
+    path: &'a str,
+) -> UnixLinker<'a, R> {
+    match host {
+        Some(path) => UnixLinker::listen(rt, path),
+        None => UnixLinker::dial(rt, path),
+    }
 }
 
 /// Says on the standard error which stream failed, and the system's reason.

@@ -1,7 +1,7 @@
 use Rattle.rd_acted.proofs.CauseLemmas.{cuts_by_deeds}
 use Rattle.rd_acted.proofs.EveryCutLemmas.{behind_there}
 use Rattle.rd_acted.proofs.laws.runs_cut_devices.Goals as goal
-use Rattle.rd_runs.proofs.Parts.{reached_behind}
+use Rattle.rd_rest.proofs.RunsParts.{reached_behind}
 use Rattle.rd_world.specs.Opening.{bare_lines}
 use Rattle.rd_world.specs.Run.{declared_devices}
 

@@ -2,7 +2,7 @@ use Rattle.rd_acted.proofs.InTimeLemmas.{behind_in_time}
 use Rattle.rd_acted.proofs.ReachedLemmas.{unready_told, waiting_told_at}
 use Rattle.rd_acted.proofs.TellLemmas.{behind_tells}
 use Rattle.rd_acted.proofs.laws.runs_tell_in_time.Goals as goal
-use Rattle.rd_runs.proofs.Parts.{reached_behind}
+use Rattle.rd_rest.proofs.RunsParts.{reached_behind}
 
 pub returns-clause-told : goal.returns-clause-told
 returns-clause-told c lines starves w premises reached well = (behind_tells lines starves premises w (reached_behind lines starves w reached) well).each

@@ -1,7 +1,7 @@
 use Rattle.rd_acted.proofs.PrinterLemmas.{behind_notices}
 use Rattle.rd_acted.proofs.ReachedLemmas.{waiting_noted_at}
 use Rattle.rd_acted.proofs.laws.runs_tell_of_printers.Goals as goal
-use Rattle.rd_runs.proofs.Parts.{reached_behind}
+use Rattle.rd_rest.proofs.RunsParts.{reached_behind}
 
 pub returns-clause-told : goal.returns-clause-told
 returns-clause-told c lines starves w premises reached = (behind_notices lines starves premises w (reached_behind lines starves w reached)).each

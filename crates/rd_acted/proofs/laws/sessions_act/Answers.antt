@@ -1,7 +1,7 @@
 use Rattle.rd_acted.proofs.RunLemmas.{acted_whole, run_acted}
 use Rattle.rd_acted.proofs.laws.sessions_act.Goals as goal
-use Rattle.rd_controls.proofs.ScriptLemmas.{scripts_ordered}
-use Rattle.rd_joined.proofs.ScriptLemmas.{script_premises}
+use Rattle.rd_rest.proofs.ControlsScriptLemmas.{scripts_ordered}
+use Rattle.rd_rest.proofs.JoinedScriptLemmas.{script_premises}
 use Rattle.rd_script.specs.declared.keyword.Mode.TheVariants as mode
 use Rattle.rd_world.proofs.NumberedLemmas.{scripts_are_numbered}
 use Rattle.rd_world.specs.World.{marks_of}

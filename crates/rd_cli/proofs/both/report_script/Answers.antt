@@ -1,6 +1,6 @@
 use Rattle.std.proofs.Common.{refl}
 use Rattle.rd_cli.proofs.PlayingLemmas.{printed, stopped_playing, stopped_reading, stopped_with}
-use Rattle.rd_loads.proofs.ScriptLemmas.{scripts_meet_all}
+use Rattle.rd_headline.proofs.LoadsScriptLemmas.{scripts_meet_all}
 use Rattle.rd_cli.proofs.both.report_script.Goals as goal
 
 pub play-requires-clause-script : goal.play-requires-clause-script

@@ -1,7 +1,7 @@
 use Rattle.std.proofs.Common.{sym, subst}
 use Rattle.rd_script.specs.declared.script.Script.{Script}
-use Rattle.rd_loads.proofs.LoadLemmas.{loads_meet_all}
-use Rattle.rd_loads.specs.AllPremises.{MeetPremises}
+use Rattle.rd_headline.proofs.LoadsLoadLemmas.{loads_meet_all}
+use Rattle.rd_headline.specs.LoadsAllPremises.{MeetPremises}
 use Rattle.rd_cli.proofs.LoadingLemmas.{printed}
 use Rattle.rd_cli.proofs.load.summarize.Goals as goal
 

@@ -11,4 +11,4 @@ returns-in-Ok c =
 
 pub returns-in-Err-clause-err : goal.returns-in-Err-clause-err
 returns-in-Err-clause-err c =
-    refused _ _ _ c.in_ok-parser.ensures c.requires.no_client c.requires.no_load (λ takes. c.stop_of.ensures.memory (c.kind.ensures ∙ c.in-Err.ensures.passes takes)) c.stop_of.ensures.known
+    refused _ _ _ c.in_ok-parser.ensures c.requires.no_client c.requires.no_host c.requires.no_load (λ takes. c.stop_of.ensures.memory (c.kind.ensures ∙ c.in-Err.ensures.passes takes)) c.stop_of.ensures.known

@@ -1,6 +1,6 @@
 use Rattle.rd_ended.proofs.CutRuns.{cut_off}
-use Rattle.rd_joined.proofs.ScriptLemmas.{script_premises}
-use Rattle.rd_orders.proofs.AddressLemmas.{scripts_writable}
+use Rattle.rd_told.proofs.JoinedScriptLemmas.{script_premises}
+use Rattle.rd_opening.proofs.OrdersAddressLemmas.{scripts_writable}
 use Rattle.rd_ended.proofs.laws.cut_runs_are_cut_off.Goals as goal
 
 pub returns-clause-lines : goal.returns-clause-lines

@@ -1,6 +1,6 @@
 use Rattle.std.proofs.lemmas.List.Elements.{All-from_recursion}
-use Rattle.rd_runs.proofs.Carrying.{IsFit}
-use Rattle.rd_runs.proofs.Together.{known}
+use Rattle.rd_journals.proofs.RunsCarrying.{IsFit}
+use Rattle.rd_journals.proofs.RunsTogether.{known}
 use Rattle.rd_joined.proofs.ScriptLemmas.{script_premises}
 use Rattle.rd_joined.proofs.laws.sessions_are_recorded.Goals as goal
 

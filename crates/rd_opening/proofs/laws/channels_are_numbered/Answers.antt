@@ -1,4 +1,4 @@
-use Rattle.rd_runs.proofs.Parts.{reached_behind}
+use Rattle.rd_orders.proofs.RunsParts.{reached_behind}
 use Rattle.rd_opening.proofs.ChannelLemmas.{behind_channels}
 use Rattle.rd_opening.proofs.laws.channels_are_numbered.Goals as goal
 

@@ -1,7 +1,7 @@
 use Rattle.std.proofs.Common.{ap}
 use Rattle.rd_client.specs.Order.{is_client_ready}
 use Rattle.rd_host.specs.Order.{is_host_ready}
-use Rattle.rd_runs.proofs.Resting.{quiet}
+use Rattle.rd_orders.proofs.RunsResting.{quiet}
 use Rattle.rd_opening.proofs.QuietLemmas.{both_ready, client_settled, heard_all, host_settled}
 use Rattle.rd_opening.proofs.laws.ends_settle.Goals as goal
 

@@ -1,4 +1,4 @@
-use Rattle.rd_runs.proofs.Parts.{reached_behind}
+use Rattle.rd_orders.proofs.RunsParts.{reached_behind}
 use Rattle.rd_opening.proofs.SentLemmas.{all_sent, runs_heard, runs_sent}
 use Rattle.rd_opening.proofs.Submitted.{behind_submitted}
 use Rattle.rd_opening.proofs.laws.requests_are_sent.Goals as goal

@@ -1,4 +1,4 @@
-use Rattle.rd_runs.proofs.Parts.{reached_behind}
+use Rattle.rd_controls.proofs.RunsParts.{reached_behind}
 use Rattle.rd_orders.proofs.Marked.{behind_marked}
 use Rattle.rd_orders.proofs.laws.removals_are_marked.Goals as goal
 

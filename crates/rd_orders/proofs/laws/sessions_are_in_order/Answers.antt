@@ -1,4 +1,4 @@
-use Rattle.rd_runs.proofs.Parts.{reached_behind}
+use Rattle.rd_controls.proofs.RunsParts.{reached_behind}
 use Rattle.rd_orders.proofs.ClientOrdering.{behind_client_ordered}
 use Rattle.rd_orders.proofs.HostOrdering.{behind_host_ordered}
 use Rattle.rd_orders.proofs.laws.sessions_are_in_order.Goals as goal

@@ -1,7 +1,7 @@
 use Rattle.rd_outcomes.proofs.LinesLemmas.{lines_end}
-use Rattle.rd_runs.proofs.Reaching.{run_reached, run_rests}
-use Rattle.rd_runs.proofs.Together.{known}
-use Rattle.rd_runs.specs.Moves.{Reached}
+use Rattle.rd_controls.proofs.RunsReaching.{run_reached, run_rests}
+use Rattle.rd_controls.proofs.RunsTogether.{known}
+use Rattle.rd_controls.specs.RunsMoves.{Reached}
 use Rattle.rd_outcomes.proofs.laws.lines_come_out.Goals as goal
 
 pub returns : goal.returns

@@ -2,7 +2,7 @@ use Rattle.std.proofs.Common.{[], refl}
 use Rattle.rd_journals.proofs.AnswerLemmas.{reached_spelled}
 use Rattle.rd_journals.proofs.DeclaredLemmas.{bounded_fit}
 use Rattle.rd_journals.proofs.RunLemmas.{orderly_lawful, reached_orderly}
-use Rattle.rd_runs.proofs.Together.{known}
+use Rattle.rd_journals.proofs.RunsTogether.{known}
 use Rattle.rd_world.specs.Opening.{bare_lines}
 use Rattle.rd_world.specs.Run.{declared_devices}
 use Rattle.rd_world.proofs.Joined.{carried_now}

@@ -1,4 +1,4 @@
-use Rattle.rd_journals.proofs.DeclaredLemmas.{bounded_fit}
+use Rattle.rd_answered.proofs.JournalsDeclaredLemmas.{bounded_fit}
 use Rattle.rd_rest.proofs.OverLemmas.{reached_over}
 use Rattle.rd_rest.proofs.laws.dropped_journals_are_over.Goals as goal
 

@@ -1,8 +1,8 @@
 use Rattle.std.proofs.Common.{[], refl}
-use Rattle.rd_refused.proofs.AnswerLemmas.{all_answer}
+use Rattle.rd_served_order.proofs.RefusedAnswerLemmas.{all_answer}
 use Rattle.rd_world.specs.Session.{replies_read}
-use Rattle.rd_served.proofs.StandingLemmas.{begins_known, history_known}
-use Rattle.rd_served.specs.Deeds.{deeds_of_calls}
+use Rattle.rd_served_order.proofs.ServedStandingLemmas.{begins_known, history_known}
+use Rattle.rd_served_order.specs.ServedDeeds.{deeds_of_calls}
 use Rattle.rd_served_refusals.specs.Heeding.{left_by}
 use Rattle.rd_served_replies.proofs.EachLemmas.{all_answered, replied_then}
 use Rattle.rd_served_replies.proofs.ReadLemmas.{all_fine, history_bytes}

@@ -1,5 +1,5 @@
 use Rattle.std.proofs.Common.{[]}
-use Rattle.rd_served.specs.Deeds.{deeds_of_calls}
+use Rattle.rd_served_order.specs.ServedDeeds.{deeds_of_calls}
 use Rattle.rd_served_replies.proofs.ReadLemmas.{all_fine, history_bytes}
 use Rattle.rd_served_causes.proofs.CallLemmas.{all_said}
 use Rattle.rd_served_causes.proofs.laws.fronts_say_who_is_there.Goals as goal

@@ -1,8 +1,8 @@
 use Rattle.std.proofs.Common.{[], ◌++◌, subst}
 use Rattle.rd_desk.specs.Desk.{told_calls}
 use Rattle.rd_front.specs.State.{SessionDeskStep, SessionStation}
-use Rattle.rd_journals.specs.Jobs.{IsJobOf}
-use Rattle.rd_journals.proofs.WorkLemmas.{grown_more}
+use Rattle.rd_refused.specs.JournalsJobs.{IsJobOf}
+use Rattle.rd_refused.proofs.JournalsWorkLemmas.{grown_more}
 use Rattle.rd_turn.specs.History.{Leads}
 use Rattle.rd_served.specs.Deeds.{deeds_of_calls}
 use Rattle.rd_served.proofs.CauseLemmas.{AnyRequest}

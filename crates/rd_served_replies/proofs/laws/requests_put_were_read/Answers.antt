@@ -2,7 +2,7 @@ use Rattle.std.proofs.Common.{[], ◌++◌, ap}
 use Rattle.rd_desk.specs.Desk.{told_calls}
 use Rattle.rd_desk.proofs.StepLemmas.{led_steps}
 use Rattle.rd_front.specs.State.{SessionStation}
-use Rattle.rd_journals.specs.Jobs.{IsJobOf}
+use Rattle.rd_refused.specs.JournalsJobs.{IsJobOf}
 use Rattle.rd_world.specs.Devices.{device_cuts, device_parked, device_runs}
 use Rattle.rd_served.specs.Deeds.{deeds_of_calls}
 use Rattle.rd_served.proofs.CauseLemmas.{AnyRequest}

@@ -1,7 +1,7 @@
 use Rattle.std.proofs.Common.{◌≡◌, ◌∙◌, [], subst, sym, Some}
 use Rattle.rd_front.specs.State.{SessionDeskStep, SessionStation}
-use Rattle.rd_journals.proofs.ReplyLemmas.{fit_at}
-use Rattle.rd_journals.proofs.WorkLemmas.{grown_more}
+use Rattle.rd_refused.proofs.JournalsReplyLemmas.{fit_at}
+use Rattle.rd_refused.proofs.JournalsWorkLemmas.{grown_more}
 use Rattle.rd_station.specs.Tied.{IsTied}
 use Rattle.rd_turn.specs.History.{Leads}
 use Rattle.rd_world.specs.Devices.{Declared, device_cut, device_step}

@@ -1,4 +1,4 @@
-use Rattle.rd_journals.proofs.DeclaredLemmas.{bounded_fit}
+use Rattle.rd_served_causes.proofs.JournalsDeclaredLemmas.{bounded_fit}
 use Rattle.rd_world.proofs.OpeningLemmas.{declared_openable}
 use Rattle.rd_world.specs.Opening.{bare_lines}
 use Rattle.rd_world.specs.Run.{declared_devices}

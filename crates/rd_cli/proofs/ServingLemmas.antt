@@ -1,24 +1,29 @@
--- How the command `client` ends, from how its session did, or from why there was none.
-use Rattle.std.proofs.Common.{◌≡◌, ℕ, List, refl, subst, append-nil, inl, inr, arith}
-use Rattle.std.specs.Prelude.{◌⊎◌}
-use Rattle.rd_base.specs.History.{History}
+-- How a command ends that serves a script, from how its session did, or from why there was none.
+use Rattle.std.proofs.Common.{◌≡◌, ℕ, List, [], ◌++◌, refl, subst, append-nil, inl, inr, arith}
+use Rattle.std.specs.Prelude.{◌⊎◌, Vec, Result, Ok, Err, IfOk, IsErr}
 use Rattle.rd_carry.specs.declared.ended.Ended.{Ended}
 use Rattle.rd_carry.specs.declared.ended.Ended.TheVariants as ended
-use Rattle.rd_script.specs.declared.keyword.Mode.TheVariants as mode
-use Rattle.rd_script.specs.Report.{device_lines}
+use Rattle.rd_script.specs.declared.keyword.Mode.{Mode}
+use Rattle.rd_script.specs.declared.script.Script.{Script}
 use Rattle.rd_script.specs.Script.{BadLine}
-use Rattle.rd_cli.specs.Outside.{FailedToWrite, Linked, Stream, Wrote}
+use Rattle.rd_cli.specs.Outside.{FailedToWrite, Stream, Wrote}
 use Rattle.rd_cli.specs.Reading.{GivesBadLine, StopsForScript}
+use Rattle.rd_cli.specs.Serving.{EndsServed, FailedToReadServing, FailedToTell, IsEndOfServing, RefusesServing, SaysChannel, ServedAndPrinted, ServedAndSaid, ServedScript, StarvedServing}
 use Rattle.rd_cli.specs.Stops.{StopsWith, long_line}
 use Rattle.rd_cli.specs.declared.stop.Stop.{Stop}
 use Rattle.rd_cli.specs.declared.stop.Stop.TheVariants as stop
-use Rattle.rd_cli.specs.Client.{EndsServed, FailedToReadClient, FailedToTell, IsEndOfClient, ServedNothing, RefusesClient, SaysChannel, ServedAndPrinted, ServedAndSaid, ServedScript, StarvedServing}
 use Rattle.rd_cli.proofs.ReadingLemmas.{script_not_bad, whole_not_bad}
 
 -- ---- the end, by the status
-module _ {S K L : Type 0} (input input_after : Stream S) (output output_after : Stream K) (linked linked_after : Linked L) (books : List (ℕ × History)) (status : ℕ) where
+module _ {S K : Type 0} (m : Mode) (Session : Script → Ended → List ℕ → Type 0) (Untouched : Type 0) (input input_after : Stream S) (output output_after : Stream K) (status : ℕ) where
+  abbrev End : Type 0
+  End = IsEndOfServing m Session Untouched input input_after output output_after status
+
+  abbrev Serves : Ended → Type 0
+  Serves e = ServedScript m Session input input_after e
+
   -- want of memory ends with 6
-  pub starved_end : status ≡ 6 → StarvedServing input input_after output output_after linked linked_after books → IsEndOfClient input input_after output output_after linked linked_after books status
+  pub starved_end : status ≡ 6 → StarvedServing m Session Untouched input input_after output output_after → End
   starved_end is starved = record {
     known = omega (arith, is);
     served = λ zero. absurd (omega (arith, zero, is));
@@ -34,7 +39,7 @@ module _ {S K L : Type 0} (input input_after : Stream S) (output output_after : 
   }
 
   -- a refusal with 1, when its last line is said
-  refused_end : status ≡ 1 → RefusesClient input input_after output output_after linked linked_after books → IsEndOfClient input input_after output output_after linked linked_after books status
+  refused_end : status ≡ 1 → RefusesServing m Untouched input input_after output output_after → End
   refused_end is refused = record {
     known = omega (arith, is);
     served = λ zero. absurd (omega (arith, zero, is));
@@ -46,11 +51,11 @@ module _ {S K L : Type 0} (input input_after : Stream S) (output output_after : 
     starved = λ six. absurd (omega (arith, six, is));
     long = λ seven. absurd (omega (arith, seven, is));
     refuses = λ bad gives. inl is;
-    takes = λ script one. script_not_bad mode.Client input input_after refused.reads.0 refused.bad refused.reads.1 refused.reads.2 script;
+    takes = λ script one. script_not_bad m input input_after refused.reads.0 refused.bad refused.reads.1 refused.reads.2 script;
   }
 
   -- a failed read with 2
-  unread_end : status ≡ 2 → FailedToReadClient input input_after output output_after linked linked_after books → IsEndOfClient input input_after output output_after linked linked_after books status
+  unread_end : status ≡ 2 → FailedToReadServing Untouched input input_after output output_after → End
   unread_end is failed = record {
     known = omega (arith, is);
     served = λ zero. absurd (omega (arith, zero, is));
@@ -66,10 +71,10 @@ module _ {S K L : Type 0} (input input_after : Stream S) (output output_after : 
   }
 
   -- a script that was read has no bad line
-  never_bad : {A : Type 0} (e : Ended) → ServedScript input input_after linked linked_after books e → (bad : BadLine) → GivesBadLine mode.Client input.bytes bad → A
-  never_bad e session bad gives = absurd (whole_not_bad mode.Client input input_after session.reads.text session.script bad session.reads.read session.reads.script_is gives)
+  never_bad : {A : Type 0} (e : Ended) → Serves e → (bad : BadLine) → GivesBadLine m input.bytes bad → A
+  never_bad e session bad gives = absurd (whole_not_bad m input input_after session.reads.text session.script bad session.reads.read session.reads.script_is gives)
 
-  over_end : status ≡ 0 → ServedAndPrinted input input_after output output_after linked linked_after books ended.Over → IsEndOfClient input input_after output output_after linked linked_after books status
+  over_end : status ≡ 0 → ServedAndPrinted m Session input input_after output output_after ended.Over → End
   over_end is served = record {
     known = omega (arith, is);
     served = λ zero. served;
@@ -84,9 +89,7 @@ module _ {S K L : Type 0} (input input_after : Stream S) (output output_after : 
     takes = λ script one. absurd (omega (arith, one, is));
   }
 
-  unwritten_end : (e : Ended) → ServedScript input input_after linked linked_after books e → status ≡ 3
-      → FailedToTell input input_after output output_after linked linked_after books ended.Over ⊎ FailedToTell input input_after output output_after linked linked_after books ended.Link
-      → IsEndOfClient input input_after output output_after linked linked_after books status
+  unwritten_end : (e : Ended) → Serves e → status ≡ 3 → FailedToTell m Session input input_after output output_after ended.Over ⊎ FailedToTell m Session input input_after output output_after ended.Link → End
   unwritten_end e session is failed = record {
     known = omega (arith, is);
     served = λ zero. absurd (omega (arith, zero, is));
@@ -101,7 +104,7 @@ module _ {S K L : Type 0} (input input_after : Stream S) (output output_after : 
     takes = λ script one. absurd (omega (arith, one, is));
   }
 
-  faulty_end : status ≡ 4 → SaysChannel input input_after output output_after linked linked_after books → IsEndOfClient input input_after output output_after linked linked_after books status
+  faulty_end : status ≡ 4 → SaysChannel m Session input input_after output output_after → End
   faulty_end is says = record {
     known = omega (arith, is);
     served = λ zero. absurd (omega (arith, zero, is));
@@ -116,7 +119,7 @@ module _ {S K L : Type 0} (input input_after : Stream S) (output output_after : 
     takes = λ script one. absurd (omega (arith, one, is));
   }
 
-  unlinked_end : status ≡ 5 → ServedAndPrinted input input_after output output_after linked linked_after books ended.Link → IsEndOfClient input input_after output output_after linked linked_after books status
+  unlinked_end : status ≡ 5 → ServedAndPrinted m Session input input_after output output_after ended.Link → End
   unlinked_end is served = record {
     known = omega (arith, is);
     served = λ zero. absurd (omega (arith, zero, is));
@@ -131,7 +134,7 @@ module _ {S K L : Type 0} (input input_after : Stream S) (output output_after : 
     takes = λ script one. absurd (omega (arith, one, is));
   }
 
-  long_end : status ≡ 7 → ServedAndSaid long_line input input_after output output_after linked linked_after books ended.Long → IsEndOfClient input input_after output output_after linked linked_after books status
+  long_end : status ≡ 7 → ServedAndSaid m Session input input_after output output_after long_line ended.Long → End
   long_end is says = record {
     known = omega (arith, is);
     served = λ zero. absurd (omega (arith, zero, is));
@@ -147,19 +150,24 @@ module _ {S K L : Type 0} (input input_after : Stream S) (output output_after : 
   }
 
   -- want of memory after a session
-  after_session : (e : Ended) → ServedScript input input_after linked linked_after books e → status ≡ 6 → output_after ≡ output → IsEndOfClient input input_after output output_after linked linked_after books status
+  after_session : (e : Ended) → Serves e → status ≡ 6 → output_after ≡ output → End
   after_session e session is silent = starved_end is (record { faultless = session.reads.read.read.faultless; unprinted = silent; session = inr (e, session) })
 
+  -- a text with no last line behind it was written
+  whole : (e : Ended) (session : Serves e) → Wrote output output_after (session.text ++ []) → ServedAndPrinted m Session input input_after output output_after e
+  whole e session wrote = record { session = session; printed = subst (λ (t : List ℕ). Wrote output output_after t) (append-nil session.text) wrote }
+
+  -- or a fault ended that
+  cut : (e : Ended) (session : Serves e) → FailedToWrite output output_after (session.text ++ []) → FailedToTell m Session input input_after output output_after e
+  cut e session failed = record { session = session; failed = subst (λ (t : List ℕ). FailedToWrite output output_after t) (append-nil session.text) failed }
+
   -- How the command ends, from how its session did and what was printed.
-  pub served_end : (e : Ended) (session : ServedScript input input_after linked linked_after books e) → EndsServed (device_lines session.script.lines books) e output output_after status
-      → IsEndOfClient input input_after output output_after linked linked_after books status
-  served_end ended.Over session (inl printed) = over_end printed.0 (record { session = session; printed = subst (λ (t : List ℕ). Wrote output output_after t) (append-nil (device_lines session.script.lines books)) printed.1 })
-  served_end ended.Over session (inr (inl failed)) =
-      unwritten_end ended.Over session failed.0 (inl (record { session = session; failed = subst (λ (t : List ℕ). FailedToWrite output output_after t) (append-nil (device_lines session.script.lines books)) failed.1 }))
+  served_end : (e : Ended) (session : Serves e) → EndsServed session.text e output output_after status → End
+  served_end ended.Over session (inl printed) = over_end printed.0 (whole ended.Over session printed.1)
+  served_end ended.Over session (inr (inl failed)) = unwritten_end ended.Over session failed.0 (inl (cut ended.Over session failed.1))
   served_end ended.Over session (inr (inr starved)) = after_session ended.Over session starved.0 starved.1
-  served_end ended.Link session (inl printed) = unlinked_end printed.0 (record { session = session; printed = subst (λ (t : List ℕ). Wrote output output_after t) (append-nil (device_lines session.script.lines books)) printed.1 })
-  served_end ended.Link session (inr (inl failed)) =
-      unwritten_end ended.Link session failed.0 (inr (record { session = session; failed = subst (λ (t : List ℕ). FailedToWrite output output_after t) (append-nil (device_lines session.script.lines books)) failed.1 }))
+  served_end ended.Link session (inl printed) = unlinked_end printed.0 (whole ended.Link session printed.1)
+  served_end ended.Link session (inr (inl failed)) = unwritten_end ended.Link session failed.0 (inr (cut ended.Link session failed.1))
   served_end ended.Link session (inr (inr starved)) = after_session ended.Link session starved.0 starved.1
   served_end (ended.Channel channel at message why) session (inl printed) =
       faulty_end printed.0 (record { channel = channel; at = at; message = message; why = why; said = record { session = session; says = inl printed.1 } })
@@ -171,9 +179,14 @@ module _ {S K L : Type 0} (input input_after : Stream S) (output output_after : 
   served_end ended.Long session (inr (inr starved)) = after_session ended.Long session starved.0 starved.1
   served_end ended.Memory session starved = after_session ended.Memory session starved.0 starved.1
 
+  -- The same, from what came of the text that tells of the session.
+  pub told_end : {A E : Type 0} (e : Ended) (session : Serves e) (text : Result (Vec ℕ A) E) → IfOk text (λ t. t.items ≡ session.text)
+      → IfOk text (λ t. EndsServed t.items e output output_after status) → (IsErr text → (status ≡ 6) × (output_after ≡ output)) → End
+  told_end e session (Ok t) is ends starved = served_end e session (subst (λ (l : List ℕ). EndsServed l e output output_after status) is ends)
+  told_end e session (Err cause) is ends starved = after_session e session (starved refl).0 (starved refl).1
+
   -- How the command ends where there was no session, from why its script wasn't read and what was said of that.
-  pub stopped_end : (s : Stop) → StopsForScript mode.Client input input_after s → ServedNothing linked linked_after books → StopsWith s output output_after status
-      → IsEndOfClient input input_after output output_after linked linked_after books status
+  pub stopped_end : (s : Stop) → StopsForScript m input input_after s → Untouched → StopsWith s output output_after status → End
   stopped_end (stop.Line line cause) reads unserved (inl said) =
       refused_end said.0 (record { bad = record { line = line; why = cause }; reads = reads; says = inl (refl, said.1); unserved = unserved })
   stopped_end (stop.Line line cause) reads unserved (inr starved) =

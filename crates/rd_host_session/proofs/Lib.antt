@@ -1,0 +1,2 @@
+pub mod HostedLemmas
+pub mod ServingLemmas
