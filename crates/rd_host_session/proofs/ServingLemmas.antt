@@ -16,7 +16,7 @@ use Rattle.rd_host_player.specs.declared.player.Stop.{Stop}
 use Rattle.rd_host_player.specs.declared.player.Stop.TheVariants as stop
 use Rattle.rd_link.specs.Links.{Lends, Links, TakesBack}
 use Rattle.rd_turn.specs.Pass.{after_split, new_pass}
-use Rattle.rd_host_session.specs.Channels.{EndsAt, GivesNone, LinkedTold, Served, ServesAll, ServesBegun, ServesChannel, ServesNext, SessionState, ended_by, linked_told, next_of, stands}
+use Rattle.rd_host_session.specs.Channels.{EndsAt, GivesNone, LinkedTold, Served, ServesAll, ServesBegun, ServesChannel, ServesNext, SessionState, end_by_channel, linked_told, next_of, stands}
 use Rattle.rd_host_session.specs.declared.channels.Next.{Next}
 use Rattle.rd_host_session.specs.declared.channels.Next.TheVariants as next
 
@@ -93,7 +93,7 @@ module _ {F W : Type 0} (turn : TurnOfTable) (devices : ℕ) where
 
   -- A channel was served where the script stopped so, and this is what its end makes of the session.
   pub served_next : (channel : ℕ) (why : Stop) (by : Ending) (starved : Bool) (e : Option Ended) (old new : SessionState F W)
-      → ended_by channel by starved ≡ e → ServesChannel turn devices channel why by starved old new → ServesNext turn devices channel (next_of e why) old new
+      → end_by_channel channel by starved ≡ e → ServesChannel turn devices channel why by starved old new → ServesNext turn devices channel (next_of e why) old new
   served_next channel why by starved (Some e) old new is serves = (why, by, starved, serves, is)
   served_next channel stop.Connect by starved None old new is serves = (by, starved, serves, is)
   served_next channel stop.End by starved None old new is serves = (by, starved, serves, is)

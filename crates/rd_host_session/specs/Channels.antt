@@ -42,12 +42,12 @@ GivesNone old new = (new.links ≡ old.links) × (new.failures ≡ one_more old.
 -- ---- a channel
 
 -- what ends the session, where a channel's end does
-abbrev pub ended_by : ℕ → Ending → Bool → Option Ended
-ended_by channel by true = Some ended.Memory
-ended_by channel (ending.Fault at message why) false = Some (ended.Channel channel at message why)
-ended_by channel ending.Long false = Some ended.Long
-ended_by channel ending.Memory false = Some ended.Memory
-ended_by channel by false = None
+abbrev pub end_by_channel : ℕ → Ending → Bool → Option Ended
+end_by_channel channel by true = Some ended.Memory
+end_by_channel channel (ending.Fault at message why) false = Some (ended.Channel channel at message why)
+end_by_channel channel ending.Long false = Some ended.Long
+end_by_channel channel ending.Memory false = Some ended.Memory
+end_by_channel channel by false = None
 
 -- and what becomes of the session, where the script stops there
 abbrev pub next_of : Option Ended → Stop → Next
@@ -93,9 +93,9 @@ module _ {F W : Type 0} (turn : TurnOfTable) (devices : ℕ) where
   -- What becomes of the next channel: none could be had; or it was served, and the session goes on, or is at its end, or that of the channel ends it.
   abbrev pub ServesNext : ℕ → Next → SessionState F W → SessionState F W → Type 0
   ServesNext channel next.None old new = (new.play ≡ old.play) × GivesNone old.linker new.linker
-  ServesNext channel next.Goes old new = (by : Ending) × (starved : Bool) × ServesChannel channel stop.Connect by starved old new × (ended_by channel by starved ≡ None)
-  ServesNext channel next.Last old new = (by : Ending) × (starved : Bool) × ServesChannel channel stop.End by starved old new × (ended_by channel by starved ≡ None)
-  ServesNext channel (next.Ends e) old new = (why : Stop) × (by : Ending) × (starved : Bool) × ServesChannel channel why by starved old new × (ended_by channel by starved ≡ Some e)
+  ServesNext channel next.Goes old new = (by : Ending) × (starved : Bool) × ServesChannel channel stop.Connect by starved old new × (end_by_channel channel by starved ≡ None)
+  ServesNext channel next.Last old new = (by : Ending) × (starved : Bool) × ServesChannel channel stop.End by starved old new × (end_by_channel channel by starved ≡ None)
+  ServesNext channel (next.Ends e) old new = (why : Stop) × (by : Ending) × (starved : Bool) × ServesChannel channel why by starved old new × (end_by_channel channel by starved ≡ Some e)
 
   -- ---- channels
 
@@ -103,15 +103,15 @@ module _ {F W : Type 0} (turn : TurnOfTable) (devices : ℕ) where
   abbrev pub Served : ℕ → SessionState F W → SessionState F W → Type 0
   Served zero old new = new ≡ old
   Served (suc n) old new =
-      (here : SessionState F W) × (by : Ending) × (starved : Bool) × Served n old here × ServesChannel (suc n) stop.Connect by starved here new × (ended_by (suc n) by starved ≡ None)
+      (here : SessionState F W) × (by : Ending) × (starved : Bool) × Served n old here × ServesChannel (suc n) stop.Connect by starved here new × (end_by_channel (suc n) by starved ≡ None)
 
   -- What follows on those: the next one can't be had; or it is the last one, since the script is at its end, or its own end ends the session. What is left of the script is issued.
   abbrev pub EndsAt : ℕ → Option Ended → SessionState F W → SessionState F W → Type 0
   EndsAt channel None old new =
       ((linker : LinkedTold) × GivesNone old.linker linker × (new.linker ≡ linker) × PlaysOut old.play new.play)
-      ⊎ ((by : Ending) × (starved : Bool) × ServesChannel channel stop.End by starved old new × (ended_by channel by starved ≡ None))
+      ⊎ ((by : Ending) × (starved : Bool) × ServesChannel channel stop.End by starved old new × (end_by_channel channel by starved ≡ None))
   EndsAt channel (Some e) old new =
-      (why : Stop) × (by : Ending) × (starved : Bool) × (here : SessionState F W) × ServesChannel channel why by starved old here × (ended_by channel by starved ≡ Some e)
+      (why : Stop) × (by : Ending) × (starved : Bool) × (here : SessionState F W) × ServesChannel channel why by starved old here × (end_by_channel channel by starved ≡ Some e)
       × (new.linker ≡ here.linker) × PlaysOut here.play new.play
 
   -- The channels of a session, and what ended it but for the script's end and the linker.

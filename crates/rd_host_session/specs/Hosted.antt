@@ -29,10 +29,10 @@ abbrev pub issuers_of : List NumberedLine → List Issuer
 issuers_of lines = map issuer_by (applications_of (map (λ (l : NumberedLine). l.line) lines))
 
 -- how a session ends: as a channel's end has it, or else with the script's end, unless a count of the linker changed
-abbrev pub end_of : Option Ended → Bool → Ended
-end_of (Some e) changed = e
-end_of None true = ended.Link
-end_of None false = ended.Over
+abbrev pub hosted_end : Option Ended → Bool → Ended
+hosted_end (Some e) changed = e
+hosted_end None true = ended.Link
+hosted_end None false = ended.Over
 
 -- a front over a pass of the table that was split from pass 0, before its first channel
 abbrev pub front_over : TurnOfTable → PassOfTable → HostFrontState
@@ -67,4 +67,4 @@ pub record Hosts (lines : List NumberedLine) (other : Option Ended) (told : List
 -- How a session ends, by what ended it, but for the script's end and the linker. Where memory ran out nothing is said.
 abbrev pub HasHosted : List NumberedLine → Ended → List ((ℕ × ℕ) × Outcome) → (old new : LinkedTold) → Type 0
 HasHosted lines ended.Memory told old new = Unit {0}
-HasHosted lines by told old new = (other : Option Ended) × (changed : Bool) × (by ≡ end_of other changed) × Hosts lines other told old new
+HasHosted lines by told old new = (other : Option Ended) × (changed : Bool) × (by ≡ hosted_end other changed) × Hosts lines other told old new

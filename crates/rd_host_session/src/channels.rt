@@ -6,7 +6,7 @@ ghost use Rattle.rd_host_channel.specs.Calls.{ComesBack};
 ghost use Rattle.rd_host_channel.specs.Reading.{Listens};
 ghost use Rattle.rd_host_channel.specs.Sending.{Sends};
 ghost use Rattle.rd_turn.specs.Pass.{Belongs, max_made};
-ghost use Rattle.rd_host_session.specs.Channels.{ServesAll, ServesBegun, ServesNext, ended_by, linked_told, next_of, stands};
+ghost use Rattle.rd_host_session.specs.Channels.{ServesAll, ServesBegun, ServesNext, end_by_channel, linked_told, next_of, stands};
 ghost use Rattle.rd_host_player.specs.Play.{Begins, Plays, PlaysOut};
 
 use rd_base::Source;
@@ -126,7 +126,10 @@ fn serve_next<
     let (input, _buffer) = incoming.into_parts();
     let (output, _frames) = outgoing.into_parts();
     linker.settle(input, output);
-    Ok((next_of(ended_by(channel, ending, starved), stop?), player))
+    Ok((
+        next_of(end_by_channel(channel, ending, starved), stop?),
+        player,
+    ))
 }
 
 /// A channel begins, if it can and its threads can have passes of the front.
@@ -378,8 +381,8 @@ fn next_of(ended: Option<Ended>, stop: Stop) -> Next
 }
 
 /// What ends the session, where a channel's end does.
-fn ended_by(channel: u32, ending: Ending, starved: bool) -> Option<Ended>
-    ensures { result ≡ ended_by channel ending starved }
+fn end_by_channel(channel: u32, ending: Ending, starved: bool) -> Option<Ended>
+    ensures { result ≡ end_by_channel channel ending starved }
 {
     if starved {
         return Some(Ended::Memory);

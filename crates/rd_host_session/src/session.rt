@@ -6,7 +6,7 @@ ghost use Rattle.rd_script.specs.Report.{AreCountable};
 ghost use Rattle.rd_turn.specs.Pass.{first_pass};
 ghost use Rattle.rd_world.specs.Applications.{AreNumbered};
 ghost use Rattle.rd_host_session.specs.Channels.{TellsCounts, linked_told};
-ghost use Rattle.rd_host_session.specs.Hosted.{HasHosted, Hosts, PlaysOver, end_of, issuers_of};
+ghost use Rattle.rd_host_session.specs.Hosted.{HasHosted, Hosts, PlaysOver, hosted_end, issuers_of};
 
 use crate::channels::serve_all;
 use rd_carry::Ended;
@@ -48,15 +48,15 @@ pub fn serve_host<R: Threads + Wait + Sync, L: Linker>(
     match serve(rt, alloc, script.lines.as_slice(), linker) {
         Ok((other, told)) => {
             let rose = linker.count_failures() != failures || linker.count_trouble() != trouble;
-            (end_of(other, rose), told)
+            (hosted_end(other, rose), told)
         }
         Err(_) => (Ended::Memory, BTreeMap::new(alloc)),
     }
 }
 
 /// How a session ended: as a channel's end has it, or else with the script's end, unless a count of the linker rose.
-fn end_of(other: Option<Ended>, rose: bool) -> Ended
-    ensures { result ≡ end_of other rose }
+fn hosted_end(other: Option<Ended>, rose: bool) -> Ended
+    ensures { result ≡ hosted_end other rose }
 {
     match other {
         Some(ended) => ended,

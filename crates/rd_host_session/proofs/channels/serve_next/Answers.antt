@@ -22,4 +22,4 @@ returns g c =
     _ _ _ _ (c.if-not-begins.ensures.began search) c.new-incoming.ensures.value c.in-Ok.ensures.faultless.0 c.new-outgoing.ensures.value serves c.in-Ok.ensures.lends c.settle-2.ensures.settles
     c.into_parts-input.ensures.left c.into_parts-output.ensures.held c.into_parts-input.ensures.faults c.into_parts-output.ensures.faults c.in-Ok.ensures.failures c.settle-2.ensures.failures in
     subst (λ (x : Next). ServesNext turn c.args.devices c.args.channel x old new) (sym c.next_of.ensures)
-    (served_next turn c.args.devices c.args.channel why ending starved c.ended_by.result old new (sym c.ended_by.ensures) channel)
+    (served_next turn c.args.devices c.args.channel why ending starved c.end_by_channel.result old new (sym c.end_by_channel.ensures) channel)
