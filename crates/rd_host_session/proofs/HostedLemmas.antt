@@ -10,7 +10,7 @@ use Rattle.rd_host_player.specs.Play.{PlayState, play_state}
 use Rattle.rd_issuer.specs.declared.issuer.Issuer.{Issuer}
 use Rattle.rd_script.specs.declared.line.NumberedLine.{NumberedLine}
 use Rattle.rd_turn.specs.History.{Leads}
-use Rattle.rd_turn.specs.Pass.{HasAllCalls, TurnId, after_split, first_pass}
+use Rattle.rd_turn.specs.Pass.{HasAllCalls, IsNumbered, TurnId, after_split, first_pass}
 use Rattle.rd_host_session.specs.Channels.{LinkedTold, ServesAll, SessionState, stands}
 use Rattle.rd_host_session.specs.Hosted.{PlaysOver, front_over, issuers_of}
 
@@ -29,10 +29,10 @@ pub plays_over : {W : Type 0} (turn : TurnOfTable) (lines : List NumberedLine) (
     → at.opening ≡ front_over turn first → devices ≡ awaited_devices lines
     → begun ≡ play_state HostFrontState W lines (issuers_of lines) (after_split first) at (first_pass at)
     → ServesAll turn devices other (stands begun old) (stands over new)
-    → back ≡ over.issuers → caller ≡ over.front → Leads HostFrontStep at.opening caller.seen closed → HasAllCalls caller
+    → back ≡ over.issuers → caller ≡ over.front → Leads HostFrontStep at.opening caller.seen closed → HasAllCalls caller → IsNumbered caller
     → home ≡ over.first → own ≡ (closed.table).pass → JoinsPass home own last
     → PlaysOver W turn lines other back first last old new
-plays_over {W} turn lines devices other back first last home own old new at begun over closed caller opening is_devices is_begun serves is_back is_caller leads all is_home is_own joins =
+plays_over {W} turn lines devices other back first last home own old new at begun over closed caller opening is_devices is_begun serves is_back is_caller leads all numbers is_home is_own joins =
     let by_devices = subst (λ (n : ℕ). ServesAll turn n other (stands begun old) (stands over new)) is_devices serves in
     record {
       at = at;
@@ -44,5 +44,6 @@ plays_over {W} turn lines devices other back first last home own old new at begu
       closed = closed;
       leads = subst (λ (p : HostPass HostFrontState W). Leads HostFrontStep at.opening p.seen closed) is_caller leads;
       all = subst (λ (p : HostPass HostFrontState W). HasAllCalls p) is_caller all;
+      numbers = subst (λ (p : HostPass HostFrontState W). IsNumbered p) is_caller numbers;
       home = subst (λ (p : PassOfTable). JoinsPass over.first p last) is_own (subst (λ (p : PassOfTable). JoinsPass p own last) is_home joins);
     }

@@ -1,5 +1,5 @@
 -- What becomes of a session where a channel was served, and how channels follow one another.
-use Rattle.std.proofs.Common.{◌≡◌, ◌∙◌, ◌+◌, ℕ, zero, suc, arith, ap, sym, subst, Bool, List, Option, Some, None, Result, Ok, Err, refl, inl, inr}
+use Rattle.std.proofs.Common.{◌≡◌, ◌∙◌, ◌+◌, ℕ, zero, suc, arith, ap, sym, subst, Bool, List, [], Option, Some, None, Result, Ok, Err, refl, inl, inr}
 use Rattle.std.specs.Prelude.{IfOk}
 use Rattle.rd_carry.specs.Incoming.{IncomingState, new_incoming}
 use Rattle.rd_carry.specs.Outgoing.{OutgoingState, new_outgoing}
@@ -15,6 +15,7 @@ use Rattle.rd_host_player.specs.Play.{Begins, JoinsFront, PlayState, Plays, Play
 use Rattle.rd_host_player.specs.declared.player.Stop.{Stop}
 use Rattle.rd_host_player.specs.declared.player.Stop.TheVariants as stop
 use Rattle.rd_link.specs.Links.{Lends, Links, TakesBack}
+use Rattle.rd_turn.specs.History.{calls_of}
 use Rattle.rd_turn.specs.Pass.{after_split, new_pass}
 use Rattle.rd_host_session.specs.Channels.{EndsAt, GivesNone, LinkedTold, Served, ServesAll, ServesBegun, ServesChannel, ServesNext, SessionState, end_by_channel, linked_told, next_of, stands}
 use Rattle.rd_host_session.specs.declared.channels.Next.{Next}
@@ -42,22 +43,25 @@ module _ {F W : Type 0} (turn : TurnOfTable) (devices : ℕ) where
   pub serves_begun : (channel : ℕ) (why : Stop) (by : Ending) (starved : Bool) (from incoming : IncomingState) (to outgoing : OutgoingState) (begun one two over between new : PlayState F W)
       (for_reader for_writer reader writer home_reader home_writer : HostPass F W)
       → one ≡ record begun { front = after_split begun.front } → two ≡ record one { front = after_split one.front }
-      → for_reader ≡ new_pass begun.front → for_writer ≡ new_pass one.front
+      → for_reader ≡ new_pass begun.front → for_writer ≡ new_pass one.front → calls_of for_reader.number for_reader.seen ≡ [] → calls_of for_writer.number for_writer.seen ≡ []
       → Plays turn devices why two over → Listens channel by for_reader reader from incoming → Sends channel starved for_writer writer to outgoing
       → home_reader ≡ reader → home_writer ≡ writer
       → between ≡ record over { front = between.front } → JoinsFront over.front home_reader between.front
       → new ≡ record between { front = new.front } → JoinsFront between.front home_writer new.front
       → ServesBegun turn devices channel why by starved from to begun incoming outgoing new
-  serves_begun channel why by starved from incoming to outgoing begun one two over between new for_reader for_writer reader writer home_reader home_writer first second is_reader is_writer plays listens sends
+  serves_begun channel why by starved from incoming to outgoing begun one two over between new for_reader for_writer reader writer home_reader home_writer first second is_reader is_writer reader_new writer_new plays listens sends
       came_reader came_writer kept joined kept_again joined_again =
       let split = second ∙ ap (λ (s : PlayState F W). record s { front = after_split s.front }) first in
+      let is_second = is_writer ∙ ap (λ (s : PlayState F W). new_pass s.front) first in
       record {
+        reader_new = subst (λ (p : HostPass F W). calls_of p.number p.seen ≡ []) is_reader reader_new;
+        writer_new = subst (λ (p : HostPass F W). calls_of p.number p.seen ≡ []) is_second writer_new;
         over = over;
         plays = subst (λ (s : PlayState F W). Plays turn devices why s over) split plays;
         reader = reader;
         listens = subst (λ (p : HostPass F W). Listens channel by p reader from incoming) is_reader listens;
         writer = writer;
-        sends = subst (λ (p : HostPass F W). Sends channel starved p writer to outgoing) (is_writer ∙ ap (λ (s : PlayState F W). new_pass s.front) first) sends;
+        sends = subst (λ (p : HostPass F W). Sends channel starved p writer to outgoing) is_second sends;
         between = between.front;
         reader_home = subst (λ (p : HostPass F W). JoinsFront over.front p between.front) came_reader joined;
         writer_home = subst (λ (p : HostPass F W). JoinsFront between.front p new.front) came_writer joined_again;

@@ -1,5 +1,5 @@
 -- What a host does on its channels, one after the other: what the thread that reads each hears, what the one that writes it hands on, and how the script is played meanwhile; and what the linker is told.
-use Rattle.std.specs.Prelude.{◌≡◌, ◌≢◌, ◌⊎◌, ℕ, zero, suc, Bool, true, false, List, Option, Some, None}
+use Rattle.std.specs.Prelude.{◌≡◌, ◌≢◌, ◌⊎◌, ℕ, zero, suc, Bool, true, false, List, [], Option, Some, None}
 use Rattle.rd_base.specs.Faults.{one_more}
 use Rattle.rd_carry.specs.Incoming.{IncomingState, new_incoming}
 use Rattle.rd_carry.specs.Outgoing.{OutgoingState, new_outgoing}
@@ -13,6 +13,7 @@ use Rattle.rd_host_channel.specs.declared.ending.Ending.TheVariants as ending
 use Rattle.rd_host_front.specs.declared.calls.Came.TheVariants as came
 use Rattle.rd_host_front.specs.State.{TurnOfTable}
 use Rattle.rd_link.specs.Links.{Lends, Links, TakesBack}
+use Rattle.rd_turn.specs.History.{calls_of}
 use Rattle.rd_turn.specs.Pass.{after_split, new_pass}
 use Rattle.rd_host_player.specs.Play.{Begins, JoinsFront, PlayState, Plays, PlaysOut}
 use Rattle.rd_host_session.specs.declared.channels.Next.{Next}
@@ -66,6 +67,9 @@ stands play linker = record { play = play; linker = linker }
 module _ {F W : Type 0} (turn : TurnOfTable) (devices : ℕ) where
   -- A channel that began was served: one thread read it and one wrote it, each with a pass of the front of its own, and the calling thread played the script meanwhile. Then their passes came home.
   pub record ServesBegun (channel : ℕ) (why : Stop) (by : Ending) (starved : Bool) (from : IncomingState) (to : OutgoingState) (begun : PlayState F W) (incoming : IncomingState) (outgoing : OutgoingState) (new : PlayState F W) : Type 0 where
+    -- in what these two had seen when they were split no call was their own
+    pub reader_new : calls_of (suc (begun.front).made) (begun.front).seen ≡ []
+    pub writer_new : calls_of (suc (suc (begun.front).made)) (begun.front).seen ≡ []
     pub over : PlayState F W
     pub plays : Plays turn devices why (record begun { front = after_split (after_split begun.front) }) over
     pub reader : HostPass F W

@@ -11,7 +11,7 @@ use Rattle.rd_script.specs.declared.line.NumberedLine.{NumberedLine}
 use Rattle.rd_script.specs.declared.outcome.Outcome.{Outcome}
 use Rattle.rd_table.specs.Calls.{PendingStep}
 use Rattle.rd_turn.specs.History.{Leads}
-use Rattle.rd_turn.specs.Pass.{HasAllCalls, TurnId, after_split, first_pass, new_pass}
+use Rattle.rd_turn.specs.Pass.{HasAllCalls, IsNumbered, TurnId, after_split, first_pass, new_pass}
 use Rattle.rd_world.specs.Run.{applications_of}
 use Rattle.rd_world.specs.World.{ApplicationState}
 use Rattle.rd_host.specs.Core.{new_host}
@@ -50,6 +50,7 @@ pub record PlaysOver (W : Type 0) (turn : TurnOfTable) (lines : List NumberedLin
   pub closed : HostFrontState
   pub leads : Leads HostFrontStep at.opening ((ends.play).front).seen closed
   pub all : HasAllCalls (ends.play).front
+  pub numbers : IsNumbered (ends.play).front
   pub home : JoinsPass (ends.play).first (closed.table).pass last
 
 -- The lines were played, and of the table too there is one history, with all calls of all passes. What came of each line is told.

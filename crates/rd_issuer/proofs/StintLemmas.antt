@@ -28,12 +28,13 @@ pub record AreSplit (p q : TablePass) (count : ℕ) : Type 0 where
   pub number : q.number ≡ p.number
   pub made : q.made ≡ p.made + count
   pub out : q.out ≡ p.out + count
+  pub joined : q.joined ≡ p.joined
 
 pub splits : (p : TablePass) (issuers : List Issuer) → AreSplit p (after_splits p issuers) (length issuers)
-splits p [] = record { table = refl; opening = refl; number = refl; made = omega arith; out = omega arith }
+splits p [] = record { table = refl; opening = refl; number = refl; made = omega arith; out = omega arith; joined = refl }
 splits p (i ∷ issuers) =
     let rest = splits (after_split p) issuers in
-    record { table = rest.table; opening = rest.opening; number = rest.number; made = omega (arith, rest.made); out = omega (arith, rest.out) }
+    record { table = rest.table; opening = rest.opening; number = rest.number; made = omega (arith, rest.made); out = omega (arith, rest.out); joined = rest.joined }
 
 -- pass 0 stays pass 0 of its turn
 pub splits_belong : (turn : TurnId TableState) (p q : TablePass) (issuers : List Issuer) → q ≡ after_splits p issuers → Belongs turn p → Belongs turn q
@@ -164,9 +165,9 @@ ran_with turn before after place old new s t of fresh issued found came is =
     }
 
 pub ran_side_by_side : (turn : TurnId TableState) (p q r : TablePass) (issuers news : List Issuer) (stints done : List StintState) → stints ≡ stints_of turn p issuers → All IsFresh stints → q ≡ after_splits p issuers
-    → length done ≡ length stints → EachIssued stints done → r.made ≡ q.made → r.out + length done ≡ q.out → All (λ (s : StintState). CameHome r s.pass) done → All (λ (s : StintState). s.found ≡ true) done
+    → length done ≡ length stints → EachIssued stints done → r.number ≡ 0 → r.made ≡ q.made → r.out + length done ≡ q.out → (more : List (ℕ × ℕ)) × (r.joined ≡ more ++ q.joined) → All (λ (s : StintState). CameHome r s.pass) done → All (λ (s : StintState). s.found ≡ true) done
     → news ≡ map issuer_of done → RanSideBySide p r issuers news
-ran_side_by_side turn p q r issuers news stints done are fresh split count each made out came found is =
+ran_side_by_side turn p q r issuers news stints done are fresh split count each first made out kept came found is =
     let old_count : length stints ≡ length issuers = ap length are ∙ stints_count turn p issuers in
     let new_count : length news ≡ length done = ap length is ∙ length-map done issuer_of in
     let halves = splits p issuers in
@@ -176,6 +177,8 @@ ran_side_by_side turn p q r issuers news stints done are fresh split count each 
       count = new_count ∙ (count ∙ old_count);
       made = made ∙ made_then;
       out = omega arith;
+      first = first;
+      kept = (kept.0, kept.1 ∙ ap (λ (l : List (ℕ × ℕ)). kept.0 ++ l) (ap (λ (x : TablePass). x.joined) split ∙ halves.joined));
       ran = λ place d e within.
           let none : StintState = record { number = d.number; application = d.application; turn = turn; pass = p; found = true } in
           let here : place < length stints = omega arith in

@@ -1,6 +1,6 @@
 //! The applications of a host beside each other, each on a thread of its own.
 
-ghost use Rattle.std.specs.Prelude.{◌≡◌, ◌≤◌, ◌<◌, ◌+◌, ℕ, [], true, length, map, All, IfOk, slice_index_or, vec_capacity};
+ghost use Rattle.std.specs.Prelude.{◌≡◌, ◌≤◌, ◌<◌, ◌+◌, ◌++◌, ℕ, List, [], true, length, map, All, IfOk, slice_index_or, vec_capacity};
 ghost use Rattle.rd_turn.specs.Pass.{Belongs, GoesOn, max_made};
 ghost use Rattle.rd_issuer.specs.SideBySide.{RanSideBySide};
 ghost use Rattle.rd_issuer.specs.Stints.{CameHome, HasIssued, IsFresh, StintState, after_splits, issuer_of, stints_of};
@@ -96,6 +96,7 @@ fn join_all<'t, 's>(
     requires room { length stints.items ≤ vec_capacity home }
     ensures own { Belongs turn.now pass.new }
     ensures counts { (pass.new.number ≡ 0) × (pass.new.made ≡ pass.old.made) × (pass.new.out + length stints.entry.items ≡ pass.old.out) }
+    ensures kept { (more : List (ℕ × ℕ)) × (pass.new.joined ≡ more ++ pass.old.joined) }
     ensures goes_on { GoesOn pass.old pass.new }
     ensures home { All (λ s. CameHome pass.new s.pass) stints.entry.items }
     ensures found { IfOk result (λ home. All (λ s. s.found ≡ true) stints.entry.items) }

@@ -31,7 +31,7 @@ returns-clause-plays g c =
     c.in-Ok.ensures.pass c.new-player.ensures in
     plays_over g.W.TableTurn.turn c.args.lines.now c.awaited_devices.result c.in_ok-other.other c.into_parts-caller.result.3.items c.args.pass c.join.new.pass c.into_parts-caller.result.1 c.into_pass-own.result old new c.in-Ok.front
     c.new-player.result c.in_ok-other.player c.close.result c.into_pass-caller.result opening c.awaited_devices.ensures begun c.in_ok-other.ensures c.into_parts-caller.ensures.issuers
-    (c.into_pass-caller.ensures.same ∙ c.into_parts-caller.ensures.front) c.close.ensures.leads c.close.ensures.all c.into_parts-caller.ensures.first c.into_pass-own.ensures.same (record {
+    (c.into_pass-caller.ensures.same ∙ c.into_parts-caller.ensures.front) c.close.ensures.leads c.close.ensures.all c.close.ensures.numbers c.into_parts-caller.ensures.first c.into_pass-own.ensures.same (record {
       number = c.join.ensures.counts.0;
       made = c.join.ensures.counts.1;
       out = c.join.ensures.counts.2;

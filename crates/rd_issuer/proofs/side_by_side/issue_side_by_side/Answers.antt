@@ -46,4 +46,4 @@ returns-clause-ran g c =
     c.join_all.ensures.found c.join_all.ensures.issuers
     (λ home found is.
     ran_side_by_side c.args.turn.now c.args.pass.now c.split_all-stints.new.pass c.join_all.new.pass c.args.issuers.items home.items c.split_all-stints.result.items done c.split_all-stints.ensures.stints
-    c.split_all-stints.ensures.fresh c.split_all-stints.ensures.kept c.in_ok-stints-2.ensures.count c.in_ok-stints-2.ensures.each counts.1 counts.2 c.join_all.ensures.home found is)
+    c.split_all-stints.ensures.fresh c.split_all-stints.ensures.kept c.in_ok-stints-2.ensures.count c.in_ok-stints-2.ensures.each counts.0 counts.1 counts.2 c.join_all.ensures.kept c.join_all.ensures.home found is)

@@ -63,3 +63,9 @@ returns-clause-home c =
     let i = c.loop-stint.invariant in
     let whole : c.args.stints.items ≡ i.done = i.whole ∙ (ap (λ (l : List StintState). i.done ++ l) none ∙ append-nil i.done) in
     subst (All (λ (s : StintState). CameHome c.loop-stint.pass s.pass)) (sym whole) i.came
+
+pub returns-then-not-found-clause-kept : goal.returns-then-not-found-clause-kept
+returns-then-not-found-clause-kept c = (c.loop-stint.invariant.more, c.loop-stint.invariant.joined)
+
+pub returns-clause-kept : goal.returns-clause-kept
+returns-clause-kept c = (c.loop-stint.invariant.more, c.loop-stint.invariant.joined)

@@ -1,0 +1,9 @@
+pub mod EntryLemmas
+pub mod ReachedLemmas
+pub mod HistoryLemmas
+pub mod CallLemmas
+pub mod PassingLemmas
+pub mod LifeLemmas
+pub mod RemovalLemmas
+pub mod TakeLemmas
+pub mod BetweenLemmas

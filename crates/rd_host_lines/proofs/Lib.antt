@@ -1,0 +1,10 @@
+pub mod PassLemmas
+pub mod FrontLemmas
+pub mod FileLemmas
+pub mod IssueLemmas
+pub mod LineLemmas
+pub mod StepLemmas
+pub mod PlayLemmas
+pub mod RunLemmas
+pub mod SessionLemmas
+pub mod RoomLemmas

@@ -1,0 +1,24 @@
+//! What the lines of a host's script asked its table for, as contracts of functions that do nothing.
+
+ghost use Rattle.std.specs.Prelude.{◌≡◌, ℕ, List, Ok, Option};
+ghost use Rattle.rd_carry.specs.declared.ended.Ended.{Ended};
+ghost use Rattle.rd_host_session.specs.Channels.{LinkedTold};
+ghost use Rattle.rd_host_session.specs.Hosted.{Hosts};
+ghost use Rattle.rd_runs.specs.Premises.{AreSubmittable};
+ghost use Rattle.rd_script.specs.declared.keyword.Mode.{Mode};
+ghost use Rattle.rd_script.specs.declared.line.NumberedLine.{NumberedLine};
+ghost use Rattle.rd_script.specs.declared.outcome.Outcome.{Outcome};
+ghost use Rattle.rd_script.specs.declared.script.Script.{Script};
+ghost use Rattle.rd_script.specs.Script.{script_of};
+ghost use Rattle.rd_host_lines.specs.Requests.{AreInRange};
+
+/// What the lines of a script ask for fits its requests.
+pub fn scripts_ask_in_range()
+    ensures { (m : Mode) (text : List ℕ) (script : Script) → script_of m text ≡ Ok script → AreSubmittable script.lines }
+{}
+
+/// Where what lines ask for fits requests, each request that was accepted by the table of a host that played them has numbers that its message has room for.
+pub fn requests_have_room()
+    ensures { (lines : List NumberedLine) (other : Option Ended) (told : List ((ℕ × ℕ) × Outcome)) (old new : LinkedTold) → AreSubmittable lines
+        → (hosts : Hosts lines other told old new) → AreInRange hosts.last.seen }
+{}

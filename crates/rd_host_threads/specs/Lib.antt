@@ -1,0 +1,4 @@
+pub mod Calls
+pub mod Played
+pub mod Channels
+pub mod Threads

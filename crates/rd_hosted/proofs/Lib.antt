@@ -1,0 +1,12 @@
+pub mod AskLemmas
+pub mod HeardLemmas
+pub mod BetweenLemmas
+pub mod ChannelLemmas
+pub mod StandLemmas
+pub mod HearLemmas
+pub mod ToldLemmas
+pub mod HearToldLemmas
+pub mod SendToldLemmas
+pub mod EndToldLemmas
+pub mod GoLemmas
+pub mod KeptLemmas

@@ -1,0 +1,106 @@
+-- What a call of a host's front tells of what the host did: what it comes to between quiet calls of the table.
+use Rattle.std.proofs.Common.{◌≡◌, ◌∙◌, refl, sym, ap, subst, ℕ, ◌==◌, Bool, true, false, cond, List, [], ◌∷◌, ◌++◌, append_assoc, Option}
+use Rattle.std.specs.List.{AllByRecursion}
+use Rattle.std.proofs.lemmas.List.Elements.{filter_map-append}
+use Rattle.rd_host.specs.Core.{HostCoreState}
+use Rattle.rd_pending.specs.History.{accepted_in}
+use Rattle.rd_table.specs.Histories.{handed_in, table_history}
+use Rattle.rd_exchanges.specs.Exchanges.{goes}
+use Rattle.rd_host_turns.specs.Turns.{AreQuiet, TableEntry}
+use Rattle.rd_world.specs.Talk.{Deed, host_read, host_reads, host_writes, host_wrote, read_by_host, written_by_host}
+use Rattle.rd_hosted.specs.Asks.{asks_among, table_at}
+use Rattle.rd_hosted.specs.Kept.{AsksInRange}
+use Rattle.rd_hosted.proofs.BetweenLemmas.{IsTableHistory, accepted_behind, asks_behind, handed_behind}
+use Rattle.rd_hosted.proofs.ChannelLemmas.{quiet_channel}
+use Rattle.rd_hosted.proofs.StandLemmas.{Stands, asks_read, asks_stand, asks_written, deeds_for, stands_as}
+
+-- ---- where a host stands by a history
+
+-- After these deeds a host has this core, and its table is that after this history, on this channel, if on one.
+pub record StandsAt (core : HostCoreState) (seen : List TableEntry) (open_on : Option ℕ) (deeds : List Deed) : Type 0 where
+  pub stands : Stands core (table_at seen) (accepted_in (table_history seen)) (handed_in seen) deeds
+  pub channel : (table_at seen).channel ≡ open_on
+
+-- It stands so by more deeds than before, by which these messages were read and written on each channel, the newest first.
+pub record Told (core : HostCoreState) (seen : List TableEntry) (open_on : Option ℕ) (reads writes : ℕ → List (List ℕ)) (deeds : List Deed) : Type 0 where
+  pub more : List Deed
+  pub stands : StandsAt core seen open_on (more ++ deeds)
+  pub read : (c : ℕ) → host_read c more ≡ reads c
+  pub written : (c : ℕ) → host_wrote c more ≡ writes c
+
+abbrev pub nothing : ℕ → List (List ℕ)
+nothing c = []
+
+-- a message on one channel
+abbrev pub only : ℕ → List ℕ → ℕ → List (List ℕ)
+only channel message c = cond (channel == c) (message ∷ []) []
+
+-- ---- messages of deeds
+
+pub read_first : (c channel : ℕ) (m : List ℕ) (deeds : List Deed) → host_read c deeds ≡ [] → host_read c (host_reads channel m ∷ deeds) ≡ only channel m c
+read_first c channel m deeds none = go (channel == c) refl
+  where
+    go : (b : Bool) → (channel == c) ≡ b → host_read c (host_reads channel m ∷ deeds) ≡ only channel m c
+    go true e = rw e (ap (λ (l : List (List ℕ)). m ∷ l) none)
+    go false e = rw e none
+
+pub written_first : (c channel : ℕ) (m : List ℕ) (deeds : List Deed) (xs : List (List ℕ)) → host_wrote c deeds ≡ xs → host_wrote c (host_writes channel m ∷ deeds) ≡ only channel m c ++ xs
+written_first c channel m deeds xs is = go (channel == c) refl
+  where
+    go : (b : Bool) → (channel == c) ≡ b → host_wrote c (host_writes channel m ∷ deeds) ≡ only channel m c ++ xs
+    go true e = rw e (ap (λ (l : List (List ℕ)). m ∷ l) is)
+    go false e = rw e is
+
+pub read_more : (c : ℕ) (xs ys : List Deed) → host_read c (xs ++ ys) ≡ host_read c xs ++ host_read c ys
+read_more c xs ys = filter_map-append (read_by_host c) xs ys
+
+pub written_more : (c : ℕ) (xs ys : List Deed) → host_wrote c (xs ++ ys) ≡ host_wrote c xs ++ host_wrote c ys
+written_more c xs ys = filter_map-append (written_by_host c) xs ys
+
+-- ---- what applications ask
+
+pub quiet_stands : (core : HostCoreState) (old added : List TableEntry) (open_on : Option ℕ) (deeds : List Deed) → StandsAt core old open_on deeds → AreQuiet added → IsTableHistory (old ++ added) → AllByRecursion AsksInRange (asks_among added)
+    → StandsAt core (old ++ added) open_on (deeds_for (asks_among added) ++ deeds)
+quiet_stands core old added open_on deeds s quiet legal fit =
+    let asks = asks_behind old added quiet legal in
+    record {
+      stands = stands_as core core (goes (table_at old) (asks_among added)) (table_at (old ++ added)) _ _ _ _ (deeds_for (asks_among added) ++ deeds) refl asks.leads (sym (accepted_behind old added quiet legal)) (sym (handed_behind old added quiet legal))
+          (asks_stand (asks_among added) core (table_at old) (accepted_in (table_history old)) (handed_in old) deeds s.stands asks.may asks.asks fit);
+      channel = quiet_channel old added quiet ∙ s.channel;
+    }
+
+-- nothing was done, or only asked
+pub told_as : (core other : HostCoreState) (seen : List TableEntry) (old new : List TableEntry) (open_on on_now : Option ℕ) (deeds : List Deed) → core ≡ other → old ≡ new → open_on ≡ on_now → StandsAt core old open_on deeds → StandsAt other new on_now deeds
+told_as core other seen old new open_on on_now deeds a b c s =
+    subst (λ (x : HostCoreState). StandsAt x new on_now deeds) a (subst (λ (l : List TableEntry). StandsAt core l on_now deeds) b (subst (λ (o : Option ℕ). StandsAt core old o deeds) c s))
+
+pub told_nothing : (core other : HostCoreState) (old new : List TableEntry) (open_on : Option ℕ) (deeds : List Deed) → core ≡ other → new ≡ old → StandsAt core old open_on deeds → Told other new open_on nothing nothing deeds
+told_nothing core other old new open_on deeds same is s = record {
+  more = [];
+  stands = told_as core other old old new open_on open_on deeds same (sym is) refl s;
+  read = λ c. refl;
+  written = λ c. refl;
+}
+
+pub told_quiet : (core : HostCoreState) (old added new : List TableEntry) (open_on : Option ℕ) (deeds : List Deed) → new ≡ old ++ added → AreQuiet added → IsTableHistory new → AllByRecursion AsksInRange (asks_among added) → StandsAt core old open_on deeds
+    → Told core new open_on nothing nothing deeds
+told_quiet core old added new open_on deeds is quiet legal fit s = record {
+  more = deeds_for (asks_among added);
+  stands = told_as core core old (old ++ added) new open_on open_on (deeds_for (asks_among added) ++ deeds) refl (sym is) refl (quiet_stands core old added open_on deeds s quiet (subst IsTableHistory is legal) fit);
+  read = λ c. asks_read c (asks_among added);
+  written = λ c. asks_written c (asks_among added);
+}
+
+-- one told after another
+pub told_then : (core mid : HostCoreState) (between new : List TableEntry) (open_on on_now : Option ℕ) (reads writes more_reads more_writes : ℕ → List (List ℕ)) (deeds : List Deed) (one : Told mid between open_on reads writes deeds)
+    → Told core new on_now more_reads more_writes (one.more ++ deeds) → Told core new on_now (λ c. more_reads c ++ reads c) (λ c. more_writes c ++ writes c) deeds
+told_then core mid between new open_on on_now reads writes more_reads more_writes deeds one other = record {
+  more = other.more ++ one.more;
+  stands = subst (StandsAt core new on_now) (sym (append_assoc other.more one.more deeds)) other.stands;
+  read = λ c. read_more c other.more one.more ∙ (ap (λ (l : List (List ℕ)). l ++ host_read c one.more) (other.read c) ∙ ap (λ (l : List (List ℕ)). more_reads c ++ l) (one.read c));
+  written = λ c. written_more c other.more one.more ∙ (ap (λ (l : List (List ℕ)). l ++ host_wrote c one.more) (other.written c) ∙ ap (λ (l : List (List ℕ)). more_writes c ++ l) (one.written c));
+}
+
+pub told_alike : (core : HostCoreState) (new : List TableEntry) (open_on : Option ℕ) (reads writes other_reads other_writes : ℕ → List (List ℕ)) (deeds : List Deed) → ((c : ℕ) → reads c ≡ other_reads c) → ((c : ℕ) → writes c ≡ other_writes c)
+    → Told core new open_on reads writes deeds → Told core new open_on other_reads other_writes deeds
+told_alike core new open_on reads writes other_reads other_writes deeds r w t = record { more = t.more; stands = t.stands; read = λ c. t.read c ∙ r c; written = λ c. t.written c ∙ w c }

@@ -1,0 +1,3 @@
+pub mod Asks
+pub mod Heard
+pub mod Kept
