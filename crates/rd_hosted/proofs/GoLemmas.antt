@@ -29,7 +29,7 @@ use Rattle.rd_host_turns.specs.Turns.{ArePartsOf, HandsThrough, IsOwnCall, IsWit
 use Rattle.rd_host_threads.specs.Calls.{AreHostsCalls, IsHeardReply, IsMadeBy}
 use Rattle.rd_world.specs.Talk.{Deed}
 use Rattle.rd_hosted.specs.Asks.{asks_among}
-use Rattle.rd_hosted.specs.Heard.{DoesAsked, DoesHeard, IsOnStill, is_taken, served_in}
+use Rattle.rd_hosted.specs.Heard.{DoesAsked, DoesHeard, IsOnStill, took_message, served_in}
 use Rattle.rd_hosted.specs.Kept.{AsksInRange}
 use Rattle.rd_hosted.proofs.BetweenLemmas.{IsTableHistory, earlier_history, fit_in, fit_last, seen_prefix}
 use Rattle.rd_hosted.proofs.HeardLemmas.{channel_in, heard, on_of}
@@ -199,7 +199,7 @@ module _ {W : Type 0} where
 
   -- ---- a message is heard
 
-  heard_taken : (channel x : ℕ) (message : List ℕ) (back : HostFrontReply W) → is_taken back ≡ true → only channel message x ≡ reverse (heard_by x (call.Hear channel message) back)
+  heard_taken : (channel x : ℕ) (message : List ℕ) (back : HostFrontReply W) → took_message back ≡ true → only channel message x ≡ reverse (heard_by x (call.Hear channel message) back)
   heard_taken channel x message (reply.Done wakes full) is = sym (reverse_only (channel == x) message)
   heard_taken channel x message (reply.Wrong cause) is = sym (reverse_only (channel == x) message)
   heard_taken channel x message (reply.Stray device id) is = sym (reverse_only (channel == x) message)

@@ -22,7 +22,7 @@ use Rattle.rd_host_front.specs.Asked.{is_wanting}
 use Rattle.rd_host_front.specs.HostFront.{AdmitsAll, AdmitsBy, BeginsLife, Follows, FollowsAnswer, ForgetsAll, HearsMessage, OnFound, RepliesToDevice, completed_as, done_if_found, life_code}
 use Rattle.rd_host_front.specs.State.{FrontPassState, HostFrontState}
 use Rattle.rd_host_front.proofs.GoingLemmas.{core_of, table_of}
-use Rattle.rd_hosted.specs.Heard.{DoesAsked, DoesHeard, IsOnStill, LivesAll, RemovesAll, is_taken, replying, served_in}
+use Rattle.rd_hosted.specs.Heard.{DoesAsked, DoesHeard, IsOnStill, LivesAll, RemovesAll, took_message, replying, served_in}
 
 -- a device is replied to, where memory is found for that
 abbrev pub on_of : HostFrontState → Bool
@@ -113,17 +113,17 @@ removed (id ∷ ids) old new (next, (was, did), others) =
 module _ {W : Type 0} where
   -- what is asked is done, the channel is on as before, and the message was taken
   abbrev Asked : HostFrontState → Result Act EndFault → HostFrontReply W → HostFrontState → Type 0
-  Asked old answer back new = DoesAsked answer old.core old.table new × IsOnStill old new × (is_taken back ≡ true)
+  Asked old answer back new = DoesAsked answer old.core old.table new × IsOnStill old new × (took_message back ≡ true)
 
-  by_reply : (back other : HostFrontReply W) → back ≡ other → is_taken other ≡ true → is_taken back ≡ true
-  by_reply back other is so = ap (λ (r : HostFrontReply W). is_taken r) is ∙ so
+  by_reply : (back other : HostFrontReply W) → back ≡ other → took_message other ≡ true → took_message back ≡ true
+  by_reply back other is so = ap (λ (r : HostFrontReply W). took_message r) is ∙ so
 
   asked : (old : HostFrontState) (a : Act) (back : HostFrontReply W) (new : HostFrontState) → is_wanting back ≡ false → Follows old a back new → Asked old (Ok a) back new
-  asked old act.Nothing back new found did = ((ap core_of did.1, ap table_of did.1), still_same old new did.1, ap (λ (r : HostFrontReply W). is_taken r) did.0)
+  asked old act.Nothing back new found did = ((ap core_of did.1, ap table_of did.1), still_same old new did.1, ap (λ (r : HostFrontReply W). took_message r) did.0)
   asked old (act.Complete head body) back new found (answer, did, is) =
       ((answer, not_wanting answer is, did.0, ap core_of did.1), (ap on_of did.1, ap channel_in did.1), by_reply back (completed_as answer new) is (completed_taken answer))
     where
-      completed_taken : (answer : Result Completed CompleteNo) → is_taken {W = W} (completed_as answer new) ≡ true
+      completed_taken : (answer : Result Completed CompleteNo) → took_message {W = W} (completed_as answer new) ≡ true
       completed_taken (Ok (Gave number)) = refl
       completed_taken (Ok (Late number)) = refl
       completed_taken (Err (complete_no.Stray device id)) = refl
@@ -137,9 +137,9 @@ module _ {W : Type 0} where
   asked old (act.Announced devices) back new found (went, did, is) = by went did is
     where
       by : (went : Bool) → AdmitsAll devices old went new → back ≡ done_if_found went new → Asked old (Ok (act.Announced devices)) back new
-      by true did is = let a = admitted devices old new did in ((a.answers, a.lives, a.core), a.still, ap (λ (r : HostFrontReply W). is_taken r) is)
+      by true did is = let a = admitted devices old new did in ((a.answers, a.lives, a.core), a.still, ap (λ (r : HostFrontReply W). took_message r) is)
       by false did is = let wanting : is_wanting back ≡ true = ap (λ (r : HostFrontReply W). is_wanting r) is in absurd (cc (wanting, found))
-  asked old (act.Removed ids) back new found did = let r = removed ids old new did.0 in ((r.0, r.1), r.2, ap (λ (x : HostFrontReply W). is_taken x) did.1)
+  asked old (act.Removed ids) back new found did = let r = removed ids old new did.0 in ((r.0, r.1), r.2, ap (λ (x : HostFrontReply W). took_message x) did.1)
 
   pub heard : (old : HostFrontState) (message : List ℕ) (back : HostFrontReply W) (new : HostFrontState) → is_wanting back ≡ false → HearsMessage old message back new → DoesHeard old message back new
   heard old message back new found (answer, next, did, follows) = by answer did.0 follows
@@ -159,7 +159,7 @@ module _ {W : Type 0} where
         hears = step;
         does = moved (Err (fault.Order state packet)) (ap core_of follows.1, ap table_of follows.1);
         still = on (still_same next new follows.1);
-        taken = ap (λ (r : HostFrontReply W). is_taken r) follows.0;
+        taken = ap (λ (r : HostFrontReply W). took_message r) follows.0;
       }
       by (Err (fault.Grammar bad)) step follows = record {
         core = next.core;
@@ -167,5 +167,5 @@ module _ {W : Type 0} where
         hears = step;
         does = moved (Err (fault.Grammar bad)) (ap core_of follows.1, ap table_of follows.1);
         still = on (still_same next new follows.1);
-        taken = ap (λ (r : HostFrontReply W). is_taken r) follows.0;
+        taken = ap (λ (r : HostFrontReply W). took_message r) follows.0;
       }

@@ -38,7 +38,7 @@ use Rattle.rd_world.specs.Recording.{client_id}
 use Rattle.rd_world.specs.Talk.{takes}
 use Rattle.rd_world.proofs.Calls.{calls_hold, calls_since, table_of}
 use Rattle.rd_hosted.specs.Asks.{asked_as, asks_among, table_at}
-use Rattle.rd_hosted.specs.Kept.{AsksInRange, CameOf, Gives, KeepsTable, calls_of_front, calls_of_table}
+use Rattle.rd_hosted.specs.Kept.{AsksInRange, CameOf, IsTakenIn, KeepsTable, calls_of_front, calls_of_table}
 use Rattle.rd_hosted.proofs.BetweenLemmas.{IsTableHistory, earlier_history, fit_in, fit_last}
 use Rattle.rd_hosted.proofs.GoLemmas.{HistoryTold, channel_of, history_told}
 use Rattle.rd_hosted.proofs.StandLemmas.{Stands}
@@ -111,7 +111,7 @@ host_keeps lines other told old new submittable found hosts =
 
 pub outcome_came : {W : Type 0} (seen : List TableEntry) (entries : List (HostEntry W)) (number : ℕ) (taken : Taken) → (keeps : KeepsTable seen entries) → Contains (handed_in seen) (number, taken) → CameOf keeps.deeds number taken
 outcome_came seen entries number taken keeps has =
-    let g : Gives keeps.deeds number taken = keeps.gives number taken has in
+    let g : IsTakenIn keeps.deeds number taken = keeps.gives number taken has in
     let behind = calls_since client_id g.later (takes number ∷ g.before) in
     let before : List Call = calls_of client_id g.before in
     let whole : calls_of client_id keeps.deeds ≡ behind.0 ++ call.takes number ∷ before = ap (calls_of client_id) g.place ∙ behind.1 in

@@ -17,7 +17,7 @@ use Rattle.rd_world.specs.HostDeeds.{MayDo, calls_of, side_after, side_of}
 use Rattle.rd_world.specs.Recording.{client_id}
 use Rattle.rd_world.specs.Talk.{Deed, host_begins, host_ends, host_read, host_reads, host_writes, host_wrote, read_by_host, submits, takes, written_by_host}
 use Rattle.rd_world.proofs.Calls.{Does, read_tame, sent_same, table_of}
-use Rattle.rd_hosted.specs.Kept.{AsksInRange, Gives}
+use Rattle.rd_hosted.specs.Kept.{AsksInRange, IsTakenIn}
 
 -- the side with this core and this table
 abbrev pub side : HostCoreState → TableState → HostSide
@@ -28,9 +28,9 @@ pub record Stands (core : HostCoreState) (t : TableState) (accepted : List Accep
   pub may : Does client_id deeds
   pub stands : side_of client_id deeds ≡ side core t
   pub accepted_are : accepted_in (calls_of client_id deeds) ≡ accepted
-  pub gives : (number : ℕ) (taken : Taken) → Contains handed (number, taken) → Gives deeds number taken
+  pub gives : (number : ℕ) (taken : Taken) → Contains handed (number, taken) → IsTakenIn deeds number taken
 
-pub gives_still : (more deeds : List Deed) (number : ℕ) (taken : Taken) → Gives deeds number taken → Gives (more ++ deeds) number taken
+pub gives_still : (more deeds : List Deed) (number : ℕ) (taken : Taken) → IsTakenIn deeds number taken → IsTakenIn (more ++ deeds) number taken
 gives_still more deeds number taken g = record {
   later = more ++ g.later;
   before = g.before;
@@ -64,7 +64,7 @@ deeds_for (c ∷ cs) = deeds_for cs ++ deed_for c
 -- a deed after which the table is this, that accepts this and hands this out, and changes no core
 one_more : (core : HostCoreState) (t u : TableState) (accepted more : List Accepted) (handed given : List (ℕ × Taken)) (deeds : List Deed) (deed : Deed) → Stands core t accepted handed deeds
     → MayDo (side core t) deed → side_after (side core t) deed ≡ side core u → accepted_in (calls_of client_id (deed ∷ deeds)) ≡ accepted_in (calls_of client_id deeds) ++ more
-    → ((number : ℕ) (taken : Taken) → Contains given (number, taken) → Gives (deed ∷ deeds) number taken) → Stands core u (accepted ++ more) (handed ++ given) (deed ∷ deeds)
+    → ((number : ℕ) (taken : Taken) → Contains given (number, taken) → IsTakenIn (deed ∷ deeds) number taken) → Stands core u (accepted ++ more) (handed ++ given) (deed ∷ deeds)
 one_more core t u accepted more handed given deeds deed s may leads accepts gives = record {
   may = (subst (λ (x : HostSide). MayDo x deed) (sym s.stands) may, s.may);
   stands = ap (λ (x : HostSide). side_after x deed) s.stands ∙ leads;
@@ -95,7 +95,7 @@ ask_stands (call.takes n) core t accepted handed deeds s may ask fit =
     one_more core t (called t (call.takes n)) accepted [] handed (handed_of n (table.take t n).1) deeds (takes n) s may refl (sym (append-nil (accepted_in (calls_of client_id deeds))))
     (λ number taken has. given (table.take t n).1 refl number taken has)
   where
-    given : (r : Result Taken TakeNo) → (table.take t n).1 ≡ r → (number : ℕ) (taken : Taken) → Contains (handed_of n r) (number, taken) → Gives (takes n ∷ deeds) number taken
+    given : (r : Result Taken TakeNo) → (table.take t n).1 ≡ r → (number : ℕ) (taken : Taken) → Contains (handed_of n r) (number, taken) → IsTakenIn (takes n ∷ deeds) number taken
     given (Err cause) e number taken has = absurd (contains_none (number, taken) has)
     given (Ok gave) e number taken has =
         let one : (n, gave) ≡ (number, taken) = contains_one (n, gave) (number, taken) has in

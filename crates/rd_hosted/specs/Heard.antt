@@ -60,10 +60,10 @@ abbrev pub IsOnStill : HostFrontState → HostFrontState → Type 0
 IsOnStill old new = (new.on ≡ old.on) × (new.channel ≡ old.channel)
 
 -- whether a message was taken, whatever it is: it came to no full or ended front
-abbrev pub is_taken : {W : Type 0} → HostFrontReply W → Bool
-is_taken (reply.Full message) = false
-is_taken reply.Over = false
-is_taken _ = true
+abbrev pub took_message : {W : Type 0} → HostFrontReply W → Bool
+took_message (reply.Full message) = false
+took_message reply.Over = false
+took_message _ = true
 
 -- A message was heard, and what it asks for is done.
 pub record DoesHeard {W : Type 0} (old : HostFrontState) (message : List ℕ) (back : HostFrontReply W) (new : HostFrontState) : Type 0 where
@@ -72,4 +72,4 @@ pub record DoesHeard {W : Type 0} (old : HostFrontState) (message : List ℕ) (b
   pub hears : host_hear old.core message ≡ (core, answer)
   pub does : DoesAsked answer core old.table new
   pub still : IsOnStill old new
-  pub taken : is_taken back ≡ true
+  pub taken : took_message back ≡ true

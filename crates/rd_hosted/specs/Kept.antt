@@ -26,7 +26,7 @@ AsksInRange (call.submits application named o) = IsInRange named o
 AsksInRange _ = Unit {0}
 
 -- One of these deeds is that a number was taken, and this is what the host's table gave for it.
-pub record Gives (deeds : List Deed) (number : ℕ) (taken : Taken) : Type 0 where
+pub record IsTakenIn (deeds : List Deed) (number : ℕ) (taken : Taken) : Type 0 where
   pub later : List Deed
   pub before : List Deed
   pub place : deeds ≡ later ++ takes number ∷ before
@@ -39,7 +39,7 @@ pub record KeepsTable {W : Type 0} (seen : List TableEntry) (entries : List (Hos
   pub may : EachAfter (λ before deed. MayDo (side_of client_id before) deed) deeds
   pub leads : (side_of client_id deeds).table ≡ table_at seen
   pub accepted_are : accepted_in (calls_of client_id deeds) ≡ accepted_in (table_history seen)
-  pub gives : (number : ℕ) (taken : Taken) → Contains (handed_in seen) (number, taken) → Gives deeds number taken
+  pub gives : (number : ℕ) (taken : Taken) → Contains (handed_in seen) (number, taken) → IsTakenIn deeds number taken
   pub read : (c : ℕ) → host_read c deeds ≡ reverse (messages_heard c entries)
   pub written : (c : ℕ) → host_wrote c deeds ≡ reverse (messages_for c entries)
 

@@ -1,16 +1,22 @@
 //! What joins two processes, as a contract of a function that does nothing.
 
-ghost use Rattle.std.specs.Prelude.{◌≡◌, ℕ, ◌<◌, List, length};
+ghost use Rattle.std.specs.Prelude.{◌≡◌, ℕ, ◌<◌, List, length, Contains};
 ghost use Rattle.rd_base.specs.History.{History};
 ghost use Rattle.rd_carry.specs.declared.ended.Ended.{Ended};
 ghost use Rattle.rd_front.specs.Calls.{FrontEntry};
-ghost use Rattle.rd_peers.specs.Peers.{clients_part};
+ghost use Rattle.rd_host_channel.specs.Calls.{HostEntry};
+ghost use Rattle.rd_host_turns.specs.Turns.{TableEntry};
+ghost use Rattle.rd_hosted.specs.Kept.{KeepsTable};
+ghost use Rattle.rd_peers.specs.Peers.{IsOwnOutcome, clients_part, hosts_part};
+ghost use Rattle.rd_pending.specs.declared.calls.Taken.{Taken};
 ghost use Rattle.rd_script.specs.declared.line.NumberedLine.{NumberedLine};
 ghost use Rattle.rd_served_sessions.specs.Sessions.{AreServable, IsToldSession};
+ghost use Rattle.rd_table.specs.Histories.{handed_in};
 ghost use Rattle.rd_workers.specs.Channels.{LinkerTold};
 ghost use Rattle.rd_world.specs.HostDeeds.{MayDo, side_of};
 ghost use Rattle.rd_world.specs.Joining.{AreJoined, IsCarried, Joins};
 ghost use Rattle.rd_world.specs.Opening.{bare_lines};
+ghost use Rattle.rd_world.specs.Recording.{client_id};
 ghost use Rattle.rd_world.specs.Run.{declared_devices};
 ghost use Rattle.rd_world.specs.Session.{replies_in};
 ghost use Rattle.rd_world.specs.Talk.{AtEachPoint, Deed, EachAfter, journal};
@@ -23,4 +29,14 @@ pub fn clients_are_joined()
         → (session : IsToldSession (declared_devices (bare_lines lines)) lines channels by entries books old new) (client : ℕ) (deeds : List Deed) → clients_part deeds ≡ session.deeds
         → AtEachPoint IsCarried deeds → EachAfter (λ before deed. MayDo (side_of client before) deed) deeds → ((device : ℕ) → length (journal device deeds) < worn_entries)
         → let replies = replies_in (declared_devices (bare_lines lines)) deeds in AreJoined client replies deeds × Joins client replies deeds }
+{}
+
+/// A client and a host over sockets, each by what its own session came to, are joined where messages are carried between them and no journal is worn; so each outcome that the host's applications were handed out is that of their own
+/// request, and where it is a reply, the one that the journal of the request's device gives to it.
+pub fn peers_are_joined<W>()
+    ensures { (lines : List NumberedLine) (channels : ℕ) (by : Ended) (entries : List FrontEntry) (books : List (ℕ × History)) (old new : LinkerTold) → AreServable lines
+        → (session : IsToldSession (declared_devices (bare_lines lines)) lines channels by entries books old new) (seen : List TableEntry) (calls : List (HostEntry W)) (keeps : KeepsTable seen calls) (deeds : List Deed)
+        → clients_part deeds ≡ session.deeds → hosts_part deeds ≡ keeps.deeds → AtEachPoint IsCarried deeds → ((device : ℕ) → length (journal device deeds) < worn_entries)
+        → let replies = replies_in (declared_devices (bare_lines lines)) deeds in
+        AreJoined client_id replies deeds × Joins client_id replies deeds × ((number : ℕ) (taken : Taken) → Contains (handed_in seen) (number, taken) → IsOwnOutcome client_id replies deeds number taken) }
 {}

@@ -5,4 +5,4 @@
 
 mod laws;
 
-pub use laws::clients_are_joined;
+pub use laws::{clients_are_joined, peers_are_joined};

@@ -1,0 +1,3 @@
+pub mod SoundMoves
+pub mod Requests
+pub mod Worked
