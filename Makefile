@@ -1,5 +1,5 @@
 # Thin names for the commands of the kit. README.md says what each costs.
-.PHONY: demo build test bench
+.PHONY: demo build test bench fuzz
 
 demo: ## runs an example script by the program as it stands, before any proof
 	@cd crates/rdr && rt try -- both < ../../examples/open_read_close.script
@@ -10,6 +10,13 @@ build: ## proves the program and all below it, and leaves it at bin/rdr
 
 test: ## the gate: every proof, the edits that must fail, the tests, the programs
 	rt ci
+
+fuzz: ## tries to break the built program for a minute: docs/ROBUSTNESS.md
+	tools/sessions.py bin/rdr
+	tools/mutate.py --sessions 2000
+	tools/kills.py --sides --sessions 300
+	tools/kills.py --sessions 50
+	tools/limits.py
 
 bench: ## what is measured, and how: bench/README.md
 	bench/run

@@ -8,14 +8,14 @@ use crate::listening::Listening;
 use rd_base::Failed;
 use rd_link::Linker;
 use std::io;
-use std::io::Error;
+use std::io::{Eprint, Error};
 use std::net::Net;
 use std::os::unix::net::UnixStream;
 use std::rt::Files;
 
 /// Where a linker's sockets come from.
 #[derive(Drop)]
-enum Place<'a, R: Files + Net> {
+enum Place<'a, R: Files + Net + Eprint> {
     /// The other side dials.
     Bound(Listening<'a, R>),
     /// The other side can't dial, for this reason.
@@ -24,7 +24,7 @@ enum Place<'a, R: Files + Net> {
     Dialed(&'a str),
 }
 
-impl<R: Files + Net> Place<'_, R> {
+impl<R: Files + Net + Eprint> Place<'_, R> {
     fn stream(&self, rt: &R) -> io::Result<UnixStream> {
         match self {
             Place::Bound(listening) => listening.accept(),
@@ -36,17 +36,18 @@ impl<R: Files + Net> Place<'_, R> {
 
 /// A linker whose channels are sockets at one path. It tells nothing of them.
 #[derive(Drop)]
-pub struct UnixLinker<'a, R: Files + Net> {
+pub struct UnixLinker<'a, R: Files + Net + Eprint> {
     rt: &'a R,
     place: Place<'a, R>,
     failures: Faults,
     trouble: Faults,
 }
 
-impl<'a, R: Files + Net> UnixLinker<'a, R> {
+impl<'a, R: Files + Net + Eprint> UnixLinker<'a, R> {
     /// A linker that listens at the path. It makes a socket's file there at once, which its owner alone may use (mode 0600), and which is
     /// taken away when the linker is dropped. A socket's file that nobody serves any more is replaced. Where it can't listen, as where the
-    /// path is served or is no socket, each call of `connect` fails with that reason. `connect` waits for the other side.
+    /// path is served or is no socket, each call of `connect` fails with that reason. `connect` waits for the other side. Where that takes a
+    /// second, a line on the standard error says so.
     pub fn listen(rt: &'a R, path: &'a str) -> Self
         ensures failures { ⟦<UnixLinker<'a, R> as Linker>⟧.failures result ≡ 0 }
         ensures trouble { ⟦<UnixLinker<'a, R> as Linker>⟧.trouble result ≡ 0 }
@@ -85,7 +86,7 @@ impl<'a, R: Files + Net> UnixLinker<'a, R> {
     }
 }
 
-impl<R: Files + Net> Linker for UnixLinker<'_, R> {
+impl<R: Files + Net + Eprint> Linker for UnixLinker<'_, R> {
     type In = UnixIn;
 
     type Out = UnixOut;

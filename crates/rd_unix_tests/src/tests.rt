@@ -3,15 +3,20 @@
 use rd_base::{Failed, Sink, Source, write_all};
 use rd_link::{Clock, Hang, Linker};
 use rd_unix::{SystemClock, UnixLinker};
-use std::fs;
 use std::io::{Error, ErrorKind};
 use std::os::unix::fs::PermissionsExt;
 use std::os::unix::net::UnixListener;
 use std::process::Abort;
 use std::test::Fail;
+use std::thread::join;
+use std::time::Duration;
+use std::{fs, thread};
 
 /// 2020-01-01 UTC, in 100 ns since 1601-01-01 UTC.
 const YEAR_2020: u64 = 132_223_104_000_000_000;
+
+/// In milliseconds, longer than a linker waits before it says so.
+const LATE: u64 = 1_200;
 
 /// The kind of an error, where there is one.
 fn kind(error: Option<&Error>) -> Option<ErrorKind> {
@@ -98,6 +103,23 @@ fn left_over_files_are_replaced(rt: HostRuntime) -> Result<(), Fail> {
     let mut client = UnixLinker::dial(&rt, path);
     assert!(rt; client.connect().is_ok() && host.connect().is_ok());
     Ok(())
+}
+
+/// Who comes late is taken still.
+#[test]
+fn the_late_are_taken(rt: HostRuntime) {
+    let path = "late.sock";
+    let mut host = UnixLinker::listen(&rt, path);
+    let mut client = UnixLinker::dial(&rt, path);
+    let (taken, dialed) = join(
+        &rt,
+        || host.connect().is_ok(),
+        || {
+            thread::sleep(&rt, Duration::from_millis(LATE));
+            client.connect().is_ok()
+        },
+    );
+    assert!(rt; taken && dialed);
 }
 
 #[test]

@@ -10,6 +10,7 @@ use rd_unix::{SystemClock, UnixLinker};
 use std::alloc::AllocError;
 use std::fs::File;
 use std::io;
+use std::io::Eprint;
 use std::net::Net;
 use std::process::ExitCode;
 use std::rt::Files;
@@ -61,7 +62,7 @@ fn main(rt: HostRuntime) -> ExitCode {
 }
 
 /// The linker: it listens at the path of a host, where there is one, and dials any other.
-fn linker_at<'a, R: Files + Net>(
+fn linker_at<'a, R: Files + Net + Eprint>(
     rt: &'a R,
     host: Option<&'a str>,
     path: &'a str,

@@ -3,9 +3,9 @@
 
 ghost use Rattle.std.specs.Prelude.{◌≡◌, None};
 
-use rd_base::{Books, Bytes, Calls, Failed, Key, MemSink, PlainSink, PlainSource, Sink, Source};
-use rd_cli::run;
-use rd_link::{FixedClock, Gate, Hang, Linker, MemIn, MemLinker, MemOut};
+use crate::serving::{serve, waits_for};
+use rd_base::{Bytes, Calls, Failed, Key, MemSink, Sink, Source};
+use rd_link::{Gate, Hang, Linker, MemIn, MemLinker, MemOut};
 use std::alloc::{AllocError, Global};
 use std::process::Abort;
 use std::sync::Wait;
@@ -53,9 +53,6 @@ const OF_SECOND: &[u8; 8] = b"rDCI\x02\0\0\0";
 
 const OF_NONE: &[u8; 8] = b"rDCI\x03\0\0\0";
 
-/// How often anybody looks at most, with a yield after each look.
-const LOOKS: u32 = 1_000_000;
-
 /// How often the host knocks at most.
 const KNOCKS: u64 = 10_000;
 
@@ -92,14 +89,11 @@ impl Shared {
 
     /// Waits until so many were written. False where they weren't in the end.
     fn waits_for(&self, written: &AtomicU64, count: u64) -> bool {
-        for _ in 0..LOOKS {
-            if written.load(SeqCst) >= count {
-                return true;
-            }
-            thread::yield_now();
+        let came = waits_for(written, count);
+        if !came {
+            self.gave_up.store(true, SeqCst);
         }
-        self.gave_up.store(true, SeqCst);
-        false
+        came
     }
 }
 
@@ -279,41 +273,6 @@ fn none(alloc: Global) -> Calls {
     Calls::of(Vec::new(alloc))
 }
 
-fn words(alloc: Global) -> Result<Vec<String>, AllocError> {
-    let words = vec![in alloc;
-        String::from_str(alloc, "client")?,
-        String::from_str(alloc, "rdr.sock")?,
-    ]?;
-    Ok(words)
-}
-
-/// Runs the client over a linker, and returns its status.
-fn serve<L: Linker, G: Gate + Sync>(
-    rt: &(impl Threads + Wait + Sync),
-    alloc: Global,
-    output: &mut MemSink,
-    linker: &mut L,
-    gate: &G,
-) -> Result<u8, AllocError> {
-    let words = words(alloc)?;
-    let script = Bytes::of(SCRIPT.to_vec(alloc)?);
-    let mut books = Books::new(alloc);
-    let status = run(
-        rt,
-        alloc,
-        words.as_slice(),
-        &mut PlainSource::new(script),
-        output,
-        &mut PlainSink::new(),
-        &mut PlainSink::new(),
-        linker,
-        &FixedClock(0),
-        gate,
-        &mut books,
-    );
-    Ok(status)
-}
-
 /// What came of the client: its status, whether it printed what it should, and whether it wrote the completions last, in their order.
 fn came_of(
     rt: &(impl Threads + Wait + Sync + AllocGlobal),
@@ -322,7 +281,7 @@ fn came_of(
     let alloc = rt.alloc();
     let mut output = MemSink::new(alloc, none(alloc));
     let mut host = Host::new(alloc, shared)?;
-    let status = serve(rt, alloc, &mut output, &mut host, shared)?;
+    let status = serve(rt, alloc, "client", SCRIPT, &mut output, &mut host, shared)?;
     let printed = output.bytes() == LINES;
     let completed = host.written().ends_with(COMPLETIONS);
     Ok((status, printed, completed))
