@@ -19,7 +19,7 @@ use Rattle.rd_world.specs.Talk.{Deed, host_begins, host_ends}
 use Rattle.rd_hosted.specs.Asks.{asks_among, table_at}
 use Rattle.rd_hosted.specs.Kept.{AsksInRange}
 use Rattle.rd_hosted.proofs.BetweenLemmas.{AcceptsNone, IsTableHistory, accepted_still, earlier_history, handed_still, step_behind}
-use Rattle.rd_hosted.proofs.StandLemmas.{asks_read, asks_written, begin_stands, deeds_for, end_stands, side, stands_as}
+use Rattle.rd_hosted.proofs.StandLemmas.{asks_moved, asks_read, asks_written, begin_stands, deeds_for, end_stands, side, stands_as}
 use Rattle.rd_hosted.proofs.ToldLemmas.{StandsAt, Told, nothing, quiet_stands, told_as}
 
 -- where a history ends with a call, behind quiet ones
@@ -47,6 +47,7 @@ begin_told channel core a added c by deeds place quiet legal fit s =
       });
       read = λ x. asks_read x (asks_among added);
       written = λ x. asks_written x (asks_among added);
+      moved = λ x. asks_moved x (asks_among added);
     }
   where
     opened : (t : TableState) → t.channel ≡ None → ((table.begin t channel).0).channel ≡ Some channel
@@ -77,6 +78,7 @@ end_told channel core a added c by does back deeds place quiet legal fit accepts
       });
       read = λ x. asks_read x (asks_among added);
       written = λ x. asks_written x (asks_among added);
+      moved = λ x. asks_moved x (asks_among added);
     }
 
 -- a call that leaves the table as it was
@@ -97,6 +99,7 @@ idle_told core a added c by does back open_on deeds place quiet legal fit accept
       });
       read = λ x. asks_read x (asks_among added);
       written = λ x. asks_written x (asks_among added);
+      moved = λ x. asks_moved x (asks_among added);
     }
 
 -- ---- the table is asked to drop a channel if all was sent

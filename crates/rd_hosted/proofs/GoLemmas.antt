@@ -1,9 +1,11 @@
 -- What a whole history of a host's front tells: each call by its parts, one after the other.
-use Rattle.std.proofs.Common.{◌≡◌, ◌∙◌, refl, sym, ap, subst, ℕ, ◌==◌, ◌&&◌, Bool, true, false, cond, List, [], ◌∷◌, ◌++◌, Some, None, Option, Ok, Err, Result, eqb-true}
-use Rattle.std.specs.Prelude.{MatchBool, not, reverse}
+use Rattle.std.proofs.Common.{◌≡◌, ◌∙◌, refl, sym, ap, subst, ℕ, ◌==◌, ◌&&◌, Bool, true, false, cond, List, [], ◌∷◌, ◌++◌, append_assoc, Some, None, Option, Ok, Err, Result, eqb-true}
+use Rattle.std.specs.Prelude.{MatchBool, map, not, reverse}
 use Rattle.std.specs.List.{AllByRecursion}
 use Rattle.std.specs.declared.alloc.AllocError.{AllocError}
 use Rattle.std.proofs.lemmas.List.{reverse-append}
+use Rattle.rd_hello.specs.Moves as move
+use Rattle.rd_hello.specs.Moves.{Move}
 use Rattle.rd_hello.specs.declared.end_fault.EndFault.{EndFault}
 use Rattle.rd_host.specs.declared.act.Act.{Act}
 use Rattle.rd_host.specs.declared.act.Act.TheVariants as act
@@ -27,16 +29,16 @@ use Rattle.rd_host_front.specs.State.{FrontPassState, HostFrontState, PassOfTabl
 use Rattle.rd_host_front.proofs.GoingLemmas.{core_of, table_of}
 use Rattle.rd_host_turns.specs.Turns.{ArePartsOf, HandsThrough, IsOwnCall, IsWithoutCall, PartsAlong, SeenAlong, TableEntry, TablePart, TablePartsGo, all_parts, calls, renews, renews_by}
 use Rattle.rd_host_threads.specs.Calls.{AreHostsCalls, IsHeardReply, IsMadeBy}
-use Rattle.rd_world.specs.Talk.{Deed}
+use Rattle.rd_world.specs.Talk.{Deed, host_moves, host_read, host_wrote}
 use Rattle.rd_hosted.specs.Asks.{asks_among}
 use Rattle.rd_hosted.specs.Heard.{DoesAsked, DoesHeard, IsOnStill, took_message, served_in}
-use Rattle.rd_hosted.specs.Kept.{AsksInRange}
+use Rattle.rd_hosted.specs.Kept.{AsksInRange, moves_by, moves_on}
 use Rattle.rd_hosted.proofs.BetweenLemmas.{IsTableHistory, earlier_history, fit_in, fit_last, seen_prefix}
 use Rattle.rd_hosted.proofs.HeardLemmas.{channel_in, heard, on_of}
 use Rattle.rd_hosted.proofs.HearToldLemmas.{HeardOn, complete_heard, lives_go, lives_heard, lives_own, plain_heard, removes_go, removes_heard, removes_own}
 use Rattle.rd_hosted.proofs.SendToldLemmas.{HandsTold, all_on, fills_told, parts_on, seen_split, those}
 use Rattle.rd_hosted.proofs.EndToldLemmas.{begin_told, drop_told, emptied, ended_told, kept_told}
-use Rattle.rd_hosted.proofs.ToldLemmas.{StandsAt, Told, nothing, only, told_alike, told_nothing, told_quiet, told_then}
+use Rattle.rd_hosted.proofs.ToldLemmas.{StandsAt, Told, moved_more, moves_of, nothing, only, read_more, told_alike, told_as, told_nothing, told_quiet, told_then, written_more}
 
 -- the channel that is on, if one is
 abbrev pub channel_of : HostFrontState → Option ℕ
@@ -174,6 +176,15 @@ renewed_if false first last old new did = record {
   still = (ap on_of did.1, ap channel_in did.1);
   tells = λ core open_on a c seen legal fit deeds s. told_nothing core core a c open_on deeds refl seen s;
 }
+
+map_on : {A B : Type 0} (f : A → B) (xs ys : List A) → map f (xs ++ ys) ≡ map f xs ++ map f ys
+map_on f [] ys = refl
+map_on {A} {B} f (x ∷ xs) ys = ap (λ (l : List B). f x ∷ l) (map_on f xs ys)
+
+reversed_map : {A B : Type 0} (f : A → B) (xs : List A) → map f (reverse xs) ≡ reverse (map f xs)
+reversed_map f [] = refl
+reversed_map {A} {B} f (x ∷ xs) =
+    ap (map f) (reverse-append (x ∷ []) xs) ∙ (map_on f (reverse xs) (x ∷ []) ∙ (ap (λ (l : List B). l ++ f x ∷ []) (reversed_map f xs) ∙ sym (reverse-append (f x ∷ []) (map f xs))))
 
 module _ {W : Type 0} where
   -- What a call of the front tells, by parts.
@@ -380,7 +391,7 @@ module _ {W : Type 0} where
         let two = kept_told old.core b added c by (channel_of old) (one.more ++ deeds) whole quiet legal fit_added one.stands in
         subst (λ (h : HostCoreState). Told h c (channel_of new) nothing nothing deeds) (sym (ap core_of (same ∙ made.1) ∙ r.core))
         (subst (λ (o : Option ℕ). Told old.core c o nothing nothing deeds) (sym (ap channel_of (same ∙ made.1) ∙ on_still old next r.still))
-        (told_then old.core old.core b c (channel_of old) (channel_of old) nothing nothing nothing nothing deeds one two));
+        (told_then old.core old.core b c (channel_of old) (channel_of old) nothing nothing deeds one two));
   }
 
   -- it was, and the channel ended
@@ -405,11 +416,11 @@ module _ {W : Type 0} where
             let one = r.tells old.core (channel_of old) a b first_seen (earlier_history b on.0 c (sym on.1) legal) (fit_in AsksInRange b on.0 c on.1 fit) deeds s in
             let fit_added = fit_last AsksInRange b added (fit_in AsksInRange (b ++ added) (entry by ask.DropSent (replied.DroppedSent true) ∷ []) d (sym whole) fit_d) in
             let two = drop_told old.core b added d by (channel_of old) (one.more ++ deeds) none whole quiet legal_d fit_added one.stands in
-            let both = told_then old.core old.core b d (channel_of old) None nothing nothing nothing nothing deeds one two in
+            let both = told_then old.core old.core b d (channel_of old) None nothing nothing deeds one two in
             let three = renewal_told handed last old.core None d c renewing legal fit (both.more ++ deeds) both.stands in
             subst (λ (h : HostCoreState). Told h c (channel_of new) nothing nothing deeds) (sym core)
             (subst (λ (o : Option ℕ). Told old.core c o nothing nothing deeds) (sym (ap channel_of is))
-            (told_then old.core old.core d c None None nothing nothing nothing nothing deeds both three));
+            (told_then old.core old.core d c None None nothing nothing deeds both three));
       }
 
   drop_step : (first last : PassOfTable) (anew : Bool) (what : Came) (old new : HostFrontState) → (what ≡ came.Refused → ⊥) → HostFrontStep {W = W} old (call.DropSent first anew) (reply.First last what) new
@@ -442,19 +453,55 @@ module _ {W : Type 0} where
   step_told by (call.Next channel room) back old new made step = next_step channel room back old new step
   step_told by does back old new made step = absurd made
 
+  -- the moves of one call, the newest first
+  moved_as : (x : ℕ) (does : HostFrontCall W) (back : HostFrontReply W) → moves_of (reverse (messages_by x does back)) (reverse (heard_by x does back)) ≡ reverse (moves_by x does back)
+  moved_as x does back =
+      ap (λ (l : List Move). l ++ map (λ m. move.reads m) (reverse (heard_by x does back))) (reversed_map (λ m. move.writes m) (messages_by x does back))
+      ∙ (ap (λ (l : List Move). reverse (map (λ m. move.writes m) (messages_by x does back)) ++ l) (reversed_map (λ m. move.reads m) (heard_by x does back))
+      ∙ sym (reverse-append (map (λ m. move.reads m) (heard_by x does back)) (map (λ m. move.writes m) (messages_by x does back))))
+
+  -- What stands after a history, by more deeds than before.
+  pub record ToldAlong (entries : List (HostEntry W)) (core : HostCoreState) (seen : List TableEntry) (open_on : Option ℕ) (deeds : List Deed) : Type 0 where
+    pub more : List Deed
+    pub stands : StandsAt core seen open_on (more ++ deeds)
+    pub read : (c : ℕ) → host_read c more ≡ reverse (messages_heard c entries)
+    pub written : (c : ℕ) → host_wrote c more ≡ reverse (messages_for c entries)
+    pub moved : (c : ℕ) → host_moves c more ≡ reverse (moves_on c entries)
+
+  none_along : (core other : HostCoreState) (a c : List TableEntry) (open_on on_now : Option ℕ) (deeds : List Deed) → core ≡ other → c ≡ a → open_on ≡ on_now → StandsAt core a open_on deeds → ToldAlong [] other c on_now deeds
+  none_along core other a c open_on on_now deeds same is on s = record {
+    more = [];
+    stands = told_as core other a a c open_on on_now deeds same (sym is) on s;
+    read = λ x. refl;
+    written = λ x. refl;
+    moved = λ x. refl;
+  }
+
+  one_along : (e : HostEntry W) (entries : List (HostEntry W)) (mid core : HostCoreState) (b c : List TableEntry) (open_on on_now : Option ℕ) (deeds : List Deed)
+      → (one : Told mid b open_on (λ x. reverse (heard_by x e.call e.reply)) (λ x. reverse (messages_by x e.call e.reply)) deeds) → ToldAlong entries core c on_now (one.more ++ deeds) → ToldAlong (e ∷ entries) core c on_now deeds
+  one_along e entries mid core b c open_on on_now deeds one rest = record {
+    more = rest.more ++ one.more;
+    stands = subst (StandsAt core c on_now) (sym (append_assoc rest.more one.more deeds)) rest.stands;
+    read = λ x. read_more x rest.more one.more ∙ (ap (λ (l : List (List ℕ)). l ++ host_read x one.more) (rest.read x) ∙ (ap (λ (l : List (List ℕ)). reverse (messages_heard x entries) ++ l) (one.read x)
+        ∙ sym (reverse-append (heard_by x e.call e.reply) (messages_heard x entries))));
+    written = λ x. written_more x rest.more one.more ∙ (ap (λ (l : List (List ℕ)). l ++ host_wrote x one.more) (rest.written x) ∙ (ap (λ (l : List (List ℕ)). reverse (messages_for x entries) ++ l) (one.written x)
+        ∙ sym (reverse-append (messages_by x e.call e.reply) (messages_for x entries))));
+    moved = λ x. moved_more x rest.more one.more ∙ (ap (λ (l : List Move). l ++ host_moves x one.more) (rest.moved x) ∙ (ap (λ (l : List Move). reverse (moves_on x entries) ++ l) (one.moved x ∙ moved_as x e.call e.reply)
+        ∙ sym (reverse-append (moves_by x e.call e.reply) (moves_on x entries))));
+  }
+
   -- What a history tells.
   pub record HistoryTold (entries : List (HostEntry W)) (here there : HostFrontState) : Type 0 where
     pub parts : List (List TablePart)
     pub along : PartsAlong here.table entries parts there.table
     pub tells : (a c : List TableEntry) → SeenAlong a (all_parts parts) c → IsTableHistory c → AllByRecursion AsksInRange (asks_among c) → (deeds : List Deed) → StandsAt here.core a (channel_of here) deeds
-        → Told there.core c (channel_of there) (λ x. reverse (messages_heard x entries)) (λ x. reverse (messages_for x entries)) deeds
+        → ToldAlong entries there.core c (channel_of there) deeds
 
   pub history_told : (entries : List (HostEntry W)) (here there : HostFrontState) → AreHostsCalls entries → Leads HostFrontStep here entries there → HistoryTold entries here there
   history_told [] here there made is = record {
     parts = [];
     along = sym (ap table_of is);
-    tells = λ a c seen legal fit deeds s.
-        subst (λ (o : Option ℕ). Told there.core c o nothing nothing deeds) (ap channel_of is) (told_nothing here.core there.core a c (channel_of here) deeds (ap core_of is) seen s);
+    tells = λ a c seen legal fit deeds s. none_along here.core there.core a c (channel_of here) (channel_of there) deeds (ap core_of is) seen (ap channel_of is) s;
   }
   history_told (e ∷ entries) here there made (next, step, leads) =
       let one = step_told e.by e.call e.reply here next made.0 step in
@@ -466,8 +513,5 @@ module _ {W : Type 0} where
             let (b, first, others) = seen_split one.parts (all_parts rest.parts) a c seen in
             let on = seen_prefix (all_parts rest.parts) b c others in
             let told = one.tells a b first (earlier_history b on.0 c (sym on.1) legal) (fit_in AsksInRange b on.0 c on.1 fit) deeds s in
-            let more = rest.tells b c others legal fit (told.more ++ deeds) told.stands in
-            told_alike there.core c (channel_of there) _ _ (λ x. reverse (messages_heard x (e ∷ entries))) (λ x. reverse (messages_for x (e ∷ entries))) deeds
-            (λ x. sym (reverse-append (heard_by x e.call e.reply) (messages_heard x entries))) (λ x. sym (reverse-append (messages_by x e.call e.reply) (messages_for x entries)))
-            (told_then there.core next.core b c (channel_of next) (channel_of there) _ _ _ _ deeds told more);
+            one_along e entries next.core there.core b c (channel_of next) (channel_of there) deeds told (rest.tells b c others legal fit (told.more ++ deeds) told.stands);
       }

@@ -6,6 +6,7 @@ use Rattle.rd_devices.specs.declared.list.Announce.{Announce}
 use Rattle.rd_hello.specs.declared.end_fault.EndFault.{EndFault}
 use Rattle.rd_host.specs.declared.act.Act.{Act}
 use Rattle.rd_host.specs.declared.act.Act.TheVariants as act
+use Rattle.rd_hello.specs.Moves.{Move}
 use Rattle.rd_host.specs.Core.{HostCoreState, host_hear}
 use Rattle.rd_irp.specs.declared.completion.Head.{Head}
 use Rattle.rd_pending.specs.declared.calls.CompleteNo.{CompleteNo}
@@ -34,15 +35,15 @@ use Rattle.rd_exchanges.proofs.CallLemmas.{none_handed, submissions_ask}
 use Rattle.rd_host_front.specs.State.{FrontPassState}
 use Rattle.rd_host_turns.specs.Turns.{AreQuiet, IsOwnCall, SeenAlong, TableEntry, TablePart, TablePartsGo}
 use Rattle.rd_world.specs.Host.{HostSide, hears, host_heard}
-use Rattle.rd_world.specs.Talk.{Deed, host_read, host_reads, host_wrote}
+use Rattle.rd_world.specs.Talk.{Deed, host_moves, host_read, host_reads, host_wrote}
 use Rattle.rd_hosted.specs.Asks.{asks_among, table_at}
 use Rattle.rd_hosted.specs.Heard.{LivesAll, RemovesAll, replying, served_in}
 use Rattle.rd_hosted.specs.Kept.{AsksInRange}
 use Rattle.rd_hosted.proofs.BetweenLemmas.{AcceptsNone, AreAnswers, Between, IsStepCall, IsTableHistory, accepted_still, between, calls_for, earlier_history, handed_still, step_behind}
 use Rattle.rd_hosted.proofs.ChannelLemmas.{PartKeepsOpen, call_channel, seen_channel}
 use Rattle.rd_hosted.proofs.HearLemmas.{admits_all, forgets_all, hears_as}
-use Rattle.rd_hosted.proofs.StandLemmas.{Stands, asks_read, asks_stand, asks_written, deeds_for, read_stands, side, stands_as}
-use Rattle.rd_hosted.proofs.ToldLemmas.{StandsAt, Told, nothing, only, quiet_stands, read_first, read_more, told_as, written_more}
+use Rattle.rd_hosted.proofs.StandLemmas.{Stands, asks_moved, asks_read, asks_stand, asks_written, deeds_for, read_stands, side, stands_as}
+use Rattle.rd_hosted.proofs.ToldLemmas.{StandsAt, Told, moved_more, moved_read, nothing, only, quiet_stands, read_first, read_more, told_as, written_more}
 
 -- What stands after a message that was heard on a channel.
 abbrev pub HeardOn : HostCoreState → List TableEntry → ℕ → List ℕ → List Deed → Type 0
@@ -175,6 +176,7 @@ plain_heard channel m core next old new answer deeds hears_is stays is s = recor
   });
   read = λ c. read_first c channel m [] refl;
   written = λ c. refl;
+  moved = λ c. moved_read c channel m [] refl;
 }
 
 -- ---- a completion
@@ -211,6 +213,7 @@ complete_heard channel m core next old added new by head body answer deeds hears
       });
       read = λ c. read_first c channel m (deeds_for (asks_among added)) (asks_read c (asks_among added));
       written = λ c. asks_written c (asks_among added);
+      moved = λ c. moved_read c channel m (deeds_for (asks_among added)) (asks_moved c (asks_among added));
     }
 
 -- ---- devices that are announced
@@ -249,6 +252,8 @@ lives_heard channel m core next old new devices lives deeds hears_is fine seen l
           ∙ (ap (λ (l : List (List ℕ)). l ++ host_read c (host_reads channel m ∷ asked_first)) (asks_read c behind) ∙ read_first c channel m asked_first (asks_read c (asks_among b.first)));
       written = λ c. written_more c (deeds_for behind) (host_reads channel m ∷ asked_first)
           ∙ (ap (λ (l : List (List ℕ)). l ++ host_wrote c asked_first) (asks_written c behind) ∙ asks_written c (asks_among b.first));
+      moved = λ c. moved_more c (deeds_for behind) (host_reads channel m ∷ asked_first)
+          ∙ (ap (λ (l : List Move). l ++ host_moves c (host_reads channel m ∷ asked_first)) (asks_moved c behind) ∙ moved_read c channel m asked_first (asks_moved c (asks_among b.first)));
     }
 
 -- ---- devices that are gone
@@ -299,4 +304,7 @@ removes_heard channel m core next old new ids answers deeds hears_is fine seen l
       written = λ c. written_more c (deeds_for outs) (host_reads channel m ∷ early)
           ∙ (ap (λ (l : List (List ℕ)). l ++ host_wrote c early) (asks_written c outs)
           ∙ (written_more c (deeds_for subs) first_deeds ∙ (ap (λ (l : List (List ℕ)). l ++ host_wrote c first_deeds) (asks_written c subs) ∙ asks_written c (asks_among b.first))));
+      moved = λ c. moved_more c (deeds_for outs) (host_reads channel m ∷ early)
+          ∙ (ap (λ (l : List Move). l ++ host_moves c (host_reads channel m ∷ early)) (asks_moved c outs)
+          ∙ moved_read c channel m early (moved_more c (deeds_for subs) first_deeds ∙ (ap (λ (l : List Move). l ++ host_moves c first_deeds) (asks_moved c subs) ∙ asks_moved c (asks_among b.first))));
     }

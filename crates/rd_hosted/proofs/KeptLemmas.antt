@@ -1,12 +1,13 @@
 -- A host keeps its table: its front's history goes by parts, between which only quiet calls stand in the table's.
 use Rattle.std.proofs.Common.{◌≡◌, ◌∙◌, ◌≢◌, refl, sym, ap, subst, ℕ, List, [], ◌∷◌, ◌++◌, append-nil, Some, None, Option, Ok, arith}
-use Rattle.std.specs.Prelude.{Contains, reverse}
+use Rattle.std.specs.Prelude.{Contains}
 use Rattle.std.specs.List.{AllByRecursion}
 use Rattle.std.specs.declared.marker.Brand.{Brand}
 use Rattle.rd_carry.specs.declared.ended.Ended.{Ended}
 use Rattle.rd_carry.specs.declared.ended.Ended.TheVariants as ended
+use Rattle.rd_hello.specs.Moves.{Move}
 use Rattle.rd_host.specs.Core.{HostCoreState, new_host}
-use Rattle.rd_host_channel.specs.Calls.{HostEntry, messages_for, messages_heard}
+use Rattle.rd_host_channel.specs.Calls.{HostEntry}
 use Rattle.rd_host_front.specs.HostFront.{HostFrontStep}
 use Rattle.rd_host_front.specs.State.{HostFrontState}
 use Rattle.rd_host_lines.specs.Requests.{AcceptsCallInRange, AreInRange}
@@ -35,14 +36,14 @@ use Rattle.rd_turn.specs.Pass.{first_pass}
 use Rattle.rd_world.specs.Host.{HostSide}
 use Rattle.rd_world.specs.HostDeeds.{calls_of}
 use Rattle.rd_world.specs.Recording.{client_id}
-use Rattle.rd_world.specs.Talk.{takes}
+use Rattle.rd_world.specs.Talk.{Deed, host_moves, host_read, host_wrote, takes}
 use Rattle.rd_world.proofs.Calls.{calls_hold, calls_since, table_of}
 use Rattle.rd_hosted.specs.Asks.{asked_as, asks_among, table_at}
 use Rattle.rd_hosted.specs.Kept.{AsksInRange, CameOf, IsTakenIn, KeepsTable, calls_of_front, calls_of_table}
 use Rattle.rd_hosted.proofs.BetweenLemmas.{IsTableHistory, earlier_history, fit_in, fit_last}
-use Rattle.rd_hosted.proofs.GoLemmas.{HistoryTold, channel_of, history_told}
+use Rattle.rd_hosted.proofs.GoLemmas.{HistoryTold, ToldAlong, channel_of, history_told}
 use Rattle.rd_hosted.proofs.StandLemmas.{Stands}
-use Rattle.rd_hosted.proofs.ToldLemmas.{StandsAt, Told, nothing, told_alike, told_quiet, told_then}
+use Rattle.rd_hosted.proofs.ToldLemmas.{StandsAt, Told, moved_more, nothing, read_more, told_quiet, written_more}
 
 -- each request that was accepted has room for its numbers: so have all that were asked for
 abbrev FitAsks : List TableEntry → Type 0
@@ -60,28 +61,30 @@ all_fit (e ∷ seen) fit = one_fits e.call e.reply (asks_among seen) fit.0 (all_
 -- where a host begins
 begins_so : StandsAt (new_host 1) [] None []
 begins_so = record {
-  stands = record { may = tt; stands = refl; accepted_are = refl; gives = λ number taken has. absurd (none (number, taken) has) };
+  stands = record { own = tt; may = tt; stands = refl; accepted_are = refl; gives = λ number taken has. absurd (none (number, taken) has) };
   channel = refl;
 }
   where
     none : (x : ℕ × Taken) → Contains [] x → ⊥
     none x has = let low = has.1 in omega (arith, low)
 
--- what is told of a host is what it keeps
-kept_so : {W : Type 0} (core : HostCoreState) (seen : List TableEntry) (open_on : Option ℕ) (entries : List (HostEntry W))
-    → Told core seen open_on (λ c. reverse (messages_heard c entries)) (λ c. reverse (messages_for c entries)) [] → KeepsTable seen entries
-kept_so core seen open_on entries told =
-    let s = told.stands in
-    let whole : told.more ++ [] ≡ told.more = append-nil told.more in
-    let stands = subst (Stands core (table_at seen) _ _) whole s.stands in
+-- what is told of a host is what it keeps, with what applications asked last
+kept_so : {W : Type 0} (core : HostCoreState) (own seen : List TableEntry) (open_on : Option ℕ) (entries : List (HostEntry W)) → (told : ToldAlong entries core own open_on []) → Told core seen open_on nothing nothing (told.more ++ [])
+    → KeepsTable seen entries
+kept_so core own seen open_on entries told last =
+    let deeds : List Deed = last.more ++ told.more in
+    let whole : last.more ++ (told.more ++ []) ≡ deeds = ap (λ (l : List Deed). last.more ++ l) (append-nil told.more) in
+    let stands = subst (Stands core (table_at seen) _ _) whole (last.stands).stands in
     record {
-      deeds = told.more;
+      deeds = deeds;
+      own = stands.own;
       may = stands.may;
       leads = ap (λ (x : HostSide). x.table) stands.stands;
       accepted_are = stands.accepted_are;
       gives = stands.gives;
-      read = told.read;
-      written = told.written;
+      read = λ c. read_more c last.more told.more ∙ (ap (λ (l : List (List ℕ)). l ++ host_read c told.more) (last.read c) ∙ told.read c);
+      written = λ c. written_more c last.more told.more ∙ (ap (λ (l : List (List ℕ)). l ++ host_wrote c told.more) (last.written c) ∙ told.written c);
+      moves = λ c. moved_more c last.more told.more ∙ (ap (λ (l : List Move). l ++ host_moves c told.more) (last.moved c) ∙ told.moved c);
     }
 
 pub host_keeps : (lines : List NumberedLine) (other : Option Ended) (told : List ((ℕ × ℕ) × Outcome)) (old new : LinkedTold) → AreSubmittable lines → other ≢ Some ended.Memory → (hosts : Hosts lines other told old new)
@@ -103,9 +106,7 @@ host_keeps lines other told old new submittable found hosts =
     let fit_own = fit_in AsksInRange own rest (hosts.last).seen (sym whole) fit in
     let done = history.tells [] own quiet.0 legal_own fit_own [] begins_so in
     let ended = told_quiet (plays.closed).core own rest (hosts.last).seen (channel_of plays.closed) (done.more ++ []) whole quiet.1.2 legal (fit_last AsksInRange own rest (subst FitAsks whole fit)) done.stands in
-    kept_so (plays.closed).core (hosts.last).seen (channel_of plays.closed) entries
-    (told_alike (plays.closed).core (hosts.last).seen (channel_of plays.closed) _ _ (λ c. reverse (messages_heard c entries)) (λ c. reverse (messages_for c entries)) [] (λ c. refl) (λ c. refl)
-    (told_then (plays.closed).core (plays.closed).core own (hosts.last).seen (channel_of plays.closed) (channel_of plays.closed) _ _ nothing nothing [] done ended))
+    kept_so (plays.closed).core own (hosts.last).seen (channel_of plays.closed) entries done ended
 
 -- ---- outcomes
 

@@ -24,9 +24,9 @@ use Rattle.rd_hosted.specs.Heard.{IsOnStill}
 use Rattle.rd_hosted.specs.Kept.{AsksInRange}
 use Rattle.rd_hosted.proofs.BetweenLemmas.{AcceptsNone, IsTableHistory, accepted_still, earlier_history, fit_in, fit_last, handed_still, seen_prefix, step_behind}
 use Rattle.rd_hosted.proofs.ChannelLemmas.{call_channel}
-use Rattle.rd_hosted.proofs.StandLemmas.{asks_read, asks_written, deeds_for, side, stands_as, write_stands}
+use Rattle.rd_hosted.proofs.StandLemmas.{asks_moved, asks_read, asks_written, deeds_for, side, stands_as, write_stands}
 use Rattle.rd_hosted.proofs.HeardLemmas.{channel_in, on_of, still_then}
-use Rattle.rd_hosted.proofs.ToldLemmas.{StandsAt, Told, nothing, only, quiet_stands, told_alike, told_as, told_nothing, told_then, written_first}
+use Rattle.rd_hosted.proofs.ToldLemmas.{StandsAt, Told, moved_write, moves_of, nothing, only, quiet_stands, told_alike, told_as, told_nothing, told_then, written_first}
 
 -- ---- parts, one after the other
 
@@ -119,6 +119,7 @@ own_told channel message core next a deeds is s =
       stands = record { stands = write_stands channel message core (table_at a) (side next (table_at a)) (accepted_in (table_history a)) (handed_in a) deeds s.stands s.channel waits leads; channel = s.channel };
       read = λ c. refl;
       written = λ c. written_first c channel message [] [] refl ∙ append-nil (only channel message c);
+      moved = λ c. moved_write c channel message [] refl;
     }
 
 request_told : (channel : ℕ) (message : List ℕ) (core : HostCoreState) (a added c : List TableEntry) (by : ℕ) (deeds : List Deed) → (core.core).outbox ≡ [] → c ≡ (a ++ added) ++ entry by ask.Outbox (reply.Sent (Some message)) ∷ [] → AreQuiet added
@@ -143,6 +144,7 @@ request_told channel message core a added c by deeds empty place quiet legal fit
       });
       read = λ x. asks_read x (asks_among added);
       written = λ x. written_first x channel message (deeds_for (asks_among added)) [] (asks_written x (asks_among added)) ∙ append-nil (only channel message x);
+      moved = λ x. moved_write x channel message (deeds_for (asks_among added)) (asks_moved x (asks_among added));
     }
 
 empty_told : (channel : ℕ) (core : HostCoreState) (a added c : List TableEntry) (by : ℕ) (deeds : List Deed) → c ≡ (a ++ added) ++ entry by ask.Outbox (reply.Sent None) ∷ [] → AreQuiet added
@@ -162,6 +164,7 @@ empty_told channel core a added c by deeds place quiet legal fit s =
       });
       read = λ x. asks_read x (asks_among added);
       written = λ x. asks_written x (asks_among added) ∙ none_written channel x;
+      moved = λ x. asks_moved x (asks_among added) ∙ ap (λ (l : List (List ℕ)). moves_of l []) (none_written channel x);
     }
 
 -- one call for a message
@@ -215,8 +218,8 @@ joined_told channel old next new message later one others = record {
       let on = seen_prefix others.parts b c rest in
       let told = one.tells a b first (earlier_history b on.0 c (sym on.1) legal) (fit_in AsksInRange b on.0 c on.1 fit) deeds s in
       let more = others.tells b c rest legal fit (told.more ++ deeds) told.stands in
-      told_alike new.core c (Some channel) (λ x. nothing x ++ nothing x) (λ x. those channel later x ++ those channel (message ∷ []) x) nothing (those channel (message ∷ later)) deeds (λ x. refl) (λ x. those_more channel x message later)
-      (told_then new.core next.core b c (Some channel) (Some channel) nothing (those channel (message ∷ [])) nothing (those channel later) deeds told more);
+      told_alike new.core c (Some channel) nothing (λ x. those channel later x ++ those channel (message ∷ []) x) nothing (those channel (message ∷ later)) deeds (λ x. refl) (λ x. those_more channel x message later)
+      (told_then new.core next.core b c (Some channel) (Some channel) (those channel (message ∷ [])) (those channel later) deeds told more);
 }
 
 pub fills_told : (channel most : ℕ) (old new : HostFrontState) (messages : List (List ℕ)) (why : Stop) → FillsRoom most old messages why new → HandsTold channel old new messages

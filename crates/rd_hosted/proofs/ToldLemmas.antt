@@ -1,18 +1,21 @@
 -- What a call of a host's front tells of what the host did: what it comes to between quiet calls of the table.
 use Rattle.std.proofs.Common.{◌≡◌, ◌∙◌, refl, sym, ap, subst, ℕ, ◌==◌, Bool, true, false, cond, List, [], ◌∷◌, ◌++◌, append_assoc, Option}
 use Rattle.std.specs.List.{AllByRecursion}
+use Rattle.std.specs.Prelude.{map}
 use Rattle.std.proofs.lemmas.List.Elements.{filter_map-append}
+use Rattle.rd_hello.specs.Moves as move
+use Rattle.rd_hello.specs.Moves.{Move}
 use Rattle.rd_host.specs.Core.{HostCoreState}
 use Rattle.rd_pending.specs.History.{accepted_in}
 use Rattle.rd_table.specs.Histories.{handed_in, table_history}
 use Rattle.rd_exchanges.specs.Exchanges.{goes}
 use Rattle.rd_host_turns.specs.Turns.{AreQuiet, TableEntry}
-use Rattle.rd_world.specs.Talk.{Deed, host_read, host_reads, host_writes, host_wrote, read_by_host, written_by_host}
+use Rattle.rd_world.specs.Talk.{Deed, host_move, host_moves, host_read, host_reads, host_writes, host_wrote, read_by_host, written_by_host}
 use Rattle.rd_hosted.specs.Asks.{asks_among, table_at}
 use Rattle.rd_hosted.specs.Kept.{AsksInRange}
 use Rattle.rd_hosted.proofs.BetweenLemmas.{IsTableHistory, accepted_behind, asks_behind, handed_behind}
 use Rattle.rd_hosted.proofs.ChannelLemmas.{quiet_channel}
-use Rattle.rd_hosted.proofs.StandLemmas.{Stands, asks_read, asks_stand, asks_written, deeds_for, stands_as}
+use Rattle.rd_hosted.proofs.StandLemmas.{Stands, asks_moved, asks_read, asks_stand, asks_written, deeds_for, stands_as}
 
 -- ---- where a host stands by a history
 
@@ -21,12 +24,17 @@ pub record StandsAt (core : HostCoreState) (seen : List TableEntry) (open_on : O
   pub stands : Stands core (table_at seen) (accepted_in (table_history seen)) (handed_in seen) deeds
   pub channel : (table_at seen).channel ≡ open_on
 
+-- messages that were written, behind those that were read, the newest first: the moves of a call, which does one of both
+abbrev pub moves_of : List (List ℕ) → List (List ℕ) → List Move
+moves_of wrote read = map (λ message. move.writes message) wrote ++ map (λ message. move.reads message) read
+
 -- It stands so by more deeds than before, by which these messages were read and written on each channel, the newest first.
 pub record Told (core : HostCoreState) (seen : List TableEntry) (open_on : Option ℕ) (reads writes : ℕ → List (List ℕ)) (deeds : List Deed) : Type 0 where
   pub more : List Deed
   pub stands : StandsAt core seen open_on (more ++ deeds)
   pub read : (c : ℕ) → host_read c more ≡ reads c
   pub written : (c : ℕ) → host_wrote c more ≡ writes c
+  pub moved : (c : ℕ) → host_moves c more ≡ moves_of (writes c) (reads c)
 
 abbrev pub nothing : ℕ → List (List ℕ)
 nothing c = []
@@ -57,6 +65,28 @@ read_more c xs ys = filter_map-append (read_by_host c) xs ys
 pub written_more : (c : ℕ) (xs ys : List Deed) → host_wrote c (xs ++ ys) ≡ host_wrote c xs ++ host_wrote c ys
 written_more c xs ys = filter_map-append (written_by_host c) xs ys
 
+pub moved_more : (c : ℕ) (xs ys : List Deed) → host_moves c (xs ++ ys) ≡ host_moves c xs ++ host_moves c ys
+moved_more c xs ys = filter_map-append (host_move c) xs ys
+
+pub moved_read : (c channel : ℕ) (m : List ℕ) (deeds : List Deed) → host_moves c deeds ≡ [] → host_moves c (host_reads channel m ∷ deeds) ≡ moves_of [] (only channel m c)
+moved_read c channel m deeds none = go (channel == c) refl
+  where
+    go : (b : Bool) → (channel == c) ≡ b → host_moves c (host_reads channel m ∷ deeds) ≡ moves_of [] (only channel m c)
+    go true e = rw e (ap (λ (l : List Move). move.reads m ∷ l) none)
+    go false e = rw e none
+
+pub moved_write : (c channel : ℕ) (m : List ℕ) (deeds : List Deed) → host_moves c deeds ≡ [] → host_moves c (host_writes channel m ∷ deeds) ≡ moves_of (only channel m c) []
+moved_write c channel m deeds none = go (channel == c) refl
+  where
+    go : (b : Bool) → (channel == c) ≡ b → host_moves c (host_writes channel m ∷ deeds) ≡ moves_of (only channel m c) []
+    go true e = rw e (ap (λ (l : List Move). move.writes m ∷ l) none)
+    go false e = rw e none
+
+-- moves of messages that were written alone, of two lists
+writes_joined : (xs ys : List (List ℕ)) → moves_of xs [] ++ moves_of ys [] ≡ moves_of (xs ++ ys) []
+writes_joined [] ys = refl
+writes_joined (x ∷ xs) ys = ap (λ (l : List Move). move.writes x ∷ l) (writes_joined xs ys)
+
 -- ---- what applications ask
 
 pub quiet_stands : (core : HostCoreState) (old added : List TableEntry) (open_on : Option ℕ) (deeds : List Deed) → StandsAt core old open_on deeds → AreQuiet added → IsTableHistory (old ++ added) → AllByRecursion AsksInRange (asks_among added)
@@ -80,6 +110,7 @@ told_nothing core other old new open_on deeds same is s = record {
   stands = told_as core other old old new open_on open_on deeds same (sym is) refl s;
   read = λ c. refl;
   written = λ c. refl;
+  moved = λ c. refl;
 }
 
 pub told_quiet : (core : HostCoreState) (old added new : List TableEntry) (open_on : Option ℕ) (deeds : List Deed) → new ≡ old ++ added → AreQuiet added → IsTableHistory new → AllByRecursion AsksInRange (asks_among added) → StandsAt core old open_on deeds
@@ -89,18 +120,20 @@ told_quiet core old added new open_on deeds is quiet legal fit s = record {
   stands = told_as core core old (old ++ added) new open_on open_on (deeds_for (asks_among added) ++ deeds) refl (sym is) refl (quiet_stands core old added open_on deeds s quiet (subst IsTableHistory is legal) fit);
   read = λ c. asks_read c (asks_among added);
   written = λ c. asks_written c (asks_among added);
+  moved = λ c. asks_moved c (asks_among added);
 }
 
--- one told after another
-pub told_then : (core mid : HostCoreState) (between new : List TableEntry) (open_on on_now : Option ℕ) (reads writes more_reads more_writes : ℕ → List (List ℕ)) (deeds : List Deed) (one : Told mid between open_on reads writes deeds)
-    → Told core new on_now more_reads more_writes (one.more ++ deeds) → Told core new on_now (λ c. more_reads c ++ reads c) (λ c. more_writes c ++ writes c) deeds
-told_then core mid between new open_on on_now reads writes more_reads more_writes deeds one other = record {
+-- one told after another, where nothing was read
+pub told_then : (core mid : HostCoreState) (between new : List TableEntry) (open_on on_now : Option ℕ) (writes more_writes : ℕ → List (List ℕ)) (deeds : List Deed) (one : Told mid between open_on nothing writes deeds)
+    → Told core new on_now nothing more_writes (one.more ++ deeds) → Told core new on_now nothing (λ c. more_writes c ++ writes c) deeds
+told_then core mid between new open_on on_now writes more_writes deeds one other = record {
   more = other.more ++ one.more;
   stands = subst (StandsAt core new on_now) (sym (append_assoc other.more one.more deeds)) other.stands;
-  read = λ c. read_more c other.more one.more ∙ (ap (λ (l : List (List ℕ)). l ++ host_read c one.more) (other.read c) ∙ ap (λ (l : List (List ℕ)). more_reads c ++ l) (one.read c));
+  read = λ c. read_more c other.more one.more ∙ (ap (λ (l : List (List ℕ)). l ++ host_read c one.more) (other.read c) ∙ one.read c);
   written = λ c. written_more c other.more one.more ∙ (ap (λ (l : List (List ℕ)). l ++ host_wrote c one.more) (other.written c) ∙ ap (λ (l : List (List ℕ)). more_writes c ++ l) (one.written c));
+  moved = λ c. moved_more c other.more one.more ∙ (ap (λ (l : List Move). l ++ host_moves c one.more) (other.moved c) ∙ (ap (λ (l : List Move). moves_of (more_writes c) [] ++ l) (one.moved c) ∙ writes_joined (more_writes c) (writes c)));
 }
 
 pub told_alike : (core : HostCoreState) (new : List TableEntry) (open_on : Option ℕ) (reads writes other_reads other_writes : ℕ → List (List ℕ)) (deeds : List Deed) → ((c : ℕ) → reads c ≡ other_reads c) → ((c : ℕ) → writes c ≡ other_writes c)
     → Told core new open_on reads writes deeds → Told core new open_on other_reads other_writes deeds
-told_alike core new open_on reads writes other_reads other_writes deeds r w t = record { more = t.more; stands = t.stands; read = λ c. t.read c ∙ r c; written = λ c. t.written c ∙ w c }
+told_alike core new open_on reads writes other_reads other_writes deeds r w t = record { more = t.more; stands = t.stands; read = λ c. t.read c ∙ r c; written = λ c. t.written c ∙ w c; moved = λ c. t.moved c ∙ (ap (λ (l : List (List ℕ)). moves_of l (reads c)) (w c) ∙ ap (moves_of (other_writes c)) (r c)) }

@@ -1,8 +1,12 @@
 -- What a host did, as deeds by which it keeps its table, and how these tell the histories of its table and of its front.
-use Rattle.std.specs.Prelude.{◌≡◌, ℕ, suc, List, ◌∷◌, ◌++◌, length, reverse, Contains, Option, Ok}
+use Rattle.std.specs.Prelude.{◌≡◌, ℕ, suc, List, [], ◌∷◌, ◌++◌, length, map, reverse, Contains, Option, Ok}
+use Rattle.std.specs.List.{AllByRecursion}
 use Rattle.std.specs.declared.marker.Brand.{Brand}
 use Rattle.rd_carry.specs.declared.ended.Ended.{Ended}
-use Rattle.rd_host_channel.specs.Calls.{HostEntry, messages_for, messages_heard}
+use Rattle.rd_host_channel.specs.Calls.{HostEntry, heard_by, messages_by, messages_for, messages_heard}
+use Rattle.rd_host_front.specs.declared.calls.HostFrontCall.{HostFrontCall}
+use Rattle.rd_host_front.specs.declared.calls.HostFrontReply.{HostFrontReply}
+use Rattle.rd_hello.specs.Moves.{Move, reads, writes}
 use Rattle.rd_host_session.specs.Channels.{LinkedTold}
 use Rattle.rd_host_session.specs.Hosted.{Hosts}
 use Rattle.rd_host_turns.specs.Turns.{TableEntry}
@@ -17,13 +21,32 @@ use Rattle.rd_table.specs.Histories.{handed_in, table_history}
 use Rattle.rd_world.specs.HostDeeds.{IsInRange, MayDo, calls_of, side_of}
 use Rattle.rd_world.specs.Joining.{ClientCameTo}
 use Rattle.rd_world.specs.Recording.{client_id}
-use Rattle.rd_world.specs.Talk.{Deed, EachAfter, host_read, host_wrote, takes}
+use Rattle.rd_world.specs.Talk.{Deed, EachAfter, host_begins, host_ends, host_moves, host_read, host_reads, host_writes, host_wrote, submits, takes}
 use Rattle.rd_hosted.specs.Asks.{table_at}
 
 -- what is asked has numbers for which its message has room
 abbrev pub AsksInRange : Call → Type 0
 AsksInRange (call.submits application named o) = IsInRange named o
 AsksInRange _ = Unit {0}
+
+-- whether a host over a socket did it, which tells of no printer
+abbrev pub IsOfHost : Deed → Type 0
+IsOfHost (host_begins channel) = Unit {0}
+IsOfHost (host_ends channel) = Unit {0}
+IsOfHost (submits application named o) = Unit {0}
+IsOfHost (takes number) = Unit {0}
+IsOfHost (host_writes channel message) = Unit {0}
+IsOfHost (host_reads channel message) = Unit {0}
+IsOfHost _ = ⊥
+
+-- what a call of the front moves on a channel, in order: a message that is heard was read, and those that are handed out are written
+abbrev pub moves_by : {W : Type 0} → ℕ → HostFrontCall W → HostFrontReply W → List Move
+moves_by c does back = map (λ message. reads message) (heard_by c does back) ++ map (λ message. writes message) (messages_by c does back)
+
+-- what all calls of it move there
+abbrev pub moves_on : {W : Type 0} → ℕ → List (HostEntry W) → List Move
+moves_on c [] = []
+moves_on c (e ∷ entries) = moves_by c e.call e.reply ++ moves_on c entries
 
 -- One of these deeds is that a number was taken, and this is what the host's table gave for it.
 pub record IsTakenIn (deeds : List Deed) (number : ℕ) (taken : Taken) : Type 0 where
@@ -33,15 +56,17 @@ pub record IsTakenIn (deeds : List Deed) (number : ℕ) (taken : Taken) : Type 0
   pub gives : (table.take (side_of client_id before).table number).1 ≡ Ok taken
 
 -- What the host did, the newest first: by that it keeps its table, which is then the one after this history. The requests are those that were accepted in the history, in its order, and each outcome that was handed
--- out in it one of the deeds handed out. On each channel the messages were read and written that by these calls of the front were heard and handed out.
+-- out in it one of the deeds handed out. On each channel the messages were read and written that by these calls of the front were heard and handed out, in the order of these calls.
 pub record KeepsTable {W : Type 0} (seen : List TableEntry) (entries : List (HostEntry W)) : Type 0 where
   pub deeds : List Deed
+  pub own : AllByRecursion IsOfHost deeds
   pub may : EachAfter (λ before deed. MayDo (side_of client_id before) deed) deeds
   pub leads : (side_of client_id deeds).table ≡ table_at seen
   pub accepted_are : accepted_in (calls_of client_id deeds) ≡ accepted_in (table_history seen)
   pub gives : (number : ℕ) (taken : Taken) → Contains (handed_in seen) (number, taken) → IsTakenIn deeds number taken
   pub read : (c : ℕ) → host_read c deeds ≡ reverse (messages_heard c entries)
   pub written : (c : ℕ) → host_wrote c deeds ≡ reverse (messages_for c entries)
+  pub moves : (c : ℕ) → host_moves c deeds ≡ reverse (moves_on c entries)
 
 -- An outcome is that of the request with this number, by what was heard on its channel, with its device and life.
 pub record CameOf (deeds : List Deed) (number : ℕ) (taken : Taken) : Type 0 where

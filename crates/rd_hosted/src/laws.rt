@@ -6,13 +6,25 @@ ghost use Rattle.rd_carry.specs.declared.ended.Ended.TheVariants as ended;
 ghost use Rattle.rd_host_channel.specs.Calls.{HostEntry};
 ghost use Rattle.rd_host_session.specs.Channels.{LinkedTold};
 ghost use Rattle.rd_host_session.specs.Hosted.{Hosts};
-ghost use Rattle.rd_host_turns.specs.Turns.{TableEntry};
+ghost use Rattle.rd_host_front.specs.HostFront.{HostFrontStep};
+ghost use Rattle.rd_host_front.specs.State.{HostFrontState};
+ghost use Rattle.rd_host_threads.specs.Calls.{AreHostsCalls};
+ghost use Rattle.rd_host_turns.specs.Turns.{PartsAlong, TableEntry, TablePart};
+ghost use Rattle.rd_turn.specs.History.{Leads};
 ghost use Rattle.rd_pending.specs.declared.calls.Taken.{Taken};
 ghost use Rattle.rd_runs.specs.Premises.{AreSubmittable};
 ghost use Rattle.rd_script.specs.declared.line.NumberedLine.{NumberedLine};
 ghost use Rattle.rd_script.specs.declared.outcome.Outcome.{Outcome};
 ghost use Rattle.rd_table.specs.Histories.{handed_in};
 ghost use Rattle.rd_hosted.specs.Kept.{CameOf, KeepsTable, calls_of_front, calls_of_table};
+
+use rd_host_front::TableTurn;
+
+/// The calls of a host's front, one after the other, make parts of its pass of the table: so what `only_quiet_calls_stand_between` of `rd_host_turns` says holds of every session.
+pub fn fronts_make_parts<W: TableTurn>()
+    ensures { (entries : List (HostEntry W)) (here there : HostFrontState) → AreHostsCalls entries → Leads HostFrontStep here entries there
+        → (parts : List (List TablePart)) × PartsAlong here.table entries parts there.table }
+{}
 
 /// Where the lines of a script that was read were played (`scripts_ask_in_range` of `rd_host_lines`), and the session didn't end for want of memory: there are deeds of the host by which it keeps its table; on each channel
 /// those messages were read and written that its front's one history has, and of requests and outcomes they have what the table's one history has.

@@ -6,4 +6,4 @@
 
 mod laws;
 
-pub use laws::{hosts_keep_their_tables, outcomes_are_those_of_the_deeds};
+pub use laws::{fronts_make_parts, hosts_keep_their_tables, outcomes_are_those_of_the_deeds};
