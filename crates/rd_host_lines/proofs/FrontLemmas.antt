@@ -32,7 +32,7 @@ use Rattle.rd_host_front.specs.HostFront.{Admits, AdmitsAll, AdmitsBy, BeginsCha
 use Rattle.rd_host_front.specs.State.{FrontPassState, HostFrontState, PassOfTable}
 use Rattle.rd_host_turns.specs.Turns.{TableEntry}
 use Rattle.rd_host_turns.proofs.CountLemmas.{all_both}
-use Rattle.rd_host_lines.proofs.PassLemmas.{AreSuch, Good, OwnAre, fresh_are, renews_by_good, renews_good}
+use Rattle.rd_host_lines.proofs.PassLemmas.{AreSuch, OwnAre, Renewals, fresh_are, renewals_more, renewals_none, renewals_one, renews_anew, renews_by_anew}
 
 -- a call of the table that no application makes; a completion begins in bytes
 abbrev pub IsFronts : PendingCall → Type 0
@@ -56,8 +56,8 @@ module _ {W : Type 0} where
 module _ (P : TableEntry → Type 0) {W : Type 0} where
   -- Pass 0 was handed over and came back with all that holds of its calls, where the front's pass had this number before and has that one then.
   abbrev pub Hop : ℕ → HostFrontCall W → HostFrontReply W → ℕ → Type 0
-  Hop f (call.Begin channel first) (reply.First last what) g = Good P f first → Good P g last
-  Hop f (call.DropSent first anew) (reply.First last what) g = Good P f first → Good P g last
+  Hop f (call.Begin channel first) (reply.First last what) g = first.number ≡ 0 → Renewals P first f last g
+  Hop f (call.DropSent first anew) (reply.First last what) g = first.number ≡ 0 → Renewals P first f last g
   Hop f _ _ g = g ≡ f
 
   -- the same of calls, one after the other
@@ -201,20 +201,20 @@ module _ (P : TableEntry → Type 0) (such : (by : ℕ) (does : PendingCall) (ba
       pub last : PassOfTable
       pub what : Came
       pub is : back ≡ reply.First last what
-      pub good : OwnAre P old.table → Good P ((old.table).pass).number first → Good P ((new.table).pass).number last
+      pub good : OwnAre P old.table → first.number ≡ 0 → Renewals P first ((old.table).pass).number last ((new.table).pass).number
       pub own : OwnAre P old.table → OwnAre P new.table
 
     hands_back : (first : PassOfTable) (what : Came) (old : HostFrontState) (back : HostFrontReply W) (new : HostFrontState) → HandsBack first what back old new → Passes first old back new
     hands_back first what old back new (is, stays) =
         let k = same old new stays in
-        record { last = first; what = what; is = is; good = λ own good. subst (λ (n : ℕ). Good P n first) (sym k.number) good; own = k.own }
+        record { last = first; what = what; is = is; good = λ own zero. renewals_none P first ((old.table).pass).number ((new.table).pass).number k.number; own = k.own }
 
     passes_from : (first : PassOfTable) (old next : HostFrontState) (back : HostFrontReply W) (new : HostFrontState) → Keeps old next → Passes first next back new → Passes first old back new
     passes_from first old next back new k p = record {
       last = p.last;
       what = p.what;
       is = p.is;
-      good = λ own good. p.good (k.own own) (subst (λ (n : ℕ). Good P n first) (sym k.number) good);
+      good = λ own zero. subst (λ (n : ℕ). Renewals P first n p.last ((new.table).pass).number) k.number (p.good (k.own own) zero);
       own = λ own. p.own (k.own own);
     }
 
@@ -223,7 +223,7 @@ module _ (P : TableEntry → Type 0) (such : (by : ℕ) (does : PendingCall) (ba
       last = last;
       what = came.Done;
       is = said;
-      good = λ own good. renews_good P first last old.table new.table renews own good;
+      good = λ own zero. renewals_one P first last ((old.table).pass).number ((new.table).pass).number (renews_anew P first last old.table new.table renews own zero);
       own = λ own. fresh_are P new.table renews.fresh;
     }
     drops_by false first old back new did = hands_back first came.NotYet old back new did
@@ -238,7 +238,9 @@ module _ (P : TableEntry → Type 0) (such : (by : ℕ) (does : PendingCall) (ba
       last = p.last;
       what = p.what;
       is = p.is;
-      good = λ own good. p.good (fresh_are P next.table renews.fresh) (renews_good P first last old.table next.table renews own good);
+      good = λ own zero.
+          let a = renews_anew P first last old.table next.table renews own zero in
+          renewals_more P first last p.last ((old.table).pass).number ((next.table).pass).number ((new.table).pass).number a (p.good (fresh_are P next.table renews.fresh) (a.stays).number);
       own = λ own. p.own (fresh_are P next.table renews.fresh);
     }
     renews_if false first last old next back new (is, stays) p = subst (λ (x : PassOfTable). Passes x old back new) is (passes_from last old next back new (same old next stays) p)
@@ -255,7 +257,8 @@ module _ (P : TableEntry → Type 0) (such : (by : ℕ) (does : PendingCall) (ba
       last = last;
       what = _;
       is = said;
-      good = λ own good. renews_by_good P (table.Begin channel) answer first last old.table new.table renews (such 0 (table.Begin channel) answer tt) own good;
+      good = λ own zero.
+          renewals_one P first last ((old.table).pass).number ((new.table).pass).number (renews_by_anew P (table.Begin channel) answer first last old.table new.table renews (such 0 (table.Begin channel) answer tt) own zero);
       own = λ own. fresh_are P new.table renews.fresh;
     }
 

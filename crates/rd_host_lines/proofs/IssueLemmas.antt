@@ -59,7 +59,7 @@ outcome_handles x asked o given own all = by (is_some asked.device)
     by true = held_fit x.handles asked.handle given own all
     by false = all
 
-outcome_asks : (x : ApplicationState) (asked : Asked) (o : Outcome) (given : Option Handle) → (with_outcome x o given asked).asks ≡ x.asks
+pub outcome_asks : (x : ApplicationState) (asked : Asked) (o : Outcome) (given : Option Handle) → (with_outcome x o given asked).asks ≡ x.asks
 outcome_asks x asked o given = by (is_some asked.device)
   where
     by : (b : Bool) → (if b then record x { handles = holding_under x.handles asked.handle given } else x).asks ≡ x.asks

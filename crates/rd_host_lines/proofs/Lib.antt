@@ -8,3 +8,9 @@ pub mod PlayLemmas
 pub mod RunLemmas
 pub mod SessionLemmas
 pub mod RoomLemmas
+pub mod OutcomeLemmas
+pub mod MineLemmas
+pub mod InPlayLemmas
+pub mod OverLemmas
+pub mod BeginLemmas
+pub mod CameLemmas

@@ -38,7 +38,7 @@ use Rattle.rd_host_turns.proofs.CountLemmas.{all_both, of_own, prefix_then}
 use Rattle.rd_host_turns.proofs.MoveLemmas.{zeros_stay}
 use Rattle.rd_host_lines.proofs.PassLemmas.{AreSuch, Good, OwnAre}
 use Rattle.rd_host_lines.proofs.FrontLemmas.{HearsSafe, Hops, IsFronts, IsOther, hops_parted, one_hop, other_keeps}
-use Rattle.rd_host_lines.proofs.PlayLemmas.{Keeping, Stepped, Steps, begins_so, stepping}
+use Rattle.rd_host_lines.proofs.PlayLemmas.{Carrying, GoodFit, Holds, Keeping, Stepped, Steps, begins_so, carrying_of, stepping}
 use Rattle.rd_host_lines.proofs.StepLemmas.{plays, plays_out}
 
 bytes_safe : (m : List ℕ) → AreBytes m → IsSafe m
@@ -105,7 +105,7 @@ module _ {F W : Type 0} where
         j.other_calls,
       )
 
-module _ {F W : Type 0} (P : TableEntry → Type 0) (Fit : List Issuer → Type 0) (all : List TableEntry) where
+module _ {F W : Type 0} (P : TableEntry → Type 0) (Inv : ℕ → PassOfTable → List NumberedLine → List Issuer → Type 0) (all : List TableEntry) where
   -- The same of what is played, and of the front's other passes.
   pub record Played (old new : PlayState F W) : Type 0 where
     pub number : (new.front).number ≡ 0
@@ -114,9 +114,9 @@ module _ {F W : Type 0} (P : TableEntry → Type 0) (Fit : List Issuer → Type 
     pub own : calls_of 0 (new.front).seen ≡ calls_of 0 (old.front).seen ++ calls
     pub classed : AreClassed old.front → AreClassed new.front
     pub seen : IsPrefix (old.first).seen (new.first).seen
-    pub goes : IsPrefix (new.first).seen all → (f g : ℕ) → Hops P f calls g → Good P f old.first → Fit old.issuers → Good P g new.first × Fit new.issuers
+    pub goes : IsPrefix (new.first).seen all → (f g : ℕ) → Hops P f calls g → Holds P Inv all f old → Holds P Inv all g new
 
-  stepped_played : (old new : PlayState F W) → Stepped P Fit all old new → Played old new
+  stepped_played : (old new : PlayState F W) → Stepped P Inv all old new → Played old new
   stepped_played old new w = record {
     number = w.number;
     calls = w.calls;
@@ -138,10 +138,10 @@ module _ {F W : Type 0} (P : TableEntry → Type 0) (Fit : List Issuer → Type 
     own = other.own ∙ (ap (λ l. l ++ other.calls) one.own ∙ append_assoc (calls_of 0 (a.front).seen) one.calls other.calls);
     classed = λ classed. other.classed (one.classed classed);
     seen = prefix_then (a.first).seen (b.first).seen (c.first).seen one.seen other.seen;
-    goes = λ prefix f g hops good fit.
+    goes = λ prefix f g hops own.
         let (h, xs, ys) = hops_parted P f g one.calls other.calls hops in
-        let here = one.goes (prefix_then (b.first).seen (c.first).seen all other.seen prefix) f h xs good fit in
-        other.goes prefix h g ys here.0 here.1;
+        let here = one.goes (prefix_then (b.first).seen (c.first).seen all other.seen prefix) f h xs own in
+        other.goes prefix h g ys here;
   }
 
   none_played : (old new : PlayState F W) → (old.front).number ≡ 0 → new ≡ old → Played old new
@@ -152,10 +152,10 @@ module _ {F W : Type 0} (P : TableEntry → Type 0) (Fit : List Issuer → Type 
     own = sym (append-nil (calls_of 0 (old.front).seen));
     classed = λ classed. classed;
     seen = prefix_self (old.first).seen;
-    goes = λ prefix f g is good fit. subst (λ (n : ℕ). Good P n old.first × Fit old.issuers) (sym is) (good, fit);
+    goes = λ prefix f g is own. subst (λ (n : ℕ). Holds P Inv all n old) (sym is) own;
   })
 
-  module _ (keeping : Keeping P Fit all) (turn : TurnOfTable) (devices : ℕ) where
+  module _ (keeping : Carrying P Inv all) (turn : TurnOfTable) (devices : ℕ) where
     begun_played : (channel : ℕ) (why : Stop) (by : Ending) (starved : Bool) (from : IncomingState) (to : OutgoingState) (begun : PlayState F W) (incoming : IncomingState) (outgoing : OutgoingState) (new : PlayState F W)
         → (begun.front).number ≡ 0 → ServesBegun turn devices channel why by starved from to begun incoming outgoing new → Played begun new
     begun_played channel why by starved from to begun incoming outgoing new first s = record {
@@ -169,9 +169,9 @@ module _ {F W : Type 0} (P : TableEntry → Type 0) (Fit : List Issuer → Type 
           let then = (s.reader_home).made in
           let over = w.made in omega arith)));
       seen = subst (λ (x : PassOfTable). IsPrefix (begun.first).seen x.seen) (sym same) w.seen;
-      goes = λ prefix f g hops good fit.
-          let done = w.goes (subst (λ (x : PassOfTable). IsPrefix x.seen all) same prefix) f g hops good fit in
-          (subst (Good P g) (sym same) done.0, subst Fit (sym (ap (λ (p : PlayState F W). p.issuers) s.is)) done.1);
+      goes = λ prefix f g hops own.
+          let done : Holds P Inv all g s.over = w.goes (subst (λ (x : PassOfTable). IsPrefix x.seen all) same prefix) f g hops own in
+          subst (λ (x : PlayState F W). Holds P Inv all g x) (sym s.is) done;
     }
       where
         same : new.first ≡ (s.over).first
@@ -183,8 +183,8 @@ module _ {F W : Type 0} (P : TableEntry → Type 0) (Fit : List Issuer → Type 
         split : PlayState F W
         split = record begun { front = after_split (after_split begun.front) }
 
-        w : Stepped P Fit all split s.over
-        w = plays (Steps P Fit all) (stepping P Fit all keeping) turn devices why split s.over s.plays first
+        w : Stepped P Inv all split s.over
+        w = plays (Steps P Inv all) (stepping P Inv all keeping) turn devices why split s.over s.plays first
 
         twice : (k n : ℕ) → k ≢ 0 → Contains ((s.over).front).joined (k, n) → Contains (new.front).joined (k, n) × (calls_of k (new.front).seen ≡ calls_of k ((s.over).front).seen)
         twice k n ne has =
@@ -230,11 +230,11 @@ module _ {F W : Type 0} (P : TableEntry → Type 0) (Fit : List Issuer → Type 
     channel_played : (channel : ℕ) (why : Stop) (by : Ending) (starved : Bool) (old new : SessionState F W) → ((old.play).front).number ≡ 0
         → ServesChannel turn devices channel why by starved old new → Played old.play new.play
     channel_played channel why by starved old new first s =
-        let w = begins_so P Fit all channel came.Done old.play s.begun s.begins first in
+        let w = begins_so P Inv all keeping channel came.Done old.play s.begun s.begins first in
         played_then old.play s.begun new.play (stepped_played old.play s.begun w) (begun_played channel why by starved _ _ s.begun s.incoming s.outgoing new.play w.number s.serves)
 
     out_played : (old new : PlayState F W) → (old.front).number ≡ 0 → PlaysOut old new → Played old new
-    out_played old new first play = stepped_played old new (plays_out (Steps P Fit all) (stepping P Fit all keeping) old new play first)
+    out_played old new first play = stepped_played old new (plays_out (Steps P Inv all) (stepping P Inv all keeping) old new play first)
 
     served_played : (n : ℕ) (old new : SessionState F W) → ((old.play).front).number ≡ 0 → Served turn devices n old new → Played old.play new.play
     served_played zero old new first is = none_played old.play new.play first (ap (λ (s : SessionState F W). s.play) is)
@@ -301,7 +301,7 @@ module _ {W : Type 0} (P : TableEntry → Type 0) (such : (by : ℕ) (does : Pen
       )
 
 -- Each call is such a one, where those of each pass are.
-all_such : (P : TableEntry → Type 0) (made : ℕ) (seen before here : List TableEntry) → seen ≡ before ++ here → All (λ (e : TableEntry). e.by ≤ made) seen
+pub all_such : (P : TableEntry → Type 0) (made : ℕ) (seen before here : List TableEntry) → seen ≡ before ++ here → All (λ (e : TableEntry). e.by ≤ made) seen
     → ((k : ℕ) → k ≤ made → AreSuch P (calls_of k seen)) → AreSuch P here
 all_such P made seen before [] is few each = tt
 all_such P made seen before (e ∷ here) is few each = (
@@ -309,12 +309,18 @@ all_such P made seen before (e ∷ here) is few each = (
   all_such P made seen (before ++ e ∷ []) here (is ∙ sym (append_assoc before (e ∷ []) here)) few each,
 )
 
-module _ {W : Type 0} (P : TableEntry → Type 0) (Fit : List Issuer → Type 0) where
-  pub session_such : (turn : TurnOfTable) (lines : List NumberedLine) (other : Option Ended) (issuers : List Issuer) (last : PassOfTable) (old new : LinkedTold)
-      → PlaysOver W turn lines other issuers (first_pass turn) last old new → Keeping P Fit last.seen → Fit (issuers_of lines) → AreSuch P last.seen
-  session_such turn lines other issuers last old new over keeping fit =
+module _ {W : Type 0} (P : TableEntry → Type 0) (Inv : ℕ → PassOfTable → List NumberedLine → List Issuer → Type 0) where
+  -- What is kept holds where the script was played, of the front's last pass, whose calls are such ones.
+  pub record Carried (issuers : List Issuer) (over : PlayState HostFrontState W) (closed : HostFrontState) : Type 0 where
+    pub own : OwnAre P closed.table
+    pub holds : Inv ((closed.table).pass).number over.first over.lines over.issuers
+
+  pub session_carried : (turn : TurnOfTable) (lines : List NumberedLine) (other : Option Ended) (issuers : List Issuer) (last : PassOfTable) (old new : LinkedTold)
+      → (over : PlaysOver W turn lines other issuers (first_pass turn) last old new) → Carrying P Inv last.seen → Inv 1 (after_split (first_pass turn)) lines (issuers_of lines)
+      → Carried issuers (over.ends).play over.closed
+  session_carried turn lines other issuers last old new over keeping begin =
       let start = play_state HostFrontState W lines (issuers_of lines) (after_split (first_pass turn)) over.at (first_pass over.at) in
-      let p = session_played P Fit last.seen keeping turn _ other (stands start old) over.ends refl over.serves in
+      let p = session_played P Inv last.seen keeping turn _ other (stands start old) over.ends refl over.serves in
       let front = ((over.ends).play).front in
       let classed = p.classed (λ k ne le. absurd (omega arith)) in
       let zeros = subst (AllByRecursion (λ (e : HostEntry W). HearsSafe e.call)) (sym p.own) p.safe in
@@ -322,11 +328,20 @@ module _ {W : Type 0} (P : TableEntry → Type 0) (Fit : List Issuer → Type 0)
       let leads = subst (λ (s : HostFrontState). Leads HostFrontStep s front.seen over.closed) over.opening over.leads in
       let hops = front_hops P keeping.such front.seen (front_over turn (first_pass turn)) over.closed leads sorted tt in
       let g = ((over.closed).table).pass in
+      record {
+        own = hops.0;
+        holds = p.goes (let on = (over.home).goes_on in (on.0, sym on.1)) 1 g.number (subst (λ (l : List (HostEntry W)). Hops P 1 l g.number) p.own hops.1) begin;
+      }
+
+module _ {W : Type 0} (P : TableEntry → Type 0) (Fit : List Issuer → Type 0) where
+  pub session_such : (turn : TurnOfTable) (lines : List NumberedLine) (other : Option Ended) (issuers : List Issuer) (last : PassOfTable) (old new : LinkedTold)
+      → PlaysOver W turn lines other issuers (first_pass turn) last old new → Keeping P Fit last.seen → Fit (issuers_of lines) → AreSuch P last.seen
+  session_such turn lines other issuers last old new over keeping fit =
+      let first : Good P 1 (after_split (first_pass turn)) = record { first = refl; own = tt; each = λ k ne le. inl (omega arith) } in
+      let c = session_carried {W = W} P (GoodFit P Fit last.seen keeping) turn lines other issuers last old new over (carrying_of P Fit last.seen keeping) (first, fit) in
+      let good : Good P (((over.closed).table).pass).number ((over.ends).play).first = (c.holds).0 in
       let home = over.home in
-      let first : Good P 1 start.first = record { first = refl; own = tt; each = λ k ne le. inl (omega arith) } in
-      let done = p.goes (let on = home.goes_on in (on.0, sym on.1)) 1 g.number (subst (λ (l : List (HostEntry W)). Hops P 1 l g.number) p.own hops.1) first fit in
-      let good = done.0 in
-      all_such P last.made last.seen [] last.seen refl (home.numbers home.number) (λ k le. each over.closed ((over.ends).play).first last k hops.0 good home (let made = home.made in omega arith))
+      all_such P last.made last.seen [] last.seen refl (home.numbers home.number) (λ k le. each over.closed ((over.ends).play).first last k c.own good home (let made = home.made in omega arith))
     where
       each : (closed : HostFrontState) (p q : PassOfTable) (k : ℕ) → OwnAre P closed.table → Good P ((closed.table).pass).number p → JoinsPass p (closed.table).pass q → k ≤ p.made → AreSuch P (calls_of k q.seen)
       each closed p q zero own good home le = subst (AreSuch P) (sym (zeros_stay p q good.first home.goes_on)) good.own

@@ -31,7 +31,7 @@ module _ {F W : Type 0} (R : PlayState F W → PlayState F W → Type 0) (by : R
   ran zero old new is = by.none old new is
   ran (suc n) old new (here, done, run) = by.joins old here new (ran n old here done) (by.runs here new run)
 
-  issued : (old new : PlayState F W) → Issued old new → R old new
+  pub issued : (old new : PlayState F W) → Issued old new → R old new
   issued old new (lines, times, here, done, at, run) = by.joins old here new (came lines old here done) (ran (suc times) here new run)
 
   looked : (turn : TurnOfTable) (n : ℕ) (old new : PlayState F W) → Looked turn n old new → R old new
@@ -45,7 +45,7 @@ module _ {F W : Type 0} (R : PlayState F W → PlayState F W → Type 0) (by : R
   tried zero old new is = by.none old new is
   tried (suc n) old new (here, done, tries) = by.joins old here new (tried n old here done) (by.tries _ _ here new tries)
 
-  ended : (old new : PlayState F W) → Ended old new → R old new
+  pub ended : (old new : PlayState F W) → Ended old new → R old new
   ended old new (times, here, done, tries) = by.joins old here new (tried times old here done) (by.tries _ _ here new tries)
 
   acts : (turn : TurnOfTable) (old new : PlayState F W) → Acts turn old new → R old new

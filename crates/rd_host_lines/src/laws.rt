@@ -1,4 +1,4 @@
-//! What the lines of a host's script asked its table for, as contracts of functions that do nothing.
+//! What the lines of a host's script asked its table for, and what came of each, as contracts of functions that do nothing.
 
 ghost use Rattle.std.specs.Prelude.{◌≡◌, ℕ, List, Ok, Option};
 ghost use Rattle.rd_carry.specs.declared.ended.Ended.{Ended};
@@ -10,6 +10,7 @@ ghost use Rattle.rd_script.specs.declared.line.NumberedLine.{NumberedLine};
 ghost use Rattle.rd_script.specs.declared.outcome.Outcome.{Outcome};
 ghost use Rattle.rd_script.specs.declared.script.Script.{Script};
 ghost use Rattle.rd_script.specs.Script.{script_of};
+ghost use Rattle.rd_host_lines.specs.Outcomes.{AllCame};
 ghost use Rattle.rd_host_lines.specs.Requests.{AreInRange};
 
 /// What the lines of a script ask for fits its requests.
@@ -21,4 +22,11 @@ pub fn scripts_ask_in_range()
 pub fn requests_have_room()
     ensures { (lines : List NumberedLine) (other : Option Ended) (told : List ((ℕ × ℕ) × Outcome)) (old new : LinkedTold) → AreSubmittable lines
         → (hosts : Hosts lines other told old new) → AreInRange hosts.last.seen }
+{}
+
+/// What came of each line of a script, along the one history of the table of a host that played it: the line was refused since its handle held nothing; or its one request was refused, for that cause; or it was
+/// accepted under a number, for which the outcome was taken. The applications asked for nothing else.
+pub fn lines_have_their_outcomes()
+    ensures { (lines : List NumberedLine) (other : Option Ended) (told : List ((ℕ × ℕ) × Outcome)) (old new : LinkedTold) → (hosts : Hosts lines other told old new)
+        → AllCame lines hosts.issuers hosts.last.seen }
 {}

@@ -1,0 +1,78 @@
+-- What came of each line of a host's applications, along the one history of its table.
+use Rattle.std.specs.Prelude.{◌≡◌, ◌≢◌, ℕ, List, [], ◌∷◌, ◌++◌, map, filter_map, slice_get, Option, Some, None, Result, Ok, Err, if◌then◌else◌, ◌==◌}
+use Rattle.std.specs.List.{AllByRecursion}
+use Rattle.std.specs.Option.{option_and_then}
+use Rattle.rd_issuer.specs.declared.issuer.Issuer.{Issuer}
+use Rattle.rd_pending.specs.declared.calls.SubmitNo.{SubmitNo}
+use Rattle.rd_pending.specs.declared.calls.SubmitNo.TheVariants as submit_no
+use Rattle.rd_pending.specs.declared.calls.Taken.{Taken}
+use Rattle.rd_pending.specs.declared.calls.Target.{Target}
+use Rattle.rd_script.specs.declared.line.NumberedLine.{NumberedLine}
+use Rattle.rd_script.specs.declared.outcome.Outcome.{Outcome}
+use Rattle.rd_script.specs.declared.outcome.Outcome.TheVariants as outcome
+use Rattle.rd_script.specs.declared.outcome.Refusal.TheVariants as refusal
+use Rattle.rd_table.specs.declared.calls.PendingCall.{PendingCall}
+use Rattle.rd_table.specs.declared.calls.PendingCall.TheVariants as call
+use Rattle.rd_table.specs.declared.calls.PendingReply.TheVariants as reply
+use Rattle.rd_turn.specs.History.{entry}
+use Rattle.rd_world.specs.Events.{refusal_of, target_of}
+use Rattle.rd_world.specs.Hearing.{given_handle, holding_after, reported_outcome}
+use Rattle.rd_world.specs.Run.{asked_by}
+use Rattle.rd_world.specs.World.{ApplicationState, Asked, new_application}
+use Rattle.rd_host_session.specs.Hosted.{issuers_of}
+use Rattle.rd_host_turns.specs.Turns.{TableEntry}
+
+-- ---- requests of an application
+
+-- a call that is no request of this application
+abbrev pub IsNoRequestOf : ℕ → PendingCall → Type 0
+IsNoRequestOf a (call.Submit application named op) = application ≢ a
+IsNoRequestOf a _ = Unit {0}
+
+-- None of these calls is a request of it.
+abbrev pub AsksNothing : ℕ → List TableEntry → Type 0
+AsksNothing a entries = AllByRecursion (λ (e : TableEntry). IsNoRequestOf a e.call) entries
+
+-- ---- a line
+
+-- how what comes after goes on: with what the application's handles hold, and with the rest of the history
+abbrev GoesOn : Type 1
+GoesOn = ApplicationState → List TableEntry → Type 0
+
+module _ (a : ℕ) where
+  -- What a request was answered with, before these calls. Where it was refused, its line was, for that cause. Where it was accepted under a number, a later call took for this number what became
+  -- the outcome of the line; and the application asked for nothing before that.
+  abbrev pub AnswerCame : ApplicationState → Asked → Outcome → GoesOn → Result ℕ SubmitNo → List TableEntry → Type 0
+  AnswerCame holds x o goes_on (Err cause) after = (cause ≢ submit_no.Memory) × (o ≡ outcome.Refused (refusal_of cause)) × goes_on (holding_after holds x None) after
+  AnswerCame holds x o goes_on (Ok number) after =
+      (between : List TableEntry) × (by : ℕ) × (taken : Taken) × (rest : List TableEntry) × (after ≡ between ++ entry by (call.Take number) (reply.Taken (Ok taken)) ∷ rest) × AsksNothing a between
+      × (o ≡ reported_outcome taken.outcome) × goes_on (holding_after holds x (given_handle taken)) rest
+
+  -- What came of a line that names this, or nothing. Where its handle holds nothing the line was refused without a call. Else the next request of the application in these calls is that of the line.
+  abbrev pub LineCame : ApplicationState → Asked → Outcome → GoesOn → List TableEntry → Option Target → Type 0
+  LineCame holds x o goes_on entries None = (o ≡ outcome.Refused refusal.NoHandle) × goes_on (holding_after holds x None) entries
+  LineCame holds x o goes_on entries (Some named) =
+      (between : List TableEntry) × (by : ℕ) × (answer : Result ℕ SubmitNo) × (after : List TableEntry) × (entries ≡ between ++ entry by (call.Submit a named x.op) (reply.Submitted answer) ∷ after)
+      × AsksNothing a between × AnswerCame holds x o goes_on answer after
+
+  -- What came of the lines of an application, one after the other, each by calls behind those of the line before. It asked for nothing else.
+  abbrev pub LinesCame : ApplicationState → List Asked → List Outcome → List TableEntry → Type 0
+  LinesCame holds [] [] entries = AsksNothing a entries
+  LinesCame holds [] (o ∷ os) entries = ⊥
+  LinesCame holds (x ∷ xs) [] entries = ⊥
+  LinesCame holds (x ∷ xs) (o ∷ os) entries = LineCame holds x o (λ next rest. LinesCame next xs os rest) entries (target_of holds x)
+
+-- ---- all lines
+
+-- what a line asks for, where it is one of this application
+abbrev pub asked_under : ℕ → ℕ × Asked → Option Asked
+asked_under a x = if x.0 == a then Some x.1 else None
+
+-- what the lines of an application ask for
+abbrev pub asked_of : ℕ → List NumberedLine → List Asked
+asked_of a lines = filter_map (λ (l : NumberedLine). option_and_then (asked_under a) (asked_by l.line)) lines
+
+-- The applications of the script came to what they are: each of their lines has its one outcome, which came so along these calls.
+pub record AllCame (lines : List NumberedLine) (issuers : List Issuer) (entries : List TableEntry) : Type 0 where
+  pub numbers : map (λ (i : Issuer). i.number) issuers ≡ map (λ (i : Issuer). i.number) (issuers_of lines)
+  pub each : (place : ℕ) (i : Issuer) → slice_get issuers place ≡ Some i → LinesCame i.number new_application (asked_of i.number lines) (i.application).outcomes entries
