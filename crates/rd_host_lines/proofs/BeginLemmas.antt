@@ -16,7 +16,7 @@ use Rattle.rd_world.specs.Run.{applications_of, asked_by, asking}
 use Rattle.rd_world.specs.World.{ApplicationState, Asked, new_application}
 use Rattle.rd_host_session.specs.Hosted.{issuer_by, issuers_of}
 use Rattle.rd_issuer.specs.declared.issuer.Issuer.{Issuer}
-use Rattle.rd_host_lines.specs.Outcomes.{asked_of, asked_under}
+use Rattle.rd_host_lines.specs.Outcomes.{asks_under, asked_under}
 use Rattle.rd_host_lines.proofs.InPlayLemmas.{Differ, number_of}
 
 -- ---- keys
@@ -107,14 +107,14 @@ none_rise : IsStrictlySortedBy nat_cmp []
 unfolding IsStrictlySortedBy
 none_rise = tt
 
-lines_asked : (a : ℕ) (lines : List NumberedLine) → of_pairs a (filter_map asked_by (map (λ (l : NumberedLine). l.line) lines)) ≡ asked_of a lines
+lines_asked : (a : ℕ) (lines : List NumberedLine) → of_pairs a (filter_map asked_by (map (λ (l : NumberedLine). l.line) lines)) ≡ asks_under a lines
 lines_asked a [] = refl
 lines_asked a (l ∷ lines) = by (asked_by l.line) (lines_asked a lines)
   where
     pairs : List (ℕ × Asked)
     pairs = filter_map asked_by (map (λ (l : NumberedLine). l.line) lines)
 
-    by : (o : Option (ℕ × Asked)) → of_pairs a pairs ≡ asked_of a lines → of_pairs a (cons_option o pairs) ≡ cons_option (option_and_then (asked_under a) o) (asked_of a lines)
+    by : (o : Option (ℕ × Asked)) → of_pairs a pairs ≡ asks_under a lines → of_pairs a (cons_option o pairs) ≡ cons_option (option_and_then (asked_under a) o) (asks_under a lines)
     by None later = later
     by (Some p) later = ap (cons_option (asked_under a p)) later
 
@@ -137,7 +137,7 @@ numbers_differ lines =
     let ls = map (λ (l : NumberedLine). l.line) lines in
     subst Differ (sym (numbers_keys (applications_of ls))) (differ_rising (keys_of (applications_of ls)) (all_rise (filter_map asked_by ls) [] none_rise))
 
-pub begins_so : (lines : List NumberedLine) (place : ℕ) (i : Issuer) → slice_get (issuers_of lines) place ≡ Some i → i.application ≡ asking_for (asked_of i.number lines)
+pub begins_so : (lines : List NumberedLine) (place : ℕ) (i : Issuer) → slice_get (issuers_of lines) place ≡ Some i → i.application ≡ asking_for (asks_under i.number lines)
 begins_so lines place i is =
     let ls = map (λ (l : NumberedLine). l.line) lines in
     let es = applications_of ls in

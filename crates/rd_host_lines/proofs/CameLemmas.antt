@@ -1,10 +1,11 @@
 -- Each line of a script that a host played has its outcome, along the one history of its table.
-use Rattle.std.proofs.Common.{◌≡◌, ◌≢◌, ◌∙◌, ◌⊎◌, inl, inr, refl, sym, ap, subst, ℕ, zero, suc, ◌+◌, ◌≤◌, Bool, true, false, List, [], ◌∷◌, length, map, Contains, arith, Some, None, Option, is_none}
-use Rattle.std.specs.Prelude.{◌&&◌, nat_lt, slice_get}
+use Rattle.std.proofs.Common.{◌≡◌, ◌≢◌, ◌∙◌, ◌⊎◌, inl, inr, refl, sym, ap, subst, ℕ, zero, suc, ◌+◌, ◌<◌, ◌≤◌, Bool, true, false, List, [], ◌∷◌, length, map, Contains, arith, Some, None, Option, is_none}
+use Rattle.std.specs.Prelude.{◌&&◌, nat_lt, slice_get, slice_index_or}
 use Rattle.std.specs.List.{AllByRecursion}
 use Rattle.std.proofs.lemmas.Bool.Decides.{nat_tests}
 use Rattle.std.proofs.lemmas.List.Elements.{Contains-append_right}
 use Rattle.std.proofs.lemmas.Option.{slice_get_within}
+use mathlib.Core.List.{IsPrefix}
 use Rattle.rd_carry.specs.declared.ended.Ended.{Ended}
 use Rattle.rd_host_front.specs.State.{JoinsPass, PassOfTable, TurnOfTable}
 use Rattle.rd_host_player.specs.Play.{HasCome, QueuedAt, queued}
@@ -12,6 +13,7 @@ use Rattle.rd_host_session.specs.Channels.{LinkedTold}
 use Rattle.rd_host_session.specs.Hosted.{PlaysOver, issuers_of}
 use Rattle.rd_issuer.specs.declared.issuer.Issuer.{Issuer}
 use Rattle.rd_issuer.specs.Issues.{HasAllOutcomes}
+use Rattle.rd_issuer.specs.SideBySide.{RanSideBySide}
 use Rattle.rd_script.specs.declared.line.NumberedLine.{NumberedLine}
 use Rattle.rd_script.specs.declared.outcome.Outcome.{Outcome}
 use Rattle.rd_turn.specs.History.{calls_of}
@@ -21,15 +23,16 @@ use Rattle.rd_world.specs.Run.{asked_by}
 use Rattle.rd_world.specs.World.{ApplicationState, Asked, new_application}
 use Rattle.rd_host_turns.specs.Turns.{TableEntry}
 use Rattle.rd_host_turns.proofs.MoveLemmas.{zeros_stay}
-use Rattle.rd_host_lines.specs.Outcomes.{AllCame, LinesCame, asked_of}
+use Rattle.rd_host_lines.specs.Outcomes.{AllCame, AsksNothing, LinesCame, asks_under}
 use Rattle.rd_host_lines.proofs.BeginLemmas.{asking_for, begins_so, numbers_differ}
-use Rattle.rd_host_lines.proofs.InPlayLemmas.{InPlay, IsApart, bare, calls_on, carries, indexed_got, issuer, number_at, number_of, numbers_same, numbers_set}
+use Rattle.rd_host_lines.proofs.InPlayLemmas.{InPlay, IsApart, bare, calls_on, carries, fronts_apart, got_indexed, indexed_got, issuer, number_at, number_of, numbers_same, numbers_set, others_ask}
 use Rattle.rd_host_lines.proofs.MineLemmas.{mine_are}
 use Rattle.rd_host_lines.proofs.OutcomeLemmas.{AreMine, all_came, calls_by, calls_in}
 use Rattle.rd_host_lines.proofs.OverLemmas.{IsOver, session_over}
 use Rattle.rd_host_lines.proofs.PassLemmas.{AreSuch, OwnAre, Stays}
-use Rattle.rd_host_lines.proofs.PlayLemmas.{Carrying}
-use Rattle.rd_host_lines.proofs.SessionLemmas.{Carried, all_such, session_carried}
+use Rattle.rd_host_lines.proofs.PlayLemmas.{Carrying, Keeping}
+use Rattle.rd_host_lines.proofs.RunLemmas.{each_pass, one_of}
+use Rattle.rd_host_lines.proofs.SessionLemmas.{Carried, all_such, session_carried, session_such}
 
 -- ---- numbers
 
@@ -107,14 +110,37 @@ module _ (lines : List NumberedLine) (other : Option Ended) (old new : LinkedTol
       let c = session_carried {W = W} Any (Numbered numbers) turn lines other issuers last old new over (carries_numbers numbers last.seen) (refl, refl) in
       ap (map number_of) (sym over.issuers_are) ∙ (c.holds).1
 
+  -- an application that isn't the script's asks for nothing
+  none_asked : (a : ℕ) → ((place : ℕ) (i : Issuer) → slice_get issuers place ≡ Some i → i.number ≢ a) → AsksNothing a last.seen
+  none_asked a none = session_such {W = W} (IsApart a) (λ (xs : List Issuer). map number_of xs ≡ numbers) turn lines other issuers last old new over keeping refl
+    where
+      apart : (xs : List Issuer) (place : ℕ) (i : Issuer) → map number_of xs ≡ numbers → slice_get xs place ≡ Some i → i.number ≢ a
+      apart xs place i same got is =
+          let (j, at, number) = got_numbered issuers place i.number (ap (λ (l : List ℕ). slice_get l place) (all_numbers ∙ sym same) ∙ number_at xs place i got) in
+          none place j at (number ∙ is)
+
+      runs : (before after : PassOfTable) (xs ys : List Issuer) → RanSideBySide before after xs ys → IsPrefix after.seen last.seen → map number_of xs ≡ numbers
+          → (map number_of ys ≡ numbers) × ((k : ℕ) → before.made < k → k ≤ after.made → (n : ℕ) × Contains after.joined (k, n) × AreSuch (IsApart a) (calls_of k after.seen))
+      runs before after xs ys ran prefix same = (
+        numbers_same xs ys ran.count (λ n d e less. (ran.ran n d e less).number) ∙ same,
+        each_pass before after xs ys (IsApart a) ran (λ place within.
+            let d = one_of xs (omega arith) in
+            let issued = (ran.ran place d d within).issued in
+            let other_is = apart xs place (slice_index_or xs place d) same (got_indexed xs place d within) in
+            subst (AreSuch (IsApart a)) (sym issued.calls) (others_ask a (slice_index_or xs place d).number (suc (before.made + place)) other_is issued.issues _ _ issued.does)),
+      )
+
+      keeping : Keeping (IsApart a) (λ (xs : List Issuer). map number_of xs ≡ numbers) last.seen
+      keeping = record { such = fronts_apart a; queue = λ l xs ys has same. comes_numbered l xs ys has ∙ same; runs = runs }
+
   -- of an application that was in play to the end
   in_play_came : (a place : ℕ) (i : Issuer) → slice_get issuers place ≡ Some i → OwnAre (IsApart a) (over.closed).table
-      → InPlay a place (length (asked_of a lines)) numbers (asking_for (asked_of a lines)) (numbers_differ lines) (((over.closed).table).pass).number ((over.ends).play).first ((over.ends).play).lines ((over.ends).play).issuers
-      → LinesCame a new_application (asked_of a lines) (i.application).outcomes last.seen
+      → InPlay a place (length (asks_under a lines)) numbers (asking_for (asks_under a lines)) (numbers_differ lines) (((over.closed).table).pass).number ((over.ends).play).first ((over.ends).play).lines ((over.ends).play).issuers
+      → LinesCame a new_application (asks_under a lines) (i.application).outcomes last.seen
   in_play_came a place i at own x = subst (λ (l : List Outcome). LinesCame a new_application asks l last.seen) (sym (came.1) ∙ ap (λ (j : Issuer). (j.application).outcomes) now_is) came.2
     where
       asks : List Asked
-      asks = asked_of a lines
+      asks = asks_under a lines
 
       p : PassOfTable
       p = ((over.ends).play).first
@@ -162,7 +188,7 @@ module _ (lines : List NumberedLine) (other : Option Ended) (old new : LinkedTol
           (done.all place (issuer a x.now) (slice_get_within ((over.ends).play).issuers place (issuer a x.now) x.at))
 
       came_to_all : (x.now).queued ≡ length asks
-      came_to_all = let left : (x.now).queued + 0 ≡ length asks = subst (λ (l : List NumberedLine). (x.now).queued + length (asked_of a l) ≡ length asks) done.none x.left in omega (arith, left)
+      came_to_all = let left : (x.now).queued + 0 ≡ length asks = subst (λ (l : List NumberedLine). (x.now).queued + length (asks_under a l) ≡ length asks) done.none x.left in omega (arith, left)
 
       enough : length asks ≤ length (x.now).outcomes
       enough = all_ended x.now (length asks) all came_to_all
@@ -171,24 +197,24 @@ module _ (lines : List NumberedLine) (other : Option Ended) (old new : LinkedTol
       came = all_came a x.mine x.issues (asking_for asks) (bare x.now) new_application [] asks last.seen x.did (record { asks = refl; count = refl; handles = refl }) (omega (arith, enough)) all.1 mine calls
 
   one_came : (place : ℕ) (i begun : Issuer) → slice_get issuers place ≡ Some i → slice_get (issuers_of lines) place ≡ Some begun → begun.number ≡ i.number
-      → LinesCame i.number new_application (asked_of i.number lines) (i.application).outcomes last.seen
+      → LinesCame i.number new_application (asks_under i.number lines) (i.application).outcomes last.seen
   one_came place i begun at first number = in_play_came i.number place i at c.own c.holds
     where
       a : ℕ
       a = i.number
 
       asks : List Asked
-      asks = asked_of a lines
+      asks = asks_under a lines
 
       begun_is : begun ≡ issuer a (asking_for asks)
-      begun_is = λ k. record { number = number k; application = (begins_so lines place begun first ∙ ap (λ (n : ℕ). asking_for (asked_of n lines)) number) k }
+      begun_is = λ k. record { number = number k; application = (begins_so lines place begun first ∙ ap (λ (n : ℕ). asking_for (asks_under n lines)) number) k }
 
-      begin : InPlay i.number place (length (asked_of i.number lines)) numbers (asking_for (asked_of i.number lines)) (numbers_differ lines) 1 (after_split (first_pass turn)) lines (issuers_of lines)
+      begin : InPlay i.number place (length (asks_under i.number lines)) numbers (asking_for (asks_under i.number lines)) (numbers_differ lines) 1 (after_split (first_pass turn)) lines (issuers_of lines)
       begin = record {
         mine = λ k. false;
         ran = record { first = refl; own = tt; joined = λ k own. absurd (cc own); each = λ k ne le. inl (omega arith) };
         numbers_are = refl;
-        now = asking_for (asked_of i.number lines);
+        now = asking_for (asks_under i.number lines);
         at = first ∙ ap (λ (j : Issuer). Some j) begun_is;
         left = omega arith;
         issues = [];
@@ -196,9 +222,9 @@ module _ (lines : List NumberedLine) (other : Option Ended) (old new : LinkedTol
         calls = refl;
       }
 
-      c : Carried (IsApart i.number) (InPlay i.number place (length (asked_of i.number lines)) numbers (asking_for (asked_of i.number lines)) (numbers_differ lines)) issuers (over.ends).play over.closed
-      c = session_carried {W = W} (IsApart i.number) (InPlay i.number place (length (asked_of i.number lines)) numbers (asking_for (asked_of i.number lines)) (numbers_differ lines)) turn lines other issuers last old new over
-          (carries i.number place (length (asked_of i.number lines)) numbers (asking_for (asked_of i.number lines)) (numbers_differ lines) last.seen) begin
+      c : Carried (IsApart i.number) (InPlay i.number place (length (asks_under i.number lines)) numbers (asking_for (asks_under i.number lines)) (numbers_differ lines)) issuers (over.ends).play over.closed
+      c = session_carried {W = W} (IsApart i.number) (InPlay i.number place (length (asks_under i.number lines)) numbers (asking_for (asks_under i.number lines)) (numbers_differ lines)) turn lines other issuers last old new over
+          (carries i.number place (length (asks_under i.number lines)) numbers (asking_for (asks_under i.number lines)) (numbers_differ lines) last.seen) begin
 
   pub lines_came : AllCame lines issuers last.seen
   lines_came = record {
@@ -206,4 +232,5 @@ module _ (lines : List NumberedLine) (other : Option Ended) (old new : LinkedTol
     each = λ place i at.
         let (begun, first, number) = got_numbered (issuers_of lines) place i.number (ap (λ (l : List ℕ). slice_get l place) (sym all_numbers) ∙ number_at issuers place i at) in
         one_came place i begun at first number;
+    others = none_asked;
   }

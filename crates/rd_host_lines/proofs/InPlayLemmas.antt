@@ -35,7 +35,7 @@ use Rattle.rd_world.specs.World.{ApplicationState, Asked}
 use Rattle.rd_host_turns.specs.Turns.{TableEntry}
 use Rattle.rd_host_turns.proofs.CountLemmas.{all_both}
 use Rattle.rd_host_turns.proofs.MoveLemmas.{zeros_stay}
-use Rattle.rd_host_lines.specs.Outcomes.{IsNoRequestOf, asked_of, asked_under}
+use Rattle.rd_host_lines.specs.Outcomes.{IsNoRequestOf, asks_under, asked_under}
 use Rattle.rd_host_lines.proofs.FrontLemmas.{IsFronts}
 use Rattle.rd_host_lines.proofs.MineLemmas.{calls_more, calls_stay, none_added, with_pass}
 use Rattle.rd_host_lines.proofs.OutcomeLemmas.{Did, DidAll, calls_by, calls_in, told_by}
@@ -121,7 +121,7 @@ calls_told pass (holds_nothing ∷ issues) = calls_told pass issues
 calls_told pass (at_table does back ∷ issues) = ap (λ (l : List (PendingCall × PendingReply)). (does, back) ∷ l) (calls_told pass issues)
 
 -- another application makes no request of this one
-others_ask : (a b pass : ℕ) → b ≢ a → (issues : List Issue) (x y : ApplicationState) → DoesAll b x issues y → AllByRecursion (λ (e : TableEntry). IsNoRequestOf a e.call) (calls_of_issues pass issues)
+pub others_ask : (a b pass : ℕ) → b ≢ a → (issues : List Issue) (x y : ApplicationState) → DoesAll b x issues y → AllByRecursion (λ (e : TableEntry). IsNoRequestOf a e.call) (calls_of_issues pass issues)
 others_ask a b pass other [] x y is = tt
 others_ask a b pass other (holds_nothing ∷ issues) x y (next, does, more) = others_ask a b pass other issues next y more
 others_ask a b pass other (at_table does back ∷ issues) x y (next, did, more) = (one does back did, others_ask a b pass other issues next y more)
@@ -152,7 +152,7 @@ module _ {A : Type 0} where
   got_other (z ∷ xs) zero (suc other) y ne = refl
   got_other (z ∷ xs) (suc place) (suc other) y ne = got_other xs place other y (λ same. ne (ap suc same))
 
-  got_indexed : (xs : List A) (place : ℕ) (d : A) → place < length xs → slice_get xs place ≡ Some (slice_index_or xs place d)
+  pub got_indexed : (xs : List A) (place : ℕ) (d : A) → place < length xs → slice_get xs place ≡ Some (slice_index_or xs place d)
   got_indexed [] place d less = absurd (omega arith)
   got_indexed (x ∷ xs) zero d less = refl
   got_indexed (x ∷ xs) (suc place) d less = got_indexed xs place d (omega arith)
@@ -315,7 +315,7 @@ module _ (a place total : ℕ) (numbers : List ℕ) (start : ApplicationState) (
     pub numbers_are : map number_of issuers ≡ numbers
     pub now : ApplicationState
     pub at : slice_get issuers place ≡ Some (issuer a now)
-    pub left : now.queued + length (asked_of a lines) ≡ total
+    pub left : now.queued + length (asks_under a lines) ≡ total
     pub issues : List Issue
     pub did : DidAll a start issues (bare now)
     pub calls : calls_by mine p.seen ≡ calls_in issues
@@ -359,7 +359,7 @@ module _ (a place total : ℕ) (numbers : List ℕ) (start : ApplicationState) (
   comes_on f p l lines old new has x = by (asked_by l.line) refl
     where
       later : List Asked
-      later = asked_of a lines
+      later = asks_under a lines
 
       unchanged : (at : slice_get new place ≡ Some (issuer a (x.now))) → map number_of new ≡ numbers → (x.now).queued + length later ≡ total → InPlay f p lines new
       unchanged at numbers_are left = record { mine = x.mine; ran = x.ran; numbers_are = numbers_are; now = x.now; at = at; left = left; issues = x.issues; did = x.did; calls = x.calls }
@@ -408,7 +408,7 @@ module _ (a place total : ℕ) (numbers : List ℕ) (start : ApplicationState) (
     numbers_are = numbers_same old new ran.count (λ n d e less. (ran.ran n d e less).number) ∙ x.numbers_are;
     now = after.application;
     at = got_indexed new place me (let count = ran.count in omega (arith, within, count)) ∙ ap (λ (n : ℕ). Some (issuer n after.application)) number;
-    left = ap (λ (n : ℕ). n + length (asked_of a lines)) (all_queued a issued.issues x.now after.application issued.does) ∙ x.left;
+    left = ap (λ (n : ℕ). n + length (asks_under a lines)) (all_queued a issued.issues x.now after.application issued.does) ∙ x.left;
     issues = x.issues ++ issued.issues;
     did = did_then a x.issues issued.issues start (bare x.now) (bare after.application) x.did here;
     calls = calls_more x.mine k p.seen (stays.seen).0 q.seen (stays.seen).1 (none_added x.mine p.seen (stays.seen).0 q.seen (stays.seen).1 (mine_stay a x.mine f p q x.ran stays)) fresh

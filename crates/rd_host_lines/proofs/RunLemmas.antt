@@ -48,12 +48,12 @@ module _ {A : Type 0} (P : A → Type 0) where
   all_with (y ∷ xs) zero x own (here, all) = (own, all)
   all_with (y ∷ xs) (suc place) x own (here, all) = (here, all_with xs place x own all)
 
-one_of : (issuers : List Issuer) → 0 < length issuers → Issuer
+pub one_of : (issuers : List Issuer) → 0 < length issuers → Issuer
 one_of [] some = absurd (omega arith)
 one_of (i ∷ issuers) some = i
 
 -- What holds of what each application does holds of the passes that were made for it.
-each_pass : (before after : PassOfTable) (old new : List Issuer) (P : TableEntry → Type 0) → RanSideBySide before after old new
+pub each_pass : (before after : PassOfTable) (old new : List Issuer) (P : TableEntry → Type 0) → RanSideBySide before after old new
     → ((place : ℕ) → place < length old → AreSuch P (calls_of (suc (before.made + place)) after.seen))
     → (k : ℕ) → before.made < k → k ≤ after.made → (n : ℕ) × Contains after.joined (k, n) × AreSuch P (calls_of k after.seen)
 each_pass before after old new P r such k less le =

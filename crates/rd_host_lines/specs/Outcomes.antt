@@ -69,10 +69,11 @@ abbrev pub asked_under : ℕ → ℕ × Asked → Option Asked
 asked_under a x = if x.0 == a then Some x.1 else None
 
 -- what the lines of an application ask for
-abbrev pub asked_of : ℕ → List NumberedLine → List Asked
-asked_of a lines = filter_map (λ (l : NumberedLine). option_and_then (asked_under a) (asked_by l.line)) lines
+abbrev pub asks_under : ℕ → List NumberedLine → List Asked
+asks_under a lines = filter_map (λ (l : NumberedLine). option_and_then (asked_under a) (asked_by l.line)) lines
 
--- The applications of the script came to what they are: each of their lines has its one outcome, which came so along these calls.
+-- The applications of the script came to what they are: each of their lines has its one outcome, which came so along these calls. No other application asked for anything.
 pub record AllCame (lines : List NumberedLine) (issuers : List Issuer) (entries : List TableEntry) : Type 0 where
   pub numbers : map (λ (i : Issuer). i.number) issuers ≡ map (λ (i : Issuer). i.number) (issuers_of lines)
-  pub each : (place : ℕ) (i : Issuer) → slice_get issuers place ≡ Some i → LinesCame i.number new_application (asked_of i.number lines) (i.application).outcomes entries
+  pub each : (place : ℕ) (i : Issuer) → slice_get issuers place ≡ Some i → LinesCame i.number new_application (asks_under i.number lines) (i.application).outcomes entries
+  pub others : (a : ℕ) → ((place : ℕ) (i : Issuer) → slice_get issuers place ≡ Some i → i.number ≢ a) → AsksNothing a entries

@@ -19,7 +19,7 @@ use Rattle.rd_turn.specs.History.{calls_of, entry}
 use Rattle.rd_turn.specs.Pass.{after_split, first_pass}
 use Rattle.rd_host_threads.specs.Calls.{AreHostsCalls, IsHostsCall, reader_of, writer_of}
 use Rattle.rd_host_threads.specs.Channels.{EndsAfter, HostChannel, IsServedBy}
-use Rattle.rd_host_threads.specs.Threads.{AreThreadsCalls, front_calls, played_calls}
+use Rattle.rd_host_threads.specs.Threads.{AreThreadsCalls, front_calls, played_calls, played_stops}
 use Rattle.rd_host_threads.proofs.ChannelLemmas.{HasChannel}
 use Rattle.rd_host_threads.proofs.EntryLemmas.{IsFit, all_by_passes, all_first, all_fit, all_listed, all_of_pass, asks_so, each_pass, fit_gives, handed_nowhere, handed_to_own, heard_append, heard_by_own, heard_nowhere, own_numbers, reads_so}
 use Rattle.rd_host_threads.proofs.PassLemmas.{all_map, all_more}
@@ -73,7 +73,8 @@ module _ {F W : Type 0} (p : HostPass F W) where
 
 pub threads_so : {W : Type 0} (turn : TurnOfTable) (lines : List NumberedLine) (other : Option Ended) (issuers : List Issuer) (first last : PassOfTable) (old new : LinkedTold) → other ≢ Some ended.Memory
     → (plays : PlaysOver W turn lines other issuers first last old new)
-    → AreThreadsCalls (front_calls turn lines other issuers first last old new plays) (played_calls turn lines other issuers first last old new plays) other old new
+    → AreThreadsCalls (front_calls turn lines other issuers first last old new plays) (played_calls turn lines other issuers first last old new plays)
+    (played_stops turn lines other issuers first last old new plays) other old new
 threads_so {W} turn lines other issuers first last old new found plays =
     let start = stands (play_state HostFrontState W lines (issuers_of lines) (after_split first) plays.at (first_pass plays.at)) old in
     let ends = plays.ends in
@@ -99,6 +100,7 @@ threads_so {W} turn lines other issuers first last old new found plays =
       played_are = goes.are;
       channels = all.channels;
       numbered = all.numbered;
+      stopped = all.stopped;
       each = all_map (HasChannel front) (IsServedBy front.seen) all.channels (λ c has. served_by front c has fit hosts) all.has;
       unheard = λ c none. heard_nowhere c n front.seen hosts few (subst (λ (k : ℕ). (c ≡ 0) ⊎ (k < c)) count none);
       unhanded = λ c none. handed_nowhere c n front.seen hosts few (subst (λ (k : ℕ). (c ≡ 0) ⊎ (k < c)) count none);

@@ -1,4 +1,4 @@
--- The calls of the front that the thread makes that plays a script, in the order in which it was played: each by pass 0 of the front, with pass 0 of the table as it is handed over and as it comes back.
+-- The calls of the front that the thread makes that plays a script, in the order in which it was played: each by pass 0 of the front, with pass 0 of the table as it is handed over and as it comes back. And where the script stopped on each channel.
 use Rattle.std.specs.Prelude.{ℕ, zero, suc, ◌==◌, Bool, List, [], ◌∷◌, ◌++◌, Option, Some, None}
 use Rattle.std.proofs.Common.{inl, inr}
 use Rattle.rd_carry.specs.declared.ended.Ended.{Ended as SessionEnd}
@@ -64,3 +64,20 @@ module _ {F W : Type 0} where
       -- on all channels
       abbrev pub session_calls : (other : Option SessionEnd) (old new : SessionState F W) → ServesAll turn devices other old new → List (HostEntry W)
       session_calls other old new (count, here, served, ends) = served_calls count old here served ++ ends_calls (suc count) other here new ends
+
+      -- ---- where the script stopped
+
+      -- on so many channels, after each of which a line begins the next
+      abbrev pub served_stops : (count : ℕ) (old new : SessionState F W) → Served turn devices count old new → List Stop
+      served_stops zero old new is = []
+      served_stops (suc n) old new (here, by, starved, served, serves, none) = served_stops n old here served ++ stop.Connect ∷ []
+
+      -- on the channel that is the last, if there is one
+      abbrev pub ends_stops : (channel : ℕ) (other : Option SessionEnd) (old new : SessionState F W) → EndsAt turn devices channel other old new → List Stop
+      ends_stops channel None old new (inl none) = []
+      ends_stops channel None old new (inr last) = stop.End ∷ []
+      ends_stops channel (Some e) old new (why, by, starved, here, serves, is, linker, plays) = why ∷ []
+
+      -- on all channels
+      abbrev pub session_stops : (other : Option SessionEnd) (old new : SessionState F W) → ServesAll turn devices other old new → List Stop
+      session_stops other old new (count, here, served, ends) = served_stops count old here served ++ ends_stops (suc count) other here new ends

@@ -8,7 +8,7 @@ ghost use Rattle.rd_host_session.specs.Channels.{LinkedTold};
 ghost use Rattle.rd_host_session.specs.Hosted.{PlaysOver};
 ghost use Rattle.rd_issuer.specs.declared.issuer.Issuer.{Issuer};
 ghost use Rattle.rd_script.specs.declared.line.NumberedLine.{NumberedLine};
-ghost use Rattle.rd_host_threads.specs.Threads.{AreThreadsCalls, front_calls, played_calls};
+ghost use Rattle.rd_host_threads.specs.Threads.{AreThreadsCalls, front_calls, played_calls, played_stops};
 
 use rd_host_front::TableTurn;
 
@@ -18,5 +18,6 @@ pub fn threads_make_the_calls<W: TableTurn>()
     ensures { (turn : TurnOfTable) (lines : List NumberedLine) (other : Option Ended) (issuers : List Issuer) (first last : PassOfTable) (old new : LinkedTold)
         → other ≢ Some ended.Memory
         → (plays : PlaysOver W turn lines other issuers first last old new)
-        → AreThreadsCalls (front_calls turn lines other issuers first last old new plays) (played_calls turn lines other issuers first last old new plays) other old new }
+        → AreThreadsCalls (front_calls turn lines other issuers first last old new plays) (played_calls turn lines other issuers first last old new plays)
+            (played_stops turn lines other issuers first last old new plays) other old new }
 {}
