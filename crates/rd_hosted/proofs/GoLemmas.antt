@@ -1,5 +1,5 @@
 -- What a whole history of a host's front tells: each call by its parts, one after the other.
-use Rattle.std.proofs.Common.{◌≡◌, ◌∙◌, refl, sym, ap, subst, ℕ, ◌==◌, ◌&&◌, Bool, true, false, cond, List, [], ◌∷◌, ◌++◌, append_assoc, Some, None, Option, Ok, Err, Result, eqb-true}
+use Rattle.std.proofs.Common.{◌≡◌, ◌∙◌, ◌≢◌, refl, sym, ap, subst, ℕ, ◌==◌, ◌&&◌, Bool, true, false, cond, List, [], ◌∷◌, ◌++◌, append_assoc, Some, None, Option, Ok, Err, Result, eqb-true}
 use Rattle.std.specs.Prelude.{MatchBool, map, not, reverse}
 use Rattle.std.specs.List.{AllByRecursion}
 use Rattle.std.specs.declared.alloc.AllocError.{AllocError}
@@ -32,13 +32,13 @@ use Rattle.rd_host_threads.specs.Calls.{AreHostsCalls, IsHeardReply, IsMadeBy}
 use Rattle.rd_world.specs.Talk.{Deed, host_moves, host_read, host_wrote}
 use Rattle.rd_hosted.specs.Asks.{asks_among}
 use Rattle.rd_hosted.specs.Heard.{DoesAsked, DoesHeard, IsOnStill, took_message, served_in}
-use Rattle.rd_hosted.specs.Kept.{AsksInRange, moves_by, moves_on}
+use Rattle.rd_hosted.specs.Kept.{AsksInRange, IsNoDropOf, moves_by, moves_on}
 use Rattle.rd_hosted.proofs.BetweenLemmas.{IsTableHistory, earlier_history, fit_in, fit_last, seen_prefix}
 use Rattle.rd_hosted.proofs.HeardLemmas.{channel_in, heard, on_of}
 use Rattle.rd_hosted.proofs.HearToldLemmas.{HeardOn, complete_heard, lives_go, lives_heard, lives_own, plain_heard, removes_go, removes_heard, removes_own}
 use Rattle.rd_hosted.proofs.SendToldLemmas.{HandsTold, all_on, fills_told, parts_on, seen_split, those}
 use Rattle.rd_hosted.proofs.EndToldLemmas.{begin_told, drop_told, emptied, ended_told, kept_told}
-use Rattle.rd_hosted.proofs.ToldLemmas.{StandsAt, Told, moved_more, moves_of, nothing, only, read_more, told_alike, told_as, told_nothing, told_quiet, told_then, written_more}
+use Rattle.rd_hosted.proofs.ToldLemmas.{AnyChannel, SentIn, StandsAt, Told, moved_more, moves_of, nothing, only, read_more, sent_more, told_alike, told_as, told_fewer, told_nothing, told_quiet, told_then, written_more}
 
 -- the channel that is on, if one is
 abbrev pub channel_of : HostFrontState → Option ℕ
@@ -148,10 +148,10 @@ record Renewed (first last : PassOfTable) (old new : HostFrontState) : Type 0 wh
   core : new.core ≡ old.core
   still : IsOnStill old new
   tells : (core : HostCoreState) (open_on : Option ℕ) (a c : List TableEntry) → SeenAlong a parts c → IsTableHistory c → AllByRecursion AsksInRange (asks_among c) → (deeds : List Deed) → StandsAt core a open_on deeds
-      → Told core c open_on nothing nothing deeds
+      → Told AnyChannel core c open_on nothing nothing deeds
 
 renewal_told : (given last : PassOfTable) (core : HostCoreState) (open_on : Option ℕ) (a c : List TableEntry) → SeenAlong a (renews given last ∷ []) c → IsTableHistory c → AllByRecursion AsksInRange (asks_among c) → (deeds : List Deed)
-    → StandsAt core a open_on deeds → Told core c open_on nothing nothing deeds
+    → StandsAt core a open_on deeds → Told AnyChannel core c open_on nothing nothing deeds
 renewal_told given last core open_on a c seen legal fit deeds s =
     let (added, place, quiet) = seen.1 in
     let whole : c ≡ a ++ added = seen.2 ∙ place in
@@ -193,7 +193,7 @@ module _ {W : Type 0} where
     pub are : ArePartsOf does back parts
     pub goes : TablePartsGo old.table parts new.table
     pub tells : (a c : List TableEntry) → SeenAlong a parts c → IsTableHistory c → AllByRecursion AsksInRange (asks_among c) → (deeds : List Deed) → StandsAt old.core a (channel_of old) deeds
-        → Told new.core c (channel_of new) (λ x. reverse (heard_by x does back)) (λ x. reverse (messages_by x does back)) deeds
+        → Told (λ x. IsNoDropOf x does back) new.core c (channel_of new) (λ x. reverse (heard_by x does back)) (λ x. reverse (messages_by x does back)) deeds
 
   -- nothing was done
   same_told : (does : HostFrontCall W) (back : HostFrontReply W) (old new : HostFrontState) → ArePartsOf does back [] → new ≡ old → ((x : ℕ) → [] ≡ reverse (heard_by x does back)) → ((x : ℕ) → [] ≡ reverse (messages_by x does back))
@@ -204,8 +204,9 @@ module _ {W : Type 0} where
     goes = ap table_of same;
     tells = λ a c seen legal fit deeds s.
         let told = told_nothing old.core new.core a c (channel_of old) deeds (sym (ap core_of same)) seen s in
-        subst (λ (o : Option ℕ). Told new.core c o (λ x. reverse (heard_by x does back)) (λ x. reverse (messages_by x does back)) deeds) (sym (ap channel_of same))
-        (told_alike new.core c (channel_of old) nothing nothing (λ x. reverse (heard_by x does back)) (λ x. reverse (messages_by x does back)) deeds silent still told);
+        subst (λ (o : Option ℕ). Told (λ x. IsNoDropOf x does back) new.core c o (λ x. reverse (heard_by x does back)) (λ x. reverse (messages_by x does back)) deeds) (sym (ap channel_of same))
+        (told_fewer (λ x. IsNoDropOf x does back) new.core c (channel_of old) (λ x. reverse (heard_by x does back)) (λ x. reverse (messages_by x does back)) deeds
+        (told_alike new.core c (channel_of old) nothing nothing (λ x. reverse (heard_by x does back)) (λ x. reverse (messages_by x does back)) deeds silent still told));
   }
 
   -- ---- a message is heard
@@ -243,7 +244,7 @@ module _ {W : Type 0} where
             are = h.own;
             goes = h.goes;
             tells = λ a c seen legal fit deeds s.
-                subst (λ (o : Option ℕ). Told new.core c o (λ x. reverse (heard_by x (call.Hear channel message) back)) (λ x. reverse (messages_by x (call.Hear channel message) back)) deeds) (sym (on_still old new did.still ∙ open_on))
+                subst (λ (o : Option ℕ). Told AnyChannel new.core c o (λ x. reverse (heard_by x (call.Hear channel message) back)) (λ x. reverse (messages_by x (call.Hear channel message) back)) deeds) (sym (on_still old new did.still ∙ open_on))
                 (told_alike new.core c (Some channel) (only channel message) nothing (λ x. reverse (heard_by x (call.Hear channel message) back)) (λ x. reverse (messages_by x (call.Hear channel message) back)) deeds
                 (λ x. heard_taken channel x message back did.taken) (λ x. refl) (h.tells a c seen legal fit deeds (subst (λ (o : Option ℕ). StandsAt old.core a o deeds) open_on s)));
           }
@@ -269,7 +270,7 @@ module _ {W : Type 0} where
         are = h.own;
         goes = h.goes;
         tells = λ a c seen legal fit deeds s.
-            subst (λ (o : Option ℕ). Told new.core c o (λ x. reverse (heard_by {W = W} x (call.Next channel room) (reply.Messages filled why))) (λ x. reverse (messages_by {W = W} x (call.Next channel room) (reply.Messages filled why))) deeds)
+            subst (λ (o : Option ℕ). Told AnyChannel new.core c o (λ x. reverse (heard_by {W = W} x (call.Next channel room) (reply.Messages filled why))) (λ x. reverse (messages_by {W = W} x (call.Next channel room) (reply.Messages filled why))) deeds)
             (sym (on_still old new h.still ∙ open_on))
             (told_alike new.core c (Some channel) nothing (those channel filled.messages) nothing (λ x. reverse (messages_by {W = W} x (call.Next channel room) (reply.Messages filled why))) deeds (λ x. refl)
             (λ x. reverse_those (channel == x) filled.messages) (h.tells a c seen legal fit deeds (subst (λ (o : Option ℕ). StandsAt old.core a o deeds) open_on s)));
@@ -300,7 +301,7 @@ module _ {W : Type 0} where
       on false e did = subst (λ (r : HostFrontReply W). StepTold (call.DropChannel channel) r old new) (sym did.0) (same_told (call.DropChannel channel) reply.Over old new tt did.1 (λ x. refl) (λ x. refl))
       on true e (next, made, over, is) =
           let core : new.core ≡ emptied old.core = ap core_of over ∙ ap (λ (s : HostFrontState). emptied s.core) made.1 in
-          record {
+          subst (λ (r : HostFrontReply W). StepTold (call.DropChannel channel) r old new) (sym is) (record {
             parts = calls ask.DropChannel replied.Dropped ∷ [];
             are = (tt, tt);
             goes = (next.table, made.0, ap table_of over);
@@ -308,10 +309,10 @@ module _ {W : Type 0} where
                 let (added, by, place, quiet) = seen.1 in
                 let whole : c ≡ (a ++ added) ++ entry by ask.DropChannel replied.Dropped ∷ [] = seen.2 ∙ place in
                 let fit_added = fit_last AsksInRange a added (fit_in AsksInRange (a ++ added) (entry by ask.DropChannel replied.Dropped ∷ []) c (sym whole) fit) in
-                subst (λ (h : HostCoreState). Told h c (channel_of new) nothing nothing deeds) (sym core)
-                (subst (λ (o : Option ℕ). Told (emptied old.core) c o nothing nothing deeds) (sym (ap channel_of over))
+                subst (λ (h : HostCoreState). Told (λ x. channel ≢ x) h c (channel_of new) nothing nothing deeds) (sym core)
+                (subst (λ (o : Option ℕ). Told (λ x. channel ≢ x) (emptied old.core) c o nothing nothing deeds) (sym (ap channel_of over))
                 (ended_told channel old.core a added c by deeds whole quiet legal fit_added (subst (λ (o : Option ℕ). StandsAt old.core a o deeds) (on_channel old channel e) s)));
-          }
+          })
 
   -- ---- a channel begins
 
@@ -340,8 +341,8 @@ module _ {W : Type 0} where
                 let whole : c ≡ (a ++ added) ++ entry by (ask.Begin channel) (replied.Begun true) ∷ [] = seen.2 ∙ place in
                 let fit_added = fit_last AsksInRange a added (fit_in AsksInRange (a ++ added) (entry by (ask.Begin channel) (replied.Begun true) ∷ []) c (sym whole) fit) in
                 let closed : channel_of old ≡ None = ap (λ (b : Bool). cond b (Some old.channel) None) off in
-                subst (λ (h : HostCoreState). Told h c (channel_of new) nothing nothing deeds) (sym (ap core_of is_so ∙ core))
-                (subst (λ (o : Option ℕ). Told (host_begin old.core) c o nothing nothing deeds) (sym (ap channel_of is_so))
+                subst (λ (h : HostCoreState). Told AnyChannel h c (channel_of new) nothing nothing deeds) (sym (ap core_of is_so ∙ core))
+                (subst (λ (o : Option ℕ). Told AnyChannel (host_begin old.core) c o nothing nothing deeds) (sym (ap channel_of is_so))
                 (begin_told channel old.core a added c by deeds whole quiet legal fit_added (subst (λ (o : Option ℕ). StandsAt old.core a o deeds) closed s)));
           }
 
@@ -367,8 +368,8 @@ module _ {W : Type 0} where
     are = (subst (HandsThrough first r.parts) (sym same_pass) r.through, r.without);
     goes = subst (TablePartsGo old.table r.parts) (sym (ap table_of same)) r.goes;
     tells = λ a c seen legal fit deeds s.
-        subst (λ (h : HostCoreState). Told h c (channel_of new) nothing nothing deeds) (sym (ap core_of same ∙ r.core))
-        (subst (λ (o : Option ℕ). Told old.core c o nothing nothing deeds) (sym (ap channel_of same ∙ on_still old next r.still)) (r.tells old.core (channel_of old) a c seen legal fit deeds s));
+        subst (λ (h : HostCoreState). Told AnyChannel h c (channel_of new) nothing nothing deeds) (sym (ap core_of same ∙ r.core))
+        (subst (λ (o : Option ℕ). Told AnyChannel old.core c o nothing nothing deeds) (sym (ap channel_of same ∙ on_still old next r.still)) (r.tells old.core (channel_of old) a c seen legal fit deeds s));
   }
 
   -- the table was asked, and something is to be sent
@@ -389,8 +390,8 @@ module _ {W : Type 0} where
         let one = r.tells old.core (channel_of old) a b first_seen (earlier_history b on.0 c (sym on.1) legal) (fit_in AsksInRange b on.0 c on.1 fit) deeds s in
         let fit_added = fit_last AsksInRange b added (fit_in AsksInRange (b ++ added) (entry by ask.DropSent (replied.DroppedSent false) ∷ []) c (sym whole) fit) in
         let two = kept_told old.core b added c by (channel_of old) (one.more ++ deeds) whole quiet legal fit_added one.stands in
-        subst (λ (h : HostCoreState). Told h c (channel_of new) nothing nothing deeds) (sym (ap core_of (same ∙ made.1) ∙ r.core))
-        (subst (λ (o : Option ℕ). Told old.core c o nothing nothing deeds) (sym (ap channel_of (same ∙ made.1) ∙ on_still old next r.still))
+        subst (λ (h : HostCoreState). Told AnyChannel h c (channel_of new) nothing nothing deeds) (sym (ap core_of (same ∙ made.1) ∙ r.core))
+        (subst (λ (o : Option ℕ). Told AnyChannel old.core c o nothing nothing deeds) (sym (ap channel_of (same ∙ made.1) ∙ on_still old next r.still))
         (told_then old.core old.core b c (channel_of old) (channel_of old) nothing nothing deeds one two));
   }
 
@@ -418,8 +419,8 @@ module _ {W : Type 0} where
             let two = drop_told old.core b added d by (channel_of old) (one.more ++ deeds) none whole quiet legal_d fit_added one.stands in
             let both = told_then old.core old.core b d (channel_of old) None nothing nothing deeds one two in
             let three = renewal_told handed last old.core None d c renewing legal fit (both.more ++ deeds) both.stands in
-            subst (λ (h : HostCoreState). Told h c (channel_of new) nothing nothing deeds) (sym core)
-            (subst (λ (o : Option ℕ). Told old.core c o nothing nothing deeds) (sym (ap channel_of is))
+            subst (λ (h : HostCoreState). Told AnyChannel h c (channel_of new) nothing nothing deeds) (sym core)
+            (subst (λ (o : Option ℕ). Told AnyChannel old.core c o nothing nothing deeds) (sym (ap channel_of is))
             (told_then old.core old.core d c None None nothing nothing deeds both three));
       }
 
@@ -467,6 +468,7 @@ module _ {W : Type 0} where
     pub read : (c : ℕ) → host_read c more ≡ reverse (messages_heard c entries)
     pub written : (c : ℕ) → host_wrote c more ≡ reverse (messages_for c entries)
     pub moved : (c : ℕ) → host_moves c more ≡ reverse (moves_on c entries)
+    pub sent : (c : ℕ) → AllByRecursion (λ (e : HostEntry W). IsNoDropOf c e.call e.reply) entries → SentIn c more deeds
 
   none_along : (core other : HostCoreState) (a c : List TableEntry) (open_on on_now : Option ℕ) (deeds : List Deed) → core ≡ other → c ≡ a → open_on ≡ on_now → StandsAt core a open_on deeds → ToldAlong [] other c on_now deeds
   none_along core other a c open_on on_now deeds same is on s = record {
@@ -475,10 +477,11 @@ module _ {W : Type 0} where
     read = λ x. refl;
     written = λ x. refl;
     moved = λ x. refl;
+    sent = λ x none. tt;
   }
 
   one_along : (e : HostEntry W) (entries : List (HostEntry W)) (mid core : HostCoreState) (b c : List TableEntry) (open_on on_now : Option ℕ) (deeds : List Deed)
-      → (one : Told mid b open_on (λ x. reverse (heard_by x e.call e.reply)) (λ x. reverse (messages_by x e.call e.reply)) deeds) → ToldAlong entries core c on_now (one.more ++ deeds) → ToldAlong (e ∷ entries) core c on_now deeds
+      → (one : Told (λ x. IsNoDropOf x e.call e.reply) mid b open_on (λ x. reverse (heard_by x e.call e.reply)) (λ x. reverse (messages_by x e.call e.reply)) deeds) → ToldAlong entries core c on_now (one.more ++ deeds) → ToldAlong (e ∷ entries) core c on_now deeds
   one_along e entries mid core b c open_on on_now deeds one rest = record {
     more = rest.more ++ one.more;
     stands = subst (StandsAt core c on_now) (sym (append_assoc rest.more one.more deeds)) rest.stands;
@@ -488,6 +491,7 @@ module _ {W : Type 0} where
         ∙ sym (reverse-append (messages_by x e.call e.reply) (messages_for x entries))));
     moved = λ x. moved_more x rest.more one.more ∙ (ap (λ (l : List Move). l ++ host_moves x one.more) (rest.moved x) ∙ (ap (λ (l : List Move). reverse (moves_on x entries) ++ l) (one.moved x ∙ moved_as x e.call e.reply)
         ∙ sym (reverse-append (moves_by x e.call e.reply) (moves_on x entries))));
+    sent = λ x none. sent_more x rest.more one.more deeds (rest.sent x none.1) (one.sent x none.0);
   }
 
   -- What a history tells.

@@ -43,11 +43,11 @@ use Rattle.rd_hosted.proofs.BetweenLemmas.{AcceptsNone, AreAnswers, Between, IsS
 use Rattle.rd_hosted.proofs.ChannelLemmas.{PartKeepsOpen, call_channel, seen_channel}
 use Rattle.rd_hosted.proofs.HearLemmas.{admits_all, forgets_all, hears_as}
 use Rattle.rd_hosted.proofs.StandLemmas.{Stands, asks_moved, asks_read, asks_stand, asks_written, deeds_for, read_stands, side, stands_as}
-use Rattle.rd_hosted.proofs.ToldLemmas.{StandsAt, Told, moved_more, moved_read, nothing, only, quiet_stands, read_first, read_more, told_as, written_more}
+use Rattle.rd_hosted.proofs.ToldLemmas.{AnyChannel, StandsAt, Told, asks_sent, moved_more, moved_read, nothing, only, quiet_stands, read_first, read_more, sent_more, told_as, written_more}
 
 -- What stands after a message that was heard on a channel.
 abbrev pub HeardOn : HostCoreState → List TableEntry → ℕ → List ℕ → List Deed → Type 0
-HeardOn core new channel m deeds = Told core new (Some channel) (only channel m) nothing deeds
+HeardOn core new channel m deeds = Told AnyChannel core new (Some channel) (only channel m) nothing deeds
 
 -- ---- the table's own calls for it
 
@@ -177,6 +177,7 @@ plain_heard channel m core next old new answer deeds hears_is stays is s = recor
   read = λ c. read_first c channel m [] refl;
   written = λ c. refl;
   moved = λ c. moved_read c channel m [] refl;
+  sent = λ c counts. (tt, tt);
 }
 
 -- ---- a completion
@@ -214,6 +215,7 @@ complete_heard channel m core next old added new by head body answer deeds hears
       read = λ c. read_first c channel m (deeds_for (asks_among added)) (asks_read c (asks_among added));
       written = λ c. asks_written c (asks_among added);
       moved = λ c. moved_read c channel m (deeds_for (asks_among added)) (asks_moved c (asks_among added));
+      sent = λ c counts. (tt, asks_sent c (asks_among added) deeds);
     }
 
 -- ---- devices that are announced
@@ -254,6 +256,7 @@ lives_heard channel m core next old new devices lives deeds hears_is fine seen l
           ∙ (ap (λ (l : List (List ℕ)). l ++ host_wrote c asked_first) (asks_written c behind) ∙ asks_written c (asks_among b.first));
       moved = λ c. moved_more c (deeds_for behind) (host_reads channel m ∷ asked_first)
           ∙ (ap (λ (l : List Move). l ++ host_moves c (host_reads channel m ∷ asked_first)) (asks_moved c behind) ∙ moved_read c channel m asked_first (asks_moved c (asks_among b.first)));
+      sent = λ c counts. sent_more c (deeds_for behind) (host_reads channel m ∷ asked_first) deeds (asks_sent c behind (host_reads channel m ∷ (asked_first ++ deeds))) (tt, asks_sent c (asks_among b.first) deeds);
     }
 
 -- ---- devices that are gone
@@ -307,4 +310,6 @@ removes_heard channel m core next old new ids answers deeds hears_is fine seen l
       moved = λ c. moved_more c (deeds_for outs) (host_reads channel m ∷ early)
           ∙ (ap (λ (l : List Move). l ++ host_moves c (host_reads channel m ∷ early)) (asks_moved c outs)
           ∙ moved_read c channel m early (moved_more c (deeds_for subs) first_deeds ∙ (ap (λ (l : List Move). l ++ host_moves c first_deeds) (asks_moved c subs) ∙ asks_moved c (asks_among b.first))));
+      sent = λ c counts. sent_more c (deeds_for outs) (host_reads channel m ∷ early) deeds (asks_sent c outs (host_reads channel m ∷ (early ++ deeds)))
+          (tt, sent_more c (deeds_for subs) first_deeds deeds (asks_sent c subs (first_deeds ++ deeds)) (asks_sent c (asks_among b.first) deeds));
     }

@@ -43,7 +43,7 @@ use Rattle.rd_hosted.specs.Kept.{AsksInRange, CameOf, IsTakenIn, KeepsTable, cal
 use Rattle.rd_hosted.proofs.BetweenLemmas.{IsTableHistory, earlier_history, fit_in, fit_last}
 use Rattle.rd_hosted.proofs.GoLemmas.{HistoryTold, ToldAlong, channel_of, history_told}
 use Rattle.rd_hosted.proofs.StandLemmas.{Stands}
-use Rattle.rd_hosted.proofs.ToldLemmas.{StandsAt, Told, moved_more, nothing, read_more, told_quiet, written_more}
+use Rattle.rd_hosted.proofs.ToldLemmas.{AnyChannel, StandsAt, Told, moved_more, nothing, read_more, sent_all_along, sent_more, told_quiet, written_more}
 
 -- each request that was accepted has room for its numbers: so have all that were asked for
 abbrev FitAsks : List TableEntry → Type 0
@@ -69,7 +69,7 @@ begins_so = record {
     none x has = let low = has.1 in omega (arith, low)
 
 -- what is told of a host is what it keeps, with what applications asked last
-kept_so : {W : Type 0} (core : HostCoreState) (own seen : List TableEntry) (open_on : Option ℕ) (entries : List (HostEntry W)) → (told : ToldAlong entries core own open_on []) → Told core seen open_on nothing nothing (told.more ++ [])
+kept_so : {W : Type 0} (core : HostCoreState) (own seen : List TableEntry) (open_on : Option ℕ) (entries : List (HostEntry W)) → (told : ToldAlong entries core own open_on []) → Told AnyChannel core seen open_on nothing nothing (told.more ++ [])
     → KeepsTable seen entries
 kept_so core own seen open_on entries told last =
     let deeds : List Deed = last.more ++ told.more in
@@ -85,6 +85,7 @@ kept_so core own seen open_on entries told last =
       read = λ c. read_more c last.more told.more ∙ (ap (λ (l : List (List ℕ)). l ++ host_read c told.more) (last.read c) ∙ told.read c);
       written = λ c. written_more c last.more told.more ∙ (ap (λ (l : List (List ℕ)). l ++ host_wrote c told.more) (last.written c) ∙ told.written c);
       moves = λ c. moved_more c last.more told.more ∙ (ap (λ (l : List Move). l ++ host_moves c told.more) (last.moved c) ∙ told.moved c);
+      sent = λ c none. sent_all_along c deeds (sent_more c last.more told.more [] (last.sent c tt) (told.sent c none));
     }
 
 pub host_keeps : (lines : List NumberedLine) (other : Option Ended) (told : List ((ℕ × ℕ) × Outcome)) (old new : LinkedTold) → AreSubmittable lines → other ≢ Some ended.Memory → (hosts : Hosts lines other told old new)

@@ -26,7 +26,7 @@ use Rattle.rd_hosted.proofs.BetweenLemmas.{AcceptsNone, IsTableHistory, accepted
 use Rattle.rd_hosted.proofs.ChannelLemmas.{call_channel}
 use Rattle.rd_hosted.proofs.StandLemmas.{asks_moved, asks_read, asks_written, deeds_for, side, stands_as, write_stands}
 use Rattle.rd_hosted.proofs.HeardLemmas.{channel_in, on_of, still_then}
-use Rattle.rd_hosted.proofs.ToldLemmas.{StandsAt, Told, moved_write, moves_of, nothing, only, quiet_stands, told_alike, told_as, told_nothing, told_then, written_first}
+use Rattle.rd_hosted.proofs.ToldLemmas.{AnyChannel, StandsAt, Told, asks_sent, moved_write, moves_of, nothing, only, quiet_stands, told_alike, told_as, told_nothing, told_then, written_first}
 
 -- ---- parts, one after the other
 
@@ -99,7 +99,7 @@ pub record HandsTold (channel : ℕ) (old new : HostFrontState) (messages : List
   pub goes : TablePartsGo old.table parts new.table
   pub still : IsOnStill old new
   pub tells : (a c : List TableEntry) → SeenAlong a parts c → IsTableHistory c → AllByRecursion AsksInRange (asks_among c) → (deeds : List Deed) → StandsAt old.core a (Some channel) deeds
-      → Told new.core c (Some channel) nothing (those channel messages) deeds
+      → Told AnyChannel new.core c (Some channel) nothing (those channel messages) deeds
 
 none_by : (b : Bool) → nothing 0 ≡ cond b (reverse []) []
 none_by true = refl
@@ -109,7 +109,7 @@ none_written : (channel c : ℕ) → nothing c ≡ those channel [] c
 none_written channel c = none_by (channel == c)
 
 own_told : (channel : ℕ) (message : List ℕ) (core next : HostCoreState) (a : List TableEntry) (deeds : List Deed) → host_send core ≡ (next, Some message) → StandsAt core a (Some channel) deeds
-    → Told next a (Some channel) nothing (those channel (message ∷ [])) deeds
+    → Told AnyChannel next a (Some channel) nothing (those channel (message ∷ [])) deeds
 own_told channel message core next a deeds is s =
     let first = own_first core next message is in
     let waits : next_message (side core (table_at a)) ≡ Some message = rw first.outbox refl in
@@ -120,10 +120,11 @@ own_told channel message core next a deeds is s =
       read = λ c. refl;
       written = λ c. written_first c channel message [] [] refl ∙ append-nil (only channel message c);
       moved = λ c. moved_write c channel message [] refl;
+      sent = λ c counts. (tt, tt);
     }
 
 request_told : (channel : ℕ) (message : List ℕ) (core : HostCoreState) (a added c : List TableEntry) (by : ℕ) (deeds : List Deed) → (core.core).outbox ≡ [] → c ≡ (a ++ added) ++ entry by ask.Outbox (reply.Sent (Some message)) ∷ [] → AreQuiet added
-    → IsTableHistory c → AllByRecursion AsksInRange (asks_among added) → StandsAt core a (Some channel) deeds → Told core c (Some channel) nothing (those channel (message ∷ [])) deeds
+    → IsTableHistory c → AllByRecursion AsksInRange (asks_among added) → StandsAt core a (Some channel) deeds → Told AnyChannel core c (Some channel) nothing (those channel (message ∷ [])) deeds
 request_told channel message core a added c by deeds empty place quiet legal fit s =
     let mid : List TableEntry = a ++ added in
     let t : TableState = table_at mid in
@@ -145,10 +146,11 @@ request_told channel message core a added c by deeds empty place quiet legal fit
       read = λ x. asks_read x (asks_among added);
       written = λ x. written_first x channel message (deeds_for (asks_among added)) [] (asks_written x (asks_among added)) ∙ append-nil (only channel message x);
       moved = λ x. moved_write x channel message (deeds_for (asks_among added)) (asks_moved x (asks_among added));
+      sent = λ x counts. (tt, asks_sent x (asks_among added) deeds);
     }
 
 empty_told : (channel : ℕ) (core : HostCoreState) (a added c : List TableEntry) (by : ℕ) (deeds : List Deed) → c ≡ (a ++ added) ++ entry by ask.Outbox (reply.Sent None) ∷ [] → AreQuiet added
-    → IsTableHistory c → AllByRecursion AsksInRange (asks_among added) → StandsAt core a (Some channel) deeds → Told core c (Some channel) nothing (those channel []) deeds
+    → IsTableHistory c → AllByRecursion AsksInRange (asks_among added) → StandsAt core a (Some channel) deeds → Told AnyChannel core c (Some channel) nothing (those channel []) deeds
 empty_told channel core a added c by deeds place quiet legal fit s =
     let mid : List TableEntry = a ++ added in
     let whole : List TableEntry = mid ++ entry by ask.Outbox (reply.Sent None) ∷ [] in
@@ -165,6 +167,7 @@ empty_told channel core a added c by deeds place quiet legal fit s =
       read = λ x. asks_read x (asks_among added);
       written = λ x. asks_written x (asks_among added) ∙ none_written channel x;
       moved = λ x. asks_moved x (asks_among added) ∙ ap (λ (l : List (List ℕ)). moves_of l []) (none_written channel x);
+      sent = λ x counts. asks_sent x (asks_among added) deeds;
     }
 
 -- one call for a message
@@ -177,7 +180,7 @@ one_told channel given old next (Some message, mid, own, gives) = record {
   tells = λ a c seen legal fit deeds s.
       let told = own_told channel message old.core next.core a deeds (own.0 ∙ ap (λ (x : HostCoreState). (x, Some message)) (sym (ap core_of gives.1))) s in
       told_alike next.core c (Some channel) nothing (those channel (message ∷ [])) nothing (those channel (option_to_list given)) deeds (λ x. refl) (λ x. ap (λ (o : Option (List ℕ)). those channel (option_to_list o) x) (sym gives.0))
-      (subst (λ (l : List TableEntry). Told next.core l (Some channel) nothing (those channel (message ∷ [])) deeds) (sym seen) told);
+      (subst (λ (l : List TableEntry). Told AnyChannel next.core l (Some channel) nothing (those channel (message ∷ [])) deeds) (sym seen) told);
 }
 one_told channel given old next (None, mid, own, gives) =
     let empty = own_none old.core mid.core own.0 in
@@ -190,11 +193,11 @@ one_told channel given old next (None, mid, own, gives) =
           let (added, by, place, quiet) = seen.1 in
           let whole : c ≡ (a ++ added) ++ entry by ask.Outbox (reply.Sent given) ∷ [] = seen.2 ∙ place in
           let fit_added = fit_last AsksInRange a added (fit_in AsksInRange (a ++ added) (entry by ask.Outbox (reply.Sent given) ∷ []) c (sym whole) fit) in
-          subst (λ (x : HostCoreState). Told x c (Some channel) nothing (those channel (option_to_list given)) deeds) (sym (ap core_of gives.1 ∙ empty.1)) (by_given given a added c by deeds empty.0 whole quiet legal fit_added s);
+          subst (λ (x : HostCoreState). Told AnyChannel x c (Some channel) nothing (those channel (option_to_list given)) deeds) (sym (ap core_of gives.1 ∙ empty.1)) (by_given given a added c by deeds empty.0 whole quiet legal fit_added s);
     }
   where
     by_given : (given : Option (List ℕ)) (a added c : List TableEntry) (by : ℕ) (deeds : List Deed) → ((old.core).core).outbox ≡ [] → c ≡ (a ++ added) ++ entry by ask.Outbox (reply.Sent given) ∷ [] → AreQuiet added
-        → IsTableHistory c → AllByRecursion AsksInRange (asks_among added) → StandsAt old.core a (Some channel) deeds → Told old.core c (Some channel) nothing (those channel (option_to_list given)) deeds
+        → IsTableHistory c → AllByRecursion AsksInRange (asks_among added) → StandsAt old.core a (Some channel) deeds → Told AnyChannel old.core c (Some channel) nothing (those channel (option_to_list given)) deeds
     by_given (Some message) a added c by deeds empty place quiet legal fit s = request_told channel message old.core a added c by deeds empty place quiet legal fit s
     by_given None a added c by deeds empty place quiet legal fit s = empty_told channel old.core a added c by deeds place quiet legal fit s
 

@@ -1,21 +1,22 @@
 -- What a call of a host's front tells of what the host did: what it comes to between quiet calls of the table.
-use Rattle.std.proofs.Common.{◌≡◌, ◌∙◌, refl, sym, ap, subst, ℕ, ◌==◌, Bool, true, false, cond, List, [], ◌∷◌, ◌++◌, append_assoc, Option}
+use Rattle.std.proofs.Common.{◌≡◌, ◌∙◌, refl, sym, ap, subst, ℕ, ◌==◌, Bool, true, false, cond, List, [], ◌∷◌, ◌++◌, append_assoc, append-nil, Option}
 use Rattle.std.specs.List.{AllByRecursion}
 use Rattle.std.specs.Prelude.{map}
 use Rattle.std.proofs.lemmas.List.Elements.{filter_map-append}
 use Rattle.rd_hello.specs.Moves as move
 use Rattle.rd_hello.specs.Moves.{Move}
 use Rattle.rd_host.specs.Core.{HostCoreState}
-use Rattle.rd_pending.specs.History.{accepted_in}
+use Rattle.rd_pending.specs.History as call
+use Rattle.rd_pending.specs.History.{Call, accepted_in}
 use Rattle.rd_table.specs.Histories.{handed_in, table_history}
 use Rattle.rd_exchanges.specs.Exchanges.{goes}
 use Rattle.rd_host_turns.specs.Turns.{AreQuiet, TableEntry}
-use Rattle.rd_world.specs.Talk.{Deed, host_move, host_moves, host_read, host_reads, host_writes, host_wrote, read_by_host, written_by_host}
+use Rattle.rd_world.specs.Talk.{Deed, EachAfter, host_move, host_moves, host_read, host_reads, host_writes, host_wrote, read_by_host, written_by_host}
 use Rattle.rd_hosted.specs.Asks.{asks_among, table_at}
-use Rattle.rd_hosted.specs.Kept.{AsksInRange}
+use Rattle.rd_hosted.specs.Kept.{AsksInRange, LeavesNothing}
 use Rattle.rd_hosted.proofs.BetweenLemmas.{IsTableHistory, accepted_behind, asks_behind, handed_behind}
 use Rattle.rd_hosted.proofs.ChannelLemmas.{quiet_channel}
-use Rattle.rd_hosted.proofs.StandLemmas.{Stands, asks_moved, asks_read, asks_stand, asks_written, deeds_for, stands_as}
+use Rattle.rd_hosted.proofs.StandLemmas.{Stands, asks_moved, asks_read, asks_stand, asks_written, deed_for, deeds_for, stands_as}
 
 -- ---- where a host stands by a history
 
@@ -28,13 +29,23 @@ pub record StandsAt (core : HostCoreState) (seen : List TableEntry) (open_on : O
 abbrev pub moves_of : List (List ℕ) → List (List ℕ) → List Move
 moves_of wrote read = map (λ message. move.writes message) wrote ++ map (λ message. move.reads message) read
 
--- It stands so by more deeds than before, by which these messages were read and written on each channel, the newest first.
-pub record Told (core : HostCoreState) (seen : List TableEntry) (open_on : Option ℕ) (reads writes : ℕ → List (List ℕ)) (deeds : List Deed) : Type 0 where
+-- Where deeds behind others end this channel, nothing was left to send then.
+abbrev pub SentIn : ℕ → List Deed → List Deed → Type 0
+SentIn c [] deeds = Unit {0}
+SentIn c (deed ∷ more) deeds = LeavesNothing c (more ++ deeds) deed × SentIn c more deeds
+
+-- each channel counts
+abbrev pub AnyChannel : ℕ → Type 0
+AnyChannel c = Unit {0}
+
+-- It stands so by more deeds than before, by which these messages were read and written on each channel, the newest first; where they ended a channel that counts, nothing was left to send.
+pub record Told (Counts : ℕ → Type 0) (core : HostCoreState) (seen : List TableEntry) (open_on : Option ℕ) (reads writes : ℕ → List (List ℕ)) (deeds : List Deed) : Type 0 where
   pub more : List Deed
   pub stands : StandsAt core seen open_on (more ++ deeds)
   pub read : (c : ℕ) → host_read c more ≡ reads c
   pub written : (c : ℕ) → host_wrote c more ≡ writes c
   pub moved : (c : ℕ) → host_moves c more ≡ moves_of (writes c) (reads c)
+  pub sent : (c : ℕ) → Counts c → SentIn c more deeds
 
 abbrev pub nothing : ℕ → List (List ℕ)
 nothing c = []
@@ -87,6 +98,31 @@ writes_joined : (xs ys : List (List ℕ)) → moves_of xs [] ++ moves_of ys [] �
 writes_joined [] ys = refl
 writes_joined (x ∷ xs) ys = ap (λ (l : List Move). move.writes x ∷ l) (writes_joined xs ys)
 
+-- ---- what was left to send
+
+pub sent_more : (c : ℕ) (xs ys deeds : List Deed) → SentIn c xs (ys ++ deeds) → SentIn c ys deeds → SentIn c (xs ++ ys) deeds
+sent_more c [] ys deeds later first = first
+sent_more c (x ∷ xs) ys deeds later first = (subst (λ (l : List Deed). LeavesNothing c l x) (sym (append_assoc xs ys deeds)) later.0, sent_more c xs ys deeds later.1 first)
+
+pub asks_sent : (c : ℕ) (cs : List Call) (deeds : List Deed) → SentIn c (deeds_for cs) deeds
+asks_sent c [] deeds = tt
+asks_sent c (x ∷ cs) deeds = sent_more c (deeds_for cs) (deed_for x) deeds (asks_sent c cs (deed_for x ++ deeds)) (one x)
+  where
+    one : (x : Call) → SentIn c (deed_for x) deeds
+    one (call.submits application named o) = (tt, tt)
+    one (call.takes n) = (tt, tt)
+    one (call.begins n) = tt
+    one (call.lives n) = tt
+    one (call.removes n) = tt
+    one (call.completes head body) = tt
+    one call.sends = tt
+    one call.drops = tt
+
+-- of all deeds
+pub sent_all_along : (c : ℕ) (deeds : List Deed) → SentIn c deeds [] → EachAfter (λ before deed. LeavesNothing c before deed) deeds
+sent_all_along c [] sent = tt
+sent_all_along c (deed ∷ before) sent = (subst (λ (l : List Deed). LeavesNothing c l deed) (append-nil before) sent.0, sent_all_along c before sent.1)
+
 -- ---- what applications ask
 
 pub quiet_stands : (core : HostCoreState) (old added : List TableEntry) (open_on : Option ℕ) (deeds : List Deed) → StandsAt core old open_on deeds → AreQuiet added → IsTableHistory (old ++ added) → AllByRecursion AsksInRange (asks_among added)
@@ -104,36 +140,44 @@ pub told_as : (core other : HostCoreState) (seen : List TableEntry) (old new : L
 told_as core other seen old new open_on on_now deeds a b c s =
     subst (λ (x : HostCoreState). StandsAt x new on_now deeds) a (subst (λ (l : List TableEntry). StandsAt core l on_now deeds) b (subst (λ (o : Option ℕ). StandsAt core old o deeds) c s))
 
-pub told_nothing : (core other : HostCoreState) (old new : List TableEntry) (open_on : Option ℕ) (deeds : List Deed) → core ≡ other → new ≡ old → StandsAt core old open_on deeds → Told other new open_on nothing nothing deeds
+pub told_nothing : (core other : HostCoreState) (old new : List TableEntry) (open_on : Option ℕ) (deeds : List Deed) → core ≡ other → new ≡ old → StandsAt core old open_on deeds → Told AnyChannel other new open_on nothing nothing deeds
 told_nothing core other old new open_on deeds same is s = record {
   more = [];
   stands = told_as core other old old new open_on open_on deeds same (sym is) refl s;
   read = λ c. refl;
   written = λ c. refl;
   moved = λ c. refl;
+  sent = λ c counts. tt;
 }
 
 pub told_quiet : (core : HostCoreState) (old added new : List TableEntry) (open_on : Option ℕ) (deeds : List Deed) → new ≡ old ++ added → AreQuiet added → IsTableHistory new → AllByRecursion AsksInRange (asks_among added) → StandsAt core old open_on deeds
-    → Told core new open_on nothing nothing deeds
+    → Told AnyChannel core new open_on nothing nothing deeds
 told_quiet core old added new open_on deeds is quiet legal fit s = record {
   more = deeds_for (asks_among added);
   stands = told_as core core old (old ++ added) new open_on open_on (deeds_for (asks_among added) ++ deeds) refl (sym is) refl (quiet_stands core old added open_on deeds s quiet (subst IsTableHistory is legal) fit);
   read = λ c. asks_read c (asks_among added);
   written = λ c. asks_written c (asks_among added);
   moved = λ c. asks_moved c (asks_among added);
+  sent = λ c counts. asks_sent c (asks_among added) deeds;
 }
 
 -- one told after another, where nothing was read
-pub told_then : (core mid : HostCoreState) (between new : List TableEntry) (open_on on_now : Option ℕ) (writes more_writes : ℕ → List (List ℕ)) (deeds : List Deed) (one : Told mid between open_on nothing writes deeds)
-    → Told core new on_now nothing more_writes (one.more ++ deeds) → Told core new on_now nothing (λ c. more_writes c ++ writes c) deeds
+pub told_then : (core mid : HostCoreState) (between new : List TableEntry) (open_on on_now : Option ℕ) (writes more_writes : ℕ → List (List ℕ)) (deeds : List Deed) (one : Told AnyChannel mid between open_on nothing writes deeds)
+    → Told AnyChannel core new on_now nothing more_writes (one.more ++ deeds) → Told AnyChannel core new on_now nothing (λ c. more_writes c ++ writes c) deeds
 told_then core mid between new open_on on_now writes more_writes deeds one other = record {
   more = other.more ++ one.more;
   stands = subst (StandsAt core new on_now) (sym (append_assoc other.more one.more deeds)) other.stands;
   read = λ c. read_more c other.more one.more ∙ (ap (λ (l : List (List ℕ)). l ++ host_read c one.more) (other.read c) ∙ one.read c);
   written = λ c. written_more c other.more one.more ∙ (ap (λ (l : List (List ℕ)). l ++ host_wrote c one.more) (other.written c) ∙ ap (λ (l : List (List ℕ)). more_writes c ++ l) (one.written c));
   moved = λ c. moved_more c other.more one.more ∙ (ap (λ (l : List Move). l ++ host_moves c one.more) (other.moved c) ∙ (ap (λ (l : List Move). moves_of (more_writes c) [] ++ l) (one.moved c) ∙ writes_joined (more_writes c) (writes c)));
+  sent = λ c counts. sent_more c other.more one.more deeds (other.sent c counts) (one.sent c counts);
 }
 
 pub told_alike : (core : HostCoreState) (new : List TableEntry) (open_on : Option ℕ) (reads writes other_reads other_writes : ℕ → List (List ℕ)) (deeds : List Deed) → ((c : ℕ) → reads c ≡ other_reads c) → ((c : ℕ) → writes c ≡ other_writes c)
-    → Told core new open_on reads writes deeds → Told core new open_on other_reads other_writes deeds
-told_alike core new open_on reads writes other_reads other_writes deeds r w t = record { more = t.more; stands = t.stands; read = λ c. t.read c ∙ r c; written = λ c. t.written c ∙ w c; moved = λ c. t.moved c ∙ (ap (λ (l : List (List ℕ)). moves_of l (reads c)) (w c) ∙ ap (moves_of (other_writes c)) (r c)) }
+    → Told AnyChannel core new open_on reads writes deeds → Told AnyChannel core new open_on other_reads other_writes deeds
+told_alike core new open_on reads writes other_reads other_writes deeds r w t = record { more = t.more; stands = t.stands; read = λ c. t.read c ∙ r c; written = λ c. t.written c ∙ w c; moved = λ c. t.moved c ∙ (ap (λ (l : List (List ℕ)). moves_of l (reads c)) (w c) ∙ ap (moves_of (other_writes c)) (r c)); sent = t.sent }
+
+-- where fewer channels count
+pub told_fewer : (Counts : ℕ → Type 0) (core : HostCoreState) (new : List TableEntry) (open_on : Option ℕ) (reads writes : ℕ → List (List ℕ)) (deeds : List Deed) → Told AnyChannel core new open_on reads writes deeds
+    → Told Counts core new open_on reads writes deeds
+told_fewer Counts core new open_on reads writes deeds t = record { more = t.more; stands = t.stands; read = t.read; written = t.written; moved = t.moved; sent = λ c counts. t.sent c tt }

@@ -1,11 +1,13 @@
 -- What a host did, as deeds by which it keeps its table, and how these tell the histories of its table and of its front.
-use Rattle.std.specs.Prelude.{◌≡◌, ℕ, suc, List, [], ◌∷◌, ◌++◌, length, map, reverse, Contains, Option, Ok}
+use Rattle.std.specs.Prelude.{◌≡◌, ◌≢◌, ℕ, suc, List, [], ◌∷◌, ◌++◌, length, map, reverse, Contains, Option, None, Ok}
 use Rattle.std.specs.List.{AllByRecursion}
 use Rattle.std.specs.declared.marker.Brand.{Brand}
 use Rattle.rd_carry.specs.declared.ended.Ended.{Ended}
 use Rattle.rd_host_channel.specs.Calls.{HostEntry, heard_by, messages_by, messages_for, messages_heard}
 use Rattle.rd_host_front.specs.declared.calls.HostFrontCall.{HostFrontCall}
+use Rattle.rd_host_front.specs.declared.calls.HostFrontCall.TheVariants.{DropChannel}
 use Rattle.rd_host_front.specs.declared.calls.HostFrontReply.{HostFrontReply}
+use Rattle.rd_host_front.specs.declared.calls.HostFrontReply.TheVariants.{Done}
 use Rattle.rd_hello.specs.Moves.{Move, reads, writes}
 use Rattle.rd_host_session.specs.Channels.{LinkedTold}
 use Rattle.rd_host_session.specs.Hosted.{Hosts}
@@ -18,6 +20,7 @@ use Rattle.rd_pending.specs.Table as table
 use Rattle.rd_script.specs.declared.line.NumberedLine.{NumberedLine}
 use Rattle.rd_script.specs.declared.outcome.Outcome.{Outcome}
 use Rattle.rd_table.specs.Histories.{handed_in, table_history}
+use Rattle.rd_world.specs.Host.{next_message}
 use Rattle.rd_world.specs.HostDeeds.{IsInRange, MayDo, calls_of, side_of}
 use Rattle.rd_world.specs.Joining.{ClientCameTo}
 use Rattle.rd_world.specs.Recording.{client_id}
@@ -48,6 +51,16 @@ abbrev pub moves_on : {W : Type 0} → ℕ → List (HostEntry W) → List Move
 moves_on c [] = []
 moves_on c (e ∷ entries) = moves_by c e.call e.reply ++ moves_on c entries
 
+-- By this call of the front no thread ended this channel for its peer's sake or by a fault. A call by which it is to end by the script is none of those.
+abbrev pub IsNoDropOf : {W : Type 0} → ℕ → HostFrontCall W → HostFrontReply W → Type 0
+IsNoDropOf c (DropChannel channel) (Done wakes full) = channel ≢ c
+IsNoDropOf c _ _ = Unit {0}
+
+-- If a deed is that this channel ended, the host had nothing left to send then.
+abbrev pub LeavesNothing : ℕ → List Deed → Deed → Type 0
+LeavesNothing c before (host_ends channel) = channel ≡ c → next_message (side_of client_id before) ≡ None
+LeavesNothing c before _ = Unit {0}
+
 -- One of these deeds is that a number was taken, and this is what the host's table gave for it.
 pub record IsTakenIn (deeds : List Deed) (number : ℕ) (taken : Taken) : Type 0 where
   pub later : List Deed
@@ -56,7 +69,8 @@ pub record IsTakenIn (deeds : List Deed) (number : ℕ) (taken : Taken) : Type 0
   pub gives : (table.take (side_of client_id before).table number).1 ≡ Ok taken
 
 -- What the host did, the newest first: by that it keeps its table, which is then the one after this history. The requests are those that were accepted in the history, in its order, and each outcome that was handed
--- out in it one of the deeds handed out. On each channel the messages were read and written that by these calls of the front were heard and handed out, in the order of these calls.
+-- out in it one of the deeds handed out. On each channel the messages were read and written that by these calls of the front were heard and handed out, in the order of these calls. Where no thread
+-- ended a channel for its peer's sake or by a fault, nothing was left to send as it ended.
 pub record KeepsTable {W : Type 0} (seen : List TableEntry) (entries : List (HostEntry W)) : Type 0 where
   pub deeds : List Deed
   pub own : AllByRecursion IsOfHost deeds
@@ -67,6 +81,7 @@ pub record KeepsTable {W : Type 0} (seen : List TableEntry) (entries : List (Hos
   pub read : (c : ℕ) → host_read c deeds ≡ reverse (messages_heard c entries)
   pub written : (c : ℕ) → host_wrote c deeds ≡ reverse (messages_for c entries)
   pub moves : (c : ℕ) → host_moves c deeds ≡ reverse (moves_on c entries)
+  pub sent : (c : ℕ) → AllByRecursion (λ (e : HostEntry W). IsNoDropOf c e.call e.reply) entries → EachAfter (λ before deed. LeavesNothing c before deed) deeds
 
 -- An outcome is that of the request with this number, by what was heard on its channel, with its device and life.
 pub record CameOf (deeds : List Deed) (number : ℕ) (taken : Taken) : Type 0 where

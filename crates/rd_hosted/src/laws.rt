@@ -27,7 +27,8 @@ pub fn fronts_make_parts<W: TableTurn>()
 {}
 
 /// Where the lines of a script that was read were played (`scripts_ask_in_range` of `rd_host_lines`), and the session didn't end for want of memory: there are deeds of the host by which it keeps its table; on each channel
-/// those messages were read and written that its front's one history has, and of requests and outcomes they have what the table's one history has.
+/// those messages were read and written that its front's one history has, and of requests and outcomes they have what the table's one history has. Where no thread ended a channel
+/// for its peer's sake or by a fault, nothing was left to send as it ended.
 pub fn hosts_keep_their_tables()
     ensures { (lines : List NumberedLine) (other : Option Ended) (told : List ((ℕ × ℕ) × Outcome)) (old new : LinkedTold) → AreSubmittable lines → other ≢ Some ended.Memory
         → (hosts : Hosts lines other told old new) → KeepsTable (calls_of_table lines other told old new hosts) (calls_of_front lines other told old new hosts) }
