@@ -16,7 +16,7 @@ use Rattle.rd_world.specs.Run.{applications_of, asked_by, asking}
 use Rattle.rd_world.specs.World.{ApplicationState, Asked, new_application}
 use Rattle.rd_host_session.specs.Hosted.{issuer_by, issuers_of}
 use Rattle.rd_issuer.specs.declared.issuer.Issuer.{Issuer}
-use Rattle.rd_host_lines.specs.Outcomes.{asks_under, asked_under}
+use Rattle.rd_host_lines.specs.Outcomes.{asks_under, line_under}
 use Rattle.rd_host_lines.proofs.InPlayLemmas.{Differ, number_of}
 
 -- ---- keys
@@ -75,7 +75,7 @@ asks_other : (es : List (ℕ × ApplicationState)) (p : ℕ × Asked) (a : ℕ) 
 asks_other es p a other = ap (λ (o : Option ApplicationState). unwrap_or o new_application) (beside p.0 (asked_more (asks_in es p.0) p.1) a other es)
 
 abbrev of_pairs : ℕ → List (ℕ × Asked) → List Asked
-of_pairs a pairs = filter_map (asked_under a) pairs
+of_pairs a pairs = filter_map (line_under a) pairs
 
 of_own : (a : ℕ) (p : ℕ × Asked) (pairs : List (ℕ × Asked)) → p.0 ≡ a → of_pairs a (p ∷ pairs) ≡ p.1 ∷ of_pairs a pairs
 of_own a p pairs same = ap (λ (b : Bool). cons_option (cond b (Some p.1) None) (of_pairs a pairs)) (eq-eqb p.0 a same)
@@ -114,9 +114,9 @@ lines_asked a (l ∷ lines) = by (asked_by l.line) (lines_asked a lines)
     pairs : List (ℕ × Asked)
     pairs = filter_map asked_by (map (λ (l : NumberedLine). l.line) lines)
 
-    by : (o : Option (ℕ × Asked)) → of_pairs a pairs ≡ asks_under a lines → of_pairs a (cons_option o pairs) ≡ cons_option (option_and_then (asked_under a) o) (asks_under a lines)
+    by : (o : Option (ℕ × Asked)) → of_pairs a pairs ≡ asks_under a lines → of_pairs a (cons_option o pairs) ≡ cons_option (option_and_then (line_under a) o) (asks_under a lines)
     by None later = later
-    by (Some p) later = ap (cons_option (asked_under a p)) later
+    by (Some p) later = ap (cons_option (line_under a p)) later
 
 -- ---- the applications
 

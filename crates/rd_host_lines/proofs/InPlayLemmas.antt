@@ -35,7 +35,7 @@ use Rattle.rd_world.specs.World.{ApplicationState, Asked}
 use Rattle.rd_host_turns.specs.Turns.{TableEntry}
 use Rattle.rd_host_turns.proofs.CountLemmas.{all_both}
 use Rattle.rd_host_turns.proofs.MoveLemmas.{zeros_stay}
-use Rattle.rd_host_lines.specs.Outcomes.{IsNoRequestOf, asks_under, asked_under}
+use Rattle.rd_host_lines.specs.Outcomes.{IsNoRequestOf, asks_under, line_under}
 use Rattle.rd_host_lines.proofs.FrontLemmas.{IsFronts}
 use Rattle.rd_host_lines.proofs.MineLemmas.{calls_more, calls_stay, none_added, with_pass}
 use Rattle.rd_host_lines.proofs.OutcomeLemmas.{Did, DidAll, calls_by, calls_in, told_by}
@@ -346,11 +346,11 @@ module _ (a place total : ℕ) (numbers : List ℕ) (start : ApplicationState) (
   -- ---- a line that the script comes to
 
   -- so many lines are left, where this one is another's, or its own
-  left_other : (b : ℕ) (asked : Asked) (later : List Asked) (n : ℕ) → b ≢ a → n + length (cons_option (asked_under a (b, asked)) later) ≡ total → n + length later ≡ total
+  left_other : (b : ℕ) (asked : Asked) (later : List Asked) (n : ℕ) → b ≢ a → n + length (cons_option (line_under a (b, asked)) later) ≡ total → n + length later ≡ total
   left_other b asked later n other is =
       subst (λ (t : Bool). n + length (cons_option (if t then Some asked else None) later) ≡ total) (ne_eqb b a other) is
 
-  left_own : (b : ℕ) (asked : Asked) (later : List Asked) (n : ℕ) → b ≡ a → n + length (cons_option (asked_under a (b, asked)) later) ≡ total → (n + 1) + length later ≡ total
+  left_own : (b : ℕ) (asked : Asked) (later : List Asked) (n : ℕ) → b ≡ a → n + length (cons_option (line_under a (b, asked)) later) ≡ total → (n + 1) + length later ≡ total
   left_own b asked later n same is =
       let h : n + length (asked ∷ later) ≡ total = subst (λ (t : Bool). n + length (cons_option (if t then Some asked else None) later) ≡ total) (eq-eqb b a same) is in
       omega (arith, h)
@@ -364,7 +364,7 @@ module _ (a place total : ℕ) (numbers : List ℕ) (start : ApplicationState) (
       unchanged : (at : slice_get new place ≡ Some (issuer a (x.now))) → map number_of new ≡ numbers → (x.now).queued + length later ≡ total → InPlay f p lines new
       unchanged at numbers_are left = record { mine = x.mine; ran = x.ran; numbers_are = numbers_are; now = x.now; at = at; left = left; issues = x.issues; did = x.did; calls = x.calls }
 
-      queued_at : (b : ℕ) (asked : Asked) → (x.now).queued + length (cons_option (asked_under a (b, asked)) later) ≡ total → QueuedAt b old new → InPlay f p lines new
+      queued_at : (b : ℕ) (asked : Asked) → (x.now).queued + length (cons_option (line_under a (b, asked)) later) ≡ total → QueuedAt b old new → InPlay f p lines new
       queued_at b asked left (other, i, got, number, is) =
           let numbers_new : map number_of new ≡ numbers = ap (map number_of) is ∙ (numbers_set old other i (queued i) got refl ∙ x.numbers_are) in
           elim (cases_eq place other) [
@@ -396,7 +396,7 @@ module _ (a place total : ℕ) (numbers : List ℕ) (start : ApplicationState) (
           unchanged (ap (λ (l : List Issuer). slice_get l place) h ∙ x.at) (ap (map number_of) h ∙ x.numbers_are) left
       by (Some (b, asked)) e =
           let h : QueuedAt b old new = rw e at has in
-          let left : (x.now).queued + length (cons_option (asked_under a (b, asked)) later) ≡ total = rw e at x.left in
+          let left : (x.now).queued + length (cons_option (line_under a (b, asked)) later) ≡ total = rw e at x.left in
           queued_at b asked left h
 
   -- ---- applications run

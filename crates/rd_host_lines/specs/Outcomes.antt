@@ -35,21 +35,21 @@ AsksNothing a entries = AllByRecursion (λ (e : TableEntry). IsNoRequestOf a e.c
 
 -- ---- a line
 
--- how what comes after goes on: with what the application's handles hold, and with the rest of the history
-abbrev GoesOn : Type 1
-GoesOn = ApplicationState → List TableEntry → Type 0
+-- what holds of what comes after: with what the application's handles hold (`handles`, all else is as at first), and with the rest of the history
+abbrev AndThen : Type 1
+AndThen = ApplicationState → List TableEntry → Type 0
 
 module _ (a : ℕ) where
-  -- What a request was answered with, before these calls. Where it was refused, its line was, for that cause. Where it was accepted under a number, a later call took for this number what became
-  -- the outcome of the line; and the application asked for nothing before that.
-  abbrev pub AnswerCame : ApplicationState → Asked → Outcome → GoesOn → Result ℕ SubmitNo → List TableEntry → Type 0
+  -- A request was answered so; these calls came behind it. Where it was refused, its line was, for that cause. Where it was accepted under a number, one of them took for this number what became
+  -- the outcome of the line; and between the two the application asked for nothing.
+  abbrev pub AnswerCame : ApplicationState → Asked → Outcome → AndThen → Result ℕ SubmitNo → List TableEntry → Type 0
   AnswerCame holds x o goes_on (Err cause) after = (cause ≢ submit_no.Memory) × (o ≡ outcome.Refused (refusal_of cause)) × goes_on (holding_after holds x None) after
   AnswerCame holds x o goes_on (Ok number) after =
       (between : List TableEntry) × (by : ℕ) × (taken : Taken) × (rest : List TableEntry) × (after ≡ between ++ entry by (call.Take number) (reply.Taken (Ok taken)) ∷ rest) × AsksNothing a between
       × (o ≡ reported_outcome taken.outcome) × goes_on (holding_after holds x (given_handle taken)) rest
 
   -- What came of a line that names this, or nothing. Where its handle holds nothing the line was refused without a call. Else the next request of the application in these calls is that of the line.
-  abbrev pub LineCame : ApplicationState → Asked → Outcome → GoesOn → List TableEntry → Option Target → Type 0
+  abbrev pub LineCame : ApplicationState → Asked → Outcome → AndThen → List TableEntry → Option Target → Type 0
   LineCame holds x o goes_on entries None = (o ≡ outcome.Refused refusal.NoHandle) × goes_on (holding_after holds x None) entries
   LineCame holds x o goes_on entries (Some named) =
       (between : List TableEntry) × (by : ℕ) × (answer : Result ℕ SubmitNo) × (after : List TableEntry) × (entries ≡ between ++ entry by (call.Submit a named x.op) (reply.Submitted answer) ∷ after)
@@ -65,14 +65,14 @@ module _ (a : ℕ) where
 -- ---- all lines
 
 -- what a line asks for, where it is one of this application
-abbrev pub asked_under : ℕ → ℕ × Asked → Option Asked
-asked_under a x = if x.0 == a then Some x.1 else None
+abbrev pub line_under : ℕ → ℕ × Asked → Option Asked
+line_under a x = if x.0 == a then Some x.1 else None
 
 -- what the lines of an application ask for
 abbrev pub asks_under : ℕ → List NumberedLine → List Asked
-asks_under a lines = filter_map (λ (l : NumberedLine). option_and_then (asked_under a) (asked_by l.line)) lines
+asks_under a lines = filter_map (λ (l : NumberedLine). option_and_then (line_under a) (asked_by l.line)) lines
 
--- The applications of the script came to what they are: each of their lines has its one outcome, which came so along these calls. No other application asked for anything.
+-- The applications have the numbers of the script's. Each line of theirs has its one outcome, which came so along these calls, and no other application asked for anything. No other application asked for anything.
 pub record AllCame (lines : List NumberedLine) (issuers : List Issuer) (entries : List TableEntry) : Type 0 where
   pub numbers : map (λ (i : Issuer). i.number) issuers ≡ map (λ (i : Issuer). i.number) (issuers_of lines)
   pub each : (place : ℕ) (i : Issuer) → slice_get issuers place ≡ Some i → LinesCame i.number new_application (asks_under i.number lines) (i.application).outcomes entries

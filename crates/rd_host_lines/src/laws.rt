@@ -25,7 +25,7 @@ pub fn requests_have_room()
 {}
 
 /// What came of each line of a script, along the one history of the table of a host that played it: the line was refused since its handle held nothing; or its one request was refused, for that cause; or it was
-/// accepted under a number, for which the outcome was taken. The applications asked for nothing else.
+/// accepted under a number, for which the outcome was taken. The applications asked for nothing else, and no other application for anything.
 pub fn lines_have_their_outcomes()
     ensures { (lines : List NumberedLine) (other : Option Ended) (told : List ((ℕ × ℕ) × Outcome)) (old new : LinkedTold) → (hosts : Hosts lines other told old new)
         → AllCame lines hosts.issuers hosts.last.seen }

@@ -18,7 +18,7 @@ use Rattle.rd_host_session.specs.Channels.{GivesAndSettles, GivesNone, LinkedTol
 use Rattle.rd_turn.specs.History.{calls_of, entry}
 use Rattle.rd_host_threads.specs.Calls.{reader_of, writer_of}
 
--- A channel that was served: its number, where the script stopped on it, and why it was read no further; the bytes that its halves were given with, and the halves as they were left;
+-- A channel that was served: its number, where the script stopped on it (`why`), and how its reading ended (`by`); the bytes that its halves were given with, and the halves as they were left;
 -- the calls by which its messages were given to be heard, the reply to the one that dropped it, and the messages that came and weren't heard; and the calls for messages.
 pub record HostChannel (W : Type 0) : Type 0 where
   pub channel : ℕ

@@ -35,6 +35,7 @@ played_stops {W} turn lines other issuers first last old new plays =
     session_stops turn (awaited_devices lines) other (stands (play_state HostFrontState W lines (issuers_of lines) (after_split first) plays.at (first_pass plays.at)) old) plays.ends plays.serves
 
 -- Each of these calls is one that a host makes. Those of pass 0 are those of the thread that played, and each other one is of a channel's reader or writer; on no other channel anything was heard or handed out.
+-- The script stopped on each channel where that thread says, and what ended them is so.
 pub record AreThreadsCalls {W : Type 0} (entries played : List (HostEntry W)) (stops : List Stop) (other : Option Ended) (old new : LinkedTold) : Type 0 where
   pub hosts : AreHostsCalls entries
   pub played_are : calls_of 0 entries ≡ played
