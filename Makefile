@@ -11,12 +11,12 @@ build: ## proves the program and all below it, and leaves it at bin/rdr
 test: ## the gate: every proof, the edits that must fail, the tests, the programs
 	rt ci
 
-fuzz: ## tries to break the built program for a minute: docs/ROBUSTNESS.md
-	tools/sessions.py bin/rdr
-	tools/mutate.py --sessions 2000
-	tools/kills.py --sides --sessions 300
-	tools/kills.py --sessions 50
-	tools/limits.py
+fuzz: ## tries to break the built program for a minute or two: docs/ROBUSTNESS.md
+	python3 tools/sessions.py bin/rdr
+	python3 tools/mutate.py --sessions 2000
+	python3 tools/kills.py --sides --sessions 300
+	python3 tools/kills.py --sessions 50
+	python3 tools/limits.py
 
 bench: ## what is measured, and how: bench/README.md
 	bench/run

@@ -1,5 +1,5 @@
 #!/usr/bin/env python3
-"""Plays a host to `rdr client` that kills its connections, or both sides, of which either is killed: kills.py [--sides] [--sessions N] [--seed N] [--jobs N] [PROGRAM]
+"""Plays a host to `rdr client` that kills its connections, or both sides, of which either is killed: kills.py [--sides] [--sessions N] [--first N] [--seed N] [--jobs N] [PROGRAM]
 
 A session runs PROGRAM (bin/rdr) on the devices of an example that has a recording, with 1 to 16 workers and 20 channels. On each the host says what it
 says on a channel of the recording: the opening, and the requests up to 100 times. At a byte that is drawn, every other time between two frames, it
@@ -202,12 +202,13 @@ def main():
     words.add_argument('program', nargs='?', default=TOP / 'bin' / 'rdr', type=pathlib.Path)
     words.add_argument('--sides', action='store_true')
     words.add_argument('--sessions', type=int, default=100)
+    words.add_argument('--first', type=int, default=0)
     words.add_argument('--seed', type=int, default=1)
     words.add_argument('--jobs', type=int, default=1)
     words = words.parse_args()
     known = list(scripts()) if words.sides else [example for example in examples() if all(example)]
     with concurrent.futures.ThreadPoolExecutor(words.jobs) as pool:
-        came = list(pool.map(lambda number: session(number, words, known), range(words.sessions)))
+        came = list(pool.map(lambda number: session(number, words, known), range(words.first, words.first + words.sessions)))
     ended = [it for it in came if it]
     bad = len(came) - len(ended)
     if words.sides:

@@ -1,5 +1,5 @@
 #!/usr/bin/env python3
-"""Plays changed channels against `rdr client` and `rdr host`: mutate.py [--sessions N] [--seed N] [--jobs N] [--only client|host] [--ends FILE] [PROGRAM]
+"""Plays changed channels against `rdr client` and `rdr host`: mutate.py [--sessions N] [--first N] [--seed N] [--jobs N] [--only client|host] [--ends FILE] [PROGRAM]
 
 A session takes what one side said on a channel of a recording of an example, or on one of the `channel_hex` of FILE, and changes it as somebody would who knows the
 grammar: messages are doubled, moved, left out, cut, made longer, taken from another channel or from the other side; lengths, counts, ids and other fields take the
@@ -9,11 +9,12 @@ said once its request is heard.
 
 It is to end within 20 seconds of that, with status 0 or 4, to take no more than 64 MB, and to print whole lines: one for each device or for each line of an application,
 and after them that of a wrong channel where the status is 4. Every fourth session is played in pieces of 1, 7 and 4,096 bytes and at once, and has the
-same status and last line each time, but for a `Duplicate`, which hangs on what is completed by then. What isn't so is printed with its seed, then lines that sum up; the
-status is 1 if anything wasn't. The script stands outside the proofs, and needs Linux."""
+same status and last line each time, but for a `Duplicate`, which hangs on what is completed by then. What isn't so is printed with its seed and number, from which `--first` begins,
+then lines that sum up; the status is 1 if anything wasn't. The script stands outside the proofs, and needs Linux."""
 import argparse
 import collections
 import concurrent.futures
+import contextlib
 import json
 import pathlib
 import random
@@ -158,7 +159,7 @@ class Talk:
     """One side of a connection, which reads all that comes."""
 
     def __init__(self, link):
-        self.link, self.heard, self.is_over = link, bytearray(), False
+        self.link, self.heard, self.is_over, self.is_refused = link, bytearray(), False, False
         link.setblocking(False)
 
     def read(self, seconds):
@@ -173,14 +174,14 @@ class Talk:
 
     def say(self, data, piece):
         view, count = memoryview(data), 0
-        while view and not self.is_over:
+        while view and not (self.is_over or self.is_refused):
             try:
                 view = view[self.link.send(view[:piece]):]
             except BlockingIOError:
                 select.select([self.link], [self.link], [], LIMIT)
                 self.read(0)
             except ConnectionError:
-                self.is_over = True
+                self.is_refused = True
             count += 1
             if count % 64 == 0:
                 self.read(0)
@@ -197,10 +198,8 @@ class Talk:
 
     def end(self):
         """Says no more, and reads to the end."""
-        try:
+        with contextlib.suppress(OSError):
             self.link.shutdown(socket.SHUT_WR)
-        except OSError:
-            self.is_over = True
         begin = time.monotonic()
         while not self.is_over:
             self.read(1)
@@ -271,6 +270,7 @@ def main():
     words = argparse.ArgumentParser(usage=__doc__)
     words.add_argument('program', nargs='?', default=TOP / 'bin' / 'rdr', type=pathlib.Path)
     words.add_argument('--sessions', type=int, default=1000)
+    words.add_argument('--first', type=int, default=0)
     words.add_argument('--seed', type=int, default=1)
     words.add_argument('--jobs', type=int, default=1)
     words.add_argument('--only', choices=('client', 'host'))
@@ -279,7 +279,7 @@ def main():
     known = [it for it in sources(words.ends) if words.only in (None, it[0])]
     strangers = [message for _, _, said, other in known for message in (*said, *other)]
     with concurrent.futures.ThreadPoolExecutor(words.jobs) as pool:
-        came = list(pool.map(lambda number: session(number, words, known, strangers), range(words.sessions)))
+        came = list(pool.map(lambda number: session(number, words, known, strangers), range(words.first, words.first + words.sessions)))
     ended = [it for it in came if it]
     kinds = collections.Counter((end, last.split(' ')[4] if last else 'none') for _, end, _, last, _, _ in ended)
     print('ends: ' + ', '.join('%s %s %d' % (*kind, count) for kind, count in sorted(kinds.items())))

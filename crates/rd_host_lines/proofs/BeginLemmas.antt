@@ -21,7 +21,7 @@ use Rattle.rd_host_lines.proofs.InPlayLemmas.{Differ, number_of}
 
 -- ---- keys
 
-below_apart : (k n : ℕ) → nat_cmp k n ≡ Less → k < n
+pub below_apart : (k n : ℕ) → nat_cmp k n ≡ Less → k < n
 below_apart k n is = grind (arith, nat_tests)
 
 all_at : (P : ℕ → Type 0) (ks : List ℕ) (i n : ℕ) → slice_get ks i ≡ Some n → AllByRecursion P ks → P n
@@ -132,10 +132,13 @@ got_entry [] place i is = absurd (cc is)
 got_entry (e ∷ es) zero i is = let same : issuer_by e ≡ i = cc is in ap some_entry same
 got_entry (e ∷ es) (suc place) i is = got_entry es place i is
 
-pub numbers_differ : (lines : List NumberedLine) → Differ (map number_of (issuers_of lines))
-numbers_differ lines =
+pub numbers_rise : (lines : List NumberedLine) → IsStrictlySortedBy nat_cmp (map number_of (issuers_of lines))
+numbers_rise lines =
     let ls = map (λ (l : NumberedLine). l.line) lines in
-    subst Differ (sym (numbers_keys (applications_of ls))) (differ_rising (keys_of (applications_of ls)) (all_rise (filter_map asked_by ls) [] none_rise))
+    subst (IsStrictlySortedBy nat_cmp) (sym (numbers_keys (applications_of ls))) (all_rise (filter_map asked_by ls) [] none_rise)
+
+pub numbers_differ : (lines : List NumberedLine) → Differ (map number_of (issuers_of lines))
+numbers_differ lines = differ_rising (map number_of (issuers_of lines)) (numbers_rise lines)
 
 pub begins_so : (lines : List NumberedLine) (place : ℕ) (i : Issuer) → slice_get (issuers_of lines) place ≡ Some i → i.application ≡ asking_for (asks_under i.number lines)
 begins_so lines place i is =

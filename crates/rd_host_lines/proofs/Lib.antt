@@ -14,3 +14,4 @@ pub mod InPlayLemmas
 pub mod OverLemmas
 pub mod BeginLemmas
 pub mod CameLemmas
+pub mod TellingLemmas

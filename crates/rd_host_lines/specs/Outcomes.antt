@@ -1,6 +1,6 @@
 -- What came of each line of a host's applications, along the one history of its table.
-use Rattle.std.specs.Prelude.{◌≡◌, ◌≢◌, ℕ, List, [], ◌∷◌, ◌++◌, map, filter_map, slice_get, Option, Some, None, Result, Ok, Err, if◌then◌else◌, ◌==◌}
-use Rattle.std.specs.List.{AllByRecursion}
+use Rattle.std.specs.Prelude.{◌≡◌, ◌≢◌, ℕ, List, [], ◌∷◌, ◌++◌, map, filter_map, slice_get, length, Option, Some, None, Result, Ok, Err, if◌then◌else◌, ◌==◌}
+use Rattle.std.specs.List.{AllByRecursion, flat_map, range_with_len}
 use Rattle.std.specs.Option.{option_and_then}
 use Rattle.rd_issuer.specs.declared.issuer.Issuer.{Issuer}
 use Rattle.rd_pending.specs.declared.calls.SubmitNo.{SubmitNo}
@@ -17,6 +17,7 @@ use Rattle.rd_table.specs.declared.calls.PendingReply.TheVariants as reply
 use Rattle.rd_turn.specs.History.{entry}
 use Rattle.rd_world.specs.Events.{refusal_of, target_of}
 use Rattle.rd_world.specs.Hearing.{given_handle, holding_after, reported_outcome}
+use Rattle.rd_world.specs.Report.{outcomes_under}
 use Rattle.rd_world.specs.Run.{asked_by}
 use Rattle.rd_world.specs.World.{ApplicationState, Asked, new_application}
 use Rattle.rd_host_session.specs.Hosted.{issuers_of}
@@ -77,3 +78,18 @@ pub record AllCame (lines : List NumberedLine) (issuers : List Issuer) (entries 
   pub numbers : map (λ (i : Issuer). i.number) issuers ≡ map (λ (i : Issuer). i.number) (issuers_of lines)
   pub each : (place : ℕ) (i : Issuer) → slice_get issuers place ≡ Some i → LinesCame i.number new_application (asks_under i.number lines) (i.application).outcomes entries
   pub others : (a : ℕ) → ((place : ℕ) (i : Issuer) → slice_get issuers place ≡ Some i → i.number ≢ a) → AsksNothing a entries
+
+-- ---- what is told
+
+-- what is told of the lines of an application
+abbrev pub told_of : Issuer → List ((ℕ × ℕ) × Outcome)
+told_of i = outcomes_under (i.number, i.application)
+
+-- the lines of an application of a script, each by the application's number and its own, from 1 on
+abbrev pub lines_under : List NumberedLine → ℕ → List (ℕ × ℕ)
+lines_under lines a = map (λ (n : ℕ). (a, n)) (range_with_len 1 (length (asks_under a lines)))
+
+-- What is told is what came of the lines of these applications, one application after the other: each line of the script stands there once, by application and then by place.
+pub record IsAllTold (lines : List NumberedLine) (issuers : List Issuer) (told : List ((ℕ × ℕ) × Outcome)) : Type 0 where
+  pub listed : told ≡ flat_map told_of issuers
+  pub each : map (λ (t : (ℕ × ℕ) × Outcome). t.0) told ≡ flat_map (lines_under lines) (map (λ (i : Issuer). i.number) (issuers_of lines))

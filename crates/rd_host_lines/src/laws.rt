@@ -10,7 +10,7 @@ ghost use Rattle.rd_script.specs.declared.line.NumberedLine.{NumberedLine};
 ghost use Rattle.rd_script.specs.declared.outcome.Outcome.{Outcome};
 ghost use Rattle.rd_script.specs.declared.script.Script.{Script};
 ghost use Rattle.rd_script.specs.Script.{script_of};
-ghost use Rattle.rd_host_lines.specs.Outcomes.{AllCame};
+ghost use Rattle.rd_host_lines.specs.Outcomes.{AllCame, IsAllTold};
 ghost use Rattle.rd_host_lines.specs.Requests.{AreInRange};
 
 /// What the lines of a script ask for fits its requests.
@@ -27,6 +27,9 @@ pub fn requests_have_room()
 /// What came of each line of a script, along the one history of the table of a host that played it: the line was refused since its handle held nothing; or its one request was refused, for that cause; or it was
 /// accepted under a number, for which the outcome was taken. The applications asked for nothing else, and no other application for anything.
 pub fn lines_have_their_outcomes()
-    ensures { (lines : List NumberedLine) (other : Option Ended) (told : List ((ℕ × ℕ) × Outcome)) (old new : LinkedTold) → (hosts : Hosts lines other told old new)
+    ensures came { (lines : List NumberedLine) (other : Option Ended) (told : List ((ℕ × ℕ) × Outcome)) (old new : LinkedTold) → (hosts : Hosts lines other told old new)
         → AllCame lines hosts.issuers hosts.last.seen }
+    // These are told, each once, and nothing else.
+    ensures all_told { (lines : List NumberedLine) (other : Option Ended) (told : List ((ℕ × ℕ) × Outcome)) (old new : LinkedTold) → (hosts : Hosts lines other told old new)
+        → IsAllTold lines hosts.issuers told }
 {}
