@@ -89,7 +89,7 @@ lines_told lines [] each = refl
 lines_told lines (x ∷ xs) each =
     map-append line_of (told_of x) (flat_map told_of xs)
     ∙ ap (λ (l : List (ℕ × ℕ)). l ++ map line_of (flat_map told_of xs))
-        (lines_from x.number 1 (x.application).outcomes ∙ ap (λ (n : ℕ). map (λ (k : ℕ). (x.number, k)) (range_with_len 1 n)) (each 0 x refl))
+    (lines_from x.number 1 (x.application).outcomes ∙ ap (λ (n : ℕ). map (λ (k : ℕ). (x.number, k)) (range_with_len 1 n)) (each 0 x refl))
     ∙ ap (λ (l : List (ℕ × ℕ)). lines_under lines x.number ++ l) (lines_told lines xs (λ place i at. each (suc place) i at))
 
 -- ---- the law

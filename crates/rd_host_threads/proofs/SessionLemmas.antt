@@ -99,7 +99,7 @@ module _ {F W : Type 0} where
         ap (λ (k : ℕ). end_by_channel k (one.c).by false) one.channel_is ∙ ap (λ (x : Ending). end_by_channel (suc n) x false) one.by_is ∙ ends_so (suc n) by starved None goes_on fed in
         record {
           all = has_more n stop.Connect by (served_calls turn devices n old here served) (channel_calls turn devices (suc n) stop.Connect by starved here new serves)
-          (served_stops turn devices n old here served) (old.play).front old.linker here new before.all one;
+              (served_stops turn devices n old here served) (old.play).front old.linker here new before.all one;
           on = all_more (λ (c : HostChannel W). (c.why ≡ stop.Connect) × (ended_by c ≡ None)) (before.all).channels (one.c ∷ []) before.on ((one.why_is, ends), tt);
         }
 

@@ -19,5 +19,5 @@ pub fn threads_make_the_calls<W: TableTurn>()
         → other ≢ Some ended.Memory
         → (plays : PlaysOver W turn lines other issuers first last old new)
         → AreThreadsCalls (front_calls turn lines other issuers first last old new plays) (played_calls turn lines other issuers first last old new plays)
-            (played_stops turn lines other issuers first last old new plays) other old new }
+        (played_stops turn lines other issuers first last old new plays) other old new }
 {}
