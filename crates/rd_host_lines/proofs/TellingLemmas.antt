@@ -21,7 +21,7 @@ use Rattle.rd_world.specs.World.{ApplicationState, Asked}
 use Rattle.rd_world.proofs.FinishingLemmas.{put_after}
 use Rattle.rd_host_turns.proofs.CountLemmas.{all_both}
 use Rattle.rd_host_turns.specs.Turns.{TableEntry}
-use Rattle.rd_host_lines.specs.Outcomes.{AllCame, AnswerCame, IsAllTold, LineCame, LinesCame, asks_under, lines_under, told_of}
+use Rattle.rd_host_lines.specs.Outcomes.{AllCame, AnswerCame, IsAllTold, LineCame, LinesCame, asks_under, lines_under, issuer_told}
 use Rattle.rd_host_lines.proofs.BeginLemmas.{below_apart, numbers_rise}
 use Rattle.rd_host_lines.proofs.CameLemmas.{lines_came}
 use Rattle.rd_host_lines.proofs.InPlayLemmas.{number_of}
@@ -66,9 +66,9 @@ by_rising es (x ∷ xs) rise above =
     ap (λ (l : List (ℕ × ApplicationState)). fold with_issuer l xs) (put_after es x.number x.application above.0)
     ∙ by_rising (es ++ entry_of x ∷ []) xs rise.1 (above_more es x xs above.1 rise.0) ∙ append_assoc es (entry_of x ∷ []) (map entry_of xs)
 
-told_each : (xs : List Issuer) → flat_map outcomes_under (map entry_of xs) ≡ flat_map told_of xs
+told_each : (xs : List Issuer) → flat_map outcomes_under (map entry_of xs) ≡ flat_map issuer_told xs
 told_each [] = refl
-told_each (x ∷ xs) = ap (λ (l : List ((ℕ × ℕ) × Outcome)). told_of x ++ l) (told_each xs)
+told_each (x ∷ xs) = ap (λ (l : List ((ℕ × ℕ) × Outcome)). issuer_told x ++ l) (told_each xs)
 
 none_above : (xs : List Issuer) → AllByRecursion (IsAbove []) xs
 none_above [] = tt
@@ -84,11 +84,11 @@ lines_from a from [] = refl
 lines_from a from (o ∷ os) = ap (λ (l : List (ℕ × ℕ)). (a, from) ∷ l) (lines_from a (from + 1) os)
 
 lines_told : (lines : List NumberedLine) (xs : List Issuer) → ((place : ℕ) (i : Issuer) → slice_get xs place ≡ Some i → length (i.application).outcomes ≡ length (asks_under i.number lines))
-    → map line_of (flat_map told_of xs) ≡ flat_map (lines_under lines) (map number_of xs)
+    → map line_of (flat_map issuer_told xs) ≡ flat_map (lines_under lines) (map number_of xs)
 lines_told lines [] each = refl
 lines_told lines (x ∷ xs) each =
-    map-append line_of (told_of x) (flat_map told_of xs)
-    ∙ ap (λ (l : List (ℕ × ℕ)). l ++ map line_of (flat_map told_of xs))
+    map-append line_of (issuer_told x) (flat_map issuer_told xs)
+    ∙ ap (λ (l : List (ℕ × ℕ)). l ++ map line_of (flat_map issuer_told xs))
     (lines_from x.number 1 (x.application).outcomes ∙ ap (λ (n : ℕ). map (λ (k : ℕ). (x.number, k)) (range_with_len 1 n)) (each 0 x refl))
     ∙ ap (λ (l : List (ℕ × ℕ)). lines_under lines x.number ++ l) (lines_told lines xs (λ place i at. each (suc place) i at))
 
@@ -99,7 +99,7 @@ all_told lines other told old new hosts =
     let issuers = hosts.issuers in
     let came : AllCame lines issuers (hosts.last).seen = lines_came lines other old new hosts.turn issuers hosts.last hosts.plays in
     let rise : IsStrictlySortedBy nat_cmp (map number_of issuers) = subst (IsStrictlySortedBy nat_cmp) (sym came.numbers) (numbers_rise lines) in
-    let listed : told ≡ flat_map told_of issuers =
+    let listed : told ≡ flat_map issuer_told issuers =
     hosts.told_are ∙ ap (flat_map outcomes_under) (by_rising [] issuers rise (none_above issuers)) ∙ told_each issuers in
     record {
       listed = listed;

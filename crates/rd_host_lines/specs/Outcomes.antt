@@ -82,8 +82,8 @@ pub record AllCame (lines : List NumberedLine) (issuers : List Issuer) (entries 
 -- ---- what is told
 
 -- what is told of the lines of an application
-abbrev pub told_of : Issuer → List ((ℕ × ℕ) × Outcome)
-told_of i = outcomes_under (i.number, i.application)
+abbrev pub issuer_told : Issuer → List ((ℕ × ℕ) × Outcome)
+issuer_told i = outcomes_under (i.number, i.application)
 
 -- the lines of an application of a script, each by the application's number and its own, from 1 on
 abbrev pub lines_under : List NumberedLine → ℕ → List (ℕ × ℕ)
@@ -91,5 +91,5 @@ lines_under lines a = map (λ (n : ℕ). (a, n)) (range_with_len 1 (length (asks
 
 -- What is told is what came of the lines of these applications, one application after the other: each line of the script stands there once, by application and then by place.
 pub record IsAllTold (lines : List NumberedLine) (issuers : List Issuer) (told : List ((ℕ × ℕ) × Outcome)) : Type 0 where
-  pub listed : told ≡ flat_map told_of issuers
+  pub listed : told ≡ flat_map issuer_told issuers
   pub each : map (λ (t : (ℕ × ℕ) × Outcome). t.0) told ≡ flat_map (lines_under lines) (map (λ (i : Issuer). i.number) (issuers_of lines))
