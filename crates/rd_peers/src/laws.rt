@@ -31,8 +31,8 @@ pub fn clients_are_joined()
         → let replies = replies_in (declared_devices (bare_lines lines)) deeds in AreJoined client replies deeds × Joins client replies deeds }
 {}
 
-/// A client and a host over sockets, each by what its own session came to, are joined where messages are carried between them and no journal is worn; so each outcome that the host's applications were handed out is that of their own
-/// request, and where it is a reply, the one that the journal of the request's device gives to it.
+/// A client and a host over sockets, each by what its own session came to, are joined where messages are carried between them and no journal is worn; so each outcome that the host's table handed out is that of
+/// the request with its number, and where it is a reply, the one that the journal of the request's device gives to it.
 pub fn peers_are_joined<W>()
     ensures { (lines : List NumberedLine) (channels : ℕ) (by : Ended) (entries : List FrontEntry) (books : List (ℕ × History)) (old new : LinkerTold) → AreServable lines
         → (session : IsToldSession (declared_devices (bare_lines lines)) lines channels by entries books old new) (seen : List TableEntry) (calls : List (HostEntry W)) (keeps : KeepsTable seen calls) (deeds : List Deed)
