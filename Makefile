@@ -1,5 +1,7 @@
 # Thin names for the commands of the kit. README.md says what each costs.
-.PHONY: demo build test bench fuzz
+PREFIX ?= /usr/local
+
+.PHONY: demo build install test bench fuzz
 
 demo: ## runs an example script by the program as it stands, before any proof
 	@cd crates/rdr && rt try -- both < ../../examples/open_read_close.script
@@ -7,6 +9,11 @@ demo: ## runs an example script by the program as it stands, before any proof
 build: ## proves the program and all below it, and leaves it at bin/rdr
 	cd crates/rdr && rt run -- both < /dev/null
 	mkdir -p bin && cp crates/rdr/out/rdr bin/rdr
+
+install: ## puts the built program and its page under PREFIX
+	@test -x bin/rdr || { echo 'first: make build' >&2; exit 1; }
+	install -D -m 755 bin/rdr '$(DESTDIR)$(PREFIX)/bin/rdr'
+	install -D -m 644 docs/rdr.1 '$(DESTDIR)$(PREFIX)/share/man/man1/rdr.1'
 
 test: ## the gate: every proof, the edits that must fail, the tests, the programs
 	rt ci
