@@ -1,7 +1,6 @@
 -- Each line of a script that a host played has its outcome, along the one history of its table.
 use Rattle.std.proofs.Common.{◌≡◌, ◌≢◌, ◌∙◌, ◌⊎◌, inl, inr, refl, sym, ap, subst, ℕ, zero, suc, ◌+◌, ◌<◌, ◌≤◌, Bool, true, false, List, [], ◌∷◌, length, map, Contains, arith, Some, None, Option, is_none}
 use Rattle.std.specs.Prelude.{◌&&◌, nat_lt, slice_get, slice_index_or}
-use Rattle.std.specs.List.{AllByRecursion}
 use Rattle.std.proofs.lemmas.Bool.Decides.{nat_tests}
 use Rattle.std.proofs.lemmas.List.Elements.{Contains-append_right}
 use Rattle.std.proofs.lemmas.Option.{slice_get_within}
@@ -29,7 +28,7 @@ use Rattle.rd_host_lines.proofs.InPlayLemmas.{InPlay, IsApart, bare, calls_on, c
 use Rattle.rd_host_lines.proofs.MineLemmas.{mine_are}
 use Rattle.rd_host_lines.proofs.OutcomeLemmas.{AreMine, all_came, calls_by, calls_in}
 use Rattle.rd_host_lines.proofs.OverLemmas.{IsOver, session_over}
-use Rattle.rd_host_lines.proofs.PassLemmas.{AreSuch, OwnAre, Stays}
+use Rattle.rd_host_lines.proofs.PassLemmas.{AreSuch, OwnAre, Stays, all_as}
 use Rattle.rd_host_lines.proofs.PlayLemmas.{Carrying, Keeping}
 use Rattle.rd_host_lines.proofs.RunLemmas.{each_pass, one_of}
 use Rattle.rd_host_lines.proofs.SessionLemmas.{Carried, all_such, session_carried, session_such}
@@ -64,30 +63,26 @@ carries_numbers numbers all = record {
 }
 
 -- what has a number at a place has had it there
-got_numbered : (xs : List Issuer) (place n : ℕ) → slice_get (map number_of xs) place ≡ Some n → (i : Issuer) × (slice_get xs place ≡ Some i) × (i.number ≡ n)
+pub got_numbered : (xs : List Issuer) (place n : ℕ) → slice_get (map number_of xs) place ≡ Some n → (i : Issuer) × (slice_get xs place ≡ Some i) × (i.number ≡ n)
 got_numbered [] place n is = absurd (cc is)
 got_numbered (x ∷ xs) zero n is = (x, refl, cc is)
 got_numbered (x ∷ xs) (suc place) n is = got_numbered xs place n is
 
 -- ---- the end of the play
 
-all_other : (P Q : TableEntry → Type 0) → ((e : TableEntry) → P e → Q e) → (xs : List TableEntry) → AllByRecursion P xs → AllByRecursion Q xs
-all_other P Q to [] all = tt
-all_other P Q to (x ∷ xs) (here, all) = (to x here, all_other P Q to xs all)
-
 not_less : (n m : ℕ) → nat_lt n m ≡ false → m ≤ n
 not_less n m is = grind (arith, nat_tests)
 
 -- each line has its outcome where the script came to all
-all_ended : (x : ApplicationState) (total : ℕ) → HasAllOutcomes x → x.queued ≡ total → total ≤ length x.outcomes
+pub all_ended : (x : ApplicationState) (total : ℕ) → HasAllOutcomes x → x.queued ≡ total → total ≤ length x.outcomes
 all_ended x total (none, free) is = by (nat_lt (length x.outcomes) x.queued) refl (subst (λ (o : Option ℕ). (nat_lt (length x.outcomes) x.queued && is_none o) ≡ false) free none)
   where
     by : (b : Bool) → nat_lt (length x.outcomes) x.queued ≡ b → (b && is_none {T = ℕ} None) ≡ false → total ≤ length x.outcomes
     by true less none = absurd (cc none)
     by false less none = let le : x.queued ≤ length x.outcomes = not_less (length x.outcomes) x.queued less in omega arith
 
-home_stays : (P : TableEntry → Type 0) (p other last : PassOfTable) → p.number ≡ 0 → JoinsPass p other last → Stays P p last
-home_stays P p other last first home = record {
+pub home_stays : (p other last : PassOfTable) → p.number ≡ 0 → JoinsPass p other last → Stays p last
+home_stays p other last first home = record {
   number = home.number;
   least = (let made = home.made in omega arith);
   seen = GoesOn-prefix p last home.goes_on;
@@ -160,20 +155,20 @@ module _ (lines : List NumberedLine) (other : Option Ended) (old new : LinkedTol
       now_is : issuer a x.now ≡ i
       now_is = cc (now_at, at)
 
-      stays : Stays (IsApart a) p last
-      stays = home_stays (IsApart a) p g last (x.ran).first home
+      stays : Stays p last
+      stays = home_stays p g last (x.ran).first home
 
       calls : calls_by x.mine last.seen ≡ calls_in x.issues
       calls = calls_on a x.mine g.number p last x.ran stays ∙ x.calls
 
       apart : (xs : List TableEntry) → AreSuch (IsApart a) xs → AreSuch (λ (e : TableEntry). (x.mine e.by ≡ true) ⊎ IsApart a e) xs
-      apart xs are = all_other (IsApart a) (λ (e : TableEntry). (x.mine e.by ≡ true) ⊎ IsApart a e) (λ e here. inr here) xs are
+      apart xs are = all_as (IsApart a) (λ (e : TableEntry). (x.mine e.by ≡ true) ⊎ IsApart a e) (λ e here. inr here) xs are
 
       class : (k : ℕ) → k ≢ 0 → (k ≡ g.number) ⊎ ((n : ℕ) × Contains p.joined (k, n) × ((x.mine k ≡ true) ⊎ AreSuch (IsApart a) (calls_of k p.seen)))
           → AreSuch (λ (e : TableEntry). (x.mine e.by ≡ true) ⊎ IsApart a e) (calls_of k last.seen)
       class k ne (inl is) = apart (calls_of k last.seen) (subst (λ (n : ℕ). AreSuch (IsApart a) (calls_of n last.seen)) (sym is) (subst (AreSuch (IsApart a)) (sym home.other_calls) own))
       class k ne (inr (n, has, inl mine)) =
-          all_other (λ (e : TableEntry). x.mine e.by ≡ true) (λ (e : TableEntry). (x.mine e.by ≡ true) ⊎ IsApart a e) (λ e here. inl here) (calls_of k last.seen) (mine_are x.mine k mine last.seen)
+          all_as (λ (e : TableEntry). x.mine e.by ≡ true) (λ (e : TableEntry). (x.mine e.by ≡ true) ⊎ IsApart a e) (λ e here. inl here) (calls_of k last.seen) (mine_are x.mine k mine last.seen)
       class k ne (inr (n, has, inr are)) = apart (calls_of k last.seen) (subst (AreSuch (IsApart a)) (sym (stays.kept k n ne has).1) are)
 
       each : (k : ℕ) → k ≤ last.made → AreSuch (λ (e : TableEntry). (x.mine e.by ≡ true) ⊎ IsApart a e) (calls_of k last.seen)

@@ -1,5 +1,5 @@
 -- What the calls of a host's front make of its pass of the table, and of pass 0 that it is handed: which calls of the table they make.
-use Rattle.std.proofs.Common.{◌≡◌, ◌∙◌, refl, sym, ap, subst, ℕ, zero, suc, Bool, true, false, List, [], ◌∷◌, ◌++◌, Option, Some, None, Result, Ok, Err}
+use Rattle.std.proofs.Common.{◌≡◌, ◌∙◌, ◌⊎◌, inl, inr, refl, sym, ap, subst, ℕ, zero, suc, Bool, true, false, List, [], ◌∷◌, ◌++◌, append-nil, Option, Some, None, Result, Ok, Err}
 use Rattle.std.specs.Prelude.{MatchBool}
 use Rattle.rd_base.specs.declared.status.Status.{Status}
 use Rattle.rd_base.specs.Statuses as status
@@ -17,6 +17,7 @@ use Rattle.rd_runs.proofs.FileNumbers.{BeginsInBytes, IsSafe}
 use Rattle.rd_table.specs.declared.calls.PendingCall.{PendingCall}
 use Rattle.rd_table.specs.declared.calls.PendingCall.TheVariants as table
 use Rattle.rd_table.specs.declared.calls.PendingReply.{PendingReply}
+use Rattle.rd_table.specs.declared.calls.PendingReply.TheVariants as replied
 use Rattle.rd_turn.specs.declared.object.Entry.{Entry}
 use Rattle.rd_turn.specs.History.{calls_of, entry}
 use Rattle.rd_turn.proofs.HistoryLemmas.{Called-own}
@@ -28,11 +29,12 @@ use Rattle.rd_host_front.specs.declared.calls.HostFrontCall.TheVariants as call
 use Rattle.rd_host_front.specs.declared.calls.HostFrontReply.{HostFrontReply}
 use Rattle.rd_host_front.specs.declared.calls.HostFrontReply.TheVariants as reply
 use Rattle.rd_host_front.specs.declared.calls.Stop.{Stop}
-use Rattle.rd_host_front.specs.HostFront.{Admits, AdmitsAll, AdmitsBy, BeginsChannel, BeginsIfFound, BeginsLife, BeginsTable, DropsBy, DropsUnsent, EndsChannel, EndsSent, FillsAfter, FillsRoom, Follows, FollowsAnswer, ForgetsAll, GivesAfter, HandsBack, HandsOver, HearsMessage, HostFrontStep, OnFound, RenewsIf, RepliesToDevice, TableDoes, has_many_unsent, is_channel_on, life_code, may_begin_on, may_renew}
-use Rattle.rd_host_front.specs.State.{FrontPassState, HostFrontState, PassOfTable}
+use Rattle.rd_host_front.specs.HostFront.{Admits, AdmitsAll, AdmitsBy, BeginsChannel, BeginsIfFound, BeginsLife, DropsBy, DropsUnsent, EndsChannel, EndsSent, FillsAfter, FillsRoom, Follows, FollowsAnswer, ForgetsAll, GivesAfter, HandsBack, HandsOver, HearsMessage, HostFrontStep, OnFound, RenewsIf, RepliesToDevice, TableDoes, has_many_unsent, is_channel_on, life_code, may_begin_on, may_renew, began_as, has_begun}
+use Rattle.rd_host_front.specs.State.{FrontPassState, HostFrontState, PassOfTable, Renews, RenewsBy}
 use Rattle.rd_host_turns.specs.Turns.{TableEntry}
 use Rattle.rd_host_turns.proofs.CountLemmas.{all_both}
-use Rattle.rd_host_lines.proofs.PassLemmas.{AreSuch, OwnAre, Renewals, fresh_are, renewals_more, renewals_none, renewals_one, renews_anew, renews_by_anew}
+use Rattle.rd_host_lines.specs.Places.{drop_call}
+use Rattle.rd_host_lines.proofs.PassLemmas.{AreSuch, Drops, Ends, OwnAre, Replaces, WithTries, all_as, fresh_are, made_by, renews_by_replaced, renews_replaced}
 
 -- a call of the table that no application makes; a completion begins in bytes
 abbrev pub IsFronts : PendingCall → Type 0
@@ -53,21 +55,53 @@ module _ {W : Type 0} where
   IsOther (call.DropSent first anew) = ⊥
   IsOther _ = Unit {0}
 
+-- a call of the table by the front's pass for a message that is heard or is to be written, and where a channel ends by its peer
+abbrev pub IsPlain : PendingCall → Type 0
+IsPlain (table.Live device) = Unit {0}
+IsPlain table.Outbox = Unit {0}
+IsPlain (table.Complete head body) = BeginsInBytes body
+IsPlain (table.Remove device) = Unit {0}
+IsPlain table.DropChannel = Unit {0}
+IsPlain _ = ⊥
+
+pub plain_fronts : (does : PendingCall) → IsPlain does → IsFronts does
+plain_fronts (table.Live device) is = tt
+plain_fronts table.Outbox is = tt
+plain_fronts (table.Complete head body) is = is
+plain_fronts (table.Remove device) is = tt
+plain_fronts table.DropChannel is = tt
+plain_fronts _ is = absurd is
+
+module _ (P : TableEntry → Type 0) where
+  -- What a call that begins a channel makes of pass 0, and of the front's pass by its number, where that isn't one that tries to end a channel.
+  abbrev pub Began : Came → Bool → ℕ → ℕ → PassOfTable → PassOfTable → Bool → ℕ → Type 0
+  Began came.Done false channel f p q c g = (c ≡ false) × (p.number ≡ 0 → Replaces P ((table.Begin channel, replied.Begun true) ∷ []) [] p f q g)
+  Began _ _ channel f p q c g = Unit {0}
+
+  -- What a try to end a channel makes of them, the first one of a line or a later one; and whether the front's pass is one that tries, before and after.
+  abbrev pub Tries : Bool → Came → Bool → ℕ → PassOfTable → PassOfTable → Bool → ℕ → Type 0
+  Tries true came.NotYet false f p q c g = (c ≡ true) × (p.number ≡ 0 → Replaces P [] [] p f q g)
+  Tries true came.Done false f p q c g = (c ≡ false) × (p.number ≡ 0 → Ends P p f q g)
+  Tries false came.NotYet true f p q c g = (c ≡ true) × (g ≡ f) × (q ≡ p)
+  Tries false came.Done true f p q c g = (c ≡ false) × (p.number ≡ 0 → Drops P p f q g)
+  Tries _ _ _ f p q c g = Unit {0}
+
 module _ (P : TableEntry → Type 0) {W : Type 0} where
-  -- Pass 0 was handed over and came back with all that holds of its calls, where the front's pass had this number before and has that one then.
-  abbrev pub Hop : ℕ → HostFrontCall W → HostFrontReply W → ℕ → Type 0
-  Hop f (call.Begin channel first) (reply.First last what) g = first.number ≡ 0 → Renewals P first f last g
-  Hop f (call.DropSent first anew) (reply.First last what) g = first.number ≡ 0 → Renewals P first f last g
-  Hop f _ _ g = g ≡ f
+  -- What a call makes of them. All others leave them as they are.
+  abbrev pub Hop : Bool → ℕ → HostFrontCall W → HostFrontReply W → Bool → ℕ → Type 0
+  Hop b f (call.Begin channel first) (reply.First last what) c g = Began P what b channel f first last c g
+  Hop b f (call.DropSent first anew) (reply.First last what) c g = Tries P anew what b f first last c g
+  Hop b f _ _ c g = (c ≡ b) × (g ≡ f)
 
   -- the same of calls, one after the other
-  abbrev pub Hops : ℕ → List (Entry (HostFrontCall W) (HostFrontReply W)) → ℕ → Type 0
-  Hops f [] g = g ≡ f
-  Hops f (e ∷ es) g = (next : ℕ) × Hop f e.call e.reply next × Hops next es g
+  abbrev pub Hops : Bool → ℕ → List (Entry (HostFrontCall W) (HostFrontReply W)) → Bool → ℕ → Type 0
+  Hops b f [] c g = (c ≡ b) × (g ≡ f)
+  Hops b f (e ∷ es) c g = (d : Bool) × (h : ℕ) × Hop b f e.call e.reply d h × Hops d h es c g
 
-  pub hops_parted : (f g : ℕ) (xs ys : List (Entry (HostFrontCall W) (HostFrontReply W))) → Hops f (xs ++ ys) g → (h : ℕ) × Hops f xs h × Hops h ys g
-  hops_parted f g [] ys hops = (f, refl, hops)
-  hops_parted f g (e ∷ xs) ys (next, hop, hops) = let rest = hops_parted next g xs ys hops in (rest.0, (next, hop, rest.1), rest.2)
+  pub hops_parted : (b : Bool) (f : ℕ) (c : Bool) (g : ℕ) (xs ys : List (Entry (HostFrontCall W) (HostFrontReply W))) → Hops b f (xs ++ ys) c g
+      → (d : Bool) × (h : ℕ) × Hops b f xs d h × Hops d h ys c g
+  hops_parted b f c g [] ys hops = (b, f, (refl, refl), hops)
+  hops_parted b f c g (e ∷ xs) ys (d, h, hop, hops) = let rest = hops_parted d h c g xs ys hops in (rest.0, rest.1, (d, h, hop, rest.2), rest.3)
 
 -- what an answer to a message that was heard asks for
 abbrev AsksSafe : Result Act EndFault → Type 0
@@ -83,7 +117,7 @@ answers_safe old new message (Ok (act.Complete head body)) safe step =
     let h = subst (Heard old message) step (heard old message) in
     subst BeginsInBytes (sym h.6) (safe head h.4 h.5)
 
-module _ (P : TableEntry → Type 0) (such : (by : ℕ) (does : PendingCall) (back : PendingReply) → IsFronts does → P (entry by does back)) where
+module _ (P : TableEntry → Type 0) (such : (by : ℕ) (does : PendingCall) (back : PendingReply) → IsPlain does → P (entry by does back)) where
   abbrev number_of : HostFrontState → ℕ
   number_of s = ((s.table).pass).number
 
@@ -103,7 +137,7 @@ module _ (P : TableEntry → Type 0) (such : (by : ℕ) (does : PendingCall) (ba
   joins : (a b c : HostFrontState) → Keeps a b → Keeps b c → Keeps a c
   joins a b c one other = record { number = other.number ∙ one.number; own = λ own. other.own (one.own own) }
 
-  calls_by : (old new : HostFrontState) (does : PendingCall) (back : PendingReply) → IsFronts does → TableDoes old does back new → Keeps old new
+  calls_by : (old new : HostFrontState) (does : PendingCall) (back : PendingReply) → IsPlain does → TableDoes old does back new → Keeps old new
   calls_by old new does back fronts did =
       let calls = (did.0).calls in
       let number = (calls.same).0 in
@@ -194,94 +228,212 @@ module _ (P : TableEntry → Type 0) (such : (by : ℕ) (does : PendingCall) (ba
     other_keeps old (call.DropChannel channel) back new other safe did = either (is_channel_on old channel) _ _ old new
         (λ (d : EndsChannel old back new). joins old d.0 new (calls_by old d.0 table.DropChannel _ tt d.1) (by_table d.0 new (ap (λ (s : HostFrontState). s.table) d.2))) (λ d. same old new d.1) did
 
-    -- ---- pass 0
+-- ---- pass 0
 
-    -- a front and pass 0 before, and after
-    pub record Passes (first : PassOfTable) (old : HostFrontState) (back : HostFrontReply W) (new : HostFrontState) : Type 0 where
-      pub last : PassOfTable
-      pub what : Came
-      pub is : back ≡ reply.First last what
-      pub good : OwnAre P old.table → first.number ≡ 0 → Renewals P first ((old.table).pass).number last ((new.table).pass).number
-      pub own : OwnAre P old.table → OwnAre P new.table
+module _ (P : TableEntry → Type 0) (such : (by : ℕ) (does : PendingCall) (back : PendingReply) → IsPlain does → P (entry by does back)) where
+  -- the own calls of the front's pass are such ones; and also tries, where it is one that tries to end a channel
+  abbrev pub OwnBy : Bool → FrontPassState → Type 0
+  OwnBy false s = OwnAre P s
+  OwnBy true s = OwnAre (WithTries P) s
 
-    hands_back : (first : PassOfTable) (what : Came) (old : HostFrontState) (back : HostFrontReply W) (new : HostFrontState) → HandsBack first what back old new → Passes first old back new
-    hands_back first what old back new (is, stays) =
-        let k = same old new stays in
-        record { last = first; what = what; is = is; good = λ own zero. renewals_none P first ((old.table).pass).number ((new.table).pass).number k.number; own = k.own }
+  plain_tries : (by : ℕ) (does : PendingCall) (back : PendingReply) → IsPlain does → WithTries P (entry by does back)
+  plain_tries by does back is = inl (such by does back is)
 
-    passes_from : (first : PassOfTable) (old next : HostFrontState) (back : HostFrontReply W) (new : HostFrontState) → Keeps old next → Passes first next back new → Passes first old back new
-    passes_from first old next back new k p = record {
-      last = p.last;
-      what = p.what;
-      is = p.is;
-      good = λ own zero. subst (λ (n : ℕ). Renewals P first n p.last ((new.table).pass).number) k.number (p.good (k.own own) zero);
-      own = λ own. p.own (k.own own);
-    }
+  own_tries : (b : Bool) (s : FrontPassState) → OwnBy b s → OwnAre (WithTries P) s
+  own_tries true s own = own
+  own_tries false s own = all_as P (WithTries P) (λ e is. inl is) (calls_of (s.pass).number (s.pass).seen) own
 
-    drops_by : (dropped : Bool) (first : PassOfTable) (old : HostFrontState) (back : HostFrontReply W) (new : HostFrontState) → DropsBy dropped first old back new → Passes first old back new
-    drops_by true first old back new (last, renews, is, said) = record {
-      last = last;
-      what = came.Done;
-      is = said;
-      good = λ own zero. renewals_one P first last ((old.table).pass).number ((new.table).pass).number (renews_anew P first last old.table new.table renews own zero);
-      own = λ own. fresh_are P new.table renews.fresh;
-    }
-    drops_by false first old back new did = hands_back first came.NotYet old back new did
+  own_same : (b : Bool) (s t : FrontPassState) → t ≡ s → OwnBy b s → OwnBy b t
+  own_same b s t is own = subst (OwnBy b) (sym is) own
 
-    drops_unsent : (outbox : List (List ℕ)) (first : PassOfTable) (old : HostFrontState) (back : HostFrontReply W) (new : HostFrontState) → DropsUnsent outbox first old back new → Passes first old back new
-    drops_unsent (message ∷ others) first old back new did = hands_back first came.NotYet old back new did
-    drops_unsent [] first old back new (dropped, next, does, did) = passes_from first old next back new (calls_by old next table.DropSent _ tt does) (drops_by dropped first next back new did)
+  begun_hop : (b : Bool) (channel f : ℕ) (first last : PassOfTable) (new : FrontPassState) (old : FrontPassState) (answer : PendingReply) → OwnBy b old → (old.pass).number ≡ f
+      → RenewsBy (table.Begin channel) answer first old last new → Began P (began_as (has_begun answer)) b channel f first last false (new.pass).number
+  begun_hop false channel f first last new old (replied.Begun true) own number renews = (
+    refl,
+    λ zero. subst (λ (n : ℕ). Replaces P ((table.Begin channel, replied.Begun true) ∷ []) [] first n last (new.pass).number) number
+        (renews_by_replaced P (table.Begin channel) (replied.Begun true) first last old new renews own zero),
+  )
+  begun_hop true channel f first last new old (replied.Begun true) own number renews = tt
+  begun_hop b channel f first last new old (replied.Begun false) own number renews = tt
+  begun_hop b channel f first last new old _ own number renews = tt
 
-    renews_if : (anew : Bool) (first last : PassOfTable) (old next : HostFrontState) (back : HostFrontReply W) (new : HostFrontState) → RenewsIf anew first old last next → Passes last next back new
-        → Passes first old back new
-    renews_if true first last old next back new (renews, is) p = record {
-      last = p.last;
-      what = p.what;
-      is = p.is;
-      good = λ own zero.
-          let a = renews_anew P first last old.table next.table renews own zero in
-          renewals_more P first last p.last ((old.table).pass).number ((next.table).pass).number ((new.table).pass).number a (p.good (fresh_are P next.table renews.fresh) (a.stays).number);
-      own = λ own. p.own (fresh_are P next.table renews.fresh);
-    }
-    renews_if false first last old next back new (is, stays) p = subst (λ (x : PassOfTable). Passes x old back new) is (passes_from last old next back new (same old next stays) p)
+module _ (P : TableEntry → Type 0) (such : (by : ℕ) (does : PendingCall) (back : PendingReply) → IsPlain does → P (entry by does back)) {W : Type 0} where
+  -- What a call comes to: whether the front's pass is one that tries afterwards, what it called, and what became of pass 0.
+  pub record Comes (b : Bool) (old : HostFrontState) (does : HostFrontCall W) (back : HostFrontReply W) (new : HostFrontState) : Type 0 where
+    pub tries : Bool
+    pub own : OwnBy P such tries new.table
+    pub hop : Hop P b ((old.table).pass).number does back tries ((new.table).pass).number
 
-    drops_sent : (first : PassOfTable) (anew : Bool) (old : HostFrontState) (back : HostFrontReply W) (new : HostFrontState) → HostFrontStep old (call.DropSent first anew) back new → Passes first old back new
-    drops_sent first anew old back new did = by (may_renew first) did
-      where
-        by : (b : Bool) → MatchBool b (EndsSent first anew old back new) (HandsBack first came.Refused back old new) → Passes first old back new
-        by true (last, next, renews, drops) = renews_if anew first last old next back new renews (drops_unsent ((next.core).core).outbox last next back new drops)
-        by false d = hands_back first came.Refused old back new d
+  -- a call that pass 0 isn't handed with
+  pub other_by : (b : Bool) (old : HostFrontState) (does : HostFrontCall W) (back : HostFrontReply W) (new : HostFrontState) → IsOther does → HearsSafe does → HostFrontStep old does back new → OwnBy P such b old.table
+      → OwnBy P such b new.table × (((new.table).pass).number ≡ ((old.table).pass).number)
+  other_by false old does back new other safe did own = let k = other_keeps P such old does back new other safe did in (k.own own, k.number)
+  other_by true old does back new other safe did own = let k = other_keeps (WithTries P) (plain_tries P such) old does back new other safe did in (k.own own, k.number)
 
-    begins_table : (old : HostFrontState) (channel : ℕ) (first : PassOfTable) (back : HostFrontReply W) (new : HostFrontState) → BeginsTable old channel first back new → Passes first old back new
-    begins_table old channel first back new (answer, last, renews, is, said) = record {
-      last = last;
-      what = _;
-      is = said;
-      good = λ own zero.
-          renewals_one P first last ((old.table).pass).number ((new.table).pass).number (renews_by_anew P (table.Begin channel) answer first last old.table new.table renews (such 0 (table.Begin channel) answer tt) own zero);
-      own = λ own. fresh_are P new.table renews.fresh;
-    }
+  -- ---- tries
 
-    begins_if : (found : Bool) (old : HostFrontState) (channel : ℕ) (first : PassOfTable) (back : HostFrontReply W) (new : HostFrontState) → BeginsIfFound found old channel first back new → Passes first old back new
-    begins_if true old channel first back new did = begins_table old channel first back new did
-    begins_if false old channel first back new did = hands_back first came.Memory old back new did
+  -- The channel can't end yet; or it ended.
+  pub record HasTried (first : PassOfTable) (old : HostFrontState) (back : HostFrontReply W) (new : HostFrontState) : Type 0 where
+    pub is : back ≡ reply.First first came.NotYet
+    pub number : ((new.table).pass).number ≡ ((old.table).pass).number
+    pub own : OwnAre (WithTries P) new.table
 
-    begins : (channel : ℕ) (first : PassOfTable) (old : HostFrontState) (back : HostFrontReply W) (new : HostFrontState) → HostFrontStep old (call.Begin channel first) back new → Passes first old back new
-    begins channel first old back new did = by (may_begin_on old channel first) did
-      where
-        by : (b : Bool) → MatchBool b (BeginsChannel old channel first back new) (HandsBack first came.Refused back old new) → Passes first old back new
-        by true (answer, next, step, is, d) = passes_from first old next back new (by_table old next (ap (λ (s : HostFrontState). s.table) is)) (begins_if _ next channel first back new d)
-        by false d = hands_back first came.Refused old back new d
+  pub record HasDropped (first : PassOfTable) (old : HostFrontState) (back : HostFrontReply W) (new : HostFrontState) : Type 0 where
+    pub last : PassOfTable
+    pub is : back ≡ reply.First last came.Done
+    pub own : OwnAre P new.table
+    pub drops : first.number ≡ 0 → Drops P first ((old.table).pass).number last ((new.table).pass).number
 
-    -- what a call makes of the front's pass, and of pass 0 where it is handed that
-    pub one_hop : (old : HostFrontState) (does : HostFrontCall W) (back : HostFrontReply W) (new : HostFrontState) → HearsSafe does → HostFrontStep old does back new → OwnAre P old.table
-        → OwnAre P new.table × Hop P ((old.table).pass).number does back ((new.table).pass).number
-    one_hop old (call.Begin channel first) back new safe did own =
-        let p = begins channel first old back new did in
-        (p.own own, subst (λ (r : HostFrontReply W). Hop P ((old.table).pass).number (call.Begin channel first) r ((new.table).pass).number) (sym p.is) (p.good own))
-    one_hop old (call.DropSent first anew) back new safe did own =
-        let p = drops_sent first anew old back new did in
-        (p.own own, subst (λ (r : HostFrontReply W). Hop P ((old.table).pass).number (call.DropSent first anew) r ((new.table).pass).number) (sym p.is) (p.good own))
-    one_hop old (call.Hear channel message) back new safe did own = let k = other_keeps old (call.Hear channel message) back new tt safe did in (k.own own, k.number)
-    one_hop old (call.Next channel room) back new safe did own = let k = other_keeps old (call.Next channel room) back new tt safe did in (k.own own, k.number)
-    one_hop old (call.DropChannel channel) back new safe did own = let k = other_keeps old (call.DropChannel channel) back new tt safe did in (k.own own, k.number)
+  not_yet : (first : PassOfTable) (old : HostFrontState) (back : HostFrontReply W) (new : HostFrontState) → OwnAre (WithTries P) old.table → HandsBack first came.NotYet back old new → HasTried first old back new
+  not_yet first old back new own (is, same) = record {
+    is = is;
+    number = ap (λ (s : HostFrontState). ((s.table).pass).number) same;
+    own = subst (λ (s : HostFrontState). OwnAre (WithTries P) s.table) (sym same) own;
+  }
+
+  drops_by : (dropped : Bool) (first : PassOfTable) (old next : HostFrontState) (back : HostFrontReply W) (new : HostFrontState) → OwnAre (WithTries P) old.table
+      → TableDoes old table.DropSent (replied.DroppedSent dropped) next → DropsBy dropped first next back new → HasTried first old back new ⊎ HasDropped first old back new
+  drops_by dropped first old next back new own did by = on dropped did by
+    where
+      k : ℕ
+      k = ((old.table).pass).number
+
+      on : (dropped : Bool) → TableDoes old table.DropSent (replied.DroppedSent dropped) next → DropsBy dropped first next back new → HasTried first old back new ⊎ HasDropped first old back new
+      on dropped did by =
+          let calls = (did.0).calls in
+          let number : ((next.table).pass).number ≡ k = (calls.same).0 in
+          let made : calls_of k ((next.table).pass).seen ≡ calls_of k ((old.table).pass).seen ++ entry k table.DropSent (replied.DroppedSent dropped) ∷ [] =
+          Called-own (old.table).pass (next.table).pass table.DropSent (replied.DroppedSent dropped) calls.called in
+          told dropped number made by
+        where
+          told : (dropped : Bool) → ((next.table).pass).number ≡ k → calls_of k ((next.table).pass).seen ≡ calls_of k ((old.table).pass).seen ++ entry k table.DropSent (replied.DroppedSent dropped) ∷ []
+              → DropsBy dropped first next back new → HasTried first old back new ⊎ HasDropped first old back new
+          told false number made by =
+              let own_next : OwnAre (WithTries P) next.table = subst (λ (n : ℕ). AreSuch (WithTries P) (calls_of n ((next.table).pass).seen)) (sym number)
+              (subst (AreSuch (WithTries P)) (sym made) (all_both (WithTries P) (calls_of k ((old.table).pass).seen) (entry k table.DropSent (replied.DroppedSent false) ∷ []) own (inr (refl, refl), tt))) in
+              let t = not_yet first next back new own_next by in
+              inl (record { is = t.is; number = t.number ∙ number; own = t.own })
+          told true number made (last, renews, is, said) = inr (record {
+            last = last;
+            is = said;
+            own = fresh_are P new.table renews.fresh;
+            drops = λ zero.
+                subst (λ (n : ℕ). Drops P first n last ((new.table).pass).number) number
+                (renews_replaced (WithTries P) (drop_call true ∷ []) (calls_of k ((old.table).pass).seen) first last next.table new.table renews
+                (subst (λ (n : ℕ). calls_of n ((next.table).pass).seen ≡ calls_of k ((old.table).pass).seen ++ made_by n (drop_call true ∷ [])) (sym number) made) own zero);
+          })
+
+  drops_unsent : (outbox : List (List ℕ)) (first : PassOfTable) (old : HostFrontState) (back : HostFrontReply W) (new : HostFrontState) → OwnAre (WithTries P) old.table
+      → DropsUnsent outbox first old back new → HasTried first old back new ⊎ HasDropped first old back new
+  drops_unsent (message ∷ others) first old back new own did = inl (not_yet first old back new own did)
+  drops_unsent [] first old back new own (dropped, next, does, did) = drops_by dropped first old next back new own does did
+
+  -- what the first try of a line comes to, and what a later one does
+  anew_comes : (b : Bool) (first given : PassOfTable) (old mid : HostFrontState) (back : HostFrontReply W) (new : HostFrontState) → OwnBy P such b old.table
+      → Renews first old.table given mid.table → HasTried given mid back new ⊎ HasDropped given mid back new → Comes b old (call.DropSent first true) back new
+  anew_comes true first given old mid back new own renews (inl t) =
+      record { tries = true; own = t.own; hop = subst (λ (r : HostFrontReply W). Hop P true ((old.table).pass).number (call.DropSent first true) r true ((new.table).pass).number) (sym t.is) tt }
+  anew_comes true first given old mid back new own renews (inr t) =
+      record { tries = false; own = t.own; hop = subst (λ (r : HostFrontReply W). Hop P true ((old.table).pass).number (call.DropSent first true) r false ((new.table).pass).number) (sym t.is) tt }
+  anew_comes false first given old mid back new own renews (inl t) = record {
+    tries = true;
+    own = t.own;
+    hop = subst (λ (r : HostFrontReply W). Hop P false ((old.table).pass).number (call.DropSent first true) r true ((new.table).pass).number) (sym t.is) (
+      refl,
+      λ zero. subst (λ (n : ℕ). Replaces P [] [] first ((old.table).pass).number given n) (sym t.number)
+          (renews_replaced P [] (calls_of ((old.table).pass).number ((old.table).pass).seen) first given old.table mid.table renews (sym (append-nil (calls_of ((old.table).pass).number ((old.table).pass).seen))) own zero),
+    );
+  }
+  anew_comes false first given old mid back new own renews (inr t) = record {
+    tries = false;
+    own = t.own;
+    hop = subst (λ (r : HostFrontReply W). Hop P false ((old.table).pass).number (call.DropSent first true) r false ((new.table).pass).number) (sym t.is) (
+      refl,
+      λ zero.
+          let r = renews_replaced P [] (calls_of ((old.table).pass).number ((old.table).pass).seen) first given old.table mid.table renews (sym (append-nil (calls_of ((old.table).pass).number ((old.table).pass).seen))) own zero in
+          (given, ((mid.table).pass).number, r, t.drops (r.stays).number),
+    );
+  }
+
+  later_comes : (b : Bool) (first : PassOfTable) (old : HostFrontState) (back : HostFrontReply W) (new : HostFrontState) → HasTried first old back new ⊎ HasDropped first old back new
+      → Comes b old (call.DropSent first false) back new
+  later_comes true first old back new (inl t) = record {
+    tries = true;
+    own = t.own;
+    hop = subst (λ (r : HostFrontReply W). Hop P true ((old.table).pass).number (call.DropSent first false) r true ((new.table).pass).number) (sym t.is) (refl, t.number, refl);
+  }
+  later_comes true first old back new (inr t) = record {
+    tries = false;
+    own = t.own;
+    hop = subst (λ (r : HostFrontReply W). Hop P true ((old.table).pass).number (call.DropSent first false) r false ((new.table).pass).number) (sym t.is) (refl, t.drops);
+  }
+  later_comes false first old back new (inl t) =
+      record { tries = true; own = t.own; hop = subst (λ (r : HostFrontReply W). Hop P false ((old.table).pass).number (call.DropSent first false) r true ((new.table).pass).number) (sym t.is) tt }
+  later_comes false first old back new (inr t) =
+      record { tries = false; own = t.own; hop = subst (λ (r : HostFrontReply W). Hop P false ((old.table).pass).number (call.DropSent first false) r false ((new.table).pass).number) (sym t.is) tt }
+
+  refused_comes : (b anew : Bool) (first : PassOfTable) (old : HostFrontState) (back : HostFrontReply W) (new : HostFrontState) → OwnBy P such b old.table → HandsBack first came.Refused back old new
+      → Comes b old (call.DropSent first anew) back new
+  refused_comes b anew first old back new own (is, same) = record {
+    tries = b;
+    own = own_same P such b old.table new.table (ap (λ (s : HostFrontState). s.table) same) own;
+    hop = subst (λ (r : HostFrontReply W). Hop P b ((old.table).pass).number (call.DropSent first anew) r b ((new.table).pass).number) (sym is) (on b anew);
+  }
+    where
+      on : (b anew : Bool) → Tries P anew came.Refused b ((old.table).pass).number first first b ((new.table).pass).number
+      on true true = tt
+      on true false = tt
+      on false true = tt
+      on false false = tt
+
+  drops_sent : (b : Bool) (first : PassOfTable) (anew : Bool) (old : HostFrontState) (back : HostFrontReply W) (new : HostFrontState) → HostFrontStep old (call.DropSent first anew) back new → OwnBy P such b old.table
+      → Comes b old (call.DropSent first anew) back new
+  drops_sent b first anew old back new did own = on (may_renew first) did
+    where
+      ends : (anew : Bool) (given : PassOfTable) (mid : HostFrontState) → RenewsIf anew first old given mid → DropsUnsent ((mid.core).core).outbox given mid back new → Comes b old (call.DropSent first anew) back new
+      ends true given mid (renews, is) drops =
+          anew_comes b first given old mid back new own renews (drops_unsent ((mid.core).core).outbox given mid back new (fresh_are (WithTries P) mid.table renews.fresh) drops)
+      ends false given mid (is, same) drops =
+          later_comes b first old back new
+          (subst (λ (s : HostFrontState). HasTried first s back new ⊎ HasDropped first s back new) same
+          (subst (λ (x : PassOfTable). HasTried x mid back new ⊎ HasDropped x mid back new) is
+          (drops_unsent ((mid.core).core).outbox given mid back new (subst (λ (s : HostFrontState). OwnAre (WithTries P) s.table) (sym same) (own_tries P such b old.table own)) drops)))
+
+      on : (may : Bool) → MatchBool may (EndsSent first anew old back new) (HandsBack first came.Refused back old new) → Comes b old (call.DropSent first anew) back new
+      on true (given, mid, renews, drops) = ends anew given mid renews drops
+      on false d = refused_comes b anew first old back new own d
+
+  -- ---- a channel begins
+
+  begins : (b : Bool) (channel : ℕ) (first : PassOfTable) (old : HostFrontState) (back : HostFrontReply W) (new : HostFrontState) → HostFrontStep old (call.Begin channel first) back new → OwnBy P such b old.table
+      → Comes b old (call.Begin channel first) back new
+  begins b channel first old back new did own = on (may_begin_on old channel first) did
+    where
+      stays : (what : Came) → Began P what b channel ((old.table).pass).number first first b ((new.table).pass).number → (next : HostFrontState) → next.table ≡ old.table → HandsBack first what back next new
+          → Comes b old (call.Begin channel first) back new
+      stays what hop next same (is, so) = record {
+        tries = b;
+        own = own_same P such b old.table new.table (ap (λ (s : HostFrontState). s.table) so ∙ same) own;
+        hop = subst (λ (r : HostFrontReply W). Hop P b ((old.table).pass).number (call.Begin channel first) r b ((new.table).pass).number) (sym is) hop;
+      }
+
+      begun : (found : Bool) (next : HostFrontState) → next.table ≡ old.table → BeginsIfFound found next channel first back new → Comes b old (call.Begin channel first) back new
+      begun true next same (answer, last, renews, is, said) = record {
+        tries = false;
+        own = fresh_are P new.table renews.fresh;
+        hop = subst (λ (r : HostFrontReply W). Hop P b ((old.table).pass).number (call.Begin channel first) r false ((new.table).pass).number) (sym said)
+            (begun_hop P such b channel ((old.table).pass).number first last new.table next.table answer (own_same P such b old.table next.table same own) (ap (λ (s : FrontPassState). (s.pass).number) same) renews);
+      }
+      begun false next same d = stays came.Memory tt next same d
+
+      on : (may : Bool) → MatchBool may (BeginsChannel old channel first back new) (HandsBack first came.Refused back old new) → Comes b old (call.Begin channel first) back new
+      on true (answer, next, step, is, d) = begun _ next (ap (λ (s : HostFrontState). s.table) is) d
+      on false d = stays came.Refused tt old refl d
+
+  -- what a call makes of the front's pass, and of pass 0 where it is handed that
+  pub one_hop : (b : Bool) (old : HostFrontState) (does : HostFrontCall W) (back : HostFrontReply W) (new : HostFrontState) → HearsSafe does → HostFrontStep old does back new → OwnBy P such b old.table → Comes b old does back new
+  one_hop b old (call.Begin channel first) back new safe did own = begins b channel first old back new did own
+  one_hop b old (call.DropSent first anew) back new safe did own = drops_sent b first anew old back new did own
+  one_hop b old (call.Hear channel message) back new safe did own = let k = other_by b old (call.Hear channel message) back new tt safe did own in record { tries = b; own = k.0; hop = (refl, k.1) }
+  one_hop b old (call.Next channel room) back new safe did own = let k = other_by b old (call.Next channel room) back new tt safe did own in record { tries = b; own = k.0; hop = (refl, k.1) }
+  one_hop b old (call.DropChannel channel) back new safe did own = let k = other_by b old (call.DropChannel channel) back new tt safe did own in record { tries = b; own = k.0; hop = (refl, k.1) }

@@ -65,7 +65,7 @@ take_bare x asked (Ok taken) = bare_outcome x (reported_outcome taken.outcome) (
 take_bare x asked (Err cause) = refl
 
 -- who may issue a line awaits nothing
-awaits_none : (x : ApplicationState) → may_issue x ≡ true → x.awaits ≡ None
+pub awaits_none : (x : ApplicationState) → may_issue x ≡ true → x.awaits ≡ None
 awaits_none x may = by (nat_lt (length x.outcomes) x.queued) x.awaits may
   where
     by : (b : Bool) (o : Option ℕ) → (b && is_none o) ≡ true → o ≡ None
@@ -85,7 +85,7 @@ all_did a [] x y is = ap bare is
 all_did a (i ∷ issues) x y (next, does, more) = (bare next, does_did a x i next does, all_did a issues next y more)
 
 -- none of it changes to how many of its lines the script came
-outcome_queued : (x : ApplicationState) (o : Outcome) (given : Option Handle) (asked : Asked) → (with_outcome x o given asked).queued ≡ x.queued
+pub outcome_queued : (x : ApplicationState) (o : Outcome) (given : Option Handle) (asked : Asked) → (with_outcome x o given asked).queued ≡ x.queued
 outcome_queued x o given asked = by (is_some asked.device)
   where
     by : (b : Bool) → (if b then record x { handles = holding_under x.handles asked.handle given } else x).queued ≡ x.queued
@@ -140,12 +140,12 @@ abbrev pub issuer : ℕ → ApplicationState → Issuer
 issuer a x = record { number = a; application = x }
 
 module _ {A : Type 0} where
-  got_same : (xs : List A) (place : ℕ) (x y : A) → slice_get xs place ≡ Some x → slice_get (slice_set xs place y) place ≡ Some y
+  pub got_same : (xs : List A) (place : ℕ) (x y : A) → slice_get xs place ≡ Some x → slice_get (slice_set xs place y) place ≡ Some y
   got_same [] place x y is = absurd (cc is)
   got_same (z ∷ xs) zero x y is = refl
   got_same (z ∷ xs) (suc place) x y is = got_same xs place x y is
 
-  got_other : (xs : List A) (place other : ℕ) (y : A) → place ≢ other → slice_get (slice_set xs other y) place ≡ slice_get xs place
+  pub got_other : (xs : List A) (place other : ℕ) (y : A) → place ≢ other → slice_get (slice_set xs other y) place ≡ slice_get xs place
   got_other [] place other y ne = refl
   got_other (z ∷ xs) zero zero y ne = absurd (ne refl)
   got_other (z ∷ xs) (suc place) zero y ne = refl
@@ -230,21 +230,21 @@ module _ (a : ℕ) where
     pub each : (k : ℕ) → k ≢ 0 → k ≤ p.made → (k ≡ f) ⊎ ((n : ℕ) × Contains p.joined (k, n) × ((mine k ≡ true) ⊎ AreSuch IsApart (calls_of k p.seen)))
 
   module _ (mine : ℕ → Bool) where
-    pub mine_stay : (f : ℕ) (p q : PassOfTable) → RanWithThese mine f p → Stays IsApart p q → (k : ℕ) → mine k ≡ true → calls_of k q.seen ≡ calls_of k p.seen
+    pub mine_stay : (f : ℕ) (p q : PassOfTable) → RanWithThese mine f p → Stays p q → (k : ℕ) → mine k ≡ true → calls_of k q.seen ≡ calls_of k p.seen
     mine_stay f p q r s k own = let j = r.joined k own in (s.kept k j.2 j.0 j.3).1
 
-    joined_on : (f : ℕ) (p q : PassOfTable) → RanWithThese mine f p → Stays IsApart p q → (k : ℕ) → mine k ≡ true → (k ≢ 0) × (k ≤ q.made) × (n : ℕ) × Contains q.joined (k, n)
+    joined_on : (f : ℕ) (p q : PassOfTable) → RanWithThese mine f p → Stays p q → (k : ℕ) → mine k ≡ true → (k ≢ 0) × (k ≤ q.made) × (n : ℕ) × Contains q.joined (k, n)
     joined_on f p q r s k own =
         let j = r.joined k own in
         let least = s.least in
         (j.0, omega (arith, j.1), j.2, (s.kept k j.2 j.0 j.3).0)
 
-    class_on : (p q : PassOfTable) → Stays IsApart p q → (k : ℕ) → k ≢ 0 → (n : ℕ) × Contains p.joined (k, n) × ((mine k ≡ true) ⊎ AreSuch IsApart (calls_of k p.seen))
+    class_on : (p q : PassOfTable) → Stays p q → (k : ℕ) → k ≢ 0 → (n : ℕ) × Contains p.joined (k, n) × ((mine k ≡ true) ⊎ AreSuch IsApart (calls_of k p.seen))
         → (n : ℕ) × Contains q.joined (k, n) × ((mine k ≡ true) ⊎ AreSuch IsApart (calls_of k q.seen))
     class_on p q s k ne (n, has, inl own) = (n, (s.kept k n ne has).0, inl own)
     class_on p q s k ne (n, has, inr apart) = (n, (s.kept k n ne has).0, inr (subst (AreSuch IsApart) (sym (s.kept k n ne has).1) apart))
 
-    same_on : (f : ℕ) (p q : PassOfTable) → RanWithThese mine f p → Stays IsApart p q → q.made ≡ p.made → (AreSuch IsApart (calls_of 0 p.seen) → AreSuch IsApart (calls_of 0 q.seen)) → RanWithThese mine f q
+    same_on : (f : ℕ) (p q : PassOfTable) → RanWithThese mine f p → Stays p q → q.made ≡ p.made → (AreSuch IsApart (calls_of 0 p.seen) → AreSuch IsApart (calls_of 0 q.seen)) → RanWithThese mine f q
     same_on f p q r s made own = record {
       first = s.number;
       own = own r.own;
@@ -273,12 +273,12 @@ module _ (a : ℕ) where
         by k ne (inr class) = inr (class_on p q one.stays k ne class)
 
     -- what the application called so far stays
-    pub calls_on : (f : ℕ) (p q : PassOfTable) → RanWithThese mine f p → Stays IsApart p q → calls_by mine q.seen ≡ calls_by mine p.seen
+    pub calls_on : (f : ℕ) (p q : PassOfTable) → RanWithThese mine f p → Stays p q → calls_by mine q.seen ≡ calls_by mine p.seen
     calls_on f p q r s = calls_stay mine p.seen (s.seen).0 q.seen (s.seen).1 (none_added mine p.seen (s.seen).0 q.seen (s.seen).1 (mine_stay f p q r s))
 
   -- ---- what else happens
 
-  pub ran_stays : (p q : PassOfTable) (old new : List Issuer) → RanSideBySide p q old new → GoesOn p q → p.number ≡ 0 → Stays IsApart p q
+  pub ran_stays : (p q : PassOfTable) (old new : List Issuer) → RanSideBySide p q old new → GoesOn p q → p.number ≡ 0 → Stays p q
   ran_stays p q old new ran on first = record {
     number = ran.first;
     least = (let made = ran.made in omega arith);
@@ -287,7 +287,7 @@ module _ (a : ℕ) where
         (subst (λ (l : List (ℕ × ℕ)). Contains l (k, n)) (sym (ran.kept).1) (Contains-append_right (ran.kept).0 p.joined (k, n) has), GoesOn-joined p q k n first has on);
   }
 
-  looked_stays : (turn : TurnOfTable) (stage : Stage) (p q : PassOfTable) → PassCalls turn p call.Stage (reply.Stands stage) q → p.number ≡ 0 → Stays IsApart p q
+  pub looked_stays : (turn : TurnOfTable) (stage : Stage) (p q : PassOfTable) → PassCalls turn p call.Stage (reply.Stands stage) q → p.number ≡ 0 → Stays p q
   looked_stays turn stage p q calls first =
       let same : IsSamePass p q = calls.same in
       record {
@@ -298,7 +298,7 @@ module _ (a : ℕ) where
             (subst (λ (l : List (ℕ × ℕ)). Contains l (k, n)) (sym same.3) has, Called-joined p q call.Stage (reply.Stands stage) k n first ne has calls.called);
       }
 
-  looked_own : (turn : TurnOfTable) (stage : Stage) (p q : PassOfTable) → PassCalls turn p call.Stage (reply.Stands stage) q → p.number ≡ 0
+  pub looked_own : (turn : TurnOfTable) (stage : Stage) (p q : PassOfTable) → PassCalls turn p call.Stage (reply.Stands stage) q → p.number ≡ 0
       → AreSuch IsApart (calls_of 0 p.seen) → AreSuch IsApart (calls_of 0 q.seen)
   looked_own turn stage p q calls first own = subst (AreSuch IsApart) (sym is) (all_both IsApart (calls_of 0 p.seen) (entry 0 call.Stage (reply.Stands stage) ∷ []) own (tt, tt))
     where
@@ -320,7 +320,7 @@ module _ (a place total : ℕ) (numbers : List ℕ) (start : ApplicationState) (
     pub did : DidAll a start issues (bare now)
     pub calls : calls_by mine p.seen ≡ calls_in issues
 
-  play_on : (f g : ℕ) (p q : PassOfTable) (lines : List NumberedLine) (issuers : List Issuer) → (x : InPlay f p lines issuers) → RanWithThese a x.mine g q → Stays (IsApart a) p q → InPlay g q lines issuers
+  play_on : (f g : ℕ) (p q : PassOfTable) (lines : List NumberedLine) (issuers : List Issuer) → (x : InPlay f p lines issuers) → RanWithThese a x.mine g q → Stays p q → InPlay g q lines issuers
   play_on f g p q lines issuers x ran stays = record {
     mine = x.mine;
     ran = ran;
@@ -401,18 +401,28 @@ module _ (a place total : ℕ) (numbers : List ℕ) (start : ApplicationState) (
 
   -- ---- applications run
 
-  runs_on : (f : ℕ) (p q : PassOfTable) (lines : List NumberedLine) (old new : List Issuer) → RanSideBySide p q old new → GoesOn p q → InPlay f p lines old → InPlay f q lines new
-  runs_on f p q lines old new ran on x = record {
-    mine = mine;
-    ran = record { first = ran.first; own = subst (AreSuch (IsApart a)) (sym (zeros_stay p q (x.ran).first on)) (x.ran).own; joined = joined; each = each };
-    numbers_are = numbers_same old new ran.count (λ n d e less. (ran.ran n d e less).number) ∙ x.numbers_are;
-    now = after.application;
-    at = got_indexed new place me (let count = ran.count in omega (arith, within, count)) ∙ ap (λ (n : ℕ). Some (issuer n after.application)) number;
-    left = ap (λ (n : ℕ). n + length (asks_under a lines)) (all_queued a issued.issues x.now after.application issued.does) ∙ x.left;
-    issues = x.issues ++ issued.issues;
-    did = did_then a x.issues issued.issues start (bare x.now) (bare after.application) x.did here;
-    calls = calls_more x.mine k p.seen (stays.seen).0 q.seen (stays.seen).1 (none_added x.mine p.seen (stays.seen).0 q.seen (stays.seen).1 (mine_stay a x.mine f p q x.ran stays)) fresh
-        ∙ ((λ i. x.calls i ++ calls_made i) ∙ sym (calls_then x.issues issued.issues));
+  -- Applications ran, and it stands so then. The last of its calls are those of the pass that it ran with.
+  pub record RunsOn (f : ℕ) (p q : PassOfTable) (lines : List NumberedLine) (new : List Issuer) : Type 0 where
+    pub play : InPlay f q lines new
+    pub before : List (PendingCall × PendingReply)
+    pub last : calls_in play.issues ≡ before ++ map told_by (calls_of (suc (p.made + place)) q.seen)
+
+  pub ran_on : (f : ℕ) (p q : PassOfTable) (lines : List NumberedLine) (old new : List Issuer) → RanSideBySide p q old new → GoesOn p q → InPlay f p lines old → RunsOn f p q lines new
+  ran_on f p q lines old new ran on x = record {
+    play = record {
+      mine = mine;
+      ran = record { first = ran.first; own = subst (AreSuch (IsApart a)) (sym (zeros_stay p q (x.ran).first on)) (x.ran).own; joined = joined; each = each };
+      numbers_are = numbers_same old new ran.count (λ n d e less. (ran.ran n d e less).number) ∙ x.numbers_are;
+      now = after.application;
+      at = got_indexed new place me (let count = ran.count in omega (arith, within, count)) ∙ ap (λ (n : ℕ). Some (issuer n after.application)) number;
+      left = ap (λ (n : ℕ). n + length (asks_under a lines)) (all_queued a issued.issues x.now after.application issued.does) ∙ x.left;
+      issues = x.issues ++ issued.issues;
+      did = did_then a x.issues issued.issues start (bare x.now) (bare after.application) x.did here;
+      calls = calls_more x.mine k p.seen (stays.seen).0 q.seen (stays.seen).1 (none_added x.mine p.seen (stays.seen).0 q.seen (stays.seen).1 (mine_stay a x.mine f p q x.ran stays)) fresh
+          ∙ ((λ i. x.calls i ++ calls_made i) ∙ sym (calls_then x.issues issued.issues));
+    };
+    before = calls_in x.issues;
+    last = calls_then x.issues issued.issues ∙ ap (λ (l : List (PendingCall × PendingReply)). calls_in x.issues ++ l) (sym calls_made);
   }
     where
       me : Issuer
@@ -424,7 +434,7 @@ module _ (a place total : ℕ) (numbers : List ℕ) (start : ApplicationState) (
       k : ℕ
       k = suc (p.made + place)
 
-      stays : Stays (IsApart a) p q
+      stays : Stays p q
       stays = ran_stays a p q old new ran on (x.ran).first
 
       after : Issuer
@@ -501,6 +511,9 @@ module _ (a place total : ℕ) (numbers : List ℕ) (start : ApplicationState) (
           let is : suc (p.made + other) ≡ j = omega arith in
           let less : other < length old = omega arith in
           inr (subst (λ (m : ℕ). (n : ℕ) × Contains q.joined (m, n) × ((mine m ≡ true) ⊎ AreSuch (IsApart a) (calls_of m q.seen))) is (beside other less)))
+
+  runs_on : (f : ℕ) (p q : PassOfTable) (lines : List NumberedLine) (old new : List Issuer) → RanSideBySide p q old new → GoesOn p q → InPlay f p lines old → InPlay f q lines new
+  runs_on f p q lines old new ran on x = (ran_on f p q lines old new ran on x).play
 
   -- all this carries it through the play
   pub carries : (all : List TableEntry) → Carrying (IsApart a) InPlay all

@@ -4,6 +4,7 @@ pub mod FileLemmas
 pub mod IssueLemmas
 pub mod LineLemmas
 pub mod StepLemmas
+pub mod WalkLemmas
 pub mod PlayLemmas
 pub mod RunLemmas
 pub mod SessionLemmas
@@ -13,5 +14,13 @@ pub mod MineLemmas
 pub mod InPlayLemmas
 pub mod OverLemmas
 pub mod BeginLemmas
+pub mod StandLemmas
+pub mod ControlLemmas
+pub mod LaterLemmas
+pub mod ReadyLemmas
+pub mod SeenLemmas
 pub mod CameLemmas
+pub mod PastLemmas
+pub mod PlaceLemmas
+pub mod AlongLemmas
 pub mod TellingLemmas

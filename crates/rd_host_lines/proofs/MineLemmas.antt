@@ -34,6 +34,10 @@ own_none e entries is = by (e.by == e.by) (eq-eqb e.by e.by refl) is
     by true own is = absurd (cc is)
     by false own is = absurd (cc own)
 
+pub nothing_more : (xs ys : List TableEntry) → xs ++ ys ≡ xs → ys ≡ []
+nothing_more xs [] is = refl
+nothing_more xs (y ∷ ys) is = absurd (omega (arith, length-append xs (y ∷ ys), ap length is))
+
 module _ (mine : ℕ → Bool) where
   not_mine : (e : TableEntry) (entries : List TableEntry) → HaveNone mine (e ∷ entries) → mine e.by ≡ false
   not_mine e entries none = by (mine e.by) refl
@@ -71,10 +75,6 @@ module _ (mine : ℕ → Bool) where
       by true c own rest = ap (λ (l : List TableEntry). e ∷ l) rest
       by false true own rest = absurd (cc own)
       by false false own rest = rest
-
-  nothing_more : (xs ys : List TableEntry) → xs ++ ys ≡ xs → ys ≡ []
-  nothing_more xs [] is = refl
-  nothing_more xs (y ∷ ys) is = absurd (omega (arith, length-append xs (y ∷ ys), ap length is))
 
   -- where the calls of each of the passes stay, none of those that are added is by them
   pub none_added : (xs more ys : List TableEntry) → xs ++ more ≡ ys → ((k : ℕ) → mine k ≡ true → calls_of k ys ≡ calls_of k xs) → HaveNone mine more

@@ -123,7 +123,7 @@ module _ (mine : ℕ → Bool) where
 -- ---- the lines
 
 -- the next line is the first of those that are left
-next_is : (asks before xs : List Asked) (n : ℕ) (asked : Asked) → asks ≡ before ++ xs → length before ≡ n → slice_get asks n ≡ Some asked → (later : List Asked) × (xs ≡ asked ∷ later)
+pub next_is : (asks before xs : List Asked) (n : ℕ) (asked : Asked) → asks ≡ before ++ xs → length before ≡ n → slice_get asks n ≡ Some asked → (later : List Asked) × (xs ≡ asked ∷ later)
 next_is asks before xs n asked is count next = by before xs n count (subst (λ (l : List Asked). slice_get l n ≡ Some asked) is next)
   where
     by : (before xs : List Asked) (n : ℕ) → length before ≡ n → slice_get (before ++ xs) n ≡ Some asked → (later : List Asked) × (xs ≡ asked ∷ later)
@@ -142,7 +142,7 @@ held_same holds old asked o given is = by (is_some asked.device)
     by true = ap (λ (hs : List (List ℕ × Handle)). holding_under hs asked.handle given) is
     by false = is
 
-abbrev refused_for : SubmitNo → Result ℕ SubmitNo
+abbrev pub refused_for : SubmitNo → Result ℕ SubmitNo
 refused_for cause = Err cause
 
 module _ (a : ℕ) where
@@ -164,7 +164,7 @@ module _ (a : ℕ) where
   Comes old new holds xs entries = (os : List Outcome) × (new.outcomes ≡ old.outcomes ++ os) × RestCame old.awaits holds xs os entries
 
   -- a line has its outcome
-  stands_on : (old holds : ApplicationState) (before later : List Asked) (asked : Asked) (o : Outcome) (given : Option Handle) → StandsAt old holds before (asked ∷ later)
+  pub stands_on : (old holds : ApplicationState) (before later : List Asked) (asked : Asked) (o : Outcome) (given : Option Handle) → StandsAt old holds before (asked ∷ later)
       → StandsAt (with_outcome old o given asked) (holding_after holds asked given) (before ++ asked ∷ []) later
   stands_on old holds before later asked o given s = record {
     asks = outcome_asks old asked o given ∙ (s.asks ∙ sym (append_assoc before (asked ∷ []) later));
@@ -173,13 +173,13 @@ module _ (a : ℕ) where
   }
 
   -- what its line names is the same
-  names_same : (old holds : ApplicationState) (asked : Asked) → holds.handles ≡ old.handles → target_of holds asked ≡ target_of old asked
+  pub names_same : (old holds : ApplicationState) (asked : Asked) → holds.handles ≡ old.handles → target_of holds asked ≡ target_of old asked
   names_same old holds asked is = ap (λ (hs : List (List ℕ × Handle)). target_of (record old { handles = hs }) asked) is
 
   module _ (mine : ℕ → Bool) where
     -- ---- a line that is over
 
-    more_outcomes : (old new : ApplicationState) (asked : Asked) (o : Outcome) (given : Option Handle) (os : List Outcome) → new.outcomes ≡ (with_outcome old o given asked).outcomes ++ os
+    pub more_outcomes : (old new : ApplicationState) (asked : Asked) (o : Outcome) (given : Option Handle) (os : List Outcome) → new.outcomes ≡ (with_outcome old o given asked).outcomes ++ os
         → new.outcomes ≡ old.outcomes ++ o ∷ os
     more_outcomes old new asked o given os is = is ∙ append_assoc old.outcomes (o ∷ []) os
 
@@ -192,7 +192,7 @@ module _ (a : ℕ) where
           (subst (λ (t : Option Target). LineCame a holds asked (outcome.Refused refusal.NoHandle) (λ next rest. LinesCame a next later os rest) entries t) (sym none) (refl, came)),
     )
 
-    op_same : (entries between after : List TableEntry) (by : ℕ) (named : Target) (op other : Op) (answer : Result ℕ SubmitNo) → op ≡ other
+    pub op_same : (entries between after : List TableEntry) (by : ℕ) (named : Target) (op other : Op) (answer : Result ℕ SubmitNo) → op ≡ other
         → entries ≡ between ++ entry by (call.Submit a named op) (reply.Submitted answer) ∷ after → entries ≡ between ++ entry by (call.Submit a named other) (reply.Submitted answer) ∷ after
     op_same entries between after by named op other answer is place = subst (λ (o : Op). entries ≡ between ++ entry by (call.Submit a named o) (reply.Submitted answer) ∷ after) is place
 

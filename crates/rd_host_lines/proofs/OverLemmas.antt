@@ -5,7 +5,7 @@ use Rattle.rd_carry.specs.Outgoing.{OutgoingState}
 use Rattle.rd_carry.specs.declared.ended.Ended.{Ended}
 use Rattle.rd_host_channel.specs.declared.ending.Ending.{Ending}
 use Rattle.rd_host_front.specs.State.{TurnOfTable}
-use Rattle.rd_host_player.specs.Play.{ComesTo, HaveAllOutcomes, Looks, PlayState, Plays, PlaysOut, Runs, TriesToEnd}
+use Rattle.rd_host_player.specs.Play.{ComesTo, HaveAllOutcomes, PlayState, Plays, PlaysOut, Runs, TriesToEnd}
 use Rattle.rd_host_player.specs.declared.player.Stop.TheVariants as stop
 use Rattle.rd_host_session.specs.Channels.{EndsAt, ServesAll, ServesBegun, SessionState}
 use Rattle.rd_host_lines.proofs.StepLemmas.{Relates, ended, issued}
@@ -29,7 +29,6 @@ module _ {F W : Type 0} where
     joins = λ a b c (one : StaysOver a b) (other : StaysOver b c) none. other (one none);
     comes = λ l old new (comes : ComesTo l old new) none. absurd (cc (comes.0, none));
     runs = λ old new (runs : Runs old new). same_lines old new (ap (λ (s : PlayState F W). s.lines) runs.2);
-    looks = λ turn stage old new (looks : Looks turn stage old new). same_lines old new (ap (λ (s : PlayState F W). s.lines) looks.1);
     tries = λ anew what old new (tries : TriesToEnd anew what old new). same_lines old new (ap (λ (s : PlayState F W). s.lines) tries.2);
   }
 

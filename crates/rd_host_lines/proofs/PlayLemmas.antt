@@ -1,18 +1,14 @@
--- What a host's play makes of pass 0 of the table, of the applications and of the calling thread's pass of the front.
-use Rattle.std.proofs.Common.{◌≡◌, ◌≢◌, ◌∙◌, ◌⊎◌, inl, inr, sym, ap, subst, ℕ, ◌<◌, ◌≤◌, Bool, List, [], ◌∷◌, ◌++◌, append_assoc, append-nil, Contains, arith}
-use Rattle.std.specs.List.{AllByRecursion}
+-- What is kept while a script is played, by each thing that the calling thread does and by applications that run, holds at the end of it.
+use Rattle.std.proofs.Common.{◌≡◌, ◌≢◌, ◌∙◌, ◌⊎◌, inl, inr, sym, subst, ℕ, zero, suc, ◌<◌, ◌≤◌, true, List, [], ◌∷◌, ◌++◌, Contains, arith}
 use Rattle.std.proofs.lemmas.List.Elements.{Contains-append_right}
 use mathlib.Core.List.{IsPrefix}
 use mathlib.Core.Logic.{dite}
 use native.Mathlib.Decide.{dec_le}
-use Rattle.rd_host_channel.specs.Calls.{HostEntry}
-use Rattle.rd_host_front.specs.declared.calls.Came.{Came}
-use Rattle.rd_host_front.specs.declared.calls.HostFrontCall.{HostFrontCall}
-use Rattle.rd_host_front.specs.declared.calls.HostFrontCall.TheVariants as call
-use Rattle.rd_host_front.specs.declared.calls.HostFrontReply.{HostFrontReply}
-use Rattle.rd_host_front.specs.declared.calls.HostFrontReply.TheVariants as reply
+use Rattle.rd_host_front.specs.Asked.{CallMade}
 use Rattle.rd_host_front.specs.State.{PassCalls, PassOfTable, TurnOfTable}
-use Rattle.rd_host_player.specs.Play.{Begins, CallsFront, ComesTo, HasCome, Looks, PlayState, Runs, TriesToEnd}
+use Rattle.rd_host_player.specs.declared.plan.Control.{Control}
+use Rattle.rd_host_player.specs.declared.plan.Control.TheVariants as control
+use Rattle.rd_host_player.specs.Play.{HasCome}
 use Rattle.rd_issuer.specs.declared.issuer.Issuer.{Issuer}
 use Rattle.rd_issuer.specs.SideBySide.{RanSideBySide}
 use Rattle.rd_pending.specs.declared.calls.Stage.{Stage}
@@ -27,9 +23,10 @@ use Rattle.rd_turn.proofs.HistoryLemmas.{Called-joined, Called-own, Called-prefi
 use Rattle.rd_host_turns.specs.Turns.{TableEntry}
 use Rattle.rd_host_turns.proofs.CountLemmas.{all_both, prefix_then}
 use Rattle.rd_host_turns.proofs.MoveLemmas.{zeros_stay}
-use Rattle.rd_host_lines.proofs.PassLemmas.{Anew, AreSuch, Good, Renewals, anew_good, renewals_keep}
-use Rattle.rd_host_lines.proofs.FrontLemmas.{HearsSafe, Hop, Hops, IsFronts, hops_parted}
-use Rattle.rd_host_lines.proofs.StepLemmas.{Relates}
+use Rattle.rd_host_lines.specs.Places.{drop_call}
+use Rattle.rd_host_lines.proofs.PassLemmas.{Anew, AreSuch, Ends, Good, Replaces, WithTries, anew_good, made_by, replaced_anew, replaced_as}
+use Rattle.rd_host_lines.proofs.FrontLemmas.{IsFronts}
+use Rattle.rd_host_lines.proofs.WalkLemmas.{LooksOn, Meets, Mode, Spot, Walks, begun_call, going, over, playing, spot}
 
 -- What is to be shown of calls of the table, with what is kept of the applications meanwhile: each call that no application makes is such a one; and so are those of applications that run.
 pub record Keeping (P : TableEntry → Type 0) (Fit : List Issuer → Type 0) (all : List TableEntry) : Type 0 where
@@ -103,106 +100,79 @@ module _ (P : TableEntry → Type 0) (Fit : List Issuer → Type 0) (all : List 
     anew = λ lines issuers p q f g one (own : GoodFit f p lines issuers). (anew_good P p q f g one own.0, own.1);
   }
 
-module _ {F W : Type 0} (P : TableEntry → Type 0) (Inv : ℕ → PassOfTable → List NumberedLine → List Issuer → Type 0) (all : List TableEntry) where
-  abbrev pub Holds : ℕ → PlayState F W → Type 0
-  Holds f s = Inv f s.first s.lines s.issuers
+module _ (P : TableEntry → Type 0) (Inv : ℕ → PassOfTable → List NumberedLine → List Issuer → Type 0) (all : List TableEntry) where
+  abbrev pub Holds : Spot → Type 0
+  Holds x = Inv x.front x.first x.lines x.issuers
 
-  -- Pass 0 of the table and the applications keep what is kept, where the front does in the calls that the thread makes of it; these are the calls that its pass has made more. What was joined stays.
-  pub record Stepped (old new : PlayState F W) : Type 0 where
-    pub number : (new.front).number ≡ 0
-    pub made : (new.front).made ≡ (old.front).made
-    pub calls : List (HostEntry W)
-    pub safe : AllByRecursion (λ (e : HostEntry W). HearsSafe e.call) calls
-    pub own : calls_of 0 (new.front).seen ≡ calls_of 0 (old.front).seen ++ calls
-    pub kept : (k n : ℕ) → k ≢ 0 → Contains (old.front).joined (k, n) → Contains (new.front).joined (k, n) × (calls_of k (new.front).seen ≡ calls_of k (old.front).seen)
-    pub seen : IsPrefix (old.first).seen (new.first).seen
-    pub goes : IsPrefix (new.first).seen all → (f g : ℕ) → Hops P f calls g → Holds f old → Holds g new
+  -- What pass 0 had seen it has seen then; and what is kept holds then too, where all that it has seen is of the history.
+  abbrev pub Carries : Spot → Spot → Type 0
+  Carries x y = IsPrefix (x.first).seen (y.first).seen × (IsPrefix (y.first).seen all → Holds x → Holds y)
 
-  abbrev pub Steps : PlayState F W → PlayState F W → Type 0
-  Steps old new = (old.front).number ≡ 0 → Stepped old new
-
-  joins : (a b c : PlayState F W) → Steps a b → Steps b c → Steps a c
-  joins a b c first second number =
-      let one = first number in
-      let other = second one.number in
-      record {
-        number = other.number;
-        made = other.made ∙ one.made;
-        calls = one.calls ++ other.calls;
-        safe = all_both (λ (e : HostEntry W). HearsSafe e.call) one.calls other.calls one.safe other.safe;
-        own = other.own ∙ (ap (λ l. l ++ other.calls) one.own ∙ append_assoc (calls_of 0 (a.front).seen) one.calls other.calls);
-        kept = λ k n ne has. let here = one.kept k n ne has in let there = other.kept k n ne here.0 in (there.0, there.1 ∙ here.1);
-        seen = prefix_then (a.first).seen (b.first).seen (c.first).seen one.seen other.seen;
-        goes = λ prefix f g hops own.
-            let (h, xs, ys) = hops_parted P f g one.calls other.calls hops in
-            let here = one.goes (prefix_then (b.first).seen (c.first).seen all other.seen prefix) f h xs own in
-            other.goes prefix h g ys here;
-      }
-
-  -- Pass 0 of the table and the applications alone go on.
-  alone : (old new : PlayState F W) → new.front ≡ old.front → IsPrefix (old.first).seen (new.first).seen
-      → (IsPrefix (new.first).seen all → (f : ℕ) → Holds f old → Holds f new) → Steps old new
-  alone old new front seen goes first = record {
-    number = ap (λ (x : _). x.number) front ∙ first;
-    made = ap (λ (x : _). x.made) front;
-    calls = [];
-    safe = tt;
-    own = ap (λ (x : _). calls_of 0 x.seen) front ∙ sym (append-nil (calls_of 0 (old.front).seen));
-    kept = λ k n ne has. (subst (λ (x : _). Contains x.joined (k, n)) (sym front) has, ap (λ (x : _). calls_of k x.seen) front);
-    seen = seen;
-    goes = λ prefix f g is own. subst (λ (n : ℕ). Holds n new) (sym is) (goes prefix f own);
-  }
-
-  none : (old new : PlayState F W) → new ≡ old → Steps old new
-  none old new is = alone old new (ap (λ (s : PlayState F W). s.front) is)
-      (subst (λ (s : PlayState F W). IsPrefix (old.first).seen (s.first).seen) (sym is) (prefix_self (old.first).seen))
-      (λ prefix f own. subst (λ (s : PlayState F W). Holds f s) (sym is) own)
+  carries_then : (x y z : Spot) → Carries x y → Carries y z → Carries x z
+  carries_then x y z (seen, one) (more, other) = (
+    prefix_then (x.first).seen (y.first).seen (z.first).seen seen more,
+    λ prefix own. other prefix (one (prefix_then (y.first).seen (z.first).seen all more prefix) own),
+  )
 
   module _ (keeping : Carrying P Inv all) where
-    -- The front is called by the thread's pass, to which pass 0 of the table is handed.
-    called : (old new : PlayState F W) (does : HostFrontCall W) → (old.front).number ≡ 0 → (back : HostFrontReply W) → CallsFront does back old.front new.front → HearsSafe does
-        → new ≡ record old { first = new.first; front = new.front } → IsPrefix (old.first).seen (new.first).seen
-        → ((f g : ℕ) → Hop P f does back g → (old.first).number ≡ 0 → Renewals P old.first f new.first g) → Stepped old new
-    called old new does first back (same, made) safe is seen goes = record {
-      number = same.0 ∙ first;
-      made = same.1;
-      calls = entry 0 does back ∷ [];
-      safe = (safe, tt);
-      own = subst (λ (n : ℕ). calls_of n (new.front).seen ≡ calls_of n (old.front).seen ++ entry n does back ∷ []) first (Called-own old.front new.front does back made);
-      kept = λ k n ne has. (subst (λ (l : List (ℕ × ℕ)). Contains l (k, n)) (sym same.3) has, Called-joined old.front new.front does back k n first ne has made);
-      seen = seen;
-      goes = λ prefix f g (next, hop, is_g) own.
-          let more = goes f next hop (keeping.first f old.first old.lines old.issuers own) in
-          let done : Inv next new.first old.lines old.issuers =
-          renewals_keep P (λ (m : ℕ) (x : PassOfTable). Inv m x old.lines old.issuers) (keeping.anew old.lines old.issuers) old.first new.first f next more own in
-          subst (λ (n : ℕ). Holds n new) (sym is_g) (subst (λ (s : PlayState F W). Inv next new.first s.lines s.issuers) (sym is) done);
+    try_such : (e : TableEntry) → WithTries P e → P e
+    try_such e (inl is) = is
+    try_such e (inr (call_is, reply_is)) = keeping.such e.by e.call e.reply (subst IsFronts (sym call_is) tt)
+
+    runs : (m : Mode) (f : ℕ) (p q : PassOfTable) (lines : List NumberedLine) (old new : List Issuer) → RanSideBySide p q old new → GoesOn p q → Carries (spot m f p lines old) (spot m f q lines new)
+    runs m f p q lines old new ran on = (GoesOn-prefix p q on, λ prefix own. keeping.runs f p q lines old new ran on prefix own)
+
+    comes : (m : Mode) (f : ℕ) (p : PassOfTable) (l : NumberedLine) (lines : List NumberedLine) (old new : List Issuer) → HasCome l.line old new → Carries (spot m f p (l ∷ lines) old) (spot m f p lines new)
+    comes m f p l lines old new has = (prefix_self p.seen, λ prefix own. keeping.comes f p l lines old new has own)
+
+    meets : (c : Control) (m : Mode) (f : ℕ) (p q : PassOfTable) (l : NumberedLine) (lines : List NumberedLine) (old new : List Issuer) → Meets c l p q old new
+        → Carries (spot m f p (l ∷ lines) old) (spot m f q lines new)
+    meets c m f p q l lines old new x =
+        carries_then (spot m f p (l ∷ lines) old) (spot m f q (l ∷ lines) x.between) (spot m f q lines new) (runs m f p q (l ∷ lines) old x.between x.ran x.on)
+        (comes m f q l lines x.between new x.comes)
+
+    looks : (turn : TurnOfTable) (stage : Stage) (m : Mode) (f : ℕ) (p q : PassOfTable) (lines : List NumberedLine) (issuers : List Issuer) → PassCalls turn p table.Stage (replied.Stands stage) q
+        → Carries (spot m f p lines issuers) (spot m f q lines issuers)
+    looks turn stage m f p q lines issuers calls =
+        (Called-prefix p q table.Stage (replied.Stands stage) calls.called, λ prefix own. keeping.looks turn stage f p q lines issuers calls own)
+
+    looks_on : (turn : TurnOfTable) (n : ℕ) (m : Mode) (f : ℕ) (p q : PassOfTable) (lines : List NumberedLine) (issuers : List Issuer) → LooksOn turn n p q
+        → Carries (spot m f p lines issuers) (spot m f q lines issuers)
+    looks_on turn zero m f p q lines issuers is =
+        subst (λ (x : PassOfTable). Carries (spot m f p lines issuers) (spot m f x lines issuers)) (sym is) (prefix_self p.seen, λ prefix own. own)
+    looks_on turn (suc n) m f p q lines issuers (r, stage, more, calls) =
+        carries_then (spot m f p lines issuers) (spot m f r lines issuers) (spot m f q lines issuers) (looks_on turn n m f p r lines issuers more) (looks turn stage m f r q lines issuers calls)
+
+    anew : (own last : List CallMade) (m : Mode) (f g : ℕ) (p q : PassOfTable) (lines : List NumberedLine) (issuers : List Issuer) → AreSuch P (made_by 0 own) → AreSuch P (made_by f last)
+        → Replaces P own last p f q g → Carries (spot m f p lines issuers) (spot m g q lines issuers)
+    anew own last m f g p q lines issuers zeros ends r =
+        ((r.stays).seen, λ prefix kept. keeping.anew lines issuers p q f g (replaced_anew P own last p f q g zeros ends r) kept)
+
+    ends : (m : Mode) (f g : ℕ) (p q : PassOfTable) (lines : List NumberedLine) (issuers : List Issuer) → Ends P p f q g → Carries (spot m f p lines issuers) (spot m g q lines issuers)
+    ends m f g p q lines issuers (r, h, first, drops) =
+        carries_then (spot m f p lines issuers) (spot m h r lines issuers) (spot m g q lines issuers) (anew [] [] m f h p r lines issuers tt tt first)
+        (anew [] (drop_call true ∷ []) m h g r q lines issuers tt (keeping.such h table.DropSent (replied.DroppedSent true) tt, tt)
+        (replaced_as (WithTries P) P try_such [] (drop_call true ∷ []) r h q g drops))
+
+    pub walks : (turn : TurnOfTable) (devices : ℕ) → Walks P turn devices Carries
+    walks turn devices = record {
+      same = λ x. (prefix_self (x.first).seen, λ prefix own. own);
+      joins = carries_then;
+      comes = λ b f p l lines old new first none has. comes (going b) f p l lines old new has;
+      runs = λ b f p q lines old new first ran on. runs (going b) f p q lines old new ran on;
+      drops = λ f g p q r l lines old new x end.
+          carries_then (spot playing f p (l ∷ lines) old) (spot playing f q lines new) (spot playing g r lines new) (meets control.Drop playing f p q l lines old new x) (ends playing f g q r lines new end);
+      stays = λ stage f p q r l lines old new x calls is_open.
+          carries_then (spot playing f p (l ∷ lines) old) (spot playing f q lines new) (spot playing f r lines new) (meets control.Connect playing f p q l lines old new x) (looks turn stage playing f q r lines new calls);
+      stops = λ stage f p q r l lines old new x calls is_open.
+          carries_then (spot playing f p (l ∷ lines) old) (spot playing f q lines new) (spot playing f r lines new) (meets control.Connect playing f p q l lines old new x) (looks turn stage playing f q r lines new calls);
+      begins = λ channel n stage f g p q r s lines issuers first replaces looked calls ready.
+          carries_then (spot playing f p lines issuers) (spot playing g r lines issuers) (spot playing g s lines issuers)
+          (carries_then (spot playing f p lines issuers) (spot playing g q lines issuers) (spot playing g r lines issuers)
+          (anew (begun_call channel) [] playing f g p q lines issuers (keeping.such 0 (table.Begin channel) (replied.Begun true) tt, tt) tt replaces) (looks_on turn n playing g q r lines issuers looked))
+          (looks turn stage playing g r s lines issuers calls);
+      gives_up = λ f p lines issuers. (prefix_self p.seen, λ prefix own. own);
+      passes = λ c f p q l lines old new x. meets c over f p q l lines old new x;
+      ends = λ f g p q r old new first ran on end.
+          carries_then (spot over f p [] old) (spot over f q [] new) (spot over g r [] new) (runs over f p q [] old new ran on) (ends over f g q r [] new end);
     }
-
-    tries : (anew : Bool) (what : Came) (old new : PlayState F W) → TriesToEnd anew what old new → Steps old new
-    tries anew what old new (calls, handed, is) first =
-        called old new (call.DropSent old.first anew) first (reply.First new.first what) calls tt is handed.seen (λ f g hop zero. hop zero)
-
-    pub begins_so : (channel : ℕ) (what : Came) (old new : PlayState F W) → Begins channel what old new → Steps old new
-    begins_so channel what old new (calls, handed, is) first =
-        called old new (call.Begin channel old.first) first (reply.First new.first what) calls tt is handed.seen (λ f g hop zero. hop zero)
-
-    comes : (l : NumberedLine) (old new : PlayState F W) → ComesTo l old new → Steps old new
-    comes l old new (lines, has, is) = alone old new (ap (λ (s : PlayState F W). s.front) is)
-        (subst (λ (x : PassOfTable). IsPrefix (old.first).seen x.seen) (sym same) (prefix_self (old.first).seen))
-        (λ prefix f own. subst (λ (x : PassOfTable). Inv f x new.lines new.issuers) (sym same)
-        (keeping.comes f old.first l new.lines old.issuers new.issuers has (subst (λ (ls : List NumberedLine). Inv f old.first ls old.issuers) lines own)))
-      where
-        same : new.first ≡ old.first
-        same = ap (λ (s : PlayState F W). s.first) is
-
-    runs : (old new : PlayState F W) → Runs old new → Steps old new
-    runs old new (ran, on, is) = alone old new (ap (λ (s : PlayState F W). s.front) is) (GoesOn-prefix old.first new.first on)
-        (λ prefix f own. subst (λ (ls : List NumberedLine). Inv f new.first ls new.issuers) (sym (ap (λ (s : PlayState F W). s.lines) is))
-        (keeping.runs f old.first new.first old.lines old.issuers new.issuers ran on prefix own))
-
-    looks : (turn : TurnOfTable) (stage : Stage) (old new : PlayState F W) → Looks turn stage old new → Steps old new
-    looks turn stage old new (calls, is) = alone old new (ap (λ (s : PlayState F W). s.front) is) (Called-prefix old.first new.first table.Stage (replied.Stands stage) calls.called)
-        (λ prefix f own. subst (λ (s : PlayState F W). Inv f new.first s.lines s.issuers) (sym is) (keeping.looks turn stage f old.first new.first old.lines old.issuers calls own))
-
-    pub stepping : Relates Steps
-    stepping = record { none = none; joins = joins; comes = comes; runs = runs; looks = looks; tries = tries }

@@ -1,3 +1,4 @@
 pub mod JoinedLemmas
 pub mod PartLemmas
 pub mod HostPartLemmas
+pub mod LinesLemmas

@@ -1,15 +1,21 @@
 //! What joins two processes, as a contract of a function that does nothing.
 
-ghost use Rattle.std.specs.Prelude.{◌≡◌, ℕ, ◌<◌, List, length, Contains};
+ghost use Rattle.std.specs.Prelude.{◌≡◌, ℕ, ◌<◌, List, length, slice_get, Contains, Option, Some};
 ghost use Rattle.rd_base.specs.History.{History};
 ghost use Rattle.rd_carry.specs.declared.ended.Ended.{Ended};
 ghost use Rattle.rd_front.specs.Calls.{FrontEntry};
 ghost use Rattle.rd_host_channel.specs.Calls.{HostEntry};
+ghost use Rattle.rd_host_lines.specs.Outcomes.{asks_under};
+ghost use Rattle.rd_host_session.specs.Channels.{LinkedTold};
+ghost use Rattle.rd_host_session.specs.Hosted.{Hosts};
 ghost use Rattle.rd_host_turns.specs.Turns.{TableEntry};
-ghost use Rattle.rd_hosted.specs.Kept.{KeepsTable};
+ghost use Rattle.rd_hosted.specs.Kept.{KeepsTable, calls_of_front, calls_of_table};
+ghost use Rattle.rd_issuer.specs.declared.issuer.Issuer.{Issuer};
+ghost use Rattle.rd_peers.specs.Lines.{LinesAreOwn};
 ghost use Rattle.rd_peers.specs.Peers.{IsOwnOutcome, clients_part, hosts_part};
 ghost use Rattle.rd_pending.specs.declared.calls.Taken.{Taken};
 ghost use Rattle.rd_script.specs.declared.line.NumberedLine.{NumberedLine};
+ghost use Rattle.rd_script.specs.declared.outcome.Outcome.{Outcome};
 ghost use Rattle.rd_served_sessions.specs.Sessions.{AreServable, IsToldSession};
 ghost use Rattle.rd_table.specs.Histories.{handed_in};
 ghost use Rattle.rd_workers.specs.Channels.{LinkerTold};
@@ -21,6 +27,7 @@ ghost use Rattle.rd_world.specs.Run.{declared_devices};
 ghost use Rattle.rd_world.specs.Session.{replies_in};
 ghost use Rattle.rd_world.specs.Talk.{AtEachPoint, Deed, EachAfter, journal};
 ghost use Rattle.rd_world.specs.Told.{worn_entries};
+ghost use Rattle.rd_world.specs.World.{new_application};
 
 /// A client whose session came to what is promised of it, and a host that keeps its table, are joined where messages are carried between them and no journal is worn: so all that the joining law says holds of
 /// them.
@@ -39,4 +46,15 @@ pub fn peers_are_joined<W>()
         → clients_part deeds ≡ session.deeds → hosts_part deeds ≡ keeps.deeds → AtEachPoint IsCarried deeds → ((device : ℕ) → length (journal device deeds) < worn_entries)
         → let replies = replies_in (declared_devices (bare_lines lines)) deeds in
         AreJoined client_id replies deeds × Joins client_id replies deeds × ((number : ℕ) (taken : Taken) → Contains (handed_in seen) (number, taken) → IsOwnOutcome client_id replies deeds number taken) }
+{}
+
+/// So each line of each application of a host that played a script has its outcome: it was refused, or one request of the host's was accepted for it, of the device and the file that it names and with its operation, no two lines the same; and
+/// its outcome is what came of that request: the reply that the journal of the request's device gives to it, or that it was lost. `lines_have_their_outcomes` of `rd_host_lines` says that these outcomes are what is told.
+pub fn lines_have_their_own()
+    ensures { (lines : List NumberedLine) (channels : ℕ) (by : Ended) (entries : List FrontEntry) (books : List (ℕ × History)) (old new : LinkerTold) → AreServable lines
+        → (session : IsToldSession (declared_devices (bare_lines lines)) lines channels by entries books old new) (played : List NumberedLine) (other : Option Ended) (told : List ((ℕ × ℕ) × Outcome)) (before after : LinkedTold)
+        → (hosts : Hosts played other told before after) (keeps : KeepsTable (calls_of_table played other told before after hosts) (calls_of_front played other told before after hosts)) (deeds : List Deed)
+        → clients_part deeds ≡ session.deeds → hosts_part deeds ≡ keeps.deeds → AtEachPoint IsCarried deeds → ((device : ℕ) → length (journal device deeds) < worn_entries)
+        → (place : ℕ) (i : Issuer) → slice_get hosts.issuers place ≡ Some i
+        → LinesAreOwn client_id (replies_in (declared_devices (bare_lines lines)) deeds) deeds i.number 0 new_application (asks_under i.number played) (i.application).outcomes }
 {}
