@@ -73,7 +73,7 @@ line_under a x = if x.0 == a then Some x.1 else None
 abbrev pub asks_under : ℕ → List NumberedLine → List Asked
 asks_under a lines = filter_map (λ (l : NumberedLine). option_and_then (line_under a) (asked_by l.line)) lines
 
--- The applications have the numbers of the script's. Each line of theirs has its one outcome, which came so along these calls, and no other application asked for anything. No other application asked for anything.
+-- The applications have the numbers of the script's. Each line of theirs has its one outcome, which came so along these calls; no other application asked for anything.
 pub record AllCame (lines : List NumberedLine) (issuers : List Issuer) (entries : List TableEntry) : Type 0 where
   pub numbers : map (λ (i : Issuer). i.number) issuers ≡ map (λ (i : Issuer). i.number) (issuers_of lines)
   pub each : (place : ℕ) (i : Issuer) → slice_get issuers place ≡ Some i → LinesCame i.number new_application (asks_under i.number lines) (i.application).outcomes entries

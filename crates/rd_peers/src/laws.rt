@@ -48,13 +48,14 @@ pub fn peers_are_joined<W>()
         AreJoined client_id replies deeds × Joins client_id replies deeds × ((number : ℕ) (taken : Taken) → Contains (handed_in seen) (number, taken) → IsOwnOutcome client_id replies deeds number taken) }
 {}
 
-/// So each line of each application of a host that played a script has its outcome: it was refused, or one request of the host's was accepted for it, of the device and the file that it names and with its operation, no two lines the same; and
-/// its outcome is what came of that request: the reply that the journal of the request's device gives to it, or that it was lost. `lines_have_their_outcomes` of `rd_host_lines` says that these outcomes are what is told.
+/// So each line of each application of a host that played a script has its outcome: it was refused, or has the next request of the application that the host accepted, of the device and the file that it names and with its operation; and its
+/// outcome is what came of that request: the reply that the journal of the request's device gives to it, or that it was lost. The application has no other request. `lines_have_their_outcomes` of `rd_host_lines` says that
+/// these outcomes are what is told.
 pub fn lines_have_their_own()
     ensures { (lines : List NumberedLine) (channels : ℕ) (by : Ended) (entries : List FrontEntry) (books : List (ℕ × History)) (old new : LinkerTold) → AreServable lines
         → (session : IsToldSession (declared_devices (bare_lines lines)) lines channels by entries books old new) (played : List NumberedLine) (other : Option Ended) (told : List ((ℕ × ℕ) × Outcome)) (before after : LinkedTold)
         → (hosts : Hosts played other told before after) (keeps : KeepsTable (calls_of_table played other told before after hosts) (calls_of_front played other told before after hosts)) (deeds : List Deed)
         → clients_part deeds ≡ session.deeds → hosts_part deeds ≡ keeps.deeds → AtEachPoint IsCarried deeds → ((device : ℕ) → length (journal device deeds) < worn_entries)
         → (place : ℕ) (i : Issuer) → slice_get hosts.issuers place ≡ Some i
-        → LinesAreOwn client_id (replies_in (declared_devices (bare_lines lines)) deeds) deeds i.number 0 new_application (asks_under i.number played) (i.application).outcomes }
+        → LinesAreOwn client_id (replies_in (declared_devices (bare_lines lines)) deeds) deeds (calls_of_table played other told before after hosts) i.number 0 new_application (asks_under i.number played) (i.application).outcomes }
 {}

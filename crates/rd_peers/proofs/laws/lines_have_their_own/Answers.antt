@@ -28,4 +28,4 @@ returns c lines channels by entries books old new servable session played other 
     λ number taken has. own_outcome _ keeps.deeds deeds number taken own joined.1 (outcome_came seen calls number taken keeps has) in
     let same = ap accepted_in (sym (same_calls client_id deeds) ∙ ap (calls_of client_id) own) ∙ keeps.accepted_are in
     let came = (lines_came played other before after hosts.turn hosts.issuers hosts.last hosts.plays).each place i at in
-    lines_own _ deeds i.number seen hosts.table hosts.leads outs same _ _ 0 new_application [] seen refl (omega arith) came
+    lines_own _ deeds i.number seen hosts.table hosts.leads outs same _ _ 0 new_application [] seen refl (omega arith) (λ place r got low high. absurd (omega (arith, high))) came
