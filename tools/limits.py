@@ -1,11 +1,11 @@
 #!/usr/bin/env python3
 """Plays sides that go to the limits, or past them: limits.py [--changes N] [PROGRAM]
 
-Against `PROGRAM client`: a host that asks and never reads; one that reads and never says anything; one that opens 4,097 files; one whose 65 locks wait on one range.
-Against `PROGRAM host`: a client that says its opening and never reads while 16 applications write 64 kB each time; one that announces a device and removes it N times, 100,000
-where no word says it; one that never says anything. Each side is to take no more than so much memory while that lasts, a second where nothing else ends it, and to end
-within 20 seconds once its peer has gone. It prints a line each, with the peak of memory; the status is 1 if one isn't so. The script stands outside the
-proofs, and needs Linux."""
+Against `PROGRAM client`: a host that asks and never reads, of a device and of one that isn't there; one that reads and never says anything; one that opens 4,097 files; one whose 65 locks
+wait on one range. Against `PROGRAM host`: a client that says its opening and never reads while 16 applications write 64 kB each time; one that announces a device and removes it N times,
+100,000 where no word says it; one that does so as long as the host takes it, and never reads the replies; one that never says anything. Each side is to take no more than so much memory while
+that lasts, a second where nothing else ends it, and to end within 20 seconds once its peer has gone. It prints a line each, with the peak of memory; the status is 1 if one isn't so. The
+script stands outside the proofs, and needs Linux."""
 import argparse
 import pathlib
 import socket
@@ -30,8 +30,8 @@ def framed(message):
     return b''.join(frames_of(message, 1600))
 
 
-def request(major, file, number, body):
-    return framed(b'rDRI' + word(1, 4) + word(file, 4) + word(number, 4) + word(major, 4) + word(0, 4) + body)
+def request(major, file, number, body, device=1):
+    return framed(b'rDRI' + word(device, 4) + word(file, 4) + word(number, 4) + word(major, 4) + word(0, 4) + body)
 
 
 def create(number):
@@ -105,13 +105,14 @@ class Session:
         return self.side.peak
 
 
-def never_reads(program, _):
-    """a host that asks for 1 MB each time and never reads"""
-    session = Session(program, 'client', DEVICES)
-    link, begun = session.link, b''.join(map(framed, opening(HOST)))
-    link.sendall(begun + create(0))
-    count = stuffs(link, b''.join(request(READ, 1, number, word(1 << 20, 4) + word(0, 8) + bytes(20)) for number in range(1, 100001)), 20)
-    return '%d bytes taken, ' % count, session.ends(65536, (0, 4, 5))
+def never_reads(device):
+    """a host that asks a device for 1 MB each time and never reads"""
+    def plays(program, _):
+        session = Session(program, 'client', DEVICES)
+        session.link.sendall(b''.join(map(framed, opening(HOST))) + create(0))
+        count = stuffs(session.link, b''.join(request(READ, 1, number, word(1 << 20, 4) + word(0, 8) + bytes(20), device) for number in range(1, 100001)), 20)
+        return '%d bytes taken, ' % count, session.ends(65536, (0, 4, 5))
+    return plays
 
 
 def never_speaks(end, script):
@@ -166,14 +167,16 @@ def host_writes(program, _):
     return '%d files open, ' % len(answered), session.ends(131072, (0, 5))
 
 
+# A device that is announced, and then removed.
+CHANGE = framed(b'rDAD' + word(1, 4) + word(8, 4) + word(7, 4) + b'SEVEN\0\0\0' + word(0, 4)) + framed(b'rDMD' + word(1, 4) + word(7, 4))
+
+
 def comes_and_goes(program, changes):
     """a client that announces a device and removes it"""
     session = Session(program, 'host', 'devices 200\n1 open h 1 \\a\n')
     talk = session.says(b''.join(map(framed, opening(CLIENT))))
-    announce = framed(b'rDAD' + word(1, 4) + word(8, 4) + word(7, 4) + b'SEVEN\0\0\0' + word(0, 4))
-    both = announce + framed(b'rDMD' + word(1, 4) + word(7, 4))
     for _ in range(changes // 100):
-        talk.say(both * 100, 1 << 30)
+        talk.say(CHANGE * 100, 1 << 30)
         talk.read(0)
         talk.heard.clear()
         if talk.is_over:
@@ -181,14 +184,24 @@ def comes_and_goes(program, changes):
     return '%d times, ' % changes, session.ends(16384, (0, 5))
 
 
+def says_only(program, _):
+    """a client that announces a device and removes it, and never reads the replies"""
+    session = Session(program, 'host', 'devices 200\n1 open h 1 \\a\n')
+    session.link.sendall(b''.join(map(framed, opening(CLIENT))))
+    count = stuffs(session.link, CHANGE * 1000, 20)
+    return '%d bytes taken, ' % count, session.ends(16384, (0, 4, 5))
+
+
 PLAYS = {
-    'a host that asks and never reads': never_reads,
+    'a host that asks and never reads': never_reads(1),
+    'a host that asks a device that is not there, and never reads': never_reads(9),
     'a host that says nothing': never_speaks('client', DEVICES),
     'a host that opens 4,097 files': opens_many,
     'a host whose 65 locks wait': waits_many,
     'a client that never reads': host_writes,
     'a client that says nothing': never_speaks('host', '1 open h 1 \\a\n'),
     'a client whose device comes and goes': comes_and_goes,
+    'a client that announces and never reads': says_only,
 }
 
 

@@ -60,8 +60,11 @@ class Side:
         pathlib.Path(name).write_bytes(script.encode('latin-1'))
         self.printed = pathlib.Path(name + '.out')
         with open(name, 'rb') as source, open(self.printed, 'wb') as sink, open(name + '.err', 'wb') as notes:
-            self.process = subprocess.Popen([program, word, path], stdin=source, stdout=sink, stderr=notes, cwd=folder)
+            self.process = self.starts([program, word, path], stdin=source, stdout=sink, stderr=notes, cwd=folder)
         self.notes, self.peak, self.seconds = pathlib.Path(name + '.err'), 0, 0
+
+    def starts(self, words, **how):
+        return subprocess.Popen(words, **how)
 
     def has_ended(self):
         """Whether it has ended. Notes its peak of memory in kilobytes, as the system has it by now, and at the end the processor's time."""
@@ -74,8 +77,14 @@ class Side:
         return self.process.returncode is not None
 
     def listens(self):
-        """Waits until a host listens. It gives the socket's file to its owner alone once it does."""
-        self.waits(lambda: os.path.exists(self.path) and os.stat(self.path).st_mode & 0o777 == 0o600 or self.has_ended(), 'does not listen')
+        """Waits until a host listens, or has ended. It gives the socket's file to its owner alone once it listens."""
+        self.waits(lambda: self.is_open() or self.has_ended(), 'does not listen')
+
+    def is_open(self):
+        try:
+            return os.stat(self.path).st_mode & 0o777 == 0o600
+        except FileNotFoundError:
+            return False
 
     def ends(self):
         """Waits until it ends: the status, and the lines that it printed."""

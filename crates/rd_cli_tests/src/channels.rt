@@ -1,8 +1,10 @@
 //! The commands `client` and `host` over channels in memory: their statuses, what they print, and what their notes say.
-use crate::outside::{Outside, Remains, calls, sink, source, strings};
-use rd_base::Bytes;
-use rd_link::MemLinker;
-use std::alloc::{AllocError, Global};
+use crate::frames::{
+    ANNOUNCE, CLIENT_SETS, COMPLETION, CONFIRM, CREATE, CUT_HEAD, CUT_READ, HOST_SETS, LIST,
+    LOGGED_ON, LONG_LIST, NAME,
+};
+use crate::outside::{Kind, Outside, Remains, strings};
+use std::alloc::AllocError;
 use std::process::Abort;
 use std::sync::Wait;
 use std::test::Fail;
@@ -25,77 +27,123 @@ const OPEN: &[u8] = b"1 open h 1 \\a.txt\n";
 const REFUSED: &[u8] = b"1.1 refused nochannel\n";
 
 /// What a client sends: its opening, a list of one drive, and a completion of no request.
-const STRAY: &[u8] = b"\x14\0\0\0\x0c\0\0\0\x03\0\0\0rDCC\x01\0\x0c\0\x01\0\0\0\
-\x20\0\0\0\x18\0\0\0\x03\0\0\0rDNC\x01\0\0\0\0\0\0\0\x08\0\0\0R\0D\0R\0\0\0\
-L\0\0\0D\0\0\0\x03\0\0\0rDPC\x03\0\0\0\x01\0,\0\x02\0\0\0\x02\0\0\0\0\0\0\0\x01\0\x0c\0\xff\xff\0\0\0\0\0\0\x05\0\0\0\x01\0\0\0\
-\0\0\0\0\0\0\0\0\x02\0\x08\0\x01\0\0\0\x04\0\x08\0\x02\0\0\0\
-$\0\0\0\x1c\0\0\0\x03\0\0\0rDAD\x01\0\0\0\x08\0\0\0\x01\0\0\0DATA\0\0\0\0\0\0\0\0\
-\x1d\0\0\0\x15\0\0\0\x03\0\0\0rDCI\x01\0\0\0\x05\0\0\0\0\0\0\0\0\0\0\0\0";
+const STRAY: &[&[u8]] = &[CONFIRM, NAME, CLIENT_SETS, LIST, COMPLETION];
 
-/// What a command is run on, and its status and output. The numbers are those of calls that fail.
+/// What a command is run on, its status, and what it prints. A channel is a list of frames. The calls with these numbers fail, of which there is none with 0.
 #[derive(Clone, Copy)]
 struct Row {
     word: &'static str,
     script: &'static [u8],
-    channels: &'static [&'static [u8]],
-    reads: &'static [u64],
-    writes: &'static [u64],
-    connects: &'static [u64],
+    channels: &'static [&'static [&'static [u8]]],
+    input: u64,
+    output: u64,
+    connect: u64,
     status: u8,
-    output: &'static [u8],
+    printed: &'static [u8],
 }
 
 /// A client's script whose channels come to their end.
 const OVER: Row = Row {
     word: "client",
     script: DRIVE,
-    channels: &[b""],
-    reads: &[],
-    writes: &[],
-    connects: &[],
+    channels: &[&[]],
+    input: 0,
+    output: 0,
+    connect: 0,
     status: 0,
-    output: RAN,
+    printed: RAN,
 };
 
 /// A host's script, whose device never comes.
 const PLAYED: Row = Row {
     word: "host",
     script: OPEN,
-    output: REFUSED,
+    printed: REFUSED,
     ..OVER
 };
 
-const ROWS: [Row; 11] = [
+const ROWS: [Row; 19] = [
     OVER,
     Row {
         script: TWO_CHANNELS,
-        channels: &[b"", b""],
+        channels: &[&[], &[]],
         ..OVER
     },
     // A write of the output fails.
     Row {
-        writes: &[1],
+        output: 1,
         status: 3,
-        output: b"",
+        printed: b"",
         ..OVER
     },
     // What came on the channel is wrong, and that stays so where it can't be said.
     Row {
-        channels: &[LAST],
+        channels: &[&[LAST]],
         status: 4,
-        output: LAST_LINES,
+        printed: LAST_LINES,
         ..OVER
     },
     Row {
-        channels: &[LAST],
-        writes: &[1],
+        channels: &[&[LAST]],
+        output: 1,
         status: 4,
-        output: b"",
+        printed: b"",
+        ..OVER
+    },
+    // A request before the host announced itself, and an announce after another.
+    Row {
+        channels: &[&[CREATE]],
+        status: 4,
+        printed: b"device 1 ran 0\nchannel 1 at 0 Order in 0\n",
+        ..OVER
+    },
+    Row {
+        channels: &[&[ANNOUNCE, ANNOUNCE]],
+        status: 4,
+        printed: b"device 1 ran 0\nchannel 1 at 0 Order in 1\n",
+        ..OVER
+    },
+    // An announce whose frame is cut: the channel ends there, and nothing is wrong.
+    Row {
+        channels: &[&[b"\x14\0\0\0\x0c\0\0\0\x03\0\0\0rDnI\x01\0\x0c\0\x01\0\0"]],
+        ..OVER
+    },
+    // One of another component, of a packet that there isn't, and of another version.
+    Row {
+        channels: &[&[b"\x14\0\0\0\x0c\0\0\0\x03\0\0\0sDnI\x01\0\x0c\0\x01\0\0\0"]],
+        status: 4,
+        printed: b"device 1 ran 0\nchannel 1 at 0 Component in 0\n",
+        ..OVER
+    },
+    Row {
+        channels: &[&[b"\x14\0\0\0\x0c\0\0\0\x03\0\0\0rD\0\0\x01\0\x0c\0\x01\0\0\0"]],
+        status: 4,
+        printed: b"device 1 ran 0\nchannel 1 at 2 Packet in 0\n",
+        ..OVER
+    },
+    Row {
+        channels: &[&[b"\x14\0\0\0\x0c\0\0\0\x03\0\0\0rDnI\x02\0\x0c\0\x01\0\0\0"]],
+        status: 4,
+        printed: b"device 1 ran 0\nchannel 1 at 4 Value in 0\n",
+        ..OVER
+    },
+    // A request whose head is cut.
+    Row {
+        channels: &[&[ANNOUNCE, HOST_SETS, CONFIRM, LOGGED_ON, CUT_HEAD]],
+        status: 4,
+        printed: b"device 1 ran 0\nchannel 1 at 20 Short in 4\n",
+        ..OVER
+    },
+    // Frames without a byte, behind one that has some.
+    Row {
+        channels: &[&[ANNOUNCE, b"\x08\0\0\0\x08\0\0\0"]],
+        status: 4,
+        printed: b"device 1 ran 0\nchannel 1 at 24 Empty\n",
         ..OVER
     },
     // A channel can't be had: the first, and the second. Then a write fails too.
     Row {
-        connects: &[1],
+        connect: 1,
         status: 5,
         ..OVER
     },
@@ -105,42 +153,42 @@ const ROWS: [Row; 11] = [
         ..OVER
     },
     Row {
-        connects: &[1],
-        writes: &[1],
+        connect: 1,
+        output: 1,
         status: 3,
-        output: b"",
+        printed: b"",
         ..OVER
     },
     // A line of a session that has both sides.
     Row {
         script: b"drive 1 DATA\ndrop\n",
         status: 1,
-        output: b"line 2 words\n",
+        printed: b"line 2 words\n",
         ..OVER
     },
     // A device that wasn't declared.
     Row {
         script: b"at 1 0 remove 1\n",
         status: 1,
-        output: b"line 1 device\n",
+        printed: b"line 1 device\n",
         ..OVER
     },
     // A read of the input fails.
     Row {
-        reads: &[1],
+        input: 1,
         status: 2,
-        output: b"",
+        printed: b"",
         ..OVER
     },
 ];
 
 /// The same of a host.
-const HOST_ROWS: [Row; 7] = [
+const HOST_ROWS: [Row; 10] = [
     PLAYED,
     // A second channel, which can't be had then.
     Row {
         script: b"connect\n1 open h 1 \\a.txt\n",
-        channels: &[b"", b""],
+        channels: &[&[], &[]],
         ..PLAYED
     },
     Row {
@@ -149,51 +197,51 @@ const HOST_ROWS: [Row; 7] = [
         ..PLAYED
     },
     Row {
-        writes: &[1],
+        output: 1,
         status: 3,
-        output: b"",
+        printed: b"",
         ..PLAYED
     },
     Row {
-        channels: &[LAST],
+        channels: &[&[LAST]],
         status: 4,
-        output: b"1.1 refused nochannel\nchannel 1 at 8 NoFirst\n",
+        printed: b"1.1 refused nochannel\nchannel 1 at 8 NoFirst\n",
+        ..PLAYED
+    },
+    // Capabilities before a confirm, and a confirm after another.
+    Row {
+        channels: &[&[CLIENT_SETS]],
+        status: 4,
+        printed: b"1.1 refused nochannel\nchannel 1 at 0 Order in 0\n",
+        ..PLAYED
+    },
+    Row {
+        channels: &[&[CONFIRM, CONFIRM]],
+        status: 4,
+        printed: b"1.1 refused nochannel\nchannel 1 at 0 Order in 1\n",
+        ..PLAYED
+    },
+    // A list of more devices than there may be.
+    Row {
+        channels: &[&[CONFIRM, NAME, CLIENT_SETS, LONG_LIST]],
+        status: 4,
+        printed: b"1.1 refused nochannel\nchannel 1 at 4 Count in 3\n",
         ..PLAYED
     },
     // A device that is declared.
     Row {
         script: DRIVE,
         status: 1,
-        output: b"line 1 words\n",
+        printed: b"line 1 words\n",
         ..PLAYED
     },
     Row {
-        reads: &[1],
+        input: 1,
         status: 2,
-        output: b"",
+        printed: b"",
         ..PLAYED
     },
 ];
-
-/// A linker of a row's channels.
-fn linker_of(alloc: Global, row: &Row) -> Result<MemLinker, AllocError> {
-    let mut channels = Vec::new(alloc);
-    for bytes in row.channels {
-        channels.push(Bytes::of(bytes.to_vec(alloc)?))?;
-    }
-    MemLinker::new(alloc, channels, calls(alloc, row.connects)?)
-}
-
-/// What a row's command is run on.
-fn outside_of(alloc: Global, row: &Row) -> Result<Outside, AllocError> {
-    Ok(Outside {
-        input: source(alloc, row.script, row.reads)?,
-        output: sink(alloc, row.writes)?,
-        recording: sink(alloc, &[])?,
-        notes: sink(alloc, &[])?,
-        linker: linker_of(alloc, row)?,
-    })
-}
 
 /// What a command leaves of a row.
 fn left_by(
@@ -202,7 +250,12 @@ fn left_by(
 ) -> Result<Remains, AllocError> {
     let alloc = rt.alloc();
     let words = strings(alloc, &[row.word, "rdr.sock"])?;
-    let outside = outside_of(alloc, row)?;
+    let fails = [
+        (Kind::Input, row.input),
+        (Kind::Output, row.output),
+        (Kind::Connect, row.connect),
+    ];
+    let outside = Outside::new(alloc, row.script, row.channels, &fails)?;
     Ok(outside.run(rt, alloc, words.as_slice()))
 }
 
@@ -212,7 +265,7 @@ fn ends_as_its_channels_do(rt: HostRuntime) -> Result<(), Fail> {
         let left = left_by(&rt, row)?;
         assert_eq!(rt;
             (left.status, left.output.bytes(), left.recording.bytes()),
-            (row.status, row.output, b"".as_slice())
+            (row.status, row.printed, b"".as_slice())
         );
     }
     Ok(())
@@ -224,9 +277,23 @@ fn ends_a_host_as_its_channels_do(rt: HostRuntime) -> Result<(), Fail> {
         let left = left_by(&rt, row)?;
         assert_eq!(rt;
             (left.status, left.output.bytes(), left.recording.bytes()),
-            (row.status, row.output, b"".as_slice())
+            (row.status, row.printed, b"".as_slice())
         );
     }
+    Ok(())
+}
+
+/// A request whose body is cut is refused by its device, and nothing is wrong. The channel may end before the device has run it.
+#[test]
+fn goes_on_after_a_cut_request(rt: HostRuntime) -> Result<(), Fail> {
+    let row = Row {
+        channels: &[&[ANNOUNCE, HOST_SETS, CONFIRM, LOGGED_ON, CUT_READ]],
+        ..OVER
+    };
+    let left = left_by(&rt, &row)?;
+    let output = std::str::from_utf8(left.output.bytes())?;
+    let is_told = output == "device 1 ran 1\n" || output == "device 1 ran 0\n";
+    assert!(rt; left.status == 0 && is_told, "{output}");
     Ok(())
 }
 
@@ -252,7 +319,7 @@ fn names_what_a_client_sent(rt: HostRuntime) -> Result<(), Fail> {
 #[test]
 fn tells_people_of_a_channel(rt: HostRuntime) -> Result<(), Fail> {
     let row = Row {
-        channels: &[LAST],
+        channels: &[&[LAST]],
         ..OVER
     };
     let left = left_by(&rt, &row)?;

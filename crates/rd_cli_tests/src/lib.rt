@@ -4,6 +4,10 @@
 #[cfg(test)]
 mod channels;
 #[cfg(test)]
+mod failing;
+#[cfg(test)]
+mod frames;
+#[cfg(test)]
 mod outside;
 #[cfg(test)]
 mod programs;

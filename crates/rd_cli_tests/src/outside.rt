@@ -6,6 +6,60 @@ use std::alloc::{AllocError, Global};
 use std::sync::Wait;
 use std::thread::Threads;
 
+/// What can fail: a read of the input, a write to the output or to the recording, or on a channel its beginning, a read or a write.
+#[derive(Clone, Copy, Debug)]
+pub(crate) enum Kind {
+    Input,
+    Output,
+    Recording,
+    Connect,
+    Read,
+    Write,
+}
+
+/// A call that fails: which one of its kind, counted from 1.
+pub(crate) type Failing = (Kind, u64);
+
+/// What is read on a channel: frames, one after the other.
+pub(crate) type Frames = &'static [&'static [u8]];
+
+/// The numbers of the calls that fail, of each kind.
+#[derive(Drop)]
+struct Numbers {
+    input: Vec<u64>,
+    output: Vec<u64>,
+    recording: Vec<u64>,
+    connect: Vec<u64>,
+    read: Vec<u64>,
+    write: Vec<u64>,
+}
+
+impl Numbers {
+    /// No call fails.
+    fn new(alloc: Global) -> Self {
+        Numbers {
+            input: Vec::new(alloc),
+            output: Vec::new(alloc),
+            recording: Vec::new(alloc),
+            connect: Vec::new(alloc),
+            read: Vec::new(alloc),
+            write: Vec::new(alloc),
+        }
+    }
+
+    /// Those of a kind.
+    fn of(&mut self, kind: Kind) -> &mut Vec<u64> {
+        match kind {
+            Kind::Input => &mut self.input,
+            Kind::Output => &mut self.output,
+            Kind::Recording => &mut self.recording,
+            Kind::Connect => &mut self.connect,
+            Kind::Read => &mut self.read,
+            Kind::Write => &mut self.write,
+        }
+    }
+}
+
 /// The input, the output, the recording, the notes and the channels of a command.
 #[derive(Drop)]
 pub(crate) struct Outside {
@@ -27,6 +81,31 @@ pub(crate) struct Remains {
 }
 
 impl Outside {
+    /// An input, and channels on which this is read, where these calls fail.
+    pub(crate) fn new(
+        alloc: Global,
+        input: &[u8],
+        channels: &[Frames],
+        fails: &[Failing],
+    ) -> Result<Self, AllocError> {
+        let numbers = numbers_of(alloc, fails)?;
+        let linker = MemLinker::with_fails(
+            alloc,
+            channels_of(alloc, channels)?,
+            Calls::of(numbers.connect),
+            Calls::of(numbers.read),
+            Calls::of(numbers.write),
+        )?;
+        let input = Bytes::of(input.to_vec(alloc)?);
+        Ok(Outside {
+            input: MemSource::new(input, Calls::of(numbers.input)),
+            output: MemSink::new(alloc, Calls::of(numbers.output)),
+            recording: MemSink::new(alloc, Calls::of(numbers.recording)),
+            notes: sink(alloc),
+            linker,
+        })
+    }
+
     /// Runs a command on it.
     pub(crate) fn run(
         self,
@@ -73,18 +152,36 @@ pub(crate) fn strings(alloc: Global, words: &[&str]) -> Result<Vec<String>, Allo
         .try_collect(alloc)
 }
 
-/// The calls with these numbers.
-pub(crate) fn calls(alloc: Global, numbers: &[u64]) -> Result<Calls, AllocError> {
-    Ok(Calls::of(numbers.to_vec(alloc)?))
+/// The numbers of the calls that fail.
+fn numbers_of(alloc: Global, fails: &[Failing]) -> Result<Numbers, AllocError> {
+    let mut numbers = Numbers::new(alloc);
+    for fails in fails {
+        numbers.of(fails.0).push(fails.1)?;
+    }
+    Ok(numbers)
 }
 
-/// A source of these bytes whose reads with these numbers fail.
-pub(crate) fn source(alloc: Global, bytes: &[u8], fails: &[u64]) -> Result<MemSource, AllocError> {
+/// The bytes of each channel.
+fn channels_of(alloc: Global, channels: &[Frames]) -> Result<Vec<Bytes>, AllocError> {
+    let mut all = Vec::new(alloc);
+    for frames in channels {
+        all.push(Bytes::of(frames.concat(alloc)?))?;
+    }
+    Ok(all)
+}
+
+/// The calls that fail: none.
+fn never(alloc: Global) -> Calls {
+    Calls::of(Vec::new(alloc))
+}
+
+/// A source of these bytes.
+pub(crate) fn source(alloc: Global, bytes: &[u8]) -> Result<MemSource, AllocError> {
     let bytes = Bytes::of(bytes.to_vec(alloc)?);
-    Ok(MemSource::new(bytes, calls(alloc, fails)?))
+    Ok(MemSource::new(bytes, never(alloc)))
 }
 
-/// An empty sink whose writes with these numbers fail.
-pub(crate) fn sink(alloc: Global, fails: &[u64]) -> Result<MemSink, AllocError> {
-    Ok(MemSink::new(alloc, calls(alloc, fails)?))
+/// An empty sink.
+pub(crate) fn sink(alloc: Global) -> MemSink {
+    MemSink::new(alloc, never(alloc))
 }

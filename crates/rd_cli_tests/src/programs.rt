@@ -36,7 +36,7 @@ fn ended<K: Sink>(
 ) -> Result<ExitCode, AllocError> {
     let alloc = rt.alloc();
     let words = strings(alloc, &[word])?;
-    let mut input = source(alloc, input, &[])?;
+    let mut input = source(alloc, input)?;
     let mut linker = MemLinker::new(alloc, Vec::new(alloc), never(alloc))?;
     let mut recording = FileSink::new(rt, path);
     let mut notes = MemSink::new(alloc, never(alloc));
@@ -61,7 +61,7 @@ fn printed(
     word: &str,
     input: &[u8],
 ) -> Result<(ExitCode, MemSink), AllocError> {
-    let mut output = sink(rt.alloc(), &[])?;
+    let mut output = sink(rt.alloc());
     let code = ended(rt, path, word, input, &mut output)?;
     Ok((code, output))
 }
@@ -136,10 +136,10 @@ fn ends_with_3_on_a_full_disk(rt: HostRuntime) -> Result<(), Fail> {
 #[test]
 fn ends_with_6_without_memory_for_its_words(rt: HostRuntime) -> Result<(), Fail> {
     let alloc = rt.alloc();
-    let mut input = source(alloc, b"", &[])?;
-    let mut output = sink(alloc, &[])?;
-    let mut recording = sink(alloc, &[])?;
-    let mut notes = sink(alloc, &[])?;
+    let mut input = source(alloc, b"")?;
+    let mut output = sink(alloc);
+    let mut recording = sink(alloc);
+    let mut notes = sink(alloc);
     let mut linker = MemLinker::new(alloc, Vec::new(alloc), never(alloc))?;
     let code = program_on(
         &rt,

@@ -1,7 +1,6 @@
 //! What ends a command, and what it leaves: the report, the recording, the journal and the notes.
-use crate::outside::{Outside, Remains, sink, source, strings};
-use rd_base::{Books, Calls, Cause, Item, Key};
-use rd_link::MemLinker;
+use crate::outside::{Failing, Kind, Outside, Remains, strings};
+use rd_base::{Books, Cause, Item, Key};
 use std::alloc::{AllocError, Global};
 use std::process::Abort;
 use std::sync::Wait;
@@ -65,33 +64,18 @@ const RECORDING: &str = "5244525245433031\
 00000000";
 
 /// No call on the outside fails.
-const NEVER: [&[u64]; 3] = [&[], &[], &[]];
-
-/// What a command over a script is run on, with no channel. The reads, the writes to the output and those to the recording with these numbers fail.
-fn outside_of(
-    alloc: Global,
-    script: &[u8],
-    [reads, outputs, recordings]: [&[u64]; 3],
-) -> Result<Outside, AllocError> {
-    Ok(Outside {
-        input: source(alloc, script, reads)?,
-        output: sink(alloc, outputs)?,
-        recording: sink(alloc, recordings)?,
-        notes: sink(alloc, &[])?,
-        linker: MemLinker::new(alloc, Vec::new(alloc), Calls::of(Vec::new(alloc)))?,
-    })
-}
+const NEVER: &[Failing] = &[];
 
 /// What a command leaves of a script.
 fn command(
     rt: &(impl Threads + Wait + Sync + AllocGlobal),
     words: &[&str],
     script: &[u8],
-    fails: [&[u64]; 3],
+    fails: &[Failing],
 ) -> Result<Remains, AllocError> {
     let alloc = rt.alloc();
     let words = strings(alloc, words)?;
-    let outside = outside_of(alloc, script, fails)?;
+    let outside = Outside::new(alloc, script, &[], fails)?;
     Ok(outside.run(rt, alloc, words.as_slice()))
 }
 
@@ -108,7 +92,7 @@ fn ends(
     rt: &(impl Abort + Threads + Wait + Sync + AllocGlobal),
     words: &[&str],
     script: &[u8],
-    fails: [&[u64]; 3],
+    fails: &[Failing],
     wanted: (u8, &[u8], &[u8]),
 ) -> Result<(), Fail> {
     let left = command(rt, words, script, fails)?;
@@ -154,14 +138,14 @@ fn ends_where_the_outside_fails(rt: HostRuntime) -> Result<(), Fail> {
     let recording = hex::decode(rt.alloc(), RECORDING)?;
     // What fails, the status, and how many bytes are recorded by then.
     for (fails, status, recorded) in [
-        ([[1].as_slice(), &[], &[]], 2, 0),
-        ([&[2], &[], &[]], 2, 0),
-        ([&[], &[1], &[]], 3, 692),
-        ([&[], &[], &[1]], 3, 0),
+        ((Kind::Input, 1), 2, 0),
+        ((Kind::Input, 2), 2, 0),
+        ((Kind::Output, 1), 3, 692),
+        ((Kind::Recording, 1), 3, 0),
     ] {
         let prefix = recording.get(..recorded).unwrap_or_default();
         let wanted = (status, b"".as_slice(), prefix);
-        ends(&rt, &["both"], SCRIPT, fails, wanted)?;
+        ends(&rt, &["both"], SCRIPT, &[fails], wanted)?;
     }
     Ok(())
 }
@@ -225,10 +209,10 @@ fn plays_a_load(rt: HostRuntime) -> Result<(), Fail> {
     let left = comes_to(&rt, &words, b"nothing is read", (0, LOAD))?;
     assert_eq!(rt; left.recording.bytes().len(), 68_855);
     // What is recorded goes out in pieces: where the first can't be written, the second isn't.
-    let first = [[1].as_slice(), &[], &[1]];
+    let first = &[(Kind::Input, 1), (Kind::Recording, 1)];
     ends(&rt, &words, b"", first, (3, b"", b""))?;
     // Where the second can't be, the first has been.
-    let second = [[1].as_slice(), &[], &[2]];
+    let second = &[(Kind::Input, 1), (Kind::Recording, 2)];
     let cut = command(&rt, &words, b"", second)?;
     let written = cut.recording.bytes().len();
     assert_eq!(rt; (cut.status, cut.output.bytes()), (3, b"".as_slice()));
@@ -241,7 +225,7 @@ fn plays_a_load(rt: HostRuntime) -> Result<(), Fail> {
 #[test]
 fn reads_no_more_than_the_input(rt: HostRuntime) -> Result<(), Fail> {
     let recording = hex::decode(rt.alloc(), RECORDING)?;
-    let third = [[3].as_slice(), &[], &[]];
+    let third = &[(Kind::Input, 3)];
     let played = (0, REPORT, recording.as_slice());
     ends(&rt, &["both"], SCRIPT, third, played)?;
     let printed = (0, ANNOUNCE_LINE, b"".as_slice());
@@ -261,7 +245,7 @@ fn long_recording(alloc: Global, messages: usize) -> Result<Vec<u8>, AllocError>
 #[test]
 fn writes_lines_in_pieces(rt: HostRuntime) -> Result<(), Fail> {
     let recording = long_recording(rt.alloc(), 8000)?;
-    let second = [[].as_slice(), &[2], &[]];
+    let second = &[(Kind::Output, 2)];
     let left = command(&rt, &["decode"], recording.as_slice(), second)?;
     assert_eq!(rt; left.status, 3);
     let written = left.output.bytes().len();
@@ -361,7 +345,7 @@ fn knows_each_command_by_its_words(rt: HostRuntime) -> Result<(), Fail> {
         refuses(&rt, words, SCRIPT, b"bad words\n")?;
     }
     // The line can't be written, and the status stays. Nothing is read.
-    let unsaid = [[1].as_slice(), &[1], &[]];
+    let unsaid = &[(Kind::Input, 1), (Kind::Output, 1)];
     ends(&rt, &["help"], SCRIPT, unsaid, (1, b"", b""))
 }
 
@@ -381,12 +365,12 @@ fn decodes_a_recording(rt: HostRuntime) -> Result<(), Fail> {
         (ANNOUNCE, NEVER, 0, ANNOUNCE_LINE),
         (CUT, NEVER, 4, CUT_LINE),
         (b"", NEVER, 4, b"fault at 0 Value\n"),
-        (ANNOUNCE, [[1].as_slice(), &[], &[]], 2, b""),
-        (ANNOUNCE, [&[], &[1], &[]], 3, b""),
+        (ANNOUNCE, &[(Kind::Input, 1)], 2, b""),
+        (ANNOUNCE, &[(Kind::Output, 1)], 3, b""),
         // The line can't be written, and the status stays.
-        (CUT, [&[], &[1], &[]], 4, b""),
+        (CUT, &[(Kind::Output, 1)], 4, b""),
         // Nothing is recorded, so no failure of the recording is met.
-        (ANNOUNCE, [&[], &[], &[1]], 0, ANNOUNCE_LINE),
+        (ANNOUNCE, &[(Kind::Recording, 1)], 0, ANNOUNCE_LINE),
     ] {
         let wanted = (status, output, b"".as_slice());
         ends(&rt, &["decode"], recording, fails, wanted)?;
