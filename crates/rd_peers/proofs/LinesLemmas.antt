@@ -1,17 +1,21 @@
 -- Each line of an application has what came of its own request, where each outcome that was handed out is its own request's.
-use Rattle.std.proofs.Common.{◌≡◌, ◌∙◌, inl, inr, refl, sym, ap, subst, ℕ, suc, ◌+◌, ◌≤◌, ◌<◌, ◌≢◌, List, [], ◌∷◌, ◌++◌, append-nil, append_assoc, length, length-append, length-take-le, take, Contains, arith, Some, None, Option, Result, Ok, Err}
+use Rattle.std.proofs.Common.{◌≡◌, ◌∙◌, inl, inr, refl, sym, ap, subst, ℕ, suc, ◌+◌, ◌==◌, ◌≤◌, ◌<◌, ◌≢◌, Bool, true, false, List, [], ◌∷◌, ◌++◌, append-nil, append_assoc, length, length-append, length-take-le, take, Contains, arith, Some, None, Option, Result, Ok, Err, eqb-true, is_ok, is_some}
 use Rattle.std.specs.Prelude.{slice_get}
+use Rattle.std.specs.Option.{unwrap_or}
 use Rattle.std.specs.List.{AllByRecursion}
 use Rattle.std.proofs.lemmas.List.Elements.{Contains-append_right}
 use Rattle.std.proofs.lemmas.Option.{slice_get_within}
 use mathlib.Core.Logic.{dite}
 use native.Mathlib.Decide.{dec_le}
+use Rattle.rd_irp.specs.declared.op.Op.{Op}
 use Rattle.rd_pending.specs.declared.calls.SubmitNo.{SubmitNo}
 use Rattle.rd_pending.specs.declared.calls.Taken.{Taken}
 use Rattle.rd_pending.specs.declared.calls.Target.{Target}
+use Rattle.rd_pending.specs.declared.calls.Target.TheVariants as target
 use Rattle.rd_pending.specs.History.{Call, accepted_in, accepted_of, after}
 use Rattle.rd_pending.specs.Outcomes.{Accepted}
-use Rattle.rd_pending.specs.Table.{TableState, new_table}
+use Rattle.rd_pending.specs.Table.{TableState, device_in, life_of, new_table, submit, submit_refusal}
+use Rattle.rd_pending.proofs.Effects.{Submits, submits}
 use Rattle.rd_pending.proofs.AcceptedLemmas.{accepted_since, split_at, split_of}
 use Rattle.rd_script.specs.declared.outcome.Outcome.{Outcome}
 use Rattle.rd_table.specs.declared.calls.PendingCall.TheVariants as ask
@@ -19,8 +23,9 @@ use Rattle.rd_table.specs.declared.calls.PendingReply.TheVariants as answer
 use Rattle.rd_table.specs.Calls.{PendingStep}
 use Rattle.rd_table.specs.Histories.{Accepts, handed_in, table_history}
 use Rattle.rd_table.proofs.AcceptsLemmas.{accepted_by_one, accepts_numbered}
-use Rattle.rd_table.proofs.StepLemmas.{handed_more, history_grows, history_more}
+use Rattle.rd_table.proofs.StepLemmas.{handed_more, history_grows, history_more, led_goes}
 use Rattle.rd_turn.specs.History.{Leads, entry}
+use Rattle.rd_turn.proofs.HistoryLemmas.{Leads-parted}
 use Rattle.rd_world.specs.Events.{target_of}
 use Rattle.rd_world.specs.HostDeeds.{calls_of}
 use Rattle.rd_world.specs.Recording.{client_id}
@@ -30,7 +35,7 @@ use Rattle.rd_world.specs.World.{ApplicationState, Asked}
 use Rattle.rd_host_lines.specs.Outcomes.{AnswerCame, AsksNothing, IsNoRequestOf, LineCame, LinesCame}
 use Rattle.rd_host_turns.specs.Turns.{TableEntry}
 use Rattle.rd_host_turns.proofs.CountLemmas.{all_both}
-use Rattle.rd_peers.specs.Lines.{AreOthers, LineIsOwn, LinesAreOwn}
+use Rattle.rd_peers.specs.Lines.{AreOthers, IsOfLife, LineIsOwn, LinesAreOwn}
 use Rattle.rd_peers.specs.Peers.{IsOwnOutcome}
 
 -- how many requests were accepted by these entries
@@ -59,6 +64,29 @@ accepted_more before by a number named x =
 accepted_none : (before : List TableEntry) (by a : ℕ) (cause : SubmitNo) (named : Target) (x : Asked)
     → accepted_by (before ++ entry by (ask.Submit a named x.op) (answer.Submitted (Err cause)) ∷ []) ≡ accepted_by before
 accepted_none before by a cause named x = ap (λ (k : List Call). length (accepted_in k)) (history_more before (entry by (ask.Submit a named x.op) (answer.Submitted (Err cause)) ∷ []))
+
+-- ---- the life of a request
+
+is_free : (old next : TableState) (a number : ℕ) (named : Target) (o : Op) → submit old a named o ≡ (next, Ok number) → submit_refusal old named ≡ None
+is_free old next a number named o is = go (submit_refusal old named) refl
+  where
+    go : (r : Option SubmitNo) → submit_refusal old named ≡ r → submit_refusal old named ≡ None
+    go None e = e
+    go (Some cause) e =
+        let refuses : submit old a named o ≡ (old, Err cause) = rw e refl in
+        absurd (cc (ap (λ (p : TableState × Result ℕ SubmitNo). is_ok p.1) (sym is ∙ refuses)))
+
+-- A request that is accepted by a handle is of the handle's life.
+life_kept : (s : TableState) (a : ℕ) (named : Target) (o : Op) → submit_refusal s named ≡ None → IsOfLife named (unwrap_or (life_of s (device_in named)) 0)
+life_kept s a (target.Device device) o free = tt
+life_kept s a (target.Handle h) o free = go (h.life == (its.life)) refl
+  where
+    its : Submits s a (target.Handle h) o
+    its = submits s a (target.Handle h) o free
+
+    go : (b : Bool) → (h.life == (its.life)) ≡ b → unwrap_or (life_of s h.device) 0 ≡ h.life
+    go true e = ap (λ (l : Option ℕ). unwrap_or l 0) its.present ∙ sym (eqb-true h.life its.life e)
+    go false e = let some : is_some (submit_refusal s (target.Handle h)) ≡ true = rw (its.is_open, its.present, e) refl in absurd (cc (ap is_some free, some))
 
 -- ---- where an entry stands
 
@@ -172,6 +200,12 @@ module _ (replies : Replies) (deeds : List Deed) (a : ℕ) (seen : List TableEnt
         let request : Accepted = accepted_of (after (table_history before)) a named x.op in
         let one : Accepts seen number request = record { before = before; later = others; by = by; application = a; named = named; op = x.op; place = place; request = refl } in
         let numbered = (accepts_numbered seen t number request leads one).2 in
+        let parted = Leads-parted PendingStep new_table before (e ∷ others) t (subst (λ (es : List TableEntry). Leads PendingStep new_table es t) place leads) in
+        let step = parted.2.1.0 in
+        let there_is : after (table_history before) ≡ parted.0 = (led_goes before parted.0 parted.1).is in
+        let life : IsOfLife named request.life =
+        subst (λ (s : TableState). IsOfLife named (unwrap_or (life_of s (device_in named)) 0)) (sym there_is)
+        (life_kept parted.0 a named x.op (is_free parted.0 parted.2.0 a number named x.op step.1)) in
         let left : List TableEntry = (before ++ e ∷ []) ++ between in
         let there : seen ≡ left ++ gives ∷ rest =
         place ∙ ap (λ (l : List TableEntry). before ++ e ∷ l) splits ∙ sym (append_assoc before (e ∷ []) (between ++ gives ∷ rest)) ∙ sym (append_assoc (before ++ e ∷ []) between (gives ∷ rest)) in
@@ -201,6 +235,7 @@ module _ (replies : Replies) (deeds : List Deed) (a : ℕ) (seen : List TableEnt
             application = ap (λ (r : Accepted). r.application) its;
             device = ap (λ (r : Accepted). r.device) its;
             file = ap (λ (r : Accepted). r.file) its;
+            life = subst (λ (r : Accepted). IsOfLife named r.life) (sym its) life;
             op = ap (λ (r : Accepted). r.op) its;
             is = is;
           },

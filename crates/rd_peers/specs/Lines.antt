@@ -4,6 +4,7 @@ use Rattle.rd_pending.specs.declared.calls.SubmitNo.{SubmitNo}
 use Rattle.rd_pending.specs.declared.calls.SubmitNo.TheVariants as submit_no
 use Rattle.rd_pending.specs.declared.calls.Taken.{Taken}
 use Rattle.rd_pending.specs.declared.calls.Target.{Target}
+use Rattle.rd_pending.specs.declared.calls.Target.TheVariants as target
 use Rattle.rd_pending.specs.History.{accepted_in}
 use Rattle.rd_pending.specs.Outcomes.{Accepted}
 use Rattle.rd_pending.specs.Table.{device_in, file_in}
@@ -24,13 +25,18 @@ use Rattle.rd_peers.specs.Peers.{IsOwnOutcome}
 abbrev pub AreOthers : ℕ → List Accepted → ℕ → ℕ → Type 0
 AreOthers a requests first end = (place : ℕ) (r : Accepted) → slice_get requests place ≡ Some r → first ≤ suc place → suc place < end → r.application ≢ a
 
+-- a request to what was named is of this life: of that in which the handle was given, if it was a handle
+abbrev pub IsOfLife : Target → ℕ → Type 0
+IsOfLife (target.Device device) life = Unit {0}
+IsOfLife (target.Handle handle) life = life ≡ handle.life
+
 -- Of all that an application is told: what the host and the client did, and the one history of the host's table.
 module _ (client : ℕ) (replies : Replies) (deeds : List Deed) (seen : List TableEntry) (a : ℕ) where
   -- all requests that the host accepted
   abbrev requests : List Accepted
   requests = accepted_in (calls_of client deeds)
 
-  -- The request of a line was accepted: it is the next one of the application behind this number, of the device and the file that the line named, with its operation. What was handed out for its number is its own
+  -- The request of a line was accepted: it is the next one of the application behind this number, of the device and the file that the line named, in the life in which that was given, and with its operation. What was handed out for its number is its own
   -- outcome, and it is the line's.
   pub record HasRequest (above : ℕ) (x : Asked) (o : Outcome) (named : Target) : Type 0 where
     pub number : ℕ
@@ -42,6 +48,7 @@ module _ (client : ℕ) (replies : Replies) (deeds : List Deed) (seen : List Tab
     pub application : (own.request).application ≡ a
     pub device : (own.request).device ≡ device_in named
     pub file : (own.request).file ≡ file_in named
+    pub life : IsOfLife named (own.request).life
     pub op : (own.request).op ≡ x.op
     pub is : o ≡ reported_outcome taken.outcome
 
