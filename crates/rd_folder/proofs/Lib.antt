@@ -1,0 +1,9 @@
+pub mod AtLemmas
+pub mod EditLemmas
+pub mod ExactLemmas
+pub mod HasLemmas
+pub mod MapLemmas
+pub mod OthersLemmas
+pub mod PutLemmas
+pub mod RelocateLemmas
+pub mod RenameLemmas

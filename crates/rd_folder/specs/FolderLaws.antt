@@ -1,0 +1,25 @@
+-- What a call on a folder does: to the nodes that the folder tells, and to its count of faults.
+use Rattle.std.specs.Prelude.{◌≡◌, ⊤, ℕ, List, Option, Some, None, Result, Ok, Err}
+use Rattle.rd_base.specs.Faults.{one_more}
+use Rattle.rd_drive.specs.DriveState.{Node}
+use Rattle.rd_folder.specs.declared.folder.FolderNo.{FolderNo}
+use Rattle.rd_folder.specs.declared.folder.FolderNo.TheVariants as no
+
+-- A call on a folder that tells its nodes makes of them, and answers, what the definition says. It answers `Missing` only where there is no such
+-- change or answer, and where it is refused nothing changes. Of a folder that tells nothing this says nothing.
+abbrev pub DoesCall : {X : Type 0} → (old new : Option (List Node)) → (List Node → Option (X × List Node)) → Result X FolderNo → Type 0
+DoesCall None new comes result = ⊤
+DoesCall (Some nodes) new comes (Ok answer) = (after : List Node) × (comes nodes ≡ Some (answer, after)) × (new ≡ Some after)
+DoesCall (Some nodes) new comes (Err no.Missing) = (comes nodes ≡ None) × (new ≡ Some nodes)
+DoesCall (Some nodes) new comes (Err why) = new ≡ Some nodes
+
+-- A refusal counts one fault, but for want of memory, and for `Missing` where the nodes are told.
+abbrev pub CountsNo : Option (List Node) → FolderNo → ℕ → ℕ → Type 0
+CountsNo told no.Memory old new = new ≡ old
+CountsNo (Some nodes) no.Missing old new = new ≡ old
+CountsNo told why old new = new ≡ one_more old
+
+-- A call that is done counts none.
+abbrev pub CountsRefusal : {X : Type 0} → Option (List Node) → Result X FolderNo → ℕ → ℕ → Type 0
+CountsRefusal told (Ok answer) old new = new ≡ old
+CountsRefusal told (Err why) old new = CountsNo told why old new

@@ -1,0 +1,110 @@
+//! A folder, and all that is below it, by paths.
+
+ghost use Rattle.std.specs.Prelude.{◌≡◌, ◌<◌, ◌≤◌, ◌^◌, ℕ, List, Option, length, true, Err, IfOk, IfSome};
+ghost use Rattle.std.specs.Option.{option_map};
+ghost use Rattle.rd_dirinfo.specs.Paths.{is_name};
+ghost use Rattle.rd_drive.specs.DriveState.{Node};
+ghost use Rattle.rd_folder.specs.FolderCalls.{folder_look, folder_make, folder_mark, folder_next, folder_read, folder_remove, folder_rename, folder_replace, folder_resize, folder_write};
+ghost use Rattle.rd_folder.specs.FolderLaws.{CountsRefusal, DoesCall};
+ghost use Rattle.rd_folder.specs.declared.folder.FolderNo.TheVariants as FolderNo;
+
+use crate::look::Look;
+use rd_base::{Bytes, Moments, Units};
+use rd_dirinfo::{Path, Pattern};
+use thiserror::Error;
+
+/// Why a folder doesn't do what it is called for. Nothing has changed.
+#[derive(Clone, Copy, Debug, PartialEq, Eq, Error)]
+pub enum FolderNo {
+    /// The system failed.
+    #[error("the folder failed")]
+    Failed,
+    /// There is no room left.
+    #[error("the folder is full")]
+    Full,
+    /// The system doesn't allow it.
+    #[error("the folder refused")]
+    Denied,
+    /// There is no such change or answer: nothing is at the path, or something is, or it is of the wrong kind or isn't empty.
+    #[error("there is no such node")]
+    Missing,
+    #[error("out of memory")]
+    Memory,
+}
+
+/// A folder, and all that is below it, by paths; its own path is the root's. Names are told apart by their units.
+///
+/// It counts its faults: each refusal but want of memory, and but `Missing` where it tells its nodes.
+pub trait Folder {
+    /// The nodes, where it can tell.
+    ghost nodes: { Self → Option (List Node) };
+
+    /// How many faults it had. The count stands still at 2^64 - 1.
+    ghost faults: { Self → ℕ };
+
+    /// What stands at a path, if anything does.
+    fn look(&mut self, path: &Path) -> Result<Option<Look>, FolderNo>
+        ensures does { DoesCall (nodes self.old) (nodes self.new) (folder_look path.now) result }
+        ensures counted { CountsRefusal (nodes self.old) result (faults self.old) (faults self.new) }
+        ensures bound { IfOk result (λ found. IfSome found (λ look. look.end < 2 ^ 63)) };
+
+    /// The first name in the folder at a path that matches a pattern and comes after another name, if one is given. Without one a listing
+    /// begins.
+    fn next(
+        &mut self,
+        path: &Path,
+        after: Option<&Units>,
+        pattern: &Pattern,
+    ) -> Result<Option<Units>, FolderNo>
+        ensures does { DoesCall (nodes self.old) (nodes self.new) (folder_next path.now (option_map (λ other. other.now) after.entry) pattern.now) result }
+        ensures counted { CountsRefusal (nodes self.old) result (faults self.old) (faults self.new) }
+        ensures name { IfOk result (λ found. IfSome found (λ name. is_name name ≡ true)) };
+
+    /// The bytes of a file from an offset up to its end, at most `count`.
+    fn read(&mut self, path: &Path, offset: u64, count: u32) -> Result<Bytes, FolderNo>
+        ensures does { DoesCall (nodes self.old) (nodes self.new) (folder_read path.now offset count) result }
+        ensures counted { CountsRefusal (nodes self.old) result (faults self.old) (faults self.new) }
+        ensures bound { IfOk result (λ bytes. length bytes ≤ count) };
+
+    /// Makes a folder or an empty file where nothing stands.
+    fn make(
+        &mut self,
+        path: &Path,
+        folder: bool,
+        attributes: u32,
+        moment: u64,
+    ) -> Result<(), FolderNo>
+        ensures does { DoesCall (nodes self.old) (nodes self.new) (folder_make path.now folder attributes moment) result }
+        ensures counted { CountsRefusal (nodes self.old) result (faults self.old) (faults self.new) };
+
+    /// Empties a file, which gets these attributes.
+    fn replace(&mut self, path: &Path, attributes: u32, moment: u64) -> Result<(), FolderNo>
+        ensures does { DoesCall (nodes self.old) (nodes self.new) (folder_replace path.now attributes moment) result }
+        ensures counted { CountsRefusal (nodes self.old) result (faults self.old) (faults self.new) };
+
+    /// Writes bytes into a file at an offset. A gap before them reads as zeros.
+    fn write(&mut self, path: &Path, offset: u64, bytes: &[u8], moment: u64) -> Result<(), FolderNo>
+        ensures does { DoesCall (nodes self.old) (nodes self.new) (folder_write path.now offset bytes.now moment) result }
+        ensures counted { CountsRefusal (nodes self.old) result (faults self.old) (faults self.new) };
+
+    /// Cuts a file at an end, or extends it by zeros.
+    fn resize(&mut self, path: &Path, end: u64, moment: u64) -> Result<(), FolderNo>
+        ensures does { DoesCall (nodes self.old) (nodes self.new) (folder_resize path.now end moment) result }
+        ensures counted { CountsRefusal (nodes self.old) result (faults self.old) (faults self.new) };
+
+    /// Sets the attributes and moments of a file or folder.
+    fn mark(&mut self, path: &Path, attributes: u32, moments: Moments) -> Result<(), FolderNo>
+        ensures does { DoesCall (nodes self.old) (nodes self.new) (folder_mark path.now attributes moments) result }
+        ensures counted { CountsRefusal (nodes self.old) result (faults self.old) (faults self.new) };
+
+    /// Moves a file, or a folder with all that is below it. A file that stands at the other path goes.
+    fn rename(&mut self, from: &Path, to: &Path, moment: u64) -> Result<(), FolderNo>
+        ensures does { DoesCall (nodes self.old) (nodes self.new) (folder_rename from.now to.now moment) result }
+        ensures counted { CountsRefusal (nodes self.old) result (faults self.old) (faults self.new) };
+
+    /// Takes out a file, or a folder in which nothing stands. It takes no memory.
+    fn remove(&mut self, path: &Path) -> Result<(), FolderNo>
+        ensures does { DoesCall (nodes self.old) (nodes self.new) (folder_remove path.now) result }
+        ensures counted { CountsRefusal (nodes self.old) result (faults self.old) (faults self.new) }
+        ensures memory { result ≡ Err FolderNo.Memory → ⊥ };
+}
