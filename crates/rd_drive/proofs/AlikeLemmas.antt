@@ -1,5 +1,5 @@
 -- A drive that is the same, but that what is kept may lie elsewhere: it is as sound, and the same to callers.
-use Rattle.std.proofs.Common.{◌≡◌, ◌∙◌, refl, sym, ap, subst, ℕ, ◌≤◌, false, List, [], ◌∷◌, map, length, Option, Some, inr, Err}
+use Rattle.std.proofs.Common.{◌≡◌, ◌∙◌, refl, sym, ap, subst, ℕ, ◌≤◌, true, false, List, [], ◌∷◌, map, length, Option, Some, inr, Err}
 use Rattle.std.specs.Prelude.{nat_eq}
 use Rattle.std.specs.List.{AllByRecursion}
 use Rattle.std.specs.Option.{option_map, unwrap_or, is_some, IsSome}
@@ -39,6 +39,7 @@ module _ (s : Store) (sound : IsSound s) (t : Store) (alike : IsAlike s t) where
   same_drive = λ i. record {
     naming = s.naming;
     label = s.label;
+    limited = true;
     nodes = nodes_alike s.tree sound.whole s.states t.states alike.states i;
     handles = map (seen_entry s.tree) (alike.entries i);
     locks = (drive_of s).locks;

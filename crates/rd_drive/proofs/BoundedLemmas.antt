@@ -55,13 +55,13 @@ module _ (news : News) where
 
       ranges_keep : (v : Waiting) (exclusive : Bool) (ranges : List Range) (b : Bool) → Keeps old (cond b (ends_with old (with_locks old.state (asked_locks v.file exclusive ranges)) v (done Locked)) (waits_on old v))
       ranges_keep v exclusive ranges true = (
-        same_fits old.state (with_locks old.state (asked_locks v.file exclusive ranges)) refl refl,
+        same_fits old.state (with_locks old.state (asked_locks v.file exclusive ranges)) refl refl refl,
         ends_range old (with_locks old.state (asked_locks v.file exclusive ranges)) v (done Locked) (lit< tt, tt),
       )
-      ranges_keep v exclusive ranges false = (same_fits old.state (waits_on old v).state refl refl, λ all. all)
+      ranges_keep v exclusive ranges false = (same_fits old.state (waits_on old v).state refl refl refl, λ all. all)
 
       change_keeps : (v : Waiting) (found : Option Change) → Keeps old (option_map_or (λ (change : Change). ends_with old old.state v (done (Buffer (change_bytes path change)))) found (waits_on old v))
-      change_keeps v None = (same_fits old.state (waits_on old v).state refl refl, λ all. all)
+      change_keeps v None = (same_fits old.state (waits_on old v).state refl refl refl, λ all. all)
       change_keeps v (Some change) = ((λ fitting. fitting), ends_range old old.state v (done (Buffer (change_bytes path change))) (lit< tt, tt))
 
       open_keeps : (v : Waiting) (wish : Wish) → Keeps old (settles_open news old v path wish)
@@ -77,7 +77,7 @@ module _ (news : News) where
   all_keep (w ∷ ws) old = let first = keeps old w in let others = all_keep ws (settles news old w) in ((λ fitting. others.0 (first.0 fitting)), λ all. others.1 (first.1 all))
 
   pub settled_keeps : (s : DriveState) → (IsFitting s → IsFitting (settled s news).state) × AreEndsInRange (settled s news).ends
-  settled_keeps s = let all = all_keep s.waiting (record { state = record s { waiting = [] }; ends = [] }) in ((λ fitting. all.0 (same_fits s _ refl refl fitting)), all.1 tt)
+  settled_keeps s = let all = all_keep s.waiting (record { state = record s { waiting = [] }; ends = [] }) in ((λ fitting. all.0 (same_fits s _ refl refl refl fitting)), all.1 tt)
 
 -- ---- a request
 
@@ -164,7 +164,7 @@ closed_fits [] s fitting = fitting
 closed_fits (file ∷ files) s fitting = closed_fits files (with_closed s file) ((outcome_stays s (record { channel = 0; index = 0 }) file op.Close 0).fits fitting).0
 
 pub cut_fits : (s : DriveState) → IsFitting s → IsFitting (drive_cut s).state
-cut_fits s fitting = closed_fits (keys_of s.handles) (record s { waiting = [] }) (record { label = fitting.label; paths = fitting.paths })
+cut_fits s fitting = closed_fits (keys_of s.handles) (record s { waiting = [] }) (record { limited = fitting.limited; label = fitting.label; paths = fitting.paths })
 
 none_waits : (s : DriveState) → (drive_cut s).state.waiting ≡ []
 none_waits s = all_closed (keys_of s.handles) (record s { waiting = [] })

@@ -166,6 +166,7 @@ module _ (s : Store) (sound : IsSound s) (file : ℕ) (h : kept.Handle) (is : ke
       left_drive = λ i. record {
         naming = s.naming;
         label = s.label;
+        limited = true;
         nodes = nodes_left i;
         handles = handles_left i;
         locks = locks_left i;
@@ -236,6 +237,7 @@ module _ (s : Store) (sound : IsSound s) (file : ℕ) (h : kept.Handle) (is : ke
       gone_drive = λ i. record {
         naming = s.naming;
         label = s.label;
+        limited = true;
         nodes = nodes_gone i;
         handles = (seen_apart s.tree fewer_nodes n own_other handles.entries (ap (list_any (λ (e : ℕ × kept.Handle). e.1.node.0 == n)) left ∙ alone) ∙ handles_left) i;
         locks = locks_left i;

@@ -1,5 +1,5 @@
 -- What a store keeps is within the limits: the paths of a drive's nodes, and those that the news tells.
-use Rattle.std.proofs.Common.{◌≡◌, ◌∙◌, sym, ap, ℕ, Bool, true, false, cond, List, [], ◌∷◌, map, Option, Some, None}
+use Rattle.std.proofs.Common.{◌≡◌, ◌∙◌, refl, sym, ap, ℕ, Bool, true, false, cond, List, [], ◌∷◌, map, Option, Some, None}
 use Rattle.std.specs.List.{AllByRecursion}
 use Rattle.std.specs.Option.{is_some, IfSome}
 use Rattle.std.specs.Ordering.{is_lt}
@@ -39,6 +39,7 @@ module _ (s : Store) (closed : Option ℕ) (sound : IsSoundBut closed s) where
 
   pub drive_fits : IsFitting (drive_of s)
   drive_fits = record {
+    limited = refl;
     label = sound.label;
     paths = order_all s.tree.naming (λ (node : Node). is_within_limits node.path ≡ true) (map (node_of s.states) s.tree.list) (places_fit s.tree.list (all_listed s.tree sound.whole));
   }

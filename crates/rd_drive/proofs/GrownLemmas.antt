@@ -217,6 +217,7 @@ module _ (s : Store) (sound : IsSound s) (all : AreKept (kept_handle s) s.handle
   grown_drive = λ i. record {
     naming = s.naming;
     label = s.label;
+    limited = true;
     nodes = nodes i;
     handles = seen_apart s.tree (with_place s.tree n p) n (grown_own s.tree sound.whole n fresh p) s.handles.entries nowhere i;
     locks = (drive_of s).locks;

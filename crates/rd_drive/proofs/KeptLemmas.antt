@@ -127,6 +127,7 @@ module _ (closed : Option ℕ) (s : Store) (sound : IsSoundBut closed s) (n : �
   drive_changed = λ i. record {
     naming = s.naming;
     label = s.label;
+    limited = true;
     nodes = nodes i;
     handles = handles i;
     locks = (drive_of s).locks;

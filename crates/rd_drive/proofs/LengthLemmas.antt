@@ -20,7 +20,7 @@ use Rattle.rd_fileinfo.specs.FileInfo.{file_info_bytes}
 use Rattle.rd_fileinfo.specs.VolumeInfo.{volume_info_bytes}
 use Rattle.rd_drive.specs.DriveState.{DriveState, Node}
 use Rattle.rd_drive.specs.Outcome.{Change}
-use Rattle.rd_drive.specs.Query.{node_info, node_infos, drive_info, drive_infos}
+use Rattle.rd_drive.specs.Query.{node_info, node_infos, drive_info, volume_infos}
 use Rattle.rd_drive.specs.Waiting.{change_bytes}
 use Rattle.rd_drive.specs.Answered.{IsFitting}
 use Rattle.rd_drive.proofs.AnswerLemmas.{lookup_has}
@@ -46,7 +46,7 @@ label_length label few = let twice = length-units label in omega (arith, twice, 
 pub volume_info_length : (s : DriveState) → IsFitting s → (class : ℕ) (info : VolumeInfo) → drive_info s class ≡ Some info → length (volume_info_bytes info) ≤ max_buffer
 unfolding bytes8 bytes32 bytes64
 volume_info_length s fitting class info e =
-    lookup_has (λ (x : VolumeInfo). length (volume_info_bytes x) ≤ max_buffer) (◌==◌ class) (drive_infos s) info e (of_label, (leb-true _ max_buffer refl, (leb-true _ max_buffer refl, (leb-true _ max_buffer refl, (leb-true _ max_buffer refl, tt)))))
+    lookup_has (λ (x : VolumeInfo). length (volume_info_bytes x) ≤ max_buffer) (◌==◌ class) (volume_infos s.label s.naming) info e (of_label, (leb-true _ max_buffer refl, (leb-true _ max_buffer refl, (leb-true _ max_buffer refl, (leb-true _ max_buffer refl, tt)))))
   where
     of_label : length (bytes64 0 ++ bytes32 0x5244_5231 ++ bytes32 (2 * length s.label) ++ bytes8 0 ++ text_bytes s.label) ≤ max_buffer
     of_label =

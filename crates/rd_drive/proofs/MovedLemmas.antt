@@ -192,6 +192,7 @@ module _ (s : Store) (sound : IsSound s) (n : ℕ) (to : Names) (after : IsWhole
   moved_drive order = λ i. record {
     naming = s.naming;
     label = s.label;
+    limited = true;
     nodes = nodes i;
     handles = handles s.handles.entries (all_kept s order) i;
     locks = (drive_of s).locks;

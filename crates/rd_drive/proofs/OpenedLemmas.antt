@@ -148,6 +148,7 @@ module _ (s : Store) (sound : IsSound s) where
     opened_drive = λ i. record {
       naming = s.naming;
       label = s.label;
+      limited = true;
       nodes = in_order s.tree.naming (map (λ (e : ℕ × Place). same e i) s.tree.list);
       handles = (ap (map (seen_entry s.tree)) entries ∙ sym (inserted_seen s.tree s.next h s.handles.entries)) i;
       locks = (drive_of s).locks;

@@ -1,5 +1,5 @@
 -- What every operation keeps of a drive: it stays fitting, the numbers of its answer are in range, and where its request waits there was room for it.
-use Rattle.std.proofs.Common.{◌≡◌, ◌∙◌, refl, sym, ap, subst, ℕ, ◌≤◌, ◌<◌, ◌^◌, ◌==◌, ◌&&◌, Bool, true, false, cond, not, List, [], ◌∷◌, ◌++◌, take, drop, length, filter, map, Option, Some, None, lit<}
+use Rattle.std.proofs.Common.{◌≡◌, ◌∙◌, refl, sym, ap, subst, ℕ, ◌≤◌, ◌<◌, ◌^◌, ◌==◌, ◌&&◌, ◌||◌, Bool, true, false, cond, not, List, [], ◌∷◌, ◌++◌, take, drop, length, filter, map, Option, Some, None, lit<}
 use Rattle.std.specs.Prelude.{nat_le}
 use Rattle.std.specs.List.{AllByRecursion, list_any}
 use Rattle.std.specs.Option.{option_map_or}
@@ -29,7 +29,7 @@ use Rattle.rd_drive.specs.Close.{close, without_file}
 use Rattle.rd_drive.specs.ReadWrite.{read, write}
 use Rattle.rd_drive.specs.SetFile.{checks_by_class, set_checks, set_end, set_file, set_info_of, set_outcome}
 use Rattle.rd_drive.specs.SetVolume.{label_of, set_volume}
-use Rattle.rd_drive.specs.Rename.{relocate, rename_to, renamed, target_removed, with_moved, without_target}
+use Rattle.rd_drive.specs.Rename.{goes_too_deep, handles_go_too_deep, nodes_go_too_deep, relocate, rename_to, renamed, target_removed, with_moved, without_target}
 use Rattle.rd_drive.specs.Locking.{conflicts, exclusive_lock, is_waiting_full, lock, locks_on, asked_locks, waits, without_locks}
 use Rattle.rd_drive.specs.Notify.{notify}
 use Rattle.rd_drive.specs.Query.{drive_info, node_info, query_file, query_volume}
@@ -165,12 +165,12 @@ pub record Stays (s : DriveState) (o : Op) (outcome : Outcome) : Type 0 where
   pub quiet : outcome.answer ≡ step.Parked → (outcome.news ≡ no_news) × (length s.waiting < 64)
 
 -- with the same label and the same nodes
-pub same_fits : (s new : DriveState) → new.label ≡ s.label → new.nodes ≡ s.nodes → IsFitting s → IsFitting new
-same_fits s new label nodes fitting = record { label = subst (λ (l : List ℕ). length l ≤ 32) (sym label) fitting.label; paths = subst AllFit (sym nodes) fitting.paths }
+pub same_fits : (s new : DriveState) → new.limited ≡ s.limited → new.label ≡ s.label → new.nodes ≡ s.nodes → IsFitting s → IsFitting new
+same_fits s new limited label nodes fitting = record { limited = limited ∙ fitting.limited; label = subst (λ (l : List ℕ). length l ≤ 32) (sym label) fitting.label; paths = subst AllFit (sym nodes) fitting.paths }
 
 module _ (s : DriveState) (o : Op) where
-  nodes_fit : (new : DriveState) → new.label ≡ s.label → (AllFit s.nodes → AllFit new.nodes) → IsFitting s → IsFitting new
-  nodes_fit new label nodes fitting = record { label = subst (λ (l : List ℕ). length l ≤ 32) (sym label) fitting.label; paths = nodes fitting.paths }
+  nodes_fit : (new : DriveState) → new.limited ≡ s.limited → new.label ≡ s.label → (AllFit s.nodes → AllFit new.nodes) → IsFitting s → IsFitting new
+  nodes_fit new limited label nodes fitting = record { limited = limited ∙ fitting.limited; label = subst (λ (l : List ℕ). length l ≤ 32) (sym label) fitting.label; paths = nodes fitting.paths }
 
   stays_answered : (reply : Reply) → IsReplyInRange reply → Stays s o (outcome_with_reply s reply)
   stays_answered reply range = record { fits = λ fitting. (fitting, tt); ranged = λ few. range; quiet = λ e. absurd cc }
@@ -180,12 +180,12 @@ module _ (s : DriveState) (o : Op) where
   stays_done new b news range fits = record { fits = fits; ranged = λ few. (lit< tt, range few); quiet = λ e. absurd cc }
 
   -- nothing changes but what the drive's nodes and label aren't
-  stays_told : (new : DriveState) (b : Body) (news : News) → (SetsFew o → IsBodyInRange b) → new.label ≡ s.label → new.nodes ≡ s.nodes → news.changes ≡ [] → Stays s o (succeeded new b news)
-  stays_told new b news range label nodes none =
-      stays_done new b news range (λ fitting. (same_fits s new label nodes fitting, subst (AllByRecursion (λ (change : Change). is_within_limits change.path ≡ true)) (sym none) tt))
+  stays_told : (new : DriveState) (b : Body) (news : News) → (SetsFew o → IsBodyInRange b) → new.limited ≡ s.limited → new.label ≡ s.label → new.nodes ≡ s.nodes → news.changes ≡ [] → Stays s o (succeeded new b news)
+  stays_told new b news range limited label nodes none =
+      stays_done new b news range (λ fitting. (same_fits s new limited label nodes fitting, subst (AllByRecursion (λ (change : Change). is_within_limits change.path ≡ true)) (sym none) tt))
 
   stays_waiting : (key : Key) (file : ℕ) (wish : Wish) → length s.waiting < 64 → Stays s o (waits s key file wish)
-  stays_waiting key file wish room = record { fits = λ fitting. (same_fits s _ refl refl fitting, tt); ranged = λ few. tt; quiet = λ e. (refl, room) }
+  stays_waiting key file wish room = record { fits = λ fitting. (same_fits s _ refl refl refl fitting, tt); ranged = λ few. tt; quiet = λ e. (refl, room) }
 
   after : (checks : List (Bool × Reply)) → AllByRecursion (λ (check : Bool × Reply). IsReplyInRange check.1) checks → (outcome : Outcome)
       → (AllByRecursion (λ (check : Bool × Reply). check.0 ≡ false) checks → Stays s o outcome) → Stays s o (checked s checks outcome)
@@ -235,19 +235,19 @@ module _ (s : DriveState) (o : Op) where
           after s o _ ((lit< tt, tt), ((lit< tt, tt), ((lit< tt, tt), ((lit< tt, tt), ((lit< tt, tt), ((lit< tt, tt), ((lit< tt, tt), tt))))))) _ (λ passed.
           either s o (replaces asked) _ _
           (λ t. stays_done s o _ _ _ (λ few. (room, information)) (λ fitting.
-          let own = found_fits s names node there fitting.paths in (nodes_fit s o _ refl (put_fits s _ own) fitting, (own, tt))))
-          (λ t. stays_done s o _ _ _ (λ few. (room, information)) (λ fitting. (same_fits s _ refl refl fitting, tt))))
+          let own = found_fits s names node there fitting.paths in (nodes_fit s o _ refl refl (put_fits s _ own) fitting, (own, tt))))
+          (λ t. stays_done s o _ _ _ (λ few. (room, information)) (λ fitting. (same_fits s _ refl refl refl fitting, tt))))
       each names within room None there =
           after s o _ ((lit< tt, tt), ((lit< tt, tt), ((lit< tt, tt), tt))) _ (λ passed.
-          stays_done s o _ _ _ (λ few. (room, lit< tt)) (λ fitting. (nodes_fit s o _ refl (all_add s.naming Fits _ s.nodes (asked_within s names within)) fitting, (asked_within s names within, tt))))
+          stays_done s o _ _ _ (λ few. (room, lit< tt)) (λ fitting. (nodes_fit s o _ refl refl (all_add s.naming Fits _ s.nodes (asked_within s names within)) fitting, (asked_within s names within, tt))))
 
   -- ---- Close
   close_stays : (file : ℕ) (handle : Handle) (node : Node) → node_of_path s handle.path ≡ Some node → Stays s o (close s file handle node)
   close_stays file handle node there =
       either s o _ _ _ (λ t. either s o _ _ _
-      (λ u. stays_done s o _ _ _ (λ few. tt) (λ fitting. (nodes_fit s o _ refl (put_fits (without_file s file) _ (found_fits s handle.path node there fitting.paths)) fitting, tt)))
-      (λ u. stays_done s o _ _ _ (λ few. tt) (λ fitting. (nodes_fit s o _ refl (all_kept Fits _ s.nodes) fitting, (found_fits s handle.path node there fitting.paths, tt)))))
-      (λ t. stays_done s o _ _ _ (λ few. tt) (λ fitting. (nodes_fit s o _ refl (put_fits (without_file s file) _ (found_fits s handle.path node there fitting.paths)) fitting, tt)))
+      (λ u. stays_done s o _ _ _ (λ few. tt) (λ fitting. (nodes_fit s o _ refl refl (put_fits (without_file s file) _ (found_fits s handle.path node there fitting.paths)) fitting, tt)))
+      (λ u. stays_done s o _ _ _ (λ few. tt) (λ fitting. (nodes_fit s o _ refl refl (all_kept Fits _ s.nodes) fitting, (found_fits s handle.path node there fitting.paths, tt)))))
+      (λ t. stays_done s o _ _ _ (λ few. tt) (λ fitting. (nodes_fit s o _ refl refl (put_fits (without_file s file) _ (found_fits s handle.path node there fitting.paths)) fitting, tt)))
 
   abbrev AreInRange : List (Bool × Reply) → Type 0
   AreInRange checks = AllByRecursion (λ (check : Bool × Reply). IsReplyInRange check.1) checks
@@ -258,12 +258,12 @@ module _ (s : DriveState) (o : Op) where
     write_stays bytes same moment file offset handle node there =
         after s o _ ((lit< tt, tt), ((lit< tt, tt), ((lit< tt, lit< tt), ((lit< tt, tt), ((lit< tt, tt), tt))))) _ (λ passed.
         stays_done s o _ _ _ (λ few. subst (λ (n : ℕ). n < 2 ^ 32) (sym same) (low few)) (λ fitting.
-        let own = found_fits s handle.path node there fitting.paths in (nodes_fit s o _ refl (put_fits s _ own) fitting, (own, tt))))
+        let own = found_fits s handle.path node there fitting.paths in (nodes_fit s o _ refl refl (put_fits s _ own) fitting, (own, tt))))
 
     set_end_stays : (moment : ℕ) (node : Node) → (AllFit s.nodes → Fits node) → (asked end : ℕ) → Stays s o (set_end s moment count node asked end)
     set_end_stays moment node own asked end =
         after s o _ ((lit< tt, tt), tt) _ (λ passed.
-        stays_done s o _ _ _ low (λ fitting. (nodes_fit s o _ refl (put_fits s _ (own fitting.paths)) fitting, (own fitting.paths, tt))))
+        stays_done s o _ _ _ low (λ fitting. (nodes_fit s o _ refl refl (put_fits s _ (own fitting.paths)) fitting, (own fitting.paths, tt))))
 
     left_fits : (target : Option Node) (from to : Names) → AllFit s.nodes → AllByRecursion (Carried s.naming from to) s.nodes → AllFit (without_target s target).nodes × AllByRecursion (Carried s.naming from to) (without_target s target).nodes
     left_fits None from to all carried = (all, carried)
@@ -273,6 +273,10 @@ module _ (s : DriveState) (o : Op) where
     target_fits None path there all = tt
     target_fits (Some target) path there all = (found_fits s path target there all, tt)
 
+    limited_left : (target : Option Node) → (without_target s target).limited ≡ s.limited
+    limited_left None = refl
+    limited_left (Some target) = refl
+
     label_left : (target : Option Node) → (without_target s target).label ≡ s.label
     label_left None = refl
     label_left (Some target) = refl
@@ -281,11 +285,16 @@ module _ (s : DriveState) (o : Op) where
     naming_left None = refl
     naming_left (Some target) = refl
 
+    -- where the nodes are limited, a path that goes not too deep is tested of each node that moves
+    limited_deep : IsFitting s → (from path : Names) → goes_too_deep s from path ≡ false → nodes_go_too_deep s from path ≡ false
+    limited_deep fitting from path none =
+        sym (ap (λ (b : Bool). cond b (nodes_go_too_deep s from path) (not (is_within_limits path) || handles_go_too_deep s from path)) fitting.limited) ∙ none
+
     relocate_stays : (moment : ℕ) (node : Node) → (AllFit s.nodes → Fits node) → (replace : Bool) (path : Names) → Within path → (length path == 0) ≡ false → (target : Option Node) → node_of_path s path ≡ target
         → Stays s o (relocate s moment count node replace path (made_path s path) target)
     relocate_stays moment node own replace path within some target there =
         after s o _ ((lit< tt, tt), ((lit< tt, tt), ((lit< tt, tt), ((lit< tt, tt), ((lit< tt, tt), tt))))) _ (λ passed.
-        stays_done s o _ _ _ low (λ fitting. go fitting (left_fits target node.path to fitting.paths (carried_alike s.naming node.path path to (asked_alike s path some_names) s.nodes (shallow s.naming node.path path s.nodes passed.1.1.0)))))
+        stays_done s o _ _ _ low (λ fitting. go fitting (left_fits target node.path to fitting.paths (carried_alike s.naming node.path path to (asked_alike s path some_names) s.nodes (shallow s.naming node.path path s.nodes (limited_deep fitting node.path path passed.1.1.0))))))
       where
         to : Names
         to = made_path s path
@@ -297,6 +306,7 @@ module _ (s : DriveState) (o : Op) where
             → IsFitting (renamed (without_target s target) moment node to) × AllByRecursion (λ (change : Change). is_within_limits change.path ≡ true) (target_removed target ++ renamed_from node.path node ∷ renamed_to to node ∷ [])
         go fitting both = (
           record {
+            limited = limited_left target ∙ fitting.limited;
             label = subst (λ (l : List ℕ). length l ≤ 32) (sym (label_left target)) fitting.label;
             paths = renamed_fits (without_target s target) moment node to (asked_within s path within) both.0 (subst (λ (n : Naming). AllByRecursion (Carried n node.path to) (without_target s target).nodes) (sym (naming_left target)) both.1);
           },
@@ -307,9 +317,9 @@ module _ (s : DriveState) (o : Op) where
     rename_stays moment node own replace units =
         where_given s o (parsed_path units) _ _ (lit< tt) (λ path e.
         after s o _ ((lit< tt, tt), tt) _ (λ passed.
-        either s o _ _ _ (λ same. either s o _ _ _ (λ t. stays_told s o _ _ _ low refl refl refl)
+        either s o _ _ _ (λ same. either s o _ _ _ (λ t. stays_told s o _ _ _ low refl refl refl refl)
         (λ t. stays_done s o _ _ _ low (λ fitting. (
-          nodes_fit s o _ refl (λ all. renamed_fits s moment node (made_path s path) (asked_within s path (spelled_within units path e)) all (carried_own s.naming node.path (made_path s path) (alike path passed.0 same) s.nodes all)) fitting,
+          nodes_fit s o _ refl refl (λ all. renamed_fits s moment node (made_path s path) (asked_within s path (spelled_within units path e)) all (carried_own s.naming node.path (made_path s path) (alike path passed.0 same) s.nodes all)) fitting,
           (own fitting.paths, (asked_within s path (spelled_within units path e), tt)),
         ))))
         (λ t. relocate_stays moment node own replace path (spelled_within units path e) passed.0 (node_of_path s path) refl)))
@@ -319,10 +329,10 @@ module _ (s : DriveState) (o : Op) where
 
     sets_stay : (moment : ℕ) (node : Node) → (AllFit s.nodes → Fits node) → (info : SetInfo) → Stays s o (set_outcome s moment count node info)
     sets_stay moment node own (set.Basic moments attributes) =
-        stays_done s o _ _ _ low (λ fitting. (nodes_fit s o _ refl (put_fits s _ (own fitting.paths)) fitting, (own fitting.paths, tt)))
+        stays_done s o _ _ _ low (λ fitting. (nodes_fit s o _ refl refl (put_fits s _ (own fitting.paths)) fitting, (own fitting.paths, tt)))
     sets_stay moment node own (set.Rename replace units) = rename_stays moment node own replace units
     sets_stay moment node own (set.Disposition pending) =
-        after s o _ ((lit< tt, tt), ((lit< tt, tt), tt)) _ (λ passed. stays_done s o _ _ _ low (λ fitting. (nodes_fit s o _ refl (put_fits s _ (own fitting.paths)) fitting, tt)))
+        after s o _ ((lit< tt, tt), ((lit< tt, tt), tt)) _ (λ passed. stays_done s o _ _ _ low (λ fitting. (nodes_fit s o _ refl refl (put_fits s _ (own fitting.paths)) fitting, tt)))
     sets_stay moment node own (set.Allocation size) = set_end_stays moment node own size _
     sets_stay moment node own (set.EndOfFile end) = set_end_stays moment node own end end
 
@@ -339,28 +349,28 @@ module _ (s : DriveState) (o : Op) where
   set_volume_stays : (class : ℕ) (buffer : List ℕ) → (SetsFew o → length buffer < 2 ^ 32) → (handle : Handle) (node : Node) → Stays s o (set_volume s class buffer handle node)
   set_volume_stays class buffer low handle node =
       after s o _ ((lit< tt, tt), tt) _ (λ passed.
-      where_given s o (label_of buffer) _ _ (lit< tt) (λ units e. stays_done s o _ _ _ low (λ fitting. (record { label = label_few buffer units e; paths = fitting.paths }, tt))))
+      where_given s o (label_of buffer) _ _ (lit< tt) (λ units e. stays_done s o _ _ _ low (λ fitting. (record { limited = fitting.limited; label = label_few buffer units e; paths = fitting.paths }, tt))))
 
   -- ---- what reads
 
   read_stays : (offset count file : ℕ) (handle : Handle) (node : Node) → Stays s o (read s file offset count handle node)
   read_stays offset count file handle node =
-      after s o _ ((lit< tt, tt), ((lit< tt, tt), ((lit< tt, tt), ((lit< tt, tt), ((lit< tt, tt), tt))))) _ (λ passed. stays_told s o _ _ _ (λ few. tt) refl refl refl)
+      after s o _ ((lit< tt, tt), ((lit< tt, tt), ((lit< tt, tt), ((lit< tt, tt), ((lit< tt, tt), tt))))) _ (λ passed. stays_told s o _ _ _ (λ few. tt) refl refl refl refl)
 
   query_file_stays : (class : ℕ) (handle : Handle) (node : Node) → Stays s o (query_file s class handle node)
-  query_file_stays class handle node = where_given s o (node_info node class) _ _ (lit< tt) (λ info e. stays_told s o _ _ _ (λ few. tt) refl refl refl)
+  query_file_stays class handle node = where_given s o (node_info node class) _ _ (lit< tt) (λ info e. stays_told s o _ _ _ (λ few. tt) refl refl refl refl)
 
   query_volume_stays : (class : ℕ) (handle : Handle) (node : Node) → Stays s o (query_volume s class handle node)
-  query_volume_stays class handle node = where_given s o (drive_info s class) _ _ (lit< tt) (λ info e. stays_told s o _ _ _ (λ few. tt) refl refl refl)
+  query_volume_stays class handle node = where_given s o (drive_info s class) _ _ (lit< tt) (λ info e. stays_told s o _ _ _ (λ few. tt) refl refl refl refl)
 
   query_dir_stays : (class : ℕ) (initial : Bool) (units : List ℕ) (file : ℕ) (handle : Handle) (node : Node) → Stays s o (query_dir s file class initial units handle node)
   query_dir_stays class initial units file handle node =
       after s o _ ((lit< tt, tt), ((lit< tt, tt), ((lit< tt, tt), tt))) _ (λ passed. of _ _ initial (next_node s node.path _ _))
     where
       of : (pattern : List ℕ) (last : Option Name) (anew : Bool) (found : Option Node) → Stays s o (lists s file class anew handle pattern last found)
-      of pattern last true None = record { fits = λ fitting. (same_fits s _ refl refl fitting, tt); ranged = λ few. (lit< tt, tt); quiet = λ e. absurd cc }
-      of pattern last false None = record { fits = λ fitting. (same_fits s _ refl refl fitting, tt); ranged = λ few. (lit< tt, tt); quiet = λ e. absurd cc }
-      of pattern last anew (Some found) = stays_told s o _ _ _ (λ few. tt) refl refl refl
+      of pattern last true None = record { fits = λ fitting. (same_fits s _ refl refl refl fitting, tt); ranged = λ few. (lit< tt, tt); quiet = λ e. absurd cc }
+      of pattern last false None = record { fits = λ fitting. (same_fits s _ refl refl refl fitting, tt); ranged = λ few. (lit< tt, tt); quiet = λ e. absurd cc }
+      of pattern last anew (Some found) = stays_told s o _ _ _ (λ few. tt) refl refl refl refl
 
   -- ---- what waits
 
@@ -374,11 +384,11 @@ module _ (s : DriveState) (o : Op) where
   lock_stays key operation wait ranges file handle node =
       after s o _ ((lit< tt, tt), ((lit< tt, tt), ((lit< tt, tt), tt))) _ (λ passed.
       either s o _ _ _
-      (λ t. where_given s o (without_locks file s.locks ranges) _ _ (lit< tt) (λ locks e. stays_told s o _ _ _ (λ few. tt) refl refl refl))
+      (λ t. where_given s o (without_locks file s.locks ranges) _ _ (lit< tt) (λ locks e. stays_told s o _ _ _ (λ few. tt) refl refl refl refl))
       (λ t. after s o _ ((lit< tt, tt), ((lit< tt, tt), ((lit< tt, tt), tt))) _ (λ free.
       either s o (conflicts (locks_on s node.path) (asked_locks file (operation == exclusive_lock) ranges)) _ _
       (λ blocked. stays_waiting s o key file _ (room (unfull _ (is_waiting_full s) free.1.0 blocked)))
-      (λ u. stays_told s o _ _ _ (λ few. tt) refl refl refl))))
+      (λ u. stays_told s o _ _ _ (λ few. tt) refl refl refl refl))))
     where
       unfull : (a b : Bool) → (a && b) ≡ false → a ≡ true → b ≡ false
       unfull true b e h = e

@@ -30,8 +30,9 @@ parked_of w = record { key = w.key; kind = wish_kind w.wish }
 abbrev pub drive_parked : DriveState → List Parked
 drive_parked s = map parked_of s.waiting
 
--- neither the label nor a path is past its limit
+-- a drive in memory: its nodes are limited, and neither the label nor a path is past its limit
 pub record IsFitting (s : DriveState) : Type 0 where
+  pub limited : s.limited ≡ true
   pub label : length s.label ≤ 32
   pub paths : AllByRecursion (λ (node : Node). is_within_limits node.path ≡ true) s.nodes
 

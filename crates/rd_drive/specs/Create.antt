@@ -135,7 +135,7 @@ make_node s asked moment path =
     checked s
     ((asked.disposition == open_existing || asked.disposition == overwrite, fault object_name_not_found)
     ∷ (is_pending_at s (parent path), fault delete_pending)
-    ∷ (nat_le max_nodes (length s.nodes), fault disk_full)
+    ∷ (s.limited && nat_le max_nodes (length s.nodes), fault disk_full)
     ∷ [])
     (opened (with_new_node s node) asked node.path 0 (added node ∷ []))
 

@@ -1,5 +1,5 @@
 -- What a drive is: its nodes, its open handles, its locks, and the requests that wait.
-use Rattle.std.specs.Prelude.{ℕ, ◌+◌, Bool, false, not, if◌then◌else◌, List, [], ◌∷◌, ◌++◌, fold, filter, find, map, Option, Some, None, is_some}
+use Rattle.std.specs.Prelude.{ℕ, ◌+◌, Bool, true, false, not, if◌then◌else◌, List, [], ◌∷◌, ◌++◌, fold, filter, find, map, Option, Some, None, is_some}
 use Rattle.std.specs.List.{list_any}
 use Rattle.std.specs.Option.{option_map, option_map_or, unwrap_or}
 use Rattle.std.specs.Ordering.{nat_cmp, is_lt}
@@ -57,6 +57,8 @@ pub record DriveState : Type 0 where
   pub naming : Naming
   -- the volume label (MS-FSCC 2.5.9)
   pub label : List ℕ
+  -- whether its nodes are limited: there are at most `max_nodes`, and no path is past the limits. A folder's nodes are as they are.
+  pub limited : Bool
   pub nodes : List Node
   pub handles : List (ℕ × Handle)
   pub locks : List Lock
@@ -180,6 +182,7 @@ abbrev pub empty_drive : Naming → List ℕ → DriveState
 empty_drive naming label = record {
   naming = naming;
   label = label;
+  limited = true;
   nodes = new_node [] None 0 0 ∷ [];
   handles = [];
   locks = [];

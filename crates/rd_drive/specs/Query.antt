@@ -57,19 +57,23 @@ abbrev pub volume_flags : Naming → ℕ
 volume_flags Exact = 7
 volume_flags Folded = 6
 
--- what the volume tells of itself, by class
-abbrev pub drive_infos : DriveState → List (ℕ × VolumeInfo)
-drive_infos s =
-    (volume, of_volume.Volume 0 serial_number 0 s.label)
+-- what a volume with a label and a naming tells of itself, by class
+abbrev pub volume_infos : List ℕ → Naming → List (ℕ × VolumeInfo)
+volume_infos label naming =
+    (volume, of_volume.Volume 0 serial_number 0 label)
     ∷ (size, of_volume.Size volume_units volume_units 8 512)
     ∷ (device, of_volume.Device 7 0)
-    ∷ (attribute, of_volume.Attribute (volume_flags s.naming) 255 (codes "RDFS"))
+    ∷ (attribute, of_volume.Attribute (volume_flags naming) 255 (codes "RDFS"))
     ∷ (full_size, of_volume.FullSize volume_units volume_units volume_units 8 512)
     ∷ []
 
 -- what it tells in a class, if it does
+abbrev pub info_of_volume : List ℕ → Naming → ℕ → Option VolumeInfo
+info_of_volume label naming class = lookup (◌==◌ class) (volume_infos label naming)
+
+-- what a drive's volume tells in a class, if it does
 abbrev pub drive_info : DriveState → ℕ → Option VolumeInfo
-drive_info s class = lookup (◌==◌ class) (drive_infos s)
+drive_info s class = info_of_volume s.label s.naming class
 
 -- QueryVolume
 abbrev pub query_volume : DriveState → ℕ → Handle → Node → Outcome

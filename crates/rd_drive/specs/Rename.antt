@@ -1,5 +1,5 @@
 -- Renaming (MS-FSCC 2.4.37, in the form of MS-RDPEFS 2.2.3.3.9.1).
-use Rattle.std.specs.Prelude.{ℕ, ◌==◌, ◌&&◌, ◌||◌, Bool, false, not, List, [], ◌∷◌, ◌++◌, length, drop, map, bytes_eq, Option, Some, None, is_some}
+use Rattle.std.specs.Prelude.{ℕ, ◌==◌, ◌&&◌, ◌||◌, Bool, false, not, if◌then◌else◌, List, [], ◌∷◌, ◌++◌, length, drop, map, bytes_eq, Option, Some, None, is_some}
 use Rattle.std.specs.List.{list_any}
 use Rattle.std.specs.Option.{option_map_or}
 use Rattle.rd_irp.specs.declared.completion.Body.TheVariants.{Count}
@@ -24,10 +24,21 @@ abbrev pub renamed : DriveState → ℕ → Node → Names → DriveState
 renamed s moment node to =
     with_node (with_moved s node.path to) (record node { path = to; moments = record node.moments { change = moment } })
 
--- whether some moved path would be past the limits
+-- whether the path of some node that moves would be past the limits
+abbrev pub nodes_go_too_deep : DriveState → Names → Names → Bool
+nodes_go_too_deep s from path =
+    list_any (λ (node : Node). is_prefix s.naming from node.path && not (is_within_limits (path ++ drop (length from) node.path))) s.nodes
+
+-- whether the path of some open handle that moves would be
+abbrev pub handles_go_too_deep : DriveState → Names → Names → Bool
+handles_go_too_deep s from path =
+    list_any (λ (entry : ℕ × Handle). is_prefix s.naming from (entry.1).path && not (is_within_limits (path ++ drop (length from) (entry.1).path))) s.handles
+
+-- Whether a moved path would be past the limits, of those that are tested: where the nodes are limited, those of all nodes that move; in a folder
+-- the new path itself, and those of the open handles that move.
 abbrev pub goes_too_deep : DriveState → Names → Names → Bool
 goes_too_deep s from path =
-    list_any (λ (node : Node). is_prefix s.naming from node.path && not (is_within_limits (path ++ drop (length from) node.path))) s.nodes
+    if s.limited then nodes_go_too_deep s from path else not (is_within_limits path) || handles_go_too_deep s from path
 
 -- ---- what stands at the target
 

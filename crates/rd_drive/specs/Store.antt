@@ -99,6 +99,7 @@ abbrev pub drive_of : Store → DriveState
 drive_of s = record {
   naming = s.naming;
   label = s.label;
+  limited = true;
   nodes = nodes_of s.tree s.states;
   handles = handles_of s.tree s.handles;
   locks = map lock_of s.locks.locks;

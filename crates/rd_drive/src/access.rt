@@ -34,18 +34,21 @@ pub fn has_any(bits: u32, number: u32) -> bool
     number & bits != 0
 }
 
+/// Whether an access (MS-SMB2 2.2.13.1) lets read.
 pub fn reads(access: u32) -> bool
     ensures { result ≡ reads access }
 {
     has_any(READS, access)
 }
 
+/// Whether it lets write.
 pub fn writes(access: u32) -> bool
     ensures { result ≡ writes access }
 {
     has_any(WRITES, access)
 }
 
+/// Whether it lets delete.
 pub fn deletes(access: u32) -> bool
     ensures { result ≡ deletes access }
 {
@@ -65,6 +68,7 @@ pub struct Use {
     pub is_reading: bool,
     pub is_writing: bool,
     pub is_deleting: bool,
+    /// FILE_SHARE_READ, FILE_SHARE_WRITE, FILE_SHARE_DELETE (MS-SMB2 2.2.13).
     pub share: u32,
 }
 
@@ -88,18 +92,21 @@ impl Use {
         self.is_reading || self.is_writing || self.is_deleting
     }
 
+    /// Whether it lets others read.
     pub fn shares_reading(self) -> bool
         ensures { result ≡ has_any 1 self.share }
     {
         has_any(SHARE_READ, self.share)
     }
 
+    /// Whether it lets others write.
     pub fn shares_writing(self) -> bool
         ensures { result ≡ has_any 2 self.share }
     {
         has_any(SHARE_WRITE, self.share)
     }
 
+    /// Whether it lets others delete.
     pub fn shares_deleting(self) -> bool
         ensures { result ≡ has_any 4 self.share }
     {

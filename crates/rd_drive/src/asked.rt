@@ -43,26 +43,34 @@ const OVERWRITTEN: u8 = 3;
 /// What a Create asks for beside the path.
 #[derive(Clone, Copy, Debug, PartialEq, Eq, Drop)]
 pub struct Asked {
+    /// DesiredAccess (MS-SMB2 2.2.13.1).
     pub access: u32,
+    /// FileAttributes (MS-FSCC 2.6).
     pub attributes: u32,
+    /// SharedAccess (MS-SMB2 2.2.13, as the next two).
     pub share: u32,
+    /// CreateDisposition.
     pub disposition: u32,
+    /// CreateOptions.
     pub options: u32,
 }
 
 impl Asked {
+    /// FILE_DIRECTORY_FILE (MS-SMB2 2.2.13): a folder is asked for.
     pub fn wants_folder(&self) -> bool
         ensures { result ≡ wants_folder self.now }
     {
         has_any(DIRECTORY_FILE, self.options)
     }
 
+    /// FILE_NON_DIRECTORY_FILE: a file is.
     pub fn wants_file(&self) -> bool
         ensures { result ≡ wants_file self.now }
     {
         has_any(NON_DIRECTORY_FILE, self.options)
     }
 
+    /// FILE_DELETE_ON_CLOSE: the node is pending once the handle is closed.
     pub fn deletes_on_close(&self) -> bool
         ensures { result ≡ deletes_on_close self.now }
     {

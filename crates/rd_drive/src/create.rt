@@ -233,7 +233,7 @@ fn refusal(asked: &Asked, folder: bool, root: bool, state: &NodeState) -> Option
 pub const MAX_HANDLES: usize = 4096;
 
 /// What every file id is below.
-const FILE_ID_LIMIT: u64 = 1 << 32;
+pub const FILE_ID_LIMIT: u64 = 1 << 32;
 
 fn created(file: u32, information: u8, news: News) -> Done
     ensures { result ≡ Done.Replied (Body.Created file information) news }

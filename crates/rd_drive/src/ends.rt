@@ -58,6 +58,7 @@ impl Ends {
         Some(self.ends.remove(0))
     }
 
+    /// Whether there is none.
     pub fn is_empty(&self) -> bool
         ensures { IsTrue result ↔ (self.now ≡ []) }
     {

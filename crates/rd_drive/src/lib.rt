@@ -8,35 +8,37 @@
 //! waits is looked at again when a lock is given back or a folder changes, of at most 64. Nothing grows with the requests that came before.
 #![tactic(auto)]
 
-mod access;
-mod asked;
 mod close;
-mod create;
 mod cut;
 mod device;
 mod drive;
-mod ends;
 mod handle;
 mod laws;
-mod locking;
-mod news;
-mod node;
 mod opening;
-mod plan;
 mod promises;
-mod query;
-mod query_dir;
-mod read_write;
 mod rename;
 mod serve;
-mod set_file;
-mod settle;
-mod status;
-mod step;
 mod store;
-mod telling;
-mod uses;
-mod waiting;
+
+// public for the drive over a folder (`rd_folder_drive`), which calls some of their items
+pub mod access;
+pub mod asked;
+pub mod create;
+pub mod ends;
+pub mod locking;
+pub mod news;
+pub mod node;
+pub mod plan;
+pub mod query;
+pub mod query_dir;
+pub mod read_write;
+pub mod set_file;
+pub mod settle;
+pub mod status;
+pub mod step;
+pub mod telling;
+pub mod uses;
+pub mod waiting;
 
 pub use device::Device;
 pub use drive::MemoryDrive;

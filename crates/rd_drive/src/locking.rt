@@ -27,8 +27,8 @@ use rd_tree::NodeId;
 /// RDP_LOWIO_OP_SHAREDLOCK
 const SHARED_LOCK: u32 = 2;
 
-/// RDP_LOWIO_OP_EXCLUSIVELOCK
-const EXCLUSIVE_LOCK: u32 = 3;
+/// RDP_LOWIO_OP_EXCLUSIVELOCK (MS-RDPEFS 2.2.3.3.12)
+pub const EXCLUSIVE_LOCK: u32 = 3;
 
 /// RDP_LOWIO_OP_UNLOCK
 const UNLOCK: u32 = 4;
@@ -36,7 +36,8 @@ const UNLOCK: u32 = 4;
 /// RDP_LOWIO_OP_UNLOCK_MULTIPLE
 const UNLOCK_MULTIPLE: u32 = 5;
 
-fn is_unlock(operation: u32) -> bool
+/// Whether an operation gives ranges back: RDP_LOWIO_OP_UNLOCK or RDP_LOWIO_OP_UNLOCK_MULTIPLE (MS-RDPEFS 2.2.3.3.12).
+pub fn is_unlock(operation: u32) -> bool
     ensures { result ≡ is_unlock operation }
 {
     operation == UNLOCK || operation == UNLOCK_MULTIPLE
@@ -64,15 +65,15 @@ fn some_past_end(ranges: &[Range]) -> bool
     ranges.iter().any(|range| is_past_end(range))
 }
 
-/// Whether this can't be asked: an operation that there isn't, or a range past the end.
-fn is_invalid(operation: u32, ranges: &[Range]) -> bool
+/// Whether this can't be asked: an operation that there isn't, or a range that goes past 2^64 bytes (MS-RDPEFS 2.2.3.3.12).
+pub fn is_invalid(operation: u32, ranges: &[Range]) -> bool
     ensures { result ≡ (not (is_lock_operation operation) || list_any is_past_end ranges.now) }
 {
     !is_lock_operation(operation) || some_past_end(ranges)
 }
 
-/// Whether a handle may lock: it reads or writes.
-fn may_lock(access: u32) -> bool
+/// Whether a handle with this access may lock: it reads or writes.
+pub fn may_lock(access: u32) -> bool
     ensures { result ≡ (reads access || writes access) }
 {
     reads(access) || writes(access)

@@ -17,6 +17,7 @@ pub enum Named {
 /// A change, as those are told who watch a folder (MS-FSCC 2.7.1).
 #[derive(Debug, Drop)]
 pub struct Change {
+    /// FILE_ACTION_ADDED and the like.
     pub action: u32,
     pub named: Named,
     /// The bits of the filters that ask for it.
@@ -34,18 +35,22 @@ pub struct News {
     pub changes: [Option<Change>; 3],
 }
 
-/// FILE_ACTION_ADDED, FILE_ACTION_REMOVED, FILE_ACTION_MODIFIED, FILE_ACTION_RENAMED_OLD_NAME, FILE_ACTION_RENAMED_NEW_NAME
+/// FILE_ACTION_ADDED (MS-FSCC 2.7.1)
 pub const ADDED: u32 = 1;
 
+/// FILE_ACTION_REMOVED
 pub const REMOVED: u32 = 2;
 
+/// FILE_ACTION_MODIFIED
 pub const MODIFIED: u32 = 3;
 
+/// FILE_ACTION_RENAMED_OLD_NAME
 pub const RENAMED_FROM: u32 = 4;
 
+/// FILE_ACTION_RENAMED_NEW_NAME
 pub const RENAMED_TO: u32 = 5;
 
-/// FILE_NOTIFY_CHANGE_SIZE and FILE_NOTIFY_CHANGE_LAST_WRITE
+/// FILE_NOTIFY_CHANGE_SIZE and FILE_NOTIFY_CHANGE_LAST_WRITE (MS-SMB2 2.2.35)
 pub const CONTENT_BITS: u32 = 0x18;
 
 /// FILE_NOTIFY_CHANGE_ATTRIBUTES
@@ -59,6 +64,7 @@ pub fn name_bit(folder: bool) -> u32
 }
 
 impl News {
+    /// Nothing to tell.
     pub fn none() -> Self
         ensures { result ≡ nothing }
     {

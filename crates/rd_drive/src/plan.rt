@@ -86,7 +86,7 @@ impl Plan {
     }
 
     /// The job, and the room for the bytes of its reply.
-    pub(crate) fn into_parts(self) -> (Job, Vec<u8>)
+    pub fn into_parts(self) -> (Job, Vec<u8>)
         ensures job { result.0 ≡ self.job }
         ensures room { result.1.items ≡ [] }
     {

@@ -1,12 +1,12 @@
 //! What a file and the volume tell of themselves (MS-FSCC 2.4 and 2.5).
 
-ghost use Rattle.std.specs.Prelude.{◌≡◌, ◌≤◌, ◌^◌, ◌⊎◌, [], IfOk, IfErr, IsSome, Some, None, nat_eq};
+ghost use Rattle.std.specs.Prelude.{◌≡◌, ◌≤◌, ◌<◌, ◌^◌, ◌⊎◌, [], length, IfOk, IfErr, IsSome, Some, None, nat_eq};
 ghost use Rattle.std.specs.HashMap.{get};
 ghost use Rattle.std.specs.Int.{next_multiple_of};
 ghost use Rattle.rd_fileinfo.specs.VolumeInfo.{VolumeFits};
 ghost use Rattle.rd_tree.specs.Places.{IsLive};
 ghost use Rattle.rd_drive.specs.Outcome.{on_handle};
-ghost use Rattle.rd_drive.specs.Query.{drive_info, node_info, query_file, query_volume, volume_flags};
+ghost use Rattle.rd_drive.specs.Query.{info_of_volume, node_info, query_file, query_volume, volume_flags};
 ghost use Rattle.rd_drive.specs.Store.{drive_of, IsSound, Serves};
 ghost use Rattle.rd_drive.specs.Kept.{own_node, IsNoInfo};
 
@@ -22,6 +22,7 @@ use rd_fileinfo::classes::{
 use rd_fileinfo::{FileInfo, VolumeInfo, put_file_info, put_volume};
 use rd_irp::Body;
 use rd_tree::NodeId;
+use std::alloc::Global;
 
 /// VolumeSerialNumber
 const SERIAL_NUMBER: u32 = 0x5244_5231;
@@ -48,12 +49,72 @@ const LONGEST_NAME: u32 = 255;
 /// The bytes that are kept for a file: whole clusters.
 const CLUSTER: u64 = 4096;
 
-/// How many bytes are kept for a file with so many.
+/// How many bytes are kept for a file with so many (AllocationSize, MS-FSCC 2.4.41).
 pub fn allocation_for(end: u64) -> u64
-    requires { end ≤ 2 ^ 40 }
+    requires { end < 2 ^ 63 }
     ensures { result ≡ next_multiple_of end 4096 }
 {
     end.next_multiple_of(CLUSTER)
+}
+
+/// What the volume tells of itself, by class (MS-FSCC 2.5): a volume with this label, whose names are told apart so.
+pub fn volume_info(
+    alloc: Global,
+    label: &Units,
+    naming: Naming,
+    class: u32,
+) -> Result<VolumeInfo, Status>
+    requires { length label.now ≤ 32 }
+    ensures ok { IfOk result (λ info. info_of_volume label.now naming class ≡ Some info) }
+    ensures fits { IfOk result VolumeFits }
+    ensures err { IfErr result (λ status. IsNoInfo (info_of_volume label.now naming class) status) }
+{
+    match class {
+        VOLUME => match label.copy() {
+            Ok(label) => Ok(VolumeInfo::Volume {
+                creation: 0,
+                serial: SERIAL_NUMBER,
+                objects: 0,
+                label,
+            }),
+            Err(_) => Err(Status::NO_MEMORY),
+        },
+        SIZE => Ok(VolumeInfo::Size {
+            total: VOLUME_UNITS,
+            free: VOLUME_UNITS,
+            sectors: SECTORS_PER_UNIT,
+            bytes: BYTES_PER_SECTOR,
+        }),
+        DEVICE => Ok(VolumeInfo::Device {
+            kind: DISK,
+            traits: 0,
+        }),
+        ATTRIBUTE => match Vec::from_slice(alloc, &[0x52, 0x44, 0x46, 0x53]) {
+            Ok(name) => Ok(VolumeInfo::Attribute {
+                flags: volume_flags(naming),
+                longest: LONGEST_NAME,
+                name: Units::of(name),
+            }),
+            Err(_) => Err(Status::NO_MEMORY),
+        },
+        FULL_SIZE => Ok(VolumeInfo::FullSize {
+            total: VOLUME_UNITS,
+            caller: VOLUME_UNITS,
+            free: VOLUME_UNITS,
+            sectors: SECTORS_PER_UNIT,
+            bytes: BYTES_PER_SECTOR,
+        }),
+        _ => Err(status::INVALID_INFO_CLASS),
+    }
+}
+
+fn volume_flags(naming: Naming) -> u32
+    ensures { result ≡ volume_flags naming }
+{
+    match naming {
+        Naming::Exact => VOLUME_FLAGS | CASE_SENSITIVE,
+        Naming::Folded => VOLUME_FLAGS,
+    }
 }
 
 impl Store {
@@ -104,61 +165,6 @@ impl Store {
         }
     }
 
-    /// What the volume tells of itself, by class.
-    fn volume_info(&self, class: u32) -> Result<VolumeInfo, Status>
-        requires { IsSound self.now }
-        ensures ok { IfOk result (λ info. drive_info (drive_of self.now) class ≡ Some info) }
-        ensures fits { IfOk result VolumeFits }
-        ensures err { IfErr result (λ status. IsNoInfo (drive_info (drive_of self.now) class) status) }
-    {
-        match class {
-            VOLUME => match self.label.copy() {
-                Ok(label) => Ok(VolumeInfo::Volume {
-                    creation: 0,
-                    serial: SERIAL_NUMBER,
-                    objects: 0,
-                    label,
-                }),
-                Err(_) => Err(Status::NO_MEMORY),
-            },
-            SIZE => Ok(VolumeInfo::Size {
-                total: VOLUME_UNITS,
-                free: VOLUME_UNITS,
-                sectors: SECTORS_PER_UNIT,
-                bytes: BYTES_PER_SECTOR,
-            }),
-            DEVICE => Ok(VolumeInfo::Device {
-                kind: DISK,
-                traits: 0,
-            }),
-            ATTRIBUTE => match Vec::from_slice(self.alloc, &[0x52, 0x44, 0x46, 0x53]) {
-                Ok(name) => Ok(VolumeInfo::Attribute {
-                    flags: self.volume_flags(),
-                    longest: LONGEST_NAME,
-                    name: Units::of(name),
-                }),
-                Err(_) => Err(Status::NO_MEMORY),
-            },
-            FULL_SIZE => Ok(VolumeInfo::FullSize {
-                total: VOLUME_UNITS,
-                caller: VOLUME_UNITS,
-                free: VOLUME_UNITS,
-                sectors: SECTORS_PER_UNIT,
-                bytes: BYTES_PER_SECTOR,
-            }),
-            _ => Err(status::INVALID_INFO_CLASS),
-        }
-    }
-
-    fn volume_flags(&self) -> u32
-        ensures { result ≡ volume_flags self.now.naming }
-    {
-        match self.naming {
-            Naming::Exact => VOLUME_FLAGS | CASE_SENSITIVE,
-            Naming::Folded => VOLUME_FLAGS,
-        }
-    }
-
     pub fn query_volume(&self, file: u32, class: u32, mut room: Vec<u8>) -> Outcome
         requires sound { IsSound self.now }
         requires room { room.items ≡ [] }
@@ -167,7 +173,7 @@ impl Store {
         let Some(_) = self.handle(file) else {
             return Err(Status::INVALID_HANDLE);
         };
-        let info = match self.volume_info(class) {
+        let info = match volume_info(self.alloc, &self.label, self.naming, class) {
             Ok(info) => info,
             Err(status) => return Err(status),
         };

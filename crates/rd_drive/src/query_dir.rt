@@ -25,9 +25,9 @@ use rd_irp::Body;
 use rd_tree::NodeId;
 use std::alloc::AllocError;
 
-/// Whether a listing can be asked for in a class.
+/// Whether a listing can be asked for in a class (MS-RDPEFS 2.2.3.3.10).
 #[tactic(auto, using(crate::proofs::NextLemmas::listed_as))]
-fn is_entry_class(class: u32) -> bool
+pub fn is_entry_class(class: u32) -> bool
     ensures { result ≡ is_listed (choice entry_classes class) }
 {
     matches!(class, DIRECTORY | FULL_DIRECTORY | BOTH_DIRECTORY | NAMES)

@@ -39,8 +39,8 @@ fn set_or(asked: u64, other: u64) -> u64
     if is_left(asked) { other } else { asked }
 }
 
-/// The moments as they are set. A change that is left is the moment of this request.
-fn set_moments(old: Moments, asked: Moments, moment: u64) -> Moments
+/// The moments as they are set (MS-FSCC 2.4.7), in units of 100 ns since 1601-01-01 UTC. A change that is left is the moment of this request.
+pub fn set_moments(old: Moments, asked: Moments, moment: u64) -> Moments
     ensures { result ≡ set_moments old asked moment }
 {
     Moments {
@@ -51,8 +51,8 @@ fn set_moments(old: Moments, asked: Moments, moment: u64) -> Moments
     }
 }
 
-/// The attributes as they are set; attributes of 0 are left.
-fn set_attributes(folder: bool, old: u32, asked: u32) -> u32
+/// The attributes as they are stored once they are set (MS-FSCC 2.4.7, 2.6); attributes of 0 are left.
+pub fn set_attributes(folder: bool, old: u32, asked: u32) -> u32
     ensures { result ≡ (if asked == 0 then old else (if folder then bit_and asked 7 else bit_and asked 0x27)) }
 {
     if asked == 0 {
@@ -62,8 +62,8 @@ fn set_attributes(folder: bool, old: u32, asked: u32) -> u32
     }
 }
 
-/// A refusal, unless the access allows it.
-fn allowed(allows: bool) -> Result<(), Status>
+/// A refusal, ACCESS_DENIED, unless the access allows it.
+pub fn allowed(allows: bool) -> Result<(), Status>
     ensures { result ≡ (if not allows then Err access_denied else Ok tt) }
 {
     if allows {

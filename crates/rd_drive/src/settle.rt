@@ -37,8 +37,8 @@ fn is_unlocked(news: &News, node: NodeId) -> bool
     }
 }
 
-/// Gives the places of ranges back.
-fn give_back(locks: &mut Locks, ranges: &[Range])
+/// Gives the places back that were reserved for ranges.
+pub fn give_back(locks: &mut Locks, ranges: &[Range])
     requires { length ranges.now ≤ locks.old.reserved }
     ensures { locks.new ≡ record locks.old { reserved = locks.old.reserved - length ranges.now } }
 {
@@ -47,8 +47,8 @@ fn give_back(locks: &mut Locks, ranges: &[Range])
     }
 }
 
-/// What a request is answered where its handle was closed; its places are given back.
-fn close_reply(locks: &mut Locks, wish: &Wish) -> Reply
+/// What a request that waits is answered where its handle was closed; its places are given back.
+pub fn close_reply(locks: &mut Locks, wish: &Wish) -> Reply
     requires { wish_ranges wish.now ≤ locks.old.reserved }
     ensures locks { locks.new ≡ record locks.old { reserved = locks.old.reserved - wish_ranges wish.now } }
     ensures reply { result ≡ closing_reply (wish_of wish.now) }

@@ -1,5 +1,5 @@
 -- What a folder tells: its nodes, as a drive has them.
-use Rattle.std.specs.Prelude.{◌≡◌, ◌==◌, ◌||◌, Bool, true, List, [], ◌∷◌, length, None}
+use Rattle.std.specs.Prelude.{◌≡◌, ◌==◌, ◌||◌, Bool, true, false, List, [], ◌∷◌, length, None}
 use Rattle.std.specs.List.{list_all, AllByRecursion}
 use Rattle.std.specs.Ordering.{is_lt}
 use Rattle.rd_dirinfo.specs.declared.naming.Naming.TheVariants.{Exact}
@@ -11,6 +11,7 @@ abbrev pub drive_over : List Node → DriveState
 drive_over nodes = record {
   naming = Exact;
   label = [];
+  limited = false;
   nodes = nodes;
   handles = [];
   locks = [];

@@ -30,7 +30,7 @@ use Rattle.rd_world.specs.World.{Asked}
 -- ---- its drives
 
 empty_bounded : (name : List ℕ) → length name ≤ 7 → IsBounded (empty_drive naming.Exact name)
-empty_bounded name few = record { fitting = record { label = omega (arith, few); paths = (refl, tt) }; few = omega arith }
+empty_bounded name few = record { fitting = record { limited = refl; label = omega (arith, few); paths = (refl, tt) }; few = omega arith }
 
 drives_bounded : AllByRecursion (λ (e : ℕ × Declared). DeviceFits (e.1).state) drives
 unfolding declaring

@@ -41,11 +41,12 @@ made_short : (s : DriveState) (p : Names) → is_within_limits p ≡ true → is
 made_short s p short = carried_limits s.naming (parent p) (node_path s (parent p)) (last_name p ∷ []) (kept_same s (parent p)) ∙ last_short p short
 
 bounded_empty : (how : Naming) (label : List ℕ) → length label ≤ 32 → IsBounded (empty_drive how label)
-bounded_empty how label short = record { fitting = record { label = short; paths = (refl, tt) }; few = omega arith }
+bounded_empty how label short = record { fitting = record { limited = refl; label = short; paths = (refl, tt) }; few = omega arith }
 
 bounded_with : (s : DriveState) (path : Names) (bytes : Option (List ℕ)) → is_within_limits path ≡ true → IsBounded s → IsBounded (holding s (path, bytes))
 bounded_with s path bytes short bounded = record {
   fitting = record {
+    limited = bounded.fitting.limited;
     label = bounded.fitting.label;
     paths = all_add s.naming (λ (node : Node). is_within_limits node.path ≡ true) (new_node (made_path s path) bytes (opening_attributes bytes) 0) s.nodes (made_short s path short) bounded.fitting.paths;
   };

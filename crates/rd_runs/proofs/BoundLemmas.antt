@@ -48,6 +48,7 @@ made_within s p fits = carried_limits s.naming (parent p) (node_path s (parent p
 held_bounded : (s : DriveState) (first : Names × Option (List ℕ)) → is_within_limits first.0 ≡ true → IsBounded s → IsBounded (holding s first)
 held_bounded s first fits b = record {
   fitting = record {
+    limited = b.fitting.limited;
     label = b.fitting.label;
     paths = all_add s.naming (λ (node : Node). is_within_limits node.path ≡ true) _ s.nodes (made_within s first.0 fits) b.fitting.paths;
   };
@@ -55,7 +56,7 @@ held_bounded s first fits b = record {
 }
 
 empty_bounded : (how : Naming) (name : List ℕ) → length name ≤ 7 → IsBounded (empty_drive how name)
-empty_bounded how name few = record { fitting = record { label = omega (arith, few); paths = (refl, tt) }; few = omega arith }
+empty_bounded how name few = record { fitting = record { limited = refl; label = omega (arith, few); paths = (refl, tt) }; few = omega arith }
 
 -- ---- devices
 
