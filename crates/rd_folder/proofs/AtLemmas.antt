@@ -15,7 +15,7 @@ use Rattle.rd_drive.specs.DriveState.{Node, bytes_of, has_folder, is_at_path, is
 use Rattle.rd_folder.specs.declared.folder.FolderNo.{FolderNo}
 use Rattle.rd_folder.specs.declared.folder.FolderNo.TheVariants as no
 use Rattle.rd_folder.specs.Told.{drive_over, ComesBefore, IsFolderMap}
-use Rattle.rd_folder.specs.FolderCalls.{changing, folder_next, leaving, answering, node_there, of_file, only_if, overwritten, with_put}
+use Rattle.rd_folder.specs.FolderCalls.{changing, folder_next, leaving, listed_of, answering, node_there, of_file, only_if, overwritten, with_put}
 use Rattle.rd_contents.specs.Contents.{max_len, written}
 use Rattle.rd_drive.specs.ReadWrite.{node_with_bytes}
 use Rattle.rd_folder.specs.InMemory.{Alters, IsSamePlace, Tries}
@@ -141,10 +141,10 @@ module _ (root : Node) (others : List Node) (is : IsFolderMap (root ∷ others))
 
   -- what a listing gives
   pub listed : (nodes : List Node) → root ∷ others ≡ nodes → (path : Names) (after : Option Name) (pattern : List ℕ) (first : Option Node) → first ≡ find (is_listed path pattern after) others
-      → has_folder (drive_over nodes) path ≡ true → folder_next path after pattern nodes ≡ Some (option_map (λ (node : Node). last_name node.path) first, nodes)
+      → has_folder (drive_over nodes) path ≡ true → folder_next path after pattern nodes ≡ Some (option_map listed_of first, nodes)
   listed nodes e path after pattern first is_first folds =
-      ap (λ b. only_if b (answering nodes (option_map (λ (node : Node). last_name node.path) (next_node (drive_over nodes) path pattern after)))) folds
-      ∙ ap (λ (o : Option Node). answering nodes (option_map (λ (node : Node). last_name node.path) o))
+      ap (λ b. only_if b (answering nodes (option_map listed_of (next_node (drive_over nodes) path pattern after)))) folds
+      ∙ ap (λ (o : Option Node). answering nodes (option_map listed_of o))
       (ap (λ (l : List Node). next_node (drive_over l) path pattern after) (sym e) ∙ next_past path pattern after ∙ sym is_first)
 
   -- a name that is listed is one

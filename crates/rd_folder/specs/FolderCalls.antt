@@ -11,6 +11,7 @@ use Rattle.rd_drive.specs.Query.{node_end}
 use Rattle.rd_drive.specs.QueryDir.{next_node}
 use Rattle.rd_drive.specs.ReadWrite.{node_with_bytes}
 use Rattle.rd_drive.specs.Rename.{renamed, without_target}
+use Rattle.rd_folder.specs.declared.look.Listed.{Listed}
 use Rattle.rd_folder.specs.declared.look.Look.{Look}
 use Rattle.rd_folder.specs.Told.{drive_over}
 
@@ -54,10 +55,14 @@ look_of node = record { folder = is_folder_node node; end = node_end node; attri
 abbrev pub folder_look : Names → List Node → Option (Option Look × List Node)
 folder_look path nodes = answering nodes (option_map look_of (node_there nodes path))
 
--- the first name in the folder at a path that matches a pattern and comes after another one, if one is given
-abbrev pub folder_next : Names → Option Name → List ℕ → List Node → Option (Option Name × List Node)
+-- a node's last name, and what is told of the node
+abbrev pub listed_of : Node → Listed
+listed_of node = record { name = last_name node.path; look = look_of node }
+
+-- the first name in the folder at a path that matches a pattern and comes after another one, if one is given, with what is told of its node
+abbrev pub folder_next : Names → Option Name → List ℕ → List Node → Option (Option Listed × List Node)
 folder_next path after pattern nodes =
-    only_if (has_folder (drive_over nodes) path) (answering nodes (option_map (λ (node : Node). last_name node.path) (next_node (drive_over nodes) path pattern after)))
+    only_if (has_folder (drive_over nodes) path) (answering nodes (option_map listed_of (next_node (drive_over nodes) path pattern after)))
 
 -- the bytes of a file from an offset up to its end, at most so many
 abbrev pub folder_read : Names → ℕ → ℕ → List Node → Option (List ℕ × List Node)

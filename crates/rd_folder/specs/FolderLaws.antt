@@ -1,14 +1,14 @@
 -- What a call on a folder does: to the nodes that the folder tells, and to its count of faults.
-use Rattle.std.specs.Prelude.{◌≡◌, ⊤, ℕ, List, Option, Some, None, Result, Ok, Err}
+use Rattle.std.specs.Prelude.{◌≡◌, ℕ, List, Option, Some, None, Result, Ok, Err}
 use Rattle.rd_base.specs.Faults.{one_more}
 use Rattle.rd_drive.specs.DriveState.{Node}
 use Rattle.rd_folder.specs.declared.folder.FolderNo.{FolderNo}
 use Rattle.rd_folder.specs.declared.folder.FolderNo.TheVariants as no
 
 -- A call on a folder that tells its nodes makes of them, and answers, what the definition says. It answers `Missing` only where there is no such
--- change or answer, and where it is refused nothing changes. Of a folder that tells nothing this says nothing.
+-- change or answer, and where it is refused nothing changes. A folder that tells nothing goes on telling nothing.
 abbrev pub DoesCall : {X : Type 0} → (old new : Option (List Node)) → (List Node → Option (X × List Node)) → Result X FolderNo → Type 0
-DoesCall None new comes result = ⊤
+DoesCall None new comes result = new ≡ None
 DoesCall (Some nodes) new comes (Ok answer) = (after : List Node) × (comes nodes ≡ Some (answer, after)) × (new ≡ Some after)
 DoesCall (Some nodes) new comes (Err no.Missing) = (comes nodes ≡ None) × (new ≡ Some nodes)
 DoesCall (Some nodes) new comes (Err why) = new ≡ Some nodes

@@ -1,6 +1,6 @@
 //! A folder, and all that is below it, by paths.
 
-ghost use Rattle.std.specs.Prelude.{◌≡◌, ◌<◌, ◌≤◌, ◌^◌, ℕ, List, Option, length, true, Err, IfOk, IfSome};
+ghost use Rattle.std.specs.Prelude.{◌≡◌, ◌<◌, ◌≤◌, ◌^◌, ℕ, [], List, Option, length, true, Err, IfOk, IfSome};
 ghost use Rattle.std.specs.Option.{option_map};
 ghost use Rattle.rd_dirinfo.specs.Paths.{is_name};
 ghost use Rattle.rd_drive.specs.DriveState.{Node};
@@ -8,7 +8,7 @@ ghost use Rattle.rd_folder.specs.FolderCalls.{folder_look, folder_make, folder_m
 ghost use Rattle.rd_folder.specs.FolderLaws.{CountsRefusal, DoesCall};
 ghost use Rattle.rd_folder.specs.declared.folder.FolderNo.TheVariants as FolderNo;
 
-use crate::look::Look;
+use crate::look::{Listed, Look};
 use rd_base::{Bytes, Moments, Units};
 use rd_dirinfo::{Path, Pattern};
 use thiserror::Error;
@@ -48,20 +48,29 @@ pub trait Folder {
         ensures counted { CountsRefusal (nodes self.old) result (faults self.old) (faults self.new) }
         ensures bound { IfOk result (λ found. IfSome found (λ look. look.end < 2 ^ 63)) };
 
-    /// The first name in the folder at a path that matches a pattern and comes after another name, if one is given. Without one a listing
-    /// begins.
+    /// The first name in the folder at a path that matches a pattern and comes after another name, if one is given, with what is told of its
+    /// node. Without one a listing begins.
     fn next(
         &mut self,
         path: &Path,
         after: Option<&Units>,
         pattern: &Pattern,
-    ) -> Result<Option<Units>, FolderNo>
+    ) -> Result<Option<Listed>, FolderNo>
         ensures does { DoesCall (nodes self.old) (nodes self.new) (folder_next path.now (option_map (λ other. other.now) after.entry) pattern.now) result }
         ensures counted { CountsRefusal (nodes self.old) result (faults self.old) (faults self.new) }
-        ensures name { IfOk result (λ found. IfSome found (λ name. is_name name ≡ true)) };
+        ensures name { IfOk result (λ found. IfSome found (λ listed. is_name listed.name ≡ true)) }
+        ensures bound { IfOk result (λ found. IfSome found (λ listed. listed.look.end < 2 ^ 63)) };
 
-    /// The bytes of a file from an offset up to its end, at most `count`.
-    fn read(&mut self, path: &Path, offset: u64, count: u32) -> Result<Bytes, FolderNo>
+    /// The bytes of a file from an offset up to its end, at most `count`, read into the room that was found for them. It takes no memory where the
+    /// room has a capacity of `count` bytes.
+    fn read(
+        &mut self,
+        path: &Path,
+        offset: u64,
+        count: u32,
+        room: Vec<u8>,
+    ) -> Result<Bytes, FolderNo>
+        requires room { room.items ≡ [] }
         ensures does { DoesCall (nodes self.old) (nodes self.new) (folder_read path.now offset count) result }
         ensures counted { CountsRefusal (nodes self.old) result (faults self.old) (faults self.new) }
         ensures bound { IfOk result (λ bytes. length bytes ≤ count) };

@@ -1,13 +1,15 @@
 //! Listing a folder of the system.
 
-ghost use Rattle.std.specs.Prelude.{◌≡◌, true, IfOk, IfSome};
+ghost use Rattle.std.specs.Prelude.{◌≡◌, ◌<◌, ◌^◌, true, IfOk, IfSome};
 ghost use Rattle.rd_dirinfo.specs.Paths.{is_name};
 
 use crate::finding::seen_in;
+use crate::look::Listed;
 use crate::node::compare;
 use crate::nodes::copy_of;
 use crate::one_name::OneName;
 use crate::place::Place;
+use crate::seen::look_of;
 use rd_base::Units;
 use rd_dirinfo::{Naming, Path, PathNo, Pattern};
 use std::alloc::{AllocError, Global};
@@ -70,13 +72,14 @@ fn name_of(alloc: Global, units: &[u16]) -> Result<Option<Units>, AllocError>
     }
 }
 
-/// The name that units are, where a file or folder stands there.
-fn node_name<R: Files + AllocGlobal>(
+/// What is told of a file or folder whose name these units are, where one stands there.
+fn listed_at<R: Files + AllocGlobal>(
     rt: &R,
     place: &Place,
     units: &[u16],
-) -> io::Result<Option<Units>>
-    ensures { IfOk result (λ found. IfSome found (λ name. is_name name ≡ true)) }
+) -> io::Result<Option<Listed>>
+    ensures name { IfOk result (λ found. IfSome found (λ listed. is_name listed.name ≡ true)) }
+    ensures bound { IfOk result (λ found. IfSome found (λ listed. listed.look.end < 2 ^ 63)) }
 {
     let Some(name) = name_of(rt.alloc(), units)? else {
         return Ok(None);
@@ -85,7 +88,10 @@ fn node_name<R: Files + AllocGlobal>(
         return Ok(None);
     };
     match seen_in(rt, place, &text)? {
-        Some(_) => Ok(Some(name)),
+        Some(seen) => Ok(Some(Listed {
+            name,
+            look: look_of(&seen),
+        })),
         None => Ok(None),
     }
 }
@@ -121,20 +127,21 @@ impl Listing {
         &names[start..]
     }
 
-    /// The first name of a file or folder that is there still, matches a pattern, and comes after another one, if one is given.
+    /// The first file or folder that is there still, and whose name matches a pattern and comes after another one, if one is given.
     pub fn next<R: Files + AllocGlobal>(
         &self,
         rt: &R,
         place: &Place,
         after: Option<&Units>,
         pattern: &Pattern,
-    ) -> io::Result<Option<Units>>
-        ensures { IfOk result (λ found. IfSome found (λ name. is_name name ≡ true)) }
+    ) -> io::Result<Option<Listed>>
+        ensures name { IfOk result (λ found. IfSome found (λ listed. is_name listed.name ≡ true)) }
+        ensures bound { IfOk result (λ found. IfSome found (λ listed. listed.look.end < 2 ^ 63)) }
     {
         for units in self.names_after(after) {
             if pattern.matches(Naming::Exact, units.as_slice()) {
-                if let Some(name) = node_name(rt, place, units.as_slice())? {
-                    return Ok(Some(name));
+                if let Some(listed) = listed_at(rt, place, units.as_slice())? {
+                    return Ok(Some(listed));
                 }
             }
         }

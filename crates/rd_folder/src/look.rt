@@ -1,6 +1,6 @@
 //! What a folder tells of a node.
 
-use rd_base::Moments;
+use rd_base::{Moments, Units};
 
 /// What a folder tells of a node.
 #[derive(Clone, Copy, Debug, PartialEq, Eq)]
@@ -12,4 +12,12 @@ pub struct Look {
     pub attributes: u32,
     /// In units of 100 ns since 1601-01-01 UTC.
     pub moments: Moments,
+}
+
+/// What a listing tells of a node.
+#[derive(Debug, Drop)]
+pub struct Listed {
+    /// The last name of its path.
+    pub name: Units,
+    pub look: Look,
 }

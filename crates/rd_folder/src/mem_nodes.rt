@@ -11,10 +11,10 @@ ghost use Rattle.rd_folder.specs.InMemory.{Tries};
 ghost use Rattle.rd_folder.specs.declared.folder.FolderNo.TheVariants as FolderNo;
 
 use crate::folder::FolderNo;
-use crate::look::Look;
+use crate::look::{Listed, Look};
 use crate::node::{MemNode, compare};
 use crate::nodes::{
-    copy_name, copy_of, has_child, is_below, next_node, place_of, position, put, relocate,
+    copy_of, has_child, is_below, list, next_node, place_of, position, put, relocate,
 };
 use rd_base::{Bytes, Moments, Units};
 use rd_contents::Contents;
@@ -99,28 +99,36 @@ impl MemNodes {
         path: &Path,
         after: Option<&Units>,
         pattern: &Pattern,
-    ) -> Result<Option<Units>, FolderNo>
+    ) -> Result<Option<Listed>, FolderNo>
         ensures tries { Tries self.now self.now (folder_next path.now (option_map (λ other. other.now) after.entry) pattern.now self.now) result }
-        ensures name { IfOk result (λ found. IfSome found (λ name. is_name name ≡ true)) }
+        ensures name { IfOk result (λ found. IfSome found (λ listed. is_name listed.name ≡ true)) }
+        ensures bound { IfOk result (λ found. IfSome found (λ listed. listed.look.end < 2 ^ 63)) }
     {
         if !self.has_folder(path.names()) {
             return Err(FolderNo::Missing);
         }
         match next_node(&self.others, path, after, pattern) {
-            Some(node) => match copy_name(self.alloc, node) {
-                Ok(name) => Ok(Some(name)),
+            Some(node) => match list(self.alloc, node) {
+                Ok(listed) => Ok(Some(listed)),
                 Err(_) => Err(FolderNo::Memory),
             },
             None => Ok(None),
         }
     }
 
-    pub fn read(&self, path: &Path, offset: u64, count: u32) -> Result<Bytes, FolderNo>
+    pub fn read(
+        &self,
+        path: &Path,
+        offset: u64,
+        count: u32,
+        room: Vec<u8>,
+    ) -> Result<Bytes, FolderNo>
+        requires room { room.items ≡ [] }
         ensures tries { Tries self.now self.now (folder_read path.now offset count self.now) result }
         ensures bound { IfOk result (λ bytes. length bytes ≤ count) }
     {
         match self.get(path.names()) {
-            Some(node) => node.read(offset, count),
+            Some(node) => node.read(offset, count, room),
             None => Err(FolderNo::Missing),
         }
     }

@@ -12,7 +12,7 @@ ghost use Rattle.rd_folder.specs.InMemory.{first_numbers, later_number, number_a
 ghost use Rattle.rd_folder.specs.declared.folder.FolderNo.TheVariants as FolderNo;
 
 use crate::folder::{Folder, FolderNo};
-use crate::look::Look;
+use crate::look::{Listed, Look};
 use crate::mem_nodes::MemNodes;
 use rd_base::{Bytes, Calls, Moments, Units};
 use rd_contents::Contents;
@@ -163,10 +163,11 @@ impl Folder for MemFolder {
         path: &Path,
         after: Option<&Units>,
         pattern: &Pattern,
-    ) -> Result<Option<Units>, FolderNo>
+    ) -> Result<Option<Listed>, FolderNo>
         ensures does { DoesCall (Some self.old.nodes) (Some self.new.nodes) (folder_next path.now (option_map (λ other. other.now) after.entry) pattern.now) result }
         ensures counted { CountsRefusal (Some self.old.nodes) result self.old.faults self.new.faults }
-        ensures name { IfOk result (λ found. IfSome found (λ name. is_name name ≡ true)) }
+        ensures name { IfOk result (λ found. IfSome found (λ listed. is_name listed.name ≡ true)) }
+        ensures bound { IfOk result (λ found. IfSome found (λ listed. listed.look.end < 2 ^ 63)) }
         ensures runs { Runs 1 self.old self.new (folder_next path.now (option_map (λ other. other.now) after.entry) pattern.now self.old.nodes) result }
     {
         if self.fails(NEXT) {
@@ -175,7 +176,14 @@ impl Folder for MemFolder {
         self.nodes.next(path, after, pattern)
     }
 
-    fn read(&mut self, path: &Path, offset: u64, count: u32) -> Result<Bytes, FolderNo>
+    fn read(
+        &mut self,
+        path: &Path,
+        offset: u64,
+        count: u32,
+        room: Vec<u8>,
+    ) -> Result<Bytes, FolderNo>
+        requires room { room.items ≡ [] }
         ensures does { DoesCall (Some self.old.nodes) (Some self.new.nodes) (folder_read path.now offset count) result }
         ensures counted { CountsRefusal (Some self.old.nodes) result self.old.faults self.new.faults }
         ensures bound { IfOk result (λ bytes. length bytes ≤ count) }
@@ -184,7 +192,7 @@ impl Folder for MemFolder {
         if self.fails(READ) {
             return Err(FolderNo::Failed);
         }
-        self.nodes.read(path, offset, count)
+        self.nodes.read(path, offset, count, room)
     }
 
     fn make(

@@ -114,15 +114,16 @@ impl MemNode {
         compare(self.path.as_slice(), path).is_eq()
     }
 
-    /// The bytes of a file from an offset up to its end, at most `count`.
-    pub fn read(&self, offset: u64, count: u32) -> Result<Bytes, FolderNo>
+    /// The bytes of a file from an offset up to its end, at most `count`, in the room that was found for them.
+    pub fn read(&self, offset: u64, count: u32, mut room: Vec<u8>) -> Result<Bytes, FolderNo>
+        requires room { room.items ≡ [] }
         ensures { Tries self.now self.now (of_file self.now (Some (part (bytes_of self.now) offset count, self.now))) result }
     {
         let Some(contents) = &self.contents else {
             return Err(FolderNo::Missing);
         };
-        match contents.read(offset, count) {
-            Ok(bytes) => Ok(bytes),
+        match contents.read_into(&mut room, offset, count) {
+            Ok(()) => Ok(Bytes::of(room)),
             Err(_) => Err(FolderNo::Memory),
         }
     }

@@ -1,14 +1,16 @@
 //! Nodes of a folder in memory, in the order of their paths.
 
-ghost use Rattle.std.specs.Prelude.{◌≡◌, ◌<◌, ◌≤◌, ◌&&◌, ℕ, [], true, get_or, set, None, length, map, find, position, IfOk, IfSome, OnOk, OnErr, vec_len, vec_capacity};
+ghost use Rattle.std.specs.Prelude.{◌≡◌, ◌<◌, ◌≤◌, ◌^◌, ◌&&◌, ℕ, [], true, get_or, set, None, length, map, find, position, IfOk, IfSome, OnOk, OnErr, vec_len, vec_capacity};
 ghost use Rattle.std.specs.Option.{option_map, unwrap_or};
 ghost use Rattle.std.specs.List.{list_any};
 ghost use Rattle.rd_dirinfo.specs.declared.naming.Naming.TheVariants as Naming;
 ghost use Rattle.rd_dirinfo.specs.Paths.{is_below, is_parent, is_prefix, last_name, moved_path};
 ghost use Rattle.rd_dirinfo.specs.Patterns.{is_wanted};
 ghost use Rattle.rd_drive.specs.DriveState.{Node, add_node, in_order, is_at_path, new_node};
+ghost use Rattle.rd_folder.specs.FolderCalls.{listed_of};
 ghost use Rattle.rd_folder.specs.InMemory.{carried, is_no_earlier, changed_node, left_out, paths_of, relocated};
 
+use crate::look::Listed;
 use crate::node::{MemNode, compare};
 use rd_base::Units;
 use rd_dirinfo::{Naming, Path, Pattern};
@@ -196,12 +198,16 @@ fn last_name(path: &[Units]) -> &[u16]
     }
 }
 
-/// A node's last name once more.
-pub fn copy_name(alloc: Global, node: &MemNode) -> Result<Units, AllocError>
-    ensures { IfOk result (λ name. name ≡ last_name node.now.path) }
+/// What a listing tells of a node.
+pub fn list(alloc: Global, node: &MemNode) -> Result<Listed, AllocError>
+    ensures listed { IfOk result (λ listed. listed ≡ listed_of node.now) }
+    ensures bound { IfOk result (λ listed. listed.look.end < 2 ^ 63) }
 {
     let units = Vec::from_slice(alloc, last_name(node.path()))?;
-    Ok(Units::of(units))
+    Ok(Listed {
+        name: Units::of(units),
+        look: node.look(),
+    })
 }
 
 /// The first of the nodes that stands in a folder, and whose name matches a pattern and comes after another one, if one is given.

@@ -1,6 +1,6 @@
 //! A real folder.
 
-ghost use Rattle.std.specs.Prelude.{◌≡◌, ◌≤◌, ◌<◌, ◌^◌, length, true, None, IfOk, IfSome};
+ghost use Rattle.std.specs.Prelude.{◌≡◌, ◌≤◌, ◌<◌, ◌^◌, [], length, true, None, IfOk, IfSome, OnOk};
 ghost use Rattle.std.specs.Io.{ReadsAtMost};
 ghost use Rattle.rd_dirinfo.specs.Paths.{is_name};
 
@@ -8,87 +8,26 @@ use crate::faults::Faults;
 use crate::finding::{file_in, known_in, reach, seen_at, spot_of};
 use crate::folder::{Folder, FolderNo};
 use crate::folders::Folders;
+use crate::kept::KeptFiles;
 use crate::listing::Listing;
-use crate::look::Look;
+use crate::look::{Listed, Look};
 use crate::place::Place;
+use crate::seen::{MOST_BYTES, look_of, times_of};
 use rd_base::{Bytes, Moments, Units};
 use rd_dirinfo::{Path, Pattern};
-use std::fs::{FileTimes, Metadata, OpenFile};
+use std::fs::OpenFile;
 use std::io;
-use std::io::{Error, ErrorKind, Read, Seek, SeekFrom, Write};
-use std::os::unix::fs::MetadataExt;
+use std::io::{Error, ErrorKind};
+use std::os::unix::fs::FileExt;
 use std::rt::Files;
-use std::time::{Duration, SystemTime};
 
-/// How many times 100 ns there are in a second.
-const PER_SECOND: u64 = 10_000_000;
-
-/// How many nanoseconds there are in 100 ns.
-const NANOS: u32 = 100;
-
-/// The moment 1970-01-01 UTC, in 100 ns since 1601-01-01 UTC.
-const UNIX_EPOCH: u64 = 116_444_736_000_000_000;
-
-/// The most bytes of a file that are told.
-const MOST_BYTES: u64 = (1 << 63) - 1;
-
-/// ARCHIVE
-const ARCHIVE: u32 = 0x20;
-
-/// A moment by seconds and nanoseconds since 1970.
-fn moment_since(seconds: u64, nanos: u32) -> u64 {
-    seconds
-        .saturating_mul(PER_SECOND)
-        .saturating_add(u64::from(nanos / NANOS))
-        .saturating_add(UNIX_EPOCH)
-}
-
-/// The moment of one of the system's times, if it can be told.
-fn moment_of(time: io::Result<SystemTime>) -> Option<u64> {
-    let time = time.ok()?;
-    let since = time.duration_since(SystemTime::UNIX_EPOCH).ok()?;
-    Some(moment_since(since.as_secs(), since.subsec_nanos()))
-}
-
-/// The time of a moment, if it isn't before 1970.
-fn time_of(moment: u64) -> Option<SystemTime> {
-    let since = moment.checked_sub(UNIX_EPOCH)?;
-    let nanos = (since % PER_SECOND) as u32 * NANOS;
-    SystemTime::UNIX_EPOCH.checked_add(Duration::new(since / PER_SECOND, nanos))
-}
-
-/// What is told of what the system saw.
-fn look_of(seen: &Metadata) -> Look
-    ensures { result.end < 2 ^ 63 }
-{
-    let folder = seen.is_dir();
-    let write = moment_of(seen.modified()).unwrap_or(UNIX_EPOCH);
-    let seconds = u64::try_from(seen.ctime()).unwrap_or(0);
-    let nanos = u32::try_from(seen.ctime_nsec()).unwrap_or(0);
-    Look {
-        folder,
-        end: if folder {
-            0
-        } else {
-            seen.len().min(MOST_BYTES)
-        },
-        attributes: if folder { 0 } else { ARCHIVE },
-        moments: Moments {
-            creation: moment_of(seen.created()).unwrap_or(write),
-            access: moment_of(seen.accessed()).unwrap_or(write),
-            write,
-            change: moment_since(seconds, nanos),
-        },
-    }
-}
-
-/// Reads until there is no more room, or the file has ended, and returns how many bytes it read.
-fn fill<F: Read>(file: &mut F, room: &mut [u8]) -> io::Result<usize>
+/// Reads from an offset on until there is no more room, or the file has ended, and returns how many bytes it read.
+fn fill<F: FileExt>(file: &F, room: &mut [u8], offset: u64) -> io::Result<usize>
     ensures bound { ReadsAtMost result room.new }
 {
     let mut at = 0;
     while at < room.len() {
-        let count = file.read(&mut room[at..])?;
+        let count = file.read_at(&mut room[at..], offset.saturating_add(at as u64))?;
         if count == 0 {
             break;
         }
@@ -97,24 +36,39 @@ fn fill<F: Read>(file: &mut F, room: &mut [u8]) -> io::Result<usize>
     Ok(at)
 }
 
-/// The bytes of an open file with so many bytes from an offset on, at most `count`.
-fn read_from<F: Read + Seek, R: AllocGlobal>(
-    rt: &R,
-    file: &mut F,
-    end: u64,
+/// How many bytes of an open file are read from an offset on, at most, into room of a capacity. The file isn't asked where the room suffices.
+fn wanted<F: OpenFile>(file: &F, offset: u64, count: u32, capacity: usize) -> io::Result<usize>
+    ensures { IfOk result (λ wanted. wanted ≤ count) }
+{
+    let most = MOST_BYTES.saturating_sub(offset).min(u64::from(count));
+    if count as usize <= capacity {
+        return Ok(most as usize);
+    }
+    let end = file.metadata()?.len();
+    Ok(end.saturating_sub(offset).min(most) as usize)
+}
+
+/// Reads the bytes of an open file from an offset on, at most `count`, in the place of what is in the room.
+fn read_into<F: FileExt + OpenFile>(
+    file: &F,
     offset: u64,
     count: u32,
-) -> io::Result<Bytes>
-    ensures { IfOk result (λ bytes. length bytes ≤ count) }
+    room: &mut Vec<u8>,
+) -> io::Result<()>
+    ensures { OnOk result (length room.new.items ≤ count) }
 {
-    let room = end.saturating_sub(offset).min(u64::from(count)) as usize;
-    let mut bytes = vec![in rt.alloc(); 0u8; room]?;
-    if room > 0 {
-        file.seek(SeekFrom::Start(offset))?;
-    }
-    let count = fill(file, bytes.as_mut_slice())?;
-    bytes.truncate(count);
-    Ok(Bytes::of(bytes))
+    let wanted = wanted(file, offset, count, room.capacity())?;
+    room.resize(wanted, 0)?;
+    let count = fill(file, room.as_mut_slice(), offset)?;
+    room.truncate(count);
+    Ok(())
+}
+
+/// Opens the file at a path.
+fn open_at<R: Files>(rt: &R, root: &Place, path: &Path, writes: bool) -> io::Result<R::File> {
+    let spot = spot_of(root, path)?;
+    let seen = file_in(rt, &spot.folder, &spot.name)?;
+    spot.folder.open(rt, &spot.name, &seen, writes)
 }
 
 /// A real folder of the system, and all that is below it. It tells nothing. Nothing outside of it is reached: the system gets one name at a time, in
@@ -125,22 +79,35 @@ pub struct StdFolder<'a, R: Files + AllocGlobal + Clone + Drop> {
     rt: &'a R,
     root: Place,
     listing: Option<Listing>,
+    kept: KeptFiles<R::File>,
     faults: Faults,
 }
 
-impl<R: Files + AllocGlobal + Clone + Drop> StdFolder<'_, R> {
+impl<R: Files + AllocGlobal + Clone + Drop> StdFolder<'_, R>
+where
+    R::File: FileExt,
+{
+    /// Lets go of what was listed and of the files that are kept open: something else may come to stand there.
+    fn let_go(&mut self)
+        ensures { self.new.faults ≡ self.old.faults }
+    {
+        self.listing = None;
+        self.kept.clear();
+    }
+
     /// The system's reason for the last fault, if there was one.
     pub fn last_error(&self) -> Option<&Error> {
         self.faults.last()
     }
 
-    fn next_name(
+    fn next_listed(
         &mut self,
         path: &Path,
         after: Option<&Units>,
         pattern: &Pattern,
-    ) -> io::Result<Option<Units>>
-        ensures name { IfOk result (λ found. IfSome found (λ name. is_name name ≡ true)) }
+    ) -> io::Result<Option<Listed>>
+        ensures name { IfOk result (λ found. IfSome found (λ listed. is_name listed.name ≡ true)) }
+        ensures bound { IfOk result (λ found. IfSome found (λ listed. listed.look.end < 2 ^ 63)) }
         ensures faults { self.new.faults ≡ self.old.faults }
     {
         let folder = reach(&self.root, path.names())?;
@@ -157,31 +124,56 @@ impl<R: Files + AllocGlobal + Clone + Drop> StdFolder<'_, R> {
         }
     }
 
-    fn read_at(&self, path: &Path, offset: u64, count: u32) -> io::Result<Bytes>
-        ensures { IfOk result (λ bytes. length bytes ≤ count) }
+    /// Reads from the file that is kept open, or where there is none or it fails, from one that is opened now.
+    fn read_at(
+        &mut self,
+        path: &Path,
+        offset: u64,
+        count: u32,
+        mut room: Vec<u8>,
+    ) -> io::Result<Bytes>
+        ensures bound { IfOk result (λ bytes. length bytes ≤ count) }
+        ensures faults { self.new.faults ≡ self.old.faults }
     {
-        let spot = spot_of(&self.root, path)?;
-        let place = &spot.folder;
-        let seen = file_in(self.rt, place, &spot.name)?;
-        let mut file = place.open(self.rt, &spot.name, &seen, false)?;
-        read_from(self.rt, &mut file, seen.len(), offset, count)
+        if let Some(file) = self.kept.find(path.names(), false) {
+            if read_into(file, offset, count, &mut room).is_ok() {
+                return Ok(Bytes::of(room));
+            }
+        }
+        let file = open_at(self.rt, &self.root, path, false)?;
+        read_into(&file, offset, count, &mut room)?;
+        self.kept.keep(self.rt.alloc(), path.names(), false, file);
+        Ok(Bytes::of(room))
     }
 
-    fn write_at(&self, path: &Path, offset: u64, bytes: &[u8]) -> io::Result<()> {
-        let spot = spot_of(&self.root, path)?;
-        let place = &spot.folder;
-        let seen = file_in(self.rt, place, &spot.name)?;
-        let mut file = place.open(self.rt, &spot.name, &seen, true)?;
-        file.seek(SeekFrom::Start(offset))?;
-        file.write_all(bytes)
+    /// Writes into the file that is kept open, or where there is none or it fails, into one that is opened now.
+    fn write_at(&mut self, path: &Path, offset: u64, bytes: &[u8]) -> io::Result<()>
+        ensures { self.new.faults ≡ self.old.faults }
+    {
+        if let Some(file) = self.kept.find(path.names(), true) {
+            if file.write_all_at(bytes, offset).is_ok() {
+                return Ok(());
+            }
+        }
+        let file = open_at(self.rt, &self.root, path, true)?;
+        file.write_all_at(bytes, offset)?;
+        self.kept.keep(self.rt.alloc(), path.names(), true, file);
+        Ok(())
     }
 
-    fn set_end(&self, path: &Path, end: u64) -> io::Result<()> {
-        let spot = spot_of(&self.root, path)?;
-        let place = &spot.folder;
-        let seen = file_in(self.rt, place, &spot.name)?;
-        let file = place.open(self.rt, &spot.name, &seen, true)?;
-        file.set_len(end)
+    /// Sets the end of the file that is kept open, or where there is none or it fails, of one that is opened now.
+    fn set_end(&mut self, path: &Path, end: u64) -> io::Result<()>
+        ensures { self.new.faults ≡ self.old.faults }
+    {
+        if let Some(file) = self.kept.find(path.names(), true) {
+            if file.set_len(end).is_ok() {
+                return Ok(());
+            }
+        }
+        let file = open_at(self.rt, &self.root, path, true)?;
+        file.set_len(end)?;
+        self.kept.keep(self.rt.alloc(), path.names(), true, file);
+        Ok(())
     }
 
     fn make_at(&self, path: &Path, folder: bool) -> io::Result<()> {
@@ -195,22 +187,15 @@ impl<R: Files + AllocGlobal + Clone + Drop> StdFolder<'_, R> {
     }
 
     fn mark_at(&self, path: &Path, moments: Moments) -> io::Result<()> {
-        let mut times = FileTimes::new();
-        if let Some(time) = time_of(moments.access) {
-            times = times.set_accessed(time);
-        }
-        if let Some(time) = time_of(moments.write) {
-            times = times.set_modified(time);
-        }
         if path.names().is_empty() {
             let root = self.root.open_self(self.rt)?;
-            return root.set_times(times);
+            return root.set_times(times_of(moments));
         }
         let spot = spot_of(&self.root, path)?;
         let place = &spot.folder;
         let seen = known_in(self.rt, place, &spot.name)?;
         let node = place.open(self.rt, &spot.name, &seen, false)?;
-        node.set_times(times)
+        node.set_times(times_of(moments))
     }
 
     /// A file that stands at the other path goes; a folder there, and what isn't there for a drive, stays.
@@ -247,7 +232,10 @@ impl<R: Files + AllocGlobal + Clone + Drop> StdFolder<'_, R> {
     }
 }
 
-impl<R: Files + AllocGlobal + Clone + Drop> Folder for StdFolder<'_, R> {
+impl<R: Files + AllocGlobal + Clone + Drop> Folder for StdFolder<'_, R>
+where
+    R::File: FileExt,
+{
     ghost nodes = { λ _. None };
 
     ghost faults = { λ f. f.faults };
@@ -266,15 +254,21 @@ impl<R: Files + AllocGlobal + Clone + Drop> Folder for StdFolder<'_, R> {
         path: &Path,
         after: Option<&Units>,
         pattern: &Pattern,
-    ) -> Result<Option<Units>, FolderNo> {
-        match self.next_name(path, after, pattern) {
+    ) -> Result<Option<Listed>, FolderNo> {
+        match self.next_listed(path, after, pattern) {
             Ok(found) => Ok(found),
             Err(error) => Err(self.faults.refuse(error)),
         }
     }
 
-    fn read(&mut self, path: &Path, offset: u64, count: u32) -> Result<Bytes, FolderNo> {
-        match self.read_at(path, offset, count) {
+    fn read(
+        &mut self,
+        path: &Path,
+        offset: u64,
+        count: u32,
+        room: Vec<u8>,
+    ) -> Result<Bytes, FolderNo> {
+        match self.read_at(path, offset, count, room) {
             Ok(bytes) => Ok(bytes),
             Err(error) => Err(self.faults.refuse(error)),
         }
@@ -287,7 +281,7 @@ impl<R: Files + AllocGlobal + Clone + Drop> Folder for StdFolder<'_, R> {
         _attributes: u32,
         _moment: u64,
     ) -> Result<(), FolderNo> {
-        self.listing = None;
+        self.let_go();
         match self.make_at(path, folder) {
             Ok(()) => Ok(()),
             Err(error) => Err(self.faults.refuse(error)),
@@ -295,6 +289,7 @@ impl<R: Files + AllocGlobal + Clone + Drop> Folder for StdFolder<'_, R> {
     }
 
     fn replace(&mut self, path: &Path, _attributes: u32, _moment: u64) -> Result<(), FolderNo> {
+        self.kept.clear();
         match self.set_end(path, 0) {
             Ok(()) => Ok(()),
             Err(error) => Err(self.faults.refuse(error)),
@@ -322,6 +317,7 @@ impl<R: Files + AllocGlobal + Clone + Drop> Folder for StdFolder<'_, R> {
     }
 
     fn mark(&mut self, path: &Path, _attributes: u32, moments: Moments) -> Result<(), FolderNo> {
+        self.kept.clear();
         match self.mark_at(path, moments) {
             Ok(()) => Ok(()),
             Err(error) => Err(self.faults.refuse(error)),
@@ -329,7 +325,7 @@ impl<R: Files + AllocGlobal + Clone + Drop> Folder for StdFolder<'_, R> {
     }
 
     fn rename(&mut self, from: &Path, to: &Path, _moment: u64) -> Result<(), FolderNo> {
-        self.listing = None;
+        self.let_go();
         match self.move_to(from, to) {
             Ok(()) => Ok(()),
             Err(error) => Err(self.faults.refuse(error)),
@@ -337,7 +333,7 @@ impl<R: Files + AllocGlobal + Clone + Drop> Folder for StdFolder<'_, R> {
     }
 
     fn remove(&mut self, path: &Path) -> Result<(), FolderNo> {
-        self.listing = None;
+        self.let_go();
         match self.remove_at(path) {
             Ok(()) => Ok(()),
             Err(error) => Err(self.faults.refuse_freely(error)),
@@ -353,7 +349,10 @@ pub struct StdFolders<'a, R: Files + AllocGlobal + Clone + Drop> {
     trouble: Faults,
 }
 
-impl<'a, R: Files + AllocGlobal + Clone + Drop + Sync> StdFolders<'a, R> {
+impl<'a, R: Files + AllocGlobal + Clone + Drop + Sync> StdFolders<'a, R>
+where
+    R::File: FileExt + Send,
+{
     pub fn new(rt: &'a R) -> Self
         ensures failures { ⟦<StdFolders<'a, R> as Folders>⟧.failures result ≡ 0 }
         ensures trouble { ⟦<StdFolders<'a, R> as Folders>⟧.trouble result ≡ 0 }
@@ -372,7 +371,10 @@ impl<'a, R: Files + AllocGlobal + Clone + Drop + Sync> StdFolders<'a, R> {
     }
 }
 
-impl<'a, R: Files + AllocGlobal + Clone + Drop + Sync> Folders for StdFolders<'a, R> {
+impl<'a, R: Files + AllocGlobal + Clone + Drop + Sync> Folders for StdFolders<'a, R>
+where
+    R::File: FileExt + Send,
+{
     type F = StdFolder<'a, R>;
 
     ghost opened = { λ _. None };
@@ -388,6 +390,7 @@ impl<'a, R: Files + AllocGlobal + Clone + Drop + Sync> Folders for StdFolders<'a
                 rt: self.rt,
                 root,
                 listing: None,
+                kept: KeptFiles::new(self.rt.alloc()),
                 faults: Faults::new(),
             }),
             Err(error) => Err(self.failures.refuse_opening(error)),
