@@ -23,6 +23,7 @@ fuzz: ## tries to break the built program for a minute or two: docs/ROBUSTNESS.m
 	python3 tools/mutate.py --sessions 2000
 	python3 tools/many.py client --sessions 5000
 	python3 tools/many.py host --sessions 5000
+	test ! -x bin/many_in_memory || { python3 tools/many_in_memory.py --turns client && python3 tools/many_in_memory.py --turns host; }
 	python3 tools/failing.py --only both
 	python3 tools/kills.py --sides --sessions 300
 	python3 tools/kills.py --sessions 50

@@ -343,11 +343,17 @@ static int hear(int link, int keeps) {
     }
 }
 
-/* Waits a little until the request came that this completion is of. False where it didn't. */
-static int awaits_request(int link, Slice completion) {
+/* Whether two completions name a request by the same ids. */
+static int is_alike(Slice one, Slice other) {
+    return one.len >= 12 && other.len >= 12 && !memcmp(one.at + 4, other.at + 4, 8);
+}
+
+/* Waits a little until so many requests came with the ids of a completion. False where they didn't. */
+static int awaits_request(int link, Slice completion, int count) {
     for (double begin = now_ms(); now_ms() - begin < 20;) {
+        int found = 0;
         for (uint8_t *at = heard; (at = memmem(at, heard + heard_len - at, "rDRI", 4)) && at + 16 <= heard + heard_len; at++)
-            if (completion.len >= 24 && !memcmp(at + 4, completion.at + 4, 4) && !memcmp(at + 12, completion.at + 8, 4))
+            if (completion.len >= 12 && !memcmp(at + 4, completion.at + 4, 4) && !memcmp(at + 12, completion.at + 8, 4) && ++found >= count)
                 return 1;
         struct pollfd it = {link, POLLIN, 0};
         poll(&it, 1, 2);
@@ -478,8 +484,12 @@ static int play(const Channel *channel, Slice script, int workers, size_t piece,
     if (is_patient) {
         for (int i = 0; i < channel->messages.count && goes; i++) {
             size_t from = i ? channel->ends[i - 1] : 0;
-            if (waits && begins(channel->messages.at[i], "rDCI"))
-                waits = awaits_request(link[0], channel->messages.at[i]);
+            if (waits && begins(channel->messages.at[i], "rDCI")) {
+                int count = 1;
+                for (int j = 0; j < i; j++)
+                    count += begins(channel->messages.at[j], "rDCI") && is_alike(channel->messages.at[j], channel->messages.at[i]);
+                waits = awaits_request(link[0], channel->messages.at[i], count);
+            }
             goes = say(link[0], channel->at + from, channel->ends[i] - from, piece, 1, &end->why);
         }
     } else {
