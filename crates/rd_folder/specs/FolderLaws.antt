@@ -1,6 +1,8 @@
 -- What a call on a folder does: to the nodes that the folder tells, and to its count of faults.
-use Rattle.std.specs.Prelude.{◌≡◌, ℕ, List, Option, Some, None, Result, Ok, Err}
+use Rattle.std.specs.Prelude.{◌≡◌, ℕ, true, List, Option, Some, None, Result, Ok, Err}
+use Rattle.std.specs.List.{list_all}
 use Rattle.rd_base.specs.Faults.{one_more}
+use Rattle.rd_dirinfo.specs.Paths.{Names, is_name}
 use Rattle.rd_drive.specs.DriveState.{Node}
 use Rattle.rd_folder.specs.declared.folder.FolderNo.{FolderNo}
 use Rattle.rd_folder.specs.declared.folder.FolderNo.TheVariants as no
@@ -23,3 +25,7 @@ CountsNo told why old new = new ≡ one_more old
 abbrev pub CountsRefusal : {X : Type 0} → Option (List Node) → Result X FolderNo → ℕ → ℕ → Type 0
 CountsRefusal told (Ok answer) old new = new ≡ old
 CountsRefusal told (Err why) old new = CountsNo told why old new
+
+-- A path that a folder is asked by: all its names are names. It may be longer than a request can carry.
+abbrev pub AreNames : Names → Type 0
+AreNames path = list_all is_name path ≡ true

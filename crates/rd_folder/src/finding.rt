@@ -3,7 +3,6 @@
 use crate::one_name::OneName;
 use crate::place::Place;
 use rd_base::Units;
-use rd_dirinfo::Path;
 use std::fs::Metadata;
 use std::io;
 use std::io::{Error, ErrorKind};
@@ -27,8 +26,8 @@ pub fn reach(root: &Place, names: &[Units]) -> io::Result<Place> {
 }
 
 /// The spot of a path that isn't the root's.
-pub fn spot_of(root: &Place, path: &Path) -> io::Result<Spot> {
-    let Some((name, folders)) = path.names().split_last() else {
+pub fn spot_of(root: &Place, path: &[Units]) -> io::Result<Spot> {
+    let Some((name, folders)) = path.split_last() else {
         return Err(Error::from(ErrorKind::InvalidInput));
     };
     let folder = reach(root, folders)?;
@@ -75,8 +74,8 @@ pub fn file_in<R: Files>(rt: &R, place: &Place, name: &OneName) -> io::Result<Me
 }
 
 /// The file or folder at a path, if one is there.
-pub fn seen_at<R: Files>(rt: &R, root: &Place, path: &Path) -> io::Result<Option<Metadata>> {
-    if path.names().is_empty() {
+pub fn seen_at<R: Files>(rt: &R, root: &Place, path: &[Units]) -> io::Result<Option<Metadata>> {
+    if path.is_empty() {
         return Ok(Some(root.look_at_self(rt)?));
     }
     match spot_of(root, path) {

@@ -5,12 +5,12 @@ ghost use Rattle.std.specs.Option.{option_map};
 ghost use Rattle.rd_dirinfo.specs.Paths.{is_name};
 ghost use Rattle.rd_drive.specs.DriveState.{Node};
 ghost use Rattle.rd_folder.specs.FolderCalls.{folder_look, folder_make, folder_mark, folder_next, folder_read, folder_remove, folder_rename, folder_replace, folder_resize, folder_write};
-ghost use Rattle.rd_folder.specs.FolderLaws.{CountsRefusal, DoesCall};
+ghost use Rattle.rd_folder.specs.FolderLaws.{AreNames, CountsRefusal, DoesCall};
 ghost use Rattle.rd_folder.specs.declared.folder.FolderNo.TheVariants as FolderNo;
 
 use crate::look::{Listed, Look};
 use rd_base::{Bytes, Moments, Units};
-use rd_dirinfo::{Path, Pattern};
+use rd_dirinfo::Pattern;
 use thiserror::Error;
 
 /// Why a folder doesn't do what it is called for. Nothing has changed.
@@ -43,7 +43,8 @@ pub trait Folder {
     ghost faults: { Self → ℕ };
 
     /// What stands at a path, if anything does.
-    fn look(&mut self, path: &Path) -> Result<Option<Look>, FolderNo>
+    fn look(&mut self, path: &[Units]) -> Result<Option<Look>, FolderNo>
+        requires named { AreNames path.now }
         ensures does { DoesCall (nodes self.old) (nodes self.new) (folder_look path.now) result }
         ensures counted { CountsRefusal (nodes self.old) result (faults self.old) (faults self.new) }
         ensures bound { IfOk result (λ found. IfSome found (λ look. look.end < 2 ^ 63)) };
@@ -52,10 +53,11 @@ pub trait Folder {
     /// node. Without one a listing begins.
     fn next(
         &mut self,
-        path: &Path,
+        path: &[Units],
         after: Option<&Units>,
         pattern: &Pattern,
     ) -> Result<Option<Listed>, FolderNo>
+        requires named { AreNames path.now }
         ensures does { DoesCall (nodes self.old) (nodes self.new) (folder_next path.now (option_map (λ other. other.now) after.entry) pattern.now) result }
         ensures counted { CountsRefusal (nodes self.old) result (faults self.old) (faults self.new) }
         ensures name { IfOk result (λ found. IfSome found (λ listed. is_name listed.name ≡ true)) }
@@ -65,11 +67,12 @@ pub trait Folder {
     /// room has a capacity of `count` bytes.
     fn read(
         &mut self,
-        path: &Path,
+        path: &[Units],
         offset: u64,
         count: u32,
         room: Vec<u8>,
     ) -> Result<Bytes, FolderNo>
+        requires named { AreNames path.now }
         requires room { room.items ≡ [] }
         ensures does { DoesCall (nodes self.old) (nodes self.new) (folder_read path.now offset count) result }
         ensures counted { CountsRefusal (nodes self.old) result (faults self.old) (faults self.new) }
@@ -78,41 +81,54 @@ pub trait Folder {
     /// Makes a folder or an empty file where nothing stands.
     fn make(
         &mut self,
-        path: &Path,
+        path: &[Units],
         folder: bool,
         attributes: u32,
         moment: u64,
     ) -> Result<(), FolderNo>
+        requires named { AreNames path.now }
         ensures does { DoesCall (nodes self.old) (nodes self.new) (folder_make path.now folder attributes moment) result }
         ensures counted { CountsRefusal (nodes self.old) result (faults self.old) (faults self.new) };
 
     /// Empties a file, which gets these attributes.
-    fn replace(&mut self, path: &Path, attributes: u32, moment: u64) -> Result<(), FolderNo>
+    fn replace(&mut self, path: &[Units], attributes: u32, moment: u64) -> Result<(), FolderNo>
+        requires named { AreNames path.now }
         ensures does { DoesCall (nodes self.old) (nodes self.new) (folder_replace path.now attributes moment) result }
         ensures counted { CountsRefusal (nodes self.old) result (faults self.old) (faults self.new) };
 
     /// Writes bytes into a file at an offset. A gap before them reads as zeros.
-    fn write(&mut self, path: &Path, offset: u64, bytes: &[u8], moment: u64) -> Result<(), FolderNo>
+    fn write(
+        &mut self,
+        path: &[Units],
+        offset: u64,
+        bytes: &[u8],
+        moment: u64,
+    ) -> Result<(), FolderNo>
+        requires named { AreNames path.now }
         ensures does { DoesCall (nodes self.old) (nodes self.new) (folder_write path.now offset bytes.now moment) result }
         ensures counted { CountsRefusal (nodes self.old) result (faults self.old) (faults self.new) };
 
     /// Cuts a file at an end, or extends it by zeros.
-    fn resize(&mut self, path: &Path, end: u64, moment: u64) -> Result<(), FolderNo>
+    fn resize(&mut self, path: &[Units], end: u64, moment: u64) -> Result<(), FolderNo>
+        requires named { AreNames path.now }
         ensures does { DoesCall (nodes self.old) (nodes self.new) (folder_resize path.now end moment) result }
         ensures counted { CountsRefusal (nodes self.old) result (faults self.old) (faults self.new) };
 
     /// Sets the attributes and moments of a file or folder.
-    fn mark(&mut self, path: &Path, attributes: u32, moments: Moments) -> Result<(), FolderNo>
+    fn mark(&mut self, path: &[Units], attributes: u32, moments: Moments) -> Result<(), FolderNo>
+        requires named { AreNames path.now }
         ensures does { DoesCall (nodes self.old) (nodes self.new) (folder_mark path.now attributes moments) result }
         ensures counted { CountsRefusal (nodes self.old) result (faults self.old) (faults self.new) };
 
     /// Moves a file, or a folder with all that is below it. A file that stands at the other path goes.
-    fn rename(&mut self, from: &Path, to: &Path, moment: u64) -> Result<(), FolderNo>
+    fn rename(&mut self, from: &[Units], to: &[Units], moment: u64) -> Result<(), FolderNo>
+        requires named { AreNames from.now × AreNames to.now }
         ensures does { DoesCall (nodes self.old) (nodes self.new) (folder_rename from.now to.now moment) result }
         ensures counted { CountsRefusal (nodes self.old) result (faults self.old) (faults self.new) };
 
     /// Takes out a file, or a folder in which nothing stands. It takes no memory.
-    fn remove(&mut self, path: &Path) -> Result<(), FolderNo>
+    fn remove(&mut self, path: &[Units]) -> Result<(), FolderNo>
+        requires named { AreNames path.now }
         ensures does { DoesCall (nodes self.old) (nodes self.new) (folder_remove path.now) result }
         ensures counted { CountsRefusal (nodes self.old) result (faults self.old) (faults self.new) }
         ensures memory { result ≡ Err FolderNo.Memory → ⊥ };

@@ -7,6 +7,7 @@ ghost use Rattle.rd_dirinfo.specs.declared.naming.Naming.TheVariants as Naming;
 ghost use Rattle.rd_drive.specs.DriveState.{Node, has_folder, new_node};
 ghost use Rattle.rd_folder.specs.Told.{drive_over, IsFolderMap};
 ghost use Rattle.rd_folder.specs.FolderCalls.{folder_look, folder_mark, folder_next, folder_read, folder_remove, folder_rename, folder_replace, folder_resize, folder_write, making, may_make, may_move, node_there};
+ghost use Rattle.rd_folder.specs.FolderLaws.{AreNames};
 ghost use Rattle.rd_folder.specs.InMemory.{Tries};
 ghost use Rattle.rd_folder.specs.declared.folder.FolderNo.TheVariants as FolderNo;
 
@@ -18,7 +19,7 @@ use crate::nodes::{
 };
 use rd_base::{Bytes, Moments, Units};
 use rd_contents::Contents;
-use rd_dirinfo::{Path, Pattern};
+use rd_dirinfo::Pattern;
 use std::alloc::Global;
 use std::marker::Model;
 
@@ -84,11 +85,11 @@ impl MemNodes {
         }
     }
 
-    pub fn look(&self, path: &Path) -> Option<Look>
+    pub fn look(&self, path: &[Units]) -> Option<Look>
         ensures look { Some (result, self.now) ≡ folder_look path.now self.now }
         ensures bound { IfSome result (λ look. look.end < 2 ^ 63) }
     {
-        match self.get(path.names()) {
+        match self.get(path) {
             Some(node) => Some(node.look()),
             None => None,
         }
@@ -96,7 +97,7 @@ impl MemNodes {
 
     pub fn next(
         &self,
-        path: &Path,
+        path: &[Units],
         after: Option<&Units>,
         pattern: &Pattern,
     ) -> Result<Option<Listed>, FolderNo>
@@ -104,7 +105,7 @@ impl MemNodes {
         ensures name { IfOk result (λ found. IfSome found (λ listed. is_name listed.name ≡ true)) }
         ensures bound { IfOk result (λ found. IfSome found (λ listed. listed.look.end < 2 ^ 63)) }
     {
-        if !self.has_folder(path.names()) {
+        if !self.has_folder(path) {
             return Err(FolderNo::Missing);
         }
         match next_node(&self.others, path, after, pattern) {
@@ -118,7 +119,7 @@ impl MemNodes {
 
     pub fn read(
         &self,
-        path: &Path,
+        path: &[Units],
         offset: u64,
         count: u32,
         room: Vec<u8>,
@@ -127,13 +128,13 @@ impl MemNodes {
         ensures tries { Tries self.now self.now (folder_read path.now offset count self.now) result }
         ensures bound { IfOk result (λ bytes. length bytes ≤ count) }
     {
-        match self.get(path.names()) {
+        match self.get(path) {
             Some(node) => node.read(offset, count, room),
             None => Err(FolderNo::Missing),
         }
     }
 
-    pub fn replace(&mut self, path: &Path, attributes: u32, moment: u64) -> Result<(), FolderNo>
+    pub fn replace(&mut self, path: &[Units], attributes: u32, moment: u64) -> Result<(), FolderNo>
         ensures { Tries self.old self.new (folder_replace path.now attributes moment self.old) result }
     {
         let Some(at) = place_of(&self.others, path) else {
@@ -145,7 +146,7 @@ impl MemNodes {
 
     pub fn write(
         &mut self,
-        path: &Path,
+        path: &[Units],
         offset: u64,
         bytes: &[u8],
         moment: u64,
@@ -159,7 +160,7 @@ impl MemNodes {
         node.write(offset, bytes, moment)
     }
 
-    pub fn resize(&mut self, path: &Path, end: u64, moment: u64) -> Result<(), FolderNo>
+    pub fn resize(&mut self, path: &[Units], end: u64, moment: u64) -> Result<(), FolderNo>
         ensures { Tries self.old self.new (folder_resize path.now end moment self.old) result }
     {
         let Some(at) = place_of(&self.others, path) else {
@@ -169,10 +170,15 @@ impl MemNodes {
         node.resize(end, moment)
     }
 
-    pub fn mark(&mut self, path: &Path, attributes: u32, moments: Moments) -> Result<(), FolderNo>
+    pub fn mark(
+        &mut self,
+        path: &[Units],
+        attributes: u32,
+        moments: Moments,
+    ) -> Result<(), FolderNo>
         ensures { Tries self.old self.new (folder_mark path.now attributes moments self.old) result }
     {
-        if path.names().is_empty() {
+        if path.is_empty() {
             self.root.mark(attributes, moments);
             return Ok(());
         }
@@ -185,32 +191,33 @@ impl MemNodes {
     }
 
     /// Whether a node may be made at a path.
-    fn may_make(&self, path: &Path) -> bool
+    fn may_make(&self, path: &[Units]) -> bool
         ensures { result ≡ may_make self.now path.now }
     {
-        let Some((_, above)) = path.names().split_last() else {
+        let Some((_, above)) = path.split_last() else {
             return false;
         };
         if !self.has_folder(above) {
             return false;
         }
-        self.get(path.names()).is_none()
+        self.get(path).is_none()
     }
 
     /// Makes a file with these contents, or a folder.
     pub fn make(
         &mut self,
-        path: &Path,
+        path: &[Units],
         contents: Option<Contents>,
         attributes: u32,
         moment: u64,
     ) -> Result<(), FolderNo>
+        requires { AreNames path.now }
         ensures { Tries self.old self.new (making path.now contents attributes moment self.old) result }
     {
         if !self.may_make(path) {
             return Err(FolderNo::Missing);
         }
-        let Ok(names) = copy_of(self.alloc, path.names()) else {
+        let Ok(names) = copy_of(self.alloc, path) else {
             return Err(FolderNo::Memory);
         };
         if self.others.try_reserve(1).is_err() {
@@ -222,28 +229,29 @@ impl MemNodes {
     }
 
     /// Whether a node that isn't the root may get another path.
-    fn may_move(&self, from: &Path, to: &Path) -> bool
+    fn may_move(&self, from: &[Units], to: &[Units]) -> bool
         ensures { result ≡ may_move self.now from.now to.now }
     {
-        let Some((_, above)) = to.names().split_last() else {
+        let Some((_, above)) = to.split_last() else {
             return false;
         };
-        if is_below(from.names(), to.names()) {
+        if is_below(from, to) {
             return false;
         }
         if !self.has_folder(above) {
             return false;
         }
-        !self.has_folder(to.names())
+        !self.has_folder(to)
     }
 
-    pub fn rename(&mut self, from: &Path, to: &Path, moment: u64) -> Result<(), FolderNo>
+    pub fn rename(&mut self, from: &[Units], to: &[Units], moment: u64) -> Result<(), FolderNo>
+        requires { AreNames to.now }
         ensures { Tries self.old self.new (folder_rename from.now to.now moment self.old) result }
     {
         let Some(at) = place_of(&self.others, from) else {
             return Err(FolderNo::Missing);
         };
-        if compare(from.names(), to.names()).is_eq() {
+        if compare(from, to).is_eq() {
             return Ok(());
         }
         if !self.may_move(from, to) {
@@ -255,7 +263,7 @@ impl MemNodes {
         Ok(())
     }
 
-    pub fn remove(&mut self, path: &Path) -> Result<(), FolderNo>
+    pub fn remove(&mut self, path: &[Units]) -> Result<(), FolderNo>
         ensures tries { Tries self.old self.new (folder_remove path.now self.old) result }
         ensures memory { result ≡ Err FolderNo.Memory → ⊥ }
     {

@@ -7,7 +7,7 @@ ghost use Rattle.rd_dirinfo.specs.Paths.{is_name};
 ghost use Rattle.rd_drive.specs.DriveState.{new_node};
 ghost use Rattle.rd_folder.specs.Told.{IsFolderMap};
 ghost use Rattle.rd_folder.specs.FolderCalls.{folder_look, folder_make, folder_mark, folder_next, folder_read, folder_remove, folder_rename, folder_replace, folder_resize, folder_write, making};
-ghost use Rattle.rd_folder.specs.FolderLaws.{CountsRefusal, DoesCall};
+ghost use Rattle.rd_folder.specs.FolderLaws.{AreNames, CountsRefusal, DoesCall};
 ghost use Rattle.rd_folder.specs.InMemory.{first_numbers, later_number, number_ahead, Runs, Tries};
 ghost use Rattle.rd_folder.specs.declared.folder.FolderNo.TheVariants as FolderNo;
 
@@ -88,7 +88,7 @@ impl MemFolder {
         ensures tries { Tries self.old.nodes self.new.nodes (making path.now None 0 0 self.old.nodes) result }
         ensures others { self.new ≡ record self.old { nodes = self.new.nodes } }
     {
-        self.nodes.make(path, None, 0, 0)
+        self.nodes.make(path.names(), None, 0, 0)
     }
 
     /// Adds a file with bytes, as a drive begins with one. It is no call of the trait.
@@ -101,7 +101,7 @@ impl MemFolder {
         if contents.write(0, bytes).is_err() {
             return Err(FolderNo::Memory);
         }
-        self.nodes.make(path, Some(contents), ARCHIVE, 0)
+        self.nodes.make(path.names(), Some(contents), ARCHIVE, 0)
     }
 
     /// Forgets the faults that it had. Its nodes are a map.
@@ -146,7 +146,7 @@ impl Folder for MemFolder {
 
     ghost faults = { λ f. f.faults };
 
-    fn look(&mut self, path: &Path) -> Result<Option<Look>, FolderNo>
+    fn look(&mut self, path: &[Units]) -> Result<Option<Look>, FolderNo>
         ensures does { DoesCall (Some self.old.nodes) (Some self.new.nodes) (folder_look path.now) result }
         ensures counted { CountsRefusal (Some self.old.nodes) result self.old.faults self.new.faults }
         ensures bound { IfOk result (λ found. IfSome found (λ look. look.end < 2 ^ 63)) }
@@ -160,7 +160,7 @@ impl Folder for MemFolder {
 
     fn next(
         &mut self,
-        path: &Path,
+        path: &[Units],
         after: Option<&Units>,
         pattern: &Pattern,
     ) -> Result<Option<Listed>, FolderNo>
@@ -178,7 +178,7 @@ impl Folder for MemFolder {
 
     fn read(
         &mut self,
-        path: &Path,
+        path: &[Units],
         offset: u64,
         count: u32,
         room: Vec<u8>,
@@ -197,11 +197,12 @@ impl Folder for MemFolder {
 
     fn make(
         &mut self,
-        path: &Path,
+        path: &[Units],
         folder: bool,
         attributes: u32,
         moment: u64,
     ) -> Result<(), FolderNo>
+        requires named { AreNames path.now }
         ensures does { DoesCall (Some self.old.nodes) (Some self.new.nodes) (folder_make path.now folder attributes moment) result }
         ensures counted { CountsRefusal (Some self.old.nodes) result self.old.faults self.new.faults }
         ensures runs { Runs 3 self.old self.new (folder_make path.now folder attributes moment self.old.nodes) result }
@@ -217,7 +218,7 @@ impl Folder for MemFolder {
         self.nodes.make(path, contents, attributes, moment)
     }
 
-    fn replace(&mut self, path: &Path, attributes: u32, moment: u64) -> Result<(), FolderNo>
+    fn replace(&mut self, path: &[Units], attributes: u32, moment: u64) -> Result<(), FolderNo>
         ensures does { DoesCall (Some self.old.nodes) (Some self.new.nodes) (folder_replace path.now attributes moment) result }
         ensures counted { CountsRefusal (Some self.old.nodes) result self.old.faults self.new.faults }
         ensures runs { Runs 4 self.old self.new (folder_replace path.now attributes moment self.old.nodes) result }
@@ -228,7 +229,13 @@ impl Folder for MemFolder {
         self.nodes.replace(path, attributes, moment)
     }
 
-    fn write(&mut self, path: &Path, offset: u64, bytes: &[u8], moment: u64) -> Result<(), FolderNo>
+    fn write(
+        &mut self,
+        path: &[Units],
+        offset: u64,
+        bytes: &[u8],
+        moment: u64,
+    ) -> Result<(), FolderNo>
         ensures does { DoesCall (Some self.old.nodes) (Some self.new.nodes) (folder_write path.now offset bytes.now moment) result }
         ensures counted { CountsRefusal (Some self.old.nodes) result self.old.faults self.new.faults }
         ensures runs { Runs 5 self.old self.new (folder_write path.now offset bytes.now moment self.old.nodes) result }
@@ -239,7 +246,7 @@ impl Folder for MemFolder {
         self.nodes.write(path, offset, bytes, moment)
     }
 
-    fn resize(&mut self, path: &Path, end: u64, moment: u64) -> Result<(), FolderNo>
+    fn resize(&mut self, path: &[Units], end: u64, moment: u64) -> Result<(), FolderNo>
         ensures does { DoesCall (Some self.old.nodes) (Some self.new.nodes) (folder_resize path.now end moment) result }
         ensures counted { CountsRefusal (Some self.old.nodes) result self.old.faults self.new.faults }
         ensures runs { Runs 6 self.old self.new (folder_resize path.now end moment self.old.nodes) result }
@@ -250,7 +257,7 @@ impl Folder for MemFolder {
         self.nodes.resize(path, end, moment)
     }
 
-    fn mark(&mut self, path: &Path, attributes: u32, moments: Moments) -> Result<(), FolderNo>
+    fn mark(&mut self, path: &[Units], attributes: u32, moments: Moments) -> Result<(), FolderNo>
         ensures does { DoesCall (Some self.old.nodes) (Some self.new.nodes) (folder_mark path.now attributes moments) result }
         ensures counted { CountsRefusal (Some self.old.nodes) result self.old.faults self.new.faults }
         ensures runs { Runs 7 self.old self.new (folder_mark path.now attributes moments self.old.nodes) result }
@@ -261,7 +268,8 @@ impl Folder for MemFolder {
         self.nodes.mark(path, attributes, moments)
     }
 
-    fn rename(&mut self, from: &Path, to: &Path, moment: u64) -> Result<(), FolderNo>
+    fn rename(&mut self, from: &[Units], to: &[Units], moment: u64) -> Result<(), FolderNo>
+        requires named { AreNames from.now × AreNames to.now }
         ensures does { DoesCall (Some self.old.nodes) (Some self.new.nodes) (folder_rename from.now to.now moment) result }
         ensures counted { CountsRefusal (Some self.old.nodes) result self.old.faults self.new.faults }
         ensures runs { Runs 8 self.old self.new (folder_rename from.now to.now moment self.old.nodes) result }
@@ -272,7 +280,7 @@ impl Folder for MemFolder {
         self.nodes.rename(from, to, moment)
     }
 
-    fn remove(&mut self, path: &Path) -> Result<(), FolderNo>
+    fn remove(&mut self, path: &[Units]) -> Result<(), FolderNo>
         ensures does { DoesCall (Some self.old.nodes) (Some self.new.nodes) (folder_remove path.now) result }
         ensures counted { CountsRefusal (Some self.old.nodes) result self.old.faults self.new.faults }
         ensures memory { result ≡ Err FolderNo.Memory → ⊥ }

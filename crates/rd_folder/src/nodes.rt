@@ -13,7 +13,7 @@ ghost use Rattle.rd_folder.specs.InMemory.{carried, is_no_earlier, changed_node,
 use crate::look::Listed;
 use crate::node::{MemNode, compare};
 use rd_base::Units;
-use rd_dirinfo::{Naming, Path, Pattern};
+use rd_dirinfo::{Naming, Pattern};
 use std::alloc::{AllocError, Global};
 use std::mem;
 
@@ -25,10 +25,10 @@ pub fn position(nodes: &[MemNode], path: &[Units]) -> Option<usize>
 }
 
 /// Where the node at a path stands among others.
-pub fn place_of(nodes: &Vec<MemNode>, path: &Path) -> Option<usize>
+pub fn place_of(nodes: &Vec<MemNode>, path: &[Units]) -> Option<usize>
     ensures { result ≡ position (is_at_path Naming.Exact path.now) nodes.now.items }
 {
-    position(nodes.as_slice(), path.names())
+    position(nodes.as_slice(), path)
 }
 
 /// The first of the nodes that doesn't come before a path.
@@ -168,10 +168,10 @@ fn any_child(nodes: &[MemNode], folder: &[Units]) -> bool
 }
 
 /// Whether some of the nodes stands in a folder.
-pub fn has_child(nodes: &Vec<MemNode>, folder: &Path) -> bool
+pub fn has_child(nodes: &Vec<MemNode>, folder: &[Units]) -> bool
     ensures { result ≡ list_any (λ (node : Node). is_parent Naming.Exact folder.now node.path) nodes.now.items }
 {
-    any_child(nodes.as_slice(), folder.names())
+    any_child(nodes.as_slice(), folder)
 }
 
 /// Whether a name matches a pattern and comes after another one, if one is given.
@@ -227,25 +227,25 @@ fn first_wanted<'a>(
 /// The node that a listing of a folder gives next.
 pub fn next_node<'a>(
     nodes: &'a Vec<MemNode>,
-    folder: &Path,
+    folder: &[Units],
     after: Option<&Units>,
     pattern: &Pattern,
 ) -> Option<&'a MemNode>
     ensures { option_map (λ node. node.now) result ≡ find (λ (node : Node). is_parent Naming.Exact folder.now node.path && is_wanted Naming.Exact (option_map (λ other. other.now) after.entry) pattern.now (last_name node.path)) nodes.now.items }
 {
-    first_wanted(nodes.as_slice(), folder.names(), after, pattern)
+    first_wanted(nodes.as_slice(), folder, after, pattern)
 }
 
 /// The paths that nodes have when all at or below one path get another, of each in turn.
 fn paths_after(
     alloc: Global,
     nodes: &Vec<MemNode>,
-    from: &Path,
-    to: &Path,
+    from: &[Units],
+    to: &[Units],
 ) -> Result<Vec<Vec<Units>>, AllocError>
     ensures { IfOk result (λ paths. paths_of paths.items ≡ map (λ (node : Node). moved_path Naming.Exact from.now to.now node.path) nodes.now.items) }
 {
-    moved_paths(alloc, nodes.as_slice(), from.names(), to.names())
+    moved_paths(alloc, nodes.as_slice(), from, to)
 }
 
 /// The node at a place changed at a moment.
@@ -263,8 +263,8 @@ pub fn relocate(
     nodes: &mut Vec<MemNode>,
     alloc: Global,
     at: usize,
-    from: &Path,
-    to: &Path,
+    from: &[Units],
+    to: &[Units],
     moment: u64,
 ) -> Result<(), AllocError>
     requires { at < length nodes.old.items }

@@ -14,7 +14,7 @@ use crate::look::{Listed, Look};
 use crate::place::Place;
 use crate::seen::{MOST_BYTES, look_of, times_of};
 use rd_base::{Bytes, Moments, Units};
-use rd_dirinfo::{Path, Pattern};
+use rd_dirinfo::Pattern;
 use std::fs::OpenFile;
 use std::io;
 use std::io::{Error, ErrorKind};
@@ -65,7 +65,7 @@ fn read_into<F: FileExt + OpenFile>(
 }
 
 /// Opens the file at a path.
-fn open_at<R: Files>(rt: &R, root: &Place, path: &Path, writes: bool) -> io::Result<R::File> {
+fn open_at<R: Files>(rt: &R, root: &Place, path: &[Units], writes: bool) -> io::Result<R::File> {
     let spot = spot_of(root, path)?;
     let seen = file_in(rt, &spot.folder, &spot.name)?;
     spot.folder.open(rt, &spot.name, &seen, writes)
@@ -102,7 +102,7 @@ where
 
     fn next_listed(
         &mut self,
-        path: &Path,
+        path: &[Units],
         after: Option<&Units>,
         pattern: &Pattern,
     ) -> io::Result<Option<Listed>>
@@ -110,13 +110,13 @@ where
         ensures bound { IfOk result (λ found. IfSome found (λ listed. listed.look.end < 2 ^ 63)) }
         ensures faults { self.new.faults ≡ self.old.faults }
     {
-        let folder = reach(&self.root, path.names())?;
+        let folder = reach(&self.root, path)?;
         let anew = match &self.listing {
-            Some(listing) => after.is_none() || !listing.is_of(path.names()),
+            Some(listing) => after.is_none() || !listing.is_of(path),
             None => true,
         };
         if anew {
-            self.listing = Some(Listing::of(self.rt, &folder, path.names())?);
+            self.listing = Some(Listing::of(self.rt, &folder, path)?);
         }
         match &self.listing {
             Some(listing) => listing.next(self.rt, &folder, after, pattern),
@@ -127,7 +127,7 @@ where
     /// Reads from the file that is kept open, or where there is none or it fails, from one that is opened now.
     fn read_at(
         &mut self,
-        path: &Path,
+        path: &[Units],
         offset: u64,
         count: u32,
         mut room: Vec<u8>,
@@ -135,48 +135,48 @@ where
         ensures bound { IfOk result (λ bytes. length bytes ≤ count) }
         ensures faults { self.new.faults ≡ self.old.faults }
     {
-        if let Some(file) = self.kept.find(path.names(), false) {
+        if let Some(file) = self.kept.find(path, false) {
             if read_into(file, offset, count, &mut room).is_ok() {
                 return Ok(Bytes::of(room));
             }
         }
         let file = open_at(self.rt, &self.root, path, false)?;
         read_into(&file, offset, count, &mut room)?;
-        self.kept.keep(self.rt.alloc(), path.names(), false, file);
+        self.kept.keep(self.rt.alloc(), path, false, file);
         Ok(Bytes::of(room))
     }
 
     /// Writes into the file that is kept open, or where there is none or it fails, into one that is opened now.
-    fn write_at(&mut self, path: &Path, offset: u64, bytes: &[u8]) -> io::Result<()>
+    fn write_at(&mut self, path: &[Units], offset: u64, bytes: &[u8]) -> io::Result<()>
         ensures { self.new.faults ≡ self.old.faults }
     {
-        if let Some(file) = self.kept.find(path.names(), true) {
+        if let Some(file) = self.kept.find(path, true) {
             if file.write_all_at(bytes, offset).is_ok() {
                 return Ok(());
             }
         }
         let file = open_at(self.rt, &self.root, path, true)?;
         file.write_all_at(bytes, offset)?;
-        self.kept.keep(self.rt.alloc(), path.names(), true, file);
+        self.kept.keep(self.rt.alloc(), path, true, file);
         Ok(())
     }
 
     /// Sets the end of the file that is kept open, or where there is none or it fails, of one that is opened now.
-    fn set_end(&mut self, path: &Path, end: u64) -> io::Result<()>
+    fn set_end(&mut self, path: &[Units], end: u64) -> io::Result<()>
         ensures { self.new.faults ≡ self.old.faults }
     {
-        if let Some(file) = self.kept.find(path.names(), true) {
+        if let Some(file) = self.kept.find(path, true) {
             if file.set_len(end).is_ok() {
                 return Ok(());
             }
         }
         let file = open_at(self.rt, &self.root, path, true)?;
         file.set_len(end)?;
-        self.kept.keep(self.rt.alloc(), path.names(), true, file);
+        self.kept.keep(self.rt.alloc(), path, true, file);
         Ok(())
     }
 
-    fn make_at(&self, path: &Path, folder: bool) -> io::Result<()> {
+    fn make_at(&self, path: &[Units], folder: bool) -> io::Result<()> {
         let spot = spot_of(&self.root, path)?;
         let place = &spot.folder;
         if folder {
@@ -186,8 +186,8 @@ where
         }
     }
 
-    fn mark_at(&self, path: &Path, moments: Moments) -> io::Result<()> {
-        if path.names().is_empty() {
+    fn mark_at(&self, path: &[Units], moments: Moments) -> io::Result<()> {
+        if path.is_empty() {
             let root = self.root.open_self(self.rt)?;
             return root.set_times(times_of(moments));
         }
@@ -199,7 +199,7 @@ where
     }
 
     /// A file that stands at the other path goes; a folder there, and what isn't there for a drive, stays.
-    fn move_to(&self, from: &Path, to: &Path) -> io::Result<()> {
+    fn move_to(&self, from: &[Units], to: &[Units]) -> io::Result<()> {
         let spot = spot_of(&self.root, from)?;
         let place = &spot.folder;
         let seen = known_in(self.rt, place, &spot.name)?;
@@ -220,7 +220,7 @@ where
         }
     }
 
-    fn remove_at(&self, path: &Path) -> io::Result<()> {
+    fn remove_at(&self, path: &[Units]) -> io::Result<()> {
         let spot = spot_of(&self.root, path)?;
         let place = &spot.folder;
         let seen = known_in(self.rt, place, &spot.name)?;
@@ -240,7 +240,7 @@ where
 
     ghost faults = { λ f. f.faults };
 
-    fn look(&mut self, path: &Path) -> Result<Option<Look>, FolderNo> {
+    fn look(&mut self, path: &[Units]) -> Result<Option<Look>, FolderNo> {
         match seen_at(self.rt, &self.root, path) {
             Ok(Some(seen)) => Ok(Some(look_of(&seen))),
             Ok(None) => Ok(None),
@@ -251,7 +251,7 @@ where
     /// A folder is listed once, and again where a listing begins or this folder has changed something.
     fn next(
         &mut self,
-        path: &Path,
+        path: &[Units],
         after: Option<&Units>,
         pattern: &Pattern,
     ) -> Result<Option<Listed>, FolderNo> {
@@ -263,7 +263,7 @@ where
 
     fn read(
         &mut self,
-        path: &Path,
+        path: &[Units],
         offset: u64,
         count: u32,
         room: Vec<u8>,
@@ -276,7 +276,7 @@ where
 
     fn make(
         &mut self,
-        path: &Path,
+        path: &[Units],
         folder: bool,
         _attributes: u32,
         _moment: u64,
@@ -288,7 +288,7 @@ where
         }
     }
 
-    fn replace(&mut self, path: &Path, _attributes: u32, _moment: u64) -> Result<(), FolderNo> {
+    fn replace(&mut self, path: &[Units], _attributes: u32, _moment: u64) -> Result<(), FolderNo> {
         self.kept.clear();
         match self.set_end(path, 0) {
             Ok(()) => Ok(()),
@@ -298,7 +298,7 @@ where
 
     fn write(
         &mut self,
-        path: &Path,
+        path: &[Units],
         offset: u64,
         bytes: &[u8],
         _moment: u64,
@@ -309,14 +309,14 @@ where
         }
     }
 
-    fn resize(&mut self, path: &Path, end: u64, _moment: u64) -> Result<(), FolderNo> {
+    fn resize(&mut self, path: &[Units], end: u64, _moment: u64) -> Result<(), FolderNo> {
         match self.set_end(path, end) {
             Ok(()) => Ok(()),
             Err(error) => Err(self.faults.refuse(error)),
         }
     }
 
-    fn mark(&mut self, path: &Path, _attributes: u32, moments: Moments) -> Result<(), FolderNo> {
+    fn mark(&mut self, path: &[Units], _attributes: u32, moments: Moments) -> Result<(), FolderNo> {
         self.kept.clear();
         match self.mark_at(path, moments) {
             Ok(()) => Ok(()),
@@ -324,7 +324,7 @@ where
         }
     }
 
-    fn rename(&mut self, from: &Path, to: &Path, _moment: u64) -> Result<(), FolderNo> {
+    fn rename(&mut self, from: &[Units], to: &[Units], _moment: u64) -> Result<(), FolderNo> {
         self.let_go();
         match self.move_to(from, to) {
             Ok(()) => Ok(()),
@@ -332,7 +332,7 @@ where
         }
     }
 
-    fn remove(&mut self, path: &Path) -> Result<(), FolderNo> {
+    fn remove(&mut self, path: &[Units]) -> Result<(), FolderNo> {
         self.let_go();
         match self.remove_at(path) {
             Ok(()) => Ok(()),

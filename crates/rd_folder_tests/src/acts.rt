@@ -40,7 +40,7 @@ fn looks<F: Folder>(
     text: &str,
     so: Option<(bool, u64)>,
 ) -> Result<bool, FolderNo> {
-    let found = folder.look(&path(rt, text))?;
+    let found = folder.look(path(rt, text).names())?;
     Ok(found.map(|look| (look.folder, look.end)) == so)
 }
 
@@ -61,7 +61,7 @@ fn lists<F: Folder>(
         None => None,
     };
     let pattern = Pattern::any(rt.alloc());
-    let listed = folder.next(&path(rt, "\\"), after.as_ref(), &pattern)?;
+    let listed = folder.next(path(rt, "\\").names(), after.as_ref(), &pattern)?;
     Ok(match (&listed, so) {
         (Some(listed), Some(so)) => is_so(rt, listed, so),
         (None, None) => true,
@@ -78,7 +78,7 @@ fn reads<F: Folder>(
     count: u32,
     bytes: &[u8],
 ) -> Result<bool, FolderNo> {
-    let found = folder.read(&path(rt, text), offset, count, Vec::new(rt.alloc()))?;
+    let found = folder.read(path(rt, text).names(), offset, count, Vec::new(rt.alloc()))?;
     Ok(found.as_slice() == bytes)
 }
 
@@ -96,8 +96,8 @@ fn marks<F: Folder>(
         write: moment,
         change: moment,
     };
-    folder.mark(&path, 0x20, moments)?;
-    let found = folder.look(&path)?;
+    folder.mark(path.names(), 0x20, moments)?;
+    let found = folder.look(path.names())?;
     Ok(found.map(|look| (look.moments.access, look.moments.write)) == Some((moment, moment)))
 }
 
@@ -114,12 +114,12 @@ fn ends<F: Folder>(
             return reads(rt, folder, text, offset, count, bytes);
         }
         Act::Mark(text, moment) => return marks(rt, folder, text, moment),
-        Act::Make(text, is_folder) => folder.make(&path(rt, text), is_folder, 0x20, 5),
-        Act::Replace(text) => folder.replace(&path(rt, text), 0x20, 6),
-        Act::Write(text, offset, bytes) => folder.write(&path(rt, text), offset, bytes, 7),
-        Act::Resize(text, end) => folder.resize(&path(rt, text), end, 8),
-        Act::Rename(from, to) => folder.rename(&path(rt, from), &path(rt, to), 9),
-        Act::Remove(text) => folder.remove(&path(rt, text)),
+        Act::Make(text, is_folder) => folder.make(path(rt, text).names(), is_folder, 0x20, 5),
+        Act::Replace(text) => folder.replace(path(rt, text).names(), 0x20, 6),
+        Act::Write(text, offset, bytes) => folder.write(path(rt, text).names(), offset, bytes, 7),
+        Act::Resize(text, end) => folder.resize(path(rt, text).names(), end, 8),
+        Act::Rename(from, to) => folder.rename(path(rt, from).names(), path(rt, to).names(), 9),
+        Act::Remove(text) => folder.remove(path(rt, text).names()),
     };
     done?;
     Ok(true)

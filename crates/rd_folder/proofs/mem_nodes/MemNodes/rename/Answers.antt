@@ -1,9 +1,6 @@
-use Rattle.std.proofs.Common.{◌∙◌, refl, sym, ap, subst, ◌∷◌, List, Some}
+use Rattle.std.proofs.Common.{◌∙◌, sym, ap, subst, ◌∷◌, List, Some}
 use Rattle.std.specs.Ordering.{is_eq}
-use Rattle.rd_dirinfo.specs.declared.naming.Naming.TheVariants.{Exact}
-use Rattle.rd_dirinfo.specs.Paths.{path_cmp}
 use Rattle.rd_drive.specs.DriveState.{Node}
-use Rattle.rd_tree.proofs.NameLemmas.{path_names}
 use Rattle.rd_folder.specs.Told.{IsFolderMap}
 use Rattle.rd_folder.specs.FolderCalls.{may_move}
 use Rattle.rd_folder.proofs.RenameLemmas.{none_moves, renamed_comes, renamed_map, stays_put}
@@ -16,7 +13,7 @@ returns-in_default c =
 pub returns-then-is_eq : goal.returns-then-is_eq
 returns-then-is_eq c =
     stays_put c.self.inside.root c.self.inside.others.items c.self.invariant c.args.from.now c.args.to.now c.args.moment c.args.self.now c.self.view_is c.in-Some.at (sym c.place_of.ensures ∙ c.in-Some.is)
-    ((λ i. is_eq (path_cmp Exact (sym c.names.ensures.names i) (sym c.names-2.ensures.names i))) ∙ ap is_eq (sym c.compare.ensures) ∙ sym c.is_eq.ensures ∙ c.if-is_eq.true)
+    (ap is_eq (sym c.compare.ensures) ∙ sym c.is_eq.ensures ∙ c.if-is_eq.true)
 
 pub invariant_of-self : goal.invariant_of-self
 invariant_of-self c = subst (λ (l : List Node). IsFolderMap (c.self.inside.root ∷ l)) (sym c.in_default-relocate.ensures.err) c.self.invariant
@@ -25,11 +22,11 @@ pub invariant_of-self-2 : goal.invariant_of-self-2
 invariant_of-self-2 c =
     subst (λ (l : List Node). IsFolderMap (c.self.inside.root ∷ l)) (sym c.in-Ok.ensures.moved)
     (renamed_map c.self.inside.root c.self.inside.others.items c.self.invariant c.args.from.now c.args.to.now c.args.moment c.in-Some.at (sym c.place_of.ensures ∙ c.in-Some.is)
-    (ap (λ (l : List Node). may_move l c.args.from.now c.args.to.now) c.self.view_is ∙ sym c.may_move.ensures ∙ c.if-not-may_move.false) (path_names c.args.to.now c.args.to.now refl c.names-2.ensures.within))
+    (ap (λ (l : List Node). may_move l c.args.from.now c.args.to.now) c.self.view_is ∙ sym c.may_move.ensures ∙ c.if-not-may_move.false) c.requires)
 
 pub returns : goal.returns
 returns c =
     renamed_comes c.self.inside.root c.self.inside.others.items c.self.invariant c.args.from.now c.args.to.now c.args.moment c.in-Some.at (sym c.place_of.ensures ∙ c.in-Some.is)
-    (ap (λ (l : List Node). may_move l c.args.from.now c.args.to.now) c.self.view_is ∙ sym c.may_move.ensures ∙ c.if-not-may_move.false) (path_names c.args.to.now c.args.to.now refl c.names-2.ensures.within)
-    ((λ i. is_eq (path_cmp Exact (sym c.names.ensures.names i) (sym c.names-2.ensures.names i))) ∙ ap is_eq (sym c.compare.ensures) ∙ sym c.is_eq.ensures ∙ c.if-is_eq.false) c.args.self.now c.self.view_is
+    (ap (λ (l : List Node). may_move l c.args.from.now c.args.to.now) c.self.view_is ∙ sym c.may_move.ensures ∙ c.if-not-may_move.false) c.requires
+    (ap is_eq (sym c.compare.ensures) ∙ sym c.is_eq.ensures ∙ c.if-is_eq.false) c.args.self.now c.self.view_is
     ∙ ap (λ (l : List Node). Some (tt, c.self.inside.root ∷ l)) (sym c.in-Ok.ensures.moved)
