@@ -1,0 +1,13 @@
+pub mod Alone
+pub mod Asking
+pub mod Closing
+pub mod Cutting
+pub mod FolderDrive
+pub mod Listing
+pub mod Opening
+pub mod Served
+pub mod Setting
+pub mod Settling
+pub mod Table
+pub mod Telling
+pub mod Waits
