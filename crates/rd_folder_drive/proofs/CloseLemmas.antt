@@ -1,6 +1,7 @@
 -- A Close of what a file id has open: its node stays, stays as a folder in which something stands, or goes; or the folder keeps it.
-use Rattle.std.proofs.Common.{◌≡◌, ◌∙◌, refl, sym, ap, subst, ℕ, Bool, true, false, not, ◌&&◌, ◌||◌, cond, List, [], ◌∷◌, length, Option, Some, None, Result, Ok, Err, nat_lt, rules}
+use Rattle.std.proofs.Common.{◌≡◌, ◌∙◌, refl, sym, ap, subst, ℕ, ◌==◌, Bool, true, false, not, ◌&&◌, ◌||◌, cond, List, [], ◌∷◌, length, Option, Some, None, Result, Ok, Err, nat_lt, rules}
 use Rattle.std.specs.List.{list_any}
+use Rattle.rd_base.specs.declared.status.Status.{Status}
 use Rattle.std.specs.Option.{IfSome, IsSome, is_some, option_map, option_map_or}
 use Rattle.std.specs.Ordering.{nat_cmp}
 use Rattle.std.specs.Map.{lookup, remove_entry}
@@ -9,7 +10,7 @@ use Rattle.std.proofs.lemmas.Bool.{lt-ltb}
 use Rattle.std.proofs.lemmas.Option.{none-some}
 use Rattle.std.proofs.Math.Bool.{and-false}
 use Rattle.rd_base.specs.Faults.{one_more}
-use Rattle.rd_base.specs.Statuses.{invalid_handle}
+use Rattle.rd_base.specs.Statuses.{invalid_handle, no_memory}
 use Rattle.rd_dirinfo.specs.Paths.{Names, is_path}
 use Rattle.rd_irp.specs.declared.completion.Body.TheVariants.{Closed}
 use Rattle.rd_irp.specs.declared.op.Op.TheVariants.{Close}
@@ -43,7 +44,7 @@ use Rattle.rd_folder_drive.proofs.ChildLemmas.{filled_seen}
 use Rattle.rd_folder_drive.proofs.HandlesLemmas.{all_kept, kept_fewer, open_counted, removed_seen}
 use Rattle.rd_folder_drive.proofs.MarkLemmas.{children_marked}
 use Rattle.rd_folder_drive.proofs.OffLemmas.{none_open, nodes_left, off_goes_holds, off_goes_seen, off_holds_same, off_sound, off_stays_seen, open_here}
-use Rattle.rd_folder_drive.proofs.ServeLemmas.{held_by, is_calm, leaves_by, refused_at_once}
+use Rattle.rd_folder_drive.proofs.ServeLemmas.{held_by, is_calm, leaves_by, stays}
 use Rattle.rd_folder_drive.proofs.TableLemmas as table
 
 -- a file id is closed, and its node stays
@@ -360,7 +361,13 @@ opened_by t sound file h is = by (open_at t h.node) (sound.handles file h is).on
 
 -- nothing is closed where the file id has no handle
 pub serves_unopened : (t : Table) → IsSound t → (file : ℕ) → kept_handle t file ≡ None → (before : Seen) → IsOver t before → ServesClose t before t before file (Err invalid_handle)
-serves_unopened t sound file none before over = refused_at_once t before over sound (λ s. on_handle s file (close s file)) invalid_handle (refl, refl) (λ nodes holds. table.unopened t nodes file (close (drive_of t nodes) file) none)
+serves_unopened t sound file none before over = (
+  sound,
+  (refl, refl),
+  (λ e. let other : false ≡ true = ap (λ (s : Status). s.0 == no_memory.0) e in absurd (cc)),
+  is_calm t before over,
+  stays t before before over refl (λ s left. on_handle s file (close s file) ≡ outcome.refused left invalid_handle) (λ nodes told holds. table.unopened t nodes file (close (drive_of t nodes) file) none),
+)
 
 -- and no handle goes
 pub none_removed : (test : ℕ → Bool) (es : List (ℕ × kept.Handle)) → lookup test es ≡ None → remove_entry test es ≡ es

@@ -114,20 +114,10 @@ module _ (t new : Table) (before after : Seen) (sound : IsSound t) (none : t.wai
           },
         )) serves.4,
   )
-  left_by (Err status) serves = ((None, serves.0), by serves.1)
-    where
-      shorter : (nodes left : List Node) → drive_of new left ≡ drive_of t nodes → ⊥
-      shorter nodes left same =
-          let one : length (drive_of new left).handles ≡ length (drive_of t nodes).handles = ap (λ (d : DriveState). length d.handles) same in
-          let news : length (drive_of new left).handles ≡ length new.handles.entries = length-map new.handles.entries (λ (e : ℕ × kept.Handle). (e.0, handle_of new e.1)) in
-          let olds : length (drive_of t nodes).handles ≡ length t.handles.entries = length-map t.handles.entries (λ (e : ℕ × kept.Handle). (e.0, handle_of t e.1)) in
-          let fewer : length new.handles.entries ≡ length entries.0 = ap (length {A = ℕ × kept.Handle}) others in
-          let more : length t.handles.entries ≡ suc (length entries.0) = ap (length {A = ℕ × kept.Handle}) entries.1 in
-          absurd (omega (arith, one, news, olds, fewer, more))
-
-      by : (IsOwnStatus status × IsCalm before after × Leaves t before new after (λ s left. on_handle s file (close s file) ≡ outcome.refused left status)) ⊎ (IsRefusedBy before after status × Leaves t before new after (λ s left. left ≡ s)) → IsOver new after × (before.told ≡ None → after.told ≡ None) × OverTold t before new after First
-      by (inl (own, calm, leaves)) = left_over (λ s left. on_handle s file (close s file) ≡ outcome.refused left status) (λ nodes left told is. inl (ap (λ (o : Outcome). o.state) is, calm_told before after calm nodes told)) leaves
-      by (inr (refused, leaves)) = left_over (λ s left. left ≡ s) (λ nodes left told same. absurd (shorter nodes left same)) leaves
+  left_by (Err status) serves = (
+    (None, serves.0),
+    left_over (λ s left. on_handle s file (close s file) ≡ outcome.refused left status) (λ nodes left told is. inl (ap (λ (o : Outcome). o.state) is, calm_told before after serves.3 nodes told)) serves.4,
+  )
 
   pub first_closed : (result : Result Done Status) → ServesClose t before new after file result → IsSound new × IsOver new after × (before.told ≡ None → after.told ≡ None) × ClosesFirst t before new after
   first_closed result serves =

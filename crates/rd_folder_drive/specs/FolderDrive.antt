@@ -7,7 +7,7 @@ use Rattle.rd_irp.specs.declared.op.Op.TheVariants.{Close}
 use Rattle.rd_drive.specs.declared.step.End.{End}
 use Rattle.rd_drive.specs.declared.step.Step.{Step}
 use Rattle.rd_drive.specs.declared.step.Step.TheVariants as step
-use Rattle.rd_drive.specs.Answered.{drive_ran, parked_of}
+use Rattle.rd_drive.specs.Answered.{drive_parked, drive_ran, parked_of}
 use Rattle.rd_drive.specs.Device.{Parked, is_starved}
 use Rattle.rd_drive.specs.DriveState.{DriveState, Handle, Node, handle_at, node_of_path}
 use Rattle.rd_drive.specs.DriveStep.{step_of, with_closed}
@@ -59,18 +59,18 @@ pub record Keeps (old : DriveState) (file : ℕ) (answer : Step) (ends : List En
   pub comes : step_of (keeping old file (folder_status no) handle node) ≡ record { state = new; answer = answer; ends = ends }
   pub counted : after ≡ one_more before
 
--- what a drive over a folder that tells its nodes does with a job
+-- What a drive over a folder that tells its nodes does with a job. A Close is never refused so: the handle goes.
 abbrev pub DoesJob : DriveState → Planned → ℕ → Step → List End → DriveState → (before after : ℕ) → Type 0
 DoesJob old planned moment answer ends new before after =
     IsRun old planned moment answer ends new before after
-    ⊎ IsRefused old answer ends new before after
+    ⊎ (((planned.job.op ≡ Close) → ⊥) × IsRefused old answer ends new before after)
     ⊎ ((planned.job.op ≡ Close) × Keeps old planned.job.file answer ends new before after)
 
 -- A drive over a folder runs a job. Where the folder tells its nodes this is what the definition says; where it doesn't, that the folder failed is said only
 -- where one fault more is counted.
 abbrev pub FolderRuns : FolderDriveState → Planned → ℕ → Step → List End → FolderDriveState → Type 0
 FolderRuns old planned moment answer ends new =
-    ((s : DriveState) → old.drive ≡ Some s → (left : DriveState) × (new.drive ≡ Some left) × DoesJob s planned moment answer ends left old.faults new.faults)
+    ((s : DriveState) → old.drive ≡ Some s → (left : DriveState) × (new.drive ≡ Some left) × (new.parked ≡ drive_parked left) × DoesJob s planned moment answer ends left old.faults new.faults)
     × (old.drive ≡ None → (new.drive ≡ None) × (answer ≡ step.Reply (outcome.fault io_device_error) → new.faults ≡ one_more old.faults))
 
 -- ---- a cut
@@ -90,5 +90,5 @@ ClosesAll old (file ∷ files) new before after =
 -- A drive over a folder is cut off: no request waits any more, and every file is closed, in the order of the file ids.
 abbrev pub FolderCuts : FolderDriveState → FolderDriveState → Type 0
 FolderCuts old new =
-    ((s : DriveState) → old.drive ≡ Some s → (left : DriveState) × (new.drive ≡ Some left) × ClosesAll (record s { waiting = [] }) (keys_of s.handles) left old.faults new.faults)
+    ((s : DriveState) → old.drive ≡ Some s → (left : DriveState) × (new.drive ≡ Some left) × (new.parked ≡ drive_parked left) × ClosesAll (record s { waiting = [] }) (keys_of s.handles) left old.faults new.faults)
     × (old.drive ≡ None → new.drive ≡ None)

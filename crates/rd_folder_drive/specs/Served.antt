@@ -179,10 +179,13 @@ keeping s file status handle node = record {
 abbrev pub IsKeptBy : Seen → Seen → Status → Type 0
 IsKeptBy before after status = (no : FolderNo) × (status ≡ folder_status no) × ((no ≡ folder.Memory) → ⊥) × (after.faults ≡ one_more before.faults)
 
--- A Close comes to what the definition says; or the folder keeps the node.
+-- A Close comes to what the definition says, and is refused only so; or the folder keeps the node.
 abbrev pub ServesClose : Table → Seen → Table → Seen → ℕ → Result Done Status → Type 0
 ServesClose old before new after file (Ok (done.Kept status news)) =
     IsSoundBut (Some file) new × (news.closed ≡ Some file) × IsHeard new news × IsKeptBy before after status
     × Leaves old before new after (λ s left. (handle : Handle) × (node : Node) × (handle_at s file ≡ Some handle) × (node_of_path s handle.path ≡ Some node) × (takes_out s file handle node ≡ true)
     × (keeping s file status handle node ≡ record { state = left; answer = step.Reply (outcome.fault status); news = news_of new news }))
+ServesClose old before new after file (Err status) =
+    IsSound new × IsOwnStatus status × ((status ≡ no_memory) → ⊥) × IsCalm before after
+    × Leaves old before new after (λ s left. on_handle s file (close s file) ≡ outcome.refused left status)
 ServesClose old before new after file result = Serves old before new after (λ s. on_handle s file (close s file)) result
