@@ -15,7 +15,7 @@ use Rattle.rd_folder_drive.specs.declared.table.Done.{Done}
 use Rattle.rd_folder_drive.specs.declared.table.Done.TheVariants as done
 use Rattle.rd_folder_drive.specs.Alone.{LeavesAlone, ServesAlone}
 use Rattle.rd_folder_drive.specs.Served.{IsCalm, IsOver, IsOwnStatus, Leaves, Seen, Serves, about_locks, news_of, nothing}
-use Rattle.rd_folder_drive.specs.Table.{Holds, IsSound, drive_of, open_at, path_at}
+use Rattle.rd_folder_drive.specs.Table.{HasNodes, IsSound, drive_of, open_at, path_at}
 
 -- ---- by what is returned
 
@@ -31,7 +31,7 @@ module _ (old new : Table) (comes : DriveState → Outcome) (body : Body) (news 
 
 module _ (old : Table) (comes : DriveState → Outcome) (sound : IsSound old) (new : Table) (same : new ≡ old) where
   -- refused, and nothing changed
-  pub alone_refused : (status : Status) → IsOwnStatus status → ((nodes : List Node) → Holds old nodes → comes (drive_of old nodes) ≡ refused (drive_of old nodes) status) → ServesAlone old new comes (Err status)
+  pub alone_refused : (status : Status) → IsOwnStatus status → ((nodes : List Node) → HasNodes old nodes → comes (drive_of old nodes) ≡ refused (drive_of old nodes) status) → ServesAlone old new comes (Err status)
   alone_refused status own is = subst (λ (t : Table). ServesAlone old t comes (Err status)) (sym same) (sound, inl (own, λ nodes holds. (holds, is nodes holds)))
 
   -- no memory was found, and nothing changed
@@ -39,7 +39,7 @@ module _ (old : Table) (comes : DriveState → Outcome) (sound : IsSound old) (n
   alone_starved = subst (λ (t : Table). ServesAlone old t comes (Err no_memory)) (sym same) (sound, inr (refl, λ nodes holds. (holds, refl)))
 
 -- what a drive with these nodes comes to the same way is served as well
-pub alone_same : (old new : Table) (comes other : DriveState → Outcome) (result : Result Done Status) → ((nodes : List Node) → Holds old nodes → other (drive_of old nodes) ≡ comes (drive_of old nodes))
+pub alone_same : (old new : Table) (comes other : DriveState → Outcome) (result : Result Done Status) → ((nodes : List Node) → HasNodes old nodes → other (drive_of old nodes) ≡ comes (drive_of old nodes))
     → ServesAlone old new comes result → ServesAlone old new other result
 alone_same old new comes other (Ok (done.Replied body news)) same (sound, heard, alone) = (sound, heard, λ nodes holds. let is = alone nodes holds in (is.0, same nodes holds ∙ is.1))
 alone_same old new comes other (Ok done.Parked) same (sound, alone) = (sound, λ nodes holds. let is = alone nodes holds in (is.0, same nodes holds ∙ is.1))
@@ -55,10 +55,10 @@ leaves_alone old new before after P over same alone =
     subst (λ (seen : Seen). Leaves old before new seen P) (sym same)
     (by before.told over, (λ none. none), λ nodes told. (nodes, told, (alone nodes (holds before.told over nodes told)).1))
   where
-    holds : (told : Option (List Node)) → IfSome told (Holds old) → (nodes : List Node) → told ≡ Some nodes → Holds old nodes
-    holds told is nodes e = subst (λ (o : Option (List Node)). IfSome o (Holds old)) e is
+    holds : (told : Option (List Node)) → IfSome told (HasNodes old) → (nodes : List Node) → told ≡ Some nodes → HasNodes old nodes
+    holds told is nodes e = subst (λ (o : Option (List Node)). IfSome o (HasNodes old)) e is
 
-    by : (told : Option (List Node)) → IfSome told (Holds old) → IfSome told (Holds new)
+    by : (told : Option (List Node)) → IfSome told (HasNodes old) → IfSome told (HasNodes new)
     by None is = tt
     by (Some nodes) is = (alone nodes is).0
 

@@ -22,7 +22,7 @@ use Rattle.rd_folder_drive.specs.declared.table.Done.{Done}
 use Rattle.rd_folder_drive.specs.declared.table.Done.TheVariants as done
 use Rattle.rd_folder_drive.specs.declared.table.Table.{Table}
 use Rattle.rd_folder_drive.specs.Served.{Seen, IsOver, Leaves, Serves, news_of, nothing}
-use Rattle.rd_folder_drive.specs.Table.{Holds, IsSound, drive_of, marked}
+use Rattle.rd_folder_drive.specs.Table.{HasNodes, IsSound, drive_of, marked}
 use Rattle.rd_folder_drive.proofs.ServeLemmas.{held_by, is_calm}
 use Rattle.rd_folder_drive.proofs.TableLemmas.{node_seen}
 
@@ -34,7 +34,7 @@ leaves_same old new before after P Q each leaves = (leaves.0, leaves.1, λ nodes
 
 -- what comes to the same over the nodes that a folder tells is served as well
 pub serves_same : (old new : Table) (before after : Seen) → IsOver old before → (comes other : DriveState → outcome.Outcome) (result : Result Done Status)
-    → ((nodes : List Node) → before.told ≡ Some nodes → Holds old nodes → other (drive_of old nodes) ≡ comes (drive_of old nodes)) → Serves old before new after comes result → Serves old before new after other result
+    → ((nodes : List Node) → before.told ≡ Some nodes → HasNodes old nodes → other (drive_of old nodes) ≡ comes (drive_of old nodes)) → Serves old before new after comes result → Serves old before new after other result
 serves_same old new before after over comes other (Ok (done.Replied body news)) same (sound, heard, calm, leaves) = (
   sound,
   heard,
@@ -57,13 +57,13 @@ serves_same old new before after over comes other (Err status) same (sound, inr 
 
 -- an operation is done, the table has changed, and the folder is as it was
 pub done_anew : (old new : Table) (folder : Seen) → IsOver old folder → IsSound new → (comes : DriveState → outcome.Outcome) (body : Body) (news : told_news.News) → news ≡ nothing
-    → ((nodes : List Node) → folder.told ≡ Some nodes → Holds old nodes → Holds new nodes × (comes (drive_of old nodes) ≡ outcome.succeeded (drive_of new nodes) body outcome.no_news))
+    → ((nodes : List Node) → folder.told ≡ Some nodes → HasNodes old nodes → HasNodes new nodes × (comes (drive_of old nodes) ≡ outcome.succeeded (drive_of new nodes) body outcome.no_news))
     → Serves old folder new folder comes (Ok (done.Replied body news))
 done_anew old new folder over sound comes body news quiet each =
     subst (λ (n : told_news.News). Serves old folder new folder comes (Ok (done.Replied body n))) (sym quiet)
     (sound, (tt, (tt, (tt, (tt, tt)))), is_calm old folder over, (by folder.told refl, (λ none. none), λ nodes told. (nodes, told, (each nodes told (held_by old folder over nodes told)).1)))
   where
-    by : (found : Option (List Node)) → folder.told ≡ found → IfSome found (Holds new)
+    by : (found : Option (List Node)) → folder.told ≡ found → IfSome found (HasNodes new)
     by None is = tt
     by (Some nodes) is = (each nodes is (held_by old folder over nodes is)).0
 

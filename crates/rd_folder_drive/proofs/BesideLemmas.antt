@@ -12,7 +12,7 @@ use Rattle.rd_folder_drive.specs.declared.open.Open.{Open}
 use Rattle.rd_folder_drive.specs.declared.table.Table.{Table}
 use Rattle.rd_folder_drive.specs.Served.{IsOver, Seen}
 use Rattle.rd_folder_drive.specs.Settling.{IsBeside}
-use Rattle.rd_folder_drive.specs.Table.{Holds, IsHandle, IsOpened, IsSoundBut, kept_handle}
+use Rattle.rd_folder_drive.specs.Table.{HasNodes, IsHandle, IsOpened, IsSoundBut, kept_handle}
 use Rattle.rd_folder_drive.proofs.LockLemmas.{IsHome}
 
 -- a request that waits has its handle, if this wasn't closed, and room for what is told
@@ -44,7 +44,7 @@ module _ (t : Table) (locks : LockList) (waiting : Vec kept_waiting.Waiting Glob
     ids = sound.ids;
   }
 
-  pub beside_holds : (nodes : List Node) → Holds t nodes → Holds beside nodes
+  pub beside_holds : (nodes : List Node) → HasNodes t nodes → HasNodes beside nodes
   beside_holds nodes holds = record { map = holds.map; there = holds.there }
 
 -- other locks, and as many places reserved
@@ -52,12 +52,12 @@ pub locks_sound : {closed : Option ℕ} (t : Table) → IsSoundBut closed t → 
 locks_sound {closed = closed} t sound locks same homes = beside_sound t locks t.waiting sound closed homes sound.waits (same ∙ sound.reserved) sound.few.1 sound.few.2
 
 -- what is open is among the same nodes
-pub holds_beside : (old new : Table) → IsBeside old new → (nodes : List Node) → Holds old nodes → Holds new nodes
-holds_beside old new is nodes holds = subst (λ (t : Table). Holds t nodes) (sym is) (beside_holds old new.locks new.waiting nodes holds)
+pub holds_beside : (old new : Table) → IsBeside old new → (nodes : List Node) → HasNodes old nodes → HasNodes new nodes
+holds_beside old new is nodes holds = subst (λ (t : Table). HasNodes t nodes) (sym is) (beside_holds old new.locks new.waiting nodes holds)
 
 pub over_beside : (old new : Table) → IsBeside old new → (seen : Seen) → IsOver old seen → IsOver new seen
 over_beside old new is seen over = by seen.told over
   where
-    by : (told : Option (List Node)) → IfSome told (Holds old) → IfSome told (Holds new)
+    by : (told : Option (List Node)) → IfSome told (HasNodes old) → IfSome told (HasNodes new)
     by None none = tt
     by (Some nodes) holds = holds_beside old new is nodes holds

@@ -36,9 +36,9 @@ use Rattle.rd_folder_drive.specs.declared.news.News as told_news
 use Rattle.rd_folder_drive.specs.declared.open.Open.{Open}
 use Rattle.rd_folder_drive.specs.declared.table.Done.TheVariants as done
 use Rattle.rd_folder_drive.specs.declared.table.Table.{Table}
-use Rattle.rd_folder_drive.specs.Closing.{IsFed, IsOff, kept_done, left_by, other_handles}
-use Rattle.rd_folder_drive.specs.Served.{FitsBody, IfReplied, IsKeptBy, IsOver, Leaves, Seen, ServesClose, folder_status, keeping, news_of, takes_out}
-use Rattle.rd_folder_drive.specs.Table.{Holds, IsSound, drive_of, handle_of, kept_handle, marked, open_at, path_at, uses_on}
+use Rattle.rd_folder_drive.specs.Closing.{IsFed, IsOff, kept_done, used_once_less, other_handles}
+use Rattle.rd_folder_drive.specs.Served.{FitsBody, IfReplied, IsKeptBy, IsOver, Leaves, Seen, ServesClose, folder_status, keeping_node, news_of, takes_out}
+use Rattle.rd_folder_drive.specs.Table.{HasNodes, IsSound, drive_of, handle_of, kept_handle, marked, open_at, path_at, uses_on}
 use Rattle.rd_folder_drive.proofs.AskLemmas.{answer_is, calm_by, refusal_missing, refusal_same}
 use Rattle.rd_folder_drive.proofs.ChildLemmas.{filled_seen}
 use Rattle.rd_folder_drive.proofs.HandlesLemmas.{all_kept, kept_fewer, open_counted, removed_seen}
@@ -57,14 +57,14 @@ closed_with file change = record { closed = Some file; unlocked = None; changes 
 
 -- what is left where the folder tells what it told
 pub leaves_same : (old new : Table) (before after : Seen) → IsOver old before → after.told ≡ before.told → (P : DriveState → DriveState → Type 0)
-    → ((nodes : List Node) → before.told ≡ Some nodes → Holds old nodes → Holds new nodes × P (drive_of old nodes) (drive_of new nodes)) → Leaves old before new after P
+    → ((nodes : List Node) → before.told ≡ Some nodes → HasNodes old nodes → HasNodes new nodes × P (drive_of old nodes) (drive_of new nodes)) → Leaves old before new after P
 leaves_same old new before after over same P each = (
-  subst (λ (found : Option (List Node)). IfSome found (Holds new)) (sym same) (by before.told refl),
+  subst (λ (found : Option (List Node)). IfSome found (HasNodes new)) (sym same) (by before.told refl),
   (λ none. same ∙ none),
   λ nodes told. (nodes, same ∙ told, (each nodes told (held_by old before over nodes told)).1),
 )
   where
-    by : (found : Option (List Node)) → before.told ≡ found → IfSome found (Holds new)
+    by : (found : Option (List Node)) → before.told ≡ found → IfSome found (HasNodes new)
     by None told = tt
     by (Some nodes) told = (each nodes told (held_by old before over nodes told)).0
 
@@ -85,7 +85,7 @@ module _ (t : Table) (sound : IsSound t) (file : ℕ) (h : kept.Handle) (o : Ope
       let stays : pending ≡ false = (λ i. (sound.opened n o on).root top i || (sound.handles file h is).root at i) in
       absurd (let clash : true ≡ false = sym goes ∙ stays in cc)
 
-  module _ (nodes : List Node) (holds : Holds t nodes) where
+  module _ (nodes : List Node) (holds : HasNodes t nodes) where
     abbrev pub node : Node
     node = table.node t sound nodes holds file h o is on
 
@@ -176,13 +176,13 @@ module _ (t : Table) (sound : IsSound t) (file : ℕ) (h : kept.Handle) (o : Ope
         (λ nodes at holds. (off_holds_same t sound file h o is on None new off nodes holds, comes_to nodes holds)),
   )
     where
-      here : open_at new h.node ≡ Some (left_by t file h o)
+      here : open_at new h.node ≡ Some (used_once_less t file h o)
       here = open_here t sound file h o is on None new off
 
       path_here : path_at new h.node ≡ o.path
       path_here = ap (λ (found : Option Open). option_map_or (λ (x : Open). x.path) found []) here
 
-      comes_to : (nodes : List Node) (holds : Holds t nodes) → on_handle (drive_of t nodes) file (close (drive_of t nodes) file) ≡ succeeded (drive_of new nodes) Closed (closing file (path_at new h.node))
+      comes_to : (nodes : List Node) (holds : HasNodes t nodes) → on_handle (drive_of t nodes) file (close (drive_of t nodes) file) ≡ succeeded (drive_of new nodes) Closed (closing file (path_at new h.node))
       comes_to nodes holds =
           comes_staying t sound file h o is on nodes holds (ap (λ b. to_go && not b) (lt-ltb 0 uses off.taken) ∙ and-false to_go)
           ∙ (λ i. succeeded (sym (off_stays_seen t sound file h o is on None new off nodes holds) i) Closed (closing file ((own_path t sound file h o is on nodes holds ∙ sym path_here) i)))
@@ -207,13 +207,13 @@ module _ (t : Table) (sound : IsSound t) (file : ℕ) (h : kept.Handle) (o : Ope
     gone_news = closed_on file (named.Gone taken.path)
 
     -- the drive where the node stays and isn't pending
-    stays_state : (nodes : List Node) (holds : Holds t nodes) (b : Bool) → b ≡ false
+    stays_state : (nodes : List Node) (holds : HasNodes t nodes) (b : Bool) → b ≡ false
         → with_node (rest t sound file h o is on nodes holds) (record (own t sound file h o is on nodes holds) { pending = b }) ≡ drive_of new nodes
     stays_state nodes holds b e =
         ap (λ c. with_node (rest t sound file h o is on nodes holds) (record (own t sound file h o is on nodes holds) { pending = c })) e
         ∙ sym (off_stays_seen t sound file h o is on (Some taken) new off nodes holds)
 
-    gone_path : (nodes : List Node) (holds : Holds t nodes) → (own t sound file h o is on nodes holds).path ≡ taken.path
+    gone_path : (nodes : List Node) (holds : HasNodes t nodes) → (own t sound file h o is on nodes holds).path ≡ taken.path
     gone_path nodes holds = own_path t sound file h o is on nodes holds ∙ sym taken_path
 
     -- it wasn't pending
@@ -258,7 +258,7 @@ module _ (t : Table) (sound : IsSound t) (file : ℕ) (h : kept.Handle) (o : Ope
             )),
       )
         where
-          nothing_in : (nodes : List Node) → before.told ≡ Some nodes → Holds t nodes → has_children (drive_over nodes) o.path ≡ false
+          nothing_in : (nodes : List Node) → before.told ≡ Some nodes → HasNodes t nodes → has_children (drive_over nodes) o.path ≡ false
           nothing_in nodes at holds = by (has_children (drive_over nodes) o.path) refl
             where
               came : (left : List Node) × (folder_remove o.path nodes ≡ Some (tt, left)) × (after.told ≡ Some left)
@@ -268,7 +268,7 @@ module _ (t : Table) (sound : IsSound t) (file : ℕ) (h : kept.Handle) (o : Ope
               by true e = absurd (none-some _ (sym (removes_none t sound file h o is on nodes holds pends e) ∙ came.1))
               by false e = e
 
-          kind_is : (nodes : List Node) (holds : Holds t nodes) → name_bit (own t sound file h o is on nodes holds) ≡ cond taken.folder 2 1
+          kind_is : (nodes : List Node) (holds : HasNodes t nodes) → name_bit (own t sound file h o is on nodes holds) ≡ cond taken.folder 2 1
           kind_is nodes holds = ap (λ b. cond b 2 1) (table.kind t sound nodes holds file h o is on ∙ sym (ap (λ (x : Open). x.folder) off.taken.0))
 
       -- something stands in it
@@ -312,7 +312,7 @@ module _ (t : Table) (sound : IsSound t) (file : ℕ) (h : kept.Handle) (o : Ope
           kept_by,
           leaves_same t new before after over (refusal_same before after (folder_remove o.path) why (asked (Err why) does))
               (λ s left. (handle : drive.Handle) × (node : Node) × (handle_at s file ≡ Some handle) × (node_of_path s handle.path ≡ Some node) × (takes_out s file handle node ≡ true)
-              × (keeping s file (folder_status why) handle node ≡ record { state = left; answer = step.Reply (outcome.fault (folder_status why)); news = news_of new gone_news }))
+              × (keeping_node s file (folder_status why) handle node ≡ record { state = left; answer = step.Reply (outcome.fault (folder_status why)); news = news_of new gone_news }))
               (λ nodes at holds. (
                 off_holds_same t sound file h o is on (Some taken) new off nodes holds,
                 (

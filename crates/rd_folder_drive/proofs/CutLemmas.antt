@@ -28,7 +28,7 @@ use Rattle.rd_folder_drive.specs.declared.table.Done.TheVariants as done
 use Rattle.rd_folder_drive.specs.declared.table.Table.{Table}
 use Rattle.rd_folder_drive.specs.Cutting.{ClosesEach, ClosesFirst, Cuts, IsOnTheWay, OverTold}
 use Rattle.rd_folder_drive.specs.FolderDrive.{Closes, ClosesAll}
-use Rattle.rd_folder_drive.specs.Served.{IsCalm, IsOver, IsOwnStatus, IsRefusedBy, Leaves, Seen, ServesClose, keeping, news_of, takes_out}
+use Rattle.rd_folder_drive.specs.Served.{IsCalm, IsOver, IsOwnStatus, IsRefusedBy, Leaves, Seen, ServesClose, keeping_node, news_of, takes_out}
 use Rattle.rd_folder_drive.specs.Settling.{IsBeside}
 use Rattle.rd_folder_drive.specs.Table.{IsSound, IsSoundBut, drive_of, handle_of, kept_handle}
 use Rattle.rd_folder_drive.proofs.BesideLemmas.{IsWaiting, beside_sound}
@@ -87,19 +87,19 @@ module _ (t new : Table) (before after : Seen) (sound : IsSound t) (none : t.wai
       → IsOver new after × (before.told ≡ None → after.told ≡ None) × OverTold t before new after First
   left_over P so leaves = (leaves.0, leaves.1, λ nodes told. let l = leaves.2 nodes told in (l.0, l.1, so nodes l.0 told l.2))
 
-  left_by : (result : Result Done Status) → ServesClose t before new after file result → ((closed : Option ℕ) × IsSoundBut closed new) × (IsOver new after × (before.told ≡ None → after.told ≡ None) × OverTold t before new after First)
-  left_by (Ok (done.Replied body news)) serves = (
+  used_once_less : (result : Result Done Status) → ServesClose t before new after file result → ((closed : Option ℕ) × IsSoundBut closed new) × (IsOver new after × (before.told ≡ None → after.told ≡ None) × OverTold t before new after First)
+  used_once_less (Ok (done.Replied body news)) serves = (
     (news.closed, serves.0),
     left_over (λ s left. on_handle s file (close s file) ≡ record { state = left; answer = step.Reply (outcome.done body); news = news_of new news }) (λ nodes left told is. inl (ap (λ (o : Outcome). o.state) is, calm_told before after serves.2 nodes told)) serves.3,
   )
-  left_by (Ok done.Parked) serves = (
+  used_once_less (Ok done.Parked) serves = (
     (None, serves.0),
     left_over (λ s left. on_handle s file (close s file) ≡ record { state = left; answer = step.Parked; news = outcome.no_news }) (λ nodes left told is. inl (ap (λ (o : Outcome). o.state) is, calm_told before after serves.1 nodes told)) serves.2,
   )
-  left_by (Ok (done.Kept status news)) serves = (
+  used_once_less (Ok (done.Kept status news)) serves = (
     (Some file, serves.0),
     left_over (λ s left. (handle : drive.Handle) × (node : Node) × (handle_at s file ≡ Some handle) × (node_of_path s handle.path ≡ Some node) × (takes_out s file handle node ≡ true)
-        × (keeping s file status handle node ≡ record { state = left; answer = step.Reply (outcome.fault status); news = news_of new news })) (λ nodes left told is. inr (
+        × (keeping_node s file status handle node ≡ record { state = left; answer = step.Reply (outcome.fault status); news = news_of new news })) (λ nodes left told is. inr (
           step.Reply (outcome.fault status),
           record {
             no = serves.3.0;
@@ -109,19 +109,19 @@ module _ (t new : Table) (before after : Seen) (sound : IsSound t) (none : t.wai
             opened = is.2;
             there = is.3;
             takes = is.4;
-            comes = ap (λ (st : Status). step_of (keeping (drive_of t nodes) file st is.0 is.1)) (sym serves.3.1) ∙ ap step_of is.5 ∙ step_idle (drive_of new left) (step.Reply (outcome.fault status)) (news_of new news) (ap (map waiting_of) first_none);
+            comes = ap (λ (st : Status). step_of (keeping_node (drive_of t nodes) file st is.0 is.1)) (sym serves.3.1) ∙ ap step_of is.5 ∙ step_idle (drive_of new left) (step.Reply (outcome.fault status)) (news_of new news) (ap (map waiting_of) first_none);
             counted = serves.3.3;
           },
         )) serves.4,
   )
-  left_by (Err status) serves = (
+  used_once_less (Err status) serves = (
     (None, serves.0),
     left_over (λ s left. on_handle s file (close s file) ≡ outcome.refused left status) (λ nodes left told is. inl (ap (λ (o : Outcome). o.state) is, calm_told before after serves.3 nodes told)) serves.4,
   )
 
   pub first_closed : (result : Result Done Status) → ServesClose t before new after file result → IsSound new × IsOver new after × (before.told ≡ None → after.told ≡ None) × ClosesFirst t before new after
   first_closed result serves =
-      let left = left_by result serves in (
+      let left = used_once_less result serves in (
         sound_alone new left.0.0 left.0.1 first_none,
         left.1.0,
         left.1.1,

@@ -25,7 +25,7 @@ use Rattle.rd_folder_drive.specs.declared.open.Open.{Open}
 use Rattle.rd_folder_drive.specs.declared.query_dir.Entered.{Entered}
 use Rattle.rd_folder_drive.specs.declared.table.Table.{Table}
 use Rattle.rd_folder_drive.specs.Listing.{FindsNext}
-use Rattle.rd_folder_drive.specs.Table.{Holds, IsSound, drive_of, handle_of, kept_handle, marked, open_at}
+use Rattle.rd_folder_drive.specs.Table.{HasNodes, IsSound, drive_of, handle_of, kept_handle, marked, open_at}
 use Rattle.rd_folder_drive.proofs.TableLemmas as table
 use Rattle.rd_folder_drive.proofs.TableLemmas.{handle_seen}
 
@@ -58,7 +58,7 @@ next_marked opens path pattern last (node ∷ nodes) = by (next_marked opens pat
     by later true = refl
     by later false = later
 
-module _ (t : Table) (sound : IsSound t) (file : ℕ) (h : kept.Handle) (o : Open) (is : kept_handle t file ≡ Some h) (on : open_at t h.node ≡ Some o) (class : ℕ) (nodes : List Node) (holds : Holds t nodes) where
+module _ (t : Table) (sound : IsSound t) (file : ℕ) (h : kept.Handle) (o : Open) (is : kept_handle t file ≡ Some h) (on : open_at t h.node ≡ Some o) (class : ℕ) (nodes : List Node) (holds : HasNodes t nodes) where
   abbrev pub s : DriveState
   s = drive_of t nodes
 

@@ -30,7 +30,7 @@ use Rattle.rd_drive.proofs.ConflictLemmas.{IsItsOwn, conflicts_seen, left_of, un
 use Rattle.rd_folder_drive.specs.declared.handle.Handle as kept
 use Rattle.rd_folder_drive.specs.declared.open.Open.{Open}
 use Rattle.rd_folder_drive.specs.declared.table.Table.{Table}
-use Rattle.rd_folder_drive.specs.Table.{Holds, IsSound, IsSoundBut, drive_of, handle_of, kept_handle, marked, open_at, path_at}
+use Rattle.rd_folder_drive.specs.Table.{HasNodes, IsSound, IsSoundBut, drive_of, handle_of, kept_handle, marked, open_at, path_at}
 use Rattle.rd_folder_drive.proofs.LockLemmas.{IsHome, any_on}
 use Rattle.rd_folder_drive.proofs.TableLemmas as opened
 use Rattle.rd_folder_drive.proofs.TableLemmas.{on_open, path_is}
@@ -186,7 +186,7 @@ module _ (t : Table) (sound : IsSound t) (n : ℕ) (on : IsSome (open_at t n)) (
 
 -- ---- the whole operation
 
-module _ (t : Table) (sound : IsSound t) (file : ℕ) (h : kept.Handle) (o : Open) (is : kept_handle t file ≡ Some h) (on : open_at t h.node ≡ Some o) (key : Key) (operation : ℕ) (wait : Bool) (ranges : List Range) (nodes : List Node) (holds : Holds t nodes) where
+module _ (t : Table) (sound : IsSound t) (file : ℕ) (h : kept.Handle) (o : Open) (is : kept_handle t file ≡ Some h) (on : open_at t h.node ≡ Some o) (key : Key) (operation : ℕ) (wait : Bool) (ranges : List Range) (nodes : List Node) (holds : HasNodes t nodes) where
   abbrev over : DriveState
   over = drive_of t nodes
 

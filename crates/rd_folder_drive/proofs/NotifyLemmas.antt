@@ -15,11 +15,11 @@ use Rattle.rd_drive.proofs.CheckLemmas.{check_applies, check_passed, checks_done
 use Rattle.rd_folder_drive.specs.declared.handle.Handle as kept
 use Rattle.rd_folder_drive.specs.declared.open.Open.{Open}
 use Rattle.rd_folder_drive.specs.declared.table.Table.{Table}
-use Rattle.rd_folder_drive.specs.Table.{Holds, IsSound, drive_of, handle_of, kept_handle, marked, open_at}
+use Rattle.rd_folder_drive.specs.Table.{HasNodes, IsSound, drive_of, handle_of, kept_handle, marked, open_at}
 use Rattle.rd_folder_drive.proofs.TableLemmas as opened
 use Rattle.rd_folder_drive.proofs.TableLemmas.{on_open}
 
-module _ (t : Table) (sound : IsSound t) (file : ℕ) (h : kept.Handle) (o : Open) (is : kept_handle t file ≡ Some h) (on : open_at t h.node ≡ Some o) (key : Key) (deep : Bool) (filter : ℕ) (nodes : List Node) (holds : Holds t nodes) where
+module _ (t : Table) (sound : IsSound t) (file : ℕ) (h : kept.Handle) (o : Open) (is : kept_handle t file ≡ Some h) (on : open_at t h.node ≡ Some o) (key : Key) (deep : Bool) (filter : ℕ) (nodes : List Node) (holds : HasNodes t nodes) where
   abbrev over : DriveState
   over = drive_of t nodes
 

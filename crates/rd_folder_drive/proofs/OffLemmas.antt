@@ -30,8 +30,8 @@ use Rattle.rd_folder.proofs.HasLemmas.{Has, filter_has, find_has, one_at, there_
 use Rattle.rd_folder_drive.specs.declared.handle.Handle as kept
 use Rattle.rd_folder_drive.specs.declared.open.Open.{Open}
 use Rattle.rd_folder_drive.specs.declared.table.Table.{Table}
-use Rattle.rd_folder_drive.specs.Closing.{IsOff, IsTaken, left_by, other_handles, stays_open}
-use Rattle.rd_folder_drive.specs.Table.{Holds, IsNodeOf, IsOpened, IsSound, IsSoundBut, drive_of, is_pending_open, kept_handle, marked, open_at, path_at, uses_on}
+use Rattle.rd_folder_drive.specs.Closing.{IsOff, IsTakenOff, used_once_less, other_handles, stays_open}
+use Rattle.rd_folder_drive.specs.Table.{HasNodes, IsNodeOf, IsOpened, IsSound, IsSoundBut, drive_of, is_pending_open, kept_handle, marked, open_at, path_at, uses_on}
 use Rattle.rd_folder_drive.proofs.BesideLemmas.{IsWaiting}
 use Rattle.rd_folder_drive.proofs.HandlesLemmas.{removed_seen, seen_alike, seen_apart, seen_entry}
 use Rattle.rd_folder_drive.proofs.LockLemmas.{IsHome}
@@ -63,8 +63,8 @@ module _ (t : Table) (sound : IsSound t) (file : ℕ) (h : kept.Handle) (o : Ope
       (looked : (k : ℕ) → lookup (is_at (nat_cmp k)) handles.entries ≡ cond (is_at (nat_cmp file) k) None (kept_handle t k))
       (locks : LockList) (unlocked : locks ≡ record t.locks { locks = released file t.locks.locks })
       (opens : BTreeMap ℕ Open) (rising : IsOrdered nat_cmp opens × IsOrdered nat_cmp handles) (new : Table) (is_new : new ≡ record t { handles = handles; locks = locks; opens = opens }) where
-    off_so : (back : Option Open) → ((k : ℕ) → lookup (is_at (nat_cmp k)) opens.entries ≡ cond (is_at (nat_cmp h.node) k) (stays_open (left_by t file h o) back) (open_at t k))
-        → IsTaken count (left_by t file h o) back → IsOff t file h o back new
+    off_so : (back : Option Open) → ((k : ℕ) → lookup (is_at (nat_cmp k)) opens.entries ≡ cond (is_at (nat_cmp h.node) k) (stays_open (used_once_less t file h o) back) (open_at t k))
+        → IsTakenOff count (used_once_less t file h o) back → IsOff t file h o back new
     off_so back at taken = subst (IsOff t file h o back) (sym is_new) (record {
       others = refl;
       handles = entries;
@@ -76,12 +76,12 @@ module _ (t : Table) (sound : IsSound t) (file : ℕ) (h : kept.Handle) (o : Ope
     })
 
     -- other handles use it
-    pub off_stays : ((k : ℕ) → lookup (is_at (nat_cmp k)) opens.entries ≡ cond (is_at (nat_cmp h.node) k) (Some (left_by t file h o)) (open_at t k)) → 0 < count → IsOff t file h o None new
+    pub off_stays : ((k : ℕ) → lookup (is_at (nat_cmp k)) opens.entries ≡ cond (is_at (nat_cmp h.node) k) (Some (used_once_less t file h o)) (open_at t k)) → 0 < count → IsOff t file h o None new
     off_stays at some = off_so None at some
 
     -- nothing else uses it
-    pub off_comes : (back : Option Open) → back ≡ Some (left_by t file h o) → ((k : ℕ) → lookup (is_at (nat_cmp k)) opens.entries ≡ cond (is_at (nat_cmp h.node) k) None (open_at t k)) → count ≡ 0 → IsOff t file h o back new
-    off_comes back is_left at none = subst (λ (b : Option Open). IsOff t file h o b new) (sym is_left) (off_so (Some (left_by t file h o)) at (refl, none))
+    pub off_comes : (back : Option Open) → back ≡ Some (used_once_less t file h o) → ((k : ℕ) → lookup (is_at (nat_cmp k)) opens.entries ≡ cond (is_at (nat_cmp h.node) k) None (open_at t k)) → count ≡ 0 → IsOff t file h o back new
+    off_comes back is_left at none = subst (λ (b : Option Open). IsOff t file h o b new) (sym is_left) (off_so (Some (used_once_less t file h o)) at (refl, none))
 
 -- ---- what is left
 
@@ -96,7 +96,7 @@ module _ (t : Table) (sound : IsSound t) (file : ℕ) (h : kept.Handle) (o : Ope
   n = h.node
 
   abbrev pub left : Open
-  left = left_by t file h o
+  left = used_once_less t file h o
 
   -- the table that is left, from the old one
   abbrev pub after : Table
@@ -151,7 +151,7 @@ module _ (t : Table) (sound : IsSound t) (file : ℕ) (h : kept.Handle) (o : Ope
   still_open : (k : ℕ) (g : kept.Handle) → kept_handle new k ≡ Some g → IsSome (open_at new g.node) × (path_at new g.node ≡ path_at t g.node)
   still_open k g found = by (g.node == n) refl
     where
-      own : (g.node == n) ≡ true → (b : Option Open) → back ≡ b → IsTaken (length (uses_on n (other_handles t file))) left b → IsSome (open_at new g.node) × (path_at new g.node ≡ path_at t g.node)
+      own : (g.node == n) ≡ true → (b : Option Open) → back ≡ b → IsTakenOff (length (uses_on n (other_handles t file))) left b → IsSome (open_at new g.node) × (path_at new g.node ≡ path_at t g.node)
       own same None none some =
           let here : open_at new g.node ≡ Some left = ap (open_at new) (eqb-true g.node n same) ∙ open_here ∙ ap (stays_open left) none in
           let there : open_at t g.node ≡ Some o = ap (open_at t) (eqb-true g.node n same) ∙ on in
@@ -177,7 +177,7 @@ module _ (t : Table) (sound : IsSound t) (file : ℕ) (h : kept.Handle) (o : Ope
   opened_left : (k : ℕ) (p : Open) → open_at new k ≡ Some p → IsOpened after k p
   opened_left k p at = by (is_at (nat_cmp n) k) refl (sym (off.opens k) ∙ at)
     where
-      own : n ≡ k → (b : Option Open) → IsTaken (length (uses_on n (other_handles t file))) left b → stays_open left b ≡ Some p → IsOpened after k p
+      own : n ≡ k → (b : Option Open) → IsTakenOff (length (uses_on n (other_handles t file))) left b → stays_open left b ≡ Some p → IsOpened after k p
       own same None some e = subst (λ (x : Open). IsOpened after k x) (same_Some left p e) (subst (λ (m : ℕ). IsOpened after m left) same (record {
         path = (sound.opened n o on).path;
         root = left_root;
@@ -248,9 +248,9 @@ module _ (t : Table) (sound : IsSound t) (file : ℕ) (h : kept.Handle) (o : Ope
 
   -- ---- over nodes
 
-  module _ (nodes : List Node) (holds : Holds t nodes) where
+  module _ (nodes : List Node) (holds : HasNodes t nodes) where
     -- what is open is among nodes among which are those that were
-    pub off_holds : (others : List Node) → IsFolderMap others → ((m : ℕ) (p : Open) → open_at new m ≡ Some p → (x : Node) → node_there nodes p.path ≡ Some x → node_there others p.path ≡ Some x) → Holds new others
+    pub off_holds : (others : List Node) → IsFolderMap others → ((m : ℕ) (p : Open) → open_at new m ≡ Some p → (x : Node) → node_there nodes p.path ≡ Some x → node_there others p.path ≡ Some x) → HasNodes new others
     off_holds others is_map still = record {
       map = is_map;
       there = λ k p at.
@@ -259,7 +259,7 @@ module _ (t : Table) (sound : IsSound t) (file : ℕ) (h : kept.Handle) (o : Ope
           (there.0, still k p at there.0 (ap (node_there nodes) was.2 ∙ there.1), there.2 ∙ sym was.3);
     }
 
-    pub off_holds_same : Holds new nodes
+    pub off_holds_same : HasNodes new nodes
     off_holds_same = off_holds nodes holds.map (λ m p at x there. there)
 
     abbrev node : Node
@@ -311,7 +311,7 @@ module _ (t : Table) (sound : IsSound t) (file : ℕ) (h : kept.Handle) (o : Ope
             let there : open_at t k ≡ Some o = ap (open_at t) (eqb-true k n e) ∙ on in
             ap (λ (x : Option Open). option_map_or (λ (y : Open). y.path) x []) here ∙ sym (ap (λ (x : Option Open). option_map_or (λ (y : Open). y.path) x []) there)
 
-        by : (b : Option Open) → back ≡ b → IsTaken (length (uses_on n (other_handles t file))) left b → map (seen_entry new) (other_handles t file) ≡ map (seen_entry t) (other_handles t file)
+        by : (b : Option Open) → back ≡ b → IsTakenOff (length (uses_on n (other_handles t file))) left b → map (seen_entry new) (other_handles t file) ≡ map (seen_entry t) (other_handles t file)
         by None none some = seen_alike t new (other_handles t file) (λ e. path_same none (e.1).node ((e.1).node == n) refl)
         by (Some taken) some both = seen_apart t new n path_other (other_handles t file) (sym (any_handle n (other_handles t file)) ∙ ap (nat_lt 0) both.1)
 
@@ -358,7 +358,7 @@ module _ (t : Table) (sound : IsSound t) (file : ℕ) (h : kept.Handle) (o : Ope
     off_goes_seen = drive_with nodes_left _ (filter_seen (marked new.opens.entries) (marked t.opens.entries) o.path nodes
         (λ x has past. λ i. record x { pending = mark_other x.path (λ e. let clash : true ≡ false = sym (exact_same x.path o.path e) ∙ past in absurd (cc)) i }) (λ x. refl))
 
-    pub off_goes_holds : (taken : Open) → back ≡ Some taken → IsFolderMap nodes_left → Holds new nodes_left
+    pub off_goes_holds : (taken : Open) → back ≡ Some taken → IsFolderMap nodes_left → HasNodes new nodes_left
     off_goes_holds taken some is_map = off_holds nodes_left is_map (λ m p at x there.
         let found : Has nodes x × (is_at_path Exact p.path x ≡ true) = find_has (is_at_path Exact p.path) nodes x there in
         let at_it : x.path ≡ p.path = same_exact x.path p.path found.1 in

@@ -27,7 +27,7 @@ use Rattle.rd_folder_drive.specs.declared.handle.Handle as kept
 use Rattle.rd_folder_drive.specs.declared.open.Open.{Open}
 use Rattle.rd_folder_drive.specs.declared.table.Table.{Table}
 use Rattle.rd_folder_drive.specs.Opening.{IsOpening, MayOpen, made_handle}
-use Rattle.rd_folder_drive.specs.Table.{Holds, IsHandle, IsNodeOf, IsOpened, IsSound, drive_of, handle_of, is_pending_open, kept_handle, marked, open_at, path_at, uses_on}
+use Rattle.rd_folder_drive.specs.Table.{HasNodes, IsHandle, IsNodeOf, IsOpened, IsSound, drive_of, handle_of, is_pending_open, kept_handle, marked, open_at, path_at, uses_on}
 use Rattle.rd_folder_drive.proofs.BesideLemmas.{IsWaiting}
 use Rattle.rd_folder_drive.proofs.HandlesLemmas.{AreKept, all_kept, inserted_seen, seen_entry}
 use Rattle.rd_folder_drive.proofs.LockLemmas.{IsHome}
@@ -191,7 +191,7 @@ module _ (t : Table) (sound : IsSound t) (asked : Asked) (n : ℕ) (o : Open) (m
 
   -- ---- over nodes
 
-  pub opening_holds : (nodes : List Node) → Holds t nodes → (node : Node) → node_there nodes o.path ≡ Some node → IsNodeOf o node → Holds new nodes
+  pub opening_holds : (nodes : List Node) → HasNodes t nodes → (node : Node) → node_there nodes o.path ≡ Some node → IsNodeOf o node → HasNodes new nodes
   opening_holds nodes holds node at kind = record {
     map = holds.map;
     there = λ k p found. by k p (is_at (nat_cmp n) k) (sym (opening.opens k) ∙ found);

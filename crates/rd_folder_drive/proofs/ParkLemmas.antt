@@ -15,7 +15,7 @@ use Rattle.rd_drive.proofs.AllLemmas.{all_append}
 use Rattle.rd_folder_drive.specs.declared.table.Table.{Table}
 use Rattle.rd_folder_drive.specs.declared.table.Done.{Done}
 use Rattle.rd_folder_drive.specs.Alone.{ServesAlone}
-use Rattle.rd_folder_drive.specs.Table.{Holds, IsSound, drive_of, kept_handle}
+use Rattle.rd_folder_drive.specs.Table.{HasNodes, IsSound, drive_of, kept_handle}
 use Rattle.rd_folder_drive.specs.Waits.{IsParked}
 use Rattle.rd_folder_drive.proofs.BesideLemmas.{IsWaiting, beside, beside_holds, beside_sound}
 use Rattle.rd_folder_drive.proofs.LockLemmas.{IsHome}
@@ -48,12 +48,12 @@ module _ (t between new : Table) (sound : IsSound t) (locks : LockList) (w : kep
       ∙ (λ i. record (drive_of t nodes) { locks = map lock_of (same i); waiting = (ap (map waiting_of) items ∙ map-append waiting_of t.waiting.items (w ∷ [])) i })
 
   -- the table is sound, and the request waits
-  pub alone_parked : (comes : DriveState → Outcome) → ((nodes : List Node) → Holds t nodes → comes (drive_of t nodes) ≡ waits (drive_of t nodes) w.key w.file (waiting_of w).wish) → ServesAlone t new comes (Ok result)
+  pub alone_parked : (comes : DriveState → Outcome) → ((nodes : List Node) → HasNodes t nodes → comes (drive_of t nodes) ≡ waits (drive_of t nodes) w.key w.file (waiting_of w).wish) → ServesAlone t new comes (Ok result)
   alone_parked comes e =
       subst (λ (r : Done). ServesAlone t new comes (Ok r)) (sym parked.parked) (
         subst IsSound (sym new_is) after_sound,
         λ nodes holds. (
-          subst (λ (u : Table). Holds u nodes) (sym new_is) (beside_holds t locks new.waiting nodes holds),
+          subst (λ (u : Table). HasNodes u nodes) (sym new_is) (beside_holds t locks new.waiting nodes holds),
           e nodes holds ∙ ap (λ d. record { state = d; answer = step.Parked; news = no_news }) (sym (drive_after nodes)),
         ),
       )

@@ -31,8 +31,8 @@ use Rattle.rd_folder_drive.specs.declared.table.Table.{Table}
 use Rattle.rd_folder_drive.specs.declared.news.News as told_news
 use Rattle.rd_folder_drive.specs.declared.table.Done.TheVariants as done
 use Rattle.rd_folder_drive.specs.Served.{IsOver, Seen, Serves, nothing}
-use Rattle.rd_folder_drive.specs.Setting.{MayGo, MayNotGo, SetsMark, is_full, sets}
-use Rattle.rd_folder_drive.specs.Table.{Holds, IsSound, drive_of, handle_of, is_pending_open, kept_handle, marked, open_at, path_at}
+use Rattle.rd_folder_drive.specs.Setting.{MayBePending, MayNotGo, SetsPending, is_filled_folder, sets_of}
+use Rattle.rd_folder_drive.specs.Table.{HasNodes, IsSound, drive_of, handle_of, is_pending_open, kept_handle, marked, open_at, path_at}
 use Rattle.rd_folder_drive.proofs.AskLemmas.{calm_by}
 use Rattle.rd_folder_drive.proofs.AskedLemmas.{children_marked, done_anew}
 use Rattle.rd_folder_drive.proofs.ServeLemmas.{refused_by, refused_so}
@@ -44,7 +44,7 @@ use Rattle.rd_folder_drive.proofs.TableLemmas.{pending_seen}
 
 -- a folder is never read-only, and stays where something stands in it
 pub folder_going : (nodes : List Node) (o : Open) (node other : Node) → node_there nodes o.path ≡ Some node → node_there nodes o.path ≡ Some other → is_folder_node node ≡ true → (some : Bool) → has_children (drive_over nodes) o.path ≡ some
-    → (is_readonly other ≡ false) × (is_full nodes other ≡ some)
+    → (is_readonly other ≡ false) × (is_filled_folder nodes other ≡ some)
 folder_going nodes o node other there at folder some full =
     let fold : is_folder_node other ≡ true = ap is_folder_node (same_Some other node (sym at ∙ there)) ∙ folder in
     let path : other.path ≡ o.path = same_exact other.path o.path (find_has (is_at_path Exact o.path) nodes other at).1 in
@@ -119,7 +119,7 @@ module _ {X : Type 0} (n : ℕ) (x w : X) where
 
 -- ---- the table with the mark
 
-module _ (t : Table) (sound : IsSound t) (n : ℕ) (o : Open) (on : open_at t n ≡ Some o) (below : (length o.path == 0) ≡ false) (pending : Bool) (opens : BTreeMap ℕ Open) (sets : opens.entries ≡ set_value (is_at (nat_cmp n)) t.opens.entries (record o { pending = pending })) where
+module _ (t : Table) (sound : IsSound t) (n : ℕ) (o : Open) (on : open_at t n ≡ Some o) (below : (length o.path == 0) ≡ false) (pending : Bool) (opens : BTreeMap ℕ Open) (sets_of : opens.entries ≡ set_value (is_at (nat_cmp n)) t.opens.entries (record o { pending = pending })) where
   abbrev pub now : Open
   now = record o { pending = pending }
 
@@ -128,7 +128,7 @@ module _ (t : Table) (sound : IsSound t) (n : ℕ) (o : Open) (on : open_at t n 
 
   -- what is open then was open, and is the same but for the mark
   was : (m : ℕ) (p : Open) → open_at with_mark m ≡ Some p → (q : Open) × (open_at t m ≡ Some q) × ((q ≡ p) ⊎ ((q ≡ o) × (p ≡ now)))
-  was m p there = elim (set_seen n o now t.opens.entries on m p (ap (lookup (is_at (nat_cmp m))) (sym sets) ∙ there)) [
+  was m p there = elim (set_seen n o now t.opens.entries on m p (ap (lookup (is_at (nat_cmp m))) (sym sets_of) ∙ there)) [
     | inl both ↦ (o, ap (open_at t) both.0 ∙ on, inr (refl, both.1))
     | inr same ↦ (p, same, inl refl)
   ]
@@ -140,7 +140,7 @@ module _ (t : Table) (sound : IsSound t) (n : ℕ) (o : Open) (on : open_at t n 
   ]
 
   seen_so : {Y : Type 0} (g : Open → Y) → g now ≡ g o → (m : ℕ) → option_map g (open_at with_mark m) ≡ option_map g (open_at t m)
-  seen_so g same m = ap (λ (es : List (ℕ × Open)). option_map g (lookup (is_at (nat_cmp m)) es)) sets ∙ same_seen n o now g same (is_at (nat_cmp m)) t.opens.entries on
+  seen_so g same m = ap (λ (es : List (ℕ × Open)). option_map g (lookup (is_at (nat_cmp m)) es)) sets_of ∙ same_seen n o now g same (is_at (nat_cmp m)) t.opens.entries on
 
   pub path_so : (m : ℕ) → path_at with_mark m ≡ path_at t m
   path_so m = by (open_at with_mark m) (open_at t m) (seen_so (λ (p : Open). p.path) refl m)
@@ -165,7 +165,7 @@ module _ (t : Table) (sound : IsSound t) (n : ℕ) (o : Open) (on : open_at t n 
   pub sound_marked : IsSound with_mark
   sound_marked = record {
     label = sound.label;
-    rising = (subst (λ (ks : List ℕ). IsStrictlySortedBy nat_cmp ks) (sym (ap keys_of sets ∙ keys-set_value (is_at (nat_cmp n)) t.opens.entries now)) sound.rising.0, sound.rising.1);
+    rising = (subst (λ (ks : List ℕ). IsStrictlySortedBy nat_cmp ks) (sym (ap keys_of sets_of ∙ keys-set_value (is_at (nat_cmp n)) t.opens.entries now)) sound.rising.0, sound.rising.1);
     handles = λ file h is. let old = sound.handles file h is in record { on = on_so h.node old.on; before = old.before; root = λ e. old.root (sym (path_so h.node) ∙ e) };
     opened = λ m p there.
         let q = was m p there in
@@ -189,8 +189,8 @@ module _ (t : Table) (sound : IsSound t) (n : ℕ) (o : Open) (on : open_at t n 
     ids = sound.ids;
   }
 
-  module _ (nodes : List Node) (holds : Holds t nodes) where
-    pub holds_marked : Holds with_mark nodes
+  module _ (nodes : List Node) (holds : HasNodes t nodes) where
+    pub holds_marked : HasNodes with_mark nodes
     holds_marked = record {
       map = holds.map;
       there = λ m p there.
@@ -211,12 +211,12 @@ module _ (t : Table) (sound : IsSound t) (n : ℕ) (o : Open) (on : open_at t n 
 
       own_mark : marked_node ≡ marked opens.entries node
       own_mark = λ i. record node {
-        pending = sym (ap (λ (p : Names). list_any (is_pending_open p) opens.entries) node_path ∙ pending_seen with_mark sound_marked n now (ap (lookup (is_at (nat_cmp n))) sets ∙ set_there n o now t.opens.entries on)) i;
+        pending = sym (ap (λ (p : Names). list_any (is_pending_open p) opens.entries) node_path ∙ pending_seen with_mark sound_marked n now (ap (lookup (is_at (nat_cmp n))) sets_of ∙ set_there n o now t.opens.entries on)) i;
       }
 
       other_mark : (x : Node) → (o.path ≡ x.path → ⊥) → marked t.opens.entries x ≡ marked opens.entries x
       other_mark x apart = λ i. record x {
-        pending = sym (ap (list_any (is_pending_open x.path)) sets ∙ same_any n o now (is_pending_open x.path) (λ m. no_mark pending (is_same_path Exact o.path x.path) (exact_apart o.path x.path apart) ∙ sym (no_mark o.pending (is_same_path Exact o.path x.path) (exact_apart o.path x.path apart))) t.opens.entries on) i;
+        pending = sym (ap (list_any (is_pending_open x.path)) sets_of ∙ same_any n o now (is_pending_open x.path) (λ m. no_mark pending (is_same_path Exact o.path x.path) (exact_apart o.path x.path apart) ∙ sym (no_mark o.pending (is_same_path Exact o.path x.path) (exact_apart o.path x.path apart))) t.opens.entries on) i;
       }
         where
           no_mark : (b c : Bool) → c ≡ false → (b && c) ≡ false
@@ -243,20 +243,20 @@ module _ (t : Table) (sound : IsSound t) (n : ℕ) (o : Open) (on : open_at t n 
 
 -- ---- what comes of it
 
-module _ (t : Table) (sound : IsSound t) (moment file count : ℕ) (h : kept.Handle) (o : Open) (is : kept_handle t file ≡ Some h) (on : open_at t h.node ≡ Some o) (nodes : List Node) (holds : Holds t nodes) where
+module _ (t : Table) (sound : IsSound t) (moment file count : ℕ) (h : kept.Handle) (o : Open) (is : kept_handle t file ≡ Some h) (on : open_at t h.node ≡ Some o) (nodes : List Node) (holds : HasNodes t nodes) where
   abbrev node : Node
   node = table.node t sound nodes holds file h o is on
 
   abbrev s : DriveState
   s = drive_of t nodes
 
-  full_seen : (is_folder_node node && has_children s node.path) ≡ is_full nodes node
+  full_seen : (is_folder_node node && has_children s node.path) ≡ is_filled_folder nodes node
   full_seen = ap (λ b. is_folder_node node && b) (children_marked t nodes node.path)
 
-  pub mark_readonly : (pending : Bool) → pending ≡ true → is_readonly node ≡ true → sets file moment count (set.Disposition pending) s ≡ refused s access_denied
+  pub mark_readonly : (pending : Bool) → pending ≡ true → is_readonly node ≡ true → sets_of file moment count (set.Disposition pending) s ≡ refused s access_denied
   mark_readonly pending some readonly = set_lemma.setting t sound moment file count h o is on nodes holds (set.Disposition pending) ∙ check_applies s _ _ _ (ap (λ b. b && is_readonly node) some ∙ readonly)
 
-  pub mark_full : (pending : Bool) → pending ≡ true → is_readonly node ≡ false → is_full nodes node ≡ true → sets file moment count (set.Disposition pending) s ≡ refused s directory_not_empty
+  pub mark_full : (pending : Bool) → pending ≡ true → is_readonly node ≡ false → is_filled_folder nodes node ≡ true → sets_of file moment count (set.Disposition pending) s ≡ refused s directory_not_empty
   mark_full pending some writable full =
       set_lemma.setting t sound moment file count h o is on nodes holds (set.Disposition pending)
       ∙ check_passed s _ _ _ (ap (λ b. b && is_readonly node) some ∙ writable)
@@ -266,7 +266,7 @@ module _ (t : Table) (sound : IsSound t) (moment file count : ℕ) (h : kept.Han
   abbrev mark_made : Bool → Outcome
   mark_made pending = succeeded (with_node s (record (marked t.opens.entries node) { pending = pending })) (Count count) no_news
 
-  pub mark_done : (pending : Bool) → (pending ≡ true → (is_readonly node ≡ false) × (is_full nodes node ≡ false)) → sets file moment count (set.Disposition pending) s ≡ mark_made pending
+  pub mark_done : (pending : Bool) → (pending ≡ true → (is_readonly node ≡ false) × (is_filled_folder nodes node ≡ false)) → sets_of file moment count (set.Disposition pending) s ≡ mark_made pending
   mark_done pending may =
       set_lemma.setting t sound moment file count h o is on nodes holds (set.Disposition pending)
       ∙ check_passed s _ _ _ (only pending (is_readonly node) (λ some. (may some).0))
@@ -285,7 +285,7 @@ module _ (t : Table) (sound : IsSound t) (moment file count : ℕ) (h : kept.Han
 
 module _ (t : Table) (sound : IsSound t) (before after : Seen) (over : IsOver t before) (moment file count : ℕ) (h : kept.Handle) (o : Open) (is : kept_handle t file ≡ Some h) (on : open_at t h.node ≡ Some o) (pending : Bool) where
   abbrev comes : DriveState → Outcome
-  comes = sets file moment count (set.Disposition pending)
+  comes = sets_of file moment count (set.Disposition pending)
 
   -- the mark is refused
   pub mark_refused : pending ≡ true → (status : Status) → MayNotGo before after o status → Serves t before t after comes (Err status)
@@ -298,7 +298,7 @@ module _ (t : Table) (sound : IsSound t) (before after : Seen) (over : IsOver t 
   mark_refused some status (inr by) = refused_by t before after over by.0 sound comes status by.1
 
   -- it is set, or taken away
-  pub mark_serves : after ≡ before → (length o.path == 0) ≡ false → (new : Table) → SetsMark t h.node o pending new → (pending ≡ true → MayGo before o) → (news : told_news.News) → news ≡ nothing
+  pub mark_serves : after ≡ before → (length o.path == 0) ≡ false → (new : Table) → SetsPending t h.node o pending new → (pending ≡ true → MayBePending before o) → (news : told_news.News) → news ≡ nothing
       → Serves t before new after comes (Ok (done.Replied (Count count) news))
   mark_serves same below new marks may news quiet =
       subst (λ (s : Seen). Serves t before new s comes (Ok (done.Replied (Count count) news))) (sym same)

@@ -10,9 +10,9 @@ use Rattle.rd_folder.proofs.ExactLemmas.{same_exact}
 use Rattle.rd_folder.proofs.HasLemmas.{Has, find_has, map_has, one_at, there_is}
 use Rattle.rd_folder.proofs.MapLemmas.{put_map}
 use Rattle.rd_folder_drive.specs.declared.table.Table.{Table}
-use Rattle.rd_folder_drive.specs.Table.{Holds, IsNodeOf}
+use Rattle.rd_folder_drive.specs.Table.{HasNodes, IsNodeOf}
 
-module _ (t : Table) (nodes : List Node) (holds : Holds t nodes) (path : Names) (old new : Node) (there : node_there nodes path ≡ Some old) (same : IsSamePlace old new) where
+module _ (t : Table) (nodes : List Node) (holds : HasNodes t nodes) (path : Names) (old new : Node) (there : node_there nodes path ≡ Some old) (same : IsSamePlace old new) where
   has_old : Has nodes old
   has_old = (find_has (is_at_path Exact path) nodes old there).0
 
@@ -34,7 +34,7 @@ module _ (t : Table) (nodes : List Node) (holds : Holds t nodes) (path : Names) 
     | inr off ↦ ap (λ (b : Bool). is_folder_node (cond b new x)) off
   ]
 
-  pub put_holds : Holds t (with_put nodes new)
+  pub put_holds : HasNodes t (with_put nodes new)
   unfolding change
   put_holds = record {
     map = put_map nodes holds.map old new has_old same;

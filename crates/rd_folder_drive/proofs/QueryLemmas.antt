@@ -28,10 +28,10 @@ use Rattle.rd_folder_drive.specs.declared.handle.Handle as kept
 use Rattle.rd_folder_drive.specs.declared.open.Open.{Open}
 use Rattle.rd_folder_drive.specs.declared.table.Table.{Table}
 use Rattle.rd_folder_drive.specs.Alone.{ServesAlone}
-use Rattle.rd_folder_drive.specs.Table.{Holds, IsSound, drive_of, handle_of, kept_handle, marked, open_at}
+use Rattle.rd_folder_drive.specs.Table.{HasNodes, IsSound, drive_of, handle_of, kept_handle, marked, open_at}
 use Rattle.rd_folder_drive.proofs.TableLemmas as table
 
-module _ (t : Table) (sound : IsSound t) (file : ℕ) (h : kept.Handle) (o : Open) (is : kept_handle t file ≡ Some h) (on : open_at t h.node ≡ Some o) (class : ℕ) (nodes : List Node) (holds : Holds t nodes) where
+module _ (t : Table) (sound : IsSound t) (file : ℕ) (h : kept.Handle) (o : Open) (is : kept_handle t file ≡ Some h) (on : open_at t h.node ≡ Some o) (class : ℕ) (nodes : List Node) (holds : HasNodes t nodes) where
   abbrev pub s : DriveState
   s = drive_of t nodes
 
@@ -126,7 +126,7 @@ sound_label t sound label short = record {
 }
 
 -- and what it holds it holds then
-pub holds_label : (t : Table) (nodes : List Node) → Holds t nodes → (label : List ℕ) → Holds (record t { label = label }) nodes
+pub holds_label : (t : Table) (nodes : List Node) → HasNodes t nodes → (label : List ℕ) → HasNodes (record t { label = label }) nodes
 holds_label t nodes holds label = record { map = holds.map; there = holds.there }
 
 -- ---- how much is told
@@ -146,7 +146,7 @@ volume_short label short class info e =
 -- ---- nothing of the class is told
 
 pub untold_alone : {X : Type 0} (t : Table) → IsSound t → (comes : DriveState → Outcome) (found : Option X) (status : Status) → IsNoInfo found status
-    → (found ≡ None → (nodes : List Node) → Holds t nodes → comes (drive_of t nodes) ≡ refused (drive_of t nodes) invalid_info_class) → ServesAlone t t comes (Err status)
+    → (found ≡ None → (nodes : List Node) → HasNodes t nodes → comes (drive_of t nodes) ≡ refused (drive_of t nodes) invalid_info_class) → ServesAlone t t comes (Err status)
 untold_alone t sound comes found status (inl e) f =
     subst (λ (s : Status). ServesAlone t t comes (Err s)) (sym e.1) (sound, inl ((refl, refl), λ nodes holds. (holds, f e.0 nodes holds)))
 untold_alone t sound comes found status (inr e) f = (sound, inr (e, λ nodes holds. (holds, refl)))

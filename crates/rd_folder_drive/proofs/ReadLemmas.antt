@@ -26,7 +26,7 @@ use Rattle.rd_drive.proofs.CheckLemmas.{check_applies, check_passed, checks_done
 use Rattle.rd_folder_drive.specs.declared.handle.Handle as kept
 use Rattle.rd_folder_drive.specs.declared.open.Open.{Open}
 use Rattle.rd_folder_drive.specs.declared.table.Table.{Table}
-use Rattle.rd_folder_drive.specs.Table.{Holds, IsSound, drive_of, kept_handle, marked, open_at}
+use Rattle.rd_folder_drive.specs.Table.{HasNodes, IsSound, drive_of, kept_handle, marked, open_at}
 use Rattle.rd_folder.specs.FolderCalls.{folder_read}
 use Rattle.rd_folder_drive.proofs.AskLemmas.{read_from}
 use Rattle.rd_folder_drive.proofs.LockLemmas.{any_on}
@@ -59,7 +59,7 @@ part_begins bytes offset count some = elim (cases_Bool (nat_le (length bytes) of
   | inr within ↦ within
 ]
 
-module _ (t : Table) (sound : IsSound t) (file offset asked : ℕ) (h : kept.Handle) (o : Open) (is : kept_handle t file ≡ Some h) (on : open_at t h.node ≡ Some o) (nodes : List Node) (holds : Holds t nodes) where
+module _ (t : Table) (sound : IsSound t) (file offset asked : ℕ) (h : kept.Handle) (o : Open) (is : kept_handle t file ≡ Some h) (on : open_at t h.node ≡ Some o) (nodes : List Node) (holds : HasNodes t nodes) where
   abbrev pub s : DriveState
   s = drive_of t nodes
 

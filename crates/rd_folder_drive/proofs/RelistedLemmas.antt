@@ -18,7 +18,7 @@ use Rattle.std.specs.BTreeMap.{BTreeMap, IsOrdered, is_at}
 use Rattle.rd_drive.specs.Store.{HasRoom}
 use Rattle.rd_folder_drive.specs.declared.table.Table.{Table}
 use Rattle.rd_folder_drive.specs.Listing.{Relists, relisted}
-use Rattle.rd_folder_drive.specs.Table.{Holds, IsHandle, IsSound, drive_of, handle_of, kept_handle, open_at, path_at, uses_on}
+use Rattle.rd_folder_drive.specs.Table.{HasNodes, IsHandle, IsSound, drive_of, handle_of, kept_handle, open_at, path_at, uses_on}
 
 abbrev Handles : Type 0
 Handles = BTreeMap ℕ kept.Handle
@@ -149,12 +149,12 @@ module _ (t : Table) (sound : IsSound t) (file : ℕ) (h : kept.Handle) (is : ke
   pub relisted_seen : (nodes : List Node) → drive_of after nodes ≡ with_listing (drive_of t nodes) file (handle_of t h) pattern last
   relisted_seen nodes = ap (λ hs. record (drive_of t nodes) { handles = hs }) (ap (map (λ (e : ℕ × kept.Handle). (e.0, handle_of t e.1))) entries ∙ seen_set pattern last (is_at (nat_cmp file)) h t t.handles.entries)
 
-  pub relisted_holds : (nodes : List Node) → Holds t nodes → Holds after nodes
+  pub relisted_holds : (nodes : List Node) → HasNodes t nodes → HasNodes after nodes
   relisted_holds nodes holds = record { map = holds.map; there = holds.there }
 
 -- the same, of a table that was left so
 pub relists_sound : (t new : Table) → IsSound t → (file : ℕ) (h : kept.Handle) → kept_handle t file ≡ Some h → (pattern : List ℕ) (last : Option Name) → Relists t file h pattern last new
-    → IsSound new × ((nodes : List Node) → Holds t nodes → Holds new nodes × (drive_of new nodes ≡ with_listing (drive_of t nodes) file (handle_of t h) pattern last))
+    → IsSound new × ((nodes : List Node) → HasNodes t nodes → HasNodes new nodes × (drive_of new nodes ≡ with_listing (drive_of t nodes) file (handle_of t h) pattern last))
 relists_sound t new sound file h is pattern last relists =
-    subst (λ (x : Table). IsSound x × ((nodes : List Node) → Holds t nodes → Holds x nodes × (drive_of x nodes ≡ with_listing (drive_of t nodes) file (handle_of t h) pattern last))) (sym relists.rest)
+    subst (λ (x : Table). IsSound x × ((nodes : List Node) → HasNodes t nodes → HasNodes x nodes × (drive_of x nodes ≡ with_listing (drive_of t nodes) file (handle_of t h) pattern last))) (sym relists.rest)
     (relisted_sound t sound file h is pattern last new.handles relists.rising relists.handles, λ nodes holds. (relisted_holds t sound file h is pattern last new.handles relists.rising relists.handles nodes holds, relisted_seen t sound file h is pattern last new.handles relists.rising relists.handles nodes))

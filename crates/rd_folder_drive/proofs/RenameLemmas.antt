@@ -23,15 +23,15 @@ use Rattle.rd_folder_drive.specs.declared.handle.Handle as kept
 use Rattle.rd_folder_drive.specs.declared.open.Open.{Open}
 use Rattle.rd_folder_drive.specs.declared.table.Table.{Table}
 use Rattle.rd_folder_drive.specs.Served.{IsOver, IsOwnStatus, Seen, Serves}
-use Rattle.rd_folder_drive.specs.Setting.{renames, sets}
-use Rattle.rd_folder_drive.specs.Table.{Holds, IsSound, drive_of, kept_handle, marked, open_at}
+use Rattle.rd_folder_drive.specs.Setting.{renames, sets_of}
+use Rattle.rd_folder_drive.specs.Table.{HasNodes, IsSound, drive_of, kept_handle, marked, open_at}
 use Rattle.rd_folder_drive.proofs.AskLemmas.{calm_by}
 use Rattle.rd_folder_drive.proofs.AskedLemmas.{folder_marked}
 use Rattle.rd_folder_drive.proofs.ServeLemmas.{refused_so}
 use Rattle.rd_folder_drive.proofs.SetLemmas.{setting}
 use Rattle.rd_folder_drive.proofs.TableLemmas as table
 
-module _ (t : Table) (sound : IsSound t) (moment file count : ℕ) (replace : Bool) (h : kept.Handle) (o : Open) (is : kept_handle t file ≡ Some h) (on : open_at t h.node ≡ Some o) (nodes : List Node) (holds : Holds t nodes) where
+module _ (t : Table) (sound : IsSound t) (moment file count : ℕ) (replace : Bool) (h : kept.Handle) (o : Open) (is : kept_handle t file ≡ Some h) (on : open_at t h.node ≡ Some o) (nodes : List Node) (holds : HasNodes t nodes) where
   abbrev s : DriveState
   s = drive_of t nodes
 
@@ -46,10 +46,10 @@ module _ (t : Table) (sound : IsSound t) (moment file count : ℕ) (replace : Bo
 
   -- ---- the units
 
-  pub spells_path : (units : List ℕ) (to : Names) → parsed_path units ≡ Some to → sets file moment count (set.Rename replace units) s ≡ renames file moment count replace to s
+  pub spells_path : (units : List ℕ) (to : Names) → parsed_path units ≡ Some to → sets_of file moment count (set.Rename replace units) s ≡ renames file moment count replace to s
   spells_path units to spelled = setting t sound moment file count h o is on nodes holds (set.Rename replace units) ∙ comes_path s moment count own replace units to spelled ∙ sym (goes to)
 
-  pub spells_none : (units : List ℕ) (at : ℕ) → path_fault units ≡ Some at → sets file moment count (set.Rename replace units) s ≡ refused s object_name_invalid
+  pub spells_none : (units : List ℕ) (at : ℕ) → path_fault units ≡ Some at → sets_of file moment count (set.Rename replace units) s ≡ refused s object_name_invalid
   spells_none units at bad = setting t sound moment file count h o is on nodes holds (set.Rename replace units) ∙ comes_no_path s moment count own replace units at bad
 
   -- ---- the path
@@ -104,7 +104,7 @@ parent_named to is = taken (length to - 1) to (and_parts (list_all is_name to) (
 
 -- refused once the folder was asked, which told what it is
 pub refused_told : (t : Table) (before after : Seen) → IsOver t before → IsSound t → (comes : DriveState → Outcome) → after ≡ before → (status : Status) → IsOwnStatus status
-    → ((nodes : List Node) → before.told ≡ Some nodes → Holds t nodes → comes (drive_of t nodes) ≡ refused (drive_of t nodes) status) → Serves t before t after comes (Err status)
+    → ((nodes : List Node) → before.told ≡ Some nodes → HasNodes t nodes → comes (drive_of t nodes) ≡ refused (drive_of t nodes) status) → Serves t before t after comes (Err status)
 refused_told t before after over sound comes same status own each =
     refused_so t before after over (ap (λ (s : Seen). s.told) same) sound comes (calm_by before after (ap (λ (s : Seen). s.faults) same)) status own each
 

@@ -26,8 +26,8 @@ use Rattle.rd_folder_drive.specs.declared.handle.Handle as kept
 use Rattle.rd_folder_drive.specs.declared.open.Open.{Open}
 use Rattle.rd_folder_drive.specs.declared.table.Table.{Table}
 use Rattle.rd_folder_drive.specs.Served.{IsOwnStatus}
-use Rattle.rd_folder_drive.specs.Setting.{MayNotSetOpen, MaySetOpen, OfOpen, ends, sets}
-use Rattle.rd_folder_drive.specs.Table.{Holds, IsNodeOf, IsSound, drive_of, handle_of, kept_handle, marked, open_at, path_at}
+use Rattle.rd_folder_drive.specs.Setting.{MayNotSetOpen, MaySetOpen, OfOpen, ends, sets_of}
+use Rattle.rd_folder_drive.specs.Table.{HasNodes, IsNodeOf, IsSound, drive_of, handle_of, kept_handle, marked, open_at, path_at}
 use Rattle.rd_folder_drive.proofs.AskedLemmas.{look_is}
 use Rattle.rd_folder_drive.proofs.TableLemmas as table
 
@@ -103,7 +103,7 @@ of_open t file P h o is on holds i p at open_too = subst P (same_Some o p (sym o
 
 -- ---- an open file
 
-module _ (t : Table) (sound : IsSound t) (moment file count : ℕ) (h : kept.Handle) (o : Open) (is : kept_handle t file ≡ Some h) (on : open_at t h.node ≡ Some o) (nodes : List Node) (holds : Holds t nodes) where
+module _ (t : Table) (sound : IsSound t) (moment file count : ℕ) (h : kept.Handle) (o : Open) (is : kept_handle t file ≡ Some h) (on : open_at t h.node ≡ Some o) (nodes : List Node) (holds : HasNodes t nodes) where
   abbrev pub s : DriveState
   s = drive_of t nodes
 
@@ -117,7 +117,7 @@ module _ (t : Table) (sound : IsSound t) (moment file count : ℕ) (h : kept.Han
   kind = table.kind t sound nodes holds file h o is on
 
   -- a value that is set is set of the node
-  pub setting : (info : SetInfo) → sets file moment count info s ≡ set_outcome s moment count own info
+  pub setting : (info : SetInfo) → sets_of file moment count info s ≡ set_outcome s moment count own info
   setting info = table.on_open t sound nodes holds file h o is on (λ handle n. set_outcome s moment count n info)
 
   -- ---- moments and attributes
@@ -131,7 +131,7 @@ module _ (t : Table) (sound : IsSound t) (moment file count : ℕ) (h : kept.Han
         ap (λ (found : Option Node). option_and_then (λ (n : Node). option_and_then (λ (after : Node). leaving (with_put nodes after)) (marked_so a m n)) found) (table.there t sound nodes holds file h o is on)
         ∙ (λ i. Some (tt, with_put nodes (record node { attributes = same i; moments = kept i })))
 
-    pub basic_done : sets file moment count (set.Basic asked attributes) s ≡ succeeded (drive_of t (with_put nodes basic_node)) (Count count) (changed (changes.marked (path_at t h.node) ∷ []))
+    pub basic_done : sets_of file moment count (set.Basic asked attributes) s ≡ succeeded (drive_of t (with_put nodes basic_node)) (Count count) (changed (changes.marked (path_at t h.node) ∷ []))
     basic_done =
         setting (set.Basic asked attributes)
         ∙ (λ i. succeeded (sym (table.with_seen t nodes basic_node) i) (Count count) (changed (changes.marked (table.node_at t sound nodes holds file h o is on i) ∷ [])))
@@ -170,7 +170,7 @@ module _ (t : Table) (sound : IsSound t) (moment file count : ℕ) (h : kept.Han
           ∙ (λ i. succeeded (sym (table.with_seen t nodes end_node) i) (Count count) (changed (modified (table.node_at t sound nodes holds file h o is on i) ∷ [])))
 
   -- an allocation cuts at the lesser of itself and the end that was told
-  pub cut_same : (size end : ℕ) (found : Option Look) (look : Look) → option_map look_of (node_there nodes o.path) ≡ found → found ≡ Some look → end ≡ min size look.end → sets file moment count (set.Allocation size) s ≡ ends file moment count size end s
+  pub cut_same : (size end : ℕ) (found : Option Look) (look : Look) → option_map look_of (node_there nodes o.path) ≡ found → found ≡ Some look → end ≡ min size look.end → sets_of file moment count (set.Allocation size) s ≡ ends file moment count size end s
   cut_same size end found look told some e =
       setting (set.Allocation size)
       ∙ ap (λ (k : ℕ). set_end s moment count own size k) (sym (e ∙ ap (λ (l : Look). min size l.end) (look_is nodes o.path node (table.there t sound nodes holds file h o is on) found told look some)))
@@ -178,7 +178,7 @@ module _ (t : Table) (sound : IsSound t) (moment file count : ℕ) (h : kept.Han
 
 -- ---- the operation
 
-module _ (t : Table) (sound : IsSound t) (moment file class : ℕ) (buffer : List ℕ) (h : kept.Handle) (o : Open) (is : kept_handle t file ≡ Some h) (on : open_at t h.node ≡ Some o) (nodes : List Node) (holds : Holds t nodes) where
+module _ (t : Table) (sound : IsSound t) (moment file class : ℕ) (buffer : List ℕ) (h : kept.Handle) (o : Open) (is : kept_handle t file ≡ Some h) (on : open_at t h.node ≡ Some o) (nodes : List Node) (holds : HasNodes t nodes) where
   abbrev pub file_sets : DriveState → Outcome
   file_sets s = on_handle s file (set_file s moment class buffer)
 
@@ -200,5 +200,5 @@ module _ (t : Table) (sound : IsSound t) (moment file class : ℕ) (buffer : Lis
     pub set_wrong : set_info_of class buffer ≡ None → file_sets (drive_of t nodes) ≡ refused (drive_of t nodes) invalid_parameter
     set_wrong e = passed ∙ ap reading e ∙ given_none (drive_of t nodes) {X = SetInfo} invalid_parameter _
 
-    pub set_right : (info : SetInfo) → set_info_of class buffer ≡ Some info → file_sets (drive_of t nodes) ≡ sets file moment (length buffer) info (drive_of t nodes)
+    pub set_right : (info : SetInfo) → set_info_of class buffer ≡ Some info → file_sets (drive_of t nodes) ≡ sets_of file moment (length buffer) info (drive_of t nodes)
     set_right info e = passed ∙ ap reading e ∙ given_some (drive_of t nodes) info invalid_parameter _ ∙ sym (setting t sound moment file (length buffer) h o is on nodes holds info)

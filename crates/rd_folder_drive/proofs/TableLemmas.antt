@@ -21,7 +21,7 @@ use Rattle.rd_folder_drive.specs.declared.handle.Handle as kept
 use Rattle.rd_folder_drive.specs.declared.open.Open.{Open}
 use Rattle.rd_folder_drive.specs.declared.table.Table.{Table}
 use Rattle.rd_folder_drive.proofs.EntryLemmas.{any_entry, entry_any}
-use Rattle.rd_folder_drive.specs.Table.{Holds, IsNodeOf, IsSoundBut, drive_of, handle_of, is_pending_open, kept_handle, marked, open_at, path_at}
+use Rattle.rd_folder_drive.specs.Table.{HasNodes, IsNodeOf, IsSoundBut, drive_of, handle_of, is_pending_open, kept_handle, marked, open_at, path_at}
 
 -- ---- handles
 
@@ -68,7 +68,7 @@ with_seen t nodes new = λ i. record (drive_of t nodes) { nodes = put_marked t.o
 
 -- ---- an open file
 
-module _ {closed : Option ℕ} (t : Table) (sound : IsSoundBut closed t) (nodes : List Node) (holds : Holds t nodes) (file : ℕ) (h : kept.Handle) (o : Open) (is : kept_handle t file ≡ Some h) (on : open_at t h.node ≡ Some o) where
+module _ {closed : Option ℕ} (t : Table) (sound : IsSoundBut closed t) (nodes : List Node) (holds : HasNodes t nodes) (file : ℕ) (h : kept.Handle) (o : Open) (is : kept_handle t file ≡ Some h) (on : open_at t h.node ≡ Some o) where
   -- its node, as the folder has it
   abbrev pub node : Node
   node = (holds.there h.node o on).0
@@ -121,7 +121,7 @@ module _ {closed : Option ℕ} (t : Table) (sound : IsSoundBut closed t) where
       by : (m : ℕ) × (p : Open) × (open_at t m ≡ Some p) × (is_pending_open path (m, p) ≡ true) → ⊥
       by (m, p, is, both) = none m p is (same_exact p.path path (and_parts p.pending (is_same_path Exact p.path path) both).1)
 
-module _ {closed : Option ℕ} (t : Table) (sound : IsSoundBut closed t) (nodes : List Node) (holds : Holds t nodes) (file : ℕ) (h : kept.Handle) (o : Open) (is : kept_handle t file ≡ Some h) (on : open_at t h.node ≡ Some o) where
+module _ {closed : Option ℕ} (t : Table) (sound : IsSoundBut closed t) (nodes : List Node) (holds : HasNodes t nodes) (file : ℕ) (h : kept.Handle) (o : Open) (is : kept_handle t file ≡ Some h) (on : open_at t h.node ≡ Some o) where
   -- its node, marked, is pending where what is open is
   pub marked_is : marked t.opens.entries (node t sound nodes holds file h o is on) ≡ record (node t sound nodes holds file h o is on) { pending = o.pending }
   marked_is = λ i. record (node t sound nodes holds file h o is on) {

@@ -23,11 +23,11 @@ use Rattle.rd_folder.specs.FolderCalls.{folder_write, leaving, only_if, overwrit
 use Rattle.rd_folder_drive.specs.declared.handle.Handle as kept
 use Rattle.rd_folder_drive.specs.declared.open.Open.{Open}
 use Rattle.rd_folder_drive.specs.declared.table.Table.{Table}
-use Rattle.rd_folder_drive.specs.Table.{Holds, IsSound, drive_of, handle_of, kept_handle, marked, open_at, path_at}
+use Rattle.rd_folder_drive.specs.Table.{HasNodes, IsSound, drive_of, handle_of, kept_handle, marked, open_at, path_at}
 use Rattle.rd_folder_drive.proofs.LockLemmas.{any_on}
 use Rattle.rd_folder_drive.proofs.TableLemmas as table
 
-module _ (t : Table) (sound : IsSound t) (moment file offset : ℕ) (bytes : List ℕ) (h : kept.Handle) (o : Open) (is : kept_handle t file ≡ Some h) (on : open_at t h.node ≡ Some o) (nodes : List Node) (holds : Holds t nodes) where
+module _ (t : Table) (sound : IsSound t) (moment file offset : ℕ) (bytes : List ℕ) (h : kept.Handle) (o : Open) (is : kept_handle t file ≡ Some h) (on : open_at t h.node ≡ Some o) (nodes : List Node) (holds : HasNodes t nodes) where
   abbrev pub s : DriveState
   s = drive_of t nodes
 

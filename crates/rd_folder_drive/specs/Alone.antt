@@ -9,11 +9,11 @@ use Rattle.rd_folder_drive.specs.declared.table.Table.{Table}
 use Rattle.rd_folder_drive.specs.declared.table.Done.{Done}
 use Rattle.rd_folder_drive.specs.declared.table.Done.TheVariants as done
 use Rattle.rd_folder_drive.specs.Served.{IsHeard, IsOwnStatus, news_of}
-use Rattle.rd_folder_drive.specs.Table.{Holds, IsSound, IsSoundBut, drive_of}
+use Rattle.rd_folder_drive.specs.Table.{HasNodes, IsSound, IsSoundBut, drive_of}
 
 -- What is open is among all nodes among which it was, and the drives over them are so.
 abbrev pub LeavesAlone : Table → Table → (DriveState → DriveState → Type 0) → Type 0
-LeavesAlone old new P = (nodes : List Node) → Holds old nodes → Holds new nodes × P (drive_of old nodes) (drive_of new nodes)
+LeavesAlone old new P = (nodes : List Node) → HasNodes old nodes → HasNodes new nodes × P (drive_of old nodes) (drive_of new nodes)
 
 -- A call that serves an operation leaves a sound table and returns what the operation comes to; or no memory was found, and then nothing changed.
 abbrev pub ServesAlone : Table → Table → (DriveState → outcome.Outcome) → Result Done Status → Type 0

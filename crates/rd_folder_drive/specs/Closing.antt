@@ -34,21 +34,21 @@ kept_done folder.Missing news = done.Replied Closed news
 kept_done why news = done.Kept (folder_status why) news
 
 -- what is open, with these uses, and pending if it was or is to be
-abbrev pub left_open : Open → Uses → Bool → Open
-left_open o uses pending = record o { uses = uses; pending = o.pending || pending }
+abbrev pub with_uses_left : Open → Uses → Bool → Open
+with_uses_left o uses pending = record o { uses = uses; pending = o.pending || pending }
 
 -- What is open by a number loses one use, and is pending if it was or is to be.
 abbrev pub LosesUse : Table → ℕ → Use → Bool → Table → Type 0
 LosesUse old n usage pending new = (o : Open) (uses : Uses) → open_at old n ≡ Some o → o.uses ≡ more usage uses
-    → (k : ℕ) → open_at new k ≡ (if is_at (nat_cmp n) k then Some (left_open o uses pending) else open_at old k)
+    → (k : ℕ) → open_at new k ≡ (if is_at (nat_cmp n) k then Some (with_uses_left o uses pending) else open_at old k)
 
 -- the handles of a table but one
 abbrev pub other_handles : Table → ℕ → List (ℕ × kept.Handle)
 other_handles t file = remove_entry (is_at (nat_cmp file)) t.handles.entries
 
 -- what is open then, which the other handles use
-abbrev pub left_by : Table → ℕ → kept.Handle → Open → Open
-left_by t file h o = left_open o (uses_of (uses_on h.node (other_handles t file))) h.delete_on_close
+abbrev pub used_once_less : Table → ℕ → kept.Handle → Open → Open
+used_once_less t file h o = with_uses_left o (uses_of (uses_on h.node (other_handles t file))) h.delete_on_close
 
 -- what stays open by its number where this comes back
 abbrev pub stays_open : Open → Option Open → Option Open
@@ -56,9 +56,9 @@ stays_open left None = Some left
 stays_open left (Some taken) = None
 
 -- What comes back is what was open by one handle alone.
-abbrev pub IsTaken : ℕ → Open → Option Open → Type 0
-IsTaken count left None = 0 < count
-IsTaken count left (Some taken) = (taken ≡ left) × (count ≡ 0)
+abbrev pub IsTakenOff : ℕ → Open → Option Open → Type 0
+IsTakenOff count left None = 0 < count
+IsTakenOff count left (Some taken) = (taken ≡ left) × (count ≡ 0)
 
 -- A file id is closed: its handle is gone, and its locks. What it had open is used once less, or where nothing else uses it comes back.
 pub record IsOff (old : Table) (file : ℕ) (h : kept.Handle) (o : Open) (back : Option Open) (new : Table) : Type 0 where
@@ -67,5 +67,5 @@ pub record IsOff (old : Table) (file : ℕ) (h : kept.Handle) (o : Open) (back :
   pub looked : (k : ℕ) → kept_handle new k ≡ (if is_at (nat_cmp file) k then None else kept_handle old k)
   pub locks : new.locks ≡ record old.locks { locks = released file old.locks.locks }
   pub rising : IsOrdered nat_cmp new.opens × IsOrdered nat_cmp new.handles
-  pub opens : (k : ℕ) → open_at new k ≡ (if is_at (nat_cmp h.node) k then stays_open (left_by old file h o) back else open_at old k)
-  pub taken : IsTaken (length (uses_on h.node (other_handles old file))) (left_by old file h o) back
+  pub opens : (k : ℕ) → open_at new k ≡ (if is_at (nat_cmp h.node) k then stays_open (used_once_less old file h o) back else open_at old k)
+  pub taken : IsTakenOff (length (uses_on h.node (other_handles old file))) (used_once_less old file h o) back

@@ -17,7 +17,7 @@ use Rattle.rd_drive.specs.Store.{waiting_of}
 use Rattle.rd_folder.specs.declared.folder.FolderNo.{FolderNo}
 use Rattle.rd_folder.specs.declared.folder.FolderNo.TheVariants as folder
 use Rattle.rd_folder_drive.specs.declared.table.Table.{Table}
-use Rattle.rd_folder_drive.specs.Served.{Seen, folder_status, io_device_error, keeping, takes_out}
+use Rattle.rd_folder_drive.specs.Served.{Seen, folder_status, io_device_error, keeping_node, takes_out}
 use Rattle.rd_folder_drive.specs.Table.{drive_of}
 
 -- A drive over a folder: the drive, where the folder tells its nodes; the folder's count of faults; and the requests that wait.
@@ -33,12 +33,12 @@ state_over t over = record { drive = option_map (drive_of t) over.told; faults =
 -- ---- a job
 
 -- A job comes to what the definition of a drive says, or to nothing where no memory was found. No fault is counted.
-pub record IsRun (old : DriveState) (planned : Planned) (moment : ℕ) (answer : Step) (ends : List End) (new : DriveState) (before after : ℕ) : Type 0 where
+pub record IsDriveStep (old : DriveState) (planned : Planned) (moment : ℕ) (answer : Step) (ends : List End) (new : DriveState) (before after : ℕ) : Type 0 where
   pub comes : drive_ran old planned.job moment (is_starved answer) ≡ record { state = new; answer = answer; ends = ends }
   pub calm : after ≡ before
 
 -- The folder refused, which is one fault more, and nothing came of the job.
-pub record IsRefused (old : DriveState) (answer : Step) (ends : List End) (new : DriveState) (before after : ℕ) : Type 0 where
+pub record IsFolderRefusal (old : DriveState) (answer : Step) (ends : List End) (new : DriveState) (before after : ℕ) : Type 0 where
   pub no : FolderNo
   pub some : no ≡ folder.Memory → ⊥
   pub answered : answer ≡ step.Reply (outcome.fault (folder_status no))
@@ -56,14 +56,14 @@ pub record Keeps (old : DriveState) (file : ℕ) (answer : Step) (ends : List En
   pub opened : handle_at old file ≡ Some handle
   pub there : node_of_path old handle.path ≡ Some node
   pub takes : takes_out old file handle node ≡ true
-  pub comes : step_of (keeping old file (folder_status no) handle node) ≡ record { state = new; answer = answer; ends = ends }
+  pub comes : step_of (keeping_node old file (folder_status no) handle node) ≡ record { state = new; answer = answer; ends = ends }
   pub counted : after ≡ one_more before
 
 -- What a drive over a folder that tells its nodes does with a job. A Close is never refused so: the handle goes.
 abbrev pub DoesJob : DriveState → Planned → ℕ → Step → List End → DriveState → (before after : ℕ) → Type 0
 DoesJob old planned moment answer ends new before after =
-    IsRun old planned moment answer ends new before after
-    ⊎ (((planned.job.op ≡ Close) → ⊥) × IsRefused old answer ends new before after)
+    IsDriveStep old planned moment answer ends new before after
+    ⊎ (((planned.job.op ≡ Close) → ⊥) × IsFolderRefusal old answer ends new before after)
     ⊎ ((planned.job.op ≡ Close) × Keeps old planned.job.file answer ends new before after)
 
 -- A drive over a folder runs a job. Where the folder tells its nodes this is what the definition says; where it doesn't, that the folder failed is said only

@@ -24,7 +24,7 @@ use Rattle.rd_folder_drive.specs.declared.open.Open.{Open}
 use Rattle.rd_folder_drive.specs.declared.table.Table.{Table}
 use Rattle.rd_folder_drive.specs.declared.table.Done.{Done}
 use Rattle.rd_folder_drive.specs.declared.table.Done.TheVariants as done
-use Rattle.rd_folder_drive.specs.Table.{Holds, IsSound, IsSoundBut, drive_of, open_at, path_at}
+use Rattle.rd_folder_drive.specs.Table.{HasNodes, IsSound, IsSoundBut, drive_of, open_at, path_at}
 
 -- ---- the news
 
@@ -99,7 +99,7 @@ OfDrive t before P = (nodes : List Node) → before.told ≡ Some nodes → P (d
 
 -- what is open is among the nodes that a folder tells, if it tells them
 abbrev pub IsOver : Table → Seen → Type 0
-IsOver t folder = IfSome folder.told (Holds t)
+IsOver t folder = IfSome folder.told (HasNodes t)
 
 -- Afterwards the folder tells its nodes still if it told them, what is open is among them, and the drive over them is so.
 abbrev pub Leaves : Table → Seen → Table → Seen → (DriveState → DriveState → Type 0) → Type 0
@@ -168,8 +168,8 @@ abbrev pub takes_out : DriveState → ℕ → Handle → Node → Bool
 takes_out s file handle node = (node.pending || handle.delete_on_close) && not (is_open (without_file s file) node.path)
 
 -- A Close that takes a node out which the folder keeps: the file is closed all the same, and the node isn't pending any more.
-abbrev pub keeping : DriveState → ℕ → Status → Handle → Node → outcome.Outcome
-keeping s file status handle node = record {
+abbrev pub keeping_node : DriveState → ℕ → Status → Handle → Node → outcome.Outcome
+keeping_node s file status handle node = record {
   state = with_node (without_file s file) (record node { pending = false });
   answer = step.Reply (outcome.fault status);
   news = closing file node.path;
@@ -184,7 +184,7 @@ abbrev pub ServesClose : Table → Seen → Table → Seen → ℕ → Result Do
 ServesClose old before new after file (Ok (done.Kept status news)) =
     IsSoundBut (Some file) new × (news.closed ≡ Some file) × IsHeard new news × IsKeptBy before after status
     × Leaves old before new after (λ s left. (handle : Handle) × (node : Node) × (handle_at s file ≡ Some handle) × (node_of_path s handle.path ≡ Some node) × (takes_out s file handle node ≡ true)
-    × (keeping s file status handle node ≡ record { state = left; answer = step.Reply (outcome.fault status); news = news_of new news }))
+    × (keeping_node s file status handle node ≡ record { state = left; answer = step.Reply (outcome.fault status); news = news_of new news }))
 ServesClose old before new after file (Err status) =
     IsSound new × IsOwnStatus status × ((status ≡ no_memory) → ⊥) × IsCalm before after
     × Leaves old before new after (λ s left. on_handle s file (close s file) ≡ outcome.refused left status)

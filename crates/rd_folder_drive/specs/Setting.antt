@@ -42,8 +42,8 @@ abbrev pub IsBelowRoot : Open → Type 0
 IsBelowRoot o = (length o.path == 0) ≡ false
 
 -- what comes of a value that is set
-abbrev pub sets : ℕ → ℕ → ℕ → SetInfo → DriveState → Outcome
-sets file moment count info s = on_handle s file (λ handle node. set_outcome s moment count node info)
+abbrev pub sets_of : ℕ → ℕ → ℕ → SetInfo → DriveState → Outcome
+sets_of file moment count info s = on_handle s file (λ handle node. set_outcome s moment count node info)
 
 -- what comes of an end that is set, where so much was asked
 abbrev pub ends : ℕ → ℕ → ℕ → ℕ → ℕ → DriveState → Outcome
@@ -52,20 +52,20 @@ ends file moment count asked end s = on_handle s file (λ handle node. set_end s
 -- ---- the mark
 
 -- a node of its kind stands at the path of what is open
-abbrev pub IsThere : Seen → Open → Type 0
-IsThere folder o = (nodes : List Node) → folder.told ≡ Some nodes → (node : Node) × (node_there nodes o.path ≡ Some node) × IsNodeOf o node
+abbrev pub HasNodeThere : Seen → Open → Type 0
+HasNodeThere folder o = (nodes : List Node) → folder.told ≡ Some nodes → (node : Node) × (node_there nodes o.path ≡ Some node) × IsNodeOf o node
 
 -- a folder in which something stands
-abbrev pub is_full : List Node → Node → Bool
-is_full nodes node = is_folder_node node && has_children (drive_over nodes) node.path
+abbrev pub is_filled_folder : List Node → Node → Bool
+is_filled_folder nodes node = is_folder_node node && has_children (drive_over nodes) node.path
 
 -- What is open may go with its last handle.
-abbrev pub MayGo : Seen → Open → Type 0
-MayGo folder o = (nodes : List Node) → folder.told ≡ Some nodes → (node : Node) → node_there nodes o.path ≡ Some node → (is_readonly node ≡ false) × (is_full nodes node ≡ false)
+abbrev pub MayBePending : Seen → Open → Type 0
+MayBePending folder o = (nodes : List Node) → folder.told ≡ Some nodes → (node : Node) → node_there nodes o.path ≡ Some node → (is_readonly node ≡ false) × (is_filled_folder nodes node ≡ false)
 
 -- why a node may not go
 abbrev pub IsKeptFor : List Node → Node → Status → Type 0
-IsKeptFor nodes node status = ((status ≡ access_denied) × (is_readonly node ≡ true)) ⊎ ((status ≡ directory_not_empty) × (is_readonly node ≡ false) × (is_full nodes node ≡ true))
+IsKeptFor nodes node status = ((status ≡ access_denied) × (is_readonly node ≡ true)) ⊎ ((status ≡ directory_not_empty) × (is_readonly node ≡ false) × (is_filled_folder nodes node ≡ true))
 
 -- It may not go, or the folder refused to tell.
 abbrev pub MayNotGo : Seen → Seen → Open → Status → Type 0
@@ -74,7 +74,7 @@ MayNotGo before after o status =
     ⊎ ((after.told ≡ before.told) × IsRefusedBy before after status)
 
 -- what is open by a number is pending from now on, or is no more, and nothing else changes
-pub record SetsMark (old : Table) (n : ℕ) (o : Open) (pending : Bool) (new : Table) : Type 0 where
+pub record SetsPending (old : Table) (n : ℕ) (o : Open) (pending : Bool) (new : Table) : Type 0 where
   pub rest : new ≡ record old { opens = new.opens }
   pub opens : new.opens.entries ≡ set_value (is_at (nat_cmp n)) old.opens.entries (record o { pending = pending })
 

@@ -116,6 +116,6 @@ abbrev pub IsNodeOf : Open → Node → Type 0
 IsNodeOf o node = is_folder_node node ≡ o.folder
 
 -- The nodes that a folder tells are a map, and what is open is among them.
-pub record Holds (t : Table) (nodes : List Node) : Type 0 where
+pub record HasNodes (t : Table) (nodes : List Node) : Type 0 where
   pub map : IsFolderMap nodes
   pub there : (n : ℕ) (o : Open) → open_at t n ≡ Some o → (node : Node) × (node_there nodes o.path ≡ Some node) × IsNodeOf o node

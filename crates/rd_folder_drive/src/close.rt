@@ -11,7 +11,7 @@ ghost use Rattle.rd_drive.specs.declared.uses.Uses.{Uses};
 ghost use Rattle.rd_drive.specs.UseCounts.{more};
 ghost use Rattle.rd_folder_drive.specs.declared.handle.Handle.{Handle};
 ghost use Rattle.rd_folder_drive.specs.declared.open.Open.{Open};
-ghost use Rattle.rd_folder_drive.specs.Closing.{kept_done, left_open, IsFed, IsOff, LosesUse};
+ghost use Rattle.rd_folder_drive.specs.Closing.{kept_done, with_uses_left, IsFed, IsOff, LosesUse};
 ghost use Rattle.rd_folder_drive.specs.Served.{seen, FitsBody, IfReplied, IsOver, ServesClose};
 ghost use Rattle.rd_folder_drive.specs.Table.{kept_handle, open_at, IsSound};
 
@@ -108,7 +108,7 @@ impl Open {
     /// It is used once less, and may become pending.
     fn lose_use(&mut self, usage: Use, pending: bool)
         requires { (uses : Uses) × (self.old.uses ≡ more usage uses) }
-        ensures { (uses : Uses) → self.old.uses ≡ more usage uses → self.new ≡ left_open self.old uses pending }
+        ensures { (uses : Uses) → self.old.uses ≡ more usage uses → self.new ≡ with_uses_left self.old uses pending }
     {
         self.pending = self.pending || pending;
         self.uses.remove(usage);

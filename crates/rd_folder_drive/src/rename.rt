@@ -4,7 +4,7 @@ ghost use Rattle.std.specs.Prelude.{◌≡◌};
 ghost use Rattle.rd_fileinfo.specs.declared.set_info.SetInfo.TheVariants as SetInfo;
 ghost use Rattle.rd_irp.specs.declared.completion.Body.TheVariants as Body;
 ghost use Rattle.rd_folder_drive.specs.Served.{seen, IfReplied, IsOver, Serves};
-ghost use Rattle.rd_folder_drive.specs.Setting.{renames, sets, IsBelowRoot, OfOpen};
+ghost use Rattle.rd_folder_drive.specs.Setting.{renames, sets_of, IsBelowRoot, OfOpen};
 ghost use Rattle.rd_folder_drive.specs.Table.{IsSound};
 
 use crate::asking::is_folder;
@@ -31,7 +31,7 @@ impl Table {
         requires sound { IsSound self.old }
         requires over { IsOver self.old (seen F.nodes F.faults folder.old) }
         requires other { OfOpen self.old file IsBelowRoot }
-        ensures serves { Serves self.old (seen F.nodes F.faults folder.old) self.new (seen F.nodes F.faults folder.new) (sets file moment count (SetInfo.Rename replace units.now)) result }
+        ensures serves { Serves self.old (seen F.nodes F.faults folder.old) self.new (seen F.nodes F.faults folder.new) (sets_of file moment count (SetInfo.Rename replace units.now)) result }
         ensures body { IfReplied result (λ body. body ≡ Body.Count count) }
     {
         let Some((_, _)) = self.held(file) else {

@@ -9,7 +9,7 @@ ghost use Rattle.rd_drive.specs.Access.{deletes, writes};
 ghost use Rattle.rd_drive.specs.Outcome.{on_handle};
 ghost use Rattle.rd_drive.specs.SetFile.{set_file};
 ghost use Rattle.rd_folder_drive.specs.Served.{seen, FitsBody, IfReplied, IsOver, IsOwnStatus, Serves};
-ghost use Rattle.rd_folder_drive.specs.Setting.{ends, sets, IsBelowRoot, IsOpenFile, IsThere, MayGo, MayNotGo, MayNotSetOpen, MaySetOpen, OfOpen, SetsMark};
+ghost use Rattle.rd_folder_drive.specs.Setting.{ends, sets_of, IsBelowRoot, IsOpenFile, HasNodeThere, MayBePending, MayNotGo, MayNotSetOpen, MaySetOpen, OfOpen, SetsPending};
 ghost use Rattle.rd_folder_drive.specs.Table.{open_at, IsSound};
 ghost use Rattle.rd_folder_drive.specs.declared.open.Open.{Open};
 
@@ -70,8 +70,8 @@ fn check_set(handle: &Handle, opened: &Open, class: u32) -> Result<(), Status>
 
 /// Refuses what may not go: a file that is read-only, and a folder in which something stands.
 fn check_going<F: Folder>(alloc: Global, folder: &mut F, opened: &Open) -> Result<(), Status>
-    requires there { IsThere (seen F.nodes F.faults folder.old) opened.now }
-    ensures ok { OnOk result ((seen F.nodes F.faults folder.new ≡ seen F.nodes F.faults folder.old) × MayGo (seen F.nodes F.faults folder.old) opened.now) }
+    requires there { HasNodeThere (seen F.nodes F.faults folder.old) opened.now }
+    ensures ok { OnOk result ((seen F.nodes F.faults folder.new ≡ seen F.nodes F.faults folder.old) × MayBePending (seen F.nodes F.faults folder.old) opened.now) }
     ensures err { IfErr result (MayNotGo (seen F.nodes F.faults folder.old) (seen F.nodes F.faults folder.new) opened.now) }
 {
     if opened.folder {
@@ -145,7 +145,7 @@ impl Table {
     ) -> Outcome
         requires sound { IsSound self.now }
         requires over { IsOver self.now (seen F.nodes F.faults folder.old) }
-        ensures serves { Serves self.now (seen F.nodes F.faults folder.old) self.now (seen F.nodes F.faults folder.new) (sets file moment count (SetInfo.Basic asked attributes)) result }
+        ensures serves { Serves self.now (seen F.nodes F.faults folder.old) self.now (seen F.nodes F.faults folder.new) (sets_of file moment count (SetInfo.Basic asked attributes)) result }
         ensures body { IfReplied result (λ body. body ≡ Body.Count count) }
     {
         let Some((handle, opened)) = self.held(file) else {
@@ -211,7 +211,7 @@ impl Table {
         requires sound { IsSound self.now }
         requires over { IsOver self.now (seen F.nodes F.faults folder.old) }
         requires file { OfOpen self.now file IsOpenFile }
-        ensures serves { Serves self.now (seen F.nodes F.faults folder.old) self.now (seen F.nodes F.faults folder.new) (sets file moment count (SetInfo.Allocation size)) result }
+        ensures serves { Serves self.now (seen F.nodes F.faults folder.old) self.now (seen F.nodes F.faults folder.new) (sets_of file moment count (SetInfo.Allocation size)) result }
         ensures body { IfReplied result (λ body. body ≡ Body.Count count) }
     {
         let Some((_, opened)) = self.held(file) else {
@@ -237,7 +237,7 @@ impl Table {
         requires sound { IsSound self.old }
         requires over { IsOver self.old (seen F.nodes F.faults folder.old) }
         requires other { OfOpen self.old file IsBelowRoot }
-        ensures serves { (moment : ℕ) → Serves self.old (seen F.nodes F.faults folder.old) self.new (seen F.nodes F.faults folder.new) (sets file moment count (SetInfo.Disposition pending)) result }
+        ensures serves { (moment : ℕ) → Serves self.old (seen F.nodes F.faults folder.old) self.new (seen F.nodes F.faults folder.new) (sets_of file moment count (SetInfo.Disposition pending)) result }
         ensures body { IfReplied result (λ body. body ≡ Body.Count count) }
     {
         let Some((handle, opened)) = self.held(file) else {
@@ -259,7 +259,7 @@ impl Table {
 
     /// Marks what is open by a number, or takes its mark away.
     fn mark(&mut self, node: u32, pending: bool)
-        ensures { (o : Open) → open_at self.old node ≡ Some o → SetsMark self.old node o pending self.new }
+        ensures { (o : Open) → open_at self.old node ≡ Some o → SetsPending self.old node o pending self.new }
     {
         if let Some(opened) = self.opens.get_mut(&node) {
             opened.pending = pending;

@@ -10,7 +10,7 @@ use Rattle.rd_folder.specs.declared.look.Look.{Look}
 use Rattle.rd_folder.specs.FolderCalls.{folder_mark, look_of, node_there, with_put}
 use Rattle.rd_folder_drive.specs.declared.table.Done.TheVariants as done
 use Rattle.rd_folder_drive.specs.Served.{IsOver, Seen, Serves, seen}
-use Rattle.rd_folder_drive.specs.Setting.{sets}
+use Rattle.rd_folder_drive.specs.Setting.{sets_of}
 use Rattle.rd_folder_drive.proofs.AskLemmas.{calm_by}
 use Rattle.rd_folder_drive.proofs.AskedLemmas.{look_is}
 use Rattle.rd_folder_drive.proofs.PutLemmas.{put_holds}
@@ -22,7 +22,7 @@ use Rattle.rd_folder_drive.proofs.table.Table.set_basic.Goals as goal
 
 pub returns-in_default-clause-serves : goal.returns-in_default-clause-serves
 returns-in_default-clause-serves g c =
-    refused_at_once c.args.self.now (seen g.F.Folder.nodes g.F.Folder.faults c.args.folder.now) c.requires.over c.requires.sound (sets c.args.file c.args.moment c.args.count (set.Basic c.args.asked c.args.attributes))
+    refused_at_once c.args.self.now (seen g.F.Folder.nodes g.F.Folder.faults c.args.folder.now) c.requires.over c.requires.sound (sets_of c.args.file c.args.moment c.args.count (set.Basic c.args.asked c.args.attributes))
     invalid_handle (refl, refl) (λ nodes holds. unopened c.args.self.now nodes c.args.file _ (c.held.ensures.none c.in_default.is))
 
 pub returns-in-Ok-clause-serves : goal.returns-in-Ok-clause-serves
@@ -34,8 +34,8 @@ returns-in-Ok-clause-serves g c =
     let asked : Seen = seen g.F.Folder.nodes g.F.Folder.faults c.look.new.folder in
     let after : Seen = seen g.F.Folder.nodes g.F.Folder.faults c.mark.new.self in
     let same : asked ≡ before = c.in-Ok-Some.ensures.ok.0 in
-    subst (λ (s : Seen). Serves t s t after (sets c.args.file c.args.moment c.args.count (set.Basic c.args.asked c.args.attributes)) (Ok (done.Replied (Count c.args.count) c.changed.result))) same
-    (changed_about t asked after (subst (IsOver t) (sym same) c.requires.over) c.requires.sound (sets c.args.file c.args.moment c.args.count (set.Basic c.args.asked c.args.attributes))
+    subst (λ (s : Seen). Serves t s t after (sets_of c.args.file c.args.moment c.args.count (set.Basic c.args.asked c.args.attributes)) (Ok (done.Replied (Count c.args.count) c.changed.result))) same
+    (changed_about t asked after (subst (IsOver t) (sym same) c.requires.over) c.requires.sound (sets_of c.args.file c.args.moment c.args.count (set.Basic c.args.asked c.args.attributes))
     (calm_by asked after c.in-Ok.ensures.counted) (Count c.args.count) _ (ap is_some c.in-Some.ensures.some.1) c.changed.result c.changed.ensures _ c.in-Ok.ensures.does
     (λ nodes told holds.
     let there = table.there t c.requires.sound nodes holds c.args.file h o c.in-Some.ensures.some.0 c.in-Some.ensures.some.1 in

@@ -9,7 +9,7 @@ use Rattle.rd_drive.specs.SetFile.{set_file}
 use Rattle.rd_drive.proofs.SetLemmas.{class_of, info_faulty, info_spelled, info_unlisted}
 use Rattle.rd_drive.proofs.SettingLemmas.{spelled_as}
 use Rattle.rd_folder_drive.specs.Served.{Serves, seen}
-use Rattle.rd_folder_drive.specs.Setting.{IsBelowRoot, IsOpenFile, ends, sets}
+use Rattle.rd_folder_drive.specs.Setting.{IsBelowRoot, IsOpenFile, ends, sets_of}
 use Rattle.rd_folder_drive.specs.Table.{drive_of}
 use Rattle.rd_folder_drive.proofs.AskedLemmas.{serves_same}
 use Rattle.rd_folder_drive.proofs.ServeLemmas.{refused_at_once}
@@ -61,7 +61,7 @@ returns-in-Ok-Basic-clause-serves g c =
     let info = set.Basic c.in-Ok-Basic.moments c.in-Ok-Basic.attributes in
     let spelled = spelled_as c.args.class c.args.bytes.now c.in-Ok-Basic.field-0 info c.in-Ok-Basic.field-0-is c.in-Ok-Basic.ensures.spelled in
     serves_same t t (seen g.F.Folder.nodes g.F.Folder.faults c.args.folder.now) (seen g.F.Folder.nodes g.F.Folder.faults c.set_basic.new.folder) c.requires.over
-    (sets c.args.file c.args.moment (length c.args.bytes.now) info) (λ s. on_handle s c.args.file (set_file s c.args.moment c.args.class (c.args.bytes).now)) c.set_basic.result
+    (sets_of c.args.file c.args.moment (length c.args.bytes.now) info) (λ s. on_handle s c.args.file (set_file s c.args.moment c.args.class (c.args.bytes).now)) c.set_basic.result
     (λ nodes told holds. set_right t c.requires.sound c.args.moment c.args.file c.args.class c.args.bytes.now (c.in-Some.handle).now (c.in-Some.opened).now c.in-Some.ensures.some.0 c.in-Some.ensures.some.1 nodes holds c.in-Ok.ensures.ok info (info_spelled c.args.class info spelled.0 c.args.bytes.now spelled.1))
     c.set_basic.ensures.serves
 
@@ -71,9 +71,9 @@ returns-in-Ok-Rename-clause-serves g c =
     let info = set.Rename c.in-Ok-Rename.replace c.in-Ok-Rename.path in
     let spelled = spelled_as c.args.class c.args.bytes.now c.in-Ok-Rename.field-0 info c.in-Ok-Rename.field-0-is c.in-Ok-Rename.ensures.spelled in
     serves_same t c.rename.new.self (seen g.F.Folder.nodes g.F.Folder.faults c.args.folder.now) (seen g.F.Folder.nodes g.F.Folder.faults c.rename.new.folder) c.requires.over
-    (sets c.args.file c.args.moment (length c.args.bytes.now) info) (λ s. on_handle s c.args.file (set_file s c.args.moment c.args.class (c.args.bytes).now)) c.rename.result
+    (sets_of c.args.file c.args.moment (length c.args.bytes.now) info) (λ s. on_handle s c.args.file (set_file s c.args.moment c.args.class (c.args.bytes).now)) c.rename.result
     (λ nodes told holds. set_right t c.requires.sound c.args.moment c.args.file c.args.class c.args.bytes.now (c.in-Some.handle).now (c.in-Some.opened).now c.in-Some.ensures.some.0 c.in-Some.ensures.some.1 nodes holds c.in-Ok.ensures.ok info (info_spelled c.args.class info spelled.0 c.args.bytes.now spelled.1))
-    (subst (λ (units : List ℕ). Serves t (seen g.F.Folder.nodes g.F.Folder.faults c.args.folder.now) c.rename.new.self (seen g.F.Folder.nodes g.F.Folder.faults c.rename.new.folder) (sets c.args.file c.args.moment (length c.args.bytes.now) (set.Rename c.in-Ok-Rename.replace units)) c.rename.result) c.as_slice.ensures c.rename.ensures.serves)
+    (subst (λ (units : List ℕ). Serves t (seen g.F.Folder.nodes g.F.Folder.faults c.args.folder.now) c.rename.new.self (seen g.F.Folder.nodes g.F.Folder.faults c.rename.new.folder) (sets_of c.args.file c.args.moment (length c.args.bytes.now) (set.Rename c.in-Ok-Rename.replace units)) c.rename.result) c.as_slice.ensures c.rename.ensures.serves)
 
 pub returns-in-Ok-Disposition-clause-serves : goal.returns-in-Ok-Disposition-clause-serves
 returns-in-Ok-Disposition-clause-serves g c =
@@ -81,7 +81,7 @@ returns-in-Ok-Disposition-clause-serves g c =
     let info = set.Disposition c.in-Ok-Disposition.pending in
     let spelled = spelled_as c.args.class c.args.bytes.now c.in-Ok-Disposition.field-0 info c.in-Ok-Disposition.field-0-is c.in-Ok-Disposition.ensures.spelled in
     serves_same t c.set_pending.new.self (seen g.F.Folder.nodes g.F.Folder.faults c.args.folder.now) (seen g.F.Folder.nodes g.F.Folder.faults c.set_pending.new.folder) c.requires.over
-    (sets c.args.file c.args.moment (length c.args.bytes.now) info) (λ s. on_handle s c.args.file (set_file s c.args.moment c.args.class (c.args.bytes).now)) c.set_pending.result
+    (sets_of c.args.file c.args.moment (length c.args.bytes.now) info) (λ s. on_handle s c.args.file (set_file s c.args.moment c.args.class (c.args.bytes).now)) c.set_pending.result
     (λ nodes told holds. set_right t c.requires.sound c.args.moment c.args.file c.args.class c.args.bytes.now (c.in-Some.handle).now (c.in-Some.opened).now c.in-Some.ensures.some.0 c.in-Some.ensures.some.1 nodes holds c.in-Ok.ensures.ok info (info_spelled c.args.class info spelled.0 c.args.bytes.now spelled.1))
     (c.set_pending.ensures.serves c.args.moment)
 
@@ -91,7 +91,7 @@ returns-in-Ok-Allocation-clause-serves g c =
     let info = set.Allocation c.in-Ok-Allocation.size in
     let spelled = spelled_as c.args.class c.args.bytes.now c.in-Ok-Allocation.field-0 info c.in-Ok-Allocation.field-0-is c.in-Ok-Allocation.ensures.spelled in
     serves_same t t (seen g.F.Folder.nodes g.F.Folder.faults c.args.folder.now) (seen g.F.Folder.nodes g.F.Folder.faults c.set_allocation.new.folder) c.requires.over
-    (sets c.args.file c.args.moment (length c.args.bytes.now) info) (λ s. on_handle s c.args.file (set_file s c.args.moment c.args.class (c.args.bytes).now)) c.set_allocation.result
+    (sets_of c.args.file c.args.moment (length c.args.bytes.now) info) (λ s. on_handle s c.args.file (set_file s c.args.moment c.args.class (c.args.bytes).now)) c.set_allocation.result
     (λ nodes told holds. set_right t c.requires.sound c.args.moment c.args.file c.args.class c.args.bytes.now (c.in-Some.handle).now (c.in-Some.opened).now c.in-Some.ensures.some.0 c.in-Some.ensures.some.1 nodes holds c.in-Ok.ensures.ok info (info_spelled c.args.class info spelled.0 c.args.bytes.now spelled.1))
     c.set_allocation.ensures.serves
 
