@@ -8,6 +8,8 @@ mod close;
 #[cfg(test)]
 mod create;
 #[cfg(test)]
+mod failing;
+#[cfg(test)]
 mod handles;
 #[cfg(test)]
 mod locking;

@@ -1,9 +1,11 @@
-//! The rows of the tables: requests to a drive, line by line, and what comes of each. NO_MEMORY alone never comes, as no test takes the memory
-//! away.
+//! The rows of the tables: requests to a drive, line by line, and what comes of each, on a drive in memory and on one over a folder in memory. NO_MEMORY alone
+//! never comes, as no test takes the memory away.
 use crate::asks::{Ask, bytes, op, units};
-use rd_base::{Key, Status};
+use rd_base::{Calls, Key, Status};
 use rd_dirinfo::{Naming, Path};
 use rd_drive::{Device, End, Ends, Job, MemoryDrive, Step, prepare};
+use rd_folder::{Folders, MemFolder, MemFolders};
+use rd_folder_drive::FolderDrive;
 use rd_irp::{Body, Reply};
 use rd_tree::AddNo;
 use std::process::Abort;
@@ -87,10 +89,39 @@ pub fn add(
     }
 }
 
+/// A folder in memory with these nodes, in which the calls with these numbers fail.
+fn folder(rt: &(impl Abort + AllocGlobal), nodes: &[Node], fails: &[u64]) -> MemFolder {
+    let fails = fails.to_vec(rt.alloc()).expect(rt, "memory for numbers");
+    let mut folder = MemFolder::new(rt.alloc(), Calls::of(fails));
+    for node in nodes {
+        let added = match *node {
+            Node::Folder(text) => folder.add_folder(&path(rt, text)),
+            Node::File(text, of) => folder.add_file(&path(rt, text), of),
+        };
+        added.expect(rt, "room for a node");
+    }
+    folder
+}
+
+/// A drive, `DATA`, over a folder in memory with these nodes, in which the calls with these numbers fail.
+pub fn over_folder(
+    rt: &(impl Abort + AllocGlobal),
+    nodes: &[Node],
+    fails: &[u64],
+) -> FolderDrive<MemFolder> {
+    let ahead = vec![in rt.alloc(); folder(rt, nodes, fails)].expect(rt, "memory for a folder");
+    let calls = Calls::of(Vec::new(rt.alloc()));
+    let mut folders = MemFolders::new(rt.alloc(), ahead, calls).expect(rt, "memory for folders");
+    let folder = folders.open("").expect(rt, "a folder");
+    let label = units(rt, "DATA");
+    assert!(rt; label.as_slice().len() <= 32);
+    FolderDrive::new(rt.alloc(), folder, label).expect(rt, "memory for a drive")
+}
+
 /// What comes of a request with this number, unless the end of one that waited is left.
 fn run(
     rt: &(impl Abort + AllocGlobal),
-    drive: &mut MemoryDrive,
+    drive: &mut impl Device,
     index: u64,
     file: u32,
     ask: Ask,
@@ -148,7 +179,7 @@ fn is_end(end: Option<&End>, waited: u64, want: Want) -> bool {
 /// Whether a line comes as it is said.
 fn comes(
     rt: &(impl Abort + AllocGlobal),
-    drive: &mut MemoryDrive,
+    drive: &mut impl Device,
     ends: &mut Ends,
     index: u64,
     line: Line,
@@ -176,7 +207,7 @@ fn comes(
 /// The number of the first line that comes otherwise, counted from 0.
 pub fn first_wrong(
     rt: &(impl Abort + AllocGlobal),
-    drive: &mut MemoryDrive,
+    drive: &mut impl Device,
     lines: &[Line],
 ) -> Option<usize> {
     let mut ends = Ends::new(rt.alloc()).expect(rt, "memory for the ends");
@@ -200,9 +231,14 @@ fn first_wrong_of(rt: &(impl Abort + AllocGlobal), row: &Row) -> Option<usize> {
     first_wrong(rt, &mut drive, row.lines)
 }
 
-/// Asserts that every line of each row comes as it is said.
+/// Asserts that every line of each row comes as it is said, and over a folder too where names are told apart by their units.
 pub fn check(rt: &(impl Abort + AllocGlobal), rows: &[Row]) {
     for row in rows {
         assert_eq!(rt; first_wrong_of(rt, row), None, "{}", row.name);
+        if let Naming::Exact = row.naming {
+            let mut drive = over_folder(rt, row.nodes, &[]);
+            let wrong = first_wrong(rt, &mut drive, row.lines);
+            assert_eq!(rt; wrong, None, "over a folder: {}", row.name);
+        }
     }
 }

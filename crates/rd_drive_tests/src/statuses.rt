@@ -50,3 +50,5 @@ pub const DIRECTORY_NOT_EMPTY: Want = Want::No(0xc000_0101);
 pub const NOT_A_DIRECTORY: Want = Want::No(0xc000_0103);
 
 pub const TOO_MANY_OPENED_FILES: Want = Want::No(0xc000_011f);
+
+pub const IO_DEVICE_ERROR: Want = Want::No(0xc000_0185);

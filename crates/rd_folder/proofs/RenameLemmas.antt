@@ -38,7 +38,7 @@ apart_map c (x ∷ xs) rises back = (
   apart_map c xs rises.1 (λ y z h k e. back y z (inr h) (inr k) e),
 )
 
-all_joined : (p q : Names) → list_all is_name p ≡ true → list_all is_name q ≡ true → list_all is_name (p ++ q) ≡ true
+pub all_joined : (p q : Names) → list_all is_name p ≡ true → list_all is_name q ≡ true → list_all is_name (p ++ q) ≡ true
 all_joined [] q all more = more
 all_joined (x ∷ xs) q all more = let parts = and_parts (is_name x) (list_all is_name xs) all in λ i. parts.0 i && all_joined xs q parts.1 more i
 
@@ -70,7 +70,7 @@ module _ (from to : Names) where
   moved_own = ap new_path (sym (append-nil from)) ∙ moved_joined [] ∙ append-nil to
 
   -- what isn't at or below `to` and comes to be there was at or below `from`
-  back_same : (p q : Names) → (is_prefix Exact to p ≡ true → ⊥) → (is_prefix Exact to q ≡ true → ⊥) → new_path p ≡ new_path q → p ≡ q
+  pub back_same : (p q : Names) → (is_prefix Exact to p ≡ true → ⊥) → (is_prefix Exact to q ≡ true → ⊥) → new_path p ≡ new_path q → p ≡ q
   back_same p q free other e =
       ⊎_elim
       (λ s. ⊎_elim
@@ -179,7 +179,7 @@ module _ (root : Node) (others : List Node) (is : IsFolderMap (root ∷ others))
 
   -- ---- nothing is at the target or below it
   -- a folder is above what would be below it
-  above_it : (r : Names) → 0 < length r → (x : Node) → Has nodes x → x.path ≡ to ++ r → HasFolder nodes (to ++ parent r)
+  pub above_it : (r : Names) → 0 < length r → (x : Node) → Has nodes x → x.path ≡ to ++ r → HasFolder nodes (to ++ parent r)
   above_it r long x h e =
       let some : r ≡ [] → ⊥ = λ empty. absurd (omega (arith, long, ap (length {A = Name}) empty)) in
       let deep : x.path ≡ [] → ⊥ = λ empty. absurd (omega (arith, long, ap (length {A = Name}) (sym e ∙ empty), length-append to r)) in
@@ -189,7 +189,7 @@ module _ (root : Node) (others : List Node) (is : IsFolderMap (root ∷ others))
   shorter : (r : Names) → 0 < length r → length (parent r) + 1 ≡ length r
   shorter r long = sym (parent_shorter r (λ empty. absurd (omega (arith, long, ap (length {A = Name}) empty))))
 
-  below_free : (k : ℕ) (r : Names) → length r ≡ suc k → (x : Node) → Has nodes x → x.path ≡ to ++ r → ⊥
+  pub below_free : (k : ℕ) (r : Names) → length r ≡ suc k → (x : Node) → Has nodes x → x.path ≡ to ++ r → ⊥
   below_free zero r long x h e =
       let up = above_it r (omega (arith, long)) x h e in
       no_folder (up.0, up.1, up.2 ∙ ap (λ (p : Names). to ++ p) (nil_from_length (parent r) (omega (arith, long, shorter r (omega (arith, long))))) ∙ append-nil to, up.3)
@@ -197,7 +197,7 @@ module _ (root : Node) (others : List Node) (is : IsFolderMap (root ∷ others))
       let up = above_it r (omega (arith, long)) x h e in
       below_free k (parent r) (omega (arith, long, shorter r (omega (arith, long)))) up.0 up.1 up.2
 
-  free : (x : Node) → Has (root ∷ left) x → is_prefix Exact to x.path ≡ true → ⊥
+  pub free : (x : Node) → Has (root ∷ left) x → is_prefix Exact to x.path ≡ true → ⊥
   free x (inl same) t =
       some_to (no_front to (drop (length to) x.path) (sym (prefix_exact to x.path t) ∙ ap (λ (n : Node). n.path) same ∙ root_path root others is))
     where
@@ -278,10 +278,10 @@ module _ (root : Node) (others : List Node) (is : IsFolderMap (root ∷ others))
   in_all : in_order Exact all ≡ root ∷ others_after
   in_all = (λ i. add_node Exact (root_still i) (in_order Exact (sym twice i))) ∙ root_first root (root_path root others is) others_after
 
-  has_all_after : (x : Node) → Has (root ∷ left) x → Has (root ∷ others_after) (move x)
+  pub has_all_after : (x : Node) → Has (root ∷ left) x → Has (root ∷ others_after) (move x)
   has_all_after x h = subst (λ (l : List Node). Has l (move x)) in_all (order_has all (move x) (map_has move (root ∷ left) x h))
 
-  from_all_after : (z : Node) → Has (root ∷ others_after) z → (x : Node) × Has (root ∷ left) x × (z ≡ move x)
+  pub from_all_after : (z : Node) → Has (root ∷ others_after) z → (x : Node) × Has (root ∷ left) x × (z ≡ move x)
   from_all_after z h = has_map move (root ∷ left) z (has_order all z (subst (λ (l : List Node). Has l z) (sym in_all) h))
 
   was_there : (x : Node) → Has (root ∷ left) x → Has nodes x
@@ -296,7 +296,7 @@ module _ (root : Node) (others : List Node) (is : IsFolderMap (root ∷ others))
       left_rises : Rises (root ∷ left)
       left_rises = subst Rises left_whole (filter_rises stays_there nodes is.rises)
 
-  kind_after : (x : Node) → Has (root ∷ left) x → is_folder_node (move x) ≡ is_folder_node x
+  pub kind_after : (x : Node) → Has (root ∷ left) x → is_folder_node (move x) ≡ is_folder_node x
   kind_after x h = put_kind x (was_there x h)
 
   -- a folder that was there, and what its path becomes

@@ -15,14 +15,26 @@ DoesCall (Some nodes) new comes (Ok answer) = (after : List Node) × (comes node
 DoesCall (Some nodes) new comes (Err no.Missing) = (comes nodes ≡ None) × (new ≡ Some nodes)
 DoesCall (Some nodes) new comes (Err why) = new ≡ Some nodes
 
+-- How many faults a folder had, and which refusal was the last of them.
+pub record FolderFaults : Type 0 where
+  pub count : ℕ
+  pub last : Option FolderNo
+
+abbrev pub no_faults : FolderFaults
+no_faults = record { count = 0; last = None }
+
+-- one fault more, by this refusal
+abbrev pub one_fault : FolderNo → FolderFaults → FolderFaults
+one_fault why faults = record { count = one_more faults.count; last = Some why }
+
 -- A refusal counts one fault, but for want of memory, and for `Missing` where the nodes are told.
-abbrev pub CountsNo : Option (List Node) → FolderNo → ℕ → ℕ → Type 0
+abbrev pub CountsNo : Option (List Node) → FolderNo → FolderFaults → FolderFaults → Type 0
 CountsNo told no.Memory old new = new ≡ old
 CountsNo (Some nodes) no.Missing old new = new ≡ old
-CountsNo told why old new = new ≡ one_more old
+CountsNo told why old new = new ≡ one_fault why old
 
 -- A call that is done counts none.
-abbrev pub CountsRefusal : {X : Type 0} → Option (List Node) → Result X FolderNo → ℕ → ℕ → Type 0
+abbrev pub CountsRefusal : {X : Type 0} → Option (List Node) → Result X FolderNo → FolderFaults → FolderFaults → Type 0
 CountsRefusal told (Ok answer) old new = new ≡ old
 CountsRefusal told (Err why) old new = CountsNo told why old new
 

@@ -9,14 +9,15 @@ use Rattle.rd_contents.specs.declared.contents.SizeNo.{SizeNo}
 use Rattle.rd_contents.specs.declared.contents.SizeNo.TheVariants as size
 use Rattle.rd_folder.specs.declared.folder.FolderNo.{FolderNo}
 use Rattle.rd_folder.specs.declared.folder.FolderNo.TheVariants as no
+use Rattle.rd_folder.specs.FolderLaws.{FolderFaults}
 
--- A folder: its nodes; the numbers that the next calls have, by method; the numbers of the calls that fail; and how many did. That count stands
--- still at 2^64 - 1.
+-- A folder: its nodes; the numbers that the next calls have, by method; the numbers of the calls that fail; and the faults of those that did, whose
+-- count stands still at 2^64 - 1.
 pub record FolderState : Type 0 where
   pub nodes : List Node
   pub numbers : List ℕ
   pub fails : List ℕ
-  pub faults : ℕ
+  pub faults : FolderFaults
 
 -- The numbers of the first calls, by method. The k-th call of the method m, counted from 1 and from 0, has the number 16 * k + m.
 abbrev pub first_numbers : List ℕ

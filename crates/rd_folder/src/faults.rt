@@ -1,9 +1,8 @@
 //! The count of a real folder's faults, with the system's reasons.
 
 ghost use Rattle.std.specs.Prelude.{◌≡◌, Err, None};
-ghost use Rattle.rd_base.specs.Faults.{one_more};
 ghost use Rattle.rd_link.specs.Links.{more_faults};
-ghost use Rattle.rd_folder.specs.FolderLaws.{CountsNo};
+ghost use Rattle.rd_folder.specs.FolderLaws.{CountsNo, no_faults, one_fault};
 ghost use Rattle.rd_folder.specs.FolderOpens.{CountsOpening};
 ghost use Rattle.rd_folder.specs.declared.folder.FolderNo.TheVariants as FolderNo;
 
@@ -11,19 +10,20 @@ use crate::folder::FolderNo;
 use std::io::{Error, ErrorKind};
 use std::marker::Model;
 
-/// A count of faults and the system's reason for the last. Contracts see the count.
+/// A count of faults, and the last refusal with the system's reason for it. Contracts see the count and the refusal.
 #[derive(Drop)]
 pub struct Faults {
     count: u64,
+    no: Option<FolderNo>,
     last: Option<Error>,
 }
 
 impl Model for Faults {
-    ghost use Rattle.std.specs.Prelude.{ℕ};
+    ghost use Rattle.rd_folder.specs.FolderLaws.{FolderFaults};
 
-    ghost Value = { ℕ };
+    ghost Value = { FolderFaults };
 
-    ghost view = { λ f. f.count };
+    ghost view = { λ f. record { count = f.count; last = f.no } };
 }
 
 /// What an error means for who called.
@@ -34,24 +34,27 @@ fn cause(error: &Error) -> FolderNo {
             FolderNo::Full
         }
         ErrorKind::PermissionDenied | ErrorKind::ReadOnlyFilesystem => FolderNo::Denied,
+        ErrorKind::DirectoryNotEmpty => FolderNo::Missing,
         _ => FolderNo::Failed,
     }
 }
 
 impl Faults {
     pub fn new() -> Self
-        ensures { result ≡ 0 }
+        ensures { result ≡ no_faults }
     {
         Faults {
             count: 0,
+            no: None,
             last: None,
         }
     }
 
-    fn add(&mut self, error: Error)
-        ensures { self.new ≡ one_more self.old }
+    fn add(&mut self, no: FolderNo, error: Error)
+        ensures { self.new ≡ one_fault no self.old }
     {
         self.count = self.count.saturating_add(1);
+        self.no = Some(no);
         self.last = Some(error);
     }
 
@@ -62,7 +65,7 @@ impl Faults {
         match cause(&error) {
             FolderNo::Memory => FolderNo::Memory,
             no => {
-                self.add(error);
+                self.add(no, error);
                 no
             }
         }
@@ -73,32 +76,34 @@ impl Faults {
         ensures counted { CountsNo None result self.old self.new }
         ensures memory { result ≡ FolderNo.Memory → ⊥ }
     {
-        self.add(error);
-        match cause(&error) {
+        let no = match cause(&error) {
             FolderNo::Memory => FolderNo::Failed,
             no => no,
-        }
+        };
+        self.add(no, error);
+        no
     }
 
     /// Why an opening fails.
     pub fn refuse_opening(&mut self, error: Error) -> FolderNo
-        ensures { CountsOpening {X = Unit {0}} (Err result) self.old self.new }
+        ensures { CountsOpening {X = Unit {0}} (Err result) self.old.count self.new.count }
     {
         match cause(&error) {
             FolderNo::Memory => FolderNo::Memory,
             _ => {
-                self.add(error);
+                self.add(FolderNo::Failed, error);
                 FolderNo::Failed
             }
         }
     }
 
-    /// Adds all of the others, and their last reason where there is one.
+    /// Adds all of the others, and their last refusal where there is one.
     pub fn add_all(&mut self, others: &Faults)
-        ensures { self.new ≡ more_faults self.old others.now }
+        ensures { self.new.count ≡ more_faults self.old.count others.now.count }
     {
         self.count = self.count.saturating_add(others.count);
-        if others.last.is_some() {
+        if others.no.is_some() {
+            self.no = others.no;
             self.last = others.last;
         }
     }

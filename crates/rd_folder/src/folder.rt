@@ -1,11 +1,11 @@
 //! A folder, and all that is below it, by paths.
 
-ghost use Rattle.std.specs.Prelude.{◌≡◌, ◌<◌, ◌≤◌, ◌^◌, ℕ, [], List, Option, length, true, Err, IfOk, IfSome};
+ghost use Rattle.std.specs.Prelude.{◌≡◌, ◌<◌, ◌≤◌, ◌^◌, [], List, Option, length, true, Err, IfOk, IfSome};
 ghost use Rattle.std.specs.Option.{option_map};
 ghost use Rattle.rd_dirinfo.specs.Paths.{is_name};
 ghost use Rattle.rd_drive.specs.DriveState.{Node};
 ghost use Rattle.rd_folder.specs.FolderCalls.{folder_look, folder_make, folder_mark, folder_next, folder_read, folder_remove, folder_rename, folder_replace, folder_resize, folder_write};
-ghost use Rattle.rd_folder.specs.FolderLaws.{AreNames, CountsRefusal, DoesCall};
+ghost use Rattle.rd_folder.specs.FolderLaws.{AreNames, CountsRefusal, DoesCall, FolderFaults};
 ghost use Rattle.rd_folder.specs.declared.folder.FolderNo.TheVariants as FolderNo;
 
 use crate::look::{Listed, Look};
@@ -39,8 +39,8 @@ pub trait Folder {
     /// The nodes, where it can tell.
     ghost nodes: { Self → Option (List Node) };
 
-    /// How many faults it had. The count stands still at 2^64 - 1.
-    ghost faults: { Self → ℕ };
+    /// How many faults it had, and by which refusal the last. The count stands still at 2^64 - 1.
+    ghost faults: { Self → FolderFaults };
 
     /// What stands at a path, if anything does.
     fn look(&mut self, path: &[Units]) -> Result<Option<Look>, FolderNo>

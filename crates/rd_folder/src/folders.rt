@@ -3,6 +3,7 @@
 ghost use Rattle.std.specs.Prelude.{◌≡◌, ℕ, List, Option, IfOk, IfSome, OnErr};
 ghost use Rattle.rd_drive.specs.DriveState.{Node};
 ghost use Rattle.rd_link.specs.Links.{more_faults};
+ghost use Rattle.rd_folder.specs.FolderLaws.{no_faults};
 ghost use Rattle.rd_folder.specs.Told.{IsFolderMap};
 ghost use Rattle.rd_folder.specs.FolderOpens.{CountsOpening, OpensFolder};
 
@@ -26,7 +27,7 @@ pub trait Folders {
     fn open(&mut self, place: &str) -> Result<Self::F, FolderNo>
         ensures failures { CountsOpening result (failures self.old) (failures self.new) }
         ensures trouble { trouble self.new ≡ trouble self.old }
-        ensures faultless { IfOk result (λ folder. Self.F.faults folder ≡ 0) }
+        ensures faultless { IfOk result (λ folder. Self.F.faults folder ≡ no_faults) }
         ensures whole { IfOk result (λ folder. IfSome (Self.F.nodes folder) IsFolderMap) }
         ensures opens { IfOk result (λ folder. OpensFolder (opened self.old) (opened self.new) (Self.F.nodes folder)) }
         ensures err { OnErr result (opened self.new ≡ opened self.old) };
@@ -34,6 +35,6 @@ pub trait Folders {
     /// Takes a folder back. It takes no memory. `trouble` rises by the folder's faults, so it stays where it had none.
     fn close(&mut self, folder: Self::F)
         ensures failures { failures self.new ≡ failures self.old }
-        ensures trouble { trouble self.new ≡ more_faults (trouble self.old) (Self.F.faults folder) }
+        ensures trouble { trouble self.new ≡ more_faults (trouble self.old) (Self.F.faults folder).count }
         ensures opened { opened self.new ≡ opened self.old };
 }

@@ -5,6 +5,7 @@ ghost use Rattle.rd_base.specs.Faults.{one_more};
 ghost use Rattle.rd_link.specs.Links.{more_faults};
 ghost use Rattle.rd_drive.specs.DriveState.{Node};
 ghost use Rattle.rd_folder.specs.Told.{IsFolderMap};
+ghost use Rattle.rd_folder.specs.FolderLaws.{no_faults};
 ghost use Rattle.rd_folder.specs.FolderOpens.{CountsOpening, OpensFolder};
 ghost use Rattle.rd_folder.specs.InMemory.{FolderState};
 
@@ -81,13 +82,13 @@ impl Folders for MemFolders {
     fn open(&mut self, _place: &str) -> Result<MemFolder, FolderNo>
         ensures failures { CountsOpening result self.old.failures self.new.failures }
         ensures trouble { self.new.trouble ≡ self.old.trouble }
-        ensures faultless { IfOk result (λ folder. folder.faults ≡ 0) }
+        ensures faultless { IfOk result (λ folder. folder.faults ≡ no_faults) }
         ensures whole { IfOk result (λ folder. IfSome (Some folder.nodes) IsFolderMap) }
         ensures opens { IfOk result (λ folder. OpensFolder (Some self.old.opened) (Some self.new.opened) (Some folder.nodes)) }
         ensures err { OnErr result (self.new ≡ record self.old { calls = one_more self.old.calls; failures = one_more self.old.failures }) }
         ensures fails { IsErr result ↔ (Contains self.old.fails (one_more self.old.calls) ⊎ (self.old.ahead ≡ [])) }
         // The next folder is given, without the faults that it may have had.
-        ensures next { IfOk result (λ folder. (next : FolderState) × (self.old.ahead ≡ next ∷ self.new.ahead) × (folder ≡ record next { faults = 0 })
+        ensures next { IfOk result (λ folder. (next : FolderState) × (self.old.ahead ≡ next ∷ self.new.ahead) × (folder ≡ record next { faults = no_faults })
             × (self.new ≡ record self.old { ahead = self.new.ahead; opened = self.old.opened ++ folder.nodes ∷ []; out = self.old.out + 1; calls = one_more self.old.calls })) }
     {
         self.calls = self.calls.saturating_add(1);
@@ -105,7 +106,7 @@ impl Folders for MemFolders {
     /// Keeps a folder that was opened here.
     fn close(&mut self, folder: MemFolder)
         ensures failures { self.new.failures ≡ self.old.failures }
-        ensures trouble { self.new.trouble ≡ more_faults self.old.trouble folder.faults }
+        ensures trouble { self.new.trouble ≡ more_faults self.old.trouble (folder.faults).count }
         ensures opened { Some self.new.opened ≡ Some self.old.opened }
         ensures others { (self.new.ahead ≡ self.old.ahead) × (self.new.calls ≡ self.old.calls) × (self.new.fails ≡ self.old.fails) }
         ensures closed { 0 < self.old.out → (self.new.closed ≡ self.old.closed ++ folder ∷ []) × (self.new.out ≡ self.old.out - 1) }

@@ -2,12 +2,11 @@
 
 ghost use Rattle.std.specs.Prelude.{◌≡◌, ◌<◌, ◌≤◌, ◌↔◌, ◌⊎◌, ◌^◌, [], ◌∷◌, Some, None, Err, IfOk, IfSome, OnErr, IsTrue, length, true, Contains, set, if◌then◌else◌};
 ghost use Rattle.std.specs.Option.{option_map};
-ghost use Rattle.rd_base.specs.Faults.{one_more};
 ghost use Rattle.rd_dirinfo.specs.Paths.{is_name};
 ghost use Rattle.rd_drive.specs.DriveState.{new_node};
 ghost use Rattle.rd_folder.specs.Told.{IsFolderMap};
 ghost use Rattle.rd_folder.specs.FolderCalls.{folder_look, folder_make, folder_mark, folder_next, folder_read, folder_remove, folder_rename, folder_replace, folder_resize, folder_write, making};
-ghost use Rattle.rd_folder.specs.FolderLaws.{AreNames, CountsRefusal, DoesCall};
+ghost use Rattle.rd_folder.specs.FolderLaws.{AreNames, CountsRefusal, DoesCall, no_faults, one_fault};
 ghost use Rattle.rd_folder.specs.InMemory.{first_numbers, later_number, number_ahead, Runs, Tries};
 ghost use Rattle.rd_folder.specs.declared.folder.FolderNo.TheVariants as FolderNo;
 
@@ -50,7 +49,7 @@ const REMOVE: usize = 9;
 const STEP: u64 = 16;
 
 /// A folder in memory that tells its nodes, and some of whose calls fail. Contracts see the nodes, the numbers that the next calls have, the
-/// numbers of those that fail, and the count of faults.
+/// numbers of those that fail, and the faults.
 #[derive(Drop)]
 pub struct MemFolder {
     alloc: Global,
@@ -58,6 +57,7 @@ pub struct MemFolder {
     numbers: [u64; METHODS],
     fails: Calls,
     faults: u64,
+    last: Option<FolderNo>,
 }
 
 impl Model for MemFolder {
@@ -65,14 +65,14 @@ impl Model for MemFolder {
 
     ghost Value = { FolderState };
 
-    ghost view = { λ f. record { nodes = f.nodes; numbers = f.numbers; fails = f.fails; faults = f.faults } };
+    ghost view = { λ f. record { nodes = f.nodes; numbers = f.numbers; fails = f.fails; faults = record { count = f.faults; last = f.last } } };
 }
 
 impl MemFolder {
     /// A folder in which nothing is. The k-th call of a method, counted from 1, has the number 16 * k + m, where m is the place of the method in
     /// the trait, from 0. The calls with the given numbers fail: 18 is the first `read`, and 25 the first `remove`. It takes no memory.
     pub fn new(alloc: Global, fails: Calls) -> Self
-        ensures { result ≡ record { nodes = new_node [] None 0 0 ∷ []; numbers = first_numbers; fails = fails; faults = 0 } }
+        ensures { result ≡ record { nodes = new_node [] None 0 0 ∷ []; numbers = first_numbers; fails = fails; faults = no_faults } }
     {
         MemFolder {
             alloc,
@@ -80,6 +80,7 @@ impl MemFolder {
             numbers: [16, 17, 18, 19, 20, 21, 22, 23, 24, 25],
             fails,
             faults: 0,
+            last: None,
         }
     }
 
@@ -106,11 +107,12 @@ impl MemFolder {
 
     /// Forgets the faults that it had. Its nodes are a map.
     pub(crate) fn renew(&mut self)
-        ensures renewed { self.new ≡ record self.old { faults = 0 } }
+        ensures renewed { self.new ≡ record self.old { faults = no_faults } }
         ensures whole { IsFolderMap self.new.nodes }
     {
         self.nodes.whole();
         self.faults = 0;
+        self.last = None;
     }
 
     pub(crate) fn nodes(&self) -> &MemNodes
@@ -119,8 +121,9 @@ impl MemFolder {
         &self.nodes
     }
 
+    /// How many faults it had.
     pub(crate) fn faults(&self) -> u64
-        ensures { result ≡ self.now.faults }
+        ensures { result ≡ (self.now.faults).count }
     {
         self.faults
     }
@@ -129,12 +132,13 @@ impl MemFolder {
     fn fails(&mut self, method: usize) -> bool
         requires { method < 10 }
         ensures fails { IsTrue result ↔ Contains self.old.fails (number_ahead self.old method) }
-        ensures counts { self.new ≡ record self.old { numbers = set self.old.numbers method (later_number (number_ahead self.old method)); faults = if result then one_more self.old.faults else self.old.faults } }
+        ensures counts { self.new ≡ record self.old { numbers = set self.old.numbers method (later_number (number_ahead self.old method)); faults = if result then one_fault FolderNo.Failed self.old.faults else self.old.faults } }
     {
         let number = self.numbers[method];
         self.numbers[method] = number.saturating_add(STEP);
         if self.fails.as_slice().contains(&number) {
             self.faults = self.faults.saturating_add(1);
+            self.last = Some(FolderNo::Failed);
             return true;
         }
         false

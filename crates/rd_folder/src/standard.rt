@@ -379,9 +379,9 @@ where
 
     ghost opened = { λ _. None };
 
-    ghost failures = { λ f. f.failures };
+    ghost failures = { λ f. (f.failures).count };
 
-    ghost trouble = { λ f. f.trouble };
+    ghost trouble = { λ f. (f.trouble).count };
 
     /// The place is followed where it is a link itself: it is named by the user. It stays open until the folder is closed.
     fn open(&mut self, place: &str) -> Result<StdFolder<'a, R>, FolderNo> {

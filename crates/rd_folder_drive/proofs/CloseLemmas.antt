@@ -9,7 +9,6 @@ use Rattle.std.specs.BTreeMap.{is_at}
 use Rattle.std.proofs.lemmas.Bool.{lt-ltb}
 use Rattle.std.proofs.lemmas.Option.{none-some}
 use Rattle.std.proofs.Math.Bool.{and-false}
-use Rattle.rd_base.specs.Faults.{one_more}
 use Rattle.rd_base.specs.Statuses.{invalid_handle, no_memory}
 use Rattle.rd_dirinfo.specs.Paths.{Names, is_path}
 use Rattle.rd_irp.specs.declared.completion.Body.TheVariants.{Closed}
@@ -25,7 +24,7 @@ use Rattle.rd_drive.proofs.CheckLemmas.{one_false, one_true}
 use Rattle.rd_folder.specs.declared.folder.FolderNo.{FolderNo}
 use Rattle.rd_folder.specs.declared.folder.FolderNo.TheVariants as no
 use Rattle.rd_folder.specs.FolderCalls.{folder_remove, leaving, node_there, only_if}
-use Rattle.rd_folder.specs.FolderLaws.{CountsNo, DoesCall}
+use Rattle.rd_folder.specs.FolderLaws.{CountsNo, DoesCall, one_fault}
 use Rattle.rd_folder.specs.Told.{drive_over}
 use Rattle.rd_folder.proofs.MapLemmas.{less_map, no_root}
 use Rattle.rd_folder_drive.specs.declared.handle.Handle as kept
@@ -297,7 +296,7 @@ module _ (t : Table) (sound : IsSound t) (file : ℕ) (h : kept.Handle) (o : Ope
         kept_by : IsKeptBy before after (folder_status why)
         kept_by = (why, refl, memory, by why missing memory counted)
           where
-            by : (given : FolderNo) → (given ≡ no.Missing → ⊥) → (given ≡ no.Memory → ⊥) → CountsNo before.told given before.faults after.faults → after.faults ≡ one_more before.faults
+            by : (given : FolderNo) → (given ≡ no.Missing → ⊥) → (given ≡ no.Memory → ⊥) → CountsNo before.told given before.faults after.faults → after.faults ≡ one_fault given before.faults
             by no.Failed m n c = c
             by no.Full m n c = c
             by no.Denied m n c = c
@@ -364,7 +363,6 @@ pub serves_unopened : (t : Table) → IsSound t → (file : ℕ) → kept_handle
 serves_unopened t sound file none before over = (
   sound,
   (refl, refl),
-  (λ e. let other : false ≡ true = ap (λ (s : Status). s.0 == no_memory.0) e in absurd (cc)),
   is_calm t before over,
   stays t before before over refl (λ s left. on_handle s file (close s file) ≡ outcome.refused left invalid_handle) (λ nodes told holds. table.unopened t nodes file (close (drive_of t nodes) file) none),
 )

@@ -116,7 +116,7 @@ module _ (t new : Table) (before after : Seen) (sound : IsSound t) (none : t.wai
   )
   used_once_less (Err status) serves = (
     (None, serves.0),
-    left_over (λ s left. on_handle s file (close s file) ≡ outcome.refused left status) (λ nodes left told is. inl (ap (λ (o : Outcome). o.state) is, calm_told before after serves.3 nodes told)) serves.4,
+    left_over (λ s left. on_handle s file (close s file) ≡ outcome.refused left status) (λ nodes left told is. inl (ap (λ (o : Outcome). o.state) is, calm_told before after serves.2 nodes told)) serves.3,
   )
 
   pub first_closed : (result : Result Done Status) → ServesClose t before new after file result → IsSound new × IsOver new after × (before.told ≡ None → after.told ≡ None) × ClosesFirst t before new after

@@ -1,5 +1,5 @@
 -- A request that begins to wait: the table after it is sound, and the request waits as it says.
-use Rattle.std.proofs.Common.{◌≡◌, ◌∙◌, sym, ap, subst, ◌+◌, ◌<◌, ◌≤◌, List, [], ◌∷◌, ◌++◌, map, length, sum_by, None, Ok, vec_capacity, arith, length-append}
+use Rattle.std.proofs.Common.{◌≡◌, ◌∙◌, refl, sym, ap, subst, true, ◌+◌, ◌<◌, ◌≤◌, List, [], ◌∷◌, ◌++◌, map, length, sum_by, None, Ok, vec_capacity, arith, length-append}
 use Rattle.std.specs.List.{AllByRecursion}
 use Rattle.std.specs.Option.{IsSome}
 use Rattle.std.proofs.lemmas.List.{map-append}
@@ -10,15 +10,29 @@ use Rattle.rd_drive.specs.declared.waiting.Waiting as kept_waiting
 use Rattle.rd_drive.specs.DriveState.{DriveState, Node}
 use Rattle.rd_drive.specs.Locking.{waits}
 use Rattle.rd_drive.specs.Outcome.{Outcome, no_news}
+use Rattle.rd_drive.specs.Answered.{parked_of}
 use Rattle.rd_drive.specs.Store.{HasRoom, lock_of, waiting_of, wish_ranges}
 use Rattle.rd_drive.proofs.AllLemmas.{all_append}
 use Rattle.rd_folder_drive.specs.declared.table.Table.{Table}
 use Rattle.rd_folder_drive.specs.declared.table.Done.{Done}
 use Rattle.rd_folder_drive.specs.Alone.{ServesAlone}
 use Rattle.rd_folder_drive.specs.Table.{HasNodes, IsSound, drive_of, kept_handle}
-use Rattle.rd_folder_drive.specs.Waits.{IsParked}
+use Rattle.rd_folder_drive.specs.Waits.{IsParked, WaitsBy, parked_in}
 use Rattle.rd_folder_drive.proofs.BesideLemmas.{IsWaiting, beside, beside_holds, beside_sound}
 use Rattle.rd_folder_drive.proofs.LockLemmas.{IsHome}
+
+-- a request that is parked waits after the others
+pub waits_last : (old between new : Table) (w : kept_waiting.Waiting) (result : Done) → IsParked between new w result → between.waiting ≡ old.waiting → WaitsBy old new (parked_of (waiting_of w)) true (Ok result)
+waits_last old between new w result parked same = subst (λ (r : Done). WaitsBy old new (parked_of (waiting_of w)) true (Ok r)) (sym parked.parked) (refl, last)
+  where
+    items : new.waiting.items ≡ old.waiting.items ++ w ∷ []
+    items = parked.items ∙ (λ i. (same i).items ++ w ∷ [])
+
+    last : parked_in new ≡ parked_in old ++ parked_of (waiting_of w) ∷ []
+    last =
+        ap (λ (ws : List kept_waiting.Waiting). map parked_of (map waiting_of ws)) items
+        ∙ ap (map parked_of) (map-append waiting_of old.waiting.items (w ∷ []))
+        ∙ map-append parked_of (map waiting_of old.waiting.items) (waiting_of w ∷ [])
 
 module _ (t between new : Table) (sound : IsSound t) (locks : LockList) (w : kept_waiting.Waiting) (result : Done) (is : between ≡ record t { locks = locks }) (parked : IsParked between new w result)
     (same : locks.locks ≡ t.locks.locks) (reserved : locks.reserved ≡ t.locks.reserved + wish_ranges w.wish) (few : length t.waiting.items < 64) (opened : IsSome (kept_handle t w.file)) (room : HasRoom w.wish) where

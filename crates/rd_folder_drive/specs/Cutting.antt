@@ -2,6 +2,7 @@
 use Rattle.std.specs.Prelude.{◌≡◌, ℕ, List, ◌∷◌, [], Some}
 use Rattle.std.specs.Map.{keys_of}
 use Rattle.rd_drive.specs.DriveState.{DriveState, Node}
+use Rattle.rd_folder.specs.FolderLaws.{FolderFaults}
 use Rattle.rd_folder_drive.specs.declared.table.Table.{Table}
 use Rattle.rd_folder_drive.specs.FolderDrive.{Closes, ClosesAll}
 use Rattle.rd_folder_drive.specs.Served.{Seen}
@@ -19,7 +20,7 @@ pub record ClosesFirst (old : Table) (before : Seen) (new : Table) (after : Seen
 
 -- What comes of the files that are open yet comes of all.
 abbrev pub IsOnTheWay : Table → Seen → Table → Seen → Type 0
-IsOnTheWay old before now midway = OverTold old before now midway (λ s mid. (left : DriveState) (faults : ℕ)
+IsOnTheWay old before now midway = OverTold old before now midway (λ s mid. (left : DriveState) (faults : FolderFaults)
     → ClosesAll mid (keys_of now.handles.entries) left midway.faults faults → ClosesAll s (keys_of old.handles.entries) left before.faults faults)
 
 -- every file is closed, in the order of the file ids

@@ -4,10 +4,13 @@ pub mod Closing
 pub mod Cutting
 pub mod FolderDrive
 pub mod Listing
+pub mod Moving
 pub mod Opening
 pub mod Served
+pub mod Serving
 pub mod Setting
 pub mod Settling
 pub mod Table
 pub mod Telling
 pub mod Waits
+pub mod Ways

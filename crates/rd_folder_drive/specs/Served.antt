@@ -2,7 +2,6 @@
 use Rattle.std.specs.Prelude.{◌≡◌, ℕ, ◌⊎◌, ◌==◌, ◌&&◌, ◌||◌, Bool, not, false, List, [], ◌∷◌, true, Option, Some, None, Result, Ok, Err}
 use Rattle.std.specs.Option.{IsSome, IfSome, option_map}
 use Rattle.std.specs.List.{AllByRecursion}
-use Rattle.rd_base.specs.Faults.{one_more}
 use Rattle.rd_base.specs.declared.status.Status.{Status}
 use Rattle.rd_base.specs.Statuses.{disk_full, access_denied, no_memory}
 use Rattle.rd_dirinfo.specs.Paths.{Names, is_path}
@@ -16,6 +15,7 @@ use Rattle.rd_drive.specs.Outcome as outcome
 use Rattle.rd_drive.specs.Outcome.{on_handle}
 use Rattle.rd_folder.specs.declared.folder.FolderNo.{FolderNo}
 use Rattle.rd_folder.specs.declared.folder.FolderNo.TheVariants as folder
+use Rattle.rd_folder.specs.FolderLaws.{FolderFaults, one_fault}
 use Rattle.rd_folder_drive.specs.declared.news.Named.{Named}
 use Rattle.rd_folder_drive.specs.declared.news.Named.TheVariants as named
 use Rattle.rd_folder_drive.specs.declared.news.Change as told
@@ -85,12 +85,12 @@ is_of_number n (named.Gone path) = false
 
 -- ---- what a folder shows
 
--- the nodes that a folder tells, if it tells them, and its count of faults
+-- the nodes that a folder tells, if it tells them, and its faults
 pub record Seen : Type 0 where
   pub told : Option (List Node)
-  pub faults : ℕ
+  pub faults : FolderFaults
 
-abbrev pub seen : {F : Type 0} → (F → Option (List Node)) → (F → ℕ) → F → Seen
+abbrev pub seen : {F : Type 0} → (F → Option (List Node)) → (F → FolderFaults) → F → Seen
 seen nodes faults folder = record { told = nodes folder; faults = faults folder }
 
 -- Of the drive over what a folder tells: nothing is said where it tells nothing.
@@ -120,15 +120,15 @@ folder_status folder.Denied = access_denied
 folder_status folder.Missing = io_device_error
 folder_status folder.Memory = no_memory
 
--- A status that says that the folder refused, or that no memory was found: the count of faults rose, or it didn't.
+-- A status that says how the folder refused, which is one fault more, or that no memory was found, which is none.
 abbrev pub IsRefusedBy : Seen → Seen → Status → Type 0
 IsRefusedBy before after status =
     ((status ≡ no_memory) × (after.faults ≡ before.faults))
-    ⊎ ((no : FolderNo) × (status ≡ folder_status no) × ((no ≡ folder.Memory) → ⊥) × (after.faults ≡ one_more before.faults))
+    ⊎ ((no : FolderNo) × (status ≡ folder_status no) × ((no ≡ folder.Memory) → ⊥) × (after.faults ≡ one_fault no before.faults))
 
--- a status that is a failure, and doesn't say that the folder failed
+-- a status that is a failure, and says neither that the folder failed nor that no memory was found
 abbrev pub IsOwnStatus : Status → Type 0
-IsOwnStatus status = ((status.0 == 0) ≡ false) × ((status.0 == io_device_error.0) ≡ false)
+IsOwnStatus status = ((status.0 == 0) ≡ false) × ((status.0 == io_device_error.0 || status.0 == no_memory.0) ≡ false)
 
 -- ---- what is served
 
@@ -177,7 +177,7 @@ keeping_node s file status handle node = record {
 
 -- the status with which it is answered, where the folder refused
 abbrev pub IsKeptBy : Seen → Seen → Status → Type 0
-IsKeptBy before after status = (no : FolderNo) × (status ≡ folder_status no) × ((no ≡ folder.Memory) → ⊥) × (after.faults ≡ one_more before.faults)
+IsKeptBy before after status = (no : FolderNo) × (status ≡ folder_status no) × ((no ≡ folder.Memory) → ⊥) × (after.faults ≡ one_fault no before.faults)
 
 -- A Close comes to what the definition says, and is refused only so; or the folder keeps the node.
 abbrev pub ServesClose : Table → Seen → Table → Seen → ℕ → Result Done Status → Type 0
@@ -186,6 +186,6 @@ ServesClose old before new after file (Ok (done.Kept status news)) =
     × Leaves old before new after (λ s left. (handle : Handle) × (node : Node) × (handle_at s file ≡ Some handle) × (node_of_path s handle.path ≡ Some node) × (takes_out s file handle node ≡ true)
     × (keeping_node s file status handle node ≡ record { state = left; answer = step.Reply (outcome.fault status); news = news_of new news }))
 ServesClose old before new after file (Err status) =
-    IsSound new × IsOwnStatus status × ((status ≡ no_memory) → ⊥) × IsCalm before after
+    IsSound new × IsOwnStatus status × IsCalm before after
     × Leaves old before new after (λ s left. on_handle s file (close s file) ≡ outcome.refused left status)
 ServesClose old before new after file result = Serves old before new after (λ s. on_handle s file (close s file)) result

@@ -1,6 +1,6 @@
 //! Close (MS-RDPEFS 2.2.1.4.2).
 
-ghost use Rattle.std.specs.Prelude.{◌≡◌, ◌∷◌, [], None, Some, false, nat_lt};
+ghost use Rattle.std.specs.Prelude.{◌≡◌, ◌≢◌, ◌∷◌, [], None, Some, Ok, false, nat_lt};
 ghost use Rattle.std.specs.Option.{option_map_or};
 ghost use Rattle.std.specs.Ordering.{nat_cmp};
 ghost use Rattle.std.specs.Map.{remove_entry};
@@ -11,6 +11,7 @@ ghost use Rattle.rd_drive.specs.declared.uses.Uses.{Uses};
 ghost use Rattle.rd_drive.specs.UseCounts.{more};
 ghost use Rattle.rd_folder_drive.specs.declared.handle.Handle.{Handle};
 ghost use Rattle.rd_folder_drive.specs.declared.open.Open.{Open};
+ghost use Rattle.rd_folder_drive.specs.declared.table.Done.TheVariants as Done;
 ghost use Rattle.rd_folder_drive.specs.Closing.{kept_done, with_uses_left, IsFed, IsOff, LosesUse};
 ghost use Rattle.rd_folder_drive.specs.Served.{seen, FitsBody, IfReplied, IsOver, ServesClose};
 ghost use Rattle.rd_folder_drive.specs.Table.{kept_handle, open_at, IsSound};
@@ -32,8 +33,9 @@ impl Table {
         ensures serves { ServesClose self.old (seen F.nodes F.faults folder.old) self.new (seen F.nodes F.faults folder.new) file result }
         ensures fits { IfReplied result (FitsBody Op.Close) }
         ensures fed { IsFed result }
-        ensures handles { self.new.handles.entries ≡ remove_entry (is_at (nat_cmp file)) self.old.handles.entries }
         ensures waiting { self.new.waiting ≡ self.old.waiting }
+        ensures answered { result ≢ Ok Done.Parked }
+        ensures handles { self.new.handles.entries ≡ remove_entry (is_at (nat_cmp file)) self.old.handles.entries }
     {
         let Some(handle) = self.handle(file) else {
             return Err(Status::INVALID_HANDLE);
@@ -93,7 +95,7 @@ impl Table {
     }
 
     /// What is open by a number is used once less, and may become pending.
-    fn lose_use(&mut self, node: u32, usage: Use, pending: bool)
+    pub fn lose_use(&mut self, node: u32, usage: Use, pending: bool)
         requires there { (o : Open) × (uses : Uses) × (open_at self.old node ≡ Some o) × (o.uses ≡ more usage uses) }
         ensures others { self.new ≡ record self.old { opens = self.new.opens } }
         ensures loses { LosesUse self.old node usage pending self.new }

@@ -18,6 +18,7 @@ impl Table {
         ensures over { IsOver self.new (seen F.nodes F.faults folder.new) }
         ensures untold { F.nodes folder.old ≡ None → F.nodes folder.new ≡ None }
         ensures none { self.new.waiting.items ≡ [] }
+        ensures shut { self.new.handles.entries ≡ [] }
         ensures cuts { Cuts self.old (seen F.nodes F.faults folder.old) self.new (seen F.nodes F.faults folder.new) }
     {
         self.cancel_all();
@@ -45,6 +46,7 @@ impl Table {
         ensures over { IsOver self.new (seen F.nodes F.faults folder.new) }
         ensures untold { F.nodes folder.old ≡ None → F.nodes folder.new ≡ None }
         ensures none { self.new.waiting.items ≡ [] }
+        ensures shut { self.new.handles.entries ≡ [] }
         ensures closes { ClosesEach self.old (seen F.nodes F.faults folder.old) self.new (seen F.nodes F.faults folder.new) }
     {
         while !self.handles.is_empty() {

@@ -1,8 +1,9 @@
 //! Locks on ranges of a file, and requests that wait for them or for a change (MS-RDPEFS 2.2.3.3.11, 2.2.3.3.12).
 
-ghost use Rattle.std.specs.Prelude.{◌≡◌, ◌<◌, length, vec_capacity, IsSome, Some, Ok, true, ◌≢◌};
+ghost use Rattle.std.specs.Prelude.{◌≡◌, ◌<◌, length, vec_capacity, IsSome, Some, true};
 ghost use Rattle.std.specs.Option.{option_map};
 ghost use Rattle.rd_irp.specs.declared.completion.Body.TheVariants as Body;
+ghost use Rattle.rd_irp.specs.declared.completion.Kind.TheVariants as Kind;
 ghost use Rattle.rd_irp.specs.declared.op.Op.TheVariants as Op;
 ghost use Rattle.rd_locks.specs.Locks.{conflict, wanted_locks};
 ghost use Rattle.rd_drive.specs.Locking.{lock, lock_ranges, unlock_ranges};
@@ -11,8 +12,7 @@ ghost use Rattle.rd_drive.specs.Outcome.{on_handle};
 ghost use Rattle.rd_folder_drive.specs.Alone.{ServesAlone};
 ghost use Rattle.rd_folder_drive.specs.Served.{FitsBody, IfReplied};
 ghost use Rattle.rd_folder_drive.specs.Table.{kept_handle, path_at, IsSound};
-ghost use Rattle.rd_folder_drive.specs.Waits.{IsParked};
-ghost use Rattle.rd_folder_drive.specs.declared.table.Done.TheVariants as Done;
+ghost use Rattle.rd_folder_drive.specs.Waits.{IsParked, StaysWaiting, WaitsBy};
 
 use crate::news::News;
 use crate::table::{Done, Outcome, Table};
@@ -36,7 +36,7 @@ impl Table {
         requires sound { IsSound self.old }
         ensures serves { ServesAlone self.old self.new (λ s. on_handle s file (lock s key file operation wait ranges)) result }
         ensures fits { IfReplied result (FitsBody (Op.Lock operation wait ranges)) }
-        ensures waits { result ≡ Ok Done.Parked → wait ≡ true }
+        ensures waits { WaitsBy self.old self.new (record { key = key; kind = Kind.Lock }) wait result }
     {
         let Some((handle, open)) = self.held(file) else {
             return Err(Status::INVALID_HANDLE);
@@ -63,7 +63,7 @@ impl Table {
         requires opened { option_map (λ h. h.node) (kept_handle self.old file) ≡ Some node }
         ensures serves { ServesAlone self.old self.new (λ s. unlock_ranges s file (path_at self.old node) ranges.now) result }
         ensures locked { IfReplied result (λ body. body ≡ Body.Locked) }
-        ensures done { result ≢ Ok Done.Parked }
+        ensures waits { StaysWaiting self.old self.new result }
     {
         match self.locks.unlock(node, file, ranges) {
             Ok(()) => Ok(Done::Replied(Body::Locked, News::unlocked(node))),
@@ -85,7 +85,7 @@ impl Table {
         requires opened { option_map (λ h. h.node) (kept_handle self.old file) ≡ Some node }
         ensures serves { ServesAlone self.old self.new (λ s. lock_ranges s key file (path_at self.old node) exclusive wait ranges) result }
         ensures locked { IfReplied result (λ body. body ≡ Body.Locked) }
-        ensures waits { result ≡ Ok Done.Parked → wait ≡ true }
+        ensures waits { WaitsBy self.old self.new (record { key = key; kind = Kind.Lock }) wait result }
     {
         let wanted = ranges.as_slice();
         match self.locks.lock(node, file, exclusive, wanted) {
@@ -115,6 +115,7 @@ impl Table {
         requires blocked { IsSome (conflict self.old.locks.locks (wanted_locks node file exclusive ranges)) }
         ensures serves { ServesAlone self.old self.new (λ s. lock_ranges s key file (path_at self.old node) exclusive true ranges) result }
         ensures unreplied { IfReplied result (λ body. ⊥) }
+        ensures waits { WaitsBy self.old self.new (record { key = key; kind = Kind.Lock }) true result }
     {
         let wanted = ranges.as_slice();
         let alone = Locks::new(self.alloc);
@@ -139,6 +140,7 @@ impl Table {
         requires sound { IsSound self.old }
         ensures serves { ServesAlone self.old self.new (λ s. on_handle s file (notify s key file deep filter)) result }
         ensures fits { IfReplied result (FitsBody (Op.Notify deep filter)) }
+        ensures waits { WaitsBy self.old self.new (record { key = key; kind = Kind.Buffer }) true result }
     {
         let Some((_, open)) = self.held(file) else {
             return Err(Status::INVALID_HANDLE);

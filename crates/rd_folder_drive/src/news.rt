@@ -4,13 +4,13 @@ ghost use Rattle.std.specs.Prelude.{◌≡◌};
 ghost use Rattle.rd_folder_drive.specs.Served.{about, about_locks, nothing};
 ghost use Rattle.rd_folder_drive.specs.declared.news.Named.TheVariants as Named;
 
-use rd_dirinfo::Path;
+use crate::way::Way;
 
 /// What a change is about: something that is open, at the path that it has now, or a path at which nothing is any more.
 #[derive(Debug, Drop)]
 pub enum Named {
     Node(u32),
-    Gone(Path),
+    Gone(Way),
 }
 
 /// A change, as those are told who watch a folder (MS-FSCC 2.7.1).

@@ -1,6 +1,6 @@
 //! How one path stands to another.
 
-ghost use Rattle.std.specs.Prelude.{◌≡◌, ◌<◌, length};
+ghost use Rattle.std.specs.Prelude.{◌≡◌, ◌<◌, ◌≤◌, drop, length};
 ghost use Rattle.rd_dirinfo.specs.Paths.{is_below, is_prefix, is_same_path, parent, path_cmp};
 ghost use Rattle.rd_dirinfo.specs.declared.naming.Naming.TheVariants as Naming;
 
@@ -31,7 +31,7 @@ pub fn is_same(a: &[Units], b: &[Units]) -> bool
 }
 
 /// Whether a path is at or below another one.
-fn is_prefix(from: &[Units], path: &[Units]) -> bool
+pub fn is_prefix(from: &[Units], path: &[Units]) -> bool
     ensures { result ≡ is_prefix Naming.Exact from.now path.now }
 {
     if from.len() > path.len() {
@@ -53,4 +53,12 @@ pub fn above(path: &[Units]) -> &[Units]
     ensures { result.now ≡ parent path.now }
 {
     &path[..path.len() - 1]
+}
+
+/// What comes after the first names of a path.
+pub fn after(path: &[Units], count: usize) -> &[Units]
+    requires { count ≤ length path.now }
+    ensures { result.now ≡ drop count path.now }
+{
+    &path[count..]
 }

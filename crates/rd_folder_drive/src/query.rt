@@ -11,6 +11,7 @@ ghost use Rattle.rd_folder.specs.FolderCalls.{look_of};
 ghost use Rattle.rd_folder_drive.specs.Alone.{ServesAlone};
 ghost use Rattle.rd_folder_drive.specs.Served.{seen, FitsBody, IfReplied, IsOver, Serves};
 ghost use Rattle.rd_folder_drive.specs.Table.{IsSound};
+ghost use Rattle.rd_folder_drive.specs.Waits.{StaysWaiting};
 
 use crate::news::News;
 use crate::table::{Done, Outcome, Table, folder_status};
@@ -62,6 +63,7 @@ impl Table {
         requires over { IsOver self.now (seen F.nodes F.faults folder.old) }
         requires room { room.items ≡ [] }
         ensures serves { Serves self.now (seen F.nodes F.faults folder.old) self.now (seen F.nodes F.faults folder.new) (λ s. on_handle s file (query_file s class)) result }
+        ensures waits { StaysWaiting self.now self.now result }
         ensures fits { IfReplied result (FitsBody (Op.QueryFile class)) }
     {
         let Some((handle, opened)) = self.held(file) else {
@@ -86,6 +88,7 @@ impl Table {
         requires sound { IsSound self.now }
         requires room { room.items ≡ [] }
         ensures serves { ServesAlone self.now self.now (λ s. on_handle s file (query_volume s class)) result }
+        ensures waits { StaysWaiting self.now self.now result }
         ensures fits { IfReplied result (FitsBody (Op.QueryVolume class)) }
     {
         let Some((_, _)) = self.held(file) else {
@@ -104,6 +107,7 @@ impl Table {
     pub fn set_volume(&mut self, file: u32, class: u32, bytes: &[u8]) -> Outcome
         requires sound { IsSound self.old }
         ensures serves { ServesAlone self.old self.new (λ s. on_handle s file (set_volume s class bytes.now)) result }
+        ensures waits { StaysWaiting self.old self.new result }
         ensures fits { IfReplied result (FitsBody (Op.SetVolume class bytes.now)) }
     {
         let Some((_, _)) = self.held(file) else {

@@ -14,6 +14,7 @@ ghost use Rattle.rd_folder.specs.Told.{drive_over};
 ghost use Rattle.rd_folder_drive.specs.Listing.{FindsNext, Relists};
 ghost use Rattle.rd_folder_drive.specs.Served.{seen, FitsBody, IfReplied, IsOver, IsRefusedBy, Serves};
 ghost use Rattle.rd_folder_drive.specs.Table.{kept_handle, open_at, IsSound};
+ghost use Rattle.rd_folder_drive.specs.Waits.{StaysWaiting};
 ghost use Rattle.rd_folder_drive.specs.declared.handle.Handle.{Handle};
 ghost use Rattle.rd_folder_drive.specs.declared.open.Open.{Open};
 
@@ -90,6 +91,7 @@ impl Table {
         requires over { IsOver self.old (seen F.nodes F.faults folder.old) }
         requires room { room.items ≡ [] }
         ensures serves { Serves self.old (seen F.nodes F.faults folder.old) self.new (seen F.nodes F.faults folder.new) (λ s. on_handle s file (query_dir s file class initial units.now)) result }
+        ensures waits { StaysWaiting self.old self.new result }
         ensures fits { IfReplied result (FitsBody (Op.QueryDir class initial units.now)) }
     {
         let Some((_, opened)) = self.held(file) else {
@@ -122,6 +124,7 @@ impl Table {
         requires folds { (h : Handle) (o : Open) → kept_handle self.old file ≡ Some h → open_at self.old h.node ≡ Some o → o.folder ≡ true }
         requires class { is_listed (choice entry_classes class) ≡ true }
         ensures serves { Serves self.old (seen F.nodes F.faults folder.old) self.new (seen F.nodes F.faults folder.new) (λ s. on_handle s file (query_dir s file class true units.now)) result }
+        ensures waits { StaysWaiting self.old self.new result }
         ensures fits { IfReplied result (FitsBody (Op.QueryDir class true units.now)) }
     {
         let Some((_, opened)) = self.held(file) else {
@@ -159,6 +162,7 @@ impl Table {
         requires folds { (h : Handle) (o : Open) → kept_handle self.old file ≡ Some h → open_at self.old h.node ≡ Some o → o.folder ≡ true }
         requires class { is_listed (choice entry_classes class) ≡ true }
         ensures serves { (units : List ℕ) → Serves self.old (seen F.nodes F.faults folder.old) self.new (seen F.nodes F.faults folder.new) (λ s. on_handle s file (query_dir s file class false units)) result }
+        ensures waits { StaysWaiting self.old self.new result }
         ensures fits { (units : List ℕ) → IfReplied result (FitsBody (Op.QueryDir class false units)) }
     {
         let Some((handle, opened)) = self.held(file) else {

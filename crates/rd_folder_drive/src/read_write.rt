@@ -7,6 +7,7 @@ ghost use Rattle.rd_drive.specs.Outcome.{on_handle};
 ghost use Rattle.rd_drive.specs.ReadWrite.{read, write};
 ghost use Rattle.rd_folder_drive.specs.Served.{seen, FitsBody, IfReplied, IsOver, Serves};
 ghost use Rattle.rd_folder_drive.specs.Table.{IsSound};
+ghost use Rattle.rd_folder_drive.specs.Waits.{StaysWaiting};
 
 use crate::news::News;
 use crate::table::{Done, Outcome, Table, folder_status};
@@ -40,6 +41,7 @@ impl Table {
         requires over { IsOver self.now (seen F.nodes F.faults folder.old) }
         requires room { room.items ≡ [] }
         ensures serves { Serves self.now (seen F.nodes F.faults folder.old) self.now (seen F.nodes F.faults folder.new) (λ s. on_handle s file (read s file offset length)) result }
+        ensures waits { StaysWaiting self.now self.now result }
         ensures fits { IfReplied result (FitsBody (Op.Read offset length)) }
     {
         let Some((handle, opened)) = self.held(file) else {
@@ -80,6 +82,7 @@ impl Table {
         requires sound { IsSound self.now }
         requires over { IsOver self.now (seen F.nodes F.faults folder.old) }
         ensures serves { Serves self.now (seen F.nodes F.faults folder.old) self.now (seen F.nodes F.faults folder.new) (λ s. on_handle s file (write s moment file offset bytes.now)) result }
+        ensures waits { StaysWaiting self.now self.now result }
         ensures fits { IfReplied result (FitsBody (Op.Write offset bytes.now)) }
     {
         let Some((handle, opened)) = self.held(file) else {

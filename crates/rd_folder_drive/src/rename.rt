@@ -6,6 +6,7 @@ ghost use Rattle.rd_irp.specs.declared.completion.Body.TheVariants as Body;
 ghost use Rattle.rd_folder_drive.specs.Served.{seen, IfReplied, IsOver, Serves};
 ghost use Rattle.rd_folder_drive.specs.Setting.{renames, sets_of, IsBelowRoot, OfOpen};
 ghost use Rattle.rd_folder_drive.specs.Table.{IsSound};
+ghost use Rattle.rd_folder_drive.specs.Waits.{StaysWaiting};
 
 use crate::asking::is_folder;
 use crate::news::News;
@@ -32,6 +33,7 @@ impl Table {
         requires over { IsOver self.old (seen F.nodes F.faults folder.old) }
         requires other { OfOpen self.old file IsBelowRoot }
         ensures serves { Serves self.old (seen F.nodes F.faults folder.old) self.new (seen F.nodes F.faults folder.new) (sets_of file moment count (SetInfo.Rename replace units.now)) result }
+        ensures waits { StaysWaiting self.old self.new result }
         ensures body { IfReplied result (λ body. body ≡ Body.Count count) }
     {
         let Some((_, _)) = self.held(file) else {
@@ -58,6 +60,7 @@ impl Table {
         requires over { IsOver self.old (seen F.nodes F.faults folder.old) }
         requires other { OfOpen self.old file IsBelowRoot }
         ensures serves { Serves self.old (seen F.nodes F.faults folder.old) self.new (seen F.nodes F.faults folder.new) (renames file moment count replace path.now) result }
+        ensures waits { StaysWaiting self.old self.new result }
         ensures body { IfReplied result (λ body. body ≡ Body.Count count) }
     {
         let Some((handle, opened)) = self.held(file) else {
@@ -77,7 +80,6 @@ impl Table {
             Ok(false) => return Err(status::OBJECT_PATH_NOT_FOUND),
             Err(status) => return Err(status),
         }
-        // The move itself isn't made yet: every other path is refused as if no memory were found.
-        Err(Status::NO_MEMORY)
+        self.relocate(folder, file, path, replace, count, moment)
     }
 }

@@ -11,6 +11,7 @@ ghost use Rattle.rd_drive.specs.SetFile.{set_file};
 ghost use Rattle.rd_folder_drive.specs.Served.{seen, FitsBody, IfReplied, IsOver, IsOwnStatus, Serves};
 ghost use Rattle.rd_folder_drive.specs.Setting.{ends, sets_of, IsBelowRoot, IsOpenFile, HasNodeThere, MayBePending, MayNotGo, MayNotSetOpen, MaySetOpen, OfOpen, SetsPending};
 ghost use Rattle.rd_folder_drive.specs.Table.{open_at, IsSound};
+ghost use Rattle.rd_folder_drive.specs.Waits.{StaysWaiting};
 ghost use Rattle.rd_folder_drive.specs.declared.open.Open.{Open};
 
 use crate::asking::{has_names, look};
@@ -101,6 +102,7 @@ impl Table {
         requires sound { IsSound self.old }
         requires over { IsOver self.old (seen F.nodes F.faults folder.old) }
         ensures serves { Serves self.old (seen F.nodes F.faults folder.old) self.new (seen F.nodes F.faults folder.new) (λ s. on_handle s file (set_file s moment class bytes.now)) result }
+        ensures waits { StaysWaiting self.old self.new result }
         ensures fits { IfReplied result (FitsBody (Op.SetFile class bytes.now)) }
     {
         let Some((handle, opened)) = self.held(file) else {
@@ -146,6 +148,7 @@ impl Table {
         requires sound { IsSound self.now }
         requires over { IsOver self.now (seen F.nodes F.faults folder.old) }
         ensures serves { Serves self.now (seen F.nodes F.faults folder.old) self.now (seen F.nodes F.faults folder.new) (sets_of file moment count (SetInfo.Basic asked attributes)) result }
+        ensures waits { StaysWaiting self.now self.now result }
         ensures body { IfReplied result (λ body. body ≡ Body.Count count) }
     {
         let Some((handle, opened)) = self.held(file) else {
@@ -182,6 +185,7 @@ impl Table {
         requires file { OfOpen self.now file IsOpenFile }
         requires most { end ≤ asked }
         ensures serves { Serves self.now (seen F.nodes F.faults folder.old) self.now (seen F.nodes F.faults folder.new) (ends file moment count asked end) result }
+        ensures waits { StaysWaiting self.now self.now result }
         ensures body { IfReplied result (λ body. body ≡ Body.Count count) }
     {
         let Some((handle, opened)) = self.held(file) else {
@@ -212,6 +216,7 @@ impl Table {
         requires over { IsOver self.now (seen F.nodes F.faults folder.old) }
         requires file { OfOpen self.now file IsOpenFile }
         ensures serves { Serves self.now (seen F.nodes F.faults folder.old) self.now (seen F.nodes F.faults folder.new) (sets_of file moment count (SetInfo.Allocation size)) result }
+        ensures waits { StaysWaiting self.now self.now result }
         ensures body { IfReplied result (λ body. body ≡ Body.Count count) }
     {
         let Some((_, opened)) = self.held(file) else {
@@ -238,6 +243,7 @@ impl Table {
         requires over { IsOver self.old (seen F.nodes F.faults folder.old) }
         requires other { OfOpen self.old file IsBelowRoot }
         ensures serves { (moment : ℕ) → Serves self.old (seen F.nodes F.faults folder.old) self.new (seen F.nodes F.faults folder.new) (sets_of file moment count (SetInfo.Disposition pending)) result }
+        ensures waits { StaysWaiting self.old self.new result }
         ensures body { IfReplied result (λ body. body ≡ Body.Count count) }
     {
         let Some((handle, opened)) = self.held(file) else {

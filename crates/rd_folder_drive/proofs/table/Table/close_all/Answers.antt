@@ -33,3 +33,6 @@ pub returns-clause-closes : goal.returns-clause-closes
 returns-clause-closes g c =
     way_ends c.args.self.now (seen g.F.Folder.nodes g.F.Folder.faults c.args.folder.now) c.loop-self.self (seen g.F.Folder.nodes g.F.Folder.faults c.loop-self.folder) c.loop-self.invariant.way
     (nil_from_length c.loop-self.self.handles.entries (c.is_empty.ensures.0 (search rules)))
+
+pub returns-clause-shut : goal.returns-clause-shut
+returns-clause-shut g c = nil_from_length c.loop-self.self.handles.entries (c.is_empty.ensures.0 (search rules))

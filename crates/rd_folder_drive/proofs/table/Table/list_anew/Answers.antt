@@ -1,5 +1,7 @@
-use Rattle.std.proofs.Common.{◌≡◌, ◌∙◌, refl, sym, ap, subst, ℕ, true, List, Option, Some, None, Err}
-use Rattle.rd_drive.specs.DriveState.{DriveState}
+use Rattle.std.proofs.Common.{◌≡◌, ◌∙◌, refl, sym, ap, subst, ℕ, true, false, List, Option, Some, None, Err}
+use Rattle.rd_drive.specs.DriveState.{DriveState, Node, has_folder, is_folder_node}
+use Rattle.rd_folder.specs.Told.{drive_over}
+use Rattle.std.specs.Option.{option_map_or}
 use Rattle.rd_drive.specs.Outcome.{no_news, on_handle, refused, succeeded}
 use Rattle.rd_drive.specs.QueryDir.{query_dir}
 use Rattle.rd_folder_drive.specs.Served.{Seen, seen}
@@ -15,7 +17,8 @@ use Rattle.rd_folder_drive.specs.Listing.{FindsNext, Relists}
 use Rattle.rd_folder_drive.proofs.DirLemmas.{nowhere}
 use Rattle.rd_folder_drive.proofs.RelistedLemmas.{relists_sound}
 use Rattle.rd_folder_drive.proofs.AskLemmas.{calm_by}
-use Rattle.rd_folder_drive.proofs.ServeLemmas.{done_with, refused_at_once, refused_with}
+use Rattle.rd_folder_drive.proofs.ServeLemmas.{done_with, held_by, refused_at_once, refused_by, refused_with}
+use Rattle.rd_folder_drive.specs.declared.table.Table.{Table}
 use Rattle.rd_folder_drive.proofs.table.Table.list_anew.Goals as goal
 
 pub returns-in_default-clause-serves : goal.returns-in_default-clause-serves
@@ -56,3 +59,22 @@ returns-in-Ok-Some-clause-serves g c =
       lemma.anew_some c.args.self.now c.requires.sound c.args.file (c.in-Some.field-0-0).now (c.in-Some.opened).now c.in-Some.ensures.some.0 c.in-Some.ensures.some.1 c.args.class nodes holds (c.requires.folds (c.in-Some.field-0-0).now (c.in-Some.opened).now c.in-Some.ensures.some.0 c.in-Some.ensures.some.1) c.requires.class (c.args.units).now good found (subst (λ (p : Names). FindsNext nodes p (pattern_of (c.args.units).now) None c.args.class (Some found)) c.names.ensures.names (subst (λ (p : List ℕ). FindsNext nodes c.names.result.now p None c.args.class (Some found)) c.in-Ok.ensures.pattern (subst (λ (found : Option Entered). FindsNext nodes c.names.result.now c.in-Ok.pattern None c.args.class found) c.in-Ok-Some.field-0-is (c.in-Ok-Some.ensures.found nodes told))))
           ∙ ap (λ (d : DriveState). succeeded d (Buffer found.bytes) no_news) (sym (left.1 nodes holds).1),
     ))
+
+pub returns-in-Ok-None-clause-waits : goal.returns-in-Ok-None-clause-waits
+returns-in-Ok-None-clause-waits g c = ap (λ (t : Table). t.waiting) (c.set_listing.ensures (c.in-Some.field-0-0).now c.in-Some.ensures.some.0).rest
+
+pub returns-in-Ok-Some-clause-waits : goal.returns-in-Ok-Some-clause-waits
+returns-in-Ok-Some-clause-waits g c = ap (λ (t : Table). t.waiting) (c.set_listing-in-Ok-Some.ensures (c.in-Some.field-0-0).now c.in-Some.ensures.some.0).rest
+
+pub returns-in-Err-clause-serves : goal.returns-in-Err-clause-serves
+returns-in-Err-clause-serves g c =
+    let t = c.args.self.now in
+    let before : Seen = seen g.F.Folder.nodes g.F.Folder.faults c.args.folder.now in
+    let after : Seen = seen g.F.Folder.nodes g.F.Folder.faults c.listed.new.folder in
+    let h = (c.in-Some.field-0-0).now in
+    let o = (c.in-Some.opened).now in
+    refused_by t before after c.requires.over c.in-Err.ensures.same c.requires.sound (λ s. on_handle s c.args.file (query_dir s c.args.file c.args.class true (c.args.units).now)) c.in-Err.status
+    (c.in-Err.ensures.refused (λ nodes told.
+    let there = (held_by t before c.requires.over nodes told).there h.node o c.in-Some.ensures.some.1 in
+    ap (has_folder (drive_over nodes)) c.names.ensures.names
+    ∙ ap (λ (found : Option Node). option_map_or is_folder_node found false) there.1 ∙ there.2 ∙ c.requires.folds h o c.in-Some.ensures.some.0 c.in-Some.ensures.some.1))

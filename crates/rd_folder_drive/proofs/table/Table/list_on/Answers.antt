@@ -16,6 +16,7 @@ use Rattle.rd_folder_drive.specs.Listing.{FindsNext}
 use Rattle.rd_folder_drive.proofs.RelistedLemmas.{relists_sound}
 use Rattle.rd_folder_drive.proofs.AskLemmas.{calm_by}
 use Rattle.rd_folder_drive.proofs.ServeLemmas.{done_with, refused_at_once, refused_so}
+use Rattle.rd_folder_drive.specs.declared.table.Table.{Table}
 use Rattle.rd_folder_drive.proofs.table.Table.list_on.Goals as goal
 
 -- a reference's value, in either word
@@ -47,3 +48,6 @@ returns-in-Ok-Some-clause-serves g c units =
       lemma.on_some c.args.self.now c.requires.sound c.args.file (c.in-Some.handle).now (c.in-Some.opened).now c.in-Some.ensures.some.0 c.in-Some.ensures.some.1 c.args.class nodes holds (c.requires.folds (c.in-Some.handle).now (c.in-Some.opened).now c.in-Some.ensures.some.0 c.in-Some.ensures.some.1) c.requires.class units found (subst (λ (p : Names). FindsNext nodes p ((c.in-Some.handle).now).pattern ((c.in-Some.handle).now).last c.args.class (Some found)) c.names.ensures.names (subst (λ (l : Option Name). FindsNext nodes c.names.result.now ((c.in-Some.handle).now).pattern l c.args.class (Some found)) (copied c.as_ref.result ∙ c.as_ref.ensures.value) (subst (λ (found : Option Entered). FindsNext nodes c.names.result.now ((c.in-Some.handle).now).pattern (option_map (λ other. other.now) c.as_ref.result) c.args.class found) c.in-Ok-Some.field-0-is (c.in-Ok-Some.ensures.found nodes told))))
           ∙ ap (λ (d : DriveState). succeeded d (Buffer found.bytes) no_news) (sym (left.1 nodes holds).1),
     ))
+
+pub returns-in-Ok-Some-clause-waits : goal.returns-in-Ok-Some-clause-waits
+returns-in-Ok-Some-clause-waits g c = ap (λ (t : Table). t.waiting) (c.set_last.ensures (c.in-Some.handle).now c.in-Some.ensures.some.0).rest

@@ -6,7 +6,7 @@ use Rattle.rd_drive.specs.Outcome.{on_handle}
 use Rattle.rd_folder_drive.specs.Table.{drive_of}
 use Rattle.rd_folder_drive.proofs.AloneLemmas.{alone_refused}
 use Rattle.rd_folder_drive.proofs.NotifyLemmas.{notify_file, notify_full, notify_waits}
-use Rattle.rd_folder_drive.proofs.ParkLemmas.{alone_parked}
+use Rattle.rd_folder_drive.proofs.ParkLemmas.{alone_parked, waits_last}
 use Rattle.rd_folder_drive.proofs.TableLemmas.{unopened}
 use Rattle.rd_folder_drive.proofs.table.Table.notify.Goals as goal
 
@@ -37,3 +37,6 @@ returns-clause-serves c =
     alone_parked t t _ c.requires.sound t.locks _ _ refl c.park.ensures refl (sym (add-zero t.locks.reserved)) (omega arith) (ap is_some there.0) (c.in-Ok.ensures.items, c.in-Ok.ensures.capacity)
     (λ s. on_handle s c.args.file (notify s c.args.key c.args.file c.args.deep c.args.filter))
     (λ nodes holds. notify_waits t c.requires.sound c.args.file c.in-Some.field-0-0.now c.in-Some.open.now there.0 there.1 c.args.key c.args.deep c.args.filter nodes holds c.if-not-open.false (omega arith))
+
+pub returns-clause-waits : goal.returns-clause-waits
+returns-clause-waits c = waits_last c.args.self.now c.args.self.now _ _ _ c.park.ensures refl

@@ -2,7 +2,7 @@ use Rattle.std.proofs.Common.{refl, ap, Err}
 use Rattle.rd_base.specs.Statuses.{invalid_handle, object_name_invalid}
 use Rattle.rd_dirinfo.specs.declared.path.PathNo.{PathNo}
 use Rattle.rd_fileinfo.specs.declared.set_info.SetInfo.TheVariants as set
-use Rattle.rd_folder_drive.specs.Served.{Seen, seen}
+use Rattle.rd_folder_drive.specs.Served.{seen}
 use Rattle.rd_folder_drive.specs.Setting.{renames, sets_of}
 use Rattle.rd_folder_drive.proofs.AskedLemmas.{serves_same}
 use Rattle.rd_folder_drive.proofs.RenameLemmas.{spells_none, spells_path}

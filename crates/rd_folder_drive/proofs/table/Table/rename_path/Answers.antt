@@ -6,7 +6,7 @@ use Rattle.rd_folder.specs.Told.{drive_over}
 use Rattle.rd_irp.specs.declared.completion.Body.TheVariants.{Count}
 use Rattle.rd_dirinfo.specs.declared.naming.Naming.TheVariants.{Exact}
 use Rattle.rd_dirinfo.specs.Paths.{Names, is_below, is_name, is_path, is_same_path, parent}
-use Rattle.rd_folder_drive.specs.Served.{Seen, seen}
+use Rattle.rd_folder_drive.specs.Served.{seen}
 use Rattle.rd_folder_drive.specs.Setting.{renames}
 use Rattle.rd_folder_drive.proofs.RenameLemmas.{is_true, parent_named, refused_told, to_below, to_nowhere, to_own, to_root}
 use Rattle.rd_folder_drive.proofs.ServeLemmas.{done_at_once_quietly, refused_at_once}

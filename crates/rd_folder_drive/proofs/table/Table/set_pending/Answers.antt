@@ -1,4 +1,4 @@
-use Rattle.std.proofs.Common.{◌≡◌, ◌∙◌, refl, sym, subst, Bool, true, false}
+use Rattle.std.proofs.Common.{◌≡◌, ◌∙◌, refl, sym, ap, subst, Bool, true, false}
 use Rattle.rd_base.specs.Statuses.{invalid_handle}
 use Rattle.rd_fileinfo.specs.declared.set_info.SetInfo.TheVariants as set
 use Rattle.rd_folder_drive.specs.Served.{seen}
@@ -6,6 +6,7 @@ use Rattle.rd_folder_drive.specs.Setting.{SetsPending, sets_of}
 use Rattle.rd_folder_drive.proofs.PendingLemmas.{mark_refused, mark_serves}
 use Rattle.rd_folder_drive.proofs.ServeLemmas.{refused_at_once}
 use Rattle.rd_folder_drive.proofs.TableLemmas.{unopened}
+use Rattle.rd_folder_drive.specs.declared.table.Table.{Table}
 use Rattle.rd_folder_drive.proofs.table.Table.set_pending.Goals as goal
 
 pub returns-in_default-clause-serves : goal.returns-in_default-clause-serves
@@ -34,3 +35,9 @@ returns-clause-serves g c = λ moment.
     h o c.in-Some.ensures.some.0 c.in-Some.ensures.some.1 c.args.pending refl (c.requires.other h o c.in-Some.ensures.some.0 c.in-Some.ensures.some.1) c.mark-2.new.self
     (subst (λ (b : Bool). SetsPending c.args.self.now h.node o b c.mark-2.new.self) (sym c.if-pending.false) (c.mark-2.ensures o c.in-Some.ensures.some.1))
     (λ some. absurd (let clash : true ≡ false = sym some ∙ c.if-pending.false in cc)) c.none-2.result c.none-2.ensures
+
+pub returns-in-Ok-clause-waits : goal.returns-in-Ok-clause-waits
+returns-in-Ok-clause-waits g c = ap (λ (t : Table). t.waiting) (c.mark.ensures (c.in-Some.opened).now c.in-Some.ensures.some.1).rest
+
+pub returns-clause-waits : goal.returns-clause-waits
+returns-clause-waits g c = ap (λ (t : Table). t.waiting) (c.mark-2.ensures (c.in-Some.opened).now c.in-Some.ensures.some.1).rest
