@@ -36,7 +36,7 @@ module _ (old : Table) (comes : DriveState → Outcome) (sound : IsSound old) (n
 
   -- no memory was found, and nothing changed
   pub alone_starved : ServesAlone old new comes (Err no_memory)
-  alone_starved = subst (λ (t : Table). ServesAlone old t comes (Err no_memory)) (sym same) (sound, inr (refl, λ nodes holds. (holds, refl)))
+  alone_starved = subst (λ (t : Table). ServesAlone old t comes (Err no_memory)) (sym same) (sound, inr (refl, (λ nodes. refl), λ nodes holds. (holds, refl)))
 
 -- what a drive with these nodes comes to the same way is served as well
 pub alone_same : (old new : Table) (comes other : DriveState → Outcome) (result : Result Done Status) → ((nodes : List Node) → HasNodes old nodes → other (drive_of old nodes) ≡ comes (drive_of old nodes))
@@ -63,11 +63,7 @@ leaves_alone old new before after P over same alone =
     by (Some nodes) is = (alone nodes is).0
 
 calm_alone : (before after : Seen) → after ≡ before → IsCalm before after
-calm_alone before after same = by before.told
-  where
-    by : (told : Option (List Node)) → IfSome told (λ (nodes : List Node). after.faults ≡ before.faults)
-    by None = tt
-    by (Some nodes) = ap (λ (seen : Seen). seen.faults) same
+calm_alone before after same = ap (λ (seen : Seen). seen.faults) same
 
 -- A call that asks nothing of the folder serves.
 pub alone_serves : (old new : Table) (comes : DriveState → Outcome) (result : Result Done Status) (before after : Seen) → IsOver old before → after ≡ before → ServesAlone old new comes result → Serves old before new after comes result
@@ -82,5 +78,5 @@ alone_serves old new comes (Ok done.Parked) before after over same (sound, alone
 alone_serves old new comes (Ok (done.Kept status news)) before after over same none = absurd none
 alone_serves old new comes (Err status) before after over same (sound, inl (own, alone)) =
     (sound, inl (own, calm_alone before after same, leaves_alone old new before after (λ s left. comes s ≡ refused left status) over same alone))
-alone_serves old new comes (Err status) before after over same (sound, inr (starved, alone)) =
-    (sound, inr (inl (starved, ap (λ (seen : Seen). seen.faults) same), leaves_alone old new before after (λ s left. left ≡ s) over same alone))
+alone_serves old new comes (Err status) before after over same (sound, inr (starved, unchanged, alone)) =
+    (sound, inr (inl (starved, ap (λ (seen : Seen). seen.faults) same), unchanged, leaves_alone old new before after (λ s left. left ≡ s) over same alone))

@@ -1,6 +1,6 @@
 -- What a call on a folder answers, and leaves, as the contracts of a drive see it.
 use Rattle.std.proofs.Common.{◌≡◌, ◌∙◌, refl, sym, ap, subst, inl, inr, ℕ, Bool, true, false, cond, not, List, Option, Some, None, Result, Err}
-use Rattle.std.specs.Option.{IfSome, option_and_then, option_map}
+use Rattle.std.specs.Option.{option_and_then, option_map}
 use Rattle.std.proofs.lemmas.Option.{same_Some, none-some}
 use Rattle.rd_contents.specs.Contents.{part}
 use Rattle.rd_dirinfo.specs.Paths.{Names}
@@ -15,11 +15,7 @@ use Rattle.rd_folder_drive.specs.Served.{Seen, IsCalm, IsRefusedBy, folder_statu
 module _ (before after : Seen) where
   -- a call that is done counts nothing
   pub calm_by : after.faults ≡ before.faults → IsCalm before after
-  calm_by same = by before.told
-    where
-      by : (found : Option (List Node)) → IfSome found (λ (nodes : List Node). after.faults ≡ before.faults)
-      by None = tt
-      by (Some nodes) = same
+  calm_by same = same
 
   module _ {X : Type 0} (comes : List Node → Option (X × List Node)) where
     -- one that is refused changes nothing
@@ -45,11 +41,11 @@ module _ (before after : Seen) where
       where
         by : (old : Option (List Node)) → before.told ≡ old → (no : FolderNo) → why ≡ no → CountsNo old no before.faults after.faults → IsRefusedBy before after (folder_status no)
         by old told no.Memory is c = inl (refl, c)
-        by None told no.Missing is c = inr (no.Missing, refl, (λ e. absurd (cc)), c)
+        by None told no.Missing is c = inr (no.Missing, refl, (λ e. absurd (cc)), (λ e. told), c)
         by (Some nodes) told no.Missing is c = absurd (some nodes told is)
-        by old told no.Failed is c = inr (no.Failed, refl, (λ e. absurd (cc)), c)
-        by old told no.Full is c = inr (no.Full, refl, (λ e. absurd (cc)), c)
-        by old told no.Denied is c = inr (no.Denied, refl, (λ e. absurd (cc)), c)
+        by old told no.Failed is c = inr (no.Failed, refl, (λ e. absurd (cc)), (λ e. absurd (cc)), c)
+        by old told no.Full is c = inr (no.Full, refl, (λ e. absurd (cc)), (λ e. absurd (cc)), c)
+        by old told no.Denied is c = inr (no.Denied, refl, (λ e. absurd (cc)), (λ e. absurd (cc)), c)
 
     -- what a call answers that is done, of the nodes that were told
     pub answer_is : (answer : X) → DoesCall before.told after.told comes (Result.Ok answer) → (nodes : List Node) → before.told ≡ Some nodes → (left : List Node) × (comes nodes ≡ Some (answer, left)) × (after.told ≡ Some left)

@@ -1,7 +1,7 @@
--- No end says that the folder failed; and a file id that is closed isn't open any more.
-use Rattle.std.proofs.Common.{◌≡◌, ◌∙◌, refl, sym, ap, subst, ℕ, ◌==◌, ◌||◌, Bool, true, false, cond, ◌<◌, List, [], ◌∷◌, ◌++◌, map, fold, Option, Some, None, find, ◌&&◌, not, arith}
+-- No end says that the folder failed; and where a file id is closed the others are open still.
+use Rattle.std.proofs.Common.{◌≡◌, ◌∙◌, refl, sym, ap, subst, ℕ, ◌==◌, Bool, true, false, cond, ◌<◌, List, [], ◌∷◌, fold, Option, Some, None, find, ◌&&◌, not, arith}
 use Rattle.std.proofs.lemmas.Bool.Decides.{nat_tests}
-use Rattle.std.specs.List.{AllByRecursion, list_any}
+use Rattle.std.specs.List.{AllByRecursion}
 use Rattle.std.specs.List.Sorted.{IsStrictlySortedBy}
 use Rattle.std.specs.Map.{keys_of, remove_entry}
 use Rattle.std.specs.Option.{option_map_or, unwrap_or}
@@ -20,6 +20,7 @@ use Rattle.rd_drive.specs.Stepped.{Settled}
 use Rattle.rd_drive.specs.Waiting.{change_bytes, closing_reply, ends_with, is_closed, is_told, is_tried, settled, settles, settles_open, waits_on}
 use Rattle.rd_drive.proofs.AllLemmas.{all_append}
 use Rattle.rd_drive.proofs.StoreLemmas.{is_below, is_equal}
+use Rattle.rd_folder_drive.specs.Files.{files_but}
 use Rattle.rd_folder_drive.specs.FolderDrive.{AreBlameless}
 use Rattle.rd_folder_drive.specs.Served.{io_device_error}
 
@@ -76,17 +77,25 @@ not_equal m n apart = grind (arith, nat_tests)
 above_apart : (m n : ℕ) → m < n → (n == m) ≡ false
 above_apart m n above = grind (arith, nat_tests)
 
--- no number above another one is it
-none_above : (m : ℕ) (ks : List ℕ) → AllByRecursion (λ (y : ℕ). nat_cmp m y ≡ Less) ks → list_any (λ (n : ℕ). n == m) ks ≡ false
-none_above m [] low = refl
-none_above m (k ∷ ks) low = (λ i. above_apart m k (is_below m k (ap is_lt low.0)) i || list_any (λ (n : ℕ). n == m) ks) ∙ none_above m ks low.1
+itself : (n : ℕ) → (n == n) ≡ true
+itself n = grind (arith, nat_tests)
 
-pub none_left : {X : Type 0} (file : ℕ) (es : List (ℕ × X)) → IsStrictlySortedBy nat_cmp (keys_of es) → list_any (λ (n : ℕ). n == file) (keys_of (remove_entry (is_at (nat_cmp file)) es)) ≡ false
+-- of numbers above another one all are left without it
+all_above : (m : ℕ) (ks : List ℕ) → AllByRecursion (λ (y : ℕ). nat_cmp m y ≡ Less) ks → files_but m ks ≡ ks
+all_above m [] low = refl
+all_above m (k ∷ ks) low = ap (λ b. cond (not b) (k ∷ files_but m ks) (files_but m ks)) (above_apart m k (is_below m k (ap is_lt low.0))) ∙ ap (λ (l : List ℕ). k ∷ l) (all_above m ks low.1)
+
+-- where an entry is taken out its number goes, and all others stay
+pub others_left : {X : Type 0} (file : ℕ) (es : List (ℕ × X)) → IsStrictlySortedBy nat_cmp (keys_of es) → keys_of (remove_entry (is_at (nat_cmp file)) es) ≡ files_but file (keys_of es)
 unfolding IsStrictlySortedBy
-none_left file [] rising = refl
-none_left file (e ∷ es) rising = by (none_left file es rising.1) (is_at (nat_cmp file) e.0) refl
+others_left file [] rising = refl
+others_left file (e ∷ es) rising = by (others_left file es rising.1) (is_at (nat_cmp file) e.0) refl
   where
-    by : list_any (λ (n : ℕ). n == file) (keys_of (remove_entry (is_at (nat_cmp file)) es)) ≡ false → (b : Bool) → is_at (nat_cmp file) e.0 ≡ b
-        → list_any (λ (n : ℕ). n == file) (keys_of (cond b es (e ∷ remove_entry (is_at (nat_cmp file)) es))) ≡ false
-    by later true here = let same : file ≡ e.0 = is_equal file e.0 here in none_above file (keys_of es) (subst (λ (m : ℕ). AllByRecursion (λ (y : ℕ). nat_cmp m y ≡ Less) (keys_of es)) (sym same) rising.0)
-    by later false there = (λ i. not_equal file e.0 there i || list_any (λ (n : ℕ). n == file) (keys_of (remove_entry (is_at (nat_cmp file)) es))) ∙ later
+    by : keys_of (remove_entry (is_at (nat_cmp file)) es) ≡ files_but file (keys_of es) → (b : Bool) → is_at (nat_cmp file) e.0 ≡ b
+        → keys_of (cond b es (e ∷ remove_entry (is_at (nat_cmp file)) es)) ≡ cond (not (e.0 == file)) (e.0 ∷ files_but file (keys_of es)) (files_but file (keys_of es))
+    by later true here =
+        let same : file ≡ e.0 = is_equal file e.0 here in
+        sym (ap (λ b. cond (not b) (e.0 ∷ files_but file (keys_of es)) (files_but file (keys_of es))) (ap (λ (n : ℕ). n == file) (sym same) ∙ itself file)
+        ∙ all_above file (keys_of es) (subst (λ (m : ℕ). AllByRecursion (λ (y : ℕ). nat_cmp m y ≡ Less) (keys_of es)) (sym same) rising.0))
+    by later false there =
+        ap (λ (l : List ℕ). e.0 ∷ l) later ∙ sym (ap (λ b. cond (not b) (e.0 ∷ files_but file (keys_of es)) (files_but file (keys_of es))) (not_equal file e.0 there))

@@ -1,7 +1,6 @@
 -- A Close of what a file id has open: its node stays, stays as a folder in which something stands, or goes; or the folder keeps it.
-use Rattle.std.proofs.Common.{◌≡◌, ◌∙◌, refl, sym, ap, subst, ℕ, ◌==◌, Bool, true, false, not, ◌&&◌, ◌||◌, cond, List, [], ◌∷◌, length, Option, Some, None, Result, Ok, Err, nat_lt, rules}
+use Rattle.std.proofs.Common.{◌≡◌, ◌∙◌, refl, sym, ap, subst, inl, inr, ℕ, Bool, true, false, not, ◌&&◌, ◌||◌, cond, List, [], ◌∷◌, length, Option, Some, None, Result, Ok, Err, nat_lt, rules}
 use Rattle.std.specs.List.{list_any}
-use Rattle.rd_base.specs.declared.status.Status.{Status}
 use Rattle.std.specs.Option.{IfSome, IsSome, is_some, option_map, option_map_or}
 use Rattle.std.specs.Ordering.{nat_cmp}
 use Rattle.std.specs.Map.{lookup, remove_entry}
@@ -9,7 +8,7 @@ use Rattle.std.specs.BTreeMap.{is_at}
 use Rattle.std.proofs.lemmas.Bool.{lt-ltb}
 use Rattle.std.proofs.lemmas.Option.{none-some}
 use Rattle.std.proofs.Math.Bool.{and-false}
-use Rattle.rd_base.specs.Statuses.{invalid_handle, no_memory}
+use Rattle.rd_base.specs.Statuses.{invalid_handle}
 use Rattle.rd_dirinfo.specs.Paths.{Names, is_path}
 use Rattle.rd_irp.specs.declared.completion.Body.TheVariants.{Closed}
 use Rattle.rd_irp.specs.declared.op.Op.TheVariants.{Close}
@@ -36,14 +35,14 @@ use Rattle.rd_folder_drive.specs.declared.open.Open.{Open}
 use Rattle.rd_folder_drive.specs.declared.table.Done.TheVariants as done
 use Rattle.rd_folder_drive.specs.declared.table.Table.{Table}
 use Rattle.rd_folder_drive.specs.Closing.{IsFed, IsOff, kept_done, used_once_less, other_handles}
-use Rattle.rd_folder_drive.specs.Served.{FitsBody, IfReplied, IsKeptBy, IsOver, Leaves, Seen, ServesClose, folder_status, keeping_node, news_of, takes_out}
+use Rattle.rd_folder_drive.specs.Served.{FitsBody, IfReplied, IsCalmClose, IsFaultBy, IsOver, Leaves, Seen, ServesClose, folder_status, keeping_node, news_of, takes_out}
 use Rattle.rd_folder_drive.specs.Table.{HasNodes, IsSound, drive_of, handle_of, kept_handle, marked, open_at, path_at, uses_on}
-use Rattle.rd_folder_drive.proofs.AskLemmas.{answer_is, calm_by, refusal_missing, refusal_same}
-use Rattle.rd_folder_drive.proofs.ChildLemmas.{filled_seen}
+use Rattle.rd_folder_drive.proofs.AskLemmas.{answer_is, refusal_missing, refusal_same}
+use Rattle.rd_folder_drive.proofs.ChildLemmas.{children_folder, filled_seen}
 use Rattle.rd_folder_drive.proofs.HandlesLemmas.{all_kept, kept_fewer, open_counted, removed_seen}
 use Rattle.rd_folder_drive.proofs.MarkLemmas.{children_marked}
 use Rattle.rd_folder_drive.proofs.OffLemmas.{none_open, nodes_left, off_goes_holds, off_goes_seen, off_holds_same, off_sound, off_stays_seen, open_here}
-use Rattle.rd_folder_drive.proofs.ServeLemmas.{held_by, is_calm, leaves_by, stays}
+use Rattle.rd_folder_drive.proofs.ServeLemmas.{held_by, leaves_by, stays}
 use Rattle.rd_folder_drive.proofs.TableLemmas as table
 
 -- a file id is closed, and its node stays
@@ -170,9 +169,10 @@ module _ (t : Table) (sound : IsSound t) (file : ℕ) (h : kept.Handle) (o : Ope
   serves_used off news told = subst (λ (x : told_news.News). ServesClose t before new before file (Ok (done.Replied Closed x))) (sym told) (
     off_sound t sound file h o is on None new off,
     (ap is_some here, (tt, (tt, (tt, tt)))),
-    is_calm t before over,
+    inl refl,
     leaves_same t new before before over refl (λ s left. on_handle s file (close s file) ≡ record { state = left; answer = step.Reply (outcome.done Closed); news = news_of new (closed_on file (named.Node h.node)) })
         (λ nodes at holds. (off_holds_same t sound file h o is on None new off nodes holds, comes_to nodes holds)),
+    refl,
   )
     where
       here : open_at new h.node ≡ Some (used_once_less t file h o)
@@ -220,13 +220,14 @@ module _ (t : Table) (sound : IsSound t) (file : ℕ) (h : kept.Handle) (o : Ope
     serves_left rests news told = subst (λ (x : told_news.News). ServesClose t before new before file (Ok (done.Replied Closed x))) (sym told) (
       off_sound t sound file h o is on (Some taken) new off,
       (heard, (tt, (tt, (tt, tt)))),
-      is_calm t before over,
+      inl refl,
       leaves_same t new before before over refl (λ s left. on_handle s file (close s file) ≡ record { state = left; answer = step.Reply (outcome.done Closed); news = news_of new gone_news })
           (λ nodes at holds. (
             off_holds_same t sound file h o is on (Some taken) new off nodes holds,
             comes_staying t sound file h o is on nodes holds (ap (λ b. b && not (nat_lt 0 uses)) (sym taken_pending ∙ rests))
                 ∙ (λ i. succeeded (stays_state nodes holds to_go (sym taken_pending ∙ rests) i) Closed (closing file (gone_path nodes holds i))),
           )),
+      refl,
     )
 
     module _ (goes : taken.pending ≡ true) (after : Seen) where
@@ -243,7 +244,7 @@ module _ (t : Table) (sound : IsSound t) (file : ℕ) (h : kept.Handle) (o : Ope
       serves_gone does calm bits kind news told = subst (λ (x : told_news.News). ServesClose t before new after file (Ok (done.Replied Closed x))) (sym told) (
         off_sound t sound file h o is on (Some taken) new off,
         (tt, (ap is_path taken_path ∙ (sound.opened h.node o on).path, (tt, (tt, tt)))),
-        calm_by before after calm,
+        inl calm,
         leaves_by t new before after over (folder_remove o.path) (asked (Result.Ok tt) does)
             (λ s left. on_handle s file (close s file) ≡ record { state = left; answer = step.Reply (outcome.done Closed); news = news_of new (closed_with file (record { action = 2; named = named.Gone taken.path; bits = bits })) })
             (λ nodes at holds.
@@ -255,6 +256,7 @@ module _ (t : Table) (sound : IsSound t) (file : ℕ) (h : kept.Handle) (o : Ope
                   ∙ (λ i. succeeded ((ap (without_node (rest t sound file h o is on nodes holds)) (own_path t sound file h o is on nodes holds) ∙ sym (off_goes_seen t sound file h o is on (Some taken) new off nodes holds)) i) Closed
                   (record { closed = Some file; unlocked = None; changes = record { action = 2; path = gone_path nodes holds i; bits = (kind_is nodes holds ∙ sym kind) i } ∷ [] })),
             )),
+        refl,
       )
         where
           nothing_in : (nodes : List Node) → before.told ≡ Some nodes → HasNodes t nodes → has_children (drive_over nodes) o.path ≡ false
@@ -276,7 +278,7 @@ module _ (t : Table) (sound : IsSound t) (file : ℕ) (h : kept.Handle) (o : Ope
       serves_filled does counted news told = subst (λ (x : told_news.News). ServesClose t before new after file (Ok (done.Replied Closed x))) (sym told) (
         off_sound t sound file h o is on (Some taken) new off,
         (heard, (tt, (tt, (tt, tt)))),
-        calm before.told counted,
+        calm before.told refl counted,
         leaves_same t new before after over (refusal_same before after (folder_remove o.path) no.Missing (asked (Err no.Missing) does))
             (λ s left. on_handle s file (close s file) ≡ record { state = left; answer = step.Reply (outcome.done Closed); news = news_of new gone_news })
             (λ nodes at holds. (
@@ -285,22 +287,23 @@ module _ (t : Table) (sound : IsSound t) (file : ℕ) (h : kept.Handle) (o : Ope
                   (missing_filled t sound file h o is on nodes holds pends (refusal_missing before after (folder_remove o.path) no.Missing (asked (Err no.Missing) does) refl nodes at))
                   ∙ (λ i. succeeded (stays_state nodes holds false refl i) Closed (closing file (gone_path nodes holds i))),
             )),
+        refl,
       )
         where
-          calm : (found : Option (List Node)) → CountsNo found no.Missing before.faults after.faults → IfSome found (λ (nodes : List Node). after.faults ≡ before.faults)
-          calm None c = tt
-          calm (Some nodes) c = c
+          calm : (found : Option (List Node)) → before.told ≡ found → CountsNo found no.Missing before.faults after.faults → IsCalmClose before after
+          calm None told c = inr (told, c)
+          calm (Some nodes) told c = inl c
 
       -- the folder keeps it
-      module _ (why : FolderNo) (missing : why ≡ no.Missing → ⊥) (memory : why ≡ no.Memory → ⊥) (does : DoesCall before.told after.told (folder_remove taken.path) (Err why)) (counted : CountsNo before.told why before.faults after.faults) where
-        kept_by : IsKeptBy before after (folder_status why)
-        kept_by = (why, refl, memory, by why missing memory counted)
+      module _ (why : FolderNo) (untold : why ≡ no.Missing → before.told ≡ None) (memory : why ≡ no.Memory → ⊥) (does : DoesCall before.told after.told (folder_remove taken.path) (Err why)) (counted : CountsNo before.told why before.faults after.faults) where
+        kept_by : IsFaultBy before after (folder_status why)
+        kept_by = (why, refl, memory, untold, by why untold memory counted)
           where
-            by : (given : FolderNo) → (given ≡ no.Missing → ⊥) → (given ≡ no.Memory → ⊥) → CountsNo before.told given before.faults after.faults → after.faults ≡ one_fault given before.faults
+            by : (given : FolderNo) → (given ≡ no.Missing → before.told ≡ None) → (given ≡ no.Memory → ⊥) → CountsNo before.told given before.faults after.faults → after.faults ≡ one_fault given before.faults
             by no.Failed m n c = c
             by no.Full m n c = c
             by no.Denied m n c = c
-            by no.Missing m n c = absurd (m refl)
+            by no.Missing m n c = subst (λ (found : Option (List Node)). CountsNo found no.Missing before.faults after.faults) (m refl) c
             by no.Memory m n c = absurd (n refl)
 
         pub serves_kept : (news : told_news.News) → news ≡ gone_news → ServesClose t before new after file (Ok (done.Kept (folder_status why) news))
@@ -325,30 +328,48 @@ module _ (t : Table) (sound : IsSound t) (file : ℕ) (h : kept.Handle) (o : Ope
               )),
         )
 
+      -- a file is there to be taken out, where the folder tells its nodes
+      untold_file : taken.folder ≡ false → DoesCall before.told after.told (folder_remove taken.path) (Err no.Missing) → before.told ≡ None
+      untold_file kind does = by before.told refl
+        where
+          file_there : (nodes : List Node) → before.told ≡ Some nodes → ⊥
+          file_there nodes at =
+              let holds = held_by t before over nodes at in
+              let filled = missing_filled t sound file h o is on nodes holds pends (refusal_missing before after (folder_remove o.path) no.Missing (asked (Err no.Missing) does) refl nodes at) in
+              let folder : is_folder_node (table.node t sound nodes holds file h o is on) ≡ true = children_folder nodes holds.map o.path (table.node t sound nodes holds file h o is on) (table.there t sound nodes holds file h o is on) filled in
+              absurd (let clash : true ≡ false = sym folder ∙ table.kind t sound nodes holds file h o is on ∙ sym (ap (λ (x : Open). x.folder) off.taken.0) ∙ kind in cc)
+
+          by : (found : Option (List Node)) → before.told ≡ found → before.told ≡ None
+          by None told = told
+          by (Some nodes) told = absurd (file_there nodes told)
+
       -- the folder doesn't take it out
-      pub serves_not_gone : (why : FolderNo) → (why ≡ no.Memory → ⊥) → DoesCall before.told after.told (folder_remove taken.path) (Err why) → CountsNo before.told why before.faults after.faults → (news : told_news.News) → news ≡ gone_news
-          → ServesClose t before new after file (Ok (kept_done why news))
-      serves_not_gone no.Missing memory does counted = serves_filled does counted
-      serves_not_gone no.Failed memory does counted = serves_kept no.Failed (λ e. absurd (cc)) memory does counted
-      serves_not_gone no.Full memory does counted = serves_kept no.Full (λ e. absurd (cc)) memory does counted
-      serves_not_gone no.Denied memory does counted = serves_kept no.Denied (λ e. absurd (cc)) memory does counted
-      serves_not_gone no.Memory memory does counted = absurd (memory refl)
+      pub serves_not_gone : (why : FolderNo) → (why ≡ no.Memory → ⊥) → (is_folder : Bool) → taken.folder ≡ is_folder → DoesCall before.told after.told (folder_remove taken.path) (Err why) → CountsNo before.told why before.faults after.faults
+          → (news : told_news.News) → news ≡ gone_news → ServesClose t before new after file (Ok (kept_done why is_folder news))
+      serves_not_gone no.Missing memory true kind does counted = serves_filled does counted
+      serves_not_gone no.Missing memory false kind does counted = serves_kept no.Missing (λ e. untold_file kind does) memory does counted
+      serves_not_gone no.Failed memory is_folder kind does counted = serves_kept no.Failed (λ e. absurd (cc)) memory does counted
+      serves_not_gone no.Full memory is_folder kind does counted = serves_kept no.Full (λ e. absurd (cc)) memory does counted
+      serves_not_gone no.Denied memory is_folder kind does counted = serves_kept no.Denied (λ e. absurd (cc)) memory does counted
+      serves_not_gone no.Memory memory is_folder kind does counted = absurd (memory refl)
 
 -- its answer isn't want of memory
-pub fed_kept : (why : FolderNo) (news : told_news.News) → (why ≡ no.Memory → ⊥) → IsFed (Ok (kept_done why news))
-fed_kept no.Missing news memory = tt
-fed_kept no.Failed news memory = refl
-fed_kept no.Full news memory = refl
-fed_kept no.Denied news memory = refl
-fed_kept no.Memory news memory = absurd (memory refl)
+pub fed_kept : (why : FolderNo) (is_folder : Bool) (news : told_news.News) → (why ≡ no.Memory → ⊥) → IsFed (Ok (kept_done why is_folder news))
+fed_kept no.Missing true news memory = tt
+fed_kept no.Missing false news memory = refl
+fed_kept no.Failed is_folder news memory = refl
+fed_kept no.Full is_folder news memory = refl
+fed_kept no.Denied is_folder news memory = refl
+fed_kept no.Memory is_folder news memory = absurd (memory refl)
 
 -- and is of its layout
-pub fits_kept : (why : FolderNo) (news : told_news.News) → IfReplied (Ok (kept_done why news)) (FitsBody Close)
-fits_kept no.Missing news = search rules
-fits_kept no.Failed news = tt
-fits_kept no.Full news = tt
-fits_kept no.Denied news = tt
-fits_kept no.Memory news = tt
+pub fits_kept : (why : FolderNo) (is_folder : Bool) (news : told_news.News) → IfReplied (Ok (kept_done why is_folder news)) (FitsBody Close)
+fits_kept no.Missing true news = search rules
+fits_kept no.Missing false news = tt
+fits_kept no.Failed is_folder news = tt
+fits_kept no.Full is_folder news = tt
+fits_kept no.Denied is_folder news = tt
+fits_kept no.Memory is_folder news = tt
 
 -- what a file id has open
 pub opened_by : (t : Table) → IsSound t → (file : ℕ) (h : kept.Handle) → kept_handle t file ≡ Some h → (o : Open) × (open_at t h.node ≡ Some o)
@@ -363,7 +384,7 @@ pub serves_unopened : (t : Table) → IsSound t → (file : ℕ) → kept_handle
 serves_unopened t sound file none before over = (
   sound,
   (refl, refl),
-  is_calm t before over,
+  refl,
   stays t before before over refl (λ s left. on_handle s file (close s file) ≡ outcome.refused left invalid_handle) (λ nodes told holds. table.unopened t nodes file (close (drive_of t nodes) file) none),
 )
 

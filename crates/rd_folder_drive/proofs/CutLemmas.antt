@@ -1,12 +1,11 @@
 -- What is left when a drive is cut off.
-use Rattle.std.proofs.Common.{◌≡◌, ◌∙◌, refl, sym, ap, subst, ℕ, suc, ◌+◌, ◌==◌, ◌⊎◌, inl, inr, true, false, cond, List, [], ◌∷◌, map, fold, length, Option, Some, None, Result, Ok, Err, arith, sum_by, Vec, Global, vec_capacity}
+use Rattle.std.proofs.Common.{◌≡◌, ◌∙◌, refl, sym, ap, subst, ℕ, ◌+◌, ◌==◌, inl, inr, true, false, cond, List, [], ◌∷◌, map, fold, length, Option, Some, None, Result, Ok, Err, arith, sum_by, Vec, Global, vec_capacity}
 use Rattle.std.specs.Prelude.{slice_get}
 use Rattle.std.specs.List.{AllByRecursion}
-use Rattle.std.specs.Option.{IfSome, IsSome, option_map_or, unwrap_or}
+use Rattle.std.specs.Option.{IsSome, option_map_or, unwrap_or}
 use Rattle.std.specs.Ordering.{nat_cmp}
 use Rattle.std.specs.Map.{keys_of, remove_entry}
 use Rattle.std.specs.BTreeMap.{is_at}
-use Rattle.std.proofs.lemmas.List.{length-map}
 use Rattle.rd_tree.proofs.ViewLemmas.{itself}
 use Rattle.rd_locks.specs.Locks.{LockList}
 use Rattle.rd_base.specs.declared.status.Status.{Status}
@@ -28,7 +27,7 @@ use Rattle.rd_folder_drive.specs.declared.table.Done.TheVariants as done
 use Rattle.rd_folder_drive.specs.declared.table.Table.{Table}
 use Rattle.rd_folder_drive.specs.Cutting.{ClosesEach, ClosesFirst, Cuts, IsOnTheWay, OverTold}
 use Rattle.rd_folder_drive.specs.FolderDrive.{Closes, ClosesAll}
-use Rattle.rd_folder_drive.specs.Served.{IsCalm, IsOver, IsOwnStatus, IsRefusedBy, Leaves, Seen, ServesClose, keeping_node, news_of, takes_out}
+use Rattle.rd_folder_drive.specs.Served.{IsCalmClose, IsOver, Leaves, Seen, ServesClose, keeping_node, news_of, takes_out}
 use Rattle.rd_folder_drive.specs.Settling.{IsBeside}
 use Rattle.rd_folder_drive.specs.Table.{IsSound, IsSoundBut, drive_of, handle_of, kept_handle}
 use Rattle.rd_folder_drive.proofs.BesideLemmas.{IsWaiting, beside_sound}
@@ -57,9 +56,13 @@ step_idle s answer news none =
     (λ i. let left : Settled DriveState = fold (settles news) (record { state = record s { waiting = [] }; ends = [] }) (none i) in record { state = left.state; answer = answer; ends = left.ends })
     ∙ (λ i. record { state = record s { waiting = sym none i }; answer = answer; ends = [] })
 
+pub told_so : (before : Seen) (nodes : List Node) → before.told ≡ Some nodes → before.told ≡ None → ⊥
+told_so before nodes told none = absurd (let clash : Some nodes ≡ None = sym told ∙ none in cc)
+
 -- a folder that tells its nodes counts no fault
-calm_told : (before after : Seen) → IsCalm before after → (nodes : List Node) → before.told ≡ Some nodes → after.faults ≡ before.faults
-calm_told before after calm nodes told = subst (λ (found : Option (List Node)). IfSome found (λ (l : List Node). after.faults ≡ before.faults)) told calm
+pub calm_told : (before after : Seen) → IsCalmClose before after → (nodes : List Node) → before.told ≡ Some nodes → after.faults ≡ before.faults
+calm_told before after (inl calm) nodes told = calm
+calm_told before after (inr (none, counted)) nodes told = absurd (told_so before nodes told none)
 
 first_entry : (es : List (ℕ × kept.Handle)) (file : ℕ) (h : kept.Handle) → slice_get es 0 ≡ Some (file, h) → (rest : List (ℕ × kept.Handle)) × (es ≡ (file, h) ∷ rest)
 first_entry [] file h e = absurd (cc)
@@ -94,7 +97,7 @@ module _ (t new : Table) (before after : Seen) (sound : IsSound t) (none : t.wai
   )
   used_once_less (Ok done.Parked) serves = (
     (None, serves.0),
-    left_over (λ s left. on_handle s file (close s file) ≡ record { state = left; answer = step.Parked; news = outcome.no_news }) (λ nodes left told is. inl (ap (λ (o : Outcome). o.state) is, calm_told before after serves.1 nodes told)) serves.2,
+    left_over (λ s left. on_handle s file (close s file) ≡ record { state = left; answer = step.Parked; news = outcome.no_news }) (λ nodes left told is. inl (ap (λ (o : Outcome). o.state) is, serves.1)) serves.2,
   )
   used_once_less (Ok (done.Kept status news)) serves = (
     (Some file, serves.0),
@@ -104,19 +107,20 @@ module _ (t new : Table) (before after : Seen) (sound : IsSound t) (none : t.wai
           record {
             no = serves.3.0;
             some = serves.3.2;
+            found = λ e. absurd (told_so before nodes told (serves.3.3 e));
             handle = is.0;
             node = is.1;
             opened = is.2;
             there = is.3;
             takes = is.4;
             comes = ap (λ (st : Status). step_of (keeping_node (drive_of t nodes) file st is.0 is.1)) (sym serves.3.1) ∙ ap step_of is.5 ∙ step_idle (drive_of new left) (step.Reply (outcome.fault status)) (news_of new news) (ap (map waiting_of) first_none);
-            counted = serves.3.3;
+            counted = serves.3.4;
           },
         )) serves.4,
   )
   used_once_less (Err status) serves = (
     (None, serves.0),
-    left_over (λ s left. on_handle s file (close s file) ≡ outcome.refused left status) (λ nodes left told is. inl (ap (λ (o : Outcome). o.state) is, calm_told before after serves.2 nodes told)) serves.3,
+    left_over (λ s left. on_handle s file (close s file) ≡ outcome.refused left status) (λ nodes left told is. inl (ap (λ (o : Outcome). o.state) is, serves.2)) serves.3,
   )
 
   pub first_closed : (result : Result Done Status) → ServesClose t before new after file result → IsSound new × IsOver new after × (before.told ≡ None → after.told ≡ None) × ClosesFirst t before new after
@@ -161,7 +165,7 @@ fewer_open old before new after first =
 
 -- ---- the whole cut
 
-keys_seen : (t : Table) (es : List (ℕ × kept.Handle)) → keys_of (map (λ (e : ℕ × kept.Handle). (e.0, handle_of t e.1)) es) ≡ keys_of es
+pub keys_seen : (t : Table) (es : List (ℕ × kept.Handle)) → keys_of (map (λ (e : ℕ × kept.Handle). (e.0, handle_of t e.1)) es) ≡ keys_of es
 keys_seen t [] = refl
 keys_seen t (e ∷ es) = ap (λ (ks : List ℕ). e.0 ∷ ks) (keys_seen t es)
 

@@ -207,7 +207,7 @@ module _ (t : Table) (sound : IsSound t) (new : Table) (same : IsAsBefore t new)
   -- the folder refused, or no memory was found
   pub serves_before : (before after : Seen) → IsOver t before → after.told ≡ before.told → (comes : DriveState → outcome.Outcome) (status : Status) → IsRefusedBy before after status → Serves t before new after comes (Err status)
   serves_before before after over told comes status by =
-      (before_sound, inr (by, table_leaves t new before after over told (λ s left. left ≡ s) (λ nodes is holds. (before_holds nodes holds, before_drive nodes))))
+      (before_sound, inr (by, before_drive, table_leaves t new before after over told (λ s left. left ≡ s) (λ nodes is holds. (before_holds nodes holds, before_drive nodes))))
 
   -- the requests that wait stay
   pub waiting_same : new.waiting ≡ t.waiting

@@ -11,6 +11,7 @@ pub mod CutLemmas
 pub mod DirLemmas
 pub mod EndLemmas
 pub mod EntryLemmas
+pub mod FilesLemmas
 pub mod FoundLemmas
 pub mod HandlesLemmas
 pub mod HoldLemmas

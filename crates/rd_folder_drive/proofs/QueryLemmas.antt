@@ -1,5 +1,5 @@
 -- What an open file and the volume tell of themselves, and the volume's label.
-use Rattle.std.proofs.Common.{◌≡◌, ◌∙◌, refl, sym, ap, subst, inl, inr, ℕ, ◌==◌, ◌≤◌, Bool, true, false, not, List, length, Option, Some, None, Err}
+use Rattle.std.proofs.Common.{◌≡◌, ◌∙◌, refl, sym, ap, subst, inl, inr, ℕ, ◌==◌, ◌≤◌, true, false, not, List, length, Option, Some, None, Err}
 use Rattle.rd_base.specs.declared.status.Status.{Status}
 use Rattle.rd_irp.specs.declared.completion.Body.TheVariants.{Buffer, Count}
 use Rattle.rd_fileinfo.specs.declared.file_info.FileInfo.{FileInfo}
@@ -149,4 +149,4 @@ pub untold_alone : {X : Type 0} (t : Table) → IsSound t → (comes : DriveStat
     → (found ≡ None → (nodes : List Node) → HasNodes t nodes → comes (drive_of t nodes) ≡ refused (drive_of t nodes) invalid_info_class) → ServesAlone t t comes (Err status)
 untold_alone t sound comes found status (inl e) f =
     subst (λ (s : Status). ServesAlone t t comes (Err s)) (sym e.1) (sound, inl ((refl, refl), λ nodes holds. (holds, f e.0 nodes holds)))
-untold_alone t sound comes found status (inr e) f = (sound, inr (e, λ nodes holds. (holds, refl)))
+untold_alone t sound comes found status (inr e) f = (sound, inr (e, (λ nodes. refl), λ nodes holds. (holds, refl)))

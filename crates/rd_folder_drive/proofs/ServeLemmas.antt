@@ -37,7 +37,7 @@ module _ (t : Table) (before after : Seen) (over : IsOver t before) (same : afte
 
     -- the folder refused, or no memory was found
     pub refused_by : (status : Status) → IsRefusedBy before after status → Serves t before t after comes (Err status)
-    refused_by status by = (sound, inr (by, stays (λ s left. left ≡ s) (λ nodes told holds. refl)))
+    refused_by status by = (sound, inr (by, (λ nodes. refl), stays (λ s left. left ≡ s) (λ nodes told holds. refl)))
 
     -- it is done, and changes nothing
     pub done_so : IsCalm before after → (body : Body) (news : told_news.News) → news.closed ≡ None → IsHeard t news
@@ -81,11 +81,7 @@ module _ (old new : Table) (before after : Seen) (over : IsOver old before) (sam
 
 module _ (t : Table) (folder : Seen) (over : IsOver t folder) where
   pub is_calm : IsCalm folder folder
-  is_calm = by folder.told
-    where
-      by : (found : Option (List Node)) → IfSome found (λ (nodes : List Node). folder.faults ≡ folder.faults)
-      by None = tt
-      by (Some nodes) = refl
+  is_calm = refl
 
   module _ (sound : IsSound t) (comes : DriveState → outcome.Outcome) where
     pub refused_at_once : (status : Status) → IsOwnStatus status → ((nodes : List Node) → HasNodes t nodes → comes (drive_of t nodes) ≡ outcome.refused (drive_of t nodes) status) → Serves t folder t folder comes (Err status)

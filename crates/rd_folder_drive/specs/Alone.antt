@@ -8,7 +8,7 @@ use Rattle.rd_drive.specs.Outcome as outcome
 use Rattle.rd_folder_drive.specs.declared.table.Table.{Table}
 use Rattle.rd_folder_drive.specs.declared.table.Done.{Done}
 use Rattle.rd_folder_drive.specs.declared.table.Done.TheVariants as done
-use Rattle.rd_folder_drive.specs.Served.{IsHeard, IsOwnStatus, news_of}
+use Rattle.rd_folder_drive.specs.Served.{IsHeard, IsOwnStatus, IsUnchanged, news_of}
 use Rattle.rd_folder_drive.specs.Table.{HasNodes, IsSound, IsSoundBut, drive_of}
 
 -- What is open is among all nodes among which it was, and the drives over them are so.
@@ -25,4 +25,4 @@ ServesAlone old new comes (Ok (done.Kept status news)) = ⊥
 ServesAlone old new comes (Err status) =
     IsSound new
     × ((IsOwnStatus status × LeavesAlone old new (λ s left. comes s ≡ outcome.refused left status))
-    ⊎ ((status ≡ no_memory) × LeavesAlone old new (λ s left. left ≡ s)))
+    ⊎ ((status ≡ no_memory) × IsUnchanged old new × LeavesAlone old new (λ s left. left ≡ s)))

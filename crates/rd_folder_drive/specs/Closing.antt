@@ -1,5 +1,5 @@
 -- A Close, step by step: a handle is taken off what it has open, with its locks.
-use Rattle.std.specs.Prelude.{◌≡◌, ℕ, ◌<◌, ◌==◌, ◌||◌, List, if◌then◌else◌, Bool, false, length, Option, Some, None, Result, Ok, Err}
+use Rattle.std.specs.Prelude.{◌≡◌, ℕ, ◌<◌, ◌==◌, ◌||◌, List, if◌then◌else◌, Bool, true, false, length, Option, Some, None, Result, Ok, Err}
 use Rattle.std.specs.Ordering.{nat_cmp}
 use Rattle.std.specs.Map.{remove_entry}
 use Rattle.std.specs.BTreeMap.{is_at, IsOrdered}
@@ -28,10 +28,10 @@ IsFed (Ok (done.Kept status news)) = (status.0 == no_memory.0) ≡ false
 IsFed (Ok came) = Unit {0}
 IsFed (Err status) = (status.0 == no_memory.0) ≡ false
 
--- what a Close comes to whose node the folder doesn't take out, by the refusal
-abbrev pub kept_done : FolderNo → told_news.News → Done
-kept_done folder.Missing news = done.Replied Closed news
-kept_done why news = done.Kept (folder_status why) news
+-- What a Close comes to whose node the folder doesn't take out, by the refusal and by whether it is a folder: a folder stays where something stands in it.
+abbrev pub kept_done : FolderNo → Bool → told_news.News → Done
+kept_done folder.Missing true news = done.Replied Closed news
+kept_done why is_folder news = done.Kept (folder_status why) news
 
 -- what is open, with these uses, and pending if it was or is to be
 abbrev pub with_uses_left : Open → Uses → Bool → Open

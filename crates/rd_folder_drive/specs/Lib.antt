@@ -2,6 +2,7 @@ pub mod Alone
 pub mod Asking
 pub mod Closing
 pub mod Cutting
+pub mod Files
 pub mod FolderDrive
 pub mod Listing
 pub mod Moving

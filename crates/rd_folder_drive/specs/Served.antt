@@ -7,6 +7,7 @@ use Rattle.rd_base.specs.Statuses.{disk_full, access_denied, no_memory}
 use Rattle.rd_dirinfo.specs.Paths.{Names, is_path}
 use Rattle.rd_irp.specs.declared.op.Op.{Op}
 use Rattle.rd_irp.specs.declared.completion.Body.{Body}
+use Rattle.rd_irp.specs.declared.completion.Body.TheVariants.{Closed}
 use Rattle.rd_irp.specs.Fits.{IsReplyTo}
 use Rattle.rd_drive.specs.declared.step.Step.TheVariants as step
 use Rattle.rd_drive.specs.Close.{close, closing, without_file}
@@ -120,11 +121,14 @@ folder_status folder.Denied = access_denied
 folder_status folder.Missing = io_device_error
 folder_status folder.Memory = no_memory
 
+-- A status that says how the folder refused, which is one fault more. It isn't `Missing` where the folder tells its nodes.
+abbrev pub IsFaultBy : Seen → Seen → Status → Type 0
+IsFaultBy before after status =
+    (no : FolderNo) × (status ≡ folder_status no) × ((no ≡ folder.Memory) → ⊥) × ((no ≡ folder.Missing) → before.told ≡ None) × (after.faults ≡ one_fault no before.faults)
+
 -- A status that says how the folder refused, which is one fault more, or that no memory was found, which is none.
 abbrev pub IsRefusedBy : Seen → Seen → Status → Type 0
-IsRefusedBy before after status =
-    ((status ≡ no_memory) × (after.faults ≡ before.faults))
-    ⊎ ((no : FolderNo) × (status ≡ folder_status no) × ((no ≡ folder.Memory) → ⊥) × (after.faults ≡ one_fault no before.faults))
+IsRefusedBy before after status = ((status ≡ no_memory) × (after.faults ≡ before.faults)) ⊎ IsFaultBy before after status
 
 -- a status that is a failure, and says neither that the folder failed nor that no memory was found
 abbrev pub IsOwnStatus : Status → Type 0
@@ -142,12 +146,16 @@ IfReplied (Ok (done.Replied body news)) P = P body
 IfReplied (Ok came) P = Unit {0}
 IfReplied (Err status) P = Unit {0}
 
--- where a folder tells its nodes no fault is counted
+-- no fault is counted
 abbrev pub IsCalm : Seen → Seen → Type 0
-IsCalm before after = IfSome before.told (λ (nodes : List Node). after.faults ≡ before.faults)
+IsCalm before after = after.faults ≡ before.faults
+
+-- what a drive keeps beside its folder is as it was: over any nodes it is the same drive
+abbrev pub IsUnchanged : Table → Table → Type 0
+IsUnchanged old new = (nodes : List Node) → drive_of new nodes ≡ drive_of old nodes
 
 -- A call that serves an operation leaves a sound table and returns what the operation comes to; or the folder refused, or no memory was found, and then
--- nothing changed. After a Close the requests that waited for its file id are still there: its news ends them.
+-- nothing changed, whatever the folder tells. After a Close the requests that waited for its file id are still there: its news ends them.
 abbrev pub Serves : Table → Seen → Table → Seen → (DriveState → outcome.Outcome) → Result Done Status → Type 0
 Serves old before new after comes (Ok (done.Replied body news)) =
     IsSoundBut news.closed new × IsHeard new news × IsCalm before after
@@ -159,7 +167,7 @@ Serves old before new after comes (Ok (done.Kept status news)) = ⊥
 Serves old before new after comes (Err status) =
     IsSound new
     × ((IsOwnStatus status × IsCalm before after × Leaves old before new after (λ s left. comes s ≡ outcome.refused left status))
-    ⊎ (IsRefusedBy before after status × Leaves old before new after (λ s left. left ≡ s)))
+    ⊎ (IsRefusedBy before after status × IsUnchanged old new × Leaves old before new after (λ s left. left ≡ s)))
 
 -- ---- a Close
 
@@ -175,16 +183,20 @@ keeping_node s file status handle node = record {
   news = closing file node.path;
 }
 
--- the status with which it is answered, where the folder refused
-abbrev pub IsKeptBy : Seen → Seen → Status → Type 0
-IsKeptBy before after status = (no : FolderNo) × (status ≡ folder_status no) × ((no ≡ folder.Memory) → ⊥) × (after.faults ≡ one_fault no before.faults)
+-- No fault is counted, or the one `Missing` of a folder that tells nothing: something stands in the folder that was to be taken out.
+abbrev pub IsCalmClose : Seen → Seen → Type 0
+IsCalmClose before after = IsCalm before after ⊎ ((before.told ≡ None) × (after.faults ≡ one_fault folder.Missing before.faults))
 
--- A Close comes to what the definition says, and is refused only so; or the folder keeps the node.
+-- A Close comes to what the definition says, with a reply of its own layout, and is refused only so; or the folder keeps the node.
 abbrev pub ServesClose : Table → Seen → Table → Seen → ℕ → Result Done Status → Type 0
 ServesClose old before new after file (Ok (done.Kept status news)) =
-    IsSoundBut (Some file) new × (news.closed ≡ Some file) × IsHeard new news × IsKeptBy before after status
+    IsSoundBut (Some file) new × (news.closed ≡ Some file) × IsHeard new news × IsFaultBy before after status
     × Leaves old before new after (λ s left. (handle : Handle) × (node : Node) × (handle_at s file ≡ Some handle) × (node_of_path s handle.path ≡ Some node) × (takes_out s file handle node ≡ true)
     × (keeping_node s file status handle node ≡ record { state = left; answer = step.Reply (outcome.fault status); news = news_of new news }))
+ServesClose old before new after file (Ok (done.Replied body news)) =
+    IsSoundBut news.closed new × IsHeard new news × IsCalmClose before after
+    × Leaves old before new after (λ s left. on_handle s file (close s file) ≡ record { state = left; answer = step.Reply (outcome.done body); news = news_of new news })
+    × (body ≡ Closed)
 ServesClose old before new after file (Err status) =
     IsSound new × IsOwnStatus status × IsCalm before after
     × Leaves old before new after (λ s left. on_handle s file (close s file) ≡ outcome.refused left status)

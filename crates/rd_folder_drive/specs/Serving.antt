@@ -1,5 +1,5 @@
 -- What comes of a job over a folder: before the requests that wait are looked at, and after.
-use Rattle.std.specs.Prelude.{◌≡◌, ℕ, List, Option, Some, None, Result}
+use Rattle.std.specs.Prelude.{◌≡◌, ℕ, Result}
 use Rattle.rd_base.specs.declared.status.Status.{Status}
 use Rattle.rd_irp.specs.declared.op.Op.TheVariants.{Close}
 use Rattle.rd_irp.specs.Fits.{kind_of}

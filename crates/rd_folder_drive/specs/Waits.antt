@@ -1,5 +1,5 @@
 -- A request that begins to wait, and those that wait on.
-use Rattle.std.specs.Prelude.{◌≡◌, ◌≤◌, ◌∷◌, ◌++◌, Bool, true, List, [], map, vec_capacity, Result, Ok, Err}
+use Rattle.std.specs.Prelude.{◌≡◌, ◌≤◌, ◌∷◌, ◌++◌, Bool, true, List, [], map, vec_capacity, Result, Ok}
 use Rattle.rd_base.specs.declared.status.Status.{Status}
 use Rattle.rd_drive.specs.declared.waiting.Waiting as kept_waiting
 use Rattle.rd_drive.specs.Answered.{parked_of}

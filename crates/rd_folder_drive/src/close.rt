@@ -50,7 +50,8 @@ impl Table {
                 closed(file, Some(Named::Gone(left.path)), None),
             ));
         }
-        let bits = name_bit(left.folder);
+        let is_folder = left.folder;
+        let bits = name_bit(is_folder);
         match folder.remove(left.path.names()) {
             Ok(()) => {
                 let gone = Change {
@@ -60,7 +61,11 @@ impl Table {
                 };
                 Ok(Done::Replied(Body::Closed, closed(file, None, Some(gone))))
             }
-            Err(no) => Ok(kept(no, closed(file, Some(Named::Gone(left.path)), None))),
+            Err(no) => Ok(kept(
+                no,
+                is_folder,
+                closed(file, Some(Named::Gone(left.path)), None),
+            )),
         }
     }
 
@@ -117,12 +122,12 @@ impl Open {
     }
 }
 
-/// What a Close comes to whose node the folder doesn't take out: something stands in it, or the folder failed.
-fn kept(no: FolderNo, news: News) -> Done
-    ensures { result ≡ kept_done no news }
+/// What a Close comes to whose node the folder doesn't take out: it is a folder in which something stands, or the folder failed.
+fn kept(no: FolderNo, is_folder: bool, news: News) -> Done
+    ensures { result ≡ kept_done no is_folder news }
 {
     match no {
-        FolderNo::Missing => Done::Replied(Body::Closed, news),
+        FolderNo::Missing if is_folder => Done::Replied(Body::Closed, news),
         _ => Done::Kept(folder_status(no), news),
     }
 }

@@ -13,6 +13,7 @@ ghost use Rattle.rd_drive.specs.Made.{create_at, first_no, open_checks};
 ghost use Rattle.rd_drive.specs.Uses.{uses_of};
 ghost use Rattle.rd_folder_drive.specs.declared.open.Open.{Open};
 ghost use Rattle.rd_folder_drive.specs.Asking.{IsLookAt};
+ghost use Rattle.rd_folder_drive.specs.Files.{OpensNext};
 ghost use Rattle.rd_folder_drive.specs.Opening.{is_of_kind, number_at, told_state, FitsCreate, GainsUse, GivesHandle, IsAsBefore, IsAtPath, IsFree, IsHeldFrom, IsHolding, IsMaking, IsReplacing, MayHold};
 ghost use Rattle.rd_folder_drive.specs.Served.{seen, FitsBody, IfReplied, IsOver, Serves};
 ghost use Rattle.rd_folder_drive.specs.Table.{drive_of, is_pending_open, open_at, IsSound};
@@ -51,6 +52,7 @@ impl Table {
         ensures serves { Serves self.old (seen F.nodes F.faults folder.old) self.new (seen F.nodes F.faults folder.new) (λ s. create s moment asked units.now) result }
         ensures fits { (allocation : ℕ) → IfReplied result (FitsBody (Op.Create asked.access allocation asked.attributes asked.share asked.disposition asked.options units.now)) }
         ensures waits { StaysWaiting self.old self.new result }
+        ensures files { OpensNext self.old self.new result }
     {
         if asked.is_contradictory() {
             return Err(Status::INVALID_PARAMETER);
@@ -75,6 +77,7 @@ impl Table {
         ensures serves { Serves self.old (seen F.nodes F.faults folder.old) self.new (seen F.nodes F.faults folder.new) (λ s. create_at s moment asked path) result }
         ensures fits { FitsCreate asked result }
         ensures waits { StaysWaiting self.old self.new result }
+        ensures files { OpensNext self.old self.new result }
     {
         if self.is_full() {
             return Err(Status::TOO_MANY_OPENED_FILES);
@@ -104,6 +107,7 @@ impl Table {
         ensures serves { Serves self.old (seen F.nodes F.faults folder.old) self.new (seen F.nodes F.faults folder.new) (λ s. create_at s moment asked path) result }
         ensures fits { FitsCreate asked result }
         ensures waits { StaysWaiting self.old self.new result }
+        ensures files { OpensNext self.old self.new result }
     {
         let found = self.at(path.names());
         if !self.is_of_kind(found, look.folder) {
@@ -147,6 +151,7 @@ impl Table {
         ensures serves { Serves self.old (seen F.nodes F.faults folder.old) self.new (seen F.nodes F.faults folder.new) (λ s. create_at s moment asked path) result }
         ensures fits { FitsCreate asked result }
         ensures waits { StaysWaiting self.old self.new result }
+        ensures files { OpensNext self.old self.new result }
     {
         let file = self.next_file();
         let node = match self.hold(asked, found, path, false) {
@@ -188,6 +193,7 @@ impl Table {
         ensures serves { Serves self.old (seen F.nodes F.faults folder.old) self.new (seen F.nodes F.faults folder.new) (λ s. create_at s moment asked path) result }
         ensures fits { FitsCreate asked result }
         ensures waits { StaysWaiting self.old self.new result }
+        ensures files { OpensNext self.old self.new result }
     {
         if path.names().is_empty() {
             return Err(status::OBJECT_PATH_NOT_FOUND);
@@ -220,6 +226,7 @@ impl Table {
         ensures serves { Serves self.old (seen F.nodes F.faults folder.old) self.new (seen F.nodes F.faults folder.new) (λ s. create_at s moment asked path) result }
         ensures fits { FitsCreate asked result }
         ensures waits { StaysWaiting self.old self.new result }
+        ensures files { OpensNext self.old self.new result }
     {
         let file = self.next_file();
         let is_folder = asked.wants_folder();

@@ -1,8 +1,9 @@
 //! A drive over a folder, as a device.
 
 ghost use Rattle.std.specs.Prelude.{◌≡◌, ◌≤◌, [], length, IfOk, IfSome};
+ghost use Rattle.std.specs.Option.{option_map};
 ghost use Rattle.rd_folder.specs.Told.{IsFolderMap};
-ghost use Rattle.rd_folder_drive.specs.FolderDrive.{opened_over, FolderCuts, FolderRuns};
+ghost use Rattle.rd_folder_drive.specs.FolderDrive.{new_drive, opened_over, FolderCuts, FolderRuns};
 ghost use Rattle.rd_folder_drive.specs.Served.{seen};
 
 use crate::table::Table;
@@ -14,8 +15,8 @@ use std::alloc::{AllocError, Global};
 use std::collections::BTreeMap;
 use std::marker::Model;
 
-/// A drive over a folder, which it alone changes. Contracts see the drive, where the folder tells its nodes; the folder's faults; the file ids that are
-/// open; and the requests that wait.
+/// A drive over a folder, which it alone changes. Contracts see the drive, where the folder tells its nodes; what is kept beside the folder; its faults;
+/// the file ids that are open; and the requests that wait.
 #[derive(Drop)]
 pub struct FolderDrive<F: Folder + Drop> {
     table: Table,
@@ -53,9 +54,10 @@ impl<F: Folder + Drop> FolderDrive<F> {
         Ok(FolderDrive { table, folder })
     }
 
-    /// The folder again, to be closed.
+    /// The folder again, to be closed: its nodes are the drive's, but for what was pending.
     pub fn finish(self) -> F
-        ensures { F.faults result ≡ self.faults }
+        ensures faults { F.faults result ≡ self.faults }
+        ensures nodes { option_map (new_drive []) (F.nodes result) ≡ option_map (λ drive. new_drive [] drive.nodes) self.drive }
     {
         let FolderDrive { table: _, folder } = self;
         folder

@@ -10,6 +10,7 @@ ghost use Rattle.rd_drive.specs.Locking.{lock, lock_ranges, unlock_ranges};
 ghost use Rattle.rd_drive.specs.Notify.{notify};
 ghost use Rattle.rd_drive.specs.Outcome.{on_handle};
 ghost use Rattle.rd_folder_drive.specs.Alone.{ServesAlone};
+ghost use Rattle.rd_folder_drive.specs.Files.{files_in};
 ghost use Rattle.rd_folder_drive.specs.Served.{FitsBody, IfReplied};
 ghost use Rattle.rd_folder_drive.specs.Table.{kept_handle, path_at, IsSound};
 ghost use Rattle.rd_folder_drive.specs.Waits.{IsParked, StaysWaiting, WaitsBy};
@@ -37,6 +38,7 @@ impl Table {
         ensures serves { ServesAlone self.old self.new (λ s. on_handle s file (lock s key file operation wait ranges)) result }
         ensures fits { IfReplied result (FitsBody (Op.Lock operation wait ranges)) }
         ensures waits { WaitsBy self.old self.new (record { key = key; kind = Kind.Lock }) wait result }
+        ensures files { files_in self.new ≡ files_in self.old }
     {
         let Some((handle, open)) = self.held(file) else {
             return Err(Status::INVALID_HANDLE);
@@ -64,6 +66,7 @@ impl Table {
         ensures serves { ServesAlone self.old self.new (λ s. unlock_ranges s file (path_at self.old node) ranges.now) result }
         ensures locked { IfReplied result (λ body. body ≡ Body.Locked) }
         ensures waits { StaysWaiting self.old self.new result }
+        ensures files { files_in self.new ≡ files_in self.old }
     {
         match self.locks.unlock(node, file, ranges) {
             Ok(()) => Ok(Done::Replied(Body::Locked, News::unlocked(node))),
@@ -86,6 +89,7 @@ impl Table {
         ensures serves { ServesAlone self.old self.new (λ s. lock_ranges s key file (path_at self.old node) exclusive wait ranges) result }
         ensures locked { IfReplied result (λ body. body ≡ Body.Locked) }
         ensures waits { WaitsBy self.old self.new (record { key = key; kind = Kind.Lock }) wait result }
+        ensures files { files_in self.new ≡ files_in self.old }
     {
         let wanted = ranges.as_slice();
         match self.locks.lock(node, file, exclusive, wanted) {
@@ -116,6 +120,7 @@ impl Table {
         ensures serves { ServesAlone self.old self.new (λ s. lock_ranges s key file (path_at self.old node) exclusive true ranges) result }
         ensures unreplied { IfReplied result (λ body. ⊥) }
         ensures waits { WaitsBy self.old self.new (record { key = key; kind = Kind.Lock }) true result }
+        ensures files { files_in self.new ≡ files_in self.old }
     {
         let wanted = ranges.as_slice();
         let alone = Locks::new(self.alloc);
@@ -141,6 +146,7 @@ impl Table {
         ensures serves { ServesAlone self.old self.new (λ s. on_handle s file (notify s key file deep filter)) result }
         ensures fits { IfReplied result (FitsBody (Op.Notify deep filter)) }
         ensures waits { WaitsBy self.old self.new (record { key = key; kind = Kind.Buffer }) true result }
+        ensures files { files_in self.new ≡ files_in self.old }
     {
         let Some((_, open)) = self.held(file) else {
             return Err(Status::INVALID_HANDLE);

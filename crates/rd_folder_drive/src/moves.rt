@@ -4,6 +4,7 @@ ghost use Rattle.std.specs.Prelude.{◌≡◌, IfErr, IfOk, OnOk, true};
 ghost use Rattle.std.specs.List.{list_any};
 ghost use Rattle.rd_dirinfo.specs.Paths.{is_path};
 ghost use Rattle.rd_irp.specs.declared.completion.Body.TheVariants as Body;
+ghost use Rattle.rd_folder_drive.specs.Files.{files_in};
 ghost use Rattle.rd_folder_drive.specs.Moving.{is_open_in, move_news, AreMoved, IsMovedOpen, IsNewPath, MayNotReplace, MayReplace};
 ghost use Rattle.rd_folder_drive.specs.Served.{seen, IfReplied, IsOver, Serves};
 ghost use Rattle.rd_folder_drive.specs.Setting.{renames, IsBelowRoot, OfOpen};
@@ -149,6 +150,7 @@ impl Table {
         requires new { IsNewPath self.old (seen F.nodes F.faults folder.old) file to.now }
         ensures serves { Serves self.old (seen F.nodes F.faults folder.old) self.new (seen F.nodes F.faults folder.new) (renames file moment count replace to.now) result }
         ensures waits { StaysWaiting self.old self.new result }
+        ensures files { files_in self.new ≡ files_in self.old }
         ensures body { IfReplied result (λ body. body ≡ Body.Count count) }
     {
         let Some((handle, opened)) = self.held(file) else {

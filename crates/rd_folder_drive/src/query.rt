@@ -9,6 +9,7 @@ ghost use Rattle.rd_drive.specs.Query.{node_info, query_file, query_volume};
 ghost use Rattle.rd_drive.specs.SetVolume.{set_volume};
 ghost use Rattle.rd_folder.specs.FolderCalls.{look_of};
 ghost use Rattle.rd_folder_drive.specs.Alone.{ServesAlone};
+ghost use Rattle.rd_folder_drive.specs.Files.{files_in};
 ghost use Rattle.rd_folder_drive.specs.Served.{seen, FitsBody, IfReplied, IsOver, Serves};
 ghost use Rattle.rd_folder_drive.specs.Table.{IsSound};
 ghost use Rattle.rd_folder_drive.specs.Waits.{StaysWaiting};
@@ -108,6 +109,7 @@ impl Table {
         requires sound { IsSound self.old }
         ensures serves { ServesAlone self.old self.new (λ s. on_handle s file (set_volume s class bytes.now)) result }
         ensures waits { StaysWaiting self.old self.new result }
+        ensures files { files_in self.new ≡ files_in self.old }
         ensures fits { IfReplied result (FitsBody (Op.SetVolume class bytes.now)) }
     {
         let Some((_, _)) = self.held(file) else {

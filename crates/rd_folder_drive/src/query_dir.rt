@@ -11,6 +11,7 @@ ghost use Rattle.rd_drive.specs.Outcome.{on_handle};
 ghost use Rattle.rd_drive.specs.QueryDir.{query_dir};
 ghost use Rattle.rd_folder.specs.FolderLaws.{AreNames};
 ghost use Rattle.rd_folder.specs.Told.{drive_over};
+ghost use Rattle.rd_folder_drive.specs.Files.{files_in};
 ghost use Rattle.rd_folder_drive.specs.Listing.{FindsNext, Relists};
 ghost use Rattle.rd_folder_drive.specs.Served.{seen, FitsBody, IfReplied, IsOver, IsRefusedBy, Serves};
 ghost use Rattle.rd_folder_drive.specs.Table.{kept_handle, open_at, IsSound};
@@ -92,6 +93,7 @@ impl Table {
         requires room { room.items ≡ [] }
         ensures serves { Serves self.old (seen F.nodes F.faults folder.old) self.new (seen F.nodes F.faults folder.new) (λ s. on_handle s file (query_dir s file class initial units.now)) result }
         ensures waits { StaysWaiting self.old self.new result }
+        ensures files { files_in self.new ≡ files_in self.old }
         ensures fits { IfReplied result (FitsBody (Op.QueryDir class initial units.now)) }
     {
         let Some((_, opened)) = self.held(file) else {
@@ -125,6 +127,7 @@ impl Table {
         requires class { is_listed (choice entry_classes class) ≡ true }
         ensures serves { Serves self.old (seen F.nodes F.faults folder.old) self.new (seen F.nodes F.faults folder.new) (λ s. on_handle s file (query_dir s file class true units.now)) result }
         ensures waits { StaysWaiting self.old self.new result }
+        ensures files { files_in self.new ≡ files_in self.old }
         ensures fits { IfReplied result (FitsBody (Op.QueryDir class true units.now)) }
     {
         let Some((_, opened)) = self.held(file) else {
@@ -163,6 +166,7 @@ impl Table {
         requires class { is_listed (choice entry_classes class) ≡ true }
         ensures serves { (units : List ℕ) → Serves self.old (seen F.nodes F.faults folder.old) self.new (seen F.nodes F.faults folder.new) (λ s. on_handle s file (query_dir s file class false units)) result }
         ensures waits { StaysWaiting self.old self.new result }
+        ensures files { files_in self.new ≡ files_in self.old }
         ensures fits { (units : List ℕ) → IfReplied result (FitsBody (Op.QueryDir class false units)) }
     {
         let Some((handle, opened)) = self.held(file) else {

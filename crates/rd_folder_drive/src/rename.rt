@@ -3,6 +3,7 @@
 ghost use Rattle.std.specs.Prelude.{◌≡◌};
 ghost use Rattle.rd_fileinfo.specs.declared.set_info.SetInfo.TheVariants as SetInfo;
 ghost use Rattle.rd_irp.specs.declared.completion.Body.TheVariants as Body;
+ghost use Rattle.rd_folder_drive.specs.Files.{files_in};
 ghost use Rattle.rd_folder_drive.specs.Served.{seen, IfReplied, IsOver, Serves};
 ghost use Rattle.rd_folder_drive.specs.Setting.{renames, sets_of, IsBelowRoot, OfOpen};
 ghost use Rattle.rd_folder_drive.specs.Table.{IsSound};
@@ -34,6 +35,7 @@ impl Table {
         requires other { OfOpen self.old file IsBelowRoot }
         ensures serves { Serves self.old (seen F.nodes F.faults folder.old) self.new (seen F.nodes F.faults folder.new) (sets_of file moment count (SetInfo.Rename replace units.now)) result }
         ensures waits { StaysWaiting self.old self.new result }
+        ensures files { files_in self.new ≡ files_in self.old }
         ensures body { IfReplied result (λ body. body ≡ Body.Count count) }
     {
         let Some((_, _)) = self.held(file) else {
@@ -61,6 +63,7 @@ impl Table {
         requires other { OfOpen self.old file IsBelowRoot }
         ensures serves { Serves self.old (seen F.nodes F.faults folder.old) self.new (seen F.nodes F.faults folder.new) (renames file moment count replace path.now) result }
         ensures waits { StaysWaiting self.old self.new result }
+        ensures files { files_in self.new ≡ files_in self.old }
         ensures body { IfReplied result (λ body. body ≡ Body.Count count) }
     {
         let Some((handle, opened)) = self.held(file) else {

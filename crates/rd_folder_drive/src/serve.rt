@@ -1,15 +1,13 @@
 //! What comes of a job.
 
 ghost use Rattle.std.specs.Prelude.{◌≡◌, ◌≢◌, [], IsFalse, false};
-ghost use Rattle.std.specs.Ordering.{nat_cmp};
-ghost use Rattle.std.specs.Map.{remove_entry};
-ghost use Rattle.std.specs.BTreeMap.{is_at};
 ghost use Rattle.rd_base.specs.Statuses.{no_memory};
 ghost use Rattle.rd_irp.specs.declared.op.Op.TheVariants as Op;
 ghost use Rattle.rd_drive.specs.declared.step.Step.TheVariants as Step;
 ghost use Rattle.rd_drive.specs.Device.{is_starved, IsAnswerTo, Parks};
 ghost use Rattle.rd_drive.specs.Outcome.{fault};
 ghost use Rattle.rd_folder_drive.specs.Closing.{IsFed};
+ghost use Rattle.rd_folder_drive.specs.Files.{FilesBy};
 ghost use Rattle.rd_folder_drive.specs.FolderDrive.{state_over, FolderRuns};
 ghost use Rattle.rd_folder_drive.specs.Served.{seen, FitsBody, IfReplied, IsOver};
 ghost use Rattle.rd_folder_drive.specs.Serving.{ServesClosing, ServesOther, WaitsForJob};
@@ -85,7 +83,7 @@ impl Table {
         ensures fits { IfReplied result (FitsBody job.op) }
         ensures waits { WaitsForJob self.old self.new job result }
         ensures fed { job.op ≡ Op.Close → IsFed result }
-        ensures closes { job.op ≡ Op.Close → self.new.handles.entries ≡ remove_entry (is_at (nat_cmp job.file)) self.old.handles.entries }
+        ensures files { FilesBy self.old self.new job.op job.file result }
     {
         let Job { key, file, op, .. } = job;
         match op {

@@ -8,6 +8,7 @@ ghost use Rattle.rd_irp.specs.declared.op.Op.TheVariants as Op;
 ghost use Rattle.rd_drive.specs.Access.{deletes, writes};
 ghost use Rattle.rd_drive.specs.Outcome.{on_handle};
 ghost use Rattle.rd_drive.specs.SetFile.{set_file};
+ghost use Rattle.rd_folder_drive.specs.Files.{files_in};
 ghost use Rattle.rd_folder_drive.specs.Served.{seen, FitsBody, IfReplied, IsOver, IsOwnStatus, Serves};
 ghost use Rattle.rd_folder_drive.specs.Setting.{ends, sets_of, IsBelowRoot, IsOpenFile, HasNodeThere, MayBePending, MayNotGo, MayNotSetOpen, MaySetOpen, OfOpen, SetsPending};
 ghost use Rattle.rd_folder_drive.specs.Table.{open_at, IsSound};
@@ -103,6 +104,7 @@ impl Table {
         requires over { IsOver self.old (seen F.nodes F.faults folder.old) }
         ensures serves { Serves self.old (seen F.nodes F.faults folder.old) self.new (seen F.nodes F.faults folder.new) (λ s. on_handle s file (set_file s moment class bytes.now)) result }
         ensures waits { StaysWaiting self.old self.new result }
+        ensures files { files_in self.new ≡ files_in self.old }
         ensures fits { IfReplied result (FitsBody (Op.SetFile class bytes.now)) }
     {
         let Some((handle, opened)) = self.held(file) else {
@@ -244,6 +246,7 @@ impl Table {
         requires other { OfOpen self.old file IsBelowRoot }
         ensures serves { (moment : ℕ) → Serves self.old (seen F.nodes F.faults folder.old) self.new (seen F.nodes F.faults folder.new) (sets_of file moment count (SetInfo.Disposition pending)) result }
         ensures waits { StaysWaiting self.old self.new result }
+        ensures files { files_in self.new ≡ files_in self.old }
         ensures body { IfReplied result (λ body. body ≡ Body.Count count) }
     {
         let Some((handle, opened)) = self.held(file) else {

@@ -1,16 +1,9 @@
-use Rattle.std.proofs.Common.{◌≡◌, ◌∙◌, refl, sym, ap, subst, true, false, Bool, IsFalse, List, []}
-use Rattle.rd_base.specs.Statuses.{no_memory}
-use Rattle.rd_irp.specs.declared.op.Op.TheVariants.{Close}
-use Rattle.rd_drive.specs.declared.step.Step.{Step}
-use Rattle.rd_drive.specs.declared.step.Step.TheVariants as step
-use Rattle.rd_drive.specs.declared.step.End.{End}
+use Rattle.std.proofs.Common.{◌≡◌, ◌∙◌, sym, subst, true, false, []}
 use Rattle.rd_drive.specs.declared.plan.Job.{Job}
 use Rattle.rd_drive.specs.Device.{Parks}
 use Rattle.rd_folder_drive.specs.Waits.{parked_in}
-use Rattle.rd_drive.specs.Outcome.{fault}
 use Rattle.rd_drive.specs.Promise.{Applies}
-use Rattle.rd_drive.proofs.AnswerLemmas.{fault_answers}
-use Rattle.rd_folder_drive.specs.FolderDrive.{FolderDriveState, FolderRuns, state_over}
+use Rattle.rd_folder_drive.specs.FolderDrive.{FolderDriveState, FolderRuns}
 use Rattle.rd_folder_drive.specs.Served.{Seen, seen}
 use Rattle.rd_folder_drive.proofs.ServingLemmas.{applies_starved}
 use Rattle.rd_folder_drive.proofs.drive.FolderDriveDevice.apply.Goals as goal

@@ -1,4 +1,4 @@
-use Rattle.std.proofs.Common.{sym, ap, subst, Option, Ok, Result}
+use Rattle.std.proofs.Common.{refl, sym, ap, subst, Option, Ok, Result}
 use Rattle.rd_dirinfo.specs.Paths.{Names}
 use Rattle.rd_folder.specs.declared.folder.FolderNo.{FolderNo}
 use Rattle.rd_folder.specs.FolderCalls.{folder_remove}
@@ -87,15 +87,15 @@ returns-in-Err-clause-serves g c =
     subst (λ (r : Done). ServesClose t before c.take_off.new.self after c.args.file (Ok r)) (sym c.kept.ensures)
     (serves_not_gone t c.requires.sound c.args.file h o.0 (sym c.in-Some.ensures) o.1 c.take_off.new.self before c.requires.over
     c.in-Some-take_off.left (subst (λ (b : Option Open). IsOff t c.args.file h o.0 b c.take_off.new.self) c.in-Some-take_off.is (c.take_off.ensures h o.0 (sym c.in-Some.ensures) o.1))
-    c.if-not-left.false after c.in-Err.no (λ e. c.in-Err.ensures.memory (ap (λ (w : FolderNo). Result.Err w) e))
+    c.if-not-left.false after c.in-Err.no (λ e. c.in-Err.ensures.memory (ap (λ (w : FolderNo). Result.Err w) e)) (c.in-Some-take_off.left).folder refl
     (subst (λ (p : Names). DoesCall before.told after.told (folder_remove p) (Result.Err c.in-Err.no)) c.names.ensures.names c.in-Err.ensures.does) c.in-Err.ensures.counted
     c.closed-in-Err.result c.closed-in-Err.ensures)
 
 pub returns-in-Err-clause-fits : goal.returns-in-Err-clause-fits
-returns-in-Err-clause-fits g c = subst (λ (r : Done). IfReplied (Ok r) (FitsBody Close)) (sym c.kept.ensures) (fits_kept c.in-Err.no c.closed-in-Err.result)
+returns-in-Err-clause-fits g c = subst (λ (r : Done). IfReplied (Ok r) (FitsBody Close)) (sym c.kept.ensures) (fits_kept c.in-Err.no (c.in-Some-take_off.left).folder c.closed-in-Err.result)
 
 pub returns-in-Err-clause-fed : goal.returns-in-Err-clause-fed
-returns-in-Err-clause-fed g c = subst (λ (r : Done). IsFed (Ok r)) (sym c.kept.ensures) (fed_kept c.in-Err.no c.closed-in-Err.result (λ e. c.in-Err.ensures.memory (ap (λ (w : FolderNo). Result.Err w) e)))
+returns-in-Err-clause-fed g c = subst (λ (r : Done). IsFed (Ok r)) (sym c.kept.ensures) (fed_kept c.in-Err.no (c.in-Some-take_off.left).folder c.closed-in-Err.result (λ e. c.in-Err.ensures.memory (ap (λ (w : FolderNo). Result.Err w) e)))
 
 pub returns-in-Err-clause-handles : goal.returns-in-Err-clause-handles
 returns-in-Err-clause-handles g c =

@@ -19,6 +19,7 @@ use Rattle.rd_folder_drive.proofs.RelistedLemmas.{relists_sound}
 use Rattle.rd_folder_drive.proofs.AskLemmas.{calm_by}
 use Rattle.rd_folder_drive.proofs.ServeLemmas.{done_with, held_by, refused_at_once, refused_by, refused_with}
 use Rattle.rd_folder_drive.specs.declared.table.Table.{Table}
+use Rattle.rd_folder_drive.proofs.FilesLemmas.{files_relisted}
 use Rattle.rd_folder_drive.proofs.table.Table.list_anew.Goals as goal
 
 pub returns-in_default-clause-serves : goal.returns-in_default-clause-serves
@@ -78,3 +79,9 @@ returns-in-Err-clause-serves g c =
     let there = (held_by t before c.requires.over nodes told).there h.node o c.in-Some.ensures.some.1 in
     ap (has_folder (drive_over nodes)) c.names.ensures.names
     ∙ ap (λ (found : Option Node). option_map_or is_folder_node found false) there.1 ∙ there.2 ∙ c.requires.folds h o c.in-Some.ensures.some.0 c.in-Some.ensures.some.1))
+
+pub returns-in-Ok-None-clause-files : goal.returns-in-Ok-None-clause-files
+returns-in-Ok-None-clause-files g c = files_relisted c.args.self.now c.set_listing.new.self c.args.file _ _ _ (c.set_listing.ensures (c.in-Some.field-0-0).now c.in-Some.ensures.some.0)
+
+pub returns-in-Ok-Some-clause-files : goal.returns-in-Ok-Some-clause-files
+returns-in-Ok-Some-clause-files g c = files_relisted c.args.self.now c.set_listing-in-Ok-Some.new.self c.args.file _ _ _ (c.set_listing-in-Ok-Some.ensures (c.in-Some.field-0-0).now c.in-Some.ensures.some.0)

@@ -17,6 +17,7 @@ use Rattle.rd_folder_drive.proofs.RelistedLemmas.{relists_sound}
 use Rattle.rd_folder_drive.proofs.AskLemmas.{calm_by}
 use Rattle.rd_folder_drive.proofs.ServeLemmas.{done_with, refused_at_once, refused_so}
 use Rattle.rd_folder_drive.specs.declared.table.Table.{Table}
+use Rattle.rd_folder_drive.proofs.FilesLemmas.{files_relisted}
 use Rattle.rd_folder_drive.proofs.table.Table.list_on.Goals as goal
 
 -- a reference's value, in either word
@@ -51,3 +52,6 @@ returns-in-Ok-Some-clause-serves g c units =
 
 pub returns-in-Ok-Some-clause-waits : goal.returns-in-Ok-Some-clause-waits
 returns-in-Ok-Some-clause-waits g c = ap (λ (t : Table). t.waiting) (c.set_last.ensures (c.in-Some.handle).now c.in-Some.ensures.some.0).rest
+
+pub returns-in-Ok-Some-clause-files : goal.returns-in-Ok-Some-clause-files
+returns-in-Ok-Some-clause-files g c = files_relisted c.args.self.now c.set_last.new.self c.args.file _ _ _ (c.set_last.ensures (c.in-Some.handle).now c.in-Some.ensures.some.0)

@@ -9,6 +9,7 @@ use Rattle.rd_folder_drive.specs.Opening.{MayHold}
 use Rattle.rd_folder_drive.specs.Served.{Seen, Serves, seen}
 use Rattle.rd_folder_drive.proofs.HoldLemmas.{serves_before, waiting_same}
 use Rattle.rd_folder_drive.proofs.MadeLemmas.{call_at, make_does, serves_made, serves_refused}
+use Rattle.rd_folder_drive.proofs.FilesLemmas.{files_before, opens_next}
 use Rattle.rd_folder_drive.proofs.table.Table.make.Goals as goal
 
 pub returns-in-Err-clause-serves : goal.returns-in-Err-clause-serves
@@ -62,3 +63,16 @@ pub returns-in-Err-make-clause-waits : goal.returns-in-Err-make-clause-waits
 returns-in-Err-make-clause-waits g c =
     waiting_same c.args.self.now c.requires.sound c.take_back.new.self
     (c.take_back.ensures.alike c.args.self.now (record { sound = c.requires.sound; given = c.next_file-file.ensures; path = c.args.path; folder = c.wants_folder-is_folder.result; found = None; holds = c.in-Ok.ensures.held }))
+
+pub returns-in-Err-make-clause-files : goal.returns-in-Err-make-clause-files
+returns-in-Err-make-clause-files g c =
+    files_before c.args.self.now c.take_back.new.self
+    (c.take_back.ensures.alike c.args.self.now (record { sound = c.requires.sound; given = c.next_file-file.ensures; path = c.args.path; folder = c.wants_folder-is_folder.result; found = None; holds = c.in-Ok.ensures.held }))
+
+pub returns-in-Err-clause-files : goal.returns-in-Err-clause-files
+returns-in-Err-clause-files g c = files_before c.args.self.now c.hold.new.self c.in-Err.ensures.err
+
+pub returns-in-Ok-make-clause-files : goal.returns-in-Ok-make-clause-files
+returns-in-Ok-make-clause-files g c =
+    opens_next c.args.self.now c.requires.sound c.args.asked c.args.path c.wants_folder-is_folder.result None c.in-Ok.node c.hold.new.self c.in-Ok.ensures.held
+    c.next_file-file.result 0 c.next_file-file.ensures c.changed.result

@@ -8,6 +8,8 @@ use Rattle.rd_folder_drive.proofs.AloneLemmas.{alone_refused}
 use Rattle.rd_folder_drive.proofs.NotifyLemmas.{notify_file, notify_full, notify_waits}
 use Rattle.rd_folder_drive.proofs.ParkLemmas.{alone_parked, waits_last}
 use Rattle.rd_folder_drive.proofs.TableLemmas.{unopened}
+use Rattle.rd_folder_drive.specs.declared.table.Table.{Table}
+use Rattle.rd_folder_drive.specs.Files.{files_in}
 use Rattle.rd_folder_drive.proofs.table.Table.notify.Goals as goal
 
 pub returns-in_default-clause-serves : goal.returns-in_default-clause-serves
@@ -40,3 +42,6 @@ returns-clause-serves c =
 
 pub returns-clause-waits : goal.returns-clause-waits
 returns-clause-waits c = waits_last c.args.self.now c.args.self.now _ _ _ c.park.ensures refl
+
+pub returns-clause-files : goal.returns-clause-files
+returns-clause-files c = ap (λ (t : Table). files_in t) c.park.ensures.same

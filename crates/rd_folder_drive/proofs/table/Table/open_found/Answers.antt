@@ -13,6 +13,7 @@ use Rattle.rd_folder_drive.proofs.HoldLemmas.{serves_before}
 use Rattle.rd_folder_drive.proofs.MadeLemmas.{serves_plain}
 use Rattle.rd_folder_drive.proofs.RenameLemmas.{is_true}
 use Rattle.rd_folder_drive.proofs.ServeLemmas.{held_by, refused_so}
+use Rattle.rd_folder_drive.proofs.FilesLemmas.{files_before, opens_next}
 use Rattle.rd_folder_drive.proofs.table.Table.open_found.Goals as goal
 
 pub returns-then-not-is_of_kind-clause-serves : goal.returns-then-not-is_of_kind-clause-serves
@@ -89,3 +90,11 @@ pub returns-in-Err-clause-serves : goal.returns-in-Err-clause-serves
 returns-in-Err-clause-serves g c =
     let before : Seen = seen g.F.Folder.nodes g.F.Folder.faults c.args.folder.now in
     serves_before c.args.self.now c.requires.sound c.hold.new.self c.in-Err.ensures.err before before c.requires.over refl (λ s. create_at s c.args.moment c.args.asked c.args.path) c.in-Err.no (inl (c.in-Err.ensures.no_memory, refl))
+
+pub returns-in-Ok-clause-files : goal.returns-in-Ok-clause-files
+returns-in-Ok-clause-files g c =
+    opens_next c.args.self.now c.requires.sound c.args.asked c.args.path c.args.look.now.folder c.at-found.result c.in-Ok.field-0 c.hold.new.self c.in-Ok.ensures.held
+    c.next_file-file.result c.information.result c.next_file-file.ensures c.none.result
+
+pub returns-in-Err-clause-files : goal.returns-in-Err-clause-files
+returns-in-Err-clause-files g c = files_before c.args.self.now c.hold.new.self c.in-Err.ensures.err

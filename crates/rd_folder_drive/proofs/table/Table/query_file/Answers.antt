@@ -1,5 +1,4 @@
-use Rattle.std.proofs.Common.{◌≡◌, ◌∙◌, refl, sym, ap, subst, inl, inr, ◌≤◌, length, ℕ, List, [], ◌++◌, Option, Some, None, Ok, Err}
-use Rattle.std.proofs.lemmas.Option.{same_Some}
+use Rattle.std.proofs.Common.{◌≡◌, ◌∙◌, refl, sym, ap, subst, ◌≤◌, length, ℕ, List, ◌++◌, Some, Err}
 use Rattle.std.specs.Option.{option_map}
 use Rattle.rd_base.specs.Statuses.{invalid_handle, invalid_info_class}
 use Rattle.rd_base.specs.declared.status.Status.{Status}
@@ -13,7 +12,6 @@ use Rattle.rd_drive.specs.DriveState.{Node}
 use Rattle.rd_drive.specs.Outcome.{no_news, on_handle, succeeded}
 use Rattle.rd_drive.specs.Query.{query_file}
 use Rattle.rd_folder.specs.FolderCalls.{node_there, look_of, folder_look, look_of}
-use Rattle.rd_folder.specs.declared.look.Look.{Look}
 use Rattle.rd_folder_drive.specs.Served.{Seen, Serves, seen}
 use Rattle.rd_folder_drive.specs.Table.{drive_of}
 use Rattle.rd_folder_drive.proofs.AskLemmas.{answer_is, asks_same, calm_by, looks}

@@ -6,6 +6,7 @@ use Rattle.rd_folder.specs.FolderCalls.{folder_replace, with_put}
 use Rattle.rd_folder_drive.specs.Served.{Seen, Serves, seen}
 use Rattle.rd_folder_drive.proofs.HoldLemmas.{serves_before, waiting_same}
 use Rattle.rd_folder_drive.proofs.MadeLemmas.{call_at, replace_does, serves_refused, serves_replaced}
+use Rattle.rd_folder_drive.proofs.FilesLemmas.{files_before, opens_next}
 use Rattle.rd_folder_drive.proofs.table.Table.replace.Goals as goal
 
 pub returns-in-Err-clause-serves : goal.returns-in-Err-clause-serves
@@ -51,3 +52,16 @@ pub returns-in-Err-replace-clause-waits : goal.returns-in-Err-replace-clause-wai
 returns-in-Err-replace-clause-waits g c =
     waiting_same c.args.self.now c.requires.sound c.take_back.new.self
     (c.take_back.ensures.alike c.args.self.now (record { sound = c.requires.sound; given = c.next_file-file.ensures; path = c.args.path; folder = false; found = c.args.found; holds = c.in-Ok.ensures.held }))
+
+pub returns-in-Err-replace-clause-files : goal.returns-in-Err-replace-clause-files
+returns-in-Err-replace-clause-files g c =
+    files_before c.args.self.now c.take_back.new.self
+    (c.take_back.ensures.alike c.args.self.now (record { sound = c.requires.sound; given = c.next_file-file.ensures; path = c.args.path; folder = false; found = c.args.found; holds = c.in-Ok.ensures.held }))
+
+pub returns-in-Err-clause-files : goal.returns-in-Err-clause-files
+returns-in-Err-clause-files g c = files_before c.args.self.now c.hold.new.self c.in-Err.ensures.err
+
+pub returns-in-Ok-replace-clause-files : goal.returns-in-Ok-replace-clause-files
+returns-in-Ok-replace-clause-files g c =
+    opens_next c.args.self.now c.requires.sound c.args.asked c.args.path false c.args.found c.in-Ok.node c.hold.new.self c.in-Ok.ensures.held
+    c.next_file-file.result c.information.result c.next_file-file.ensures c.changed.result

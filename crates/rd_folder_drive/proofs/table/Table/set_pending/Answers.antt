@@ -7,6 +7,7 @@ use Rattle.rd_folder_drive.proofs.PendingLemmas.{mark_refused, mark_serves}
 use Rattle.rd_folder_drive.proofs.ServeLemmas.{refused_at_once}
 use Rattle.rd_folder_drive.proofs.TableLemmas.{unopened}
 use Rattle.rd_folder_drive.specs.declared.table.Table.{Table}
+use Rattle.rd_folder_drive.specs.Files.{files_in}
 use Rattle.rd_folder_drive.proofs.table.Table.set_pending.Goals as goal
 
 pub returns-in_default-clause-serves : goal.returns-in_default-clause-serves
@@ -41,3 +42,9 @@ returns-in-Ok-clause-waits g c = ap (λ (t : Table). t.waiting) (c.mark.ensures 
 
 pub returns-clause-waits : goal.returns-clause-waits
 returns-clause-waits g c = ap (λ (t : Table). t.waiting) (c.mark-2.ensures (c.in-Some.opened).now c.in-Some.ensures.some.1).rest
+
+pub returns-in-Ok-clause-files : goal.returns-in-Ok-clause-files
+returns-in-Ok-clause-files g c = ap (λ (t : Table). files_in t) (c.mark.ensures (c.in-Some.opened).now c.in-Some.ensures.some.1).rest
+
+pub returns-clause-files : goal.returns-clause-files
+returns-clause-files g c = ap (λ (t : Table). files_in t) (c.mark-2.ensures (c.in-Some.opened).now c.in-Some.ensures.some.1).rest

@@ -15,6 +15,8 @@ use Rattle.rd_folder_drive.proofs.LockLemmas.{open_home}
 use Rattle.rd_folder_drive.proofs.LockingLemmas.{lock_denied, lock_waits, opens_some, wait_full, wait_refused}
 use Rattle.rd_folder_drive.proofs.ParkLemmas.{alone_parked, waits_last}
 use Rattle.rd_folder_drive.proofs.table.Table.wait_for_ranges.Goals.{then-len-ge-MAX_WAITING-via-then-len-ge-MAX_WAITING, then-len-ge-MAX_WAITING-via-else-len-ge-MAX_WAITING+then-count-gt-MAX_LOCKS}
+use Rattle.rd_folder_drive.specs.declared.table.Table.{Table}
+use Rattle.rd_folder_drive.specs.Files.{files_in}
 use Rattle.rd_folder_drive.proofs.table.Table.wait_for_ranges.Goals as goal
 
 pub returns-then-is_some-clause-serves : goal.returns-then-is_some-clause-serves
@@ -83,7 +85,11 @@ returns c =
       serves = alone_starved t (λ s. lock_ranges s c.args.key c.args.file (path_at t c.args.node) c.args.exclusive true c.args.ranges) c.requires.sound _ (ap (λ (ls : LockList). record t { locks = ls }) c.in-Err.ensures.err);
       unreplied = tt;
       waits = refl;
+      files = refl;
     }
 
 pub returns-in-Ok-clause-waits : goal.returns-in-Ok-clause-waits
 returns-in-Ok-clause-waits c = waits_last c.args.self.now _ _ _ _ c.park.ensures refl
+
+pub returns-in-Ok-clause-files : goal.returns-in-Ok-clause-files
+returns-in-Ok-clause-files c = ap (λ (t : Table). files_in t) c.park.ensures.same
