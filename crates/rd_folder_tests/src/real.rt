@@ -19,7 +19,7 @@ static MADE: [Row<'static>; 8] = [
     Row::Done(Act::Read("\\a", 2, 99, b"\0tail")),
     Row::Done(Act::Mark("\\a", YEAR_2020)),
     Row::Done(Act::Rename("\\a", "\\sub\\b")),
-    Row::Refused(Act::Remove("\\sub"), FolderNo::Failed),
+    Row::Refused(Act::Remove("\\sub"), FolderNo::Missing),
     Row::Done(Act::Resize("\\sub\\b", 4)),
 ];
 
