@@ -1,2 +1,4 @@
 pub mod HostedLemmas
+pub mod PassLemmas
+pub mod SendLemmas
 pub mod ServingLemmas

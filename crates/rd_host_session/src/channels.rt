@@ -12,15 +12,18 @@ ghost use Rattle.rd_host_player.specs.Play.{Begins, Plays, PlaysOut};
 use rd_base::Source;
 use rd_carry::{Ended, Incoming, Outgoing};
 use rd_host_channel::{Ending, Listened, Sent, listen, send};
-use rd_host_front::{Came, TableTurn};
+use rd_host_front::{Came, HostFrontCall, HostFrontReply, TableTurn};
 use rd_host_player::{HandsBack, Player, Stop};
 use rd_link::{Hang, Linker};
 use rd_room::Room;
 use rd_sleepers::Sleepers;
 use rd_turn::{Caller, Object, Pass, Turn};
 use std::alloc::{AllocError, Global};
+use std::marker::PhantomData;
+use std::snapshot::Snapshot;
 use std::sync::Wait;
-use std::thread::{Threads, join};
+use std::thread;
+use std::thread::{Promise, PromisedHandle, Scope, SpawnError, Threads};
 
 /// How many bytes one read asks for.
 const READ_LEN: usize = 65_536;
@@ -155,7 +158,7 @@ struct Halves<S: Source + Drop, K: Hang + Drop> {
     starved: bool,
 }
 
-/// Serves a channel that began: this thread reads it, one writes it, and in another one the script is played.
+/// Serves a channel that began: this thread plays the script, one beside it writes the channel, and another one reads it.
 fn serve<
     'f,
     's,
@@ -190,17 +193,19 @@ fn serve<
         reader: reader.into_pass(),
         writer: writer.into_pass(),
     };
-    let ((stop, player), served) = serve_beside(
+    let ((stop, player), read, written) = serve_beside(
         rt, sleepers, channel, devices, player, passes, incoming, outgoing, room,
     );
-    let Served {
-        reader,
+    let ReadHalf {
+        pass: reader,
         ending,
         incoming,
-        writer,
+    } = read;
+    let WrittenHalf {
+        pass: writer,
         outgoing,
         starved,
-    } = served;
+    } = written;
     let halves = Halves {
         incoming,
         ending,
@@ -251,18 +256,79 @@ impl<'t, F: Object> Drop for Passes<'t, F> {
     }
 }
 
-/// What the two threads of a channel gave back.
+/// What the thread that reads a channel gives back.
 #[derive(Drop)]
-struct Served<F: Object, S: Source + Drop, K: Hang + Drop> {
-    reader: Pass<F>,
+struct ReadHalf<F: Object, S: Source + Drop> {
+    pass: Pass<F>,
+    /// Why it is read no further.
     ending: Ending,
     incoming: Incoming<S>,
-    writer: Pass<F>,
+}
+
+/// What it promises of that: it read a channel, by the pass and from the half that it was given, and the pass comes back to its turn, whichever that is.
+struct Reading<W: TableTurn, F: Object, S: Source + Drop> {
+    channel: u32,
+    pass: Snapshot<Pass<F>>,
+    incoming: Snapshot<Incoming<S>>,
+    of: PhantomData<W>,
+}
+
+impl<
+    W: TableTurn,
+    F: Object<Call = HostFrontCall<W>, Reply = HostFrontReply<W>>,
+    S: Source + Drop,
+> Promise<ReadHalf<F, S>> for Reading<W, F, S> {
+    ghost kept_by = { λ p r. ((turn : _) → Belongs turn p.pass.value → Belongs turn r.pass × ComesBack turn p.pass.value r.pass) × Listens p.channel r.ending p.pass.value r.pass p.incoming.value r.incoming };
+}
+
+impl<W: TableTurn, F: Object, S: Source + Drop> Drop for Reading<W, F, S> {
+    fn drop(self) {
+        let Self {
+            channel: _,
+            pass: _,
+            incoming: _,
+            of: _,
+        } = self;
+    }
+}
+
+/// What the thread that writes a channel gives back.
+#[derive(Drop)]
+struct WrittenHalf<F: Object, K: Hang + Drop> {
+    pass: Pass<F>,
     outgoing: Outgoing<K>,
+    /// Whether no memory was found for a message.
     starved: bool,
 }
 
-/// The script is played in one thread, and beside it a channel is read and written.
+/// What it promises of that: it wrote a channel, by the pass and to the half that it was given, and the pass comes back to its turn, whichever that is.
+struct Writing<W: TableTurn, F: Object, K: Hang + Drop> {
+    channel: u32,
+    pass: Snapshot<Pass<F>>,
+    outgoing: Snapshot<Outgoing<K>>,
+    of: PhantomData<W>,
+}
+
+impl<
+    W: TableTurn,
+    F: Object<Call = HostFrontCall<W>, Reply = HostFrontReply<W>>,
+    K: Hang + Drop,
+> Promise<WrittenHalf<F, K>> for Writing<W, F, K> {
+    ghost kept_by = { λ p r. ((turn : _) → Belongs turn p.pass.value → Belongs turn r.pass × ComesBack turn p.pass.value r.pass) × Sends p.channel r.starved p.pass.value r.pass p.outgoing.value r.outgoing };
+}
+
+impl<W: TableTurn, F: Object, K: Hang + Drop> Drop for Writing<W, F, K> {
+    fn drop(self) {
+        let Self {
+            channel: _,
+            pass: _,
+            outgoing: _,
+            of: _,
+        } = self;
+    }
+}
+
+/// This thread plays the script, and beside it a channel is written and read, each by a thread of its own. Where one of the two can't be started the channel is over, and so is the session.
 fn serve_beside<
     'f,
     's,
@@ -284,67 +350,214 @@ fn serve_beside<
     room: Room,
 ) -> (
     (Result<Stop, AllocError>, Player<'f, 's, W, F, T>),
-    Served<F, S, K>,
+    ReadHalf<F, S>,
+    WrittenHalf<F, K>,
 )
     ensures plays { IfOk result.0.0 (λ why. Plays W.turn devices why player.entry result.0.1) }
-    ensures reader { Belongs passes.entry.front.now result.1.reader × ComesBack passes.entry.front.now passes.entry.reader result.1.reader }
-    ensures writer { Belongs passes.entry.front.now result.1.writer × ComesBack passes.entry.front.now passes.entry.writer result.1.writer }
-    ensures listens { Listens channel result.1.ending passes.entry.reader result.1.reader incoming result.1.incoming }
-    ensures sends { Sends channel result.1.starved passes.entry.writer result.1.writer outgoing result.1.outgoing }
+    ensures reader { Belongs passes.entry.front.now result.1.pass × ComesBack passes.entry.front.now passes.entry.reader result.1.pass }
+    ensures writer { Belongs passes.entry.front.now result.2.pass × ComesBack passes.entry.front.now passes.entry.writer result.2.pass }
+    ensures listens { Listens channel result.1.ending passes.entry.reader result.1.pass incoming result.1.incoming }
+    ensures sends { Sends channel result.2.starved passes.entry.writer result.2.pass outgoing result.2.outgoing }
 {
-    join(
+    thread::scope(
+        thread::scope_env(),
         rt,
-        || -> (Result<Stop, AllocError>, Player<W, F, T>)
-            ensures { IfOk result.0 (λ why. Plays W.turn devices why player.entry result.1) }
-        { play(channel, devices, player) },
-        || serve_halves(rt, sleepers, channel, passes, incoming, outgoing, room),
+        |scope| -> (
+            (Result<Stop, AllocError>, Player<W, F, T>),
+            ReadHalf<F, S>,
+            WrittenHalf<F, K>,
+        )
+            ensures plays { IfOk result.0.0 (λ why. Plays W.turn devices why player.entry result.0.1) }
+            ensures reader { Belongs passes.entry.front.now result.1.pass × ComesBack passes.entry.front.now passes.entry.reader result.1.pass }
+            ensures writer { Belongs passes.entry.front.now result.2.pass × ComesBack passes.entry.front.now passes.entry.writer result.2.pass }
+            ensures listens { Listens channel result.1.ending passes.entry.reader result.1.pass incoming result.1.incoming }
+            ensures sends { Sends channel result.2.starved passes.entry.writer result.2.pass outgoing result.2.outgoing }
+        {
+            write_beside(
+                scope, rt, sleepers, channel, devices, player, passes, incoming, outgoing, room,
+            )
+        },
     )
 }
 
-/// This thread reads a channel, and one beside it writes it.
-fn serve_halves<
-    't,
-    W: TableTurn + Send + 't,
-    F: HandsBack<W> + Send + 't,
-    S: Source + Drop,
-    K: Hang + Send + Drop,
-    T: Threads + Wait + Sync,
+/// Starts the thread that writes, and goes on beside it. Where it can't be started the channel is over before anything is written or read, and both are done here: each finds that at once.
+fn write_beside<
+    'x,
+    'e: 'x,
+    'f,
+    's,
+    't: 'x,
+    W: TableTurn + Send + 'f + 'x,
+    F: HandsBack<W> + Send + 'f + 't,
+    S: Source + Send + Drop + 'x,
+    K: Hang + Send + Drop + 'x,
+    T: Threads + Wait + Sync + 'x,
 >(
-    rt: &T,
-    sleepers: &Sleepers,
+    scope: &Scope<'x, &'e ()>,
+    rt: &'x T,
+    sleepers: &'x Sleepers,
     channel: u32,
+    devices: u32,
+    player: Player<'f, 's, W, F, T>,
     passes: Passes<'t, F>,
     incoming: Incoming<S>,
     outgoing: Outgoing<K>,
     room: Room,
-) -> Served<F, S, K>
-    ensures reader { Belongs passes.entry.front.now result.reader × ComesBack passes.entry.front.now passes.entry.reader result.reader }
-    ensures writer { Belongs passes.entry.front.now result.writer × ComesBack passes.entry.front.now passes.entry.writer result.writer }
-    ensures listens { Listens channel result.ending passes.entry.reader result.reader incoming result.incoming }
-    ensures sends { Sends channel result.starved passes.entry.writer result.writer outgoing result.outgoing }
+) -> (
+    (Result<Stop, AllocError>, Player<'f, 's, W, F, T>),
+    ReadHalf<F, S>,
+    WrittenHalf<F, K>,
+)
+    ensures plays { IfOk result.0.0 (λ why. Plays W.turn devices why player.entry result.0.1) }
+    ensures reader { Belongs passes.entry.front.now result.1.pass × ComesBack passes.entry.front.now passes.entry.reader result.1.pass }
+    ensures writer { Belongs passes.entry.front.now result.2.pass × ComesBack passes.entry.front.now passes.entry.writer result.2.pass }
+    ensures listens { Listens channel result.1.ending passes.entry.reader result.1.pass incoming result.1.incoming }
+    ensures sends { Sends channel result.2.starved passes.entry.writer result.2.pass outgoing result.2.outgoing }
 {
+    let mut player = player;
     let (reader, writer) = passes.into_callers();
-    let (sent, listened) = join(
-        rt,
-        || send(rt, sleepers, channel, writer, room, outgoing),
-        || listen(rt, sleepers, channel, reader, incoming),
-    );
+    let promise = Writing {
+        channel,
+        pass: Snapshot::of(&writer.pass),
+        outgoing: Snapshot::of(&outgoing),
+        of: PhantomData,
+    };
+    match scope.spawn_with(
+        promise,
+        move || -> WrittenHalf<F, K>
+            ensures back { (turn : _) → Belongs turn writer.entry.pass → Belongs turn result.pass × ComesBack turn writer.entry.pass result.pass }
+            ensures sends { Sends channel result.starved writer.entry.pass result.pass outgoing result.outgoing }
+        { write_half(rt, sleepers, channel, writer, room, outgoing) },
+    ) {
+        Ok(writing) => read_beside(
+            scope, rt, sleepers, channel, devices, player, reader, incoming, writing,
+        ),
+        Err(refused) => {
+            let SpawnError { value: write } = refused;
+            player.give_up(channel);
+            let written = write();
+            let read = read_half(rt, sleepers, channel, reader, incoming);
+            ((Err(AllocError), player), read, written)
+        }
+    }
+}
+
+/// Starts the thread that reads, and plays the script beside it and the one that writes. Where it can't be started the channel is over: the one that writes finds that and hangs up, so what is read here comes to its end.
+fn read_beside<
+    'x,
+    'e: 'x,
+    'f,
+    's,
+    't: 'x,
+    W: TableTurn + Send + 'f + 'x,
+    F: HandsBack<W> + Send + 'f + 't,
+    S: Source + Send + Drop + 'x,
+    K: Hang + Send + Drop + 'x,
+    T: Threads + Wait + Sync + 'x,
+>(
+    scope: &Scope<'x, &'e ()>,
+    rt: &'x T,
+    sleepers: &'x Sleepers,
+    channel: u32,
+    devices: u32,
+    player: Player<'f, 's, W, F, T>,
+    reader: Caller<'t, F>,
+    incoming: Incoming<S>,
+    writing: PromisedHandle<WrittenHalf<F, K>, Writing<W, F, K>>,
+) -> (
+    (Result<Stop, AllocError>, Player<'f, 's, W, F, T>),
+    ReadHalf<F, S>,
+    WrittenHalf<F, K>,
+)
+    ensures plays { IfOk result.0.0 (λ why. Plays W.turn devices why player.entry result.0.1) }
+    ensures reader { (turn : _) → Belongs turn reader.entry.pass → Belongs turn result.1.pass × ComesBack turn reader.entry.pass result.1.pass }
+    ensures writer { (turn : _) → Belongs turn writing.promise.pass.value → Belongs turn result.2.pass × ComesBack turn writing.promise.pass.value result.2.pass }
+    ensures listens { Listens channel result.1.ending reader.entry.pass result.1.pass incoming result.1.incoming }
+    ensures sends { Sends writing.promise.channel result.2.starved writing.promise.pass.value result.2.pass writing.promise.outgoing.value result.2.outgoing }
+{
+    let mut player = player;
+    let promise = Reading {
+        channel,
+        pass: Snapshot::of(&reader.pass),
+        incoming: Snapshot::of(&incoming),
+        of: PhantomData,
+    };
+    match scope.spawn_with(
+        promise,
+        move || -> ReadHalf<F, S>
+            ensures back { (turn : _) → Belongs turn reader.entry.pass → Belongs turn result.pass × ComesBack turn reader.entry.pass result.pass }
+            ensures listens { Listens channel result.ending reader.entry.pass result.pass incoming result.incoming }
+        { read_half(rt, sleepers, channel, reader, incoming) },
+    ) {
+        Ok(reading) => {
+            let played = play(channel, devices, player);
+            let read = reading.join(rt);
+            (played, read, writing.join(rt))
+        }
+        Err(refused) => {
+            let SpawnError { value: read } = refused;
+            player.give_up(channel);
+            let read = read();
+            ((Err(AllocError), player), read, writing.join(rt))
+        }
+    }
+}
+
+/// Reads a channel to its end. The pass comes back alone.
+fn read_half<
+    't,
+    W: TableTurn,
+    F: Object<Call = HostFrontCall<W>, Reply = HostFrontReply<W>>,
+    S: Source + Drop,
+    T: Wait,
+>(
+    rt: &T,
+    sleepers: &Sleepers,
+    channel: u32,
+    front: Caller<'t, F>,
+    incoming: Incoming<S>,
+) -> ReadHalf<F, S>
+    ensures back { (turn : _) → Belongs turn front.entry.pass → Belongs turn result.pass × ComesBack turn front.entry.pass result.pass }
+    ensures listens { Listens channel result.ending front.entry.pass result.pass incoming result.incoming }
+{
     let Listened {
         ending,
-        front: reader,
+        front,
         incoming,
-    } = listened;
-    let Sent {
-        front: writer,
-        output: outgoing,
-        starved,
-    } = sent;
-    Served {
-        reader: reader.into_pass(),
+    } = listen(rt, sleepers, channel, front, incoming);
+    ReadHalf {
+        pass: front.into_pass(),
         ending,
         incoming,
-        writer: writer.into_pass(),
-        outgoing,
+    }
+}
+
+/// Writes a channel to its end. The pass comes back alone.
+fn write_half<
+    't,
+    W: TableTurn,
+    F: Object<Call = HostFrontCall<W>, Reply = HostFrontReply<W>>,
+    K: Hang + Drop,
+    T: Wait,
+>(
+    rt: &T,
+    sleepers: &Sleepers,
+    channel: u32,
+    front: Caller<'t, F>,
+    room: Room,
+    outgoing: Outgoing<K>,
+) -> WrittenHalf<F, K>
+    ensures back { (turn : _) → Belongs turn front.entry.pass → Belongs turn result.pass × ComesBack turn front.entry.pass result.pass }
+    ensures sends { Sends channel result.starved front.entry.pass result.pass outgoing result.outgoing }
+{
+    let Sent {
+        front,
+        output,
+        starved,
+    } = send(rt, sleepers, channel, front, room, outgoing);
+    WrittenHalf {
+        pass: front.into_pass(),
+        outgoing: output,
         starved,
     }
 }

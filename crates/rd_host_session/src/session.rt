@@ -31,7 +31,7 @@ use std::thread::Threads;
 const CLIENT_ID: u32 = 1;
 
 /// Plays the application lines of a script on the channels of a linker, which it takes one after the other as the script says. Gives what came of each line, by its application and its place among the lines of that,
-/// and how the session ended. Where memory ran out, or no thread can be made, nothing is told of the lines.
+/// and how the session ended. Where memory ran out, or a thread of a channel can't be started, nothing is told of the lines.
 pub fn serve_host<R: Threads + Wait + Sync, L: Linker>(
     rt: &R,
     alloc: Global,

@@ -23,10 +23,11 @@ join-requires-in-Ok-clause-at g c κs within =
 
 pub returns-in-Ok : goal.returns-in-Ok
 returns-in-Ok g c =
-    let served = c.serve_beside-player.result.1 in
+    let read = c.serve_beside-player.result.1 in
+    let written = c.serve_beside-player.result.2 in
     let plays = of_ok (λ (why : Stop). Plays g.W.TableTurn.turn c.args.devices why c.split-writer.new.self c.serve_beside-player.result.0.1) c.serve_beside-player.result.0.0 c.in-Ok.why c.in-Ok.is c.serve_beside-player.ensures.plays in
-    serves_begun g.W.TableTurn.turn c.args.devices c.args.channel c.in-Ok.why served.ending served.starved c.args.incoming served.incoming c.args.outgoing served.outgoing c.args.player c.split-reader.new.self
-    c.split-writer.new.self c.serve_beside-player.result.0.1 c.join.new.self c.join-in-Ok.new.self _ _ served.reader served.writer _ _ c.split-reader.ensures.kept c.split-writer.ensures.kept
+    serves_begun g.W.TableTurn.turn c.args.devices c.args.channel c.in-Ok.why read.ending written.starved c.args.incoming read.incoming c.args.outgoing written.outgoing c.args.player c.split-reader.new.self
+    c.split-writer.new.self c.serve_beside-player.result.0.1 c.join.new.self c.join-in-Ok.new.self _ _ read.pass written.pass _ _ c.split-reader.ensures.kept c.split-writer.ensures.kept
     (c.into_pass.ensures.same ∙ c.split-reader.ensures.given) (c.into_pass-2.ensures.same ∙ c.split-writer.ensures.given)
     (subst (λ (p : HostPass g.row.F.Denot g.row.W.Denot). calls_of p.number p.seen ≡ []) (sym c.into_pass.ensures.same) c.split-reader.ensures.fresh)
     (subst (λ (p : HostPass g.row.F.Denot g.row.W.Denot). calls_of p.number p.seen ≡ []) (sym c.into_pass-2.ensures.same) c.split-writer.ensures.fresh) plays c.serve_beside-player.ensures.listens c.serve_beside-player.ensures.sends c.new.ensures.1
