@@ -7,8 +7,8 @@ use crate::nodes::copy_of;
 use rd_base::Units;
 use std::alloc::Global;
 
-/// How many files are kept open.
-const PLACES: usize = 8;
+/// How many files are kept open: few enough that 32 drives keep fewer than the 1,024 that a process mostly may have.
+const PLACES: usize = 24;
 
 /// A file that is kept open.
 #[derive(Drop)]

@@ -53,6 +53,16 @@ fn done(status: i32) -> io::Result<()> {
     Ok(())
 }
 
+/// A path that means what is open, as long as it is.
+fn path_to(fd: &OwnedFd) -> io::Result<ArrayString<MOST>> {
+    let mut path = ArrayString::new();
+    let fd = fd.as_raw_fd();
+    match write!(path, "/proc/self/fd/{fd}") {
+        Ok(()) => Ok(path),
+        Err(_) => Err(Error::from(ErrorKind::InvalidFilename)),
+    }
+}
+
 /// Whether two looks saw one and the same thing.
 fn is_same(a: &Metadata, b: &Metadata) -> bool {
     a.dev() == b.dev()
@@ -89,12 +99,7 @@ impl Place {
 
     /// A path that means the folder itself, as long as it is open.
     pub fn own_path(&self) -> io::Result<ArrayString<MOST>> {
-        let mut path = ArrayString::new();
-        let fd = self.fd.as_raw_fd();
-        match write!(path, "/proc/self/fd/{fd}") {
-            Ok(()) => Ok(path),
-            Err(_) => Err(Error::from(ErrorKind::InvalidFilename)),
-        }
+        path_to(&self.fd)
     }
 
     /// A path that means a name in the folder, as long as it is open.
@@ -119,6 +124,24 @@ impl Place {
         fs::symlink_metadata(rt, path.as_str())
     }
 
+    /// What stands under a name, held open. A pipe that took a file's place would let whoever reads it wait for a writer, so a file is held to be
+    /// written too, if that is allowed.
+    fn hold(&self, name: &OneName, is_folder: bool) -> io::Result<OwnedFd> {
+        if is_folder {
+            let folder = self.below(name)?;
+            return Ok(folder.fd);
+        }
+        let path = self.path_of(name)?;
+        let mut fd = os::open_update(path.as_bytes());
+        if fd < 0 {
+            fd = os::open_read(path.as_bytes());
+        }
+        if fd < 0 {
+            return Err(Error::from_raw_os_error(os::errno()));
+        }
+        Ok(unsafe { OwnedFd::from_raw_fd(fd) })
+    }
+
     /// Opens what stands under a name, of which a look was taken. What took its place since is refused.
     pub fn open<R: Files>(
         &self,
@@ -127,16 +150,16 @@ impl Place {
         seen: &Metadata,
         writes: bool,
     ) -> io::Result<R::File> {
-        let path = self.path_of(name)?;
-        let file = OpenOptions::new()
-            .read(true)
-            .write(writes)
-            .open(rt, path.as_str())?;
-        let found = file.metadata()?;
+        let held = self.hold(name, seen.is_dir())?;
+        let path = path_to(&held)?;
+        let found = fs::metadata(rt, path.as_str())?;
         if !is_same(seen, &found) {
             return Err(Error::from(ErrorKind::FilesystemLoop));
         }
-        Ok(file)
+        OpenOptions::new()
+            .read(true)
+            .write(writes)
+            .open(rt, path.as_str())
     }
 
     /// Opens the folder itself.
