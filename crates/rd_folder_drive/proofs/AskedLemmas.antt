@@ -73,10 +73,6 @@ done_anew old new folder over sound comes body news quiet each =
 pub look_is : (nodes : List Node) (path : Names) (node : Node) → node_there nodes path ≡ Some node → (found : Option Look) → option_map look_of (node_there nodes path) ≡ found → (look : Look) → found ≡ Some look → look ≡ look_of node
 look_is nodes path node there found told look some = sym (same_Some _ _ (sym (ap (option_map look_of) there) ∙ told ∙ some))
 
--- it isn't so that nothing is there
-pub look_some : (nodes : List Node) (path : Names) (node : Node) → node_there nodes path ≡ Some node → (found : Option Look) → option_map look_of (node_there nodes path) ≡ found → found ≡ None → ⊥
-look_some nodes path node there found told none = absurd (let clash : Some (look_of node) ≡ None = sym (ap (option_map look_of) there) ∙ told ∙ none in cc)
-
 -- a listing of every name has one where something stands in the folder
 pub names_found : (nodes : List Node) (path : Names) → is_some (next_node (drive_over nodes) path any_name None) ≡ has_children (drive_over nodes) path
 names_found nodes path = by nodes

@@ -215,10 +215,6 @@ module _ (t : Table) (sound : IsSound t) (new : Table) (same : IsAsBefore t new)
 
 -- ---- a handle is taken back
 
-taken_twice : (b : Bool) (o : Open) (was : Option Open) → was ≡ None → cond b None (cond b (Some o) was) ≡ was
-taken_twice true o was none = sym none
-taken_twice false o was none = refl
-
 module _ (asked : Asked) (file n : ℕ) (now : Table) where
   -- it was on what was open before, or on what wasn't
   pub held_next : (t : Table) → IsHeldFrom t asked file n now → now.next ≡ t.next + 1

@@ -148,9 +148,6 @@ module _ (t : Table) (sound : IsSound t) (asked : Asked) (moment : ℕ) (path : 
   new_drive : (nodes : List Node) → drive_of new nodes ≡ with_new_handle (drive_of t nodes) (new_handle asked path)
   new_drive nodes = opening_drive t sound asked n o may_open new held.opening nodes ∙ ap (λ (p : Names). with_new_handle (drive_of t nodes) (new_handle asked p)) path_is
 
-  pub new_waiting : new.waiting ≡ t.waiting
-  new_waiting = ap (λ (x : Table). x.waiting) held.opening.others
-
   -- what is there is opened as it is
   pub serves_plain : (information : ℕ) → information ≡ found_information asked → (news : told_news.News) → news ≡ nothing
       → ((nodes : List Node) → before.told ≡ Some nodes → HasNodes t nodes → (node : Node) × (node_there nodes path ≡ Some node) × (is_folder_node node ≡ folder) × (comes (drive_of t nodes) ≡ opened (drive_of t nodes) asked path (found_information asked) []))

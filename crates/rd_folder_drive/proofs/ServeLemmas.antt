@@ -87,14 +87,6 @@ module _ (t : Table) (folder : Seen) (over : IsOver t folder) where
     pub refused_at_once : (status : Status) → IsOwnStatus status → ((nodes : List Node) → HasNodes t nodes → comes (drive_of t nodes) ≡ outcome.refused (drive_of t nodes) status) → Serves t folder t folder comes (Err status)
     refused_at_once status own each = refused_so t folder folder over refl sound comes is_calm status own (λ nodes told holds. each nodes holds)
 
-    pub starved_at_once : (status : Status) → status ≡ no_memory → Serves t folder t folder comes (Err status)
-    starved_at_once status is = refused_by t folder folder over refl sound comes status (inl (is, refl))
-
-    pub done_at_once : (body : Body) (news : told_news.News) → news.closed ≡ None → IsHeard t news
-        → ((nodes : List Node) → HasNodes t nodes → comes (drive_of t nodes) ≡ record { state = drive_of t nodes; answer = step.Reply (outcome.done body); news = news_of t news })
-        → Serves t folder t folder comes (Ok (done.Replied body news))
-    done_at_once body news none heard each = done_so t folder folder over refl sound comes is_calm body news none heard (λ nodes told holds. each nodes holds)
-
     pub done_at_once_quietly : (body : Body) (news : told_news.News) → news ≡ nothing → ((nodes : List Node) → HasNodes t nodes → comes (drive_of t nodes) ≡ outcome.succeeded (drive_of t nodes) body outcome.no_news)
         → Serves t folder t folder comes (Ok (done.Replied body news))
     done_at_once_quietly body news quiet each = done_quietly t folder folder over refl sound comes is_calm body news quiet (λ nodes told holds. each nodes holds)

@@ -83,13 +83,6 @@ refused_status before after status (inr (why, is, some, untold, counted)) = ap (
     by no.Missing = refl
     by no.Memory = refl
 
-fed_status : (why : FolderNo) → (why ≡ no.Memory → ⊥) → ((folder_status why).0 == no_memory.0) ≡ false
-fed_status no.Failed some = refl
-fed_status no.Full some = refl
-fed_status no.Denied some = refl
-fed_status no.Missing some = refl
-fed_status no.Memory some = absurd (some refl)
-
 -- a status is the same with its number
 answer_status : (reply other : Reply) → step.Reply reply ≡ step.Reply other → reply ≡ other
 answer_status reply other e = ap (λ (s : Step). own s) e
@@ -391,16 +384,6 @@ few_parked t sound = subst (λ n. n ≤ 64) (sym (length-map (map waiting_of t.w
 parked_same : (old new : Table) → new.waiting ≡ old.waiting → parked_in new ≡ parked_in old
 parked_same old new same = ap (λ (w : Vec kept_waiting.Waiting Global). map parked_of (map waiting_of w.items)) same
 
--- some of those that waited ended
-pub parks_settled : (old middle new : Table) (job : Job) (reply : Reply) (ends : List End) → IsSound new → middle.waiting ≡ old.waiting → AreEnded (parked_in middle) ends (parked_in new)
-    → Parks job (parked_in old) (step.Reply reply) ends (parked_in new)
-parks_settled old middle new job reply ends sound same ended = record {
-  left = parked_in new;
-  ended = subst (λ (ps : List Parked). AreEnded ps ends (parked_in new)) (parked_same old middle same) ended;
-  waits = sym (append-nil (parked_in new));
-  few = few_parked new sound;
-}
-
 -- none of them did
 pub parks_on : (old new : Table) (job : Job) (reply : Reply) (ends : List End) → ends ≡ [] → IsSound old → new.waiting ≡ old.waiting → Parks job (parked_in old) (step.Reply reply) ends (parked_in new)
 parks_on old new job reply ends none sound same =
@@ -436,22 +419,9 @@ sound_of old new before after job moment status other closing = by (close_or_not
     by (inr isn't) = goes (other isn't)
 
 module _ (old new : Table) (before after : Seen) (job : Job) (moment : ℕ) where
-  -- a refusal leaves a sound table, and answers every operation
+  -- a refusal leaves a sound table
   pub refusal_sound : (status : Status) → ServesOther old before new after job moment (Err status) → ServesClosing old before new after job (Err status) → IsSound new
   refusal_sound status other closing = (sound_of old new before after job moment status other closing).0
-
-  pub refusal_answers : (status : Status) → ServesOther old before new after job moment (Err status) → ServesClosing old before new after job (Err status) → (reply : Reply) → reply ≡ fault status → IsAnswerTo job.op (step.Reply reply)
-  refusal_answers status other closing reply same =
-      subst (λ (r : Reply). IsAnswerTo job.op (step.Reply r)) (sym same) (fault_answers job.op status (sound_of old new before after job moment status other closing).1)
-
-  -- so does a Close whose node the folder keeps
-  pub kept_answers : (status : Status) (news : told_news.News) → ServesOther old before new after job moment (Ok (done.Kept status news)) → ServesClosing old before new after job (Ok (done.Kept status news))
-      → (reply : Reply) → reply ≡ fault status → IsAnswerTo job.op (step.Reply reply)
-  kept_answers status news other closing reply same = subst (λ (r : Reply). IsAnswerTo job.op (step.Reply r)) (sym same) (fault_answers job.op status (by (close_or_not job.op)))
-    where
-      by : (job.op ≡ op.Close) ⊎ (job.op ≡ op.Close → ⊥) → (status.0 == 0) ≡ false
-      by (inl is) = let k = (closing is).3 in refused_status before after status (inr k)
-      by (inr isn't) = absurd (other isn't)
 
   -- what is settled after it
   pub replied_settles : (body : Body) (news : told_news.News) → ServesOther old before new after job moment (Ok (done.Replied body news)) → ServesClosing old before new after job (Ok (done.Replied body news))

@@ -69,17 +69,10 @@ module _ (t : Table) (news : told_news.News) (at : ℕ) (half : IsHalfway t news
   pub has_room : HasRoom w.wish
   has_room = is_waiting.1
 
-  pub has_handle : is_closed_file news.closed w.file ≡ false → IsSome (kept_handle t w.file)
-  has_handle = is_waiting.0
-
   summed : sum_by (λ (v : kept_waiting.Waiting). wish_ranges v.wish) (remove ws at) + wish_ranges w.wish ≡ t.locks.reserved
   summed =
       ap (λ (v : kept_waiting.Waiting). sum_by (λ (u : kept_waiting.Waiting). wish_ranges u.wish) (remove ws at) + wish_ranges v.wish) next
       ∙ sum_by-remove (λ (v : kept_waiting.Waiting). wish_ranges v.wish) ws at w within ∙ sym half.sound.reserved
-
-  -- its places are reserved
-  pub reserved_enough : wish_ranges w.wish ≤ t.locks.reserved
-  reserved_enough = omega (arith, summed)
 
   -- ---- it waits on
 

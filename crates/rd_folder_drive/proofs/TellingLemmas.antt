@@ -22,22 +22,12 @@ use Rattle.rd_folder_drive.specs.Telling.{rest_below, told_bytes}
 
 -- ---- name by name
 
--- all of a path is below the root
-pub rest_all : (path : Names) → rest_below [] path ≡ Some path
-rest_all path = ap (λ b. cond b (Some (drop 0 path)) None) (joined_prefix [] path)
-
 -- nothing is below another name than its first
 pub rest_other : (x y : Name) (p q : Names) → (x ≡ y → ⊥) → rest_below (x ∷ p) (y ∷ q) ≡ None
 rest_other x y p q other = ap (λ b. cond b (Some (drop (length (x ∷ p)) (y ∷ q))) None) (false_from_ne_true (is_prefix Exact (x ∷ p) (y ∷ q)) apart)
   where
     apart : is_prefix Exact (x ∷ p) (y ∷ q) ≡ true → ⊥
     apart e = let split : y ∷ q ≡ x ∷ (p ++ drop (length (x ∷ p)) (y ∷ q)) = prefix_exact (x ∷ p) (y ∷ q) e in other (sym (cc))
-
-pub rest_none : (x : Name) (p : Names) → rest_below (x ∷ p) [] ≡ None
-rest_none x p = ap (λ b. cond b (Some (drop (length (x ∷ p)) [])) None) (false_from_ne_true (is_prefix Exact (x ∷ p) []) apart)
-  where
-    apart : is_prefix Exact (x ∷ p) [] ≡ true → ⊥
-    apart e = let split : [] ≡ x ∷ (p ++ drop (length (x ∷ p)) []) = prefix_exact (x ∷ p) [] e in absurd (cc)
 
 prefix_step : (x : Name) (p q : Names) → is_prefix Exact (x ∷ p) (x ∷ q) ≡ is_prefix Exact p q
 prefix_step x p q =
@@ -66,28 +56,6 @@ other_name x y differ is e = other_text x y (by (pointwise nat_eq x y) (sym is �
     by false h = refl
 
 -- ---- what is watched
-
--- whether a folder's watcher is told of what has these names below it
-abbrev pub is_near : Bool → Names → Bool
-is_near deep rest = length rest == 1 || (deep && not (length rest == 0))
-
-pub watched_seen : (folder : Names) (deep : Bool) (path : Names) → is_watched Exact folder deep path ≡ option_map_or (is_near deep) (rest_below folder path) false
-watched_seen folder deep path = by (is_prefix Exact folder path) refl
-  where
-    by : (b : Bool) → is_prefix Exact folder path ≡ b
-        → ((b && length path == length folder + 1) || (deep && (b && not (length folder == length path)))) ≡ option_map_or (is_near deep) (cond b (Some (drop (length folder) path)) None) false
-    by false e = and-false deep
-    by true e =
-        let long : length path ≡ length folder + length (drop (length folder) path) = ap (length {A = Name}) (prefix_exact folder path e) ∙ length-append folder (drop (length folder) path) in
-        let one : (length path == length folder + 1) ≡ (length (drop (length folder) path) == 1) =
-        alike (length path == length folder + 1) (length (drop (length folder) path) == 1)
-        (λ h. eq-eqb (length (drop (length folder) path)) 1 (let both : length path ≡ length folder + 1 = eqb-true (length path) (length folder + 1) h in omega (arith, long, both)))
-        (λ h. eq-eqb (length path) (length folder + 1) (let both : length (drop (length folder) path) ≡ 1 = eqb-true (length (drop (length folder) path)) 1 h in omega (arith, long, both))) in
-        let none : (length folder == length path) ≡ (length (drop (length folder) path) == 0) =
-        alike (length folder == length path) (length (drop (length folder) path) == 0)
-        (λ h. eq-eqb (length (drop (length folder) path)) 0 (let both : length folder ≡ length path = eqb-true (length folder) (length path) h in omega (arith, long, both)))
-        (λ h. eq-eqb (length folder) (length path) (let both : length (drop (length folder) path) ≡ 0 = eqb-true (length (drop (length folder) path)) 0 h in omega (arith, long, both))) in
-        λ i. one i || (deep && not (none i))
 
 -- what is below has names below the folder
 pub rest_there : (folder path : Names) → is_below Exact folder path ≡ true → rest_below folder path ≡ Some (drop (length folder) path)

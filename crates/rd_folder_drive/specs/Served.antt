@@ -94,10 +94,6 @@ pub record Seen : Type 0 where
 abbrev pub seen : {F : Type 0} → (F → Option (List Node)) → (F → FolderFaults) → F → Seen
 seen nodes faults folder = record { told = nodes folder; faults = faults folder }
 
--- Of the drive over what a folder tells: nothing is said where it tells nothing.
-abbrev pub OfDrive : Table → Seen → (DriveState → Type 0) → Type 0
-OfDrive t before P = (nodes : List Node) → before.told ≡ Some nodes → P (drive_of t nodes)
-
 -- what is open is among the nodes that a folder tells, if it tells them
 abbrev pub IsOver : Table → Seen → Type 0
 IsOver t folder = IfSome folder.told (HasNodes t)
