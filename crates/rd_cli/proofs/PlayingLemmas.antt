@@ -57,6 +57,7 @@ stopped_reading before after books (stop.Fault fault) other silent unrecorded un
 stopped_reading before after books (stop.Channel channel at message why) other silent unrecorded unstored = absurd other
 stopped_reading before after books stop.Link other silent unrecorded unstored = absurd other
 stopped_reading before after books stop.Long other silent unrecorded unstored = absurd other
+stopped_reading before after books stop.Folder other silent unrecorded unstored = absurd other
 
 -- a session that stopped early
 pub stopped_early : {R : Type 0} (script : Script) (before after : Stream R) (books : List (ℕ × History)) (cause : StepNo) → MeetPremises script.lines
@@ -127,6 +128,7 @@ stopped_playing before after books script (stop.Fault fault) reads silent other 
 stopped_playing before after books script (stop.Channel channel at message why) reads silent other = absurd other
 stopped_playing before after books script stop.Link reads silent other = absurd other
 stopped_playing before after books script stop.Long reads silent other = absurd other
+stopped_playing before after books script stop.Folder reads silent other = absurd other
 
 -- how the command came out whose script was played, by what came of the printing of its report
 pub printed : {T S K R : Type 0} (before after : Outside S K R) (books : List (ℕ × History)) (script : Script) (told : Outcomes) (r : Result T Stop) → ReadsScript mode.Both before.input after.input script
@@ -144,6 +146,7 @@ printed before after books script told (Err (stop.Fault fault)) reads played pri
 printed before after books script told (Err (stop.Channel channel at message why)) reads played prints = absurd prints
 printed before after books script told (Err stop.Link) reads played prints = absurd prints
 printed before after books script told (Err stop.Long) reads played prints = absurd prints
+printed before after books script told (Err stop.Folder) reads played prints = absurd prints
 
 -- ---- the end, by the status
 -- A session that came to its end ends with 0.
@@ -253,3 +256,4 @@ stopped_end before middle output books (stop.Fault fault) status stopped said = 
 stopped_end before middle output books (stop.Channel channel at message why) status stopped said = absurd stopped
 stopped_end before middle output books stop.Link status stopped said = absurd stopped
 stopped_end before middle output books stop.Long status stopped said = absurd stopped
+stopped_end before middle output books stop.Folder status stopped said = absurd stopped

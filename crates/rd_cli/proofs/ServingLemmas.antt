@@ -8,16 +8,16 @@ use Rattle.rd_script.specs.declared.script.Script.{Script}
 use Rattle.rd_script.specs.Script.{BadLine}
 use Rattle.rd_cli.specs.Outside.{FailedToWrite, Stream, Wrote}
 use Rattle.rd_cli.specs.Reading.{GivesBadLine, StopsForScript}
-use Rattle.rd_cli.specs.Serving.{EndsServed, FailedToReadServing, FailedToTell, IsEndOfServing, RefusesServing, SaysChannel, ServedAndPrinted, ServedAndSaid, ServedScript, StarvedServing}
+use Rattle.rd_cli.specs.Serving.{EndsServed, FailedToReadServing, FailedToTell, IsEndOfServing, RefusesServing, SaysChannel, ServedAndPrinted, ServedAndSaid, ServedScript, StarvedServing, UnopenedServing}
 use Rattle.rd_cli.specs.Stops.{StopsWith, long_line}
 use Rattle.rd_cli.specs.declared.stop.Stop.{Stop}
 use Rattle.rd_cli.specs.declared.stop.Stop.TheVariants as stop
 use Rattle.rd_cli.proofs.ReadingLemmas.{script_not_bad, whole_not_bad}
 
 -- ---- the end, by the status
-module _ {S K : Type 0} (m : Mode) (Session : Script → Ended → List ℕ → Type 0) (Untouched : Type 0) (input input_after : Stream S) (output output_after : Stream K) (status : ℕ) where
+module _ {S K : Type 0} (m : Mode) (Session : Script → Ended → List ℕ → Type 0) (Untouched : Type 0) (Unopened : Script → Type 0) (input input_after : Stream S) (output output_after : Stream K) (status : ℕ) where
   abbrev End : Type 0
-  End = IsEndOfServing m Session Untouched input input_after output output_after status
+  End = IsEndOfServing m Session Untouched Unopened input input_after output output_after status
 
   abbrev Serves : Ended → Type 0
   Serves e = ServedScript m Session input input_after e
@@ -34,6 +34,7 @@ module _ {S K : Type 0} (m : Mode) (Session : Script → Ended → List ℕ → 
     unlinked = λ five. absurd (omega (arith, five, is));
     starved = λ six. starved;
     long = λ seven. absurd (omega (arith, seven, is));
+    unopened = λ eight. absurd (omega (arith, eight, is));
     refuses = λ bad gives. inr (inr is);
     takes = λ script one. absurd (omega (arith, one, is));
   }
@@ -50,6 +51,7 @@ module _ {S K : Type 0} (m : Mode) (Session : Script → Ended → List ℕ → 
     unlinked = λ five. absurd (omega (arith, five, is));
     starved = λ six. absurd (omega (arith, six, is));
     long = λ seven. absurd (omega (arith, seven, is));
+    unopened = λ eight. absurd (omega (arith, eight, is));
     refuses = λ bad gives. inl is;
     takes = λ script one. script_not_bad m input input_after refused.reads.0 refused.bad refused.reads.1 refused.reads.2 script;
   }
@@ -66,6 +68,7 @@ module _ {S K : Type 0} (m : Mode) (Session : Script → Ended → List ℕ → 
     unlinked = λ five. absurd (omega (arith, five, is));
     starved = λ six. absurd (omega (arith, six, is));
     long = λ seven. absurd (omega (arith, seven, is));
+    unopened = λ eight. absurd (omega (arith, eight, is));
     refuses = λ bad gives. inr (inl is);
     takes = λ script one. absurd (omega (arith, one, is));
   }
@@ -85,6 +88,7 @@ module _ {S K : Type 0} (m : Mode) (Session : Script → Ended → List ℕ → 
     unlinked = λ five. absurd (omega (arith, five, is));
     starved = λ six. absurd (omega (arith, six, is));
     long = λ seven. absurd (omega (arith, seven, is));
+    unopened = λ eight. absurd (omega (arith, eight, is));
     refuses = never_bad ended.Over served.session;
     takes = λ script one. absurd (omega (arith, one, is));
   }
@@ -100,6 +104,7 @@ module _ {S K : Type 0} (m : Mode) (Session : Script → Ended → List ℕ → 
     unlinked = λ five. absurd (omega (arith, five, is));
     starved = λ six. absurd (omega (arith, six, is));
     long = λ seven. absurd (omega (arith, seven, is));
+    unopened = λ eight. absurd (omega (arith, eight, is));
     refuses = never_bad e session;
     takes = λ script one. absurd (omega (arith, one, is));
   }
@@ -115,6 +120,7 @@ module _ {S K : Type 0} (m : Mode) (Session : Script → Ended → List ℕ → 
     unlinked = λ five. absurd (omega (arith, five, is));
     starved = λ six. absurd (omega (arith, six, is));
     long = λ seven. absurd (omega (arith, seven, is));
+    unopened = λ eight. absurd (omega (arith, eight, is));
     refuses = never_bad (ended.Channel says.channel says.at says.message says.why) says.said.session;
     takes = λ script one. absurd (omega (arith, one, is));
   }
@@ -130,6 +136,7 @@ module _ {S K : Type 0} (m : Mode) (Session : Script → Ended → List ℕ → 
     unlinked = λ five. served;
     starved = λ six. absurd (omega (arith, six, is));
     long = λ seven. absurd (omega (arith, seven, is));
+    unopened = λ eight. absurd (omega (arith, eight, is));
     refuses = never_bad ended.Link served.session;
     takes = λ script one. absurd (omega (arith, one, is));
   }
@@ -145,7 +152,25 @@ module _ {S K : Type 0} (m : Mode) (Session : Script → Ended → List ℕ → 
     unlinked = λ five. absurd (omega (arith, five, is));
     starved = λ six. absurd (omega (arith, six, is));
     long = λ seven. says;
+    unopened = λ eight. absurd (omega (arith, eight, is));
     refuses = never_bad ended.Long says.session;
+    takes = λ script one. absurd (omega (arith, one, is));
+  }
+
+  -- a folder that couldn't be opened, with 8
+  pub unopened_end : status ≡ 8 → UnopenedServing m Unopened input input_after output output_after → End
+  unopened_end is unopened = record {
+    known = omega (arith, is);
+    served = λ zero. absurd (omega (arith, zero, is));
+    refused = λ one. absurd (omega (arith, one, is));
+    unread = λ two. absurd (omega (arith, two, is));
+    unwritten = λ three. absurd (omega (arith, three, is));
+    faulty = λ four. absurd (omega (arith, four, is));
+    unlinked = λ five. absurd (omega (arith, five, is));
+    starved = λ six. absurd (omega (arith, six, is));
+    long = λ seven. absurd (omega (arith, seven, is));
+    unopened = λ eight. unopened;
+    refuses = λ bad gives. absurd (whole_not_bad m input input_after unopened.reads.text unopened.script bad unopened.reads.read unopened.reads.script_is gives);
     takes = λ script one. absurd (omega (arith, one, is));
   }
 
@@ -200,3 +225,4 @@ module _ {S K : Type 0} (m : Mode) (Session : Script → Ended → List ℕ → 
   stopped_end (stop.Channel channel at message why) other unserved said = absurd other
   stopped_end stop.Link other unserved said = absurd other
   stopped_end stop.Long other unserved said = absurd other
+  stopped_end stop.Folder other unserved said = absurd other

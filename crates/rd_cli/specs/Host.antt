@@ -21,7 +21,7 @@ pub record IsHostSession {L : Type 0} (linked linked_after : Linked L) (script :
   -- the report of these outcomes, which has no other lines
   pub lines : text ≡ flat_map (outcome_line script.lines) told
 
--- How the command ends with a status: as one that serves a host's script. Where nothing was served nothing was connected.
+-- How the command ends with a status: as one that serves a host's script. Where nothing was served nothing was connected; it opens no folder.
 abbrev pub IsEndOfHost : {S K L : Type 0} → (input input_after : Stream S) → (output output_after : Stream K) → (linked linked_after : Linked L) → ℕ → Type 0
 IsEndOfHost input input_after output output_after linked linked_after status =
-    IsEndOfServing mode.Host (IsHostSession linked linked_after) (linked_after ≡ linked) input input_after output output_after status
+    IsEndOfServing mode.Host (IsHostSession linked linked_after) (linked_after ≡ linked) (λ script. ⊥) input input_after output output_after status

@@ -1,6 +1,7 @@
 -- What a command works on outside the program.
 use Rattle.std.specs.Prelude.{ℕ, List, Option}
 use Rattle.rd_link.specs.Links.{Links}
+use Rattle.rd_sharing.specs.ServedOpening.{FoldersTold}
 pub use Rattle.rd_decode.specs.Streams.{FailedToWrite, HasOneFault, IsFaultless, Read, ReadToEnd, Stream, Wrote, stream}
 
 -- an input, an output and a recording
@@ -32,3 +33,15 @@ pub record Linked (L : Type 0) : Type 0 where
 -- what gives the channels, by what its trait tells of it, with a clock's moment
 abbrev pub linked_by : {L : Type 0} → (L → Option Links) → (L → ℕ) → (L → ℕ) → Option ℕ → L → Linked L
 linked_by links failures trouble moment itself = record { itself = itself; links = links itself; failures = failures itself; trouble = trouble itself; moment = moment }
+
+-- What opens the folders of a client's drives, and closes them: itself, the nodes that each opened folder had, where it tells them, and its counts of openings that failed, and of faults of closed
+-- folders.
+pub record Sharing (D : Type 0) : Type 0 where
+  pub itself : D
+  pub opened : FoldersTold
+  pub failures : ℕ
+  pub trouble : ℕ
+
+-- what opens the folders, by what its trait tells of it
+abbrev pub sharing_by : {D : Type 0} → (D → FoldersTold) → (D → ℕ) → (D → ℕ) → D → Sharing D
+sharing_by opened failures trouble itself = record { itself = itself; opened = opened itself; failures = failures itself; trouble = trouble itself }

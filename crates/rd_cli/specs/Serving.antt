@@ -105,9 +105,17 @@ pub record StarvedServing {S K : Type 0} (m : Mode) (Session : Script → Ended 
   pub unprinted : output_after ≡ output
   pub session : Untouched ⊎ ((e : Ended) × ServedScript m Session input input_after e)
 
--- How the command ends with a status, where `Untouched` says that nothing was served. The first of these events ends it, and nothing else gives its status.
-pub record IsEndOfServing {S K : Type 0} (m : Mode) (Session : Script → Ended → List ℕ → Type 0) (Untouched : Type 0) (input input_after : Stream S) (output output_after : Stream K) (status : ℕ) : Type 0 where
-  pub known : status ≤ 7
+-- The script was read, and a folder that it names couldn't be opened: nothing was printed or served.
+pub record UnopenedServing {S K : Type 0} (m : Mode) (Unopened : Script → Type 0) (input input_after : Stream S) (output output_after : Stream K) : Type 0 where
+  pub script : Script
+  pub reads : ReadsScript m input input_after script
+  pub unprinted : output_after ≡ output
+  pub unserved : Unopened script
+
+-- How the command ends with a status, where `Untouched` says that nothing was served, and `Unopened` the same of a script of which a folder couldn't be opened. The first of these events ends it, and nothing else
+-- gives its status.
+pub record IsEndOfServing {S K : Type 0} (m : Mode) (Session : Script → Ended → List ℕ → Type 0) (Untouched : Type 0) (Unopened : Script → Type 0) (input input_after : Stream S) (output output_after : Stream K) (status : ℕ) : Type 0 where
+  pub known : status ≤ 8
   -- 0: the session came to its end, with no fault of the linker's
   pub served : status ≡ 0 → ServedAndPrinted m Session input input_after output output_after ended.Over
   -- 1: a line of the script was refused
@@ -124,6 +132,8 @@ pub record IsEndOfServing {S K : Type 0} (m : Mode) (Session : Script → Ended 
   pub starved : status ≡ 6 → StarvedServing m Session Untouched input input_after output output_after
   -- 7: so much came on a channel as is read at most
   pub long : status ≡ 7 → ServedAndSaid m Session input input_after output output_after long_line ended.Long
+  -- 8: a folder couldn't be opened, and nothing was served
+  pub unopened : status ≡ 8 → UnopenedServing m Unopened input input_after output output_after
   -- A bad line is refused, unless a read fails or memory runs out.
   pub refuses : (bad : BadLine) → GivesBadLine m input.bytes bad → (status ≡ 1) ⊎ ((status ≡ 2) ⊎ (status ≡ 6))
   -- A script is never refused.

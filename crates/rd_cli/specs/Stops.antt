@@ -37,6 +37,7 @@ status_of (stop.Channel channel at message cause) = 4
 status_of stop.Link = 5
 status_of stop.Memory = 6
 status_of stop.Long = 7
+status_of stop.Folder = 8
 
 -- the word for what is wrong with a field
 abbrev pub field_word : Why → List ℕ

@@ -43,7 +43,8 @@ pub fn last_line(alloc: Global, stop: &Stop) -> Result<Option<String>, AllocErro
             message,
             why,
         } => Ok(Some(channel_line(alloc, *channel, *at, *message, *why)?)),
-        Stop::Input | Stop::Output | Stop::Recording | Stop::Link | Stop::Memory => Ok(None),
+        Stop::Input | Stop::Output | Stop::Recording | Stop::Link | Stop::Folder | Stop::Memory =>
+            Ok(None),
     }
 }
 

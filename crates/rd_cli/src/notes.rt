@@ -1,11 +1,12 @@
-//! What the notes say to a person: how the command is used, and what is wrong with a line. No contract speaks of it, and where it can't
-//! be said it is left out.
+//! What the notes say to a person: how the command is used, what is wrong with a line, and which folder can't be opened. No contract speaks of it,
+//! and where it can't be said it is left out.
 
 use crate::forms::{FORMS, meaning, word_at};
 use rd_base::{Sink, write_all};
-use rd_script::{BadWord, LineWhy, Mode, bad_word};
+use rd_script::{BadWord, Line, LineWhy, Mode, NumberedLine, bad_word};
 use std::alloc::{AllocError, Global};
 use std::slice::EscapeAscii;
+use std::str;
 
 /// How many bytes of a refused line are shown.
 const SHOWN: usize = 64;
@@ -18,8 +19,8 @@ usage: rdr both < SCRIPT
          plays a session with N blocks in each of four files, N from 1 to 1000, prints what came of it in one line, and leaves the frames in
          rdr.rec
        rdr client PATH < SCRIPT
-         serves the devices of a client's script over the channels that it dials at the socket PATH, one after the other, and prints how many
-         requests each of them ran
+         serves the devices of a client's script, among them folders of this machine, over the channels that it dials at the socket PATH, one after
+         the other, and prints how many requests each of them ran
        rdr host PATH < SCRIPT
          plays a host's script over the channels that are dialed at the socket PATH, where it listens, and prints what came of each line
        rdr decode < RECORDING
@@ -104,6 +105,33 @@ fn put_expected(note: &mut String, bad: &BadWord<'_>) -> Result<(), AllocError> 
         note.push_str("rdr: expected no further word\n")?;
     }
     Ok(())
+}
+
+/// Says which folder can't be opened: that of this device, as a line of the script names it.
+pub fn note_folder<N: Sink>(alloc: Global, notes: &mut N, lines: &[NumberedLine], device: u32) {
+    if let Some(place) = place_of(lines, device) {
+        if let Ok(note) = folder_note(alloc, device, place) {
+            let _ = write_all(notes, note.as_bytes());
+        }
+    }
+}
+
+/// The place of the folder that a device is, by the line that declares it.
+fn place_of(lines: &[NumberedLine], wanted: u32) -> Option<&[u8]> {
+    for line in lines {
+        if let Line::Real { device, place, .. } = &line.line {
+            if *device == wanted {
+                return Some(place.as_slice());
+            }
+        }
+    }
+    None
+}
+
+/// What is said of such a folder. Its place is text.
+fn folder_note(alloc: Global, device: u32, place: &[u8]) -> Result<String, AllocError> {
+    let place = str::from_utf8(place).unwrap_or_default().escape_debug();
+    format!(in alloc; "rdr: device {device}: the folder {place} can't be opened\n")
 }
 
 /// Bytes as they can be shown, and what stands after them where they were cut.

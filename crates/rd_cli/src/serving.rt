@@ -10,6 +10,7 @@
 //! | 5 | a channel couldn't be had, or failed | |
 //! | 6 | memory ran out | |
 //! | 7 | 2^40 bytes came on a channel | `long` |
+//! | 8 | a folder of the script couldn't be opened | |
 //!
 //! The first of these events ends the command. At 0, 4, 5 and 7 what tells of the session stands before the last line. A failure to write it leaves
 //! 4 and 7 as they are.

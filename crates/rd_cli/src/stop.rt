@@ -38,6 +38,8 @@ pub enum Stop {
     Link,
     /// The recording, or what came on a channel, has 2^40 bytes or more.
     Long,
+    /// A folder of a client's script couldn't be opened.
+    Folder,
     Memory,
 }
 
@@ -56,6 +58,7 @@ impl Stop {
             Stop::Link => 5,
             Stop::Memory => 6,
             Stop::Long => 7,
+            Stop::Folder => 8,
         }
     }
 }

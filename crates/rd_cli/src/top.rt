@@ -3,7 +3,7 @@
 ghost use Rattle.std.specs.Prelude.{◌≡◌, [], IfOk, IsErr, map, string_bytes};
 ghost use Rattle.std.specs.Process.{exit_status};
 ghost use Rattle.rd_cli.specs.Ends.{EndsProgram, EndsUntouched, IsEnd};
-ghost use Rattle.rd_cli.specs.Outside.{linked_by, outside};
+ghost use Rattle.rd_cli.specs.Outside.{linked_by, outside, sharing_by};
 
 use crate::both::both;
 use crate::client::client;
@@ -15,6 +15,7 @@ use crate::notes::note_usage;
 use crate::stop::Stop;
 use crate::words::{Command, command_of};
 use rd_base::{Books, Sink, Source, write_all};
+use rd_folder::Folders;
 use rd_link::{Clock, Gate, Linker};
 use std::alloc::{AllocError, Global};
 use std::process::ExitCode;
@@ -26,12 +27,12 @@ use std::thread::Threads;
 /// `words` are the command's words without the program's name. `both` reads a script from `input` to its end, plays it, writes a recording of all
 /// frames to `recording` meanwhile, and then the report to `output`. `load` does the same with the script of its number, reads no input, and writes a
 /// summary of one line in the report's place. `decode` reads a recording from `input` and prints its lines to `output`. `client` reads a client's
-/// script from `input` to its end, serves its devices on one channel of `linker` after the other, and then writes to `output` how many requests each
-/// of them ran; `linker` is to dial the path, `clock` tells the moments of the requests, and each worker passes `gate`. `host` reads a host's script
-/// from `input` to its end, plays it on one channel of `linker` after the other, and then writes to `output` what came of each line; `linker` is to
-/// listen at the path. No other command uses these. `books` is to be empty; a session of `both`, `load` or `client` that comes to its end stores its
+/// script from `input` to its end, opens the folders that it names by `folders`, serves its devices on one channel of `linker` after the other, closes
+/// the folders, and then writes to `output` how many requests each device ran; `linker` is to dial the path, `clock` tells the moments of the requests,
+/// and each worker passes `gate`. `host` reads a host's script from `input` to its end, plays it on one channel of `linker` after the other, and then
+/// writes to `output` what came of each line; `linker` is to listen at the path. No other command uses these. `books` is to be empty; a session of `both`, `load` or `client` that comes to its end stores its
 /// devices' journals there. `notes` is for people: it gets the usage where the words are no command, what is wrong with a line of a script or on a
-/// channel, and why lines did nothing.
+/// channel, which folder can't be opened, and why lines did nothing.
 ///
 /// | status | comes where |
 /// |---|---|
@@ -43,6 +44,7 @@ use std::thread::Threads;
 /// | 5 | a channel couldn't be had, or a read or a write on it failed |
 /// | 6 | memory ran out |
 /// | 7 | what should be a recording, or came on a channel, has 2^40 bytes or more (`long`) |
+/// | 8 | a folder that a client's script names couldn't be opened |
 ///
 /// The first of these events ends the run. A last line that can't be written leaves the status as it is.
 pub fn run<
@@ -52,6 +54,7 @@ pub fn run<
     N: Sink,
     T: Threads + Wait + Sync,
     L: Linker,
+    D: Folders,
     C: Clock + Sync,
     G: Gate + Sync,
 >(
@@ -63,6 +66,7 @@ pub fn run<
     recording: &mut R,
     notes: &mut N,
     linker: &mut L,
+    folders: &mut D,
     clock: &C,
     gate: &G,
     books: &mut Books,
@@ -71,14 +75,15 @@ pub fn run<
     ensures { IsEnd (map string_bytes words.now)
         (outside S.left S.faults K.held K.faults R.held R.faults input.old output.old recording.old)
         (outside S.left S.faults K.held K.faults R.held R.faults input.new output.new recording.new)
-        (linked_by L.linked L.failures L.trouble (C.moment clock.now) linker.old) (linked_by L.linked L.failures L.trouble (C.moment clock.now) linker.new) books.new result }
+        (linked_by L.linked L.failures L.trouble (C.moment clock.now) linker.old) (linked_by L.linked L.failures L.trouble (C.moment clock.now) linker.new)
+        (sharing_by D.opened D.failures D.trouble folders.old) (sharing_by D.opened D.failures D.trouble folders.new) books.new result }
 {
     match command_of(alloc, words) {
         Ok(Command::Both) => both(alloc, input, output, recording, notes, books),
         Ok(Command::Decode) => decode(alloc, input, output),
         Ok(Command::Load(number)) => load(alloc, number, output, recording, books),
         Ok(Command::Client(_)) => client(
-            rt, alloc, input, output, notes, linker, clock, gate, books,
+            rt, alloc, input, output, notes, linker, folders, clock, gate, books,
         ),
         Ok(Command::Host(_)) => host(rt, alloc, input, output, notes, linker),
         Err(stop) => {
@@ -99,6 +104,7 @@ pub fn program<
     N: Sink,
     T: Threads + Wait + Sync,
     L: Linker,
+    D: Folders,
     C: Clock + Sync,
     G: Gate + Sync,
 >(
@@ -110,22 +116,26 @@ pub fn program<
     recording: &mut R,
     notes: &mut N,
     linker: &mut L,
+    folders: &mut D,
     clock: &C,
     gate: &G,
 ) -> ExitCode
     ensures ends { IfOk words.entry (λ words. EndsProgram (map string_bytes words.now)
         (outside S.left S.faults K.held K.faults R.held R.faults input.old output.old recording.old)
         (outside S.left S.faults K.held K.faults R.held R.faults input.new output.new recording.new)
-        (linked_by L.linked L.failures L.trouble (C.moment clock.now) linker.old) (linked_by L.linked L.failures L.trouble (C.moment clock.now) linker.new) (exit_status result)) }
+        (linked_by L.linked L.failures L.trouble (C.moment clock.now) linker.old) (linked_by L.linked L.failures L.trouble (C.moment clock.now) linker.new)
+        (sharing_by D.opened D.failures D.trouble folders.old) (sharing_by D.opened D.failures D.trouble folders.new) (exit_status result)) }
     ensures untouched { IsErr words.entry → EndsUntouched
         (outside S.left S.faults K.held K.faults R.held R.faults input.old output.old recording.old)
         (outside S.left S.faults K.held K.faults R.held R.faults input.new output.new recording.new)
-        (linked_by L.linked L.failures L.trouble (C.moment clock.now) linker.old) (linked_by L.linked L.failures L.trouble (C.moment clock.now) linker.new) (exit_status result) }
+        (linked_by L.linked L.failures L.trouble (C.moment clock.now) linker.old) (linked_by L.linked L.failures L.trouble (C.moment clock.now) linker.new)
+        (sharing_by D.opened D.failures D.trouble folders.old) (sharing_by D.opened D.failures D.trouble folders.new) (exit_status result) }
 {
     let mut books = Books::new(alloc);
     let status = match words {
         Ok(words) => run(
-            rt, alloc, words, input, output, recording, notes, linker, clock, gate, &mut books,
+            rt, alloc, words, input, output, recording, notes, linker, folders, clock, gate,
+            &mut books,
         ),
         Err(_) => Stop::Memory.status(),
     };

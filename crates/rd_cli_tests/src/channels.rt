@@ -1,4 +1,4 @@
-//! The commands `client` and `host` over channels in memory: their statuses, what they print, and what their notes say.
+//! The commands `client` and `host` over channels and folders in memory: their statuses, what they print, and what their notes say.
 use crate::frames::{
     ANNOUNCE, CLIENT_SETS, COMPLETION, CONFIRM, CREATE, CUT_HEAD, CUT_READ, HOST_SETS, LIST,
     LOGGED_ON, LONG_LIST, NAME,
@@ -16,6 +16,9 @@ const DRIVE: &[u8] = b"drive 1 DATA\n";
 const TWO_CHANNELS: &[u8] = b"drive 1 DATA\nchannels 2\n";
 
 const RAN: &[u8] = b"device 1 ran 0\n";
+
+/// Two drives over folders, the second one's line first.
+const TWO_FOLDERS: &[u8] = b"real 2 TWO photos\nreal 1 ONE notes\n";
 
 /// A frame that ends a message which didn't begin.
 const LAST: &[u8] = b"\x09\0\0\0\x01\0\0\0\x02\0\0\0a";
@@ -38,6 +41,7 @@ struct Row {
     input: u64,
     output: u64,
     connect: u64,
+    opening: u64,
     status: u8,
     printed: &'static [u8],
 }
@@ -50,6 +54,7 @@ const OVER: Row = Row {
     input: 0,
     output: 0,
     connect: 0,
+    opening: 0,
     status: 0,
     printed: RAN,
 };
@@ -62,7 +67,7 @@ const PLAYED: Row = Row {
     ..OVER
 };
 
-const ROWS: [Row; 19] = [
+const ROWS: [Row; 21] = [
     OVER,
     Row {
         script: TWO_CHANNELS,
@@ -180,6 +185,20 @@ const ROWS: [Row; 19] = [
         printed: b"",
         ..OVER
     },
+    // Folders that are opened, and closed whatever happens then.
+    Row {
+        script: TWO_FOLDERS,
+        printed: b"device 1 ran 0\ndevice 2 ran 0\n",
+        ..OVER
+    },
+    Row {
+        script: TWO_FOLDERS,
+        connect: 1,
+        output: 1,
+        status: 3,
+        printed: b"",
+        ..OVER
+    },
 ];
 
 /// The same of a host.
@@ -254,6 +273,7 @@ fn left_by(
         (Kind::Input, row.input),
         (Kind::Output, row.output),
         (Kind::Connect, row.connect),
+        (Kind::Opening, row.opening),
     ];
     let outside = Outside::new(alloc, row.script, row.channels, &fails)?;
     Ok(outside.run(rt, alloc, words.as_slice()))
@@ -326,6 +346,46 @@ fn tells_people_of_a_channel(rt: HostRuntime) -> Result<(), Fail> {
     let notes = std::str::from_utf8(left.notes.bytes())?;
     assert!(rt;
         notes.contains("rdr: channel 1: in the frame at byte 8 of what the host sent"),
+        "{notes}"
+    );
+    Ok(())
+}
+
+/// A folder that can't be opened ends a client before anything is connected. The notes say which it is; the first by its id is asked for first.
+#[test]
+fn ends_with_8_without_its_first_folder(rt: HostRuntime) -> Result<(), Fail> {
+    let row = Row {
+        script: TWO_FOLDERS,
+        opening: 1,
+        ..OVER
+    };
+    let left = left_by(&rt, &row)?;
+    assert!(rt; left.status == 8 && left.output.bytes().is_empty());
+    assert!(rt; left.books.journal(1).is_none());
+    assert!(rt; left.folders.closed().len() == 0);
+    let notes = std::str::from_utf8(left.notes.bytes())?;
+    assert!(rt;
+        notes == "rdr: device 1: the folder notes can't be opened\n",
+        "{notes}"
+    );
+    Ok(())
+}
+
+/// Where the second one can't be opened the first is closed.
+#[test]
+fn ends_with_8_without_its_second_folder(rt: HostRuntime) -> Result<(), Fail> {
+    let row = Row {
+        script: TWO_FOLDERS,
+        opening: 2,
+        ..OVER
+    };
+    let left = left_by(&rt, &row)?;
+    assert!(rt; left.status == 8 && left.output.bytes().is_empty());
+    assert!(rt; left.books.journal(1).is_none());
+    assert!(rt; left.folders.closed().len() == 1);
+    let notes = std::str::from_utf8(left.notes.bytes())?;
+    assert!(rt;
+        notes == "rdr: device 2: the folder photos can't be opened\n",
         "{notes}"
     );
     Ok(())

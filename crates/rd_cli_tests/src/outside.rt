@@ -1,17 +1,20 @@
 //! What a command is run on, all of it in memory, and what it leaves there.
 use crate::running::run_on;
 use rd_base::{Books, Bytes, Calls, MemSink, MemSource};
+use rd_folder::{MemFolder, MemFolders};
 use rd_link::{FixedClock, MemLinker, NoGate};
 use std::alloc::{AllocError, Global};
 use std::sync::Wait;
 use std::thread::Threads;
 
-/// What can fail: a read of the input, a write to the output or to the recording, or on a channel its beginning, a read or a write.
+/// What can fail: a read of the input, a write to the output or to the recording, the opening of a folder, or on a channel its beginning, a read or a
+/// write.
 #[derive(Clone, Copy, Debug)]
 pub(crate) enum Kind {
     Input,
     Output,
     Recording,
+    Opening,
     Connect,
     Read,
     Write,
@@ -29,6 +32,7 @@ struct Numbers {
     input: Vec<u64>,
     output: Vec<u64>,
     recording: Vec<u64>,
+    opening: Vec<u64>,
     connect: Vec<u64>,
     read: Vec<u64>,
     write: Vec<u64>,
@@ -41,6 +45,7 @@ impl Numbers {
             input: Vec::new(alloc),
             output: Vec::new(alloc),
             recording: Vec::new(alloc),
+            opening: Vec::new(alloc),
             connect: Vec::new(alloc),
             read: Vec::new(alloc),
             write: Vec::new(alloc),
@@ -53,6 +58,7 @@ impl Numbers {
             Kind::Input => &mut self.input,
             Kind::Output => &mut self.output,
             Kind::Recording => &mut self.recording,
+            Kind::Opening => &mut self.opening,
             Kind::Connect => &mut self.connect,
             Kind::Read => &mut self.read,
             Kind::Write => &mut self.write,
@@ -60,7 +66,7 @@ impl Numbers {
     }
 }
 
-/// The input, the output, the recording, the notes and the channels of a command.
+/// The input, the output, the recording, the notes, the channels and the folders of a command.
 #[derive(Drop)]
 pub(crate) struct Outside {
     pub(crate) input: MemSource,
@@ -68,6 +74,7 @@ pub(crate) struct Outside {
     pub(crate) recording: MemSink,
     pub(crate) notes: MemSink,
     pub(crate) linker: MemLinker,
+    pub(crate) folders: MemFolders,
 }
 
 /// What a command leaves.
@@ -77,11 +84,12 @@ pub(crate) struct Remains {
     pub(crate) output: MemSink,
     pub(crate) recording: MemSink,
     pub(crate) notes: MemSink,
+    pub(crate) folders: MemFolders,
     pub(crate) books: Books,
 }
 
 impl Outside {
-    /// An input, and channels on which this is read, where these calls fail.
+    /// An input, channels on which this is read, and two empty folders, where these calls fail.
     pub(crate) fn new(
         alloc: Global,
         input: &[u8],
@@ -96,6 +104,7 @@ impl Outside {
             Calls::of(numbers.read),
             Calls::of(numbers.write),
         )?;
+        let folders = MemFolders::new(alloc, two_folders(alloc)?, Calls::of(numbers.opening))?;
         let input = Bytes::of(input.to_vec(alloc)?);
         Ok(Outside {
             input: MemSource::new(input, Calls::of(numbers.input)),
@@ -103,6 +112,7 @@ impl Outside {
             recording: MemSink::new(alloc, Calls::of(numbers.recording)),
             notes: sink(alloc),
             linker,
+            folders,
         })
     }
 
@@ -119,6 +129,7 @@ impl Outside {
             mut recording,
             mut notes,
             mut linker,
+            mut folders,
         } = self;
         let mut books = Books::new(alloc);
         let status = run_on(
@@ -130,6 +141,7 @@ impl Outside {
             &mut recording,
             &mut notes,
             &mut linker,
+            &mut folders,
             &FixedClock(0),
             &NoGate {},
             &mut books,
@@ -139,6 +151,7 @@ impl Outside {
             output,
             recording,
             notes,
+            folders,
             books,
         }
     }
@@ -168,6 +181,15 @@ fn channels_of(alloc: Global, channels: &[Frames]) -> Result<Vec<Bytes>, AllocEr
         all.push(Bytes::of(frames.concat(alloc)?))?;
     }
     Ok(all)
+}
+
+/// Two folders in which nothing is.
+fn two_folders(alloc: Global) -> Result<Vec<MemFolder>, AllocError> {
+    let folders = vec![in alloc;
+        MemFolder::new(alloc, never(alloc)),
+        MemFolder::new(alloc, never(alloc)),
+    ]?;
+    Ok(folders)
 }
 
 /// The calls that fail: none.

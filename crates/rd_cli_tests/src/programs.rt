@@ -3,6 +3,7 @@ use crate::outside::{sink, source, strings};
 use crate::running::program_on;
 use rd_base::{Calls, FileSink, MemSink, Sink, StdSink};
 use rd_cli::words_of;
+use rd_folder::MemFolders;
 use rd_link::{FixedClock, MemLinker, NoGate};
 use std::alloc::{AllocError, Global};
 use std::env::FillError;
@@ -38,6 +39,7 @@ fn ended<K: Sink>(
     let words = strings(alloc, &[word])?;
     let mut input = source(alloc, input)?;
     let mut linker = MemLinker::new(alloc, Vec::new(alloc), never(alloc))?;
+    let mut folders = MemFolders::new(alloc, Vec::new(alloc), never(alloc))?;
     let mut recording = FileSink::new(rt, path);
     let mut notes = MemSink::new(alloc, never(alloc));
     Ok(program_on(
@@ -49,6 +51,7 @@ fn ended<K: Sink>(
         &mut recording,
         &mut notes,
         &mut linker,
+        &mut folders,
         &FixedClock(0),
         &NoGate {},
     ))
@@ -141,6 +144,7 @@ fn ends_with_6_without_memory_for_its_words(rt: HostRuntime) -> Result<(), Fail>
     let mut recording = sink(alloc);
     let mut notes = sink(alloc);
     let mut linker = MemLinker::new(alloc, Vec::new(alloc), never(alloc))?;
+    let mut folders = MemFolders::new(alloc, Vec::new(alloc), never(alloc))?;
     let code = program_on(
         &rt,
         alloc,
@@ -150,6 +154,7 @@ fn ends_with_6_without_memory_for_its_words(rt: HostRuntime) -> Result<(), Fail>
         &mut recording,
         &mut notes,
         &mut linker,
+        &mut folders,
         &FixedClock(0),
         &NoGate {},
     );

@@ -1,8 +1,9 @@
-//! The top call over any streams, linker, clock and gate: whoever calls it needs nothing of what it promises.
+//! The top call over any streams, linker, folders, clock and gate: whoever calls it needs nothing of what it promises.
 ghost use Rattle.std.specs.Prelude.{◌≡◌, []};
 
 use rd_base::{Books, Sink, Source};
 use rd_cli::{program, run};
+use rd_folder::Folders;
 use rd_link::{Clock, Gate, Linker};
 use std::alloc::{AllocError, Global};
 use std::process::ExitCode;
@@ -10,7 +11,7 @@ use std::sync::Wait;
 use std::thread::Threads;
 
 /// Runs a command, and returns its status.
-pub(crate) fn run_on<I: Source, K: Sink, L: Linker, C: Clock + Sync, G: Gate + Sync>(
+pub(crate) fn run_on<I: Source, K: Sink, L: Linker, D: Folders, C: Clock + Sync, G: Gate + Sync>(
     rt: &(impl Threads + Wait + Sync),
     alloc: Global,
     words: &[String],
@@ -19,6 +20,7 @@ pub(crate) fn run_on<I: Source, K: Sink, L: Linker, C: Clock + Sync, G: Gate + S
     recording: &mut K,
     notes: &mut K,
     linker: &mut L,
+    folders: &mut D,
     clock: &C,
     gate: &G,
     books: &mut Books,
@@ -26,7 +28,7 @@ pub(crate) fn run_on<I: Source, K: Sink, L: Linker, C: Clock + Sync, G: Gate + S
     requires { books.old ≡ [] }
 {
     run(
-        rt, alloc, words, input, output, recording, notes, linker, clock, gate, books,
+        rt, alloc, words, input, output, recording, notes, linker, folders, clock, gate, books,
     )
 }
 
@@ -37,6 +39,7 @@ pub(crate) fn program_on<
     W: Sink,
     N: Sink,
     L: Linker,
+    D: Folders,
     C: Clock + Sync,
     G: Gate + Sync,
 >(
@@ -48,10 +51,11 @@ pub(crate) fn program_on<
     recording: &mut W,
     notes: &mut N,
     linker: &mut L,
+    folders: &mut D,
     clock: &C,
     gate: &G,
 ) -> ExitCode {
     program(
-        rt, alloc, words, input, output, recording, notes, linker, clock, gate,
+        rt, alloc, words, input, output, recording, notes, linker, folders, clock, gate,
     )
 }

@@ -8,25 +8,24 @@ use Rattle.rd_desk.specs.declared.calls.DeskReply.{DeskReply}
 use Rattle.rd_desk.specs.declared.calls.DeskReply.TheVariants as replied
 use Rattle.rd_drive.specs.declared.plan.Job.{Job}
 use Rattle.rd_drive.specs.Device.{CompletesKind}
+use Rattle.rd_served_devices.specs.ServedDevices.{IsServedReached, served_cuts, served_parked, served_runs}
 use Rattle.rd_station.specs.declared.answers.Completion.{Completion}
 use Rattle.rd_station.specs.Station.{StationCall, StationSteps, collect, collect_first}
 use Rattle.rd_station.proofs.Calls.{reached_kept, reached_step}
 use Rattle.rd_turn.specs.History.{IsLegal, entry}
 use Rattle.rd_turn.specs.Pass.{Called, TurnId}
 use Rattle.rd_turn.proofs.HistoryLemmas.{Leads-keeps_fact, Leads-parted}
-use Rattle.rd_world.specs.Devices.{device_cuts, device_parked, device_runs}
-use Rattle.rd_world.specs.Stations.{IsReachedBy}
 use Rattle.rd_front.specs.Front.{IsCollectReply, IsPutReply}
 use Rattle.rd_front.specs.State.{SessionPass, IsDeskReply, SessionDeskStep, SessionStation}
 
 -- calls of a station lead from one that came to be by its calls to one that did
-reached_on : (old new : SessionStation) (calls : List StationCall) → IsReachedBy old → StationSteps device_runs device_parked device_cuts old calls new → IsReachedBy new
-reached_on old new [] reached is = subst IsReachedBy (sym is) reached
+reached_on : (old new : SessionStation) (calls : List StationCall) → IsServedReached old → StationSteps served_runs served_parked served_cuts old calls new → IsServedReached new
+reached_on old new [] reached is = subst IsServedReached (sym is) reached
 reached_on old new (c ∷ calls) reached steps =
-    reached_on steps.0 new calls (reached_step device_runs device_parked device_cuts old steps.0 c reached steps.1) steps.2
+    reached_on steps.0 new calls (reached_step served_runs served_parked served_cuts old steps.0 c reached steps.1) steps.2
 
 -- what a pass has seen after a call ends with a reply that the desk gives there
-pub replied_by : (turn : TurnId SessionStation) (p q : SessionPass) (call : DeskCall) (reply : DeskReply) → IsReachedBy turn.opening → Called p call reply q
+pub replied_by : (turn : TurnId SessionStation) (p q : SessionPass) (call : DeskCall) (reply : DeskReply) → IsServedReached turn.opening → Called p call reply q
     → IsLegal SessionDeskStep turn.opening q.seen → IsDeskReply call reply
 replied_by turn p q call reply reached called legal =
     let added = called.0 in
@@ -35,7 +34,7 @@ replied_by turn p q call reply reached called legal =
     record {
       before = parted.0;
       after = (parted.2).0;
-      reached = Leads-keeps_fact SessionDeskStep IsReachedBy (λ a c r b step good. reached_on a b _ good step.0) turn.opening (p.seen ++ added) parted.0 parted.1 reached;
+      reached = Leads-keeps_fact SessionDeskStep IsServedReached (λ a c r b step good. reached_on a b _ good step.0) turn.opening (p.seen ++ added) parted.0 parted.1 reached;
       step = (parted.2).1;
     }
 
@@ -73,7 +72,7 @@ collect_reply (replied.Collected None) r = tt
 collect_reply (replied.Collected (Some c)) r =
     let is : collect r.before ≡ (((r.step).0).0, Some c) = ((r.step).0).1 in
     let (later, ready) = collected_first r.before ((r.step).0).0 c is in
-    let kept = reached_kept device_runs device_parked device_cuts r.before r.reached in
+    let kept = reached_kept served_runs served_parked served_cuts r.before r.reached in
     All-head (λ (x : Completion). CompletesKind x.kind x.reply) c later (subst (All (λ (x : Completion). CompletesKind x.kind x.reply)) ready kept.ready)
 collect_reply (replied.Removed answer) r = (r.step).1
 collect_reply replied.Dropped r = (r.step).1

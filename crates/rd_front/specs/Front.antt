@@ -1,5 +1,5 @@
 -- What each call of a front does. No public standard has one: these are this project's own rules.
-use Rattle.std.specs.Prelude.{◌≡◌, ℕ, zero, suc, ◌+◌, ◌-◌, ◌==◌, ◌&&◌, Bool, true, false, not, nat_le, nat_lt, is_none, if◌then◌else◌, List, [], ◌∷◌, length, position, slice_get, slice_set, Option, Some, None, IfSome, Result, Ok, Err}
+use Rattle.std.specs.Prelude.{◌≡◌, ℕ, zero, suc, ◌+◌, ◌-◌, ◌==◌, ◌&&◌, Bool, true, false, not, nat_le, nat_lt, is_none, if◌then◌else◌, List, [], ◌∷◌, drop, length, position, slice_get, slice_set, Option, Some, None, IfSome, Result, Ok, Err}
 use Rattle.std.specs.declared.alloc.AllocError.{AllocError}
 use Rattle.std.specs.List.{AllZip}
 use Rattle.std.specs.Map.{lookup}
@@ -21,6 +21,7 @@ use Rattle.rd_drive.specs.declared.plan.Job.{Job}
 use Rattle.rd_drive.specs.Device.{CompletesKind}
 use Rattle.rd_hello.specs.declared.end_fault.EndFault.{EndFault}
 use Rattle.rd_hello.specs.declared.end_fault.EndFault.TheVariants as fault
+use Rattle.rd_irp.specs.Completion.{SpellsBody, SpellsHead}
 use Rattle.rd_printer.specs.declared.notice.Notice.{Notice}
 use Rattle.rd_printer.specs.Cache.{HearsNotice}
 use Rattle.rd_station.specs.declared.answers.Completion.{Completion}
@@ -328,9 +329,15 @@ abbrev pub IsCollectReply : DeskReply → Type 0
 IsCollectReply (replied.Collected answer) = IfSome answer (λ (c : Completion). CompletesKind c.kind c.reply)
 IsCollectReply _ = ⊥
 
+-- a message spells a completion of a device: its numbers have room
+abbrev pub SpellsCompletion : ℕ → Completion → List ℕ → Type 0
+SpellsCompletion device c message =
+    SpellsHead (record { device = device; completion = c.completion; status = (c.reply).status }) (length (drop 16 message)) message
+    × ((tail : ℕ) × SpellsBody c.kind (c.reply).status (c.reply).body tail (drop 16 message))
+
 -- a completion as a message, where memory is found for it
 abbrev pub GivesWritten : ℕ → Completion → Got → Type 0
-GivesWritten device c (got.Message message) = message ≡ completion_message device c
+GivesWritten device c (got.Message message) = (message ≡ completion_message device c) × SpellsCompletion device c message
 GivesWritten device c got.Memory = Unit {0}
 GivesWritten device c got.Nothing = ⊥
 

@@ -5,21 +5,20 @@ use Rattle.rd_desk.specs.declared.calls.DeskCall.{DeskCall}
 use Rattle.rd_desk.specs.declared.calls.DeskReply.{DeskReply}
 use Rattle.rd_desk.specs.Desk.{DeskStep}
 use Rattle.rd_printer.specs.Cache.{CacheState}
+use Rattle.rd_served_devices.specs.ServedDevices.{IsServedReached, ServedDeviceState, served_cuts, served_parked, served_runs}
 use Rattle.rd_station.specs.Station.{StationState}
 use Rattle.rd_turn.specs.History.{IsLegal}
 use Rattle.rd_turn.specs.Pass.{Belongs, Called, IsSamePass, PassState, TurnId}
-use Rattle.rd_world.specs.Devices.{PrinterNames, device_cuts, device_parked, device_runs}
-use Rattle.rd_world.specs.Stations.{IsReachedBy}
+use Rattle.rd_world.specs.Devices.{PrinterNames}
 use Rattle.rd_world.specs.World.{Kept}
-use Rattle.rd_world.specs.declared.device.SessionDevice.{SessionDevice}
 
 -- the station of a device of a session
 abbrev pub SessionStation : Type 0
-SessionStation = StationState SessionDevice
+SessionStation = StationState ServedDeviceState
 
 -- a desk's step, over the devices of a session
 abbrev pub SessionDeskStep : SessionStation → DeskCall → DeskReply → SessionStation → Type 0
-SessionDeskStep = DeskStep device_runs device_parked device_cuts
+SessionDeskStep = DeskStep served_runs served_parked served_cuts
 
 -- the pass by which a desk is called
 abbrev pub SessionPass : Type 0
@@ -52,7 +51,7 @@ pub record FrontState : Type 0 where
 pub record IsDeskReply (call : DeskCall) (reply : DeskReply) : Type 0 where
   pub before : SessionStation
   pub after : SessionStation
-  pub reached : IsReachedBy before
+  pub reached : IsServedReached before
   pub step : SessionDeskStep before call reply after
 
 -- A call of a desk, made with the front's pass: what the pass has seen ends with the call and its reply, and all of it is a legal history of the desk.
@@ -67,4 +66,4 @@ pub record IsCalled (old : DeviceDeskState) (call : DeskCall) (reply : DeskReply
 -- The front's pass of a desk belongs to its turn, and the station that the turn was made with came to be by its calls.
 pub record KeepsDesk (turn : TurnId SessionStation) (pass : SessionPass) : Type 0 where
   pub own : Belongs turn pass
-  pub reached : IsReachedBy turn.opening
+  pub reached : IsServedReached turn.opening

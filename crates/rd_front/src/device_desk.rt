@@ -3,22 +3,23 @@
 ghost use Rattle.std.specs.Prelude.{◌≡◌};
 ghost use Rattle.rd_turn.specs.Pass.{Belongs};
 ghost use Rattle.rd_front.specs.State.{IsCalled};
-ghost use Rattle.rd_world.specs.Stations.{IsReachedBy};
+ghost use Rattle.rd_served_devices.specs.ServedDevices.{IsServedReached};
 
 use rd_desk::{Desk, DeskCall, DeskReply};
+use rd_folder::Folder;
+use rd_served_devices::ServedDevice;
 use rd_turn::{Pass, Turn};
-use rd_world::SessionDevice;
 use std::marker::Model;
 use std::sync::Wait;
 
 /// A device's id, its desk behind a turn, and the pass that makes the front's calls there. Contracts see a `DeviceDeskState`.
-pub struct DeviceDesk<'a> {
+pub struct DeviceDesk<'a, F: Folder + Drop> {
     id: u32,
-    turn: &'a Turn<Desk<SessionDevice>>,
-    pass: Pass<Desk<SessionDevice>>,
+    turn: &'a Turn<Desk<ServedDevice<F>>>,
+    pass: Pass<Desk<ServedDevice<F>>>,
 }
 
-impl<'a> Model for DeviceDesk<'a> {
+impl<'a, F: Folder + Drop> Model for DeviceDesk<'a, F> {
     ghost use Rattle.rd_front.specs.State.{DeviceDeskState, KeepsDesk};
 
     ghost Value = { DeviceDeskState };
@@ -28,15 +29,15 @@ impl<'a> Model for DeviceDesk<'a> {
     ghost invariant = { λ d. KeepsDesk d.turn.now d.pass };
 }
 
-impl<'a> DeviceDesk<'a> {
+impl<'a, F: Folder + Drop> DeviceDesk<'a, F> {
     /// The device with this id, at this turn, which the pass belongs to.
     pub fn new(
         id: u32,
-        turn: &'a Turn<Desk<SessionDevice>>,
-        pass: Pass<Desk<SessionDevice>>,
+        turn: &'a Turn<Desk<ServedDevice<F>>>,
+        pass: Pass<Desk<ServedDevice<F>>>,
     ) -> Self
         requires own { Belongs turn.now pass }
-        requires reached { IsReachedBy turn.now.opening }
+        requires reached { IsServedReached turn.now.opening }
         ensures { result ≡ record { id = id; turn = turn.now; pass = pass } }
     {
         DeviceDesk { id, turn, pass }
@@ -57,7 +58,7 @@ impl<'a> DeviceDesk<'a> {
     }
 
     /// The pass, so that it can be joined.
-    pub fn into_pass(self) -> Pass<Desk<SessionDevice>>
+    pub fn into_pass(self) -> Pass<Desk<ServedDevice<F>>>
         ensures same { result ≡ self.entry.pass }
         ensures own { Belongs self.entry.turn result }
     {
@@ -70,7 +71,7 @@ impl<'a> DeviceDesk<'a> {
     }
 }
 
-impl<'a> Drop for DeviceDesk<'a> {
+impl<'a, F: Folder + Drop> Drop for DeviceDesk<'a, F> {
     fn drop(self) {
         let Self {
             id: _,

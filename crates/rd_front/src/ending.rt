@@ -9,9 +9,10 @@ use crate::calls::FrontReply;
 use crate::device_desk::DeviceDesk;
 use crate::front::Front;
 use rd_desk::DeskCall;
+use rd_folder::Folder;
 use std::sync::Wait;
 
-impl<'a, T: Wait> Front<'a, T> {
+impl<'a, T: Wait, F: Folder + Drop> Front<'a, T, F> {
     /// The channel ended, where one is on.
     pub(crate) fn end_channel(&mut self) -> FrontReply
         ensures { FrontStep self.old Call.EndChannel result self.new }
@@ -59,7 +60,7 @@ impl<'a, T: Wait> Front<'a, T> {
 }
 
 /// Each desk is told that the channel ended, or the session.
-fn end_desks<'a, T: Wait>(rt: &T, desks: &mut [DeviceDesk<'a>], over: bool)
+fn end_desks<'a, T: Wait, F: Folder + Drop>(rt: &T, desks: &mut [DeviceDesk<'a, F>], over: bool)
     ensures { AllZip (EndsBy (end_call over)) desks.old desks.new }
 {
     for place in 0..desks.len() {

@@ -7,6 +7,7 @@ use crate::calls::{FrontCall, FrontReply};
 use crate::device_desk::DeviceDesk;
 use crate::kept_job::KeptJob;
 use rd_desk::{DeskCall, DeskReply};
+use rd_folder::Folder;
 use rd_printer::Cache;
 use rd_turn::Object;
 use rd_world::{Client, Printers};
@@ -18,13 +19,13 @@ use std::sync::Wait;
 const MAX_UNSENT: u32 = 1024;
 
 /// What the reader and the writer of a client share. Contracts see a `FrontState`.
-pub struct Front<'a, T: Wait> {
+pub struct Front<'a, T: Wait, F: Folder + Drop> {
     pub(crate) rt: &'a T,
     pub(crate) alloc: Global,
     pub(crate) client: Client,
     pub(crate) printers: Printers,
     pub(crate) cache: Cache,
-    pub(crate) desks: Vec<DeviceDesk<'a>>,
+    pub(crate) desks: Vec<DeviceDesk<'a, F>>,
     pub(crate) kept: Option<KeptJob>,
     /// The number of the channel that began last.
     pub(crate) channel: u32,
@@ -36,7 +37,7 @@ pub struct Front<'a, T: Wait> {
     pub(crate) unsent: u32,
 }
 
-impl<'a, T: Wait> Model for Front<'a, T> {
+impl<'a, T: Wait, F: Folder + Drop> Model for Front<'a, T, F> {
     ghost use Rattle.rd_front.specs.State.{FrontState};
 
     ghost Value = { FrontState };
@@ -54,7 +55,7 @@ impl<'a, T: Wait> Model for Front<'a, T> {
     } };
 }
 
-impl<'a, T: Wait> Object for Front<'a, T> {
+impl<'a, T: Wait, F: Folder + Drop> Object for Front<'a, T, F> {
     ghost use Rattle.rd_front.specs.Front.{FrontStep};
 
     type Call = FrontCall;
@@ -82,14 +83,14 @@ impl<'a, T: Wait> Object for Front<'a, T> {
     }
 }
 
-impl<'a, T: Wait> Front<'a, T> {
+impl<'a, T: Wait, F: Folder + Drop> Front<'a, T, F> {
     /// A front over these desks, before the first channel.
     pub fn new(
         rt: &'a T,
         alloc: Global,
         client: Client,
         printers: Printers,
-        desks: Vec<DeviceDesk<'a>>,
+        desks: Vec<DeviceDesk<'a, F>>,
     ) -> Self
         ensures { result ≡ record {
           client = client;
@@ -119,7 +120,7 @@ impl<'a, T: Wait> Front<'a, T> {
     }
 
     /// The desks, so that their passes can be joined.
-    pub fn into_desks(self) -> Vec<DeviceDesk<'a>>
+    pub fn into_desks(self) -> Vec<DeviceDesk<'a, F>>
         ensures { result.items ≡ self.entry.desks }
     {
         let Self {
@@ -197,7 +198,7 @@ impl<'a, T: Wait> Front<'a, T> {
     }
 }
 
-impl<'a, T: Wait> Drop for Front<'a, T> {
+impl<'a, T: Wait, F: Folder + Drop> Drop for Front<'a, T, F> {
     fn drop(self) {
         let Self {
             rt: _,

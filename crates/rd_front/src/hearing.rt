@@ -12,6 +12,7 @@ use rd_base::Status;
 use rd_client::Heard;
 use rd_desk::{DeskCall, DeskReply};
 use rd_drive::Job;
+use rd_folder::Folder;
 use rd_hello::EndFault;
 use rd_printer::Notice;
 use rd_station::{AnnounceNo, PutNo, PutWhy};
@@ -24,7 +25,7 @@ const INSUFFICIENT_RESOURCES: Status = Status(0xc000_009a);
 /// The most requests that a client hears on a channel.
 const MAX_ASKED: u64 = 1 << 40;
 
-impl<'a, T: Wait> Front<'a, T> {
+impl<'a, T: Wait, F: Folder + Drop> Front<'a, T, F> {
     /// A message is heard, where one may be.
     pub(crate) fn hear(&mut self, message: &[u8]) -> FrontReply
         ensures { FrontStep self.old (Call.Hear message.now) result self.new }

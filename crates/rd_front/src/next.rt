@@ -12,6 +12,7 @@ use crate::calls::{FrontReply, Rest};
 use crate::front::Front;
 use rd_base::Bytes;
 use rd_desk::{DeskCall, DeskReply};
+use rd_folder::Folder;
 use rd_irp::{Head, write_completion};
 use rd_room::Room;
 use rd_station::Completion;
@@ -27,7 +28,7 @@ pub enum Got {
     Memory,
 }
 
-impl<'a, T: Wait> Front<'a, T> {
+impl<'a, T: Wait, F: Folder + Drop> Front<'a, T, F> {
     /// Messages to be written on a channel, as many as there is room for.
     pub(crate) fn next(&mut self, channel: u32, place: usize, mut room: Room) -> FrontReply
         ensures { FrontStep self.old (Call.Next channel place room) result self.new }

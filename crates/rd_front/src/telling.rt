@@ -8,10 +8,11 @@ ghost use Rattle.rd_front.specs.declared.calls.FrontCall.TheVariants as Call;
 use crate::calls::FrontReply;
 use crate::front::Front;
 use rd_desk::DeskCall;
+use rd_folder::Folder;
 use std::alloc::AllocError;
 use std::sync::Wait;
 
-impl<'a, T: Wait> Front<'a, T> {
+impl<'a, T: Wait, F: Folder + Drop> Front<'a, T, F> {
     /// A channel of this number begins, where it may.
     pub(crate) fn begin(&mut self, channel: u32) -> FrontReply
         ensures { FrontStep self.old (Call.Begin channel) result self.new }

@@ -3,24 +3,26 @@
 ghost use Rattle.std.specs.Prelude.{IfSome};
 ghost use Rattle.rd_turn.specs.Pass.{Belongs, IsSamePass};
 ghost use Rattle.rd_front.specs.Kept.{DesksGoOn};
-ghost use Rattle.rd_world.specs.Stations.{IsReachedBy};
+ghost use Rattle.rd_served_devices.specs.ServedDevices.{IsServedReached};
 
 use rd_desk::Desk;
+use rd_folder::Folder;
 use rd_front::{DeviceDesk, Front, FrontCall, FrontReply, fronts_call_desks};
+use rd_served_devices::ServedDevice;
 use rd_turn::{Caller, Pass, Turn};
-use rd_world::{Client, Printers, SessionDevice};
+use rd_world::{Client, Printers};
 use std::alloc::Global;
 use std::sync::Wait;
 use std::thread::{Threads, join};
 
 /// Two threads call one front at once. Its desks go on by these calls.
-pub fn call_side_by_side<'a, T: Threads + Wait + Sync>(
+pub fn call_side_by_side<'a, T: Threads + Wait + Sync, F: Folder + Drop + Send>(
     rt: &'a T,
     alloc: Global,
-    front: Front<'a, T>,
+    front: Front<'a, T, F>,
     reads: FrontCall,
     writes: FrontCall,
-) -> Option<(FrontReply, FrontReply, Front<'a, T>)>
+) -> Option<(FrontReply, FrontReply, Front<'a, T, F>)>
     ensures { IfSome result (λ r. DesksGoOn front.entry r.2) }
 {
     fronts_call_desks();
@@ -37,17 +39,17 @@ pub fn call_side_by_side<'a, T: Threads + Wait + Sync>(
 }
 
 /// A front over one desk, which two threads call at once; and the pass of the desk afterwards.
-pub fn on_one_desk<'a, T: Threads + Wait + Sync>(
+pub fn on_one_desk<'a, T: Threads + Wait + Sync, F: Folder + Drop + Send>(
     rt: &'a T,
     alloc: Global,
     client: Client,
-    turn: &'a Turn<Desk<SessionDevice>>,
-    pass: Pass<Desk<SessionDevice>>,
+    turn: &'a Turn<Desk<ServedDevice<F>>>,
+    pass: Pass<Desk<ServedDevice<F>>>,
     reads: FrontCall,
     writes: FrontCall,
-) -> Option<(FrontReply, FrontReply, Pass<Desk<SessionDevice>>)>
+) -> Option<(FrontReply, FrontReply, Pass<Desk<ServedDevice<F>>>)>
     requires own { Belongs turn.now pass }
-    requires reached { IsReachedBy turn.now.opening }
+    requires reached { IsServedReached turn.now.opening }
     ensures own { IfSome result (λ r. Belongs turn.now r.2) }
     ensures same { IfSome result (λ r. IsSamePass pass r.2) }
 {

@@ -6,8 +6,10 @@ use rd_desk::Desk;
 use rd_devices::DeviceList;
 use rd_dirinfo::Naming;
 use rd_drive::MemoryDrive;
+use rd_folder::MemFolder;
 use rd_front::{FrontCall, FrontReply, Rest};
 use rd_room::Room;
+use rd_served_devices::ServedDevice;
 use rd_station::Station;
 use rd_turn::Turn;
 use rd_world::{Client, SessionDevice};
@@ -18,7 +20,8 @@ fn a_channel_begins_beside_the_writer(rt: HostRuntime) -> Result<(), Fail> {
     let alloc = rt.alloc();
     let label = Units::of(Vec::new(alloc));
     let drive = MemoryDrive::new(alloc, label, Naming::Exact)?;
-    let Ok(station) = Station::new(alloc, SessionDevice::Drive(drive)) else {
+    let device: ServedDevice<MemFolder> = ServedDevice::made(SessionDevice::Drive(drive));
+    let Ok(station) = Station::new(alloc, device) else {
         return Err("there was no memory".into());
     };
     let Ok(desk) = Desk::new(alloc, station) else {

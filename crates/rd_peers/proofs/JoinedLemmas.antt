@@ -1,9 +1,9 @@
 -- A client's session and a host are joined.
 use Rattle.std.proofs.Common.{◌≡◌, ◌∙◌, ◌<◌, ◌==◌, ◌||◌, refl, sym, ap, subst, inl, inr, ℕ, Bool, true, false, List, [], ◌∷◌, ◌++◌, length, map, reverse, append_assoc, Option, Some, None, eqb-true}
-use Rattle.std.specs.Prelude.{Contains}
+use Rattle.std.specs.Prelude.{Contains, cond}
 use Rattle.std.specs.List.{AllByRecursion, cons_option}
 use Rattle.std.specs.Map.{lookup}
-use Rattle.std.specs.Option.{option_map_or, unwrap_or}
+use Rattle.std.specs.Option.{option_map, option_map_or, unwrap_or}
 use Rattle.std.specs.Ordering.{nat_cmp}
 use Rattle.std.specs.BTreeMap.{is_at}
 use Rattle.std.proofs.Math.Path.{fun_ext}
@@ -26,7 +26,11 @@ use Rattle.rd_served_sessions.proofs.JoinedTiedLemmas.{joined_with}
 use Rattle.rd_served_sessions.proofs.RepliedMatchLemmas.{gives_same}
 use Rattle.rd_printer.specs.Printer.{new_printer}
 use Rattle.rd_script.specs.declared.line.NumberedLine.{NumberedLine}
-use Rattle.rd_served_sessions.specs.Sessions.{AreServable, IsToldSession}
+use Rattle.rd_served_sessions.specs.ServedDevices.{ServedDeviceState, made}
+use Rattle.rd_served_sessions.specs.ServedParts.{FrontPart}
+use Rattle.rd_served_sessions.specs.ServedRepliesGiven.{all_handed, known_as, replies_known, replies_served}
+use Rattle.rd_served_sessions.specs.Sessions.{AreServable, IsToldSession, device_states}
+use Rattle.rd_sharing.specs.ServedOpening.{ServedDeclared, as_made}
 use Rattle.rd_station.proofs.Calls.{reached_kept, reached_new}
 use Rattle.rd_station.specs.Station.{new_station}
 use Rattle.rd_workers.specs.Channels.{LinkerTold}
@@ -41,10 +45,10 @@ use Rattle.rd_world.specs.Joining.{AreJoined, IsCarried, Joins, Stands}
 use Rattle.rd_world.specs.Opening.{bare_lines}
 use Rattle.rd_world.specs.Recording.{no_request}
 use Rattle.rd_world.specs.Run.{declared_devices}
-use Rattle.rd_world.specs.Session.{replies_in, replies_read}
+use Rattle.rd_world.specs.Session.{replies_in, replies_read, request_read}
 use Rattle.rd_world.specs.Talk.{AtEachPoint, Deed, EachAfter, adds, client_reads, client_writes, completes, host_begins, host_ends, host_reads, host_writes, journal, removes, request_at, stored_by, stores, submits, takes, tells}
 use Rattle.rd_world.specs.Told.{Answers, AreAnswered, IsAnswerAt, IsReplied, Replies, worn_entries}
-use Rattle.rd_peers.specs.Peers.{clients_part}
+use Rattle.rd_peers.specs.Peers.{clients_part, made_devices}
 use Rattle.rd_peers.proofs.PartLemmas.{all_answered, all_stand, same_journal, same_read}
 
 -- ---- keys were read
@@ -126,6 +130,32 @@ module _ (replies others : Replies) where
   all_by [] same all = tt
   all_by (d ∷ deeds) same all = let before = same_before d deeds same in (answers_by deeds d before all.0, all_by deeds before all.1)
 
+-- ---- devices that a script makes up
+
+-- how such a device begins
+abbrev begins_made : Declared → ServedDeviceState
+begins_made d = made d.state
+
+found_made : (test : ℕ → Bool) (ds : List (ℕ × Declared)) → lookup test (device_states (map as_made ds)) ≡ option_map begins_made (lookup test ds)
+found_made test [] = refl
+found_made test (d ∷ ds) = by (test d.0) (found_made test ds)
+  where
+    by : (b : Bool) → lookup test (device_states (map as_made ds)) ≡ option_map begins_made (lookup test ds) → cond b (Some (made (d.1).state)) (lookup test (device_states (map as_made ds))) ≡ option_map begins_made (cond b (Some d.1) (lookup test ds))
+    by true same = refl
+    by false same = same
+
+-- the replies of such a device are by its steps
+by_steps : (calm : Bool) (requests : Key → Request) (handed : List KeyedReply) (items : List Item) (o : Option Declared)
+    → option_map_or (λ (d : ServedDeviceState). replies_known requests handed (known_as calm d) items) (option_map begins_made o) []
+    ≡ option_map_or (λ (d : Declared). replies_by device_step device_cut requests d.state items) o []
+by_steps calm requests handed items None = refl
+by_steps calm requests handed items (Some d) = refl
+
+replies_made : (calm : Bool) (devices : List (ℕ × Declared)) (parts : List (List FrontPart)) (deeds : List Deed) → replies_served calm (device_states (map as_made devices)) parts deeds ≡ replies_read devices deeds
+replies_made calm devices parts deeds = fun_ext (λ (device : ℕ). fun_ext (λ (items : List Item).
+    ap (λ (o : Option ServedDeviceState). option_map_or (λ (d : ServedDeviceState). replies_known (request_read deeds) (all_handed device parts) (known_as calm d) items) o []) (found_made (is_at (nat_cmp device)) devices)
+    ∙ by_steps calm (request_read deeds) (all_handed device parts) items (lookup (is_at (nat_cmp device)) devices)))
+
 -- ---- all of it
 
 module _ (devices : List (ℕ × Declared)) (deeds : List Deed) where
@@ -151,36 +181,37 @@ none_lawful : IsLawful []
 none_lawful = (reached_kept device_runs device_parked device_cuts (new_station (session.Printer new_printer)) (reached_new device_runs device_parked device_cuts (session.Printer new_printer) refl)).lawful
 
 -- the journal of a device that was declared is lawful, and of others there is none
-among_lawful : (devices : List (ℕ × Declared)) (deeds : List Deed) (device : ℕ) → AllByRecursion (λ (d : ℕ × Declared). IsLawful (reverse (journal d.0 deeds))) devices
-    → is_among (map (λ (d : ℕ × Declared). d.0) devices) device ≡ true → IsLawful (reverse (journal device deeds))
+among_lawful : (devices : List (ℕ × ServedDeclared)) (deeds : List Deed) (device : ℕ) → AllByRecursion (λ (d : ℕ × ServedDeclared). IsLawful (reverse (journal d.0 deeds))) devices
+    → is_among (map (λ (d : ℕ × ServedDeclared). d.0) devices) device ≡ true → IsLawful (reverse (journal device deeds))
 among_lawful [] deeds device all among = absurd (cc (among))
 among_lawful (d ∷ devices) deeds device all among = by (d.0 == device) refl among (among_lawful devices deeds device all.1)
   where
-    by : (b : Bool) → (d.0 == device) ≡ b → (b || is_among (map (λ (e : ℕ × Declared). e.0) devices) device) ≡ true → (is_among (map (λ (e : ℕ × Declared). e.0) devices) device ≡ true → IsLawful (reverse (journal device deeds)))
+    by : (b : Bool) → (d.0 == device) ≡ b → (b || is_among (map (λ (e : ℕ × ServedDeclared). e.0) devices) device) ≡ true → (is_among (map (λ (e : ℕ × ServedDeclared). e.0) devices) device ≡ true → IsLawful (reverse (journal device deeds)))
         → IsLawful (reverse (journal device deeds))
     by true same there later = subst (λ (n : ℕ). IsLawful (reverse (journal n deeds))) (eqb-true d.0 device same) all.0
     by false other there later = later there
 
-lawful_at : (devices : List (ℕ × Declared)) (deeds : List Deed) → AllByRecursion (λ (d : ℕ × Declared). IsLawful (reverse (journal d.0 deeds))) devices
-    → ((device : ℕ) → is_among (map (λ (d : ℕ × Declared). d.0) devices) device ≡ false → journal device deeds ≡ []) → (device : ℕ) → IsLawful (reverse (journal device deeds))
-lawful_at devices deeds all none device = by (is_among (map (λ (d : ℕ × Declared). d.0) devices) device) refl
+lawful_at : (devices : List (ℕ × ServedDeclared)) (deeds : List Deed) → AllByRecursion (λ (d : ℕ × ServedDeclared). IsLawful (reverse (journal d.0 deeds))) devices
+    → ((device : ℕ) → is_among (map (λ (d : ℕ × ServedDeclared). d.0) devices) device ≡ false → journal device deeds ≡ []) → (device : ℕ) → IsLawful (reverse (journal device deeds))
+lawful_at devices deeds all none device = by (is_among (map (λ (d : ℕ × ServedDeclared). d.0) devices) device) refl
   where
-    by : (b : Bool) → is_among (map (λ (d : ℕ × Declared). d.0) devices) device ≡ b → IsLawful (reverse (journal device deeds))
+    by : (b : Bool) → is_among (map (λ (d : ℕ × ServedDeclared). d.0) devices) device ≡ b → IsLawful (reverse (journal device deeds))
     by true among = among_lawful devices deeds device all among
     by false other = subst (λ (items : List Item). IsLawful (reverse items)) (sym (none device other)) none_lawful
 
-pub client_joined : (lines : List NumberedLine) (channels : ℕ) (by : Ended) (entries : List FrontEntry) (books : List (ℕ × History)) (old new : LinkerTold) → AreServable lines
-    → (told_session : IsToldSession (declared_devices (bare_lines lines)) lines channels by entries books old new) (client : ℕ) (deeds : List Deed) → clients_part deeds ≡ told_session.deeds
+pub client_joined : (calm : Bool) (lines : List NumberedLine) (channels : ℕ) (by : Ended) (entries : List FrontEntry) (books : List (ℕ × History)) (old new : LinkerTold) → AreServable lines
+    → (told_session : IsToldSession calm (made_devices lines) lines channels by entries books old new) (client : ℕ) (deeds : List Deed) → clients_part deeds ≡ told_session.deeds
     → AtEachPoint IsCarried deeds → EachAfter (λ before deed. MayDo (side_of client before) deed) deeds → ((device : ℕ) → length (journal device deeds) < worn_entries)
     → let replies = replies_in (declared_devices (bare_lines lines)) deeds in AreJoined client replies deeds × Joins client replies deeds
-client_joined lines channels by entries books old new servable told_session client deeds is carried host room =
+client_joined calm lines channels by entries books old new servable told_session client deeds is carried host room =
     let devices = declared_devices (bare_lines lines) in
     let replies = replies_in devices deeds in
     let fit = bounded_fit lines servable.bounded in
     let stands : EachAfter Stands deeds = all_stand deeds (subst (EachAfter Stands) (sym is) told_session.stands) in
     let lawful : (device : ℕ) → IsLawful (reverse (journal device deeds)) = λ device.
-    subst (λ (items : List Item). IsLawful (reverse items)) (same_journal device deeds) (subst (λ (ds : List Deed). IsLawful (reverse (journal device ds))) (sym is) (lawful_at devices told_session.deeds told_session.lawful told_session.own device)) in
-    let told : AreAnswered (replies_read devices deeds) deeds = told_whole devices deeds (subst (λ (ds : List Deed). AreAnswered (replies_read devices ds) ds) (sym is) told_session.told) in
+    subst (λ (items : List Item). IsLawful (reverse items)) (same_journal device deeds) (subst (λ (ds : List Deed). IsLawful (reverse (journal device ds))) (sym is) (lawful_at (made_devices lines) told_session.deeds told_session.lawful told_session.own device)) in
+    let told : AreAnswered (replies_read devices deeds) deeds = told_whole devices deeds (subst (λ (ds : List Deed). AreAnswered (replies_read devices ds) ds) (sym is)
+    (subst (λ (given : Replies). AreAnswered given told_session.deeds) (replies_made calm devices told_session.parts told_session.deeds) told_session.told)) in
     let tied : AreTied client replies deeds = record {
       carried = carried;
       host = host;

@@ -1,6 +1,6 @@
 //! What joins two processes, as a contract of a function that does nothing.
 
-ghost use Rattle.std.specs.Prelude.{◌≡◌, ℕ, ◌<◌, List, length, slice_get, Contains, Option, Some};
+ghost use Rattle.std.specs.Prelude.{◌≡◌, ℕ, ◌<◌, Bool, List, length, slice_get, Contains, Option, Some};
 ghost use Rattle.rd_base.specs.History.{History};
 ghost use Rattle.rd_carry.specs.declared.ended.Ended.{Ended};
 ghost use Rattle.rd_front.specs.Calls.{FrontEntry};
@@ -12,7 +12,7 @@ ghost use Rattle.rd_host_turns.specs.Turns.{TableEntry};
 ghost use Rattle.rd_hosted.specs.Kept.{KeepsTable, calls_of_front, calls_of_table};
 ghost use Rattle.rd_issuer.specs.declared.issuer.Issuer.{Issuer};
 ghost use Rattle.rd_peers.specs.Lines.{LinesAreOwn};
-ghost use Rattle.rd_peers.specs.Peers.{IsOwnOutcome, clients_part, hosts_part};
+ghost use Rattle.rd_peers.specs.Peers.{IsOwnOutcome, clients_part, hosts_part, made_devices};
 ghost use Rattle.rd_pending.specs.declared.calls.Taken.{Taken};
 ghost use Rattle.rd_script.specs.declared.line.NumberedLine.{NumberedLine};
 ghost use Rattle.rd_script.specs.declared.outcome.Outcome.{Outcome};
@@ -29,20 +29,20 @@ ghost use Rattle.rd_world.specs.Talk.{AtEachPoint, Deed, EachAfter, journal};
 ghost use Rattle.rd_world.specs.Told.{worn_entries};
 ghost use Rattle.rd_world.specs.World.{new_application};
 
-/// A client whose session came to what is promised of it, and a host that keeps its table, are joined where messages are carried between them and no journal is worn: so all that the joining law says holds of
+/// A client whose devices its script makes up and whose session came to what is promised of it, and a host that keeps its table, are joined where messages are carried between them and no journal is worn: so all that the joining law says holds of
 /// them.
 pub fn clients_are_joined()
-    ensures { (lines : List NumberedLine) (channels : ℕ) (by : Ended) (entries : List FrontEntry) (books : List (ℕ × History)) (old new : LinkerTold) → AreServable lines
-        → (session : IsToldSession (declared_devices (bare_lines lines)) lines channels by entries books old new) (client : ℕ) (deeds : List Deed) → clients_part deeds ≡ session.deeds
+    ensures { (calm : Bool) (lines : List NumberedLine) (channels : ℕ) (by : Ended) (entries : List FrontEntry) (books : List (ℕ × History)) (old new : LinkerTold) → AreServable lines
+        → (session : IsToldSession calm (made_devices lines) lines channels by entries books old new) (client : ℕ) (deeds : List Deed) → clients_part deeds ≡ session.deeds
         → AtEachPoint IsCarried deeds → EachAfter (λ before deed. MayDo (side_of client before) deed) deeds → ((device : ℕ) → length (journal device deeds) < worn_entries)
         → let replies = replies_in (declared_devices (bare_lines lines)) deeds in AreJoined client replies deeds × Joins client replies deeds }
 {}
 
-/// A client and a host over sockets, each by what its own session came to, are joined where messages are carried between them and no journal is worn; so each outcome that the host's table handed out is that of
+/// Such a client and a host over sockets, each by what its own session came to, are joined where messages are carried between them and no journal is worn; so each outcome that the host's table handed out is that of
 /// the request with its number, and where it is a reply, the one that the journal of the request's device gives to it.
 pub fn peers_are_joined<W>()
-    ensures { (lines : List NumberedLine) (channels : ℕ) (by : Ended) (entries : List FrontEntry) (books : List (ℕ × History)) (old new : LinkerTold) → AreServable lines
-        → (session : IsToldSession (declared_devices (bare_lines lines)) lines channels by entries books old new) (seen : List TableEntry) (calls : List (HostEntry W)) (keeps : KeepsTable seen calls) (deeds : List Deed)
+    ensures { (calm : Bool) (lines : List NumberedLine) (channels : ℕ) (by : Ended) (entries : List FrontEntry) (books : List (ℕ × History)) (old new : LinkerTold) → AreServable lines
+        → (session : IsToldSession calm (made_devices lines) lines channels by entries books old new) (seen : List TableEntry) (calls : List (HostEntry W)) (keeps : KeepsTable seen calls) (deeds : List Deed)
         → clients_part deeds ≡ session.deeds → hosts_part deeds ≡ keeps.deeds → AtEachPoint IsCarried deeds → ((device : ℕ) → length (journal device deeds) < worn_entries)
         → let replies = replies_in (declared_devices (bare_lines lines)) deeds in
         AreJoined client_id replies deeds × Joins client_id replies deeds × ((number : ℕ) (taken : Taken) → Contains (handed_in seen) (number, taken) → IsOwnOutcome client_id replies deeds number taken) }
@@ -52,8 +52,8 @@ pub fn peers_are_joined<W>()
 /// outcome is what came of that request: the reply that the journal of the request's device gives to it, or that it was lost. The application has no other request. `lines_have_their_outcomes` of `rd_host_lines` says that
 /// these outcomes are what is told.
 pub fn lines_have_their_own()
-    ensures { (lines : List NumberedLine) (channels : ℕ) (by : Ended) (entries : List FrontEntry) (books : List (ℕ × History)) (old new : LinkerTold) → AreServable lines
-        → (session : IsToldSession (declared_devices (bare_lines lines)) lines channels by entries books old new) (played : List NumberedLine) (other : Option Ended) (told : List ((ℕ × ℕ) × Outcome)) (before after : LinkedTold)
+    ensures { (calm : Bool) (lines : List NumberedLine) (channels : ℕ) (by : Ended) (entries : List FrontEntry) (books : List (ℕ × History)) (old new : LinkerTold) → AreServable lines
+        → (session : IsToldSession calm (made_devices lines) lines channels by entries books old new) (played : List NumberedLine) (other : Option Ended) (told : List ((ℕ × ℕ) × Outcome)) (before after : LinkedTold)
         → (hosts : Hosts played other told before after) (keeps : KeepsTable (calls_of_table played other told before after hosts) (calls_of_front played other told before after hosts)) (deeds : List Deed)
         → clients_part deeds ≡ session.deeds → hosts_part deeds ≡ keeps.deeds → AtEachPoint IsCarried deeds → ((device : ℕ) → length (journal device deeds) < worn_entries)
         → (place : ℕ) (i : Issuer) → slice_get hosts.issuers place ≡ Some i

@@ -24,19 +24,18 @@ use Rattle.rd_hello.specs.declared.end_fault.EndFault.TheVariants as fault
 use Rattle.rd_station.specs.Memory.{NamesKey}
 use Rattle.rd_station.specs.Station.{held}
 use Rattle.rd_station.specs.declared.answers.Completion.{Completion}
-use Rattle.rd_station.specs.declared.held.InHand.{InHand}
 use Rattle.rd_station.proofs.Members.{has_append, to_contains}
 use Rattle.rd_turn.specs.declared.object.Entry.{Entry}
 use Rattle.rd_world.specs.Talk.{Deed, Has, stores}
-use Rattle.rd_drive.specs.declared.plan.Job.{Job}
 use Rattle.rd_journals.specs.Reads.{IsGiven}
-use Rattle.rd_journals.specs.Stations.{IsIdle, IsOn}
 use Rattle.rd_journals.proofs.WritingLemmas.{AddsOwn, adds_own, hear_adds, list_own, removal_own}
 use Rattle.rd_served.specs.Deeds.{AreOnChannel, EachOnChannel, PartsOnChannel, deeds_of, sent_by, stored, stored_each}
 use Rattle.rd_served.specs.Histories.{HistoryGoes}
-use Rattle.rd_served.specs.Parts.{CallsAt, FrontPart, PartGoes, PartsGo, begins, calls, directs, ended_front, ends, forgets, keeps, learns, misplaces, refreshes, sends, tells_gone, tells_there, tries, unwritten, writes}
+use Rattle.rd_served.specs.OnChannel.{IsServedOn}
+use Rattle.rd_served.specs.Parts.{CallsAt, FrontPart, PartGoes, PartsGo, begins, calls, directs, ends, forgets, keeps, learns, misplaces, refreshes, sends, tells_gone, tells_there, tries, unwritten, writes}
 use Rattle.rd_served.specs.Parts as part
 use Rattle.rd_served.specs.Served.{Asking, Served, asks, hands, idle}
+use Rattle.rd_served.proofs.CallLemmas.{some_held}
 use Rattle.rd_served.proofs.HeldLemmas.{HeldIn, ready_held}
 use Rattle.rd_served.proofs.KeyLemmas.{IsKeyed, current, has_at, middle_named, part_keyed, parts_keyed, refreshed_calm, worked}
 use Rattle.rd_served.proofs.StandingLemmas.{collected_ready, direct_under, ended_outbox, refreshed_more, sent_first, sent_none}
@@ -54,13 +53,7 @@ pub record IsHere (p : Served) : Type 0 where
 
 -- ---- what is held came on the channel
 
-some_held : (s : Of) → IsIdle s → (x : Key × ℕ) → Has x (held s) → ⊥
-some_held s idle_so x has = subst (λ (hs : List (Key × ℕ)). Has x hs) (none_held idle_so) has
-  where
-    none_held : IsIdle s → held s ≡ []
-    none_held (a, b, c, d) = λ i. map (λ (job : Job). (job.key, job.completion)) (a i) ++ map (λ (t : InHand). (t.key, t.completion)) (b i) ++ map (λ p. (p.key, p.completion)) (c i) ++ map (λ (y : Completion). (y.key, y.completion)) (d i)
-
-held_here : (on : Bool) (channel asked : ℕ) (s : Of) → IsOn (current on channel) s → ((key : Key) → NamesKey s.journal key → IsGiven channel asked key) → (x : Key × ℕ) → HeldIn s x → (x.0).channel ≡ channel
+held_here : (on : Bool) (channel asked : ℕ) (s : Of) → IsServedOn (current on channel) s → ((key : Key) → NamesKey s.journal key → IsGiven channel asked key) → (x : Key × ℕ) → HeldIn s x → (x.0).channel ≡ channel
 held_here on channel asked s at given x has =
     let (last, is, same) = at.sound.remembers.channel x (to_contains (held s) x has) in
     elim (at.last last is) [ inl here ↦ same ∙ by on here (given last (at.sound.remembers.named last is)) | inr idle_so ↦ absurd (some_held s idle_so x has) ]

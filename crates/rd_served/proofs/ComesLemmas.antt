@@ -19,7 +19,7 @@ use Rattle.rd_station.specs.Station.{StationCall, applies, takes}
 use Rattle.rd_station.proofs.Members.{has_append}
 use Rattle.rd_turn.specs.declared.object.Entry.{Entry}
 use Rattle.rd_world.specs.Talk.{Deed, EachAfter, Has, request_at, stores}
-use Rattle.rd_world.proofs.KeysLemmas.{Comes, MayStore, step_stores}
+use Rattle.rd_world.proofs.KeysLemmas.{Comes}
 use Rattle.rd_journals.specs.Reads.{ComesRead, IsRead}
 use Rattle.rd_journals.proofs.HeldLemmas.{stored_unread, turned_has}
 use Rattle.rd_served.specs.Deeds.{deeds_after, deeds_of, deeds_of_calls, sent_by, stored, stored_each}
@@ -29,7 +29,9 @@ use Rattle.rd_served.specs.Parts as part
 use Rattle.rd_served.specs.Served.{CallsDesk, IsWork, Served}
 use Rattle.rd_served.proofs.CauseLemmas.{IsTold, job_told, part_told, parts_told}
 use Rattle.rd_served.proofs.KeyLemmas.{IsKeyed, part_keyed, parts_keyed}
+use Rattle.rd_served.proofs.StoreLemmas.{come_by, step_stores}
 use Rattle.rd_served.proofs.WorkLemmas.{Steps}
+use Rattle.rd_served_devices.specs.ServedDevices.{served_cuts, served_parked, served_runs}
 
 abbrev Of : Type 0
 Of = SessionStation
@@ -46,20 +48,15 @@ record StoresBy (others : List StationCall) (old new : Of) : Type 0 where
   longer : new.journal ≡ old.journal ++ more
   comes : (key : Key) → Has (Came key) more → ComesBy others key
 
-stored_comes : (call : StationCall) (more : List Item) → AllByRecursion (MayStore call) more → (key : Key) → Has (Came key) more → Comes call key
-stored_comes call [] all key none = absurd none
-stored_comes call (x ∷ more) all key (inl here) = subst (MayStore call) (sym here) all.0
-stored_comes call (x ∷ more) all key (inr later) = stored_comes call more all.1 key later
-
 steps_store : (others : List StationCall) (old new : Of) → Steps old others new → StoresBy others old new
 steps_store [] old new is = record { more = []; longer = ap (λ (s : Of). s.journal) is ∙ sym (append-nil old.journal); comes = λ key none. none }
 steps_store (call ∷ others) old new steps =
-    let first = step_stores old steps.0 call steps.1 in
+    let first = step_stores served_runs served_parked served_cuts old steps.0 call steps.1 in
     let later = steps_store others steps.0 new steps.2 in
     record {
       more = first.more ++ later.more;
       longer = later.longer ∙ ap (λ (j : List Item). j ++ later.more) first.longer ∙ append_assoc old.journal first.more later.more;
-      comes = λ key has. elim (has_append (Came key) first.more later.more has) [ inl one ↦ inl (stored_comes call first.more first.each key one) | inr other ↦ inr (later.comes key other) ];
+      comes = λ key has. elim (has_append (Came key) first.more later.more has) [ inl one ↦ inl (come_by call first.more first.each key one) | inr other ↦ inr (later.comes key other) ];
     }
 
 work_none : (others : List StationCall) → AllByRecursion IsWork others → (key : Key) → ComesBy others key → ⊥

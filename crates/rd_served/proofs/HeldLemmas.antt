@@ -11,11 +11,13 @@ use Rattle.rd_drive.specs.Device.{is_parked}
 use Rattle.rd_drive.specs.Planned.{Planned}
 use Rattle.rd_drive.specs.Stepped.{Stepped}
 use Rattle.rd_drive.specs.declared.plan.Job.{Job}
+use Rattle.rd_drive.specs.declared.step.End.{End}
+use Rattle.rd_drive.specs.declared.step.Step.{Step}
 use Rattle.rd_front.specs.State.{SessionStation}
 use Rattle.rd_irp.specs.Fits.{kind_of}
 use Rattle.rd_irp.specs.declared.completion.Reply.{Reply}
 use Rattle.rd_station.specs.Station as station
-use Rattle.rd_station.specs.Station.{CameOf, DidRun, PutRefused, StationCall, StationState, StationStep, announces, applies, apply_from, cancelled_in_hand, collects, drop_channel, drops, emptied, ends, entry_count, held, is_key, max_entries, max_held, put_refusal, put_unless, puts, puts_unfit, ran, removes, take_first, takes}
+use Rattle.rd_station.specs.Station.{CameOf, PutRefused, StationCall, announces, applies, apply_from, cancelled_in_hand, collects, drop_channel, drops, emptied, ends, entry_count, held, is_key, max_entries, max_held, put_refusal, put_unless, puts, puts_unfit, ran, removes, take_first, takes}
 use Rattle.rd_station.specs.declared.answers.Applied.{Applied}
 use Rattle.rd_station.specs.declared.answers.Applied.TheVariants as applied
 use Rattle.rd_station.specs.declared.answers.Completion.{Completion}
@@ -32,16 +34,14 @@ use Rattle.rd_station.proofs.Holding.{in_held}
 use Rattle.rd_station.proofs.Keeping as keeping
 use Rattle.rd_station.proofs.Keeping.{held_at}
 use Rattle.rd_station.proofs.Members.{find_has, from_contains, has_append, has_left, has_map, has_right, same_key, to_contains}
-use Rattle.rd_world.specs.Devices.{device_cuts, device_parked, device_runs}
-use Rattle.rd_world.specs.Stations.{IsReachedBy}
 use Rattle.rd_world.specs.Talk.{Has}
-use Rattle.rd_world.specs.declared.device.SessionDevice.{SessionDevice}
 use Rattle.rd_journals.specs.Jobs.{OwnsAll}
 use Rattle.rd_journals.proofs.CallLemmas.{OfJob}
-use Rattle.rd_journals.proofs.OwnLemmas.{owns_call}
 use Rattle.rd_served.specs.Served.{IsWork, Works}
-use Rattle.rd_served.proofs.StationLemmas.{IsBeside, Step, put_refused}
+use Rattle.rd_served.proofs.OwnsLemmas.{owns_call}
+use Rattle.rd_served.proofs.StationLemmas.{IsBeside, Step as ServedStep, put_refused}
 use Rattle.rd_served.proofs.WorkLemmas.{Steps}
+use Rattle.rd_served_devices.specs.ServedDevices.{IsServedReached, ServedDeviceState, made, over, served_cuts, served_parked, served_runs}
 
 abbrev Of : Type 0
 Of = SessionStation
@@ -62,7 +62,7 @@ announced_waits old new answer e = waits_same old new (station.announce old).0 (
     by false true = refl
     by false false = refl
 
-waits_less : (old new : Of) (call : StationCall) → IsBeside call → Step old call new → (job : Job) → Has job new.waiting → Has job old.waiting
+waits_less : (old new : Of) (call : StationCall) → IsBeside call → ServedStep old call new → (job : Job) → Has job new.waiting → Has job old.waiting
 waits_less old new (announces (Ok done)) own e = announced_waits old new (Ok done) e
 waits_less old new (announces (Err unannounced.Memory)) own e = waits_same old new old e.1 refl
 waits_less old new (announces (Err unannounced.Live)) own e = announced_waits old new (Err unannounced.Live) e
@@ -151,25 +151,46 @@ ready_held s x has = in_ready s (x.key, x.completion) (has_map {A = Completion} 
 owned_itself : (s : Of) → OwnedBy s s
 owned_itself s = record { taken = taken_held s; parked = parked_held s; ready = λ x has. (ready_held s x has, tt) }
 
-owns_step : (old new : Of) (call : StationCall) → Step old call new → OfJob (λ (job : Job). HeldIn old (job.key, job.completion)) call → OwnedBy old new
+owns_step : (old new : Of) (call : StationCall) → ServedStep old call new → OfJob (λ (job : Job). HeldIn old (job.key, job.completion)) call → OwnedBy old new
 owns_step old new call step of =
-    owns_call (λ key completion. HeldIn old (key, completion)) (λ key completion kind. HeldIn old (key, completion)) (λ (r : Reply). Unit {0}) (λ (job : Job). HeldIn old (job.key, job.completion)) tt
+    owns_call served_runs served_parked served_cuts (λ key completion. HeldIn old (key, completion)) (λ key completion kind. HeldIn old (key, completion)) (λ (r : Reply). Unit {0}) (λ (job : Job). HeldIn old (job.key, job.completion)) tt
     (λ job completion own is. is) (λ job own. own) (λ s planned moment came own runs. record { answer = λ r e. tt; ends = λ e has. tt }) old new (waiting_held old) (owned_itself old) call step of
 
 -- the same plan for a job with another completion id
 abbrev with_id : Planned → ℕ → Planned
 with_id planned id = record { job = record planned.job { completion = id }; starved = planned.starved }
 
-came_too : (s : SessionDevice) (planned : Planned) (id moment : ℕ) (came : Stepped SessionDevice) → CameOf device_runs device_parked device_cuts s planned moment came → CameOf device_runs device_parked device_cuts s (with_id planned id) moment came
+-- what a device does with it doesn't go by its completion id
+runs_too : (s new : ServedDeviceState) (planned : Planned) (id moment : ℕ) (answer : Step) (es : List End) → served_runs s planned moment answer es new → served_runs s (with_id planned id) moment answer es new
+runs_too (made old) (made new) planned id moment answer es runs = runs
+runs_too (made old) (over new) planned id moment answer es runs = absurd runs
+runs_too (over old) (made new) planned id moment answer es runs = absurd runs
+runs_too (over old) (over new) planned id moment answer es runs = (
+  λ s told.
+      let (left, goes, files, parked, does) = runs.0 s told in
+      (left, goes, files, parked, elim does [ inl step ↦ inl (record { comes = step.comes; calm = step.calm }) | inr refused ↦ inr refused ]),
+  runs.1,
+  elim runs.2 [
+    | inl unblamed ↦ inl unblamed
+    | inr other ↦ elim other [
+      | inl fault ↦ inr (inl (record { no = fault.no; some = fault.some; found = fault.found; answered = fault.answered; counted = fault.counted; same = fault.same }))
+      | inr closed ↦ inr (inr closed)
+    ]
+  ],
+  runs.3,
+  runs.4,
+)
+
+came_too : (s : ServedDeviceState) (planned : Planned) (id moment : ℕ) (came : Stepped ServedDeviceState) → CameOf served_runs served_parked served_cuts s planned moment came → CameOf served_runs served_parked served_cuts s (with_id planned id) moment came
 came_too s planned id moment came promise = record {
-  runs = promise.runs;
+  runs = runs_too s came.state planned id moment came.answer came.ends promise.runs;
   answers = promise.answers;
   parks = record { left = promise.parks.left; ended = promise.parks.ended; waits = promise.parks.waits; few = promise.parks.few };
   starved = promise.starved;
   close = promise.close;
 }
 
-applied_owned : (old new : Of) (planned : Planned) (moment : ℕ) (answer : Applied) → Step old (applies planned moment answer) new → OwnedBy old new
+applied_owned : (old new : Of) (planned : Planned) (moment : ℕ) (answer : Applied) → ServedStep old (applies planned moment answer) new → OwnedBy old new
 applied_owned old new planned moment answer (came, e, promise) = by (find (λ (t : InHand). is_key t.key planned.job.key) old.taken) refl
   where
     by : (found : Option InHand) → find (λ (t : InHand). is_key t.key planned.job.key) old.taken ≡ found → OwnedBy old new
@@ -181,7 +202,7 @@ applied_owned old new planned moment answer (came, e, promise) = by (find (λ (t
         owns_step old new (applies (with_id planned t.completion) moment answer) (came, e, λ did. came_too old.device planned t.completion moment came (promise did))
         (subst (λ (k : Key). HeldIn old (k, t.completion)) (same_key t.key planned.job.key here.1) ((owned_itself old).taken t here.0))
 
-step_owned : (old new : Of) (call : StationCall) → IsBeside call → Step old call new → OwnedBy old new
+step_owned : (old new : Of) (call : StationCall) → IsBeside call → ServedStep old call new → OwnedBy old new
 step_owned old new (announces answer) own e = owns_step old new (announces answer) e tt
 step_owned old new (puts job None) own e = absurd own
 step_owned old new (puts job (Some refusal)) own e = owns_step old new (puts job (Some refusal)) e tt
@@ -194,7 +215,7 @@ step_owned old new drops own e = absurd own
 step_owned old new ends own e = absurd own
 
 -- What is held after a call by which no job comes was held before.
-pub held_less : (old new : Of) (call : StationCall) → IsBeside call → Step old call new → (x : Key × ℕ) → HeldIn new x → HeldIn old x
+pub held_less : (old new : Of) (call : StationCall) → IsBeside call → ServedStep old call new → (x : Key × ℕ) → HeldIn new x → HeldIn old x
 held_less old new call own e =
     let owned = step_owned old new call own e in
     in_held (HeldIn old) new (λ job has. waiting_held old job (waits_less old new call own e job has)) owned.taken owned.parked (λ x has. (owned.ready x has).0)
@@ -218,17 +239,17 @@ pub work_less : (old new : Of) → Works old new → (x : Key × ℕ) → HeldIn
 work_less old new works = works_less works.calls old new works.work works.steps
 
 -- where the channel ends nothing is held
-dropped_none : (old new : Of) (cut : SessionDevice) → drop_channel old cut ≡ new → held new ≡ []
+dropped_none : (old new : Of) (cut : ServedDeviceState) → drop_channel old cut ≡ new → held new ≡ []
 dropped_none old new cut is = ap held (sym is) ∙ by old.live
   where
     by : (b : Bool) → held (cond b (record (emptied old) { device = cut; live = false; journal = old.journal ++ Cut Dropped ∷ [] }) (emptied old)) ≡ []
     by true = refl
     by false = refl
 
-pub drop_none : (old new : Of) → Step old drops new → held new ≡ []
+pub drop_none : (old new : Of) → ServedStep old drops new → held new ≡ []
 drop_none old new e = dropped_none old new e.0 e.1
 
-pub end_none : (old new : Of) → Step old ends new → held new ≡ []
+pub end_none : (old new : Of) → ServedStep old ends new → held new ≡ []
 end_none old new e = ap held (sym e.1) ∙ dropped_none old (drop_channel old e.0) e.0 refl
 
 -- a job that came
@@ -247,11 +268,11 @@ put_more old new job e = by (put_refusal old job) e
 
 -- ---- what is held came, and wasn't sent
 
-pub held_came : (s : Of) → IsReachedBy s → (x : Key × ℕ) → HeldIn s x → Has (Came x.0) s.journal
-held_came s reached x has = let (c, keeps) = reached_keeps device_runs device_parked device_cuts s reached in from_contains s.journal (Came x.0) (held_at device_parked c s keeps x has).1
+pub held_came : (s : Of) → IsServedReached s → (x : Key × ℕ) → HeldIn s x → Has (Came x.0) s.journal
+held_came s reached x has = let (c, keeps) = reached_keeps served_runs served_parked served_cuts s reached in from_contains s.journal (Came x.0) (held_at served_parked c s keeps x has).1
 
-pub held_unsent : (s : Of) → IsReachedBy s → (x : Key × ℕ) → HeldIn s x → Has (Sent x.0) s.journal → ⊥
-held_unsent s reached = by (reached_keeps device_runs device_parked device_cuts s reached)
+pub held_unsent : (s : Of) → IsServedReached s → (x : Key × ℕ) → HeldIn s x → Has (Sent x.0) s.journal → ⊥
+held_unsent s reached = by (reached_keeps served_runs served_parked served_cuts s reached)
   where
     not_sent : (key : Key) → All (λ x. x ≢ Sent key) s.journal → Has (Sent key) s.journal → ⊥
     not_sent key none sent = All-contains (λ x. x ≢ Sent key) s.journal (Sent key) none (to_contains s.journal (Sent key) sent) refl
@@ -260,7 +281,7 @@ held_unsent s reached = by (reached_keeps device_runs device_parked device_cuts 
     by_hand true key is sent = not_sent key is.unrun.unsent sent
     by_hand false key is sent = not_sent key is.unrun.unsent sent
 
-    by : ((c : ℕ) × keeping.Keeps device_parked c s) → (x : Key × ℕ) → HeldIn s x → Has (Sent x.0) s.journal → ⊥
+    by : ((c : ℕ) × keeping.Keeps served_parked c s) → (x : Key × ℕ) → HeldIn s x → Has (Sent x.0) s.journal → ⊥
     by (c, keeps) = in_held (λ (x : Key × ℕ). Has (Sent x.0) s.journal → ⊥) s
         (λ job has sent. not_sent job.key (keeps.waiting job has).1.unrun.unsent sent)
         (λ t has sent. by_hand t.removed t.key (keeps.taken t has).1 sent)

@@ -12,7 +12,7 @@ use Rattle.rd_base.specs.Lawful.{IsBelow, IsLawful}
 use Rattle.rd_base.specs.declared.journal.Item.{Item}
 use Rattle.rd_base.specs.declared.journal.Key.{Key}
 use Rattle.rd_client.specs.Core as client
-use Rattle.rd_client.specs.Core.{ClientCoreState, Outgoing, client_hear, client_side, job_of, may_be_asked}
+use Rattle.rd_client.specs.Core.{ClientCoreState, Outgoing, client_hear, client_side, may_be_asked}
 use Rattle.rd_client.specs.declared.heard.Heard.{Heard}
 use Rattle.rd_client.specs.declared.heard.Heard.TheVariants.{Nothing, Ask, Print}
 use Rattle.rd_core.specs.Core as core
@@ -34,20 +34,22 @@ use Rattle.rd_station.specs.Station as station
 use Rattle.rd_station.specs.Station.{MayPut, new_station, puts, puts_unfit}
 use Rattle.rd_turn.specs.declared.object.Entry.{Entry}
 use Rattle.rd_turn.specs.History.{Leads}
-use Rattle.rd_world.specs.Devices.{PrinterNames, device_cuts, device_parked, device_runs, printer_data}
+use Rattle.rd_world.specs.Devices.{PrinterNames, printer_data}
 use Rattle.rd_station.proofs.Calls.{reached_kept}
 use Rattle.rd_world.specs.Talk.{Has}
 use Rattle.rd_world.specs.World.{Kept}
 use Rattle.rd_journals.specs.Reads.{IsGiven}
-use Rattle.rd_journals.specs.Stations.{IsOn}
 use Rattle.rd_journals.proofs.AskingLemmas.{HeardAs, hears}
-use Rattle.rd_journals.proofs.CallLemmas.{NoKey, may_put, new_on}
+use Rattle.rd_journals.proofs.CallLemmas.{NoKey}
 use Rattle.rd_served.specs.Histories.{Among, AreStationed, HistoryGoes, IsNewDesk, IsNewFront}
-use Rattle.rd_served.specs.Parts.{AsksBy, CallsAt, Comes, EndsEach, IsOpenCall, FrontPart, PartGoes, PartsGo, asking_by, begins, calls, directs, ended_front, ends, forgets, is_unfit, keeps, learns, misplaces, refreshes, sends, tells_gone, tells_there, tries, unwritten, writes}
+use Rattle.rd_served.specs.OnChannel.{IsServedOn}
+use Rattle.rd_served.specs.Parts.{CallsAt, Comes, EndsEach, IsOpenCall, FrontPart, PartGoes, PartsGo, asking_by, begins, calls, directs, ended_front, ends, forgets, is_unfit, keeps, learns, misplaces, refreshes, sends, tells_gone, tells_there, tries, unwritten, writes}
 use Rattle.rd_served.specs.Parts as part
 use Rattle.rd_served.specs.Served.{Asking, CallsDesk, IsStationed, Served, asks, hands, idle, refused}
 use Rattle.rd_served.proofs.AskedLemmas.{asked_may}
+use Rattle.rd_served.proofs.CallLemmas.{may_put, new_on}
 use Rattle.rd_served.proofs.StationLemmas.{Stays, drop_stays, end_stays, put_stays, step_stays, work_stays}
+use Rattle.rd_served_devices.specs.ServedDevices.{served_cuts, served_parked, served_runs}
 
 abbrev Of : Type 0
 Of = SessionStation
@@ -74,7 +76,7 @@ pub record IsNextJob (s : FrontState) (stations : List Of) (k : Kept) : Type 0 w
 
 -- Each station is on the channel, its keys were given, and a job that is under way or kept back may come next.
 pub record IsKeyed (p : Served) : Type 0 where
-  pub on : (x : Of) → Has x p.stations → IsOn (current (p.front).on (p.front).channel) x
+  pub on : (x : Of) → Has x p.stations → IsServedOn (current (p.front).on (p.front).channel) x
   pub named : (x : Of) → Has x p.stations → (key : Key) → NamesKey x.journal key → IsGiven (p.front).channel ((p.front).client).asked key
   pub same : (p.front).on ≡ true → ((p.front).client).channel ≡ (p.front).channel
   pub kept : (k : Kept) → (p.front).kept ≡ Some k → IsNextJob p.front p.stations k
@@ -97,7 +99,7 @@ has_set (z ∷ zs) (suc place) y x (inr later) = elim (has_set zs place y x late
 
 -- Each station is on the channel still, and names only keys that were named.
 pub record StationsStay (p : Served) (after : List Of) : Type 0 where
-  pub each : (x : Of) → Has x after → IsOn (current (p.front).on (p.front).channel) x
+  pub each : (x : Of) → Has x after → IsServedOn (current (p.front).on (p.front).channel) x
   pub names : (x : Of) → Has x after → (key : Key) → NamesKey x.journal key → (y : Of) × Has y p.stations × NamesKey y.journal key
 
 stations_same : (p : Served) (after : List Of) → after ≡ p.stations → IsKeyed p → StationsStay p after
@@ -131,7 +133,7 @@ next_calm p q k calm stay next = record {
 keyed_calm : (p q : Served) → IsKeyed p → IsCalm p.front q.front → StationsStay p q.stations → ((k : Kept) → (q.front).kept ≡ Some k → IsNextJob p.front p.stations k)
     → ((k : Kept) → IsUnder q.asking k → IsNextJob p.front p.stations k) → ((k : Kept) → IsUnder q.asking k → (q.front).kept ≡ None) → IsKeyed q
 keyed_calm p q keyed calm stay kept asking alone = record {
-  on = λ x has. subst (λ (n : ℕ). IsOn n x) (λ i. current (sym calm.on i) (sym calm.channel i)) (stay.each x has);
+  on = λ x has. subst (λ (n : ℕ). IsServedOn n x) (λ i. current (sym calm.on i) (sym calm.channel i)) (stay.each x has);
   named = λ x has key names.
       let (y, was, named) = stay.names x has key names in
       subst (λ (n : ℕ). IsGiven (q.front).channel n key) (sym calm.asked) (subst (λ (n : ℕ). IsGiven n ((p.front).client).asked key) (sym calm.channel) (keyed.named y was key named));
@@ -226,7 +228,7 @@ given_more channel asked more key less (inr here) = inr (here.0, omega (arith, l
 
 pub hears_keyed : (p q : Served) (channel : ℕ) (m : List ℕ) (answer : Result Heard EndFault) → PartGoes p (part.hears channel m answer) q → IsKeyed p → IsKeyed q
 hears_keyed p q channel m answer goes keyed = record {
-  on = λ x has. subst (λ (n : ℕ). IsOn n x) (λ i. current (sym on_same i) (sym channel_same i)) (keyed.on x (subst (Has x) stations has));
+  on = λ x has. subst (λ (n : ℕ). IsServedOn n x) (λ i. current (sym on_same i) (sym channel_same i)) (keyed.on x (subst (Has x) stations has));
   named = λ x has key names. subst (λ (n : ℕ). IsGiven n ((q.front).client).asked key) (sym channel_same) (given_more (p.front).channel ((p.front).client).asked ((q.front).client).asked key facts.1 (keyed.named x (subst (Has x) stations has) key names));
   same = λ is. facts.0 ∙ keyed.same on ∙ sym channel_same;
   kept = λ k is. absurd (cc (kept_none, is));
@@ -276,7 +278,7 @@ hears_keyed p q channel m answer goes keyed = record {
 -- ---- a desk is called
 
 -- what a call of a desk stores, where no job comes by it
-pub desk_stays : (c : ℕ) (middle last : Of) (does : DeskCall) (back : DeskReply) → IsOpenCall does → ((job : Job) → does ≡ desk.Put job → back ≡ replied.Put (Ok tt) → ⊥) → IsOn c middle → SessionDeskStep middle does back last → Stays NoKey c middle last
+pub desk_stays : (c : ℕ) (middle last : Of) (does : DeskCall) (back : DeskReply) → IsOpenCall does → ((job : Job) → does ≡ desk.Put job → back ≡ replied.Put (Ok tt) → ⊥) → IsServedOn c middle → SessionDeskStep middle does back last → Stays NoKey c middle last
 desk_stays c middle last desk.Announce (replied.Announced answer) own other on step =
     let one = step_stays c middle (step.0).0 on (station.announces answer) tt (step.0).1 in subst (Stays NoKey c middle) (sym (step.0).2) one
 desk_stays c middle last desk.Announce (replied.Put answer) own other on step = absurd step.1
@@ -347,7 +349,7 @@ module _ (p q : Served) (place id : ℕ) (does : DeskCall) (back : DeskReply) (i
 
   quiet_stations : Stays NoKey present (at.called).middle at.last → StationsStay p q.stations
   quiet_stations then = record {
-    each = λ x has. elim (has_set p.stations place at.last x (subst (Has x) at.stations_are has)) [ inl new ↦ subst (IsOn present) (sym new) then.on | inr was ↦ keyed.on x was ];
+    each = λ x has. elim (has_set p.stations place at.last x (subst (Has x) at.stations_are has)) [ inl new ↦ subst (IsServedOn present) (sym new) then.on | inr was ↦ keyed.on x was ];
     names = λ x has key names. elim (has_set p.stations place at.last x (subst (Has x) at.stations_are has)) [
       | inl new ↦ (at.first, first_has, elim (then.names key (subst (λ (s : Of). NamesKey s.journal key) new names)) [ inl before ↦ middle_named key before | inr none ↦ absurd none ])
       | inr was ↦ (x, was, names)
@@ -372,8 +374,8 @@ module _ (p q : Served) (place id : ℕ) (does : DeskCall) (back : DeskReply) (i
       let given : IsGiven (p.front).channel ((p.front).client).asked job.key = subst (IsGiven (p.front).channel ((p.front).client).asked) (sym key_is) (inr (next.channel, next.index)) in
       let old_kept = keyed.alone c.kept (subst (λ (a : Asking). IsUnder a c.kept) (sym c.asked) refl) in
       record {
-        on = λ x has. subst (λ (n : ℕ). IsOn n x) (λ i. current (sym calm.0.on i) (sym calm.0.channel i))
-            (elim (has_set p.stations place at.last x (subst (Has x) at.stations_are has)) [ inl new ↦ subst (IsOn present) (sym (new ∙ is)) put.on | inr was ↦ keyed.on x was ]);
+        on = λ x has. subst (λ (n : ℕ). IsServedOn n x) (λ i. current (sym calm.0.on i) (sym calm.0.channel i))
+            (elim (has_set p.stations place at.last x (subst (Has x) at.stations_are has)) [ inl new ↦ subst (IsServedOn present) (sym (new ∙ is)) put.on | inr was ↦ keyed.on x was ]);
         named = λ x has key names.
             subst (λ (n : ℕ). IsGiven (q.front).channel n key) (sym calm.0.asked) (subst (λ (n : ℕ). IsGiven n ((p.front).client).asked key) (sym calm.0.channel)
             (elim (has_set p.stations place at.last x (subst (Has x) at.stations_are has)) [
@@ -427,13 +429,13 @@ called_keyed p q place id desk.End back items at keyed = absurd at.own
 
 -- each station is on the channel after this one
 abbrev AreOver : ℕ → ℕ → List Of → Type 0
-AreOver channel asked stations = (x : Of) → Has x stations → IsOn (suc channel) x × ((key : Key) → NamesKey x.journal key → IsGiven channel asked key)
+AreOver channel asked stations = (x : Of) → Has x stations → IsServedOn (suc channel) x × ((key : Key) → NamesKey x.journal key → IsGiven channel asked key)
 
 given_below : (channel asked : ℕ) (key : Key) → IsGiven channel asked key → key.channel < suc channel
 given_below channel asked key (inl less) = omega (arith, less)
 given_below channel asked key (inr here) = omega (arith, here.0)
 
-pub one_over : (over : Bool) (now channel asked : ℕ) (d e : DeviceDeskState) (first last : Of) (back : DeskReply) (items : List Item) → now ≤ suc channel → IsOn now first → ((key : Key) → NamesKey first.journal key → IsGiven channel asked key)
+pub one_over : (over : Bool) (now channel asked : ℕ) (d e : DeviceDeskState) (first last : Of) (back : DeskReply) (items : List Item) → now ≤ suc channel → IsServedOn now first → ((key : Key) → NamesKey first.journal key → IsGiven channel asked key)
     → CallsDesk d e first (end_call over) back items last → Stays NoKey (suc channel) first last
 one_over over now channel asked d e first last back items later on given called = record { on = then.on; names = λ key names. elim (then.names key names) [ inl before ↦ work.names key before | inr none ↦ inr none ] }
   where
@@ -468,11 +470,11 @@ one_over over now channel asked d e first last back items later on given called 
     then = by over back called.step
 
 pub all_over : (over : Bool) (now channel asked : ℕ) → now ≤ suc channel → (ds : List DeviceDeskState) (ss : List Of) (ts : List (ℕ × List Item)) (es : List DeviceDeskState) (us : List Of)
-    → ((x : Of) → Has x ss → IsOn now x) → ((x : Of) → Has x ss → (key : Key) → NamesKey x.journal key → IsGiven channel asked key) → EndsEach over ds ss ts es us → AreOver channel asked us
+    → ((x : Of) → Has x ss → IsServedOn now x) → ((x : Of) → Has x ss → (key : Key) → NamesKey x.journal key → IsGiven channel asked key) → EndsEach over ds ss ts es us → AreOver channel asked us
 all_over over now channel asked later [] [] [] [] [] on given ended x has = absurd has
 all_over over now channel asked later (d ∷ ds) (s ∷ ss) (t ∷ ts) (e ∷ es) (u ∷ us) on given ended x (inl here) =
     let one = one_over over now channel asked d e s u ended.0 t.1 later (on s (inl refl)) (given s (inl refl)) ended.2 in
-    subst (λ (y : Of). IsOn (suc channel) y × ((key : Key) → NamesKey y.journal key → IsGiven channel asked key)) (sym here)
+    subst (λ (y : Of). IsServedOn (suc channel) y × ((key : Key) → NamesKey y.journal key → IsGiven channel asked key)) (sym here)
     (one.on, λ key names. elim (one.names key names) [ inl before ↦ given s (inl refl) key before | inr none ↦ absurd none ])
 all_over over now channel asked later (d ∷ ds) (s ∷ ss) (t ∷ ts) (e ∷ es) (u ∷ us) on given ended x (inr there) =
     all_over over now channel asked later ds ss ts es us (λ y has. on y (inr has)) (λ y has. given y (inr has)) ended.3 x there
@@ -495,7 +497,7 @@ ends_keyed p q over told goes keyed =
     let kept : (q.front).kept ≡ None = ap (λ (s : FrontState). s.kept) goes.2 ∙ is.3 in
     let ended = all_over over (current (p.front).on (p.front).channel) (p.front).channel ((p.front).client).asked (current_low (p.front).on (p.front).channel) (p.front).desks p.stations told (q.front).desks q.stations keyed.on keyed.named goes.1 in
     record {
-      on = λ x has. subst (λ (n : ℕ). IsOn n x) (λ i. current (sym off i) (sym channel i)) (ended x has).0;
+      on = λ x has. subst (λ (n : ℕ). IsServedOn n x) (λ i. current (sym off i) (sym channel i)) (ended x has).0;
       named = λ x has key names. subst (λ (n : ℕ). IsGiven (q.front).channel n key) (sym asked) (subst (λ (n : ℕ). IsGiven n ((p.front).client).asked key) (sym channel) ((ended x has).1 key names));
       same = λ on. absurd (cc (off, on));
       kept = λ k some. absurd (cc (kept, some));
@@ -504,9 +506,8 @@ ends_keyed p q over told goes keyed =
     }
 
 -- what is on a channel that hasn't begun is on each later one
-later_on : (channel asked then : ℕ) (s : Of) → channel < then → IsOn (suc channel) s → ((key : Key) → NamesKey s.journal key → IsGiven channel asked key) → IsOn then s
+later_on : (channel asked then : ℕ) (s : Of) → channel < then → IsServedOn (suc channel) s → ((key : Key) → NamesKey s.journal key → IsGiven channel asked key) → IsServedOn then s
 later_on channel asked then s later on given = record {
-  fit = on.fit;
   keys = on.keys;
   spare = on.spare;
   memory = on.memory;
@@ -520,7 +521,7 @@ later_on channel asked then s later on given = record {
 
 begins_keyed : (p q : Served) (channel : ℕ) → PartGoes p (begins channel) q → IsKeyed p → IsKeyed q
 begins_keyed p q channel goes keyed = subst IsKeyed (sym goes.3) (record {
-  on = λ x has. later_on (p.front).channel ((p.front).client).asked channel x goes.2 (subst (λ (b : Bool). IsOn (current b (p.front).channel) x) goes.1 (keyed.on x has)) (keyed.named x has);
+  on = λ x has. later_on (p.front).channel ((p.front).client).asked channel x goes.2 (subst (λ (b : Bool). IsServedOn (current b (p.front).channel) x) goes.1 (keyed.on x has)) (keyed.named x has);
   named = λ x has key names. inl (let low = given_below (p.front).channel ((p.front).client).asked key (keyed.named x has key names) in omega (arith, low, goes.2));
   same = λ on. refl;
   kept = λ k some. absurd (let on = (keyed.kept k some).on in cc (on, goes.1));
@@ -580,7 +581,7 @@ unfit_at p q place id (desk.Put job) back items at keyed =
     let key_is : job.key ≡ c.kept.job.key = ap (λ (j : Job). j.key) c.job_is in
     let here : job.key.channel ≡ current (p.front).on (p.front).channel = ap (λ (k : Key). k.channel) key_is ∙ next.channel ∙ sym (ap (λ (b : Bool). current b (p.front).channel) next.on) in
     let work = worked p q place id (desk.Put job) (replied.Unfit back) items keyed at in
-    (((at.called).step).0).1.0 (may_put (current (p.front).on (p.front).channel) (at.called).middle job.key work.on here
+    (((at.called).step).0).1.0 (may_put served_runs served_parked served_cuts (current (p.front).on (p.front).channel) (at.called).middle job.key work.on here
     (λ earlier names. subst (IsBelow earlier) (sym key_is) (next.above at.first (has_at p.stations place at.first at.has) earlier (middle_named p q place id (desk.Put job) (replied.Unfit back) items keyed at earlier names))))
 unfit_at p q place id desk.Announce back items at keyed = absurd ((at.called).step).1
 unfit_at p q place id desk.Collect back items at keyed = absurd ((at.called).step).1
@@ -636,13 +637,13 @@ new_one d s is at = sym leads ∙ is.opening
     leads : (d.turn).opening ≡ s
     leads = subst (λ (es : List (Entry DeskCall DeskReply)). Leads SessionDeskStep (d.turn).opening es s) is.unseen at.leads
 
-all_new : (c : ℕ) (ds : List DeviceDeskState) (ss : List Of) → AllByRecursion IsNewDesk ds → AreStationed ds ss → (x : Of) → Has x ss → IsOn c x × ((key : Key) → NamesKey x.journal key → ⊥)
+all_new : (c : ℕ) (ds : List DeviceDeskState) (ss : List Of) → AllByRecursion IsNewDesk ds → AreStationed ds ss → (x : Of) → Has x ss → IsServedOn c x × ((key : Key) → NamesKey x.journal key → ⊥)
 all_new c [] [] is at x has = absurd has
 all_new c [] (s ∷ ss) is at x has = absurd at
 all_new c (d ∷ ds) [] is at x has = absurd at
 all_new c (d ∷ ds) (s ∷ ss) is at x (inl here) =
     let same : x ≡ new_station (is.0).device = here ∙ new_one d s is.0 at.0 in
-    subst (λ (y : Of). IsOn c y × ((key : Key) → NamesKey y.journal key → ⊥)) (sym same) (new_on c (is.0).device (is.0).fit (is.0).nothing, λ key names. omega (arith, names.2))
+    subst (λ (y : Of). IsServedOn c y × ((key : Key) → NamesKey y.journal key → ⊥)) (sym same) (new_on served_runs served_parked served_cuts c (is.0).device (is.0).nothing, λ key names. omega (arith, names.2))
 all_new c (d ∷ ds) (s ∷ ss) is at x (inr later) = all_new c ds ss is.1 at.1 x later
 
 pub begins_at : (p : Served) → IsNewFront p.front → AreStationed (p.front).desks p.stations → p.asking ≡ idle → IsKeyed p
@@ -665,4 +666,4 @@ history_keyed (e ∷ entries) [] p q goes keyed = absurd goes
 history_keyed (e ∷ entries) (ps ∷ parts) p q goes keyed = history_keyed entries parts goes.0 q goes.2 (parts_keyed ps p goes.0 (goes.1).goes keyed)
 
 pub keyed_lawful : (p : Served) → IsKeyed p → (place : ℕ) (s : Of) → slice_get p.stations place ≡ Some s → IsLawful s.journal
-keyed_lawful p keyed place s there = (reached_kept device_runs device_parked device_cuts s (keyed.on s (has_at p.stations place s there)).sound.reached).lawful
+keyed_lawful p keyed place s there = (reached_kept served_runs served_parked served_cuts s (keyed.on s (has_at p.stations place s there)).sound.reached).lawful

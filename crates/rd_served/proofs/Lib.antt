@@ -1,4 +1,5 @@
 pub mod AskedLemmas
+pub mod CallLemmas
 pub mod CauseLemmas
 pub mod ChannelLemmas
 pub mod ComesLemmas
@@ -9,8 +10,10 @@ pub mod KeyLemmas
 pub mod LiftLemmas
 pub mod MeetLemmas
 pub mod OrderLemmas
+pub mod OwnsLemmas
 pub mod StandingLemmas
 pub mod StationLemmas
+pub mod StoreLemmas
 pub mod WalkLemmas
 pub mod WorkLemmas
 pub use Rattle.rd_journals.proofs.AskingLemmas as JournalsAskingLemmas

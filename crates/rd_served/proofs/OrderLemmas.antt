@@ -48,7 +48,6 @@ use Rattle.rd_station.specs.declared.refusals.PutWhy.{PutWhy}
 use Rattle.rd_station.proofs.Members.{has_append}
 use Rattle.rd_world.specs.Talk.{Deed, EachAfter, Has, completes, is_completion_of, journal, on, stores}
 use Rattle.rd_world.specs.Told.{came, sent}
-use Rattle.rd_world.specs.declared.device.SessionDevice.{SessionDevice}
 use Rattle.rd_journals.proofs.CameLemmas.{came_true, never_came}
 use Rattle.rd_journals.proofs.HeldLemmas.{turned_has}
 use Rattle.rd_served.specs.Deeds.{completed, deeds_after, deeds_of, deeds_of_calls, sent_by, stored, stored_each}
@@ -56,6 +55,7 @@ use Rattle.rd_served.specs.Served.{Asking, CallsDesk, IsWork, Served, asks, hand
 use Rattle.rd_served.proofs.StandingLemmas.{IsKnownAt, IsUnserved, came_here, collected_ready, one_device, part_known, parts_known, sent_first, stored_same}
 use Rattle.rd_served.proofs.StationLemmas.{Step, put_refused}
 use Rattle.rd_served.proofs.WorkLemmas.{Steps}
+use Rattle.rd_served_devices.specs.ServedDevices.{ServedDeviceState}
 
 abbrev Of : Type 0
 Of = SessionStation
@@ -211,7 +211,7 @@ announce_unsent old new answer e = unsent_same old new (station.announce old).0 
     by false true = refl
     by false false = refl
 
-drop_unsent : (old new : Of) (cut : SessionDevice) → new.journal ≡ (let s = drop_channel old cut in s.journal) → StoresUnsent old new
+drop_unsent : (old new : Of) (cut : ServedDeviceState) → new.journal ≡ (let s = drop_channel old cut in s.journal) → StoresUnsent old new
 drop_unsent old new cut e = by old.live e
   where
     by : (b : Bool) → new.journal ≡ (let s = cond b (record (emptied old) { device = cut; live = false; journal = old.journal ++ Cut Dropped ∷ [] }) (emptied old) in s.journal) → StoresUnsent old new

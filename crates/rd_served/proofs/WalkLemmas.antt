@@ -26,7 +26,7 @@ use Rattle.rd_desk.specs.declared.calls.DeskReply.{DeskReply}
 use Rattle.rd_desk.specs.declared.calls.DeskReply.TheVariants as replied
 use Rattle.rd_devices.specs.Removal.{removal_bytes}
 use Rattle.rd_drive.specs.declared.plan.Job.{Job}
-use Rattle.rd_front.specs.Front.{AddsBy, AddsIf, Announces, AnnouncesOne, AnnouncesUnless, AnswersDirectly, BeginsIf, ChannelEnds, ClientDoes, Collects, CutsAt, DeskDoes, Each, EndsBy, Fills, FillsBy, FollowsFrom, FrontAdds, FrontBegins, FrontHears, FrontRemoves, FrontRetries, FrontStep, GivesBy, GivesCollected, GivesNext, Hands, HeardBy, OpeningEnds, PutBy, Puts, PutsIf, Refreshes, RefreshesOne, RefusedPut, RemovesBy, Sends, SessionEnds, Then, Where, begun, desk_place, done_at, done_if, done_where, end_call, is_announced, is_front_full, is_front_ready, is_told_there, may_add, may_begin, may_hear, may_remove, most_written, none_for, one_if_done, with_new_data}
+use Rattle.rd_front.specs.Front.{AddsBy, AddsIf, Announces, AnnouncesOne, AnnouncesUnless, AnswersDirectly, BeginsIf, ChannelEnds, ClientDoes, Collects, CutsAt, DeskDoes, Each, EndsBy, Fills, FillsBy, FollowsFrom, FrontAdds, FrontBegins, FrontHears, FrontRemoves, FrontRetries, FrontStep, GivesBy, GivesCollected, GivesNext, GivesWritten, Hands, HeardBy, OpeningEnds, PutBy, Puts, PutsIf, Refreshes, RefreshesOne, RefusedPut, RemovesBy, Sends, SessionEnds, SpellsCompletion, Then, Where, begun, desk_place, done_at, done_if, done_where, end_call, is_announced, is_front_full, is_front_ready, is_told_there, may_add, may_begin, may_hear, may_remove, most_written, none_for, one_if_done, with_new_data}
 use Rattle.rd_room.specs.Room.{MessageRoom}
 use Rattle.rd_front.specs.State.{DeviceDeskState, FrontState, IsCalled, SessionStation}
 use Rattle.rd_front.specs.declared.calls.FrontCall.{FrontCall}
@@ -1086,8 +1086,10 @@ marks_of [] rest.Nothing = []
 marks_of [] rest.Memory = None ∷ []
 marks_of (m ∷ messages) left = Some m ∷ marks_of messages left
 
-written : (p : FrontState) (device : ℕ) (c : Completion) (message : List ℕ) → message ≡ completion_message device c → Does p (hands device c) (Some message ∷ []) [] p idle
-written p device c message is = beside p p (hands device c) idle (writes device c) (Some message ∷ []) [] (refl, refl, refl) refl (ap (λ (m : List ℕ). Some m ∷ []) (sym is)) refl (λ stations. (refl, refl))
+written : (p : FrontState) (device : ℕ) (c : Completion) (message : List ℕ) → GivesWritten device c (got.Message message) → Does p (hands device c) (Some message ∷ []) [] p idle
+written p device c message gives =
+    beside p p (hands device c) idle (writes device c) (Some message ∷ []) [] (refl, refl, refl) refl (ap (λ (m : List ℕ). Some m ∷ []) (sym gives.0)) refl
+    (λ stations. (refl, refl, subst (λ (m : List ℕ). SpellsCompletion device c m) gives.0 gives.1))
 
 lost : (p : FrontState) (device : ℕ) (c : Completion) → Does p (hands device c) (None ∷ []) [] p idle
 lost p device c = beside p p (hands device c) idle (unwritten device c) (None ∷ []) [] (refl, refl, refl) refl refl refl (λ stations. (refl, refl))
@@ -1100,7 +1102,7 @@ collected p q place d (replied.Collected None) came none there did gives =
     subst (λ (g : Got). Does p idle (message_of g) [] q idle) (sym gives) (called IsPlain p q idle idle place desk.Collect (replied.Collected None) tt did (λ stations. refl) (λ stations. none) (λ items. (refl, refl, refl)))
 collected p q place d (replied.Collected (Some c)) (got.Message message) none there did gives =
     joins p q q idle (hands (did.before).id c) idle [] (Some message ∷ []) [] [] (called IsPlain p q idle (hands (did.before).id c) place desk.Collect (replied.Collected (Some c)) tt did (λ stations. (refl, refl)) (λ stations. none) (λ items. (refl, refl, refl)))
-    (written q (did.before).id c message (subst (λ (x : DeviceDeskState). message ≡ completion_message x.id c) (one_desk p.desks place d did.before there did.there) gives))
+    (written q (did.before).id c message (subst (λ (x : DeviceDeskState). GivesWritten x.id c (got.Message message)) (one_desk p.desks place d did.before there did.there) gives))
 collected p q place d (replied.Collected (Some c)) got.Memory none there did gives =
     joins p q q idle (hands (did.before).id c) idle [] (None ∷ []) [] [] (called IsPlain p q idle (hands (did.before).id c) place desk.Collect (replied.Collected (Some c)) tt did (λ stations. (refl, refl)) (λ stations. none) (λ items. (refl, refl, refl))) (lost q (did.before).id c)
 collected p q place d (replied.Collected (Some c)) got.Nothing none there did gives = absurd gives

@@ -18,9 +18,9 @@ use Rattle.rd_station.specs.declared.answers.Applied.{Applied}
 use Rattle.rd_station.specs.declared.answers.Given.TheVariants as given
 use Rattle.rd_turn.specs.declared.object.Entry.{Entry}
 use Rattle.rd_turn.specs.History.{Leads}
-use Rattle.rd_world.specs.Devices.{device_cuts, device_parked, device_runs}
-use Rattle.rd_world.proofs.KeysLemmas.{step_stores}
 use Rattle.rd_served.specs.Served.{IsHandCall, IsWork, Works}
+use Rattle.rd_served.proofs.StoreLemmas.{step_stores}
+use Rattle.rd_served_devices.specs.ServedDevices.{served_cuts, served_parked, served_runs}
 
 abbrev Of : Type 0
 Of = SessionStation
@@ -29,7 +29,7 @@ abbrev E : Type 0
 E = Entry DeskCall DeskReply
 
 abbrev pub Steps : Of → List StationCall → Of → Type 0
-Steps old calls new = StationSteps device_runs device_parked device_cuts old calls new
+Steps old calls new = StationSteps served_runs served_parked served_cuts old calls new
 
 -- ---- what hands do
 
@@ -60,7 +60,7 @@ pub works_on : (a b c : Of) → Works a b → Works b c → Works a c
 works_on a b c first second = record {
   calls = first.calls ++ second.calls;
   work = both first.calls second.calls first.work second.work;
-  steps = steps_append device_runs device_parked device_cuts a b c first.calls second.calls first.steps second.steps;
+  steps = steps_append served_runs served_parked served_cuts a b c first.calls second.calls first.steps second.steps;
 }
 
 call_works : (old new : Of) (does : DeskCall) (back : DeskReply) → IsHandCall does → SessionDeskStep old does back new → Works old new
@@ -103,7 +103,7 @@ longer_on a b c first second = record {
 pub steps_longer : (calls : List StationCall) (old new : Of) → Steps old calls new → Longer old new
 steps_longer [] old new is = record { items = []; stored = ap (λ (s : Of). s.journal) is ∙ sym (append-nil old.journal) }
 steps_longer (call ∷ calls) old new steps =
-    let stores = step_stores old steps.0 call steps.1 in
+    let stores = step_stores served_runs served_parked served_cuts old steps.0 call steps.1 in
     longer_on old steps.0 new (record { items = stores.more; stored = stores.longer }) (steps_longer calls steps.0 new steps.2)
 
 pub works_longer : (old new : Of) → Works old new → Longer old new

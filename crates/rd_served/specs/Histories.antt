@@ -11,14 +11,12 @@ use Rattle.rd_front.specs.declared.calls.FrontReply.{FrontReply}
 use Rattle.rd_front.specs.declared.calls.FrontReply.TheVariants as reply
 use Rattle.rd_front.specs.State.{DeviceDeskState, FrontState, SessionStation}
 use Rattle.rd_hello.specs.declared.end_fault.EndFault.TheVariants as fault
-use Rattle.rd_journals.specs.Stations.{IsFit}
 use Rattle.rd_station.specs.Station.{new_station}
 use Rattle.rd_turn.specs.declared.object.Entry.{Entry}
 use Rattle.rd_world.specs.Control.{Act, added, removed}
-use Rattle.rd_world.specs.Devices.{device_parked}
-use Rattle.rd_world.specs.declared.device.SessionDevice.{SessionDevice}
 use Rattle.rd_served.specs.Parts.{FrontPart, PartsGo, act_told, announced_by, begins, begun_by, cut_by, duplicate_of, handed_by, heard_in, hears, is_lost, is_start, is_unfit, stops, tells_gone, tells_there}
 use Rattle.rd_served.specs.Served.{IsStationed, Served, idle}
+use Rattle.rd_served_devices.specs.ServedDevices.{ServedDeviceState, served_parked}
 
 -- the messages that a reply hands out
 abbrev pub handed_out : FrontReply → List (List ℕ)
@@ -130,11 +128,10 @@ HistoryGoes old _ _ new = ⊥
 
 -- ---- where it begins
 
--- The desk of a fit device, in which nothing waits: its station is new, and the front's pass has seen nothing there.
+-- The desk of a device in which nothing waits: its station is new, and the front's pass has seen nothing there.
 pub record IsNewDesk (d : DeviceDeskState) : Type 0 where
-  pub device : SessionDevice
-  pub fit : IsFit device
-  pub nothing : device_parked device ≡ []
+  pub device : ServedDeviceState
+  pub nothing : served_parked device ≡ []
   pub opening : (d.turn).opening ≡ new_station device
   pub unseen : (d.pass).seen ≡ []
 

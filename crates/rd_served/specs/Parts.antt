@@ -16,7 +16,7 @@ use Rattle.rd_desk.specs.declared.calls.DeskReply.{DeskReply}
 use Rattle.rd_desk.specs.declared.calls.DeskReply.TheVariants as replied
 use Rattle.rd_devices.specs.Removal.{removal_bytes}
 use Rattle.rd_drive.specs.declared.plan.Job.{Job}
-use Rattle.rd_front.specs.Front.{ClientDoes, Sends, begun, channel_ended, desk_place, end_call, gone_status, is_announced, is_front_ready, is_told_there, may_hear, most_written, one_if_done, with_new_data}
+use Rattle.rd_front.specs.Front.{ClientDoes, Sends, SpellsCompletion, begun, channel_ended, desk_place, end_call, gone_status, is_announced, is_front_ready, is_told_there, may_hear, most_written, one_if_done, with_new_data}
 use Rattle.rd_front.specs.State.{DeviceDeskState, FrontState, SessionStation}
 use Rattle.rd_hello.specs.declared.end_fault.EndFault.{EndFault}
 use Rattle.rd_hello.specs.declared.end_fault.EndFault.TheVariants as fault
@@ -44,7 +44,7 @@ pub data FrontPart : Type 0 where
   tells_gone tells_there : ℕ → Result (Unit {0}) AllocError → FrontPart
   -- the core's first message on a channel is handed out
   sends : ℕ → Option Outgoing → FrontPart
-  -- the completion that was collected of a device is handed out, or no memory is found for it
+  -- the completion that was collected of a device is handed out, by a message that spells it, or no memory is found for it
   writes unwritten : ℕ → Completion → FrontPart
   learns : Notice → Result (Unit {0}) AllocError → FrontPart
   refreshes begins : ℕ → FrontPart
@@ -158,7 +158,7 @@ PartGoes old (tells_there device answer) new =
     ClientDoes old.front (client.tells_added device answer) (one_if_done answer) new.front × (new.asking ≡ old.asking) × (new.stations ≡ old.stations) × ((old.front).on ≡ true) × (old.asking ≡ idle)
 PartGoes old (sends channel sent) new =
     (channel ≡ (old.front).channel) × Sends old.front sent new.front × (new.asking ≡ old.asking) × (new.stations ≡ old.stations)
-PartGoes old (writes device c) new = (old.asking ≡ hands device c) × (new ≡ record old { asking = idle })
+PartGoes old (writes device c) new = (old.asking ≡ hands device c) × (new ≡ record old { asking = idle }) × SpellsCompletion device c (completion_message device c)
 PartGoes old (unwritten device c) new = (old.asking ≡ hands device c) × (new ≡ record old { asking = idle })
 PartGoes old (learns n answer) new =
     HearsNotice (old.front).cache n answer (new.front).cache × (new ≡ record old { front = record old.front { cache = (new.front).cache } })

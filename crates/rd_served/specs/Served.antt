@@ -11,8 +11,8 @@ use Rattle.rd_station.specs.declared.answers.Completion.{Completion}
 use Rattle.rd_station.specs.declared.refusals.PutWhy.{PutWhy}
 use Rattle.rd_turn.specs.declared.object.Entry.{Entry}
 use Rattle.rd_turn.specs.History.{Leads, entry}
-use Rattle.rd_world.specs.Devices.{device_cuts, device_parked, device_runs}
 use Rattle.rd_world.specs.World.{Kept}
+use Rattle.rd_served_devices.specs.ServedDevices.{served_cuts, served_parked, served_runs}
 
 -- ---- what others do at a desk
 
@@ -35,7 +35,7 @@ IsWork _ = ⊥
 pub record Works (old new : SessionStation) : Type 0 where
   pub calls : List StationCall
   pub work : AllByRecursion IsWork calls
-  pub steps : StationSteps device_runs device_parked device_cuts old calls new
+  pub steps : StationSteps served_runs served_parked served_cuts old calls new
 
 -- ---- one desk
 

@@ -24,9 +24,7 @@ use Rattle.rd_hello.specs.declared.end_fault.EndFault.{EndFault}
 use Rattle.rd_hello.specs.declared.end_fault.EndFault.TheVariants as fault
 use Rattle.rd_station.specs.Station as station
 use Rattle.rd_turn.specs.declared.object.Entry.{Entry}
-use Rattle.rd_world.specs.Devices.{device_cuts, device_parked, device_runs}
 use Rattle.rd_world.specs.Talk.{Deed, EachAfter, Has, client_reads, is_removed, stores}
-use Rattle.rd_world.specs.declared.device.SessionDevice.{SessionDevice}
 use Rattle.rd_served_order.proofs.ServedCauseLemmas.{found}
 use Rattle.rd_served_order.proofs.ServedStandingLemmas.{IsKnownAt, begins_known, part_known}
 use Rattle.rd_served_order.specs.ServedDeeds.{deeds_after, deeds_of, deeds_of_calls, sent_by, stored, stored_each}
@@ -42,6 +40,7 @@ use Rattle.rd_served_causes.proofs.OpenLemmas.{IsQuietCall, each_off, quiet_call
 use Rattle.rd_served_causes.proofs.StepLemmas.{refreshed_front}
 use Rattle.rd_served_causes.specs.Cuts.{CutsRemoved, is_to_cut}
 use Rattle.rd_served_causes.specs.Open.{IsDeskAt, Never}
+use Rattle.rd_served_order.specs.ServedDevices.{ServedDeviceState, served_cuts, served_parked, served_runs}
 
 abbrev Of : Type 0
 Of = SessionStation
@@ -152,10 +151,10 @@ cut_idle p q deeds desks stations is = cut_same p q deeds deeds desks stations (
 
 -- ---- what a removal stores, and what the end of a channel does
 
-cut_journal : (s : Of) (cut : SessionDevice) → s.live ≡ true → ((station.remove s cut).0).journal ≡ s.journal ++ Cut Removed ∷ map (λ (job : Job). Cancelled job.key) s.waiting
+cut_journal : (s : Of) (cut : ServedDeviceState) → s.live ≡ true → ((station.remove s cut).0).journal ≡ s.journal ++ Cut Removed ∷ map (λ (job : Job). Cancelled job.key) s.waiting
 cut_journal s cut lives = ap (λ (b : Bool). ((station.remove (record s { live = b }) cut).0).journal) lives
 
-kept_journal : (s : Of) (cut : SessionDevice) → s.live ≡ false → ((station.remove s cut).0).journal ≡ s.journal
+kept_journal : (s : Of) (cut : ServedDeviceState) → s.live ≡ false → ((station.remove s cut).0).journal ≡ s.journal
 kept_journal s cut off = ap (λ (b : Bool). ((station.remove (record s { live = b }) cut).0).journal) off
 
 end_mild : (over : Bool) (back : DeskReply) (middle last : Of) → SessionDeskStep middle (end_call over) back last → AreNoRemovals (told_by (end_call over) back)
@@ -199,7 +198,7 @@ module _ (devices : List Announce) (p q : Served) (place id : ℕ) (does : DeskC
       by (desk.Put job) same r within fits step = quiet_due (subst IsQuietCall (sym same) tt) (λ e. let no : desk.Put job ≡ desk.Remove = sym same ∙ e in cc (no)) lives gone
       by desk.Collect same r within fits step = quiet_due (subst IsQuietCall (sym same) tt) (λ e. let no : desk.Collect ≡ desk.Remove = sym same ∙ e in cc (no)) lives gone
       by desk.Announce same r within fits step = absurd (let kept = present_kept id deeds ((p.front).client).devices (own.fine).marks fits.3 in cc (gone, kept))
-      by desk.Remove same (replied.Removed answer) within fits step = absurd (let off = (removed_off device_runs device_parked device_cuts (at.called).middle at.last (worked p q place id does back items known.keyed at).reached answer step).0 in cc (lives, off))
+      by desk.Remove same (replied.Removed answer) within fits step = absurd (let off = (removed_off served_runs served_parked served_cuts (at.called).middle at.last (worked p q place id does back items known.keyed at).reached answer step).0 in cc (lives, off))
       by desk.Remove same (replied.Announced answer) within fits step = absurd step.1
       by desk.Remove same (replied.Put answer) within fits step = absurd step.1
       by desk.Remove same (replied.Unfit job) within fits step = absurd step.1

@@ -34,7 +34,7 @@ use Rattle.rd_served_order.proofs.ServedComesLemmas.{ComesBy, called_comes, end_
 use Rattle.rd_served_order.proofs.ServedKeyLemmas.{IsKeyed, IsUnder, refreshed_calm}
 use Rattle.rd_served_order.proofs.ServedStandingLemmas.{IsKnownAt, sent_first}
 use Rattle.rd_served_order.specs.ServedDeeds.{deeds_of, sent_by, stored, stored_each}
-use Rattle.rd_served_order.specs.ServedParts.{AsksBy, CallsAt, Comes, EndsEach, FrontPart, IsOpenCall, PartGoes, begins, directs, ended_front, ends, forgets, hears, keeps, learns, misplaces, refreshes, sends, tells_gone, tells_there, tries, unwritten, writes}
+use Rattle.rd_served_order.specs.ServedParts.{CallsAt, Comes, EndsEach, FrontPart, PartGoes, begins, directs, ends, forgets, hears, keeps, learns, misplaces, refreshes, sends, tells_gone, tells_there, tries, unwritten, writes}
 use Rattle.rd_served_order.specs.ServedParts as part
 use Rattle.rd_served_order.specs.ServedServed.{Asking, Served, hands, idle}
 use Rattle.rd_served_refusals.proofs.BytesLemmas.{is_of_own}

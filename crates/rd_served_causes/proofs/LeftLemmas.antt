@@ -20,9 +20,7 @@ use Rattle.rd_served_order.proofs.RefusedAnswerLemmas.{all_answer}
 use Rattle.rd_turn.specs.declared.object.Entry.{Entry}
 use Rattle.rd_world.specs.Acts.{is_telling, tellings_on}
 use Rattle.rd_world.specs.Control.{Act, added, removed}
-use Rattle.rd_world.specs.Devices.{Declared}
 use Rattle.rd_world.specs.Events.{deed_on}
-use Rattle.rd_world.specs.Session.{replies_read}
 use Rattle.rd_world.specs.Talk.{Deed, EachAfter, Has, client_wrote, client_writes, completes, is_removed, journal, request_at}
 use Rattle.rd_world.specs.Told.{Answers, IsDirect, IsLeft, Replies, is_said_gone, worn_entries}
 use Rattle.rd_served_order.proofs.ServedChannelLemmas.{begins_here, history_on}
@@ -47,6 +45,8 @@ use Rattle.rd_served_refusals.specs.Heeding.{EachEndsHeeded, EndsHeeded, HearInR
 use Rattle.rd_served_replies.proofs.AnswerLemmas.{AreReplied}
 use Rattle.rd_served_replies.proofs.EachLemmas.{all_answered, all_replying, replied_then}
 use Rattle.rd_served_replies.proofs.ReadLemmas.{all_fine, history_bytes}
+use Rattle.rd_served_order.specs.ServedDevices.{ServedDeviceState}
+use Rattle.rd_served_replies.specs.Given.{HadNoFaults, replies_served}
 use Rattle.rd_served_replies.specs.Premises.{AreOpened, GiveOwn}
 use Rattle.rd_served_causes.proofs.AwayLemmas.{IsSameOn, all_same, all_under, ends_away, part_away, passes_same}
 use Rattle.rd_served_causes.proofs.CallLemmas.{all_said, heard_unhindered}
@@ -390,12 +390,12 @@ pub bytes_in_room : (entries : List (Entry FrontCall FrontReply)) → HearBytes 
 bytes_in_room [] bytes = tt
 bytes_in_room (e ∷ entries) bytes = (bytes_room e.call bytes.0, bytes_in_room entries bytes.1)
 
-pub all_left : (announced : List Announce) (devices : List (ℕ × Declared)) (old new : Served) (entries : List (Entry FrontCall FrontReply)) (parts : List (List FrontPart)) → BeginsWith announced old → HaveDesks announced (old.front).desks → AreOpened devices (old.front).desks
-    → (goes : HistoryGoes old entries parts new) → GiveOwn (new.front).desks → HearBytes entries → StartUnhindered false entries → (c : ℕ)
-    → IsLeftOf (replies_read devices (deeds_of_calls parts [])) announced (is_gone_until parts c) (acts_on c old entries parts new goes) c (deeds_of_calls parts []) (rest_of old entries parts new goes c)
-all_left announced devices old new entries parts opening have opened goes gives bytes starts c =
+pub all_left : (calm : Bool) (announced : List Announce) (devices : List (ℕ × ServedDeviceState)) (old new : Served) (entries : List (Entry FrontCall FrontReply)) (parts : List (List FrontPart)) → BeginsWith announced old → HaveDesks announced (old.front).desks → AreOpened devices (old.front).desks
+    → (goes : HistoryGoes old entries parts new) → GiveOwn (new.front).desks → (calm ≡ true → HadNoFaults new.stations) → HearBytes entries → StartUnhindered false entries → (c : ℕ)
+    → IsLeftOf (replies_served calm devices parts (deeds_of_calls parts [])) announced (is_gone_until parts c) (acts_on c old entries parts new goes) c (deeds_of_calls parts []) (rest_of old entries parts new goes c)
+all_left calm announced devices old new entries parts opening have opened goes gives quiet bytes starts c =
     let deeds = deeds_of_calls parts [] in
-    let replies = replies_read devices deeds in
+    let replies = replies_served calm devices parts deeds in
     let is = opening.new in
     let read = history_bytes entries parts old new [] goes bytes tt in
     let said = all_said announced old new entries parts opening have goes (all_fine deeds read) starts in
@@ -404,11 +404,11 @@ all_left announced devices old new entries parts opening have opened goes gives 
     let before = hear_before entries parts old new goes (heard_unhindered entries false starts) in
     let first = begins_line_all old is.new is.idle_is in
     let (stopped, line) = history_line entries parts false old new [] goes known room before first in
-    let replied = replied_then devices old new entries parts is opened goes gives read in
+    let replied = replied_then calm devices old new entries parts is opened goes gives quiet read in
     let here = history_on entries parts old new goes (begins_at old is.new is.stationed is.idle_is) (begins_here old is.new.nothing is.idle_is) in
     let facts =
     both_calls EndsHeeded (λ p sofar x. AreSaid p sofar × AreReplied replies p sofar) entries parts old new [] goes (calls_heeded entries parts old new [] goes (history_heeded entries parts false old new [] goes known room before first))
-    (both_calls (λ p sofar x. AreSaid p sofar) (λ p sofar x. AreReplied replies p sofar) entries parts old new [] goes said.3 (all_replying devices old new entries parts is opened goes gives read)) in
+    (both_calls (λ p sofar x. AreSaid p sofar) (λ p sofar x. AreReplied replies p sofar) entries parts old new [] goes said.3 (all_replying calm devices old new entries parts is opened goes gives quiet read)) in
     let last =
     history_here announced replies opening.writable entries parts old new goes [] none_until (λ x. []) none_left here facts (record {
       known = known;
@@ -418,4 +418,4 @@ all_left announced devices old new entries parts opening have opened goes gives 
       over = λ x other. none_over announced x (Gone none_until x);
     }) in
     let over = each_over announced replies new deeds (until_calls parts [] none_until) (λ x. acts_on x old entries parts new goes) (rests_calls old entries parts new goes none_left) (λ on. passes_now stopped (point_of new) deeds on line) said.0 replied last c in
-    over_left replies announced c deeds (is_gone_until parts c) (acts_on c old entries parts new goes) (rest_of old entries parts new goes c) (all_answer replies deeds (said.0).each (all_answered devices old new entries parts is opened goes gives read)) over
+    over_left replies announced c deeds (is_gone_until parts c) (acts_on c old entries parts new goes) (rest_of old entries parts new goes c) (all_answer replies deeds (said.0).each (all_answered calm devices old new entries parts is opened goes gives quiet read)) over

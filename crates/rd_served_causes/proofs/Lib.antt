@@ -24,6 +24,7 @@ pub use Rattle.rd_served_order.proofs.JournalsWorkLemmas as JournalsWorkLemmas
 pub use Rattle.rd_served_order.proofs.RefusedAnswerLemmas as RefusedAnswerLemmas
 pub use Rattle.rd_served_order.proofs.RepliedMatchLemmas as RepliedMatchLemmas
 pub use Rattle.rd_served_order.proofs.RunsBoundLemmas as RunsBoundLemmas
+pub use Rattle.rd_served_order.proofs.ServedCallLemmas as ServedCallLemmas
 pub use Rattle.rd_served_order.proofs.ServedCauseLemmas as ServedCauseLemmas
 pub use Rattle.rd_served_order.proofs.ServedChannelLemmas as ServedChannelLemmas
 pub use Rattle.rd_served_order.proofs.ServedComesLemmas as ServedComesLemmas
@@ -41,10 +42,12 @@ pub use Rattle.rd_served_replies.proofs.EachLemmas as ServedRepliesEachLemmas
 pub use Rattle.rd_served_replies.proofs.FollowLemmas as ServedRepliesFollowLemmas
 pub use Rattle.rd_served_replies.proofs.GivenLemmas as ServedRepliesGivenLemmas
 pub use Rattle.rd_served_replies.proofs.GoneLemmas as ServedRepliesGoneLemmas
+pub use Rattle.rd_served_replies.proofs.KnownLemmas as ServedRepliesKnownLemmas
 pub use Rattle.rd_served_replies.proofs.LedLemmas as ServedRepliesLedLemmas
 pub use Rattle.rd_served_replies.proofs.MildLemmas as ServedRepliesMildLemmas
 pub use Rattle.rd_served_replies.proofs.ReadLemmas as ServedRepliesReadLemmas
 pub use Rattle.rd_served_order.proofs.ServedStandingLemmas as ServedStandingLemmas
 pub use Rattle.rd_served_order.proofs.ServedStationLemmas as ServedStationLemmas
+pub use Rattle.rd_served_order.proofs.ServedStoreLemmas as ServedStoreLemmas
 pub use Rattle.rd_served_order.proofs.ServedWalkLemmas as ServedWalkLemmas
 pub use Rattle.rd_served_order.proofs.ServedWorkLemmas as ServedWorkLemmas

@@ -18,14 +18,13 @@ use Rattle.rd_front.specs.State.{DeviceDeskState, FrontState, SessionDeskStep, S
 use Rattle.rd_station.specs.Station.{StationCall, applies, drop_channel, entry_count, takes}
 use Rattle.rd_station.specs.Tied.{IsReached}
 use Rattle.rd_station.specs.declared.refusals.AnnounceNo.TheVariants as announce_no
-use Rattle.rd_world.specs.Devices.{device_cuts, device_parked, device_runs}
-use Rattle.rd_world.specs.declared.device.SessionDevice.{SessionDevice}
 use Rattle.rd_served_order.proofs.ServedKeyLemmas.{IsKeyed, has_at}
 use Rattle.rd_served_order.specs.ServedParts.{CallsAt, EndsEach, IsOpenCall, ended_front, is_present_as}
 use Rattle.rd_served_order.specs.ServedServed.{IsWork, Served}
 use Rattle.rd_served_causes.proofs.DeskLemmas.{IsPlain, Stays, announce_open, removed_off, steps_stay}
 use Rattle.rd_served_causes.specs.Open.{IsDeskAt}
 use Rattle.rd_served_causes.specs.Worn.{IsWorn}
+use Rattle.rd_served_order.specs.ServedDevices.{ServedDeviceState, served_cuts, served_parked, served_runs}
 
 abbrev Of : Type 0
 Of = SessionStation
@@ -33,12 +32,12 @@ Of = SessionStation
 -- ---- one station
 
 abbrev pub IsReachedHere : Of → Type 0
-IsReachedHere s = IsReached device_runs device_parked device_cuts s
+IsReachedHere s = IsReached served_runs served_parked served_cuts s
 
 abbrev pub StaysHere : Of → Of → Type 0
-StaysHere s t = Stays device_runs device_parked device_cuts s t
+StaysHere s t = Stays served_runs served_parked served_cuts s t
 
-all_plain : (cs : List StationCall) → AllByRecursion IsWork cs → AllByRecursion (IsPlain device_runs device_parked device_cuts) cs
+all_plain : (cs : List StationCall) → AllByRecursion IsWork cs → AllByRecursion (IsPlain served_runs served_parked served_cuts) cs
 all_plain [] work = tt
 all_plain (takes answer ∷ cs) work = ((tt, tt), all_plain cs work.1)
 all_plain (applies planned moment answer ∷ cs) work = ((tt, tt), all_plain cs work.1)
@@ -57,16 +56,16 @@ IsQuietCall desk.Collect = Unit {0}
 IsQuietCall _ = ⊥
 
 quiet_stays : (does : DeskCall) (back : DeskReply) (s t : Of) → IsQuietCall does → IsReachedHere s → SessionDeskStep s does back t → StaysHere s t
-quiet_stays (desk.Put job) (replied.Put (Ok done)) s t own reached step = steps_stay device_runs device_parked device_cuts (told_by (desk.Put job) (replied.Put (Ok done))) s t ((tt, tt), tt) reached step.0
-quiet_stays (desk.Put job) (replied.Put (Err refusal)) s t own reached step = steps_stay device_runs device_parked device_cuts (told_by (desk.Put job) (replied.Put (Err refusal))) s t ((tt, tt), tt) reached step.0
-quiet_stays (desk.Put job) (replied.Unfit back) s t own reached step = steps_stay device_runs device_parked device_cuts (told_by (desk.Put job) (replied.Unfit back)) s t ((tt, tt), tt) reached step.0
+quiet_stays (desk.Put job) (replied.Put (Ok done)) s t own reached step = steps_stay served_runs served_parked served_cuts (told_by (desk.Put job) (replied.Put (Ok done))) s t ((tt, tt), tt) reached step.0
+quiet_stays (desk.Put job) (replied.Put (Err refusal)) s t own reached step = steps_stay served_runs served_parked served_cuts (told_by (desk.Put job) (replied.Put (Err refusal))) s t ((tt, tt), tt) reached step.0
+quiet_stays (desk.Put job) (replied.Unfit back) s t own reached step = steps_stay served_runs served_parked served_cuts (told_by (desk.Put job) (replied.Unfit back)) s t ((tt, tt), tt) reached step.0
 quiet_stays (desk.Put job) (replied.Announced answer) s t own reached step = absurd step.1
 quiet_stays (desk.Put job) (replied.Worked w) s t own reached step = absurd step.1
 quiet_stays (desk.Put job) (replied.Collected answer) s t own reached step = absurd step.1
 quiet_stays (desk.Put job) (replied.Removed answer) s t own reached step = absurd step.1
 quiet_stays (desk.Put job) replied.Dropped s t own reached step = absurd step.1
 quiet_stays (desk.Put job) replied.Ended s t own reached step = absurd step.1
-quiet_stays desk.Collect (replied.Collected answer) s t own reached step = steps_stay device_runs device_parked device_cuts (told_by desk.Collect (replied.Collected answer)) s t ((tt, tt), tt) reached step.0
+quiet_stays desk.Collect (replied.Collected answer) s t own reached step = steps_stay served_runs served_parked served_cuts (told_by desk.Collect (replied.Collected answer)) s t ((tt, tt), tt) reached step.0
 quiet_stays desk.Collect (replied.Announced answer) s t own reached step = absurd step.1
 quiet_stays desk.Collect (replied.Put answer) s t own reached step = absurd step.1
 quiet_stays desk.Collect (replied.Unfit job) s t own reached step = absurd step.1
@@ -92,7 +91,7 @@ reached_at p place s keyed at = ((keyed.on s (has_at p.stations place s at)).sou
 module _ (p q : Served) (place id : ℕ) (does : DeskCall) (back : DeskReply) (items : List Item) (keyed : IsKeyed p) (at : CallsAt p place id does back items q) where
   -- what hands did before the call
   pub worked : StaysHere at.first (at.called).middle
-  worked = steps_stay device_runs device_parked device_cuts (at.called).works.calls at.first (at.called).middle (all_plain (at.called).works.calls (at.called).works.work) (reached_at p place at.first keyed at.has) (at.called).works.steps
+  worked = steps_stay served_runs served_parked served_cuts (at.called).works.calls at.first (at.called).middle (all_plain (at.called).works.calls (at.called).works.work) (reached_at p place at.first keyed at.has) (at.called).works.steps
 
   pub quiet_call : IsQuietCall does → StaysHere at.first at.last
   quiet_call own = both_stay at.first (at.called).middle at.last worked (quiet_stays does back (at.called).middle at.last own worked.reached (at.called).step)
@@ -117,9 +116,9 @@ call_grows p q place id does back items keyed at worn = by does back at.own (at.
     by (desk.Put job) r own step = quiet (desk.Put job) r tt step
     by desk.Collect r own step = quiet desk.Collect r tt step
     by desk.Announce (replied.Announced (Err announce_no.Memory)) own step = subst (λ (s : Of). IsWorn s) (sym (memory_same (at.called).middle at.last step)) middle
-    by desk.Announce (replied.Announced (Ok done)) own step = worn_still (at.called).middle at.last (announce_open device_runs device_parked device_cuts (at.called).middle at.last work.reached (Ok done) (λ e. cc (e)) step).1 middle
-    by desk.Announce (replied.Announced (Err announce_no.Live)) own step = worn_still (at.called).middle at.last (announce_open device_runs device_parked device_cuts (at.called).middle at.last work.reached (Err announce_no.Live) (λ e. cc (e)) step).1 middle
-    by desk.Announce (replied.Announced (Err (announce_no.Worn count))) own step = worn_still (at.called).middle at.last (announce_open device_runs device_parked device_cuts (at.called).middle at.last work.reached (Err (announce_no.Worn count)) (λ e. cc (e)) step).1 middle
+    by desk.Announce (replied.Announced (Ok done)) own step = worn_still (at.called).middle at.last (announce_open served_runs served_parked served_cuts (at.called).middle at.last work.reached (Ok done) (λ e. cc (e)) step).1 middle
+    by desk.Announce (replied.Announced (Err announce_no.Live)) own step = worn_still (at.called).middle at.last (announce_open served_runs served_parked served_cuts (at.called).middle at.last work.reached (Err announce_no.Live) (λ e. cc (e)) step).1 middle
+    by desk.Announce (replied.Announced (Err (announce_no.Worn count))) own step = worn_still (at.called).middle at.last (announce_open served_runs served_parked served_cuts (at.called).middle at.last work.reached (Err (announce_no.Worn count)) (λ e. cc (e)) step).1 middle
     by desk.Announce (replied.Put answer) own step = absurd step.1
     by desk.Announce (replied.Unfit job) own step = absurd step.1
     by desk.Announce (replied.Worked w) own step = absurd step.1
@@ -127,7 +126,7 @@ call_grows p q place id does back items keyed at worn = by does back at.own (at.
     by desk.Announce (replied.Removed answer) own step = absurd step.1
     by desk.Announce replied.Dropped own step = absurd step.1
     by desk.Announce replied.Ended own step = absurd step.1
-    by desk.Remove (replied.Removed answer) own step = worn_still (at.called).middle at.last (removed_off device_runs device_parked device_cuts (at.called).middle at.last work.reached answer step).1 middle
+    by desk.Remove (replied.Removed answer) own step = worn_still (at.called).middle at.last (removed_off served_runs served_parked served_cuts (at.called).middle at.last work.reached answer step).1 middle
     by desk.Remove (replied.Announced answer) own step = absurd step.1
     by desk.Remove (replied.Put answer) own step = absurd step.1
     by desk.Remove (replied.Unfit job) own step = absurd step.1
@@ -141,7 +140,7 @@ call_grows p q place id does back items keyed at worn = by does back at.own (at.
 
 -- ---- a channel ends
 
-drop_off : (s : Of) (cut : SessionDevice) → (drop_channel s cut).live ≡ false
+drop_off : (s : Of) (cut : ServedDeviceState) → (drop_channel s cut).live ≡ false
 drop_off s cut = by s.live refl
   where
     by : (b : Bool) → s.live ≡ b → (drop_channel (record s { live = b }) cut).live ≡ false

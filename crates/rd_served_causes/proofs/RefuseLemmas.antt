@@ -54,7 +54,7 @@ use Rattle.rd_station.proofs.Members.{has_append, to_contains}
 use Rattle.rd_station.proofs.Remembering.{came_named}
 use Rattle.rd_station.specs.declared.answers.Completion.{Completion}
 use Rattle.rd_world.proofs.Messages.{head_read}
-use Rattle.rd_world.specs.Devices.{PrinterNames, device_cuts, device_parked, device_runs, printer_data}
+use Rattle.rd_world.specs.Devices.{PrinterNames, printer_data}
 use Rattle.rd_world.specs.Events.{completion_message}
 use Rattle.rd_world.specs.Talk.{Deed, EachAfter, Has, adds, client_reads, client_writes, client_wrote, completes, head_in, journal, on, removes, stores}
 use Rattle.rd_world.specs.Told.{CompletesWith, came, came_as, is_said_gone, worn_entries}
@@ -78,6 +78,7 @@ use Rattle.rd_served_causes.proofs.WornLemmas.{worn_entries_of}
 use Rattle.rd_served_causes.specs.Causes.{HaveDesks}
 use Rattle.rd_served_causes.specs.Open.{IsDeskAt, IsOpen, Never}
 use Rattle.rd_served_causes.specs.Worn.{IsWorn}
+use Rattle.rd_served_order.specs.ServedDevices.{served_cuts, served_parked, served_runs}
 
 abbrev Of : Type 0
 Of = SessionStation
@@ -173,7 +174,7 @@ module _ (p q : Served) (place id : ℕ) (does : DeskCall) (back : DeskReply) (i
       middle = worn_still at.first (at.called).middle work.grows worn
 
       by : (d : DeskCall) (r : DeskReply) → part.IsOpenCall d → SessionDeskStep (at.called).middle d r at.last → ComesBy (told_by d r) key → ⊥
-      by (desk.Put job) (replied.Put (Ok done)) own step come = (put_came device_runs device_parked device_cuts (at.called).middle at.last work.reached job step).0 middle
+      by (desk.Put job) (replied.Put (Ok done)) own step come = (put_came served_runs served_parked served_cuts (at.called).middle at.last work.reached job step).0 middle
       by (desk.Put job) (replied.Put (Err refusal)) own step (inl none) = none
       by (desk.Put job) (replied.Put (Err refusal)) own step (inr none) = none
       by (desk.Put job) (replied.Unfit back) own step (inl none) = none
@@ -277,7 +278,7 @@ module _ (devices : List Announce) (desks : List DeviceDeskState) (have : HaveDe
     worn_for : (k : Kept) → IsUnder p.asking k → (place : ℕ) (d : DeviceDeskState) (s : Of) → IsDeskAt p place d s → d.id ≡ k.device → IsWorn s → IsWornFor p deeds k.device k.job.key
     worn_for k way place d s here id worn = record {
       entries =
-          let few = (reached_kept device_runs device_parked device_cuts s (reached_at p place s (at.known).keyed here.1)).few in
+          let few = (reached_kept served_runs served_parked served_cuts s (reached_at p place s (at.known).keyed here.1)).few in
           let many = worn_entries_of s few worn in
           let size : length (journal k.device deeds) ≡ length s.journal = ap length own ∙ length-reverse s.journal in
           omega (arith, many, size);

@@ -27,7 +27,7 @@ use Rattle.rd_front.specs.State.{DeviceDeskState, FrontState, SessionDeskStep, S
 use Rattle.rd_hello.specs.declared.end_fault.EndFault.{EndFault}
 use Rattle.rd_hello.specs.declared.end_fault.EndFault.TheVariants as fault
 use Rattle.rd_station.specs.declared.refusals.AnnounceNo.TheVariants as announce_no
-use Rattle.rd_world.specs.Devices.{PrinterNames, device_cuts, device_parked, device_runs, printer_data}
+use Rattle.rd_world.specs.Devices.{PrinterNames, printer_data}
 use Rattle.rd_world.specs.Talk.{Deed}
 use Rattle.rd_served_order.proofs.ServedCauseLemmas.{IsTold, found}
 use Rattle.rd_served_order.proofs.ServedKeyLemmas.{IsKeyed, both_true}
@@ -39,6 +39,7 @@ use Rattle.rd_served_causes.proofs.OpenLemmas.{IsQuietCall, StaysHere, each_off,
 use Rattle.rd_served_causes.proofs.PlaceLemmas.{has_place}
 use Rattle.rd_served_causes.specs.Open.{AreOff, IsDeskAt, IsOpenBut, Never}
 use Rattle.rd_served_causes.specs.Worn.{IsWorn}
+use Rattle.rd_served_order.specs.ServedDevices.{served_cuts, served_parked, served_runs}
 
 abbrev Of : Type 0
 Of = SessionStation
@@ -191,9 +192,9 @@ module _ (D C E F : ℕ → Type 0) where
         by desk.Collect same r own fits step due = go at.last (quiet_call p q place id does back items keyed at (subst IsQuietCall (sym same) tt)) (λ n late. elim (due n late) [ inl e ↦ absurd (cc (e)) | inr later ↦ later ])
         by desk.Announce same (replied.Announced (Err announce_no.Memory)) own fits step due =
             subst (λ (s : Of). ((s.live ≡ true) ⊎ IsWorn s) ⊎ E id) (sym (memory_same (at.called).middle at.last step)) (go (at.called).middle work (λ n late. elim (due n late) [ inl e ↦ absurd (cc (e)) | inr later ↦ later ]))
-        by desk.Announce same (replied.Announced (Ok done)) own fits step due = inl (announce_open device_runs device_parked device_cuts (at.called).middle at.last work.reached (Ok done) (λ e. cc (e)) step).0
-        by desk.Announce same (replied.Announced (Err announce_no.Live)) own fits step due = inl (announce_open device_runs device_parked device_cuts (at.called).middle at.last work.reached (Err announce_no.Live) (λ e. cc (e)) step).0
-        by desk.Announce same (replied.Announced (Err (announce_no.Worn count))) own fits step due = inl (announce_open device_runs device_parked device_cuts (at.called).middle at.last work.reached (Err (announce_no.Worn count)) (λ e. cc (e)) step).0
+        by desk.Announce same (replied.Announced (Ok done)) own fits step due = inl (announce_open served_runs served_parked served_cuts (at.called).middle at.last work.reached (Ok done) (λ e. cc (e)) step).0
+        by desk.Announce same (replied.Announced (Err announce_no.Live)) own fits step due = inl (announce_open served_runs served_parked served_cuts (at.called).middle at.last work.reached (Err announce_no.Live) (λ e. cc (e)) step).0
+        by desk.Announce same (replied.Announced (Err (announce_no.Worn count))) own fits step due = inl (announce_open served_runs served_parked served_cuts (at.called).middle at.last work.reached (Err (announce_no.Worn count)) (λ e. cc (e)) step).0
         by desk.Announce same (replied.Put answer) own fits step due = absurd step.1
         by desk.Announce same (replied.Unfit job) own fits step due = absurd step.1
         by desk.Announce same (replied.Worked w) own fits step due = absurd step.1
@@ -223,7 +224,7 @@ module _ (D C E F : ℕ → Type 0) where
             let ready = fits.2 in
             (fits.1, inl (λ i. ready i && shown i))
         by desk.Remove same (replied.Removed answer) own fits step cut =
-            let off = (removed_off device_runs device_parked device_cuts (at.called).middle at.last (worked p q place id does back items keyed at).reached answer step).0 in absurd (cc (lives, off))
+            let off = (removed_off served_runs served_parked served_cuts (at.called).middle at.last (worked p q place id does back items keyed at).reached answer step).0 in absurd (cc (lives, off))
         by desk.Remove same (replied.Announced answer) own fits step cut = absurd step.1
         by desk.Remove same (replied.Put answer) own fits step cut = absurd step.1
         by desk.Remove same (replied.Unfit job) own fits step cut = absurd step.1
@@ -392,7 +393,7 @@ off_call p q place id does back items deeds keyed told at off none k d s here = 
     by (desk.Put job) same r own fits step = (quiet_call p q place id does back items keyed at (subst IsQuietCall (sym same) tt)).live ∙ first
     by desk.Collect same r own fits step = (quiet_call p q place id does back items keyed at (subst IsQuietCall (sym same) tt)).live ∙ first
     by desk.Announce same r own fits step = absurd (let on = fits.1 in cc (on, before))
-    by desk.Remove same (replied.Removed answer) own fits step = (removed_off device_runs device_parked device_cuts (at.called).middle at.last (worked p q place id does back items keyed at).reached answer step).0
+    by desk.Remove same (replied.Removed answer) own fits step = (removed_off served_runs served_parked served_cuts (at.called).middle at.last (worked p q place id does back items keyed at).reached answer step).0
     by desk.Remove same (replied.Announced answer) own fits step = absurd step.1
     by desk.Remove same (replied.Put answer) own fits step = absurd step.1
     by desk.Remove same (replied.Unfit job) own fits step = absurd step.1

@@ -11,7 +11,6 @@ use Rattle.rd_front.specs.State.{DeviceDeskState, FrontState, SessionStation}
 use Rattle.rd_hello.specs.declared.end_fault.EndFault.{EndFault}
 use Rattle.rd_station.specs.declared.refusals.PutWhy.{PutWhy}
 use Rattle.rd_station.specs.declared.refusals.PutWhy.TheVariants as why
-use Rattle.rd_world.specs.Devices.{device_cuts, device_parked, device_runs}
 use Rattle.rd_world.specs.World.{Kept}
 use Rattle.rd_served_order.proofs.ServedKeyLemmas.{IsKeyed}
 use Rattle.rd_served_order.proofs.ServedWalkLemmas.{desk_of}
@@ -23,6 +22,7 @@ use Rattle.rd_served_causes.proofs.OpenLemmas.{StaysHere, quiet_call, worked, wo
 use Rattle.rd_served_causes.proofs.StepLemmas.{refreshed_front}
 use Rattle.rd_served_causes.specs.Open.{IsDeskAt, Never}
 use Rattle.rd_served_causes.specs.Worn.{IsWorn}
+use Rattle.rd_served_order.specs.ServedDevices.{served_cuts, served_parked, served_runs}
 
 abbrev Of : Type 0
 Of = SessionStation
@@ -133,12 +133,12 @@ calls_way p q place id (desk.Put job) (replied.Put (Err refusal)) items keyed at
       let both : refused c.kept refusal.why ≡ refused k why.Gone = sym (at.asking_is).1 ∙ e in
       let same : c.kept ≡ k = cc (both) in
       let cause : refusal.why ≡ why.Gone = cc (both) in
-      (place, at.after, at.last, here, named k same, put_gone device_runs device_parked device_cuts (at.called).middle at.last work.reached job refusal cause (at.called).step);
+      (place, at.after, at.last, here, named k same, put_gone served_runs served_parked served_cuts (at.called).middle at.last work.reached job refusal cause (at.called).step);
   worn = λ k count e.
       let both : refused c.kept refusal.why ≡ refused k (why.Worn count) = sym (at.asking_is).1 ∙ e in
       let same : c.kept ≡ k = cc (both) in
       let cause : refusal.why ≡ why.Worn count = cc (both) in
-      (place, at.after, at.last, here, named k same, put_worn device_runs device_parked device_cuts (at.called).middle at.last work.reached job refusal count cause (at.called).step);
+      (place, at.after, at.last, here, named k same, put_worn served_runs served_parked served_cuts (at.called).middle at.last work.reached job refusal count cause (at.called).step);
 }
   where
     c : Comes p place job

@@ -11,10 +11,14 @@ pub use Rattle.rd_served_order.specs.JournalsStations as JournalsStations
 pub use Rattle.rd_served_order.specs.RunsPremises as RunsPremises
 pub use Rattle.rd_served_order.specs.ServedDeeds as ServedDeeds
 pub use Rattle.rd_served_order.specs.ServedHistories as ServedHistories
+pub use Rattle.rd_served_order.specs.ServedDevices as ServedDevices
+pub use Rattle.rd_served_order.specs.ServedOnChannel as ServedOnChannel
 pub use Rattle.rd_served_order.specs.Orders as ServedOrderOrders
 pub use Rattle.rd_served_order.specs.Sent as ServedOrderSent
 pub use Rattle.rd_served_order.specs.Tellings as ServedOrderTellings
 pub use Rattle.rd_served_order.specs.ServedParts as ServedParts
 pub use Rattle.rd_served_refusals.specs.Heeding as ServedRefusalsHeeding
+pub use Rattle.rd_served_replies.specs.Given as ServedRepliesGiven
 pub use Rattle.rd_served_replies.specs.Premises as ServedRepliesPremises
+pub use Rattle.rd_served_replies.specs.RepliedRemovals as RepliedRemovals
 pub use Rattle.rd_served_order.specs.ServedServed as ServedServed

@@ -1,17 +1,16 @@
 //! What holds of the refusals of a front, as contracts of functions that do nothing.
 
-ghost use Rattle.std.specs.Prelude.{◌≡◌, ◌++◌, ℕ, List, [], true, false};
+ghost use Rattle.std.specs.Prelude.{◌≡◌, ◌++◌, ℕ, Bool, List, [], true, false};
 ghost use Rattle.rd_served_order.specs.AnsweredRefusing.{SaysMarks, written_then};
 ghost use Rattle.rd_devices.specs.declared.list.Announce.{Announce};
 ghost use Rattle.rd_front.specs.declared.calls.FrontCall.{FrontCall};
 ghost use Rattle.rd_front.specs.declared.calls.FrontReply.{FrontReply};
 ghost use Rattle.rd_served_order.specs.RefusedRefused.{RefusesDirectly};
 ghost use Rattle.rd_turn.specs.declared.object.Entry.{Entry};
-ghost use Rattle.rd_world.specs.Devices.{Declared};
-ghost use Rattle.rd_world.specs.Session.{replies_read};
 ghost use Rattle.rd_world.specs.Talk.{Deed, EachAfter, client_wrote};
 ghost use Rattle.rd_world.specs.Told.{Answers, ComesUnworn};
 ghost use Rattle.rd_served_order.specs.ServedDeeds.{deeds_of_calls};
+ghost use Rattle.rd_served_order.specs.ServedDevices.{ServedDeviceState};
 ghost use Rattle.rd_served_order.specs.ServedHistories.{HistoryGoes};
 ghost use Rattle.rd_served_order.specs.ServedParts.{FrontPart};
 ghost use Rattle.rd_served_order.specs.ServedServed.{Served};
@@ -19,6 +18,7 @@ ghost use Rattle.rd_served_order.specs.Orders.{BeginsWith, is_gone_until};
 ghost use Rattle.rd_served_order.specs.Tellings.{acts_on};
 ghost use Rattle.rd_served_refusals.specs.Heeding.{HearUnhindered, left_by};
 ghost use Rattle.rd_front.specs.Calls.{HearBytes};
+ghost use Rattle.rd_served_replies.specs.Given.{HadNoFaults, replies_served};
 ghost use Rattle.rd_served_replies.specs.Premises.{AreOpened, GiveOwn};
 ghost use Rattle.rd_served_causes.specs.Causes.{HaveDesks, StartUnhindered, hindered_after};
 ghost use Rattle.rd_served_causes.specs.Cuts.{CutsRemoved};
@@ -54,19 +54,19 @@ pub fn requests_come_unworn_to_fronts()
 
 /// And each completion is the answer to its key: of those that were written, and of those that still stand in the core's outbox, once they are written.
 pub fn fronts_answer()
-    ensures written { (announced : List Announce) (devices : List (ℕ × Declared)) (old new : Served) (entries : List (Entry FrontCall FrontReply)) (parts : List (List FrontPart)) → BeginsWith announced old
-        → HaveDesks announced old.front.desks → AreOpened devices old.front.desks → HistoryGoes old entries parts new → GiveOwn new.front.desks → HearBytes entries → StartUnhindered false entries
-        → EachAfter (Answers (replies_read devices (deeds_of_calls parts []))) (deeds_of_calls parts []) }
-    ensures left { (announced : List Announce) (devices : List (ℕ × Declared)) (old new : Served) (entries : List (Entry FrontCall FrontReply)) (parts : List (List FrontPart)) → BeginsWith announced old
-        → HaveDesks announced old.front.desks → AreOpened devices old.front.desks → HistoryGoes old entries parts new → GiveOwn new.front.desks → HearBytes entries → StartUnhindered false entries
-        → EachAfter (Answers (replies_read devices (deeds_of_calls parts []))) (left_by new.front ++ deeds_of_calls parts []) }
+    ensures written { (calm : Bool) (announced : List Announce) (devices : List (ℕ × ServedDeviceState)) (old new : Served) (entries : List (Entry FrontCall FrontReply)) (parts : List (List FrontPart)) → BeginsWith announced old
+        → HaveDesks announced old.front.desks → AreOpened devices old.front.desks → HistoryGoes old entries parts new → GiveOwn new.front.desks → (calm ≡ true → HadNoFaults new.stations) → HearBytes entries → StartUnhindered false entries
+        → EachAfter (Answers (replies_served calm devices parts (deeds_of_calls parts []))) (deeds_of_calls parts []) }
+    ensures left { (calm : Bool) (announced : List Announce) (devices : List (ℕ × ServedDeviceState)) (old new : Served) (entries : List (Entry FrontCall FrontReply)) (parts : List (List FrontPart)) → BeginsWith announced old
+        → HaveDesks announced old.front.desks → AreOpened devices old.front.desks → HistoryGoes old entries parts new → GiveOwn new.front.desks → (calm ≡ true → HadNoFaults new.stations) → HearBytes entries → StartUnhindered false entries
+        → EachAfter (Answers (replies_served calm devices parts (deeds_of_calls parts []))) (left_by new.front ++ deeds_of_calls parts []) }
 {}
 
 /// With what stood in the outbox as a channel ended, or stands there now, no request was passed over there but the last, each completion is the answer to its key, and what was told of devices is all that the front was told to tell.
 pub fn fronts_leave_answers()
-    ensures { (announced : List Announce) (devices : List (ℕ × Declared)) (old new : Served) (entries : List (Entry FrontCall FrontReply)) (parts : List (List FrontPart)) → BeginsWith announced old
-        → HaveDesks announced old.front.desks → AreOpened devices old.front.desks → (goes : HistoryGoes old entries parts new) → GiveOwn new.front.desks → HearBytes entries → StartUnhindered false entries → (c : ℕ)
-        → IsLeftOf (replies_read devices (deeds_of_calls parts [])) announced (is_gone_until parts c) (acts_on c old entries parts new goes) c (deeds_of_calls parts []) (rest_of old entries parts new goes c) }
+    ensures { (calm : Bool) (announced : List Announce) (devices : List (ℕ × ServedDeviceState)) (old new : Served) (entries : List (Entry FrontCall FrontReply)) (parts : List (List FrontPart)) → BeginsWith announced old
+        → HaveDesks announced old.front.desks → AreOpened devices old.front.desks → (goes : HistoryGoes old entries parts new) → GiveOwn new.front.desks → (calm ≡ true → HadNoFaults new.stations) → HearBytes entries → StartUnhindered false entries → (c : ℕ)
+        → IsLeftOf (replies_served calm devices parts (deeds_of_calls parts [])) announced (is_gone_until parts c) (acts_on c old entries parts new goes) c (deeds_of_calls parts []) (rest_of old entries parts new goes c) }
 {}
 
 /// A device is cut off as one that is gone only after it was removed, once for each removal.

@@ -25,6 +25,7 @@ pub use Rattle.rd_acted.proofs.RefusedMarkLemmas as RefusedMarkLemmas
 pub use Rattle.rd_acted.proofs.RefusedSaidLemmas as RefusedSaidLemmas
 pub use Rattle.rd_acted.proofs.RepliedMatchLemmas as RepliedMatchLemmas
 pub use Rattle.rd_served.proofs.RunsBoundLemmas as RunsBoundLemmas
+pub use Rattle.rd_served.proofs.CallLemmas as ServedCallLemmas
 pub use Rattle.rd_served.proofs.CauseLemmas as ServedCauseLemmas
 pub use Rattle.rd_served.proofs.ChannelLemmas as ServedChannelLemmas
 pub use Rattle.rd_served.proofs.ComesLemmas as ServedComesLemmas
@@ -34,5 +35,6 @@ pub use Rattle.rd_served.proofs.MeetLemmas as ServedMeetLemmas
 pub use Rattle.rd_served.proofs.OrderLemmas as ServedOrderLemmas
 pub use Rattle.rd_served.proofs.StandingLemmas as ServedStandingLemmas
 pub use Rattle.rd_served.proofs.StationLemmas as ServedStationLemmas
+pub use Rattle.rd_served.proofs.StoreLemmas as ServedStoreLemmas
 pub use Rattle.rd_served.proofs.WalkLemmas as ServedWalkLemmas
 pub use Rattle.rd_served.proofs.WorkLemmas as ServedWorkLemmas

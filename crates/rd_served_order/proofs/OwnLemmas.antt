@@ -29,7 +29,6 @@ use Rattle.rd_desk.specs.declared.calls.DeskReply.{DeskReply}
 use Rattle.rd_desk.specs.declared.calls.DeskReply.TheVariants as replied
 use Rattle.rd_devices.specs.declared.list.Announce.{Announce}
 use Rattle.rd_devices.specs.DeviceList.{list_bytes}
-use Rattle.rd_drive.specs.declared.plan.Job.{Job}
 use Rattle.rd_front.specs.Front.{with_new_data}
 use Rattle.rd_front.specs.State.{DeviceDeskState, FrontState, SessionStation}
 use Rattle.rd_hello.specs.declared.client.ClientState.{ClientState}
@@ -41,17 +40,17 @@ use Rattle.rd_hello.specs.declared.hello.Hello.TheVariants as greeting
 use Rattle.rd_served.proofs.JournalsAskingLemmas as asking
 use Rattle.rd_served.proofs.JournalsAskingLemmas.{HeardAs}
 use Rattle.rd_served.specs.JournalsReads.{IsGiven}
-use Rattle.rd_served.specs.JournalsStations.{IsIdle, IsOn}
+use Rattle.rd_served.specs.OnChannel.{IsServedOn}
+use Rattle.rd_served.proofs.CallLemmas.{some_held}
 use Rattle.rd_served.proofs.RunsSizeLemmas.{ClientFits, added_fits, begun_fits, data_few, direct_fits, emptied_fits, heard_fits, refreshed_fits, removed_fits, sent_fits}
 use Rattle.rd_station.specs.Memory.{NamesKey}
 use Rattle.rd_station.specs.Station.{held}
 use Rattle.rd_station.specs.declared.answers.Completion.{Completion}
-use Rattle.rd_station.specs.declared.held.InHand.{InHand}
 use Rattle.rd_station.proofs.Members.{to_contains}
 use Rattle.rd_world.specs.Devices.{PrinterNames, printer_data}
 use Rattle.rd_world.specs.Opening.{AreShort}
 use Rattle.rd_world.specs.Printers.{AreShortNames}
-use Rattle.rd_world.specs.Talk.{Deed, Has, adds, client_reads, is_removed, removes, stores}
+use Rattle.rd_world.specs.Talk.{Deed, adds, client_reads, is_removed, removes, stores}
 use Rattle.rd_served.specs.Deeds.{deeds_of, sent_by, stored, stored_each}
 use Rattle.rd_served.specs.Parts.{AsksBy, CallsAt, Comes, FrontPart, PartGoes, asking_by, begins, calls, directs, ended_front, ends, forgets, keeps, learns, misplaces, refreshes, sends, tells_gone, tells_there, tries, unwritten, writes}
 use Rattle.rd_served.specs.Parts as part
@@ -223,14 +222,8 @@ asked_calm c d same may = λ some. ap may_be_asked same.2 ∙ may (let e = same.
 
 -- ---- a completion that a desk hands out
 
-some_held : (s : Of) → IsIdle s → (x : Key × ℕ) → Has x (held s) → ⊥
-some_held s idle_so x has = subst (λ (hs : List (Key × ℕ)). Has x hs) (none_held idle_so) has
-  where
-    none_held : IsIdle s → held s ≡ []
-    none_held (a, b, c, d) = λ i. map (λ (job : Job). (job.key, job.completion)) (a i) ++ map (λ (t : InHand). (t.key, t.completion)) (b i) ++ map (λ p. (p.key, p.completion)) (c i) ++ map (λ (y : Completion). (y.key, y.completion)) (d i)
-
 -- something is held only while a channel is on
-held_on : (on : Bool) (channel count : ℕ) (s : Of) → IsOn (current on channel) s → ((key : Key) → NamesKey s.journal key → IsGiven channel count key) → (x : Key × ℕ) → HeldIn s x → on ≡ true
+held_on : (on : Bool) (channel count : ℕ) (s : Of) → IsServedOn (current on channel) s → ((key : Key) → NamesKey s.journal key → IsGiven channel count key) → (x : Key × ℕ) → HeldIn s x → on ≡ true
 held_on on channel count s at given x has =
     let (last, is, same) = at.sound.remembers.channel x (to_contains (held s) x has) in
     elim (at.last last is) [ inl here ↦ by on here (given last (at.sound.remembers.named last is)) | inr idle_so ↦ absurd (some_held s idle_so x has) ]

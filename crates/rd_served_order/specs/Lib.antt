@@ -13,5 +13,7 @@ pub use Rattle.rd_acted.specs.RefusedRefused as RefusedRefused
 pub use Rattle.rd_served.specs.RunsPremises as RunsPremises
 pub use Rattle.rd_served.specs.Deeds as ServedDeeds
 pub use Rattle.rd_served.specs.Histories as ServedHistories
+pub use Rattle.rd_served.specs.ServedDevices as ServedDevices
+pub use Rattle.rd_served.specs.OnChannel as ServedOnChannel
 pub use Rattle.rd_served.specs.Parts as ServedParts
 pub use Rattle.rd_served.specs.Served as ServedServed

@@ -1,7 +1,8 @@
 -- Each completion that was written, or is to be, completes the request of its key, and its reply is the journal's, or a refusal.
-use Rattle.std.proofs.Common.{◌≡◌, ◌⊎◌, ◌∙◌, refl, sym, ap, subst, inl, inr, ℕ, ◌<◌, ◌^◌, Bool, true, false, List, [], ◌∷◌, ◌++◌, append_assoc, map, reverse, Option, Some, None, Ok, Err, lit<}
-use Rattle.std.specs.Prelude.{if◌then◌else◌}
-use Rattle.std.specs.List.{AllByRecursion}
+use Rattle.std.proofs.Common.{◌≡◌, ◌⊎◌, ◌∙◌, refl, sym, ap, subst, inl, inr, ℕ, ◌<◌, ◌^◌, Bool, true, false, cond, List, [], ◌∷◌, ◌++◌, append_assoc, length, map, reverse, Option, Some, None, Ok, Err, lit<}
+use Rattle.std.specs.Prelude.{drop, filter_map, if◌then◌else◌}
+use Rattle.std.specs.List.{AllByRecursion, cons_option}
+use Rattle.std.proofs.lemmas.Bool.{eq-eqb}
 use Rattle.rd_base.specs.Statuses.{insufficient_resources, no_such_device}
 use Rattle.rd_base.specs.declared.journal.Item.{Item}
 use Rattle.rd_base.specs.declared.journal.Item.TheVariants.{Cancelled}
@@ -14,28 +15,28 @@ use Rattle.rd_desk.specs.declared.calls.DeskCall.TheVariants as desk
 use Rattle.rd_desk.specs.declared.calls.DeskReply.{DeskReply}
 use Rattle.rd_desk.specs.declared.calls.DeskReply.TheVariants as replied
 use Rattle.rd_drive.specs.Outcome.{fault}
-use Rattle.rd_drive.specs.Replies.{cancellation}
+use Rattle.rd_drive.specs.Replies.{KeyedReply, cancellation}
 use Rattle.rd_drive.specs.declared.plan.Job.{Job}
-use Rattle.rd_front.specs.Front.{is_told_there}
+use Rattle.rd_front.specs.Front.{SpellsCompletion, is_told_there}
 use Rattle.rd_front.specs.State.{FrontState}
 use Rattle.rd_front.specs.declared.calls.FrontCall.{FrontCall}
 use Rattle.rd_front.specs.declared.calls.FrontReply.{FrontReply}
+use Rattle.rd_irp.specs.Completion.{SpellsBody, SpellsHead}
 use Rattle.rd_irp.specs.Fits.{BodyFits, kind_of}
+use Rattle.rd_irp.specs.declared.completion.Head.{Head}
+use Rattle.rd_irp.specs.declared.completion.Kind.{Kind}
 use Rattle.rd_irp.specs.declared.completion.Reply.{Reply}
 use Rattle.rd_irp.specs.declared.request.Request.{Request}
 use Rattle.rd_refused.specs.JournalsJobs.{AreFine, FitsCompletion, IsAnswerOf, IsJobOf, IsRefusalOf}
 use Rattle.rd_refused.specs.JournalsStanding.{IsOut}
-use Rattle.rd_refused.specs.JournalsStations.{AreFit}
 use Rattle.rd_refused.proofs.JournalsCameLemmas.{never_came}
 use Rattle.rd_refused.proofs.JournalsCompletionLemmas.{completes as completes_with}
 use Rattle.rd_refused.proofs.JournalsWorkLemmas.{Grown, grown_more}
 use Rattle.rd_refused.specs.RepliedReplied.{AnswersBy, IsGivenBy}
 use Rattle.rd_station.specs.declared.answers.Completion.{Completion}
-use Rattle.rd_station.proofs.Members.{has_append}
+use Rattle.rd_station.proofs.Members.{has_append, has_left, has_right}
 use Rattle.rd_turn.specs.declared.object.Entry.{Entry}
-use Rattle.rd_world.specs.Devices.{Declared}
 use Rattle.rd_world.specs.Events.{completion_message}
-use Rattle.rd_world.specs.Session.{replies_read}
 use Rattle.rd_world.specs.Talk.{Deed, EachAfter, Has, adds, client_reads, client_writes, completes, host_begins, host_ends, host_reads, host_writes, journal, removes, stores, submits, takes, tells}
 use Rattle.rd_world.specs.Told.{CompletesWith, Replies, came}
 use Rattle.rd_world.specs.World.{Kept}
@@ -44,13 +45,16 @@ use Rattle.rd_served.specs.Histories.{HistoryGoes}
 use Rattle.rd_served.specs.Parts.{AsksBy, CallsAt, FrontPart, PartGoes, PartsGo, begins, calls, directs, ends, sends, writes}
 use Rattle.rd_served.specs.Parts as part
 use Rattle.rd_served.specs.Served.{Asking, Served, hands, idle}
+use Rattle.rd_served.specs.ServedDevices.{ServedDeviceState}
 use Rattle.rd_served.proofs.CauseLemmas.{AnyRequest}
 use Rattle.rd_served.proofs.MeetLemmas.{CallsMeet, PartsMeet}
 use Rattle.rd_served.proofs.StandingLemmas.{IsKnownAt, IsUnserved, came_here, direct_under, ended_outbox, part_known, parts_known, sent_first}
+use Rattle.rd_served_replies.specs.Given.{HadNoFaults, all_handed, collected_of, replies_served}
 use Rattle.rd_served_replies.specs.Premises.{GiveOwn}
 use Rattle.rd_served_replies.proofs.BeginLemmas.{IsOneOf}
-use Rattle.rd_served_replies.proofs.FollowLemmas.{IsFollowed, history_gives, part_followed, parts_followed, parts_give}
+use Rattle.rd_served_replies.proofs.FollowLemmas.{IsFollowed, history_calm, history_gives, part_followed, parts_calm, parts_followed, parts_give}
 use Rattle.rd_served_replies.proofs.HandedLemmas.{IsHanded, collects_handed, handed_more}
+use Rattle.rd_served_replies.proofs.LedLemmas.{IsRequestOf}
 use Rattle.rd_served_replies.proofs.QuietLemmas.{IsLight, Quiet, outbox_of, part_quiet}
 
 answer_grown : (Given : Request → Reply → Type 0) (deeds more : List Deed) → Grown deeds more → (key : Key) (m : List ℕ) → IsAnswerOf Given deeds key m → IsAnswerOf Given more key m
@@ -90,6 +94,16 @@ refuses deeds fines k st own is = elim is [
       completes = refusal_completes own.request x (fines k.job.key.channel k.job.key.index own.request own.read) small fits k.device k.job k.job.key.channel k.job.key.index (sym own.device) own.job_is;
       given = refusal;
     }
+
+-- ---- a completion
+
+-- what spells a completion completes the request that it is of
+spelled_completes : (deeds : List Deed) (device : ℕ) (c : Completion) (m : List ℕ) (k : IsRequestOf deeds device c) → SpellsCompletion device c m → CompletesWith k.request c.reply m
+spelled_completes deeds device c m k spells = record {
+  head = subst (λ (h : Head). SpellsHead h (length (drop 16 m)) m) (λ i. record { device = sym k.device_is i; completion = k.id i; status = c.reply.status }) spells.0;
+  tail = (spells.1).0;
+  body = subst (λ (y : Kind). SpellsBody y c.reply.status c.reply.body (spells.1).0 (drop 16 m)) k.layout (spells.1).1;
+}
 
 -- ---- deeds that complete nothing
 
@@ -198,8 +212,8 @@ module _ (replies : Replies) where
             request = k.request;
             reply = c.reply;
             read = k.read;
-            completes = k.completes;
-            given = subst (λ (n : ℕ). GivenSo deeds c n k.request) (sym k.device) (elim handed.given [ inl given ↦ inl given | inr cancelled ↦ inr (inl cancelled) ]);
+            completes = spelled_completes deeds device c (completion_message device c) k goes.2;
+            given = subst (λ (n : ℕ). GivenSo deeds c n k.request) (sym k.device_is) (elim handed.given [ inl given ↦ inl given | inr cancelled ↦ inr (inl cancelled) ]);
           }),
       is.each,
     );
@@ -274,69 +288,96 @@ pub grown_calls : (parts : List (List FrontPart)) (deeds : List Deed) → Grown 
 grown_calls [] deeds c k r read = read
 grown_calls (ps ∷ parts) deeds c k r read = grown_calls parts (deeds_after ps deeds) c k r (grown_after ps deeds c k r read)
 
-module _ (devices : List (ℕ × Declared)) (fit : AreFit devices) (final : List Deed) (fines : AreFine FitsCompletion final) where
-  abbrev by_read : Replies
-  by_read = replies_read devices final
+-- ---- what desks handed out among all that they did
 
+abbrev pub HandsAmong : List (List FrontPart) → (ℕ → List KeyedReply) → Type 0
+HandsAmong all handed = (device : ℕ) (r : KeyedReply) → Has r (handed device) → Has r (all_handed device all)
+
+abbrev collected_in : List FrontPart → ℕ → List KeyedReply
+collected_in ps device = filter_map (collected_of device) ps
+
+hands_first : (all : List (List FrontPart)) (x : FrontPart) (ps : List FrontPart) → HandsAmong all (collected_in (x ∷ ps)) → (device : ℕ) (r : KeyedReply) → collected_of device x ≡ Some r → Has r (all_handed device all)
+hands_first all x ps among device r is = among device r (subst (λ (o : Option KeyedReply). Has r (cons_option o (collected_in ps device))) (sym is) (inl refl))
+
+hands_later : (all : List (List FrontPart)) (x : FrontPart) (ps : List FrontPart) → HandsAmong all (collected_in (x ∷ ps)) → HandsAmong all (collected_in ps)
+hands_later all x ps among device r has = among device r (by (collected_of device x))
+  where
+    by : (o : Option KeyedReply) → Has r (cons_option o (collected_in ps device))
+    by None = has
+    by (Some other) = inr has
+
+hands_call : (all parts : List (List FrontPart)) (ps : List FrontPart) → HandsAmong all (λ device. all_handed device (ps ∷ parts)) → HandsAmong all (collected_in ps)
+hands_call all parts ps among device r has = among device r (has_left r (collected_in ps device) (all_handed device parts) has)
+
+hands_calls : (all parts : List (List FrontPart)) (ps : List FrontPart) → HandsAmong all (λ device. all_handed device (ps ∷ parts)) → HandsAmong all (λ device. all_handed device parts)
+hands_calls all parts ps among device r has = among device r (has_right r (collected_in ps device) (all_handed device parts) has)
+
+-- a completion is handed out by its device's desk
+collected_here : (place id : ℕ) (c : Completion) (items : List Item) → collected_of id (calls place id desk.Collect (replied.Collected (Some c)) items) ≡ Some (c.key, c.reply)
+collected_here place id c items = ap (λ (b : Bool). cond b (Some (c.key, c.reply)) None) (eq-eqb id id refl)
+
+module _ (calm : Bool) (devices : List (ℕ × ServedDeviceState)) (all : List (List FrontPart)) (final : List Deed) (fines : AreFine FitsCompletion final) where
   called_replied : (p q : Served) (place id : ℕ) (does : DeskCall) (back : DeskReply) (items : List Item) (deeds : List Deed) → CallsAt p place id does back items q → IsKnownAt p deeds → IsFollowed (IsOneOf devices) p deeds → GiveOwn (q.front).desks → Grown (stored id items ++ deeds) final
-      → AreReplied (replies_read devices final) p deeds → AreReplied (replies_read devices final) q (stored id items ++ deeds)
-  called_replied p q place id does back items deeds at known follows gives grown is =
-      calls_replied (replies_read devices final) p q place id does back items deeds at (λ device c same. elim (hands_from p place id does back q.asking at.asking_is device c same) [
-        | inl was ↦ handed_more (replies_read devices final) (stored id items) deeds device c (is.handing device c was)
-        | inr (collects, came, named) ↦ subst (λ (n : ℕ). IsHanded (replies_read devices final) (stored id items ++ deeds) n c) named
-            (collects_handed devices fit final fines p q place id c items deeds known.keyed known.told follows
-            (subst (λ (d : DeskCall). CallsAt p place id d (replied.Collected (Some c)) items q) collects (subst (λ (r : DeskReply). CallsAt p place id does r items q) came at)) gives grown)
+      → (calm ≡ true → HadNoFaults q.stations) → ((device : ℕ) (r : KeyedReply) → collected_of device (calls place id does back items) ≡ Some r → Has r (all_handed device all)) → AreReplied (replies_served calm devices all final) p deeds → AreReplied (replies_served calm devices all final) q (stored id items ++ deeds)
+  called_replied p q place id does back items deeds at known follows gives grown none among is =
+      calls_replied (replies_served calm devices all final) p q place id does back items deeds at (λ device c same. elim (hands_from p place id does back q.asking at.asking_is device c same) [
+        | inl was ↦ handed_more (replies_served calm devices all final) (stored id items) deeds device c (is.handing device c was)
+        | inr (collects, came, named) ↦ subst (λ (n : ℕ). IsHanded (replies_served calm devices all final) (stored id items ++ deeds) n c) named
+            (collects_handed calm devices all final p q place id c items deeds known.keyed known.told follows
+            (subst (λ (d : DeskCall). CallsAt p place id d (replied.Collected (Some c)) items q) collects (subst (λ (r : DeskReply). CallsAt p place id does r items q) came at)) gives grown none
+            (among id (c.key, c.reply) (subst (λ (x : DeskCall × DeskReply). collected_of id (calls place id x.0 x.1 items) ≡ Some (c.key, c.reply)) (λ i. (sym collects i, sym came i)) (collected_here place id c items))))
       ]) is
 
   pub part_replied : (p q : Served) (x : FrontPart) (deeds : List Deed) → PartGoes p x q → IsKnownAt p deeds → IsFollowed (IsOneOf devices) p deeds → GiveOwn (q.front).desks → Grown (deeds_of x ++ deeds) final
-      → AreReplied (replies_read devices final) p deeds → AreReplied (replies_read devices final) q (deeds_of x ++ deeds)
-  part_replied p q (calls place id does back items) deeds goes known follows gives grown is = called_replied p q place id does back items deeds goes known follows gives grown is
-  part_replied p q (directs st (Ok done)) deeds goes known follows gives grown is =
-      directs_replied (replies_read devices final) p q deeds goes.0 st (λ c k r read. fines c k r (grown c k r read)) (known.told.asking goes.0 (direct_under p goes.0 st goes.1)) (refusal_status p goes.0 st goes.1)
+      → (calm ≡ true → HadNoFaults q.stations) → ((device : ℕ) (r : KeyedReply) → collected_of device x ≡ Some r → Has r (all_handed device all)) → AreReplied (replies_served calm devices all final) p deeds → AreReplied (replies_served calm devices all final) q (deeds_of x ++ deeds)
+  part_replied p q (calls place id does back items) deeds goes known follows gives grown none among is = called_replied p q place id does back items deeds goes known follows gives grown none among is
+  part_replied p q (directs st (Ok done)) deeds goes known follows gives grown none among is =
+      directs_replied (replies_served calm devices all final) p q deeds goes.0 st (λ c k r read. fines c k r (grown c k r read)) (known.told.asking goes.0 (direct_under p goes.0 st goes.1)) (refusal_status p goes.0 st goes.1)
       (ap (λ (c : ClientCoreState). (c.core).outbox) ((goes.2).0).1) goes.3 is
-  part_replied p q (sends channel (Some o)) deeds goes known follows gives grown is =
+  part_replied p q (sends channel (Some o)) deeds goes known follows gives grown none among is =
       let (rest, first, after) = sent_first (p.front).client (q.front).client o (goes.1).0 in
-      sends_replied (replies_read devices final) p q deeds o rest channel known first after goes.2 is
-  part_replied p q (writes device c) deeds goes known follows gives grown is = writes_replied (replies_read devices final) p q device c deeds goes is
-  part_replied p q (begins channel) deeds goes known follows gives grown is = begins_replied (replies_read devices final) p q channel deeds goes is
-  part_replied p q (ends over told) deeds goes known follows gives grown is = ends_replied (replies_read devices final) p q over told deeds goes is
-  part_replied p q x deeds goes known follows gives grown is = quiet_replied (replies_read devices final) p q x deeds (part_quiet p q x tt goes) is
+      sends_replied (replies_served calm devices all final) p q deeds o rest channel known first after goes.2 is
+  part_replied p q (writes device c) deeds goes known follows gives grown none among is = writes_replied (replies_served calm devices all final) p q device c deeds goes is
+  part_replied p q (begins channel) deeds goes known follows gives grown none among is = begins_replied (replies_served calm devices all final) p q channel deeds goes is
+  part_replied p q (ends over told) deeds goes known follows gives grown none among is = ends_replied (replies_served calm devices all final) p q over told deeds goes is
+  part_replied p q x deeds goes known follows gives grown none among is = quiet_replied (replies_served calm devices all final) p q x deeds (part_quiet p q x tt goes) is
 
   parts_replied : (ps : List FrontPart) (p q : Served) (deeds : List Deed) → PartsGo p ps q → IsKnownAt p deeds → IsFollowed (IsOneOf devices) p deeds → GiveOwn (q.front).desks → Grown (deeds_after ps deeds) final
-      → AreReplied (replies_read devices final) p deeds → AreReplied (replies_read devices final) q (deeds_after ps deeds)
-  parts_replied [] p q deeds same known follows gives grown is = subst (λ (s : Served). AreReplied (replies_read devices final) s deeds) (sym same) is
-  parts_replied (x ∷ ps) p q deeds goes known follows gives grown is =
-      parts_replied ps goes.0 q (deeds_of x ++ deeds) goes.2 (part_known p goes.0 x deeds goes.1 known) (part_followed (IsOneOf devices) p goes.0 x deeds goes.1 known.keyed known.told follows) gives grown
-      (part_replied p goes.0 x deeds goes.1 known follows (parts_give ps goes.0 q goes.2 gives) (λ c k r read. grown c k r (grown_after ps (deeds_of x ++ deeds) c k r read)) is)
+      → (calm ≡ true → HadNoFaults q.stations) → HandsAmong all (collected_in ps) → AreReplied (replies_served calm devices all final) p deeds → AreReplied (replies_served calm devices all final) q (deeds_after ps deeds)
+  parts_replied [] p q deeds same known follows gives grown none among is = subst (λ (s : Served). AreReplied (replies_served calm devices all final) s deeds) (sym same) is
+  parts_replied (x ∷ ps) p q deeds goes known follows gives grown none among is =
+      parts_replied ps goes.0 q (deeds_of x ++ deeds) goes.2 (part_known p goes.0 x deeds goes.1 known) (part_followed (IsOneOf devices) p goes.0 x deeds goes.1 known.keyed known.told follows) gives grown none (hands_later all x ps among)
+      (part_replied p goes.0 x deeds goes.1 known follows (parts_give ps goes.0 q goes.2 gives) (λ c k r read. grown c k r (grown_after ps (deeds_of x ++ deeds) c k r read)) (λ said. parts_calm ps goes.0 q goes.2 (none said)) (hands_first all x ps among) is)
 
   pub history_replied : (entries : List (Entry FrontCall FrontReply)) (parts : List (List FrontPart)) (p q : Served) (deeds : List Deed) → HistoryGoes p entries parts q → IsKnownAt p deeds → IsFollowed (IsOneOf devices) p deeds → GiveOwn (q.front).desks → Grown (deeds_of_calls parts deeds) final
-      → AreReplied (replies_read devices final) p deeds → AreReplied (replies_read devices final) q (deeds_of_calls parts deeds)
-  history_replied [] [] p q deeds same known follows gives grown is = subst (λ (s : Served). AreReplied (replies_read devices final) s deeds) (sym same) is
-  history_replied [] (ps ∷ parts) p q deeds goes known follows gives grown is = absurd goes
-  history_replied (e ∷ entries) [] p q deeds goes known follows gives grown is = absurd goes
-  history_replied (e ∷ entries) (ps ∷ parts) p q deeds goes known follows gives grown is =
-      history_replied entries parts goes.0 q (deeds_after ps deeds) goes.2 (parts_known ps p goes.0 deeds (goes.1).goes known) (parts_followed (IsOneOf devices) ps p goes.0 deeds (goes.1).goes known follows) gives grown
-      (parts_replied ps p goes.0 deeds (goes.1).goes known follows (history_gives entries parts goes.0 q goes.2 gives) (λ c k r read. grown c k r (grown_calls parts (deeds_after ps deeds) c k r read)) is)
+      → (calm ≡ true → HadNoFaults q.stations) → HandsAmong all (λ device. all_handed device parts) → AreReplied (replies_served calm devices all final) p deeds → AreReplied (replies_served calm devices all final) q (deeds_of_calls parts deeds)
+  history_replied [] [] p q deeds same known follows gives grown none among is = subst (λ (s : Served). AreReplied (replies_served calm devices all final) s deeds) (sym same) is
+  history_replied [] (ps ∷ parts) p q deeds goes known follows gives grown none among is = absurd goes
+  history_replied (e ∷ entries) [] p q deeds goes known follows gives grown none among is = absurd goes
+  history_replied (e ∷ entries) (ps ∷ parts) p q deeds goes known follows gives grown none among is =
+      history_replied entries parts goes.0 q (deeds_after ps deeds) goes.2 (parts_known ps p goes.0 deeds (goes.1).goes known) (parts_followed (IsOneOf devices) ps p goes.0 deeds (goes.1).goes known follows) gives grown none (hands_calls all parts ps among)
+      (parts_replied ps p goes.0 deeds (goes.1).goes known follows (history_gives entries parts goes.0 q goes.2 gives) (λ c k r read. grown c k r (grown_calls parts (deeds_after ps deeds) c k r read)) (λ said. history_calm entries parts goes.0 q goes.2 (none said)) (hands_call all parts ps among) is)
 
   -- so it is at each part
   parts_replying : (ps : List FrontPart) (p q : Served) (deeds : List Deed) (goes : PartsGo p ps q) → IsKnownAt p deeds → IsFollowed (IsOneOf devices) p deeds → GiveOwn (q.front).desks → Grown (deeds_after ps deeds) final
-      → AreReplied (replies_read devices final) p deeds → PartsMeet (λ v before x. AreReplied (replies_read devices final) v before) p deeds ps q goes
-  parts_replying [] p q deeds same known follows gives grown is = tt
-  parts_replying (x ∷ ps) p q deeds goes known follows gives grown is = (
+      → (calm ≡ true → HadNoFaults q.stations) → HandsAmong all (collected_in ps) → AreReplied (replies_served calm devices all final) p deeds → PartsMeet (λ v before x. AreReplied (replies_served calm devices all final) v before) p deeds ps q goes
+  parts_replying [] p q deeds same known follows gives grown none among is = tt
+  parts_replying (x ∷ ps) p q deeds goes known follows gives grown none among is = (
     is,
-    parts_replying ps goes.0 q (deeds_of x ++ deeds) goes.2 (part_known p goes.0 x deeds goes.1 known) (part_followed (IsOneOf devices) p goes.0 x deeds goes.1 known.keyed known.told follows) gives grown
-        (part_replied p goes.0 x deeds goes.1 known follows (parts_give ps goes.0 q goes.2 gives) (λ c k r read. grown c k r (grown_after ps (deeds_of x ++ deeds) c k r read)) is),
+    parts_replying ps goes.0 q (deeds_of x ++ deeds) goes.2 (part_known p goes.0 x deeds goes.1 known) (part_followed (IsOneOf devices) p goes.0 x deeds goes.1 known.keyed known.told follows) gives grown none (hands_later all x ps among)
+        (part_replied p goes.0 x deeds goes.1 known follows (parts_give ps goes.0 q goes.2 gives) (λ c k r read. grown c k r (grown_after ps (deeds_of x ++ deeds) c k r read)) (λ said. parts_calm ps goes.0 q goes.2 (none said)) (hands_first all x ps among) is),
   )
 
   pub history_replying : (entries : List (Entry FrontCall FrontReply)) (parts : List (List FrontPart)) (p q : Served) (deeds : List Deed) (goes : HistoryGoes p entries parts q) → IsKnownAt p deeds → IsFollowed (IsOneOf devices) p deeds → GiveOwn (q.front).desks → Grown (deeds_of_calls parts deeds) final
-      → AreReplied (replies_read devices final) p deeds → CallsMeet (λ v before x. AreReplied (replies_read devices final) v before) p deeds entries parts q goes
-  history_replying [] [] p q deeds same known follows gives grown is = tt
-  history_replying [] (ps ∷ parts) p q deeds goes known follows gives grown is = absurd goes
-  history_replying (e ∷ entries) [] p q deeds goes known follows gives grown is = absurd goes
-  history_replying (e ∷ entries) (ps ∷ parts) p q deeds goes known follows gives grown is =
+      → (calm ≡ true → HadNoFaults q.stations) → HandsAmong all (λ device. all_handed device parts) → AreReplied (replies_served calm devices all final) p deeds → CallsMeet (λ v before x. AreReplied (replies_served calm devices all final) v before) p deeds entries parts q goes
+  history_replying [] [] p q deeds same known follows gives grown none among is = tt
+  history_replying [] (ps ∷ parts) p q deeds goes known follows gives grown none among is = absurd goes
+  history_replying (e ∷ entries) [] p q deeds goes known follows gives grown none among is = absurd goes
+  history_replying (e ∷ entries) (ps ∷ parts) p q deeds goes known follows gives grown none among is =
       let give = history_gives entries parts goes.0 q goes.2 gives in
-      let grow : Grown (deeds_after ps deeds) final = λ c k r read. grown c k r (grown_calls parts (deeds_after ps deeds) c k r read) in (
-        parts_replying ps p goes.0 deeds (goes.1).goes known follows give grow is,
-        history_replying entries parts goes.0 q (deeds_after ps deeds) goes.2 (parts_known ps p goes.0 deeds (goes.1).goes known) (parts_followed (IsOneOf devices) ps p goes.0 deeds (goes.1).goes known follows) gives grown
-            (parts_replied ps p goes.0 deeds (goes.1).goes known follows give grow is),
+      let grow : Grown (deeds_after ps deeds) final = λ c k r read. grown c k r (grown_calls parts (deeds_after ps deeds) c k r read) in
+      let still : calm ≡ true → HadNoFaults (goes.0).stations = λ said. history_calm entries parts goes.0 q goes.2 (none said) in (
+        parts_replying ps p goes.0 deeds (goes.1).goes known follows give grow still (hands_call all parts ps among) is,
+        history_replying entries parts goes.0 q (deeds_after ps deeds) goes.2 (parts_known ps p goes.0 deeds (goes.1).goes known) (parts_followed (IsOneOf devices) ps p goes.0 deeds (goes.1).goes known follows) gives grown none (hands_calls all parts ps among)
+            (parts_replied ps p goes.0 deeds (goes.1).goes known follows give grow still (hands_call all parts ps among) is),
       )

@@ -1,5 +1,5 @@
 -- Where a history begins, and where it leads.
-use Rattle.std.proofs.Common.{◌≡◌, sym, subst, ℕ, zero, suc, List, [], ◌∷◌, Some, slice_get}
+use Rattle.std.proofs.Common.{◌≡◌, ◌∙◌, sym, ap, subst, ℕ, zero, suc, Bool, true, false, cond, List, [], ◌∷◌, Some, slice_get}
 use Rattle.std.specs.List.{AllByRecursion}
 use Rattle.std.specs.Map.{lookup}
 use Rattle.std.specs.Ordering.{nat_cmp}
@@ -11,13 +11,12 @@ use Rattle.rd_front.specs.State.{DeviceDeskState, SessionStation}
 use Rattle.rd_refused.specs.JournalsJobs.{IsJobOf}
 use Rattle.rd_station.specs.Station.{new_station}
 use Rattle.rd_turn.specs.declared.object.Entry.{Entry}
-use Rattle.rd_world.specs.Devices.{Declared, device_parked}
-use Rattle.rd_world.specs.declared.device.SessionDevice.{SessionDevice}
 use Rattle.rd_served.specs.Histories.{AreStationed, BeginsNew, IsNewDesk}
 use Rattle.rd_served.specs.Served.{IsStationed, Served}
+use Rattle.rd_served.specs.ServedDevices.{ServedDeviceState, served_parked}
 use Rattle.rd_served.proofs.CauseLemmas.{AnyRequest}
 use Rattle.rd_served.proofs.StandingLemmas.{IsKnownAt, begins_known}
-use Rattle.rd_served_replies.specs.Premises.{AreOpened}
+use Rattle.rd_served_replies.specs.Premises.{AreOpened, IsFitServed}
 use Rattle.rd_served_replies.proofs.FollowLemmas.{IsFollowed}
 use Rattle.rd_served_replies.proofs.GivenLemmas.{PutOf}
 
@@ -26,13 +25,25 @@ Of = SessionStation
 
 -- a turn that opened with a new station of a device in which nothing waits
 pub record IsNewStation (device : ℕ) (o : Of) : Type 0 where
-  pub opening : SessionDevice
-  pub nothing : device_parked opening ≡ []
+  pub opening : ServedDeviceState
+  pub nothing : served_parked opening ≡ []
   pub is : o ≡ new_station opening
 
--- one of these devices
-abbrev pub IsOneOf : List (ℕ × Declared) → ℕ → Of → Type 0
-IsOneOf devices device o = (x : Declared) × (lookup (is_at (nat_cmp device)) devices ≡ Some x) × (o ≡ new_station x.state)
+-- one of these devices, which is fit, and in which nothing waits
+pub record IsOneOf (devices : List (ℕ × ServedDeviceState)) (device : ℕ) (o : Of) : Type 0 where
+  pub opening : ServedDeviceState
+  pub found : lookup (is_at (nat_cmp device)) devices ≡ Some opening
+  pub fit : IsFitServed opening
+  pub nothing : served_parked opening ≡ []
+  pub is : o ≡ new_station opening
+
+fit_at : (devices : List (ℕ × ServedDeviceState)) (device : ℕ) (x : ServedDeviceState) → AllByRecursion (λ (e : ℕ × ServedDeviceState). IsFitServed e.1) devices → lookup (is_at (nat_cmp device)) devices ≡ Some x → IsFitServed x
+fit_at [] device x all found = absurd (cc (found))
+fit_at (e ∷ devices) device x all found = by (is_at (nat_cmp device) e.0) found (fit_at devices device x all.1)
+  where
+    by : (b : Bool) → cond b (Some e.1) (lookup (is_at (nat_cmp device)) devices) ≡ Some x → (lookup (is_at (nat_cmp device)) devices ≡ Some x → IsFitServed x) → IsFitServed x
+    by true found later = let same : e.1 ≡ x = cc (found) in subst IsFitServed same all.0
+    by false found later = later found
 
 pub known_first : (p : Served) → BeginsNew p → IsKnownAt p []
 known_first p begins = begins_known p begins.new begins.apart begins.stationed begins.idle_is
@@ -63,5 +74,9 @@ pub first_new : (p : Served) → BeginsNew p → IsFollowed IsNewStation p []
 first_new p begins = follows_first IsNewStation p begins (λ place d at.
     let new = new_desk (p.front).desks (begins.new).desks place d at in record { opening = new.device; nothing = new.nothing; is = new.opening })
 
-pub first_of : (devices : List (ℕ × Declared)) (p : Served) → BeginsNew p → AreOpened devices (p.front).desks → IsFollowed (IsOneOf devices) p []
-first_of devices p begins opened = follows_first (IsOneOf devices) p begins opened.each
+pub first_of : (devices : List (ℕ × ServedDeviceState)) (p : Served) → BeginsNew p → AreOpened devices (p.front).desks → IsFollowed (IsOneOf devices) p []
+first_of devices p begins opened = follows_first (IsOneOf devices) p begins (λ place d at.
+    let (x, found, opens_so) = opened.each place d at in
+    let new = new_desk (p.front).desks (begins.new).desks place d at in
+    let same : new.device ≡ x = ap (λ (s : Of). s.device) (sym new.opening ∙ opens_so) in
+    record { opening = x; found = found; fit = fit_at devices d.id x opened.fit found; nothing = subst (λ (y : ServedDeviceState). served_parked y ≡ []) same new.nothing; is = opens_so })

@@ -29,8 +29,10 @@ use Rattle.rd_served.specs.Served.{AreHands, Asking, CallsDesk, IsHandCall, IsSt
 use Rattle.rd_served.proofs.CauseLemmas.{AnyRequest, At, IsTold, get_set, job_told}
 use Rattle.rd_served.proofs.KeyLemmas.{IsKeyed}
 use Rattle.rd_served.proofs.StandingLemmas.{IsKnownAt, part_known, parts_known, refreshed_more}
+use Rattle.rd_served_replies.specs.Given.{HadNoFault, HadNoFaults}
 use Rattle.rd_served_replies.specs.Premises.{GiveOwn, GivesOwn}
 use Rattle.rd_served_replies.proofs.GivenLemmas.{PutOf, hands_put, own_before, put_weaker, told_append, told_puts}
+use Rattle.rd_served_replies.proofs.KnownLemmas.{steps_fault}
 
 abbrev Of : Type 0
 Of = SessionStation
@@ -89,7 +91,7 @@ module _ (d e : DeviceDeskState) (s t : Of) (does : DeskCall) (back : DeskReply)
 
 -- ---- lists
 
-set_here : {A : Type 0} (xs : List A) (place : ℕ) (x y : A) → slice_get xs place ≡ Some x → slice_get (slice_set xs place y) place ≡ Some y
+pub set_here : {A : Type 0} (xs : List A) (place : ℕ) (x y : A) → slice_get xs place ≡ Some x → slice_get (slice_set xs place y) place ≡ Some y
 set_here [] place x y is = absurd (cc (is))
 set_here (z ∷ xs) zero x y is = refl
 set_here (z ∷ xs) (suc place) x y is = set_here xs place x y is
@@ -100,6 +102,12 @@ set_elsewhere (z ∷ xs) zero zero y other = absurd (other refl)
 set_elsewhere (z ∷ xs) zero (suc k) y other = refl
 set_elsewhere (z ∷ xs) (suc place) zero y other = refl
 set_elsewhere (z ∷ xs) (suc place) (suc k) y other = set_elsewhere xs place k y (λ same. other (ap suc same))
+
+same_place : (a b : ℕ) → (a ≡ b) ⊎ (a ≢ b)
+same_place zero zero = inl refl
+same_place zero (suc b) = inr (λ e. omega (arith, e))
+same_place (suc a) zero = inr (λ e. omega (arith, e))
+same_place (suc a) (suc b) = elim (same_place a b) [ inl same ↦ inl (ap suc same) | inr other ↦ inr (λ e. other (omega (arith, e))) ]
 
 -- ---- the ends of all desks
 
@@ -175,19 +183,10 @@ pub after_at : (p q : Served) (place id : ℕ) (does : DeskCall) (back : DeskRep
 after_at p q place id does back items at = ap (λ (s : FrontState). slice_get s.desks place) at.front_is ∙ set_here (p.front).desks place at.before at.after at.there
 
 called_gives : (p q : Served) (place id : ℕ) (does : DeskCall) (back : DeskReply) (items : List Item) → CallsAt p place id does back items q → GiveOwn (q.front).desks → GiveOwn (p.front).desks
-called_gives p q place id does back items at gives k d there = by (place_is k)
+called_gives p q place id does back items at gives k d there = by (same_place k place)
   where
     desks : (q.front).desks ≡ slice_set (p.front).desks place at.after
     desks = ap (λ (s : FrontState). s.desks) at.front_is
-
-    place_is : (k : ℕ) → (k ≡ place) ⊎ (k ≢ place)
-    place_is k = nat_eq k place
-      where
-        nat_eq : (a b : ℕ) → (a ≡ b) ⊎ (a ≢ b)
-        nat_eq zero zero = inl refl
-        nat_eq zero (suc b) = inr (λ e. omega (arith, e))
-        nat_eq (suc a) zero = inr (λ e. omega (arith, e))
-        nat_eq (suc a) (suc b) = elim (nat_eq a b) [ inl same ↦ inl (ap suc same) | inr other ↦ inr (λ e. other (omega (arith, e))) ]
 
     by : ((k ≡ place) ⊎ (k ≢ place)) → GivesOwn (d.pass).seen
     by (inl same) =
@@ -217,6 +216,46 @@ history_gives [] [] p q is gives = subst (λ (s : Served). GiveOwn (s.front).des
 history_gives [] (ps ∷ parts) p q goes gives = absurd goes
 history_gives (e ∷ entries) [] p q goes gives = absurd goes
 history_gives (e ∷ entries) (ps ∷ parts) p q goes gives = parts_give ps p goes.0 (goes.1).goes (history_gives entries parts goes.0 q goes.2 gives)
+
+-- ---- what had no fault
+
+-- a desk goes on from what it was
+called_fault : (d e : DeviceDeskState) (s t : Of) (does : DeskCall) (back : DeskReply) (items : List Item) → CallsDesk d e s does back items t → HadNoFault t.device → HadNoFault s.device
+called_fault d e s t does back items called calm =
+    steps_fault (called.works).calls s called.middle (called.works).steps (steps_fault (told_by does back) called.middle t (called.step).0 calm)
+
+called_calm : (p q : Served) (place id : ℕ) (does : DeskCall) (back : DeskReply) (items : List Item) → CallsAt p place id does back items q → HadNoFaults q.stations → HadNoFaults p.stations
+called_calm p q place id does back items at calm k s there = elim (same_place k place) [
+  | inl same ↦
+      let both : Some s ≡ Some at.first = sym there ∙ ap (slice_get p.stations) same ∙ at.has in
+      let is : s ≡ at.first = cc (both) in
+      subst (λ (x : Of). HadNoFault x.device) (sym is) (called_fault at.before at.after at.first at.last does back items at.called
+      (calm place at.last (ap (λ (ss : List Of). slice_get ss place) at.stations_are ∙ set_here p.stations place at.first at.last at.has)))
+  | inr other ↦ calm k s (ap (λ (ss : List Of). slice_get ss k) at.stations_are ∙ set_elsewhere p.stations place k at.last other ∙ there)
+]
+
+ended_calm : (over : Bool) (ds : List DeviceDeskState) (ss : List Of) (ts : List (ℕ × List Item)) (es : List DeviceDeskState) (us : List Of) → EndsEach over ds ss ts es us → HadNoFaults us → HadNoFaults ss
+ended_calm over [] [] [] [] [] ended calm place x there = absurd (cc (there))
+ended_calm over (d ∷ ds) (s ∷ ss) (t ∷ ts) (e ∷ es) (u ∷ us) ended calm zero x there =
+    let same : s ≡ x = cc (there) in
+    subst (λ (y : Of). HadNoFault y.device) same (called_fault d e s u (end_call over) ended.0 t.1 ended.2 (calm zero u refl))
+ended_calm over (d ∷ ds) (s ∷ ss) (t ∷ ts) (e ∷ es) (u ∷ us) ended calm (suc place) x there = ended_calm over ds ss ts es us ended.3 (λ k y at. calm (suc k) y at) place x there
+ended_calm over ds ss ts es us ended calm place x there = absurd ended
+
+pub part_calm : (p q : Served) (x : FrontPart) → PartGoes p x q → HadNoFaults q.stations → HadNoFaults p.stations
+part_calm p q (calls place id does back items) goes calm = called_calm p q place id does back items goes calm
+part_calm p q (ends over told) goes calm = ended_calm over (p.front).desks p.stations told (q.front).desks q.stations goes.1 calm
+part_calm p q x goes calm = subst HadNoFaults (part_still p q x tt goes).1 calm
+
+pub parts_calm : (ps : List FrontPart) (p q : Served) → PartsGo p ps q → HadNoFaults q.stations → HadNoFaults p.stations
+parts_calm [] p q is calm = subst (λ (s : Served). HadNoFaults s.stations) is calm
+parts_calm (x ∷ ps) p q goes calm = part_calm p goes.0 x goes.1 (parts_calm ps goes.0 q goes.2 calm)
+
+pub history_calm : (entries : List (Entry FrontCall FrontReply)) (parts : List (List FrontPart)) (p q : Served) → HistoryGoes p entries parts q → HadNoFaults q.stations → HadNoFaults p.stations
+history_calm [] [] p q is calm = subst (λ (s : Served). HadNoFaults s.stations) is calm
+history_calm [] (ps ∷ parts) p q goes calm = absurd goes
+history_calm (e ∷ entries) [] p q goes calm = absurd goes
+history_calm (e ∷ entries) (ps ∷ parts) p q goes calm = parts_calm ps p goes.0 (goes.1).goes (history_calm entries parts goes.0 q goes.2 calm)
 
 -- ---- each part
 

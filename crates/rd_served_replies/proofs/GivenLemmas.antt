@@ -24,10 +24,10 @@ use Rattle.rd_station.proofs.Members.{Has, from_contains, has_append, has_left, 
 use Rattle.rd_turn.specs.declared.object.Entry.{Entry}
 use Rattle.rd_turn.specs.History.{Leads, calls_of}
 use Rattle.rd_turn.proofs.HistoryLemmas.{calls_of-append, calls_of-at}
-use Rattle.rd_world.specs.Devices.{device_cuts, device_parked, device_runs}
 use Rattle.rd_served.specs.Served.{IsHandCall}
 use Rattle.rd_served.proofs.WorkLemmas.{Steps}
 use Rattle.rd_served_replies.specs.Premises.{GivesOwn}
+use Rattle.rd_served.specs.ServedDevices.{served_cuts, served_parked, served_runs}
 
 abbrev Of : Type 0
 Of = SessionStation
@@ -178,8 +178,8 @@ module _ (J : Job → Type 0) where
   comes_of drops own job none = absurd none
   comes_of ends own job none = absurd none
 
-  step_gives : (old new : Of) (c : StationCall) → StationStep device_runs device_parked device_cuts old c new → WaitsOf old → GivesOf J c
-  step_gives old new (takes (given.Job job)) e own = own job (given_waited old device_runs device_parked device_cuts new job e)
+  step_gives : (old new : Of) (c : StationCall) → StationStep served_runs served_parked served_cuts old c new → WaitsOf old → GivesOf J c
+  step_gives old new (takes (given.Job job)) e own = own job (given_waited old served_runs served_parked served_cuts new job e)
   step_gives old new (takes given.Nothing) e own = tt
   step_gives old new (takes given.Over) e own = tt
   step_gives old new (announces r) e own = tt
@@ -191,8 +191,8 @@ module _ (J : Job → Type 0) where
   step_gives old new drops e own = tt
   step_gives old new ends e own = tt
 
-  pub waits_then : (old new : Of) (c : StationCall) → StationStep device_runs device_parked device_cuts old c new → WaitsOf old → PutOf J c → WaitsOf new
-  waits_then old new c e own put job has = elim ((step_goes old device_runs device_parked device_cuts new c e).waits job has) [ inl before ↦ own job before | inr came ↦ comes_of c put job came ]
+  pub waits_then : (old new : Of) (c : StationCall) → StationStep served_runs served_parked served_cuts old c new → WaitsOf old → PutOf J c → WaitsOf new
+  waits_then old new c e own put job has = elim ((step_goes old served_runs served_parked served_cuts new c e).waits job has) [ inl before ↦ own job before | inr came ↦ comes_of c put job came ]
 
   steps_give : (calls : List StationCall) (old new : Of) → Steps old calls new → WaitsOf old → AllByRecursion (PutOf J) calls → WaitsOf new × AllByRecursion (GivesOf J) calls
   steps_give [] old new e own put = (subst WaitsOf (sym e) own, tt)

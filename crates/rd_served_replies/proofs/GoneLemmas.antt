@@ -22,14 +22,14 @@ use Rattle.rd_desk.specs.declared.calls.DeskReply.{DeskReply}
 use Rattle.rd_desk.specs.declared.calls.DeskReply.TheVariants as replied
 use Rattle.rd_devices.specs.Removal.{removal, removal_bytes}
 use Rattle.rd_devices.proofs.RemovalLemmas.{removal_spelled}
-use Rattle.rd_drive.specs.declared.plan.Job.{Job}
 use Rattle.rd_front.specs.State.{FrontState, SessionDeskStep, SessionStation}
 use Rattle.rd_front.specs.declared.calls.FrontCall.{FrontCall}
 use Rattle.rd_front.specs.declared.calls.FrontReply.{FrontReply}
 use Rattle.rd_refused.specs.JournalsJobs.{AreFine, FitsCompletion}
 use Rattle.rd_refused.specs.JournalsReads.{IsGiven}
 use Rattle.rd_refused.specs.JournalsStanding.{IsOut}
-use Rattle.rd_refused.specs.JournalsStations.{IsIdle, IsOn}
+use Rattle.rd_served.specs.OnChannel.{IsServedOn}
+use Rattle.rd_served.proofs.CallLemmas.{some_held}
 use Rattle.rd_refused.proofs.JournalsHeldLemmas.{turned_has}
 use Rattle.rd_refused.proofs.JournalsShortLemmas.{came_read}
 use Rattle.rd_refused.proofs.JournalsWorkLemmas.{Grown}
@@ -37,7 +37,6 @@ use Rattle.rd_refused.specs.RepliedRemovals.{IsCutSince, IsGoneSince, IsGoneSoon
 use Rattle.rd_station.specs.Memory.{NamesKey}
 use Rattle.rd_station.specs.Station.{held}
 use Rattle.rd_station.specs.declared.answers.Completion.{Completion}
-use Rattle.rd_station.specs.declared.held.InHand.{InHand}
 use Rattle.rd_station.proofs.Members.{has_left, to_contains}
 use Rattle.rd_turn.specs.declared.object.Entry.{Entry}
 use Rattle.rd_world.specs.Events.{completion_message}
@@ -155,13 +154,7 @@ told_tell (t ∷ told) deeds each = subst (EachAfter TellsGone) (sym (append_ass
 
 -- ---- what is held came on the channel that is on
 
-some_held : (s : Of) → IsIdle s → (x : Key × ℕ) → Has x (held s) → ⊥
-some_held s (a, b, c, d) x has = subst (λ (hs : List (Key × ℕ)). Has x hs) none has
-  where
-    none : held s ≡ []
-    none = λ i. map (λ (job : Job). (job.key, job.completion)) (a i) ++ map (λ (t : InHand). (t.key, t.completion)) (b i) ++ map (λ p. (p.key, p.completion)) (c i) ++ map (λ (y : Completion). (y.key, y.completion)) (d i)
-
-held_on : (on : Bool) (channel asked : ℕ) (s : Of) → IsOn (current on channel) s → ((key : Key) → NamesKey s.journal key → IsGiven channel asked key) → (x : Key × ℕ) → HeldIn s x → (on ≡ true) × ((x.0).channel ≡ channel)
+held_on : (on : Bool) (channel asked : ℕ) (s : Of) → IsServedOn (current on channel) s → ((key : Key) → NamesKey s.journal key → IsGiven channel asked key) → (x : Key × ℕ) → HeldIn s x → (on ≡ true) × ((x.0).channel ≡ channel)
 held_on on channel asked s at given x has =
     let (last, is, same) = at.sound.remembers.channel x (to_contains (held s) x has) in
     elim (at.last last is) [ inl here ↦ (let both = by on here (given last (at.sound.remembers.named last is)) in (both.0, same ∙ both.1)) | inr idle_so ↦ absurd (some_held s idle_so x has) ]

@@ -1,4 +1,6 @@
 pub mod GivenLemmas
+pub mod WithLemmas
+pub mod KnownLemmas
 pub mod LedLemmas
 pub mod FollowLemmas
 pub mod BeginLemmas
@@ -10,5 +12,6 @@ pub mod AnswerLemmas
 pub mod ReadLemmas
 pub mod MildLemmas
 pub mod GoneLemmas
-pub mod HostLemmas
+pub mod CutLemmas
+pub mod SinceLemmas
 pub mod EachLemmas

@@ -25,10 +25,10 @@ use Rattle.rd_station.specs.declared.refusals.AnnounceNo.TheVariants as unannoun
 use Rattle.rd_station.specs.declared.refusals.PutWhy.{PutWhy}
 use Rattle.rd_station.proofs.Members.{has_append}
 use Rattle.rd_world.specs.Talk.{Has}
-use Rattle.rd_world.specs.declared.device.SessionDevice.{SessionDevice}
 use Rattle.rd_served.specs.Served.{CallsDesk, IsWork}
 use Rattle.rd_served.proofs.StationLemmas.{Step, put_refused}
 use Rattle.rd_served.proofs.WorkLemmas.{Steps}
+use Rattle.rd_served.specs.ServedDevices.{ServedDeviceState}
 
 abbrev Of : Type 0
 Of = SessionStation
@@ -56,7 +56,7 @@ announce_mild old new answer e = mild_same old new (station.announce old).0 (sym
     by false true = refl
     by false false = refl
 
-drop_mild : (old new : Of) (cut : SessionDevice) → new.journal ≡ (let s = drop_channel old cut in s.journal) → StoresMild old new
+drop_mild : (old new : Of) (cut : ServedDeviceState) → new.journal ≡ (let s = drop_channel old cut in s.journal) → StoresMild old new
 drop_mild old new cut e = by old.live e
   where
     by : (b : Bool) → new.journal ≡ (let s = cond b (record (emptied old) { device = cut; live = false; journal = old.journal ++ Cut Dropped ∷ [] }) (emptied old) in s.journal) → StoresMild old new

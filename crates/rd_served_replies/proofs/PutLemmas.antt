@@ -3,7 +3,6 @@ use Rattle.std.proofs.Common.{◌≡◌, ◌⊎◌, ◌∙◌, refl, sym, ap, su
 use Rattle.std.specs.Prelude.{None, Some, find}
 use Rattle.std.specs.List.{AllByRecursion, flat_map}
 use Rattle.std.specs.Option.{option_map_or}
-use Rattle.rd_base.specs.declared.journal.Item.{Item}
 use Rattle.rd_base.specs.declared.journal.Item.TheVariants.{Came}
 use Rattle.rd_base.specs.declared.journal.Key.{Key}
 use Rattle.rd_desk.specs.Own.{IsOwnJob, job_come, job_request, no_job_request, request_put}
@@ -15,7 +14,9 @@ use Rattle.rd_station.specs.Station.{StationCall, announces, applies, collects, 
 use Rattle.rd_station.proofs.Members.{Has, has_append, has_left, has_right, key_self, same_key}
 use Rattle.rd_world.specs.Session.{request_read}
 use Rattle.rd_world.specs.Talk.{Deed}
-use Rattle.rd_world.proofs.KeysLemmas.{Comes, MayStore, step_stores}
+use Rattle.rd_world.proofs.KeysLemmas.{Comes}
+use Rattle.rd_served.specs.ServedDevices.{served_cuts, served_parked, served_runs}
+use Rattle.rd_served.proofs.StoreLemmas.{come_by, step_stores}
 use Rattle.rd_served.proofs.WorkLemmas.{Steps}
 use Rattle.rd_served_replies.specs.Premises.{NamesAlike}
 use Rattle.rd_served_replies.proofs.GivenLemmas.{PutOf, comes_of}
@@ -41,19 +42,14 @@ put_by key (removes r) calls none = absurd none
 put_by key drops calls none = absurd none
 put_by key ends calls none = absurd none
 
-came_by : (key : Key) (c : StationCall) (items : List Item) → AllByRecursion (MayStore c) items → Has (Came key) items → Comes c key
-came_by key c [] each none = absurd none
-came_by key c (x ∷ items) each (inl same) = subst (MayStore c) (sym same) each.0
-came_by key c (x ∷ items) each (inr later) = came_by key c items each.1 later
-
 steps_put : (key : Key) (calls : List StationCall) (old new : Of) → Steps old calls new → Has (Came key) new.journal → Has (Came key) old.journal ⊎ IsPut key calls
 steps_put key [] old new e has = inl (subst (λ (s : Of). Has (Came key) s.journal) e has)
 steps_put key (c ∷ calls) old new e has = elim (steps_put key calls e.0 new e.2 has) [
   | inl before ↦
-      let stores = step_stores old e.0 c e.1 in
+      let stores = step_stores served_runs served_parked served_cuts old e.0 c e.1 in
       elim (has_append (Came key) old.journal stores.more (subst (Has (Came key)) stores.longer before)) [
         | inl was ↦ inl was
-        | inr now ↦ inr (put_by key c calls (came_by key c stores.more stores.each now))
+        | inr now ↦ inr (put_by key c calls (come_by c stores.more stores.each key now))
       ]
   | inr (job, there, same) ↦ inr (job, has_right job (job_come c) (flat_map job_come calls) there, same)
 ]

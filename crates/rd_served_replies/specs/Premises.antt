@@ -1,5 +1,6 @@
 -- What is taken of a client's front: with which devices it begins, and that each pass of a desk gives back its own jobs.
-use Rattle.std.specs.Prelude.{◌≡◌, ℕ, List, slice_get, Some}
+use Rattle.std.specs.Prelude.{◌≡◌, ℕ, List, slice_get, Some, IfSome}
+use Rattle.std.specs.List.{AllByRecursion}
 use Rattle.std.specs.Map.{lookup}
 use Rattle.std.specs.Ordering.{nat_cmp}
 use Rattle.std.specs.BTreeMap.{is_at}
@@ -7,18 +8,24 @@ use Rattle.rd_base.specs.declared.journal.Key.{Key}
 use Rattle.rd_desk.specs.Own.{GivesOwnBack}
 use Rattle.rd_desk.specs.declared.calls.DeskCall.{DeskCall}
 use Rattle.rd_desk.specs.declared.calls.DeskReply.{DeskReply}
+use Rattle.rd_drive.specs.Answered.{drive_parked}
+use Rattle.rd_drive.specs.DriveState.{DriveState}
 use Rattle.rd_front.specs.State.{DeviceDeskState}
 use Rattle.rd_irp.specs.declared.request.Request.{Request}
-use Rattle.rd_refused.specs.JournalsStations.{AreFit}
+use Rattle.rd_served.specs.ServedDevices.{ServedDeviceState, made, over}
 use Rattle.rd_station.specs.Station.{new_station}
 use Rattle.rd_turn.specs.History.{calls_of}
 use Rattle.rd_turn.specs.declared.object.Entry.{Entry}
-use Rattle.rd_world.specs.Devices.{Declared}
+
+-- What waits in a drive over a folder that tells its nodes is what waits in the drive with these.
+abbrev pub IsFitServed : ServedDeviceState → Type 0
+IsFitServed (made device) = Unit {0}
+IsFitServed (over drive) = IfSome drive.drive (λ (s : DriveState). drive.parked ≡ drive_parked s)
 
 -- The desks are of fit devices among these: the station of each begins as a new one of its device.
-pub record AreOpened (devices : List (ℕ × Declared)) (desks : List DeviceDeskState) : Type 0 where
-  pub fit : AreFit devices
-  pub each : (place : ℕ) (d : DeviceDeskState) → slice_get desks place ≡ Some d → (x : Declared) × (lookup (is_at (nat_cmp d.id)) devices ≡ Some x) × ((d.turn).opening ≡ new_station x.state)
+pub record AreOpened (devices : List (ℕ × ServedDeviceState)) (desks : List DeviceDeskState) : Type 0 where
+  pub fit : AllByRecursion (λ (e : ℕ × ServedDeviceState). IsFitServed e.1) devices
+  pub each : (place : ℕ) (d : DeviceDeskState) → slice_get desks place ≡ Some d → (x : ServedDeviceState) × (lookup (is_at (nat_cmp d.id)) devices ≡ Some x) × ((d.turn).opening ≡ new_station x)
 
 -- Of the calls of a desk, those of each pass give back jobs that earlier ones of the same pass were given.
 abbrev pub GivesOwn : List (Entry DeskCall DeskReply) → Type 0

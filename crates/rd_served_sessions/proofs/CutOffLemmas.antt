@@ -18,7 +18,8 @@ use Rattle.rd_front.specs.State.{DeviceDeskState, SessionStation}
 use Rattle.rd_irp.specs.Fits.{kind_of}
 use Rattle.rd_served_causes.proofs.JournalsHeldLemmas.{turned_has}
 use Rattle.rd_served_causes.specs.JournalsReads.{IsGiven}
-use Rattle.rd_served_causes.specs.JournalsStations.{IsIdle, IsOn}
+use Rattle.rd_served_causes.specs.ServedOnChannel.{IsServedOn}
+use Rattle.rd_served_causes.proofs.ServedCallLemmas.{some_held}
 use Rattle.rd_station.proofs.Members.{find_has, has_append, has_left, has_map, has_right, map_has, to_contains}
 use Rattle.rd_station.specs.Memory.{NamesKey}
 use Rattle.rd_station.specs.Station as station
@@ -34,10 +35,8 @@ use Rattle.rd_station.specs.declared.refusals.AnnounceNo.{AnnounceNo}
 use Rattle.rd_station.specs.declared.refusals.AnnounceNo.TheVariants as unannounced
 use Rattle.rd_station.specs.declared.refusals.PutWhy.{PutWhy}
 use Rattle.rd_station.specs.declared.refusals.PutWhy.TheVariants as why
-use Rattle.rd_world.proofs.KeysLemmas.{Comes, MayStore, step_stores}
-use Rattle.rd_world.specs.Stations.{IsReachedBy}
+use Rattle.rd_world.proofs.KeysLemmas.{Comes}
 use Rattle.rd_world.specs.Talk.{Has}
-use Rattle.rd_world.specs.declared.device.SessionDevice.{SessionDevice}
 use Rattle.rd_served_causes.proofs.ServedComesLemmas.{ComesBy, cancel}
 use Rattle.rd_served_causes.proofs.ServedHeldLemmas.{HeldIn, drop_none, end_none, held_less, put_more, ready_held, work_less}
 use Rattle.rd_served_causes.proofs.ServedKeyLemmas.{IsKeyed, current}
@@ -45,6 +44,8 @@ use Rattle.rd_served_causes.proofs.ServedStationLemmas.{Step, put_refused}
 use Rattle.rd_served_causes.proofs.ServedWorkLemmas.{Steps}
 use Rattle.rd_served_causes.specs.ServedServed.{CallsDesk, IsWork, Served}
 use Rattle.rd_served_sessions.specs.Drops.{uncut_keys}
+use Rattle.rd_served_causes.proofs.ServedStoreLemmas.{come_by, step_stores}
+use Rattle.rd_served_causes.specs.ServedDevices.{IsServedReached, ServedDeviceState, served_cuts, served_parked, served_runs}
 
 abbrev Of : Type 0
 Of = SessionStation
@@ -106,7 +107,7 @@ announce_held old new call answer e = held_same old new call (station.announce o
     by false true = refl
     by false false = refl
 
-drop_held : (old new : Of) (call : StationCall) (cut : SessionDevice) → new.journal ≡ (let s = drop_channel old cut in s.journal) → StoresHeld old new call
+drop_held : (old new : Of) (call : StationCall) (cut : ServedDeviceState) → new.journal ≡ (let s = drop_channel old cut in s.journal) → StoresHeld old new call
 drop_held old new call cut e = by old.live e
   where
     by : (b : Bool) → new.journal ≡ (let s = cond b (record (emptied old) { device = cut; live = false; journal = old.journal ++ Cut Dropped ∷ [] }) (emptied old) in s.journal) → StoresHeld old new call
@@ -274,16 +275,11 @@ cut_by old more new cause is none =
 abbrev IsCutOff : Of → Type 0
 IsCutOff s = s.live ≡ false → AreCutOff (reverse s.journal)
 
-stored_by : (call : StationCall) (more : List Item) → AllByRecursion (MayStore call) more → (key : Key) → Has (Came key) more → Comes call key
-stored_by call [] all key none = absurd none
-stored_by call (x ∷ more) all key (inl here) = subst (MayStore call) (sym here) all.0
-stored_by call (x ∷ more) all key (inr later) = stored_by call more all.1 key later
-
 -- a call that leaves it live, by which none comes
 cut_still : (old new : Of) (call : StationCall) → Step old call new → ((key : Key) → Comes call key → ⊥) → (new.live ≡ false → old.live ≡ false) → IsCutOff old → IsCutOff new
 cut_still old new call step none live is off =
-    let stores = step_stores old new call step in
-    cut_more old.journal stores.more new.journal stores.longer (λ key has. none key (stored_by call stores.more stores.each key has)) (is (live off))
+    let stores = step_stores served_runs served_parked served_cuts old new call step in
+    cut_more old.journal stores.more new.journal stores.longer (λ key has. none key (come_by call stores.more stores.each key has)) (is (live off))
 
 announce_live : (old new : Of) (answer : Result (Unit {0}) AnnounceNo) → station.announce old ≡ (new, answer) → new.live ≡ false → old.live ≡ false
 announce_live old new answer e off = by old.live refl (nat_le max_entries (entry_count old)) e
@@ -295,7 +291,7 @@ announce_live old new answer e off = by old.live refl (nat_le max_entries (entry
 same_live : (old new : Of) → new ≡ old → new.live ≡ false → old.live ≡ false
 same_live old new is off = sym (ap (λ (s : Of). s.live) is) ∙ off
 
-drop_cut : (old new : Of) (cut : SessionDevice) → new.journal ≡ (let s = drop_channel old cut in s.journal) → IsCutOff old → AreCutOff (reverse new.journal)
+drop_cut : (old new : Of) (cut : ServedDeviceState) → new.journal ≡ (let s = drop_channel old cut in s.journal) → IsCutOff old → AreCutOff (reverse new.journal)
 drop_cut old new cut e is = by old.live refl e
   where
     by : (b : Bool) → old.live ≡ b → new.journal ≡ (let s = cond b (record (emptied old) { device = cut; live = false; journal = old.journal ++ Cut Dropped ∷ [] }) (emptied old) in s.journal) → AreCutOff (reverse new.journal)
@@ -368,18 +364,12 @@ steps_cut [] old new e is = subst IsCutOff (sym e) is
 steps_cut (call ∷ list) old new steps is = steps_cut list steps.0 new steps.2 (step_cut old steps.0 call steps.1 is)
 
 -- Where no job may come to a station, it was cut off after each that came.
-pub reached_cut : (s : Of) → IsReachedBy s → s.live ≡ false → AreCutOff (reverse s.journal)
+pub reached_cut : (s : Of) → IsServedReached s → s.live ≡ false → AreCutOff (reverse s.journal)
 reached_cut s reached = steps_cut reached.calls (new_station reached.device) s reached.steps (λ off. tt)
 
 -- ---- what a front's stations hold
 
-some_held : (s : Of) → IsIdle s → (x : Key × ℕ) → Has x (held s) → ⊥
-some_held s idle_so x has = subst (λ (hs : List (Key × ℕ)). Has x hs) (none_held idle_so) has
-  where
-    none_held : IsIdle s → held s ≡ []
-    none_held (a, b, c, d) = λ i. map (λ (job : Job). (job.key, job.completion)) (a i) ++ map (λ (t : InHand). (t.key, t.completion)) (b i) ++ map (λ (p : ParkedJob). (p.key, p.completion)) (c i) ++ map (λ (y : Completion). (y.key, y.completion)) (d i)
-
-held_at : (on : Bool) (channel asked : ℕ) (s : Of) → IsOn (current on channel) s → ((key : Key) → NamesKey s.journal key → IsGiven channel asked key) → (x : Key × ℕ) → HeldIn s x → (on ≡ true) × ((x.0).channel ≡ channel)
+held_at : (on : Bool) (channel asked : ℕ) (s : Of) → IsServedOn (current on channel) s → ((key : Key) → NamesKey s.journal key → IsGiven channel asked key) → (x : Key × ℕ) → HeldIn s x → (on ≡ true) × ((x.0).channel ≡ channel)
 held_at on channel asked s at names x has =
     let (last, is, same) = at.sound.remembers.channel x (to_contains (held s) x has) in
     elim (at.last last is) [

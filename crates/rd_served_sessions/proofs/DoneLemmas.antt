@@ -30,9 +30,8 @@ use Rattle.rd_station.specs.declared.refusals.AnnounceNo.{AnnounceNo}
 use Rattle.rd_station.specs.declared.refusals.AnnounceNo.TheVariants as no
 use Rattle.rd_station.specs.declared.refusals.PutWhy.{PutWhy}
 use Rattle.rd_station.specs.declared.refusals.PutWhy.TheVariants as why
-use Rattle.rd_world.specs.Devices.{PrinterNames, device_cuts, device_parked, device_runs, printer_data}
+use Rattle.rd_world.specs.Devices.{PrinterNames, printer_data}
 use Rattle.rd_world.specs.Talk.{Has}
-use Rattle.rd_world.specs.declared.device.SessionDevice.{SessionDevice}
 use Rattle.rd_workers.specs.Logs.{asks_any, reader_calls}
 use Rattle.rd_served_causes.proofs.ServedKeyLemmas.{has_at, has_set}
 use Rattle.rd_served_causes.specs.ServedHistories.{HistoryGoes}
@@ -41,15 +40,16 @@ use Rattle.rd_served_causes.specs.ServedParts as part
 use Rattle.rd_served_causes.specs.ServedServed.{CallsDesk, IsWork, Served, Works}
 use Rattle.rd_served_sessions.proofs.StillLemmas.{ends_over}
 use Rattle.rd_served_sessions.specs.Steps.{AreSteps}
+use Rattle.rd_served_causes.specs.ServedDevices.{ServedDeviceState, served_cuts, served_parked, served_runs}
 
 abbrev Of : Type 0
 Of = SessionStation
 
 abbrev Step : Of → StationCall → Of → Type 0
-Step old does new = StationStep device_runs device_parked device_cuts old does new
+Step old does new = StationStep served_runs served_parked served_cuts old does new
 
 abbrev Steps : Of → List StationCall → Of → Type 0
-Steps old list new = StationSteps device_runs device_parked device_cuts old list new
+Steps old list new = StationSteps served_runs served_parked served_cuts old list new
 
 -- the session is over at a station, and no job is in a hand
 abbrev pub IsDone : Of → Type 0
@@ -92,14 +92,14 @@ collected_done : (s : Of) (cs : List Completion) → IsDone s → IsDone (collec
 collected_done s [] is = is
 collected_done s (c ∷ cs) is = is
 
-removed_done : (s : Of) (cut : SessionDevice) → IsDone s → IsDone (remove s cut).0
+removed_done : (s : Of) (cut : ServedDeviceState) → IsDone s → IsDone (remove s cut).0
 removed_done s cut is = by s.live
   where
     by : (b : Bool) → IsDone (remove (record s { live = b }) cut).0
     by true = (is.0, ap (map marked_removed) is.1)
     by false = is
 
-dropped_done : (s : Of) (cut : SessionDevice) → (b : Bool) → ((drop_channel (record s { live = b }) cut).ended ≡ s.ended) × ((drop_channel (record s { live = b }) cut).taken ≡ [])
+dropped_done : (s : Of) (cut : ServedDeviceState) → (b : Bool) → ((drop_channel (record s { live = b }) cut).ended ≡ s.ended) × ((drop_channel (record s { live = b }) cut).taken ≡ [])
 dropped_done s cut true = (refl, refl)
 dropped_done s cut false = (refl, refl)
 

@@ -39,7 +39,7 @@ use Rattle.rd_served_causes.proofs.ServedCauseLemmas.{IsTold, part_told}
 use Rattle.rd_served_causes.proofs.ServedKeyLemmas.{IsKeyed, IsUnder, both_true, ended_is, none_of, part_keyed}
 use Rattle.rd_served_causes.specs.ServedDeeds.{deeds_after, deeds_of}
 use Rattle.rd_served_causes.specs.ServedHistories.{stopped_by}
-use Rattle.rd_served_causes.specs.ServedParts.{AsksBy, Comes, FrontPart, IsOpenCall, PartGoes, PartsGo, asking_by, begins, calls, directs, ends, forgets, keeps, learns, misplaces, refreshes, sends, stops, tells_gone, tells_there, tries, unwritten, writes}
+use Rattle.rd_served_causes.specs.ServedParts.{AsksBy, FrontPart, IsOpenCall, PartGoes, PartsGo, asking_by, begins, calls, directs, ends, forgets, keeps, learns, misplaces, refreshes, sends, stops, tells_gone, tells_there, tries, unwritten, writes}
 use Rattle.rd_served_causes.specs.ServedParts as part
 use Rattle.rd_served_causes.specs.ServedServed.{Asking, Served, asks, idle}
 use Rattle.rd_served_causes.specs.ServedRefusalsHeeding.{stopped_after}

@@ -21,7 +21,6 @@ use Rattle.rd_front.specs.declared.calls.FrontReply.TheVariants as reply
 use Rattle.rd_station.specs.Station as station
 use Rattle.rd_world.specs.Control.{Act, added, removed}
 use Rattle.rd_world.specs.Talk.{Deed, Has, stores}
-use Rattle.rd_world.specs.declared.device.SessionDevice.{SessionDevice}
 use Rattle.rd_served_causes.proofs.ServedKeyLemmas.{IsKeyed}
 use Rattle.rd_served_causes.proofs.ServedStandingLemmas.{IsKnownAt, part_known}
 use Rattle.rd_served_causes.specs.ServedDeeds.{deeds_after, deeds_of}
@@ -38,6 +37,7 @@ use Rattle.rd_served_causes.proofs.StepLemmas.{AreApartIn, LeavesDue, part_off, 
 use Rattle.rd_served_causes.specs.Open.{AreOff, IsOpenBut, Never}
 use Rattle.rd_served_sessions.proofs.StoredLemmas.{StoresIn, ends_lack, has_split, part_stores}
 use Rattle.rd_served_sessions.specs.Acts.{act_done}
+use Rattle.rd_served_causes.specs.ServedDevices.{ServedDeviceState}
 
 abbrev Of : Type 0
 Of = SessionStation
@@ -93,7 +93,7 @@ act_single does back a pre rest is = elim (one_act does back) [
 
 -- ---- a desk cuts its device off
 
-cut_journal : (s : Of) (cut : SessionDevice) → s.live ≡ false → ((station.remove s cut).0).journal ≡ s.journal
+cut_journal : (s : Of) (cut : ServedDeviceState) → s.live ≡ false → ((station.remove s cut).0).journal ≡ s.journal
 cut_journal s cut off = ap (λ (b : Bool). ((station.remove (record s { live = b }) cut).0).journal) off
 
 end_mild : (over : Bool) (back : DeskReply) (middle last : Of) → SessionDeskStep middle (end_call over) back last → AreNoRemovals (told_by (end_call over) back)

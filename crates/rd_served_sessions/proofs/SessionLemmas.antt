@@ -1,7 +1,8 @@
 -- A session that was served: the history of its front tells the deeds of the client.
 use Rattle.std.proofs.Common.{◌≡◌, ◌≢◌, ◌⊎◌, ◌∙◌, ◌≤◌, ◌<◌, refl, sym, ap, subst, inl, inr, ℕ, zero, suc, ◌+◌, Bool, true, false, List, [], ◌∷◌, ◌++◌, length, map, reverse, Option, Some, None, slice_get, append-nil, arith, ne_eqb, ◌==◌, ◌||◌, eq-eqb}
-use Rattle.std.specs.Prelude.{filter_map, if◌then◌else◌}
+use Rattle.std.specs.Prelude.{IfSome, filter_map, if◌then◌else◌}
 use Rattle.std.specs.List.{AllByRecursion, AllZip, flat_map, zip}
+use Rattle.std.specs.List.Sorted.{IsStrictlySortedBy}
 use Rattle.std.specs.Map.{keys_of, lookup}
 use Rattle.std.specs.Ordering.{nat_cmp}
 use Rattle.std.specs.BTreeMap.{is_at}
@@ -15,9 +16,10 @@ use Rattle.rd_carry.specs.Outgoing.{HasWritten, OutgoingState}
 use Rattle.rd_carry.specs.declared.ended.Ended.{Ended}
 use Rattle.rd_carry.specs.declared.ended.Ended.TheVariants as ended
 use Rattle.rd_client.specs.Core.{new_client}
-use Rattle.rd_client.specs.Events.{AreWritable}
 use Rattle.rd_devices.specs.declared.list.Announce.{Announce}
 use Rattle.rd_drive.proofs.AllLemmas.{all_append}
+use Rattle.rd_desk.specs.Desk.{told_calls}
+use Rattle.rd_drive.specs.DriveState.{DriveState}
 use Rattle.rd_drive.specs.Replies.{AreToldBy}
 use Rattle.rd_front.specs.Calls.{FrontEntry, HearBytes, HearsBytes}
 use Rattle.rd_front.specs.Front.{FrontStep}
@@ -27,25 +29,25 @@ use Rattle.rd_front.specs.declared.calls.FrontCall.{FrontCall}
 use Rattle.rd_front.specs.declared.calls.FrontCall.TheVariants as call
 use Rattle.rd_front.specs.declared.calls.FrontReply.{FrontReply}
 use Rattle.rd_front.specs.declared.calls.FrontReply.TheVariants as reply
-use Rattle.rd_served_causes.proofs.JournalsReplyLemmas.{fit_at}
 use Rattle.rd_served_causes.proofs.JournalsWorkLemmas.{grown_more}
-use Rattle.rd_served_causes.specs.JournalsStations.{AreFit}
 use Rattle.rd_served_causes.proofs.RefusedAnswerLemmas.{all_answer}
 use Rattle.rd_script.specs.declared.line.NumberedLine.{NumberedLine}
-use Rattle.rd_station.specs.Tied.{IsTied}
+use Rattle.rd_sharing.specs.Closing.{AreUntroubled, IsUntroubled, station_devices}
+use Rattle.rd_sharing.specs.ServedOpening.{ServedDeclared, shown_of}
+use Rattle.rd_station.specs.Station.{new_station}
 use Rattle.rd_turn.specs.History.{Leads}
 use Rattle.rd_world.specs.Devices.{Declared, device_cut, device_step}
 use Rattle.rd_world.specs.Acts.{act_by, tellings_on}
 use Rattle.rd_world.specs.Control.{is_among}
-use Rattle.rd_world.specs.Opening.{AreOpenable}
 use Rattle.rd_world.specs.Recording.{announced_of}
-use Rattle.rd_world.specs.Session.{replies_read, request_read}
+use Rattle.rd_world.specs.Session.{journals_of, request_read}
 use Rattle.rd_world.specs.Talk.{Deed, EachAfter, Has, client_read, client_moves, client_wrote, journal}
 use Rattle.rd_world.specs.Told.{AreAnswered}
+use Rattle.rd_world.specs.declared.device.SessionDevice.{SessionDevice}
 use Rattle.rd_workers.specs.Channels.{ChannelRun, HaveNumbers, IsChannelRun, LinkerTold, calls_by_all}
 use Rattle.rd_workers.specs.Lines.{at_lines}
 use Rattle.rd_workers.specs.Logs.{AllFound, asks_any, given_by, messages_by, messages_for, messages_heard, reader_calls}
-use Rattle.rd_workers.specs.Served.{IsWritten, ServesBooks}
+use Rattle.rd_workers.specs.Served.{IsWritten, ServesJournals}
 use Rattle.rd_served_causes.proofs.ServedCauseLemmas.{AnyRequest}
 use Rattle.rd_served_causes.proofs.ServedChannelLemmas.{begins_here, history_on}
 use Rattle.rd_served_causes.proofs.ServedKeyLemmas.{begins_at, keyed_lawful}
@@ -53,6 +55,10 @@ use Rattle.rd_served_causes.proofs.ServedOrderLemmas.{history_order}
 use Rattle.rd_served_causes.proofs.ServedStandingLemmas.{IsKnownAt, begins_known, history_known}
 use Rattle.rd_served_causes.proofs.ServedWalkLemmas.{served}
 use Rattle.rd_served_causes.specs.ServedDeeds.{EachOnChannel, deeds_of_calls}
+use Rattle.rd_served_causes.specs.ServedDevices as served_device
+use Rattle.rd_served_causes.specs.ServedDevices.{ServedDeviceState}
+use Rattle.rd_served_causes.specs.ServedRepliesGiven.{HadNoFault, HadNoFaults, known_as, replies_served}
+use Rattle.rd_served_causes.specs.ServedRepliesPremises.{IsFitServed}
 use Rattle.rd_served_causes.specs.ServedHistories.{AreStationed, HistoryGoes, may_start}
 use Rattle.rd_served_causes.specs.ServedParts.{FrontPart, PartsGo}
 use Rattle.rd_served_causes.specs.ServedServed.{IsStationed, Served, Works, idle}
@@ -73,9 +79,10 @@ use Rattle.rd_served_causes.proofs.ServedRefusalsInLineLemmas.{begins_line_all, 
 use Rattle.rd_served_causes.proofs.ServedRefusalsPointLemmas.{in_order}
 use Rattle.rd_served_causes.specs.ServedRefusalsHeeding.{HearInRoom}
 use Rattle.rd_served_causes.proofs.ServedRepliesBeginLemmas.{IsOneOf, first_of, known_first}
-use Rattle.rd_served_causes.proofs.ServedRepliesEachLemmas.{all_answered}
-use Rattle.rd_served_causes.proofs.ServedRepliesFollowLemmas.{history_followed}
-use Rattle.rd_served_causes.proofs.ServedRepliesLedLemmas.{led_tied}
+use Rattle.rd_served_causes.proofs.ServedRepliesEachLemmas.{all_answered, all_told as all_gone}
+use Rattle.rd_served_causes.proofs.ServedRepliesFollowLemmas.{IsFollowed, history_followed}
+use Rattle.rd_served_causes.proofs.ServedRepliesKnownLemmas.{known_calm, known_plays}
+use Rattle.rd_served_causes.proofs.ServedRepliesLedLemmas.{led_by, led_tied}
 use Rattle.rd_served_causes.proofs.ServedRepliesReadLemmas.{all_fine, history_bytes}
 use Rattle.rd_served_sessions.proofs.DoesLemmas.{session_does}
 use Rattle.rd_served_sessions.proofs.ActLemmas.{acts_inside, done_in_all, given_reader, history_act, history_acts, runs_act}
@@ -87,7 +94,7 @@ use Rattle.rd_served_sessions.proofs.AnnounceLemmas.{all_announce, first_kept}
 use Rattle.rd_served_sessions.proofs.DropLemmas.{AreDropped, all_dropped}
 use Rattle.rd_served_sessions.proofs.DoneLemmas.{IsDone, all_done, works_same}
 use Rattle.rd_served_sessions.proofs.EndingLemmas.{given_replies, history_causes, replies_each, replies_inside}
-use Rattle.rd_served_sessions.proofs.FirstLemmas.{IsBegun, all_at, at_same, found_at, session_begun}
+use Rattle.rd_served_sessions.proofs.FirstLemmas.{IsBegun, all_at, at_same, found_at, keys_shown, keys_states, session_begun, state_at}
 use Rattle.rd_served_sessions.proofs.FollowLemmas.{new_follows}
 use Rattle.rd_served_sessions.proofs.FoundLemmas.{history_found}
 use Rattle.rd_served_sessions.proofs.LookLemmas.{LookUnhindered, session_looks}
@@ -105,7 +112,7 @@ use Rattle.rd_served_sessions.specs.Parted.{AreInPlace, ArePartedAt}
 use Rattle.rd_served_sessions.specs.Placed.{AreDoneBy, ArePlaced, ComesLast, all_done_by}
 use Rattle.rd_served_sessions.specs.Announcing.{AnnouncesOwn}
 use Rattle.rd_served_sessions.specs.Causes.{HaveCauses, IsCausedReply}
-use Rattle.rd_served_sessions.specs.Sessions.{IsServedRun, IsToldSession, TellsRun}
+use Rattle.rd_served_sessions.specs.Sessions.{IsMarkedAs, device_states, IsServedRun, IsToldSession, TellsRun}
 
 abbrev Of : Type 0
 Of = SessionStation
@@ -167,7 +174,7 @@ books_at deeds (d ∷ ds) (s ∷ ss) at tied =
     let more = books_at deeds ds ss at.1 (λ place x y. tied (suc place) x y) in
     λ i. (d.id, here i) ∷ more i
 
-books_of : (deeds : List Deed) (devices : List (ℕ × Declared)) → map (book deeds) (keys_of devices) ≡ map {B = ℕ × List Item} (λ (d : ℕ × Declared). (d.0, reverse (journal d.0 deeds))) devices
+books_of : (deeds : List Deed) (devices : List (ℕ × ServedDeclared)) → map (book deeds) (keys_of devices) ≡ map {B = ℕ × List Item} (λ (d : ℕ × ServedDeclared). (d.0, reverse (journal d.0 deeds))) devices
 books_of deeds [] = refl
 books_of deeds (d ∷ devices) = ap (λ (l : List (ℕ × List Item)). book deeds d.0 ∷ l) (books_of deeds devices)
 
@@ -180,7 +187,7 @@ among_at f (y ∷ xs) (suc i) x there n is = by (f y == n) (among_at f xs i x th
     by true more = refl
     by false more = more
 
-keys_map : (devices : List (ℕ × Declared)) → map (λ (d : ℕ × Declared). d.0) devices ≡ keys_of devices
+keys_map : (devices : List (ℕ × ServedDeclared)) → map (λ (d : ℕ × ServedDeclared). d.0) devices ≡ keys_of devices
 keys_map [] = refl
 keys_map (d ∷ devices) = ap (λ (l : List ℕ). d.0 ∷ l) (keys_map devices)
 
@@ -237,9 +244,29 @@ begins_bare held s w = record {
   waits = λ sound. sym (none_behind w.written w.rest w.frames_are) ∙ w.waits sound;
 }
 
-module _ (devices : List (ℕ × Declared)) (openable : AreOpenable devices) (fit : AreFit devices) (writable : AreWritable (announced_of devices)) (numbered : List NumberedLine) (in_place : AreInPlace numbered) (channels : ℕ) (by : Ended) (books : List (ℕ × History)) (old new : LinkerTold)
-    (not : by ≢ ended.Memory) (b : ServesBooks devices (at_lines numbered) channels by books old new)
+-- what is untroubled had no fault
+faultless : (ss : List Of) → AreUntroubled (station_devices ss) → HadNoFaults ss
+faultless [] all place s there = absurd (cc (there))
+faultless (x ∷ ss) all zero s there = let same : x ≡ s = cc (there) in subst (λ (y : Of). HadNoFault y.device) same (one x.device all.0)
   where
+    one : (d : ServedDeviceState) → IsUntroubled d → HadNoFault d
+    one (served_device.made device) is = tt
+    one (served_device.over drive) is = by drive.drive
+      where
+        by : (o : Option DriveState) → IfSome o (λ (y : DriveState). (drive.faults).count ≡ 0)
+        by None = tt
+        by (Some y) = is
+faultless (x ∷ ss) all (suc place) s there = faultless ss all.1 place s there
+
+module _ (calm : Bool) (devices : List (ℕ × ServedDeclared)) (fit : AllByRecursion (λ (d : ℕ × ServedDeclared). IsFitServed (d.1).state) devices) (numbered : List NumberedLine) (in_place : AreInPlace numbered) (channels : ℕ) (by : Ended) (books : List (ℕ × History)) (old new : LinkerTold)
+    (not : by ≢ ended.Memory) (b : ServesJournals devices (at_lines numbered) channels by (journals_of books) old new) (quiet : calm ≡ true → AreUntroubled (station_devices b.stations))
+  where
+    abbrev Shown : List (ℕ × Declared)
+    Shown = map shown_of devices
+
+    abbrev States : List (ℕ × ServedDeviceState)
+    States = device_states devices
+
     abbrev Entries : List FrontEntry
     Entries = (b.front).entries
 
@@ -272,11 +299,20 @@ module _ (devices : List (ℕ × Declared)) (openable : AreOpenable devices) (fi
       abbrev Deeds : List Deed
       Deeds = deeds_of_calls c.parts []
 
-      announced_here : AreWritable b.announced
-      announced_here = subst AreWritable (sym (b.opens).announced_are) writable
+      -- what is announced is of the devices, and can be written
+      announced_are : b.announced ≡ announced_of Shown
+      announced_are = ((b.opens).shown).announced_are
 
       begun : IsBegun devices b.announced Old
-      begun = session_begun devices openable fit b.announced b.printers b.ids b.turns b.opens announced_here First (b.front).begins c.stations c.at
+      begun = session_begun devices fit b.announced b.printers b.ids b.turns b.opens First (b.front).begins c.stations c.at
+
+      stations_same : b.stations ≡ mids
+      stations_same = same_stations mids b.stations works
+          (all_done Entries c.parts Old New c.goes c.steps begun.fresh Calls End (((b.front).served).called).all_are (((b.front).served).called).over)
+
+      -- no fault of a folder was counted, where none is said to be
+      none_here : calm ≡ true → HadNoFaults mids
+      none_here said = faultless mids (subst (λ (ss : List Of). AreUntroubled (station_devices ss)) stations_same (quiet said))
 
       whole : reader_calls Entries ≡ calls_by_all runs ++ End ∷ []
       whole = (((b.front).served).called).all_are ∙ ap (λ (es : List FrontEntry). es ++ End ∷ []) are.calls_are
@@ -339,7 +375,7 @@ module _ (devices : List (ℕ × Declared)) (openable : AreOpenable devices) (fi
       in_room : HearInRoom Entries
       in_room = bytes_in_room Entries hear_bytes
 
-      answered : AreAnswered (replies_read devices Deeds) Deeds
+      answered : AreAnswered (replies_served calm States c.parts Deeds) Deeds
       answered =
           let bytes = history_bytes Entries c.parts Old New [] c.goes hear_bytes tt in
           let said = all_said b.announced Old New Entries c.parts begun.begins begun.have c.goes (all_fine Deeds bytes) starts in
@@ -347,7 +383,7 @@ module _ (devices : List (ℕ × Declared)) (openable : AreOpenable devices) (fi
           record {
             sent_in_order = sent_in_order;
             direct_in_order = in_order line.0 _ _ line.1;
-            answers = all_answer (replies_read devices Deeds) Deeds (said.0).each (all_answered devices Old New Entries c.parts (begun.begins).new begun.opened c.goes (closed_own Last.desks b.stations b.closes) bytes);
+            answers = all_answer (replies_served calm States c.parts Deeds) Deeds (said.0).each (all_answered calm States Old New Entries c.parts (begun.begins).new begun.opened c.goes (closed_own Last.desks b.stations b.closes) none_here bytes);
             comes = (said.1).comes;
           }
 
@@ -405,17 +441,13 @@ module _ (devices : List (ℕ × Declared)) (openable : AreOpenable devices) (fi
 
       -- ---- journals
 
-      stations_same : b.stations ≡ mids
-      stations_same = same_stations mids b.stations works
-          (all_done Entries c.parts Old New c.goes c.steps begun.fresh Calls End (((b.front).served).called).all_are (((b.front).served).called).over)
-
       last_ids : ids_of Last.desks ≡ keys_of devices
       last_ids = history_ids Entries c.parts Old New c.goes ∙ begun.ids
 
       tied_at : (place : ℕ) (d : DeviceDeskState) (s : Of) → slice_get Last.desks place ≡ Some d → slice_get mids place ≡ Some s → journal d.id Deeds ≡ reverse s.journal
       tied_at place d s there has = (known.told).tied place d s (there, has)
 
-      journals_are : AreStationed Last.desks mids → zip b.ids (map (λ (s : Of). s.journal) b.stations) ≡ map {B = ℕ × List Item} (λ (d : ℕ × Declared). (d.0, reverse (journal d.0 Deeds))) devices
+      journals_are : AreStationed Last.desks mids → zip b.ids (map (λ (s : Of). s.journal) b.stations) ≡ map {B = ℕ × List Item} (λ (d : ℕ × ServedDeclared). (d.0, reverse (journal d.0 Deeds))) devices
       journals_are at =
           (λ i. zip (their i) (map (λ (s : Of). s.journal) (stations_same i))) ∙ books_at Deeds Last.desks mids at tied_at ∙ ap (map (book Deeds)) last_ids ∙ books_of Deeds devices
         where
@@ -423,7 +455,7 @@ module _ (devices : List (ℕ × Declared)) (openable : AreOpenable devices) (fi
           their = sym ((b.front).begins).ids_are ∙ sym (history_ids Entries c.parts Old New c.goes)
 
       -- the desk and the station of a device
-      record OfDevice (e : ℕ × Declared) : Type 0 where
+      record OfDevice (e : ℕ × ServedDeclared) : Type 0 where
         place : ℕ
         d : DeviceDeskState
         s : Of
@@ -432,36 +464,48 @@ module _ (devices : List (ℕ × Declared)) (openable : AreOpenable devices) (fi
         same : d.id ≡ e.0
         is : journal e.0 Deeds ≡ reverse s.journal
 
-      of_device : AreStationed Last.desks mids → (i : ℕ) (e : ℕ × Declared) → slice_get devices i ≡ Some e → OfDevice e
+      of_device : AreStationed Last.desks mids → (i : ℕ) (e : ℕ × ServedDeclared) → slice_get devices i ≡ Some e → OfDevice e
       of_device at i e there =
-          let (d, desk, id) = at_same (λ (x : ℕ × Declared). x.0) (λ (x : DeviceDeskState). x.id) devices Last.desks (keys_map devices ∙ sym last_ids) i e there in
+          let (d, desk, id) = at_same (λ (x : ℕ × ServedDeclared). x.0) (λ (x : DeviceDeskState). x.id) devices Last.desks (keys_map devices ∙ sym last_ids) i e there in
           let (s, station, stationed) = zip_at IsStationed Last.desks mids at i d desk in
           record { place = i; d = d; s = s; there = desk; has = station; same = id; is = ap (λ (n : ℕ). journal n Deeds) (sym id) ∙ tied_at i d s desk station }
 
-      turned : (e : ℕ × Declared) (o : OfDevice e) → reverse (journal e.0 Deeds) ≡ (o.s).journal
+      turned : (e : ℕ × ServedDeclared) (o : OfDevice e) → reverse (journal e.0 Deeds) ≡ (o.s).journal
       turned e o = ap reverse o.is ∙ reverse-reverse (o.s).journal
 
-      lawful_of : AreStationed Last.desks mids → AllByRecursion (λ (e : ℕ × Declared). IsLawful (reverse (journal e.0 Deeds))) devices
-      lawful_of at = all_at (λ (e : ℕ × Declared). IsLawful (reverse (journal e.0 Deeds))) devices (λ i e there.
+      lawful_of : AreStationed Last.desks mids → AllByRecursion (λ (e : ℕ × ServedDeclared). IsLawful (reverse (journal e.0 Deeds))) devices
+      lawful_of at = all_at (λ (e : ℕ × ServedDeclared). IsLawful (reverse (journal e.0 Deeds))) devices (λ i e there.
           let o = of_device at i e there in subst IsLawful (sym (turned e o)) (keyed_lawful New known.keyed o.place o.s o.has))
 
-      marked_of : AreStationed Last.desks mids → AllByRecursion (λ (e : ℕ × Declared). AreToldBy device_step device_cut (request_read Deeds) (e.1).state (reverse (journal e.0 Deeds))) devices
-      marked_of at = all_at (λ (e : ℕ × Declared). AreToldBy device_step device_cut (request_read Deeds) (e.1).state (reverse (journal e.0 Deeds))) devices (λ i e there.
-          let o = of_device at i e there in
-          let follows = history_followed (IsOneOf devices) Entries c.parts Old New [] c.goes (known_first Old (begun.begins).new) (first_of devices Old (begun.begins).new begun.opened) in
-          let (x, at_x, opens_so) = follows.opened o.place o.d o.there in
-          let both : Some x ≡ Some e.1 = sym (ap (λ (n : ℕ). lookup (is_at (nat_cmp n)) devices) (sym o.same) ∙ at_x) ∙ found_at devices openable.rise i e there in
-          let same : x ≡ e.1 = cc (both) in
-          let tied : IsTied device_step device_cut (request_read Deeds) x.state o.s =
-          (led_tied AnyRequest Deeds Deeds (grown_more [] Deeds) (o.d).id x.state ((o.d).pass).seen o.s (subst (λ (t : Of). Leads SessionDeskStep t ((o.d).pass).seen o.s) opens_so (follows.stationed o.place o.d o.s (o.there, o.has)).leads)
-          (closed_own Last.desks b.stations b.closes o.place o.d o.there) (follows.puts o.place o.d o.there) (fit_at devices (o.d).id x begun.opened.fit at_x).1) in
-          subst (AreToldBy device_step device_cut (request_read Deeds) (e.1).state) (sym (turned e o)) (subst (λ (y : Declared). AreToldBy device_step device_cut (request_read Deeds) y.state (o.s).journal) same tied.marked))
+      marked_of : AreStationed Last.desks mids → AllByRecursion (IsMarkedAs calm Deeds) devices
+      marked_of at = all_at (IsMarkedAs calm Deeds) devices (λ i e there. one i e there (of_device at i e there) (known_as calm (e.1).state) refl)
+        where
+          follows : IsFollowed (IsOneOf States) New Deeds
+          follows = history_followed (IsOneOf States) Entries c.parts Old New [] c.goes (known_first Old (begun.begins).new) (first_of States Old (begun.begins).new begun.opened)
 
-      in_order_of : (n : ℕ) → AreMovesInOrder (announced_of devices) (is_gone_until c.parts n) (client_moves n Deeds)
+          rise : IsStrictlySortedBy nat_cmp (keys_of States)
+          rise = subst (IsStrictlySortedBy nat_cmp) (keys_shown devices ∙ sym (keys_states devices)) ((b.opens).openable).rise
+
+          one : (i : ℕ) (e : ℕ × ServedDeclared) → slice_get devices i ≡ Some e → OfDevice e → (known : Option SessionDevice) → known_as calm (e.1).state ≡ known
+              → IfSome known (λ (s : SessionDevice). AreToldBy device_step device_cut (request_read Deeds) s (reverse (journal e.0 Deeds)))
+          one i e there o None is = tt
+          one i e there o (Some other) is =
+              let its = follows.opened o.place o.d o.there in
+              let both : Some its.opening ≡ Some (e.1).state = sym (ap (λ (n : ℕ). lookup (is_at (nat_cmp n)) States) (sym o.same) ∙ its.found) ∙ found_at States rise i (e.0, (e.1).state) (state_at devices i e there) in
+              let same : its.opening ≡ (e.1).state = cc (both) in
+              let known : known_as calm its.opening ≡ Some other = ap (known_as calm) same ∙ is in
+              let leads : Leads SessionDeskStep (new_station its.opening) ((o.d).pass).seen o.s = subst (λ (t : Of). Leads SessionDeskStep t ((o.d).pass).seen o.s) its.is (follows.stationed o.place o.d o.s (o.there, o.has)).leads in
+              let gives = closed_own Last.desks b.stations b.closes o.place o.d o.there in
+              let puts = follows.puts o.place o.d o.there in
+              let none = known_calm calm its.opening other (told_calls ((o.d).pass).seen) o.s known (led_by AnyRequest Deeds Deeds (grown_more [] Deeds) (o.d).id its.opening ((o.d).pass).seen o.s leads gives puts) (λ said. none_here said o.place o.s o.has) in
+              let tied = led_tied AnyRequest Deeds Deeds (grown_more [] Deeds) (o.d).id its.opening ((o.d).pass).seen o.s leads gives puts other (known_plays calm its.opening other known its.fit) its.nothing none in
+              subst (AreToldBy device_step device_cut (request_read Deeds) other) (sym (turned e o)) (tied.tied).marked
+
+      in_order_of : (n : ℕ) → AreMovesInOrder (announced_of Shown) (is_gone_until c.parts n) (client_moves n Deeds)
       in_order_of n =
           let is = (begun.begins).new in
-          subst (λ (list : List Announce). AreMovesInOrder list (is_gone_until c.parts n) (client_moves n Deeds)) (b.opens).announced_are
-          ((history_ordered b.announced announced_here Entries c.parts Old New c.goes [] none_until
+          subst (λ (list : List Announce). AreMovesInOrder list (is_gone_until c.parts n) (client_moves n Deeds)) announced_are
+          ((history_ordered b.announced (b.opens).writable Entries c.parts Old New c.goes [] none_until
           (history_on Entries c.parts Old New c.goes (begins_at Old is.new is.stationed refl) (begins_here Old (is.new).nothing refl))
           known_first_here (begins_own b.announced Old begun.begins) (begins_order b.announced Old begun.begins)).orders n)
 
@@ -470,27 +514,27 @@ module _ (devices : List (ℕ × Declared)) (openable : AreOpenable devices) (fi
       abbrev Rest : ℕ → List Deed
       Rest = rest_of Old Entries c.parts New c.goes
 
-      left_of : (n : ℕ) → IsLeftOf (replies_read devices Deeds) (announced_of devices) (is_gone_until c.parts n) (acts_on n Old Entries c.parts New c.goes) n Deeds (Rest n)
+      left_of : (n : ℕ) → IsLeftOf (replies_served calm States c.parts Deeds) (announced_of Shown) (is_gone_until c.parts n) (acts_on n Old Entries c.parts New c.goes) n Deeds (Rest n)
       left_of n =
-          subst (λ (list : List Announce). IsLeftOf (replies_read devices Deeds) list (is_gone_until c.parts n) (acts_on n Old Entries c.parts New c.goes) n Deeds (Rest n)) (b.opens).announced_are
-          (all_left b.announced devices Old New Entries c.parts begun.begins begun.have begun.opened c.goes (closed_own Last.desks b.stations b.closes) hear_bytes starts n)
+          subst (λ (list : List Announce). IsLeftOf (replies_served calm States c.parts Deeds) list (is_gone_until c.parts n) (acts_on n Old Entries c.parts New c.goes) n Deeds (Rest n)) announced_are
+          (all_left calm b.announced States Old New Entries c.parts begun.begins begun.have begun.opened c.goes (closed_own Last.desks b.stations b.closes) none_here hear_bytes starts n)
 
-      run_tells : (r : ChannelRun) → given_of act_done (r.reading).channel runs ≡ given_in act_done (r.reading).calls → TellsRun (announced_of devices) (is_gone_until c.parts) Deeds Rest r
+      run_tells : (r : ChannelRun) → given_of act_done (r.reading).channel runs ≡ given_in act_done (r.reading).calls → TellsRun (announced_of Shown) (is_gone_until c.parts) Deeds Rest r
       run_tells r own =
           let n = (r.reading).channel in
           let left = left_of n in
           let acts : acts_on n Old Entries c.parts New c.goes ≡ acts_done (r.reading).calls =
           history_acts n Entries c.parts Old New c.goes c.steps hear_surely ∙ of_runs act_done acts_inside n ∙ own ∙ done_in_all (r.reading).calls in
-          record { ready = left.ready; tells = subst (TellsReady left.ready (announced_of devices) (is_gone_until c.parts n) n (tellings_on n (Rest n ++ Deeds))) acts left.tells }
+          record { ready = left.ready; tells = subst (TellsReady left.ready (announced_of Shown) (is_gone_until c.parts n) n (tellings_on n (Rest n ++ Deeds))) acts left.tells }
 
       acts_are : filter_map act_by (reverse Deeds) ≡ flat_map (λ (r : ChannelRun). acts_done (r.reading).calls) runs
       acts_are =
           history_act Entries c.parts Old New c.goes hear_surely [] ∙ given_reader Entries ∙ ap (given_in act_done) whole ∙ runs_act runs End (((b.front).served).called).over are.each
 
-      lines_do_so : RunsDo (map (λ (a : Announce). a.id) (announced_of devices)) (is_gone_until c.parts) none_gone runs
+      lines_do_so : RunsDo (map (λ (a : Announce). a.id) (announced_of Shown)) (is_gone_until c.parts) none_gone runs
       lines_do_so =
           let start = (begun.begins).new in
-          subst (λ (list : List Announce). RunsDo (map (λ (a : Announce). a.id) list) (is_gone_until c.parts) none_gone runs) (b.opens).announced_are
+          subst (λ (list : List Announce). RunsDo (map (λ (a : Announce). a.id) list) (is_gone_until c.parts) none_gone runs) announced_are
           (session_does b.announced runs End (at_lines numbered) are.left Entries c.parts Old New c.goes c.steps hear_surely whole (((b.front).served).called).over are.each are.lines_go (begins_known Old start.new start.apart start.stationed start.idle_is) (begins_own b.announced Old begun.begins))
 
       -- ---- where deeds stand
@@ -521,9 +565,9 @@ module _ (devices : List (ℕ × Declared)) (openable : AreOpenable devices) (fi
           let each = all_cut_for numbered Entries (groups_of c.parts) done_by moves come_ready (subst (EachAfter ComesLast) same comes_last) in
           parted_all numbered in_place Deeds (subst (EachAfter (IsCutFor numbered)) (sym same) each) comes_last
 
-      runs_tell : AllByRecursion (TellsRun (announced_of devices) (is_gone_until c.parts) Deeds Rest) runs
+      runs_tell : AllByRecursion (TellsRun (announced_of Shown) (is_gone_until c.parts) Deeds Rest) runs
       runs_tell =
-          to_all (λ (r : ChannelRun). given_of act_done (r.reading).channel runs ≡ given_in act_done (r.reading).calls) (TellsRun (announced_of devices) (is_gone_until c.parts) Deeds Rest) run_tells runs
+          to_all (λ (r : ChannelRun). given_of act_done (r.reading).channel runs ≡ given_in act_done (r.reading).calls) (TellsRun (announced_of Shown) (is_gone_until c.parts) Deeds Rest) run_tells runs
           (own_given act_done 0 runs are.numbered)
 
       -- ---- ends
@@ -544,24 +588,24 @@ module _ (devices : List (ℕ × Declared)) (openable : AreOpenable devices) (fi
           (both_all (λ (r : ChannelRun). AreMiddle (r.reading).calls) (λ (r : ChannelRun). given_of given_replies (r.reading).channel runs ≡ given_in given_replies (r.reading).calls) runs (runs_middle runs are) (own_given given_replies 0 runs are.numbered))
 
       -- nothing is stored but for the devices
-      unowned : (device : ℕ) → is_among (map (λ (d : ℕ × Declared). d.0) devices) device ≡ false → (j : List Item) → journal device Deeds ≡ j → j ≡ []
+      unowned : (device : ℕ) → is_among (map (λ (d : ℕ × ServedDeclared). d.0) devices) device ≡ false → (j : List Item) → journal device Deeds ≡ j → j ≡ []
       unowned device other [] is = refl
       unowned device other (x ∷ j) is =
           let (place, d, s, at, id) = (known.standing).owned device x (subst (Has x) (sym is) (inl refl)) in
-          let (e, there, same) = at_same (λ (y : DeviceDeskState). y.id) (λ (y : ℕ × Declared). y.0) Last.desks devices (last_ids ∙ sym (keys_map devices)) place d at.0 in
-          absurd (let some = among_at (λ (y : ℕ × Declared). y.0) devices place e there device (same ∙ id) in cc (some, other))
+          let (e, there, same) = at_same (λ (y : DeviceDeskState). y.id) (λ (y : ℕ × ServedDeclared). y.0) Last.desks devices (last_ids ∙ sym (keys_map devices)) place d at.0 in
+          absurd (let some = among_at (λ (y : ℕ × ServedDeclared). y.0) devices place e there device (same ∙ id) in cc (some, other))
 
-      announced_all : AllByRecursion (AnnouncesOwn devices) Deeds
+      announced_all : AllByRecursion (AnnouncesOwn Shown) Deeds
       announced_all =
-          all_announce devices Entries c.parts Old New c.goes
-          (first_kept devices openable Old (ap (λ (s : FrontState). s.client) ((b.front).begins).is ∙ ap new_client (b.opens).announced_are) (ap (λ (s : FrontState). s.printers) ((b.front).begins).is ∙ (b.opens).printers_are)) [] tt
+          all_announce Shown Entries c.parts Old New c.goes
+          (first_kept Shown (b.opens).openable Old (ap (λ (s : FrontState). s.client) ((b.front).begins).is ∙ ap new_client announced_are) (ap (λ (s : FrontState). s.printers) ((b.front).begins).is ∙ ((b.opens).shown).printers_are)) [] tt
 
       dropped : AreDropped Deeds
       dropped =
           let is = (begun.begins).new in
           all_dropped runs End Entries c.parts Old New c.goes c.steps (history_on Entries c.parts Old New c.goes (begins_at Old is.new is.stationed refl) (begins_here Old (is.new).nothing refl)) is whole (((b.front).served).called).over are.each
 
-      all_told : AreStationed Last.desks mids → IsToldSession devices numbered channels by Entries books old new
+      all_told : AreStationed Last.desks mids → IsToldSession calm devices numbered channels by Entries books old new
       all_told at = record {
         deeds = Deeds;
         gone = is_gone_until c.parts;
@@ -584,7 +628,8 @@ module _ (devices : List (ℕ × Declared)) (openable : AreOpenable devices) (fi
         parts = c.parts;
         goes = c.goes;
         steps = c.steps;
-        opens = subst (λ (list : List Announce). BeginsWith list Old) (b.opens).announced_are begun.begins;
+        opens = subst (λ (list : List Announce). BeginsWith list Old) announced_are begun.begins;
+        opened = begun.opened;
         done_so = refl;
         left = λ n. refl;
         lines_go = (record { calls = Calls; done = ((b.front).served).done; lines = are.left; linker = new }, are.lines_go);
@@ -594,6 +639,7 @@ module _ (devices : List (ℕ × Declared)) (openable : AreOpenable devices) (fi
         told = answered;
         heeded = λ n. (left_of n).heeded;
         stands = (known.standing).stand;
+        removals = all_gone Old New Entries c.parts (begun.begins).new c.goes (history_bytes Entries c.parts Old New [] c.goes hear_bytes tt);
         order = in_order_of;
         tells = runs_tell;
         acts = acts_are;
@@ -610,7 +656,7 @@ module _ (devices : List (ℕ × Declared)) (openable : AreOpenable devices) (fi
       }
 
     -- The session is told by its front's history.
-    pub session_told : IsToldSession devices numbered channels by Entries books old new
+    pub session_told : IsToldSession calm devices numbered channels by Entries books old new
     session_told =
         let (runs, are) = runs_of (at_lines numbered) channels by Calls ((b.front).served).done old new not (((b.front).served).called).ends in
         all_told runs are closed.mids closed.works (chained closed.mids closed.stationed) closed.stationed

@@ -22,7 +22,6 @@ use Rattle.rd_station.specs.declared.refusals.PutNo.{PutNo}
 use Rattle.rd_station.specs.declared.refusals.PutWhy.{PutWhy}
 use Rattle.rd_station.specs.declared.refusals.PutWhy.TheVariants as why
 use Rattle.rd_world.specs.Talk.{Deed, Has, client_read, is_request, journal, request_at, request_in}
-use Rattle.rd_world.specs.Stations.{IsReachedBy}
 use Rattle.rd_world.specs.World.{Kept}
 use Rattle.rd_served_causes.proofs.ServedCauseLemmas.{AnyRequest, IsTold, job_told, part_told, some_same, tied_then, to_turned}
 use Rattle.rd_served_causes.proofs.ServedHeldLemmas.{HeldIn, found_in_use, held_came, held_unsent, work_less}
@@ -36,6 +35,7 @@ use Rattle.rd_served_sessions.proofs.ChainLemmas.{StartNone, part_rises, part_un
 use Rattle.rd_served_sessions.proofs.FollowLemmas.{Follows, IsLastRead, part_follows, reads_of}
 use Rattle.rd_served_sessions.proofs.UnsentLemmas.{none_after, parts_unsent}
 use Rattle.rd_served_sessions.specs.Causes.{LastIsInUse, WasInUse}
+use Rattle.rd_served_causes.specs.ServedDevices.{IsServedReached}
 
 abbrev Of : Type 0
 Of = SessionStation
@@ -133,7 +133,7 @@ module _ (p q : Served) (place id : ℕ) (job : Job) (refusal : PutNo) (items : 
     on_it : key.channel ≡ (p.front).channel
     on_it = All-contains (λ (o : Key × ℕ). (o.0).channel ≡ job.key.channel) (held middle) (key, job.completion) may.same_channel (to_contains (held middle) (key, job.completion) in_use) ∙ channel_is
 
-    reached : IsReachedBy middle
+    reached : IsServedReached middle
     reached = (worked p q place id does back items keyed at).on.sound.reached
 
     came_there : Has (Came key) middle.journal

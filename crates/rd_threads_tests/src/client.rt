@@ -5,6 +5,7 @@ ghost use Rattle.std.specs.Prelude.{◌≡◌, None};
 
 use crate::serving::{serve, waits_for};
 use rd_base::{Bytes, Calls, Failed, Key, MemSink, Sink, Source};
+use rd_folder::MemFolders;
 use rd_link::{Gate, Hang, Linker, MemIn, MemLinker, MemOut};
 use std::alloc::{AllocError, Global};
 use std::process::Abort;
@@ -21,7 +22,7 @@ const SCRIPT: &[u8] = b"workers 2\ndrive 1 ONE\ndrive 2 TWO\n";
 const LINES: &[u8] = b"device 1 ran 1\ndevice 2 ran 1\n";
 
 /// What the host says to open a channel.
-const OPENING: &[u8] = b"\
+pub const OPENING: &[u8] = b"\
 \x14\0\0\0\x0c\0\0\0\x03\0\0\0rDnI\x01\0\x0c\0\x01\0\0\0\
 \x4c\0\0\0\x44\0\0\0\x03\0\0\0rDPS\x03\0\0\0\
 \x01\0\x2c\0\x02\0\0\0\x02\0\0\0\0\0\0\0\x01\0\x0c\0\xff\xff\0\0\0\0\0\0\x05\0\0\0\0\0\0\0\0\0\0\0\0\0\0\0\
@@ -281,7 +282,17 @@ fn came_of(
     let alloc = rt.alloc();
     let mut output = MemSink::new(alloc, none(alloc));
     let mut host = Host::new(alloc, shared)?;
-    let status = serve(rt, alloc, "client", SCRIPT, &mut output, &mut host, shared)?;
+    let mut folders = MemFolders::new(alloc, Vec::new(alloc), none(alloc))?;
+    let status = serve(
+        rt,
+        alloc,
+        "client",
+        SCRIPT,
+        &mut output,
+        &mut host,
+        &mut folders,
+        shared,
+    )?;
     let printed = output.bytes() == LINES;
     let completed = host.written().ends_with(COMPLETIONS);
     Ok((status, printed, completed))

@@ -5,6 +5,7 @@ ghost use Rattle.std.specs.Prelude.{◌≡◌, None};
 
 use crate::serving::{serve, waits_for};
 use rd_base::{Calls, Failed, MemSink, Sink, Source};
+use rd_folder::MemFolders;
 use rd_link::{Hang, Linker, NoGate};
 use std::alloc::AllocError;
 use std::process::Abort;
@@ -20,7 +21,7 @@ const SCRIPT: &[u8] = b"devices 2\n1 open h 1 \\a\n2 open h 2 \\b\n";
 const LINES: &[u8] = b"1.1 done 00000000 0100000001\n2.1 done 00000000 0200000001\n";
 
 /// What the client says before it has a request: its opening, and a list of two drives.
-const OPENING: &[u8] = b"\
+pub const OPENING: &[u8] = b"\
 \x14\0\0\0\x0c\0\0\0\x03\0\0\0rDCC\x01\0\x0c\0\x01\0\0\0\
 \x20\0\0\0\x18\0\0\0\x03\0\0\0rDNC\x01\0\0\0\0\0\0\0\x08\0\0\0R\0D\0R\0\0\0\
 \x4c\0\0\0\x44\0\0\0\x03\0\0\0rDPC\x03\0\0\0\
@@ -193,6 +194,7 @@ fn came_of(
     let alloc = rt.alloc();
     let mut output = MemSink::new(alloc, Calls::of(Vec::new(alloc)));
     let mut client = Client { heard };
+    let mut folders = MemFolders::new(alloc, Vec::new(alloc), Calls::of(Vec::new(alloc)))?;
     let status = serve(
         rt,
         alloc,
@@ -200,6 +202,7 @@ fn came_of(
         SCRIPT,
         &mut output,
         &mut client,
+        &mut folders,
         &NoGate {},
     )?;
     Ok((status, output.bytes() == LINES))

@@ -1,8 +1,10 @@
-//! The tests that the threads of a client and those of a host work at the same time, by the public calls of `rd_cli`.
+//! The tests that the threads of a client and those of a host work at the same time, and serve a folder, by the public calls of `rd_cli`.
 #![tactic(auto)]
 
 #[cfg(test)]
 mod client;
+#[cfg(test)]
+mod folder;
 #[cfg(test)]
 mod host;
 #[cfg(test)]

@@ -1,9 +1,10 @@
-//! The commands with threads, run over a linker of a test's own: `run` is called here alone, for any linker, since what that takes is proved at each call.
+//! The commands with threads, run over a linker and folders of a test's own: `run` is called here alone, for any of both, since what that takes is proved at each call.
 
 ghost use Rattle.std.specs.Prelude.{◌≡◌};
 
 use rd_base::{Books, Bytes, MemSink, PlainSink, PlainSource};
 use rd_cli::run;
+use rd_folder::Folders;
 use rd_link::{FixedClock, Gate, Linker};
 use std::alloc::{AllocError, Global};
 use std::sync::Wait;
@@ -34,14 +35,15 @@ fn words(alloc: Global, command: &str) -> Result<Vec<String>, AllocError> {
     Ok(words)
 }
 
-/// Runs a command with this script over a linker, and returns its status.
-pub fn serve<L: Linker, G: Gate + Sync>(
+/// Runs a command with this script over a linker and folders, and returns its status.
+pub fn serve<L: Linker, D: Folders, G: Gate + Sync>(
     rt: &(impl Threads + Wait + Sync),
     alloc: Global,
     command: &str,
     script: &[u8],
     output: &mut MemSink,
     linker: &mut L,
+    folders: &mut D,
     gate: &G,
 ) -> Result<u8, AllocError> {
     let words = words(alloc, command)?;
@@ -56,6 +58,7 @@ pub fn serve<L: Linker, G: Gate + Sync>(
         &mut PlainSink::new(),
         &mut PlainSink::new(),
         linker,
+        folders,
         &FixedClock(0),
         gate,
         &mut books,

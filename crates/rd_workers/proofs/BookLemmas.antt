@@ -25,11 +25,9 @@ use Rattle.rd_desk.proofs.StepLemmas.{led_reached}
 use Rattle.rd_pool.specs.Desks.{DeskPass, DeskTurn, GivesThen, HoldsOfCalls, IsClosed, KeepsMoment}
 use Rattle.rd_pool.proofs.CallsLemmas.{all_hold, call_holds}
 use Rattle.rd_pool.proofs.MomentLemmas.{gives_none}
-use Rattle.rd_world.specs.Devices.{Declared, device_cuts, device_parked, device_runs}
-use Rattle.rd_world.specs.Run.{station_of}
+use Rattle.rd_served_devices.specs.ServedDevices.{IsServedReached, ServedDeviceState, served_cuts, served_parked, served_runs}
+use Rattle.rd_sharing.specs.ServedOpening.{ServedDeclared, served_station}
 use Rattle.rd_world.specs.Session.{StoresSome, journals_of}
-use Rattle.rd_world.specs.Stations.{IsReachedBy}
-use Rattle.rd_world.specs.declared.device.SessionDevice.{SessionDevice}
 use Rattle.rd_front.specs.Kept.{DeskGoesOn, GoesBy, IsFrontCall}
 use Rattle.rd_front.specs.State.{DeviceDeskState, SessionPass, SessionStation}
 use Rattle.rd_workers.specs.Books.{AreLawfulBooks, RunAtTold}
@@ -85,28 +83,28 @@ in_books {S} P ids stations books all (rest, stored) =
     of_journals P books (All-prefix (λ (e : ℕ × List Item). P e.1) (journals_of books) rest
     (subst (All (λ (e : ℕ × List Item). P e.1)) stored (all_beside P ids (map journal_in stations) (All-map P journal_in stations all))))
 
-module _ (turns : List (DeskTurn SessionDevice)) (passes : List (DeskPass SessionDevice)) (stations : List SessionStation) (ids : List ℕ) (books : List (ℕ × History))
-    (closed : AllZip (IsClosed device_runs device_parked device_cuts) (zip turns passes) stations) (stored : StoresSome (zip ids (map journal_in stations)) books)
+module _ (turns : List (DeskTurn ServedDeviceState)) (passes : List (DeskPass ServedDeviceState)) (stations : List SessionStation) (ids : List ℕ) (books : List (ℕ × History))
+    (closed : AllZip (IsClosed served_runs served_parked served_cuts) (zip turns passes) stations) (stored : StoresSome (zip ids (map journal_in stations)) books)
   where
     -- each journal is lawful, where the desks began with stations that came to be by calls
-    pub books_lawful : All (λ (t : DeskTurn SessionDevice). IsReachedBy t.opening) turns → AreLawfulBooks books
-    books_lawful reached = in_books IsLawful ids stations books (closed_lawful device_runs device_parked device_cuts turns passes stations reached closed) stored
+    pub books_lawful : All (λ (t : DeskTurn ServedDeviceState). IsServedReached t.opening) turns → AreLawfulBooks books
+    books_lawful reached = in_books IsLawful ids stations books (closed_lawful served_runs served_parked served_cuts turns passes stations reached closed) stored
 
     -- each run is at the moment that was told, where they began with no journal, and all that was given back was to be run then
-    pub books_then : (told : Option ℕ) → All (λ (t : DeskTurn SessionDevice). (t.opening).journal ≡ []) turns → All (KeepsMoment told) passes → RunAtTold told books
+    pub books_then : (told : Option ℕ) → All (λ (t : DeskTurn ServedDeviceState). (t.opening).journal ≡ []) turns → All (KeepsMoment told) passes → RunAtTold told books
     books_then None new keeps = tt
-    books_then (Some moment) new keeps = in_books (All (RunsAt moment)) ids stations books (closed_then device_runs device_parked device_cuts moment turns passes stations new keeps closed) stored
+    books_then (Some moment) new keeps = in_books (All (RunsAt moment)) ids stations books (closed_then served_runs served_parked served_cuts moment turns passes stations new keeps closed) stored
 
 -- the desks of devices that were just opened have no journal
-pub none_yet : (devices : List (ℕ × Declared)) (ids : List ℕ) (turns : List (DeskTurn SessionDevice)) → length turns ≡ length ids → zip ids (map (λ (t : DeskTurn SessionDevice). t.opening) turns) ≡ map station_of devices
-    → All (λ (t : DeskTurn SessionDevice). (t.opening).journal ≡ []) turns
-none_yet devices [] [] same are = All-nil (λ (t : DeskTurn SessionDevice). (t.opening).journal ≡ [])
+pub none_yet : (devices : List (ℕ × ServedDeclared)) (ids : List ℕ) (turns : List (DeskTurn ServedDeviceState)) → length turns ≡ length ids → zip ids (map (λ (t : DeskTurn ServedDeviceState). t.opening) turns) ≡ map served_station devices
+    → All (λ (t : DeskTurn ServedDeviceState). (t.opening).journal ≡ []) turns
+none_yet devices [] [] same are = All-nil (λ (t : DeskTurn ServedDeviceState). (t.opening).journal ≡ [])
 none_yet devices [] (t ∷ turns) same are = absurd (omega (arith, same))
 none_yet devices (i ∷ ids) [] same are = absurd (omega (arith, same))
 none_yet [] (i ∷ ids) (t ∷ turns) same are = absurd (cc are)
 none_yet (e ∷ devices) (i ∷ ids) (t ∷ turns) same are =
-    let here : (i, t.opening) ≡ station_of e = cc are in
-    All-cons (λ (u : DeskTurn SessionDevice). (u.opening).journal ≡ []) t turns (ap (λ (x : ℕ × SessionStation). (x.1).journal) here) (none_yet devices ids turns (omega (arith, same)) (cc are))
+    let here : (i, t.opening) ≡ served_station e = cc are in
+    All-cons (λ (u : DeskTurn ServedDeviceState). (u.opening).journal ≡ []) t turns (ap (λ (x : ℕ × SessionStation). (x.1).journal) here) (none_yet devices ids turns (omega (arith, same)) (cc are))
 
 -- ---- what holds of the calls of passes
 

@@ -1,5 +1,5 @@
 -- Channels that are served one after the other: what is known after each.
-use Rattle.std.proofs.Common.{◌≡◌, ◌∙◌, ◌⊎◌, ◌+◌, ◌<◌, ℕ, suc, List, [], ◌∷◌, ◌++◌, length, map, Option, Some, None, Bool, true, false, ap, sym, refl, subst, inl, inr, arith, append_assoc, append-nil}
+use Rattle.std.proofs.Common.{◌≡◌, ◌∙◌, ◌⊎◌, ◌+◌, ◌<◌, ℕ, suc, List, [], ◌∷◌, ◌++◌, length, Option, Some, None, Bool, true, false, ap, sym, refl, subst, inl, inr, arith, append_assoc, append-nil}
 use Rattle.std.proofs.lemmas.List.{length-append, map-append}
 use Rattle.std.specs.List.{AllByRecursion}
 use Rattle.std.specs.Io.KnownBytes.{Consumes}
@@ -10,7 +10,7 @@ use Rattle.rd_carry.specs.declared.ended.Ended.TheVariants as ended
 use Rattle.rd_drive.proofs.AllLemmas.{all_append}
 use Rattle.rd_front.specs.Calls.{FrontEntry}
 use Rattle.rd_link.specs.Links.{Lends, Links, TakesBack}
-use Rattle.rd_workers.specs.Channels.{AllGoByLines, AllGoOn, ChannelReading, ChannelRun, EndsOn, EndsSo, GoesByThem, HasServed, HaveNumbers, IsChannelRun, IsReading, IsWholeRun, LinkerTold, ServesNext, ServesOne, ServesSome, SettlesRun, SettlesRuns, Standing, calls_by_all, ended_as, ended_session, none_served, stands_at, told_as}
+use Rattle.rd_workers.specs.Channels.{AllGoByLines, ChannelReading, ChannelRun, EndsOn, EndsSo, GoesByThem, HaveNumbers, IsChannelRun, IsReading, IsWholeRun, LinkerTold, ServesNext, ServesOne, ServesSome, SettlesRun, SettlesRuns, Standing, calls_by_all, ended_as, ended_session, none_served, stands_at, told_as}
 use Rattle.rd_workers.specs.Faults.{HasRisen, faults_by}
 use Rattle.rd_workers.specs.Lines.{KeepsToLines, lines_stand}
 use Rattle.rd_workers.specs.Logs.{WriterLog, Wrote, begun_on, finished_on, messages_heard, no_halves}

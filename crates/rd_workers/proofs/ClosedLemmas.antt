@@ -13,7 +13,7 @@ use Rattle.rd_pool.specs.Desks.{AllByHandBut, CameHome, IsClosed}
 use Rattle.rd_pool.proofs.CallsLemmas.{the_one, then_hands, with_hands}
 use Rattle.rd_front.specs.Kept.{DeskGoesOn}
 use Rattle.rd_front.specs.State.{DeviceDeskState, FrontState, SessionDeskStep, SessionPass, SessionStation}
-use Rattle.rd_world.specs.Devices.{device_cuts, device_parked, device_runs}
+use Rattle.rd_served_devices.specs.ServedDevices.{served_cuts, served_parked, served_runs}
 use Rattle.rd_workers.specs.Closed.{ClosesAfter, FrontCameHome}
 use Rattle.rd_workers.specs.Passes.{IsPassOf}
 
@@ -65,7 +65,7 @@ firsts_but passes firsts = λ k d within. the_one 1 (get_or passes k d) (λ none
 
 -- ---- the close
 
-closes_one : (d : DeviceDeskState) (p : SessionPass) (s : SessionStation) → (d.pass).number ≡ 1 → AllByHandBut 1 p → CameHome p d.pass → IsClosed device_runs device_parked device_cuts (d.turn, p) s → ClosesAfter d s
+closes_one : (d : DeviceDeskState) (p : SessionPass) (s : SessionStation) → (d.pass).number ≡ 1 → AllByHandBut 1 p → CameHome p d.pass → IsClosed served_runs served_parked served_cuts (d.turn, p) s → ClosesAfter d s
 closes_one d p s number hands home is =
     let but : AllByHandBut (d.pass).number p = subst (λ (n : ℕ). AllByHandBut n p) (sym number) hands in
     let after = then_hands p d.pass is.numbers is.number is.all but home in
@@ -82,12 +82,12 @@ closes_one d p s number hands home is =
 
 -- Each desk closes after what the front's pass of it has seen.
 pub all_close : (turns : Turns) (desks : List DeviceDeskState) (passes : List SessionPass) (stations : List SessionStation) → map (λ (d : DeviceDeskState). d.turn) desks ≡ turns → AreFirsts (map (λ (d : DeviceDeskState). d.pass) desks)
-    → All (AllByHandBut 1) passes → AllZip CameHome passes (map (λ (d : DeviceDeskState). d.pass) desks) → AllZip (IsClosed device_runs device_parked device_cuts) (zip turns passes) stations → AllZip ClosesAfter desks stations
+    → All (AllByHandBut 1) passes → AllZip CameHome passes (map (λ (d : DeviceDeskState). d.pass) desks) → AllZip (IsClosed served_runs served_parked served_cuts) (zip turns passes) stations → AllZip ClosesAfter desks stations
 all_close turns desks passes stations turns_are firsts hands home closed =
-    by desks passes stations firsts hands home (subst (λ (l : Turns). AllZip (IsClosed device_runs device_parked device_cuts) (zip l passes) stations) (sym turns_are) closed)
+    by desks passes stations firsts hands home (subst (λ (l : Turns). AllZip (IsClosed served_runs served_parked served_cuts) (zip l passes) stations) (sym turns_are) closed)
   where
     by : (desks : List DeviceDeskState) (passes : List SessionPass) (stations : List SessionStation) → AreFirsts (map (λ (d : DeviceDeskState). d.pass) desks)
-        → All (AllByHandBut 1) passes → AllZip CameHome passes (map (λ (d : DeviceDeskState). d.pass) desks) → AllZip (IsClosed device_runs device_parked device_cuts) (zip (map (λ (d : DeviceDeskState). d.turn) desks) passes) stations
+        → All (AllByHandBut 1) passes → AllZip CameHome passes (map (λ (d : DeviceDeskState). d.pass) desks) → AllZip (IsClosed served_runs served_parked served_cuts) (zip (map (λ (d : DeviceDeskState). d.turn) desks) passes) stations
         → AllZip ClosesAfter desks stations
     by [] [] [] firsts hands home closed = tt
     by [] [] (s ∷ ss) firsts hands home closed = absurd closed
@@ -99,6 +99,6 @@ all_close turns desks passes stations turns_are firsts hands home closed =
       by ds ps ss (All-tail (λ (q : SessionPass). q.number ≡ 1) d.pass (map (λ (e : DeviceDeskState). e.pass) ds) firsts) (All-tail (AllByHandBut 1) p ps hands) home.1 closed.1,
     )
 
-pub home_close : (last : FrontState) (turns : Turns) (passes : List SessionPass) (stations : List SessionStation) → FrontCameHome last turns passes → AllZip (IsClosed device_runs device_parked device_cuts) (zip turns passes) stations
+pub home_close : (last : FrontState) (turns : Turns) (passes : List SessionPass) (stations : List SessionStation) → FrontCameHome last turns passes → AllZip (IsClosed served_runs served_parked served_cuts) (zip turns passes) stations
     → AllZip ClosesAfter last.desks stations
 home_close last turns passes stations home closed = all_close turns last.desks passes stations home.turns_are home.numbers home.by_hand home.home closed

@@ -1,5 +1,5 @@
 -- The history of the front over which a session's devices were served.
-use Rattle.std.proofs.Common.{◌≡◌, ◌∙◌, ℕ, List, [], ◌∷◌, Option, None, false, ap, sym, subst, map}
+use Rattle.std.proofs.Common.{◌≡◌, ◌∙◌, ℕ, List, [], ◌∷◌, None, false, ap, sym, subst, map}
 use Rattle.std.specs.Prelude.{All}
 use Rattle.std.specs.List.{AllZip, zip}
 use Rattle.std.proofs.lemmas.List.Elements.{All-cons, All-head, All-map, All-nil, All-same, All-tail, All-weaker}
@@ -11,6 +11,8 @@ use Rattle.rd_front.specs.Calls.{FrontEntry}
 use Rattle.rd_front.specs.Front.{FrontStep}
 use Rattle.rd_front.specs.State.{DeviceDeskState, FrontState, SessionPass, SessionStation}
 use Rattle.rd_pool.specs.Desks.{DeskTurn}
+use Rattle.rd_served_devices.specs.ServedDevices.{ServedDeviceState}
+use Rattle.rd_sharing.specs.ServedOpening.{OpensServed, ServedDeclared}
 use Rattle.rd_station.specs.Station.{StationState}
 use Rattle.rd_turn.specs.History.{Leads}
 use Rattle.rd_turn.specs.Pass.{new_pass}
@@ -19,9 +21,7 @@ use Rattle.rd_workers.specs.Closed.{ClosesAfter}
 use Rattle.rd_workers.specs.Passes.{AreNew}
 use Rattle.rd_workers.specs.Served.{IsFrontOf, ServesEntries, ServesFront, ServesJournals}
 use Rattle.rd_workers.specs.declared.due.AtLine.{AtLine}
-use Rattle.rd_world.specs.Devices.{Declared, PrinterNames}
-use Rattle.rd_world.specs.Opening.{Opens}
-use Rattle.rd_world.specs.declared.device.SessionDevice.{SessionDevice}
+use Rattle.rd_world.specs.Devices.{PrinterNames}
 
 -- passes that were split from new ones have seen no call
 pub unseen_split : (ps own : List SessionPass) → own ≡ map new_pass ps → AreNew ps → All (λ (p : SessionPass). p.seen ≡ []) own
@@ -40,7 +40,7 @@ module _ (client : ClientCoreState) (printers : List (ℕ × PrinterNames)) wher
   abbrev pub fresh_front : List DeviceDeskState → FrontState
   fresh_front desks = record { client = client; printers = printers; cache = []; desks = desks; kept = None; channel = 0; on = false; over = false; unsent = 0 }
 
-  abbrev pub serves_front : (ids : List ℕ) (turns : List (DeskTurn SessionDevice)) (lines : List AtLine) (channels : ℕ) (by : Ended) (opening last : FrontState) (desks : List DeviceDeskState) (own : List SessionPass) (entries : List FrontEntry) (old new : LinkerTold)
+  abbrev pub serves_front : (ids : List ℕ) (turns : List (DeskTurn ServedDeviceState)) (lines : List AtLine) (channels : ℕ) (by : Ended) (opening last : FrontState) (desks : List DeviceDeskState) (own : List SessionPass) (entries : List FrontEntry) (old new : LinkerTold)
       → opening ≡ fresh_front desks → map (λ (d : DeviceDeskState). d.id) desks ≡ ids → map (λ (d : DeviceDeskState). d.turn) desks ≡ turns → map (λ (d : DeviceDeskState). d.pass) desks ≡ own → All (λ (p : SessionPass). p.seen ≡ []) own
       → Leads FrontStep opening entries last → ServesEntries lines channels by entries old new → ServesFront client printers ids turns lines channels by old new
   serves_front ids turns lines channels by opening last desks own entries old new is ids_are turns_are own_are unseen leads served =
@@ -62,8 +62,8 @@ module _ (client : ClientCoreState) (printers : List (ℕ × PrinterNames)) wher
 
 -- ---- the devices of a script
 
-module _ (devices : List (ℕ × Declared)) (stations : List (ℕ × StationState SessionDevice)) (announced : List Announce) (client : ClientCoreState) (printers : List (ℕ × PrinterNames)) (ids there : List ℕ) (turns : List (DeskTurn SessionDevice))
-    (opens : Opens devices stations announced printers) (over : zip ids (map (λ (t : DeskTurn SessionDevice). t.opening) turns) ≡ stations) (shown : there ≡ ids) (client_is : client ≡ new_client announced)
+module _ (devices : List (ℕ × ServedDeclared)) (stations : List (ℕ × StationState ServedDeviceState)) (announced : List Announce) (client : ClientCoreState) (printers : List (ℕ × PrinterNames)) (ids there : List ℕ) (turns : List (DeskTurn ServedDeviceState))
+    (opens : OpensServed devices stations announced printers) (over : zip ids (map (λ (t : DeskTurn ServedDeviceState). t.opening) turns) ≡ stations) (shown : there ≡ ids) (client_is : client ≡ new_client announced)
   where
     -- the same front, by the names of the script's devices
     abbrev pub front_of : (lines : List AtLine) (channels : ℕ) (by : Ended) (old new : LinkerTold) → ServesFront client printers there turns lines channels by old new → ServesFront (new_client announced) printers ids turns lines channels by old new
@@ -83,7 +83,7 @@ module _ (devices : List (ℕ × Declared)) (stations : List (ℕ × StationStat
       printers = printers;
       ids = ids;
       turns = turns;
-      opens = subst (λ (l : List (ℕ × StationState SessionDevice)). Opens devices l announced printers) (sym over) opens;
+      opens = subst (λ (l : List (ℕ × StationState ServedDeviceState)). OpensServed devices l announced printers) (sym over) opens;
       front = front_of lines channels by old new serves;
       stations = closed;
       closes = closes;

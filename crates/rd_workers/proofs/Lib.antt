@@ -6,6 +6,7 @@ pub mod FrontLemmas
 pub mod HistoryLemmas
 pub mod LineLemmas
 pub mod LogLemmas
+pub mod OpeningLemmas
 pub mod PassLemmas
 pub mod ReadingLemmas
 pub mod RunLemmas

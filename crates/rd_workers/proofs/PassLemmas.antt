@@ -42,6 +42,15 @@ zip_ends P (x ∷ xs) zero [] all none = absurd all
 zip_ends P (x ∷ xs) zero (y ∷ ys) all none = absurd (cc none)
 zip_ends P (x ∷ xs) (suc place) ys all none = let less = zip_ends P xs place ys all none in omega (arith, less)
 
+-- where something is left from a place on, the place is within
+pub zip_within : {A B : Type 0} (P : A → B → Type 0) (xs : List A) (place : ℕ) (ys : List B) (y : B) (rest : List B) → AllZip P (drop place xs) ys → ys ≡ y ∷ rest → place < length xs
+zip_within P [] zero [] y rest all some = absurd (cc some)
+zip_within P [] zero (z ∷ ys) y rest all some = absurd all
+zip_within P [] (suc place) [] y rest all some = absurd (cc some)
+zip_within P [] (suc place) (z ∷ ys) y rest all some = absurd all
+zip_within P (x ∷ xs) zero ys y rest all some = omega arith
+zip_within P (x ∷ xs) (suc place) ys y rest all some = let within = zip_within P xs place ys y rest all some in omega (arith, within)
+
 -- one more at the end of both
 pub zip_push : {A B : Type 0} (P : A → B → Type 0) (xs : List A) (ys : List B) (x : A) (y : B) → AllZip P xs ys → P x y → AllZip P (xs ++ x ∷ []) (ys ++ y ∷ [])
 zip_push P [] [] x y all is = (is, tt)

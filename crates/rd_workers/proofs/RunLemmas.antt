@@ -1,5 +1,5 @@
 -- The runs of a session's channels, where memory wasn't wanting, and what they tell of the reader's own calls.
-use Rattle.std.proofs.Common.{◌≡◌, ◌≢◌, ◌⊎◌, ◌∙◌, ◌≤◌, ◌<◌, refl, sym, ap, subst, inl, inr, ℕ, suc, ◌+◌, ◌==◌, ◌||◌, Bool, true, false, List, [], ◌∷◌, ◌++◌, map, length, Option, Some, None, append_assoc, append-nil, arith}
+use Rattle.std.proofs.Common.{◌≡◌, ◌≢◌, ◌∙◌, refl, sym, ap, subst, inl, inr, ℕ, suc, ◌+◌, Bool, true, false, List, [], ◌∷◌, ◌++◌, map, length, Some, append_assoc, append-nil, arith}
 use Rattle.std.specs.List.{AllByRecursion}
 use Rattle.std.proofs.lemmas.List.{map-append}
 use Rattle.rd_carry.specs.declared.ended.Ended.{Ended}
@@ -13,10 +13,10 @@ use Rattle.rd_front.specs.declared.calls.FrontCall.TheVariants as call
 use Rattle.rd_front.specs.declared.calls.FrontReply.{FrontReply}
 use Rattle.rd_front.specs.declared.calls.FrontReply.TheVariants as reply
 use Rattle.rd_hello.specs.declared.end_fault.EndFault.{EndFault}
-use Rattle.rd_workers.specs.Channels.{AllGoByLines, AllGoOn, ChannelReading, ChannelRun, EndsAfter, EndsByCalls, EndsOn, EndsShort, EndsSo, GoesByThem, HaveNumbers, HasServed, IsChannelRun, IsReading, LinkerTold, ServesNext, ServesSome, Standing, calls_by_all, ended_as, ended_session}
+use Rattle.rd_workers.specs.Channels.{AllGoByLines, AllGoOn, ChannelRun, EndsByCalls, EndsShort, GoesByThem, HaveNumbers, IsChannelRun, LinkerTold, ServesNext, ServesSome, Standing, calls_by_all, ended_as, ended_session}
 use Rattle.rd_workers.specs.Lines.{LinesGo, LinesStand, LinesStep}
-use Rattle.rd_workers.specs.Logs.{Wrote, messages_heard}
-use Rattle.rd_workers.specs.Reading.{AllPlain, Begins, EndsHindered, IsEndingOf, IsRest, SaysDuplicate, SaysWrong}
+use Rattle.rd_workers.specs.Logs.{Wrote}
+use Rattle.rd_workers.specs.Reading.{AllPlain, EndsHindered, IsEndingOf, IsRest, SaysDuplicate, SaysWrong}
 use Rattle.rd_workers.specs.declared.due.AtLine.{AtLine}
 use Rattle.rd_workers.specs.declared.reader.Ending.{Ending}
 use Rattle.rd_workers.specs.declared.reader.Ending.TheVariants as ending

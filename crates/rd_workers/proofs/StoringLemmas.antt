@@ -3,7 +3,7 @@ use Rattle.std.proofs.Common.{◌≡◌, ◌≢◌, ◌∙◌, ◌<◌, ◌+◌,
 use Rattle.std.specs.Prelude.{All, zip}
 use Rattle.std.specs.List.{AllByRecursion, AllZip}
 use Rattle.std.specs.List.Sorted.{IsStrictlySortedBy}
-use Rattle.std.specs.Map.{keys_of, lookup}
+use Rattle.std.specs.Map.{lookup}
 use Rattle.std.specs.Ordering.{nat_cmp}
 use Rattle.std.specs.declared.cmp.Ordering.TheVariants.{Less}
 use Rattle.std.specs.BTreeMap.{insert_entry, is_at}
@@ -67,20 +67,6 @@ opened_count [] [] is = refl
 opened_count [] (s ∷ list) is = absurd (cc is)
 opened_count (t ∷ turns) [] is = absurd (cc is)
 opened_count {S} (t ∷ turns) (s ∷ list) is = let more : map (λ (u : DeskTurn S). u.opening) turns ≡ list = cc is in let n = opened_count turns list more in omega (arith, n)
-
--- the keys of ids with something beside
-pub keys_zip : {X : Type 0} (ids : List ℕ) (xs : List X) → length xs ≡ length ids → keys_of (zip ids xs) ≡ ids
-keys_zip [] xs same = refl
-keys_zip (i ∷ ids) [] same = absurd (omega (arith, same))
-keys_zip (i ∷ ids) (x ∷ xs) same = ap (λ (l : List ℕ). i ∷ l) (keys_zip ids xs (omega (arith, same)))
-
--- what holds of all that stands beside ids
-pub beside_all : {X : Type 0} (P : X → Type 0) (ids : List ℕ) (xs : List X) → length xs ≡ length ids → All (λ (e : ℕ × X). P e.1) (zip ids xs) → All P xs
-beside_all P [] [] same all = All-nil P
-beside_all P [] (x ∷ xs) same all = absurd (omega (arith, same))
-beside_all P (i ∷ ids) [] same all = absurd (omega (arith, same))
-beside_all {X} P (i ∷ ids) (x ∷ xs) same all =
-    All-cons P x xs (All-head (λ (e : ℕ × X). P e.1) (i, x) (zip ids xs) all) (beside_all P ids xs (omega (arith, same)) (All-tail (λ (e : ℕ × X). P e.1) (i, x) (zip ids xs) all))
 
 -- what holds of all openings
 pub of_openings : {S : Type 0} (P : StationState S → Type 0) (turns : List (DeskTurn S)) (list : List (StationState S)) → map (λ (t : DeskTurn S). t.opening) turns ≡ list → All P list → All (λ (t : DeskTurn S). P t.opening) turns

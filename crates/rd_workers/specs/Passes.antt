@@ -4,8 +4,8 @@ use Rattle.rd_carry.specs.Outgoing.{OutgoingState}
 use Rattle.rd_front.specs.Calls.{FrontEntry}
 use Rattle.rd_front.specs.State.{DeviceDeskState, SessionPass}
 use Rattle.rd_pool.specs.Desks.{DeskPass, DeskTurn}
+use Rattle.rd_served_devices.specs.ServedDevices.{ServedDeviceState}
 use Rattle.rd_turn.specs.Pass.{Belongs, PassState, TurnId}
-use Rattle.rd_world.specs.declared.device.SessionDevice.{SessionDevice}
 use Rattle.rd_workers.specs.Logs.{WriterLog}
 
 -- a turn and a pass of it: the pass's number, how many passes were split from it, and how many of these weren't joined
@@ -34,7 +34,7 @@ pub record ReaderState (F : Type 0) : Type 0 where
   pub own : List FrontEntry
   pub writer : CallerId (WriterState F)
   pub written : WriterLog
-  pub desks : List (DeskTurn SessionDevice)
+  pub desks : List (DeskTurn ServedDeviceState)
   pub moment : Option ℕ
 
 -- no passes were split from these, and they have seen no call

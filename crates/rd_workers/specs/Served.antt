@@ -1,6 +1,7 @@
 -- What a session at a client's channels comes to: one history of its front, what its reader heard and its writer wrote by that, and how it ended.
-use Rattle.std.specs.Prelude.{◌≡◌, ◌⊎◌, ℕ, ◌<◌, true, false, List, [], ◌∷◌, ◌++◌, map, All, None}
+use Rattle.std.specs.Prelude.{◌≡◌, ◌⊎◌, ℕ, ◌<◌, true, false, List, [], ◌∷◌, ◌++◌, map, All, Contains, None}
 use Rattle.std.specs.List.{AllByRecursion, AllZip, zip}
+use Rattle.std.specs.Map.{keys_of}
 use Rattle.rd_base.specs.History.{History}
 use Rattle.rd_base.specs.declared.journal.Item.{Item}
 use Rattle.rd_carry.specs.declared.ended.Ended.{Ended}
@@ -15,15 +16,22 @@ use Rattle.rd_front.specs.declared.calls.FrontCall.TheVariants as call
 use Rattle.rd_front.specs.declared.calls.FrontReply.{FrontReply}
 use Rattle.rd_pool.specs.Desks.{DeskTurn}
 use Rattle.rd_script.specs.declared.line.NumberedLine.{NumberedLine}
+use Rattle.rd_served_devices.specs.ServedDevices.{ServedDeviceState}
+use Rattle.rd_sharing.specs.Closing.{station_devices, trouble_after}
+use Rattle.rd_sharing.specs.FolderLines.{folder_devices}
+use Rattle.rd_sharing.specs.ServedOpening.{AreServedDevices, OpensServed, ServedDeclared, ToldFolders}
+use Rattle.rd_sharing.specs.declared.opening_no.OpeningNo.{OpeningNo}
+use Rattle.rd_sharing.specs.declared.opening_no.OpeningNo.TheVariants as no
 use Rattle.rd_turn.specs.History.{Leads, calls_of}
 use Rattle.rd_turn.specs.Pass.{PassState}
-use Rattle.rd_world.specs.Devices.{Declared, PrinterNames}
-use Rattle.rd_world.specs.Opening.{Opens, bare_lines}
-use Rattle.rd_world.specs.Run.{declared_devices}
-use Rattle.rd_world.specs.declared.device.SessionDevice.{SessionDevice}
+use Rattle.rd_world.specs.Devices.{PrinterNames}
+use Rattle.rd_world.specs.Opening.{bare_lines}
 use Rattle.rd_world.specs.Session.{StoresSome, journals_of}
 use Rattle.rd_workers.specs.Channels.{EndsByCalls, LinkerTold, channels_of}
 use Rattle.rd_workers.specs.Closed.{ClosesAfter, FrontCameHome}
+use Rattle.rd_workers.specs.Faults.{HasRisen}
+use Rattle.rd_workers.specs.declared.client_ended.ClientEnded.{ClientEnded}
+use Rattle.rd_workers.specs.declared.client_ended.ClientEnded.TheVariants as client
 use Rattle.rd_workers.specs.declared.due.AtLine.{AtLine}
 use Rattle.rd_workers.specs.Lines.{at_lines}
 use Rattle.rd_workers.specs.Logs.{AllFound, NoneAsks, Wrote, messages_for, reader_calls, writer_log}
@@ -63,14 +71,14 @@ pub record IsRead {F K : Type 0} (lines : List AtLine) (channels : ℕ) (by : En
 -- ---- from the script on
 
 -- A front over a client, its printers and desks of devices with these ids and turns, whose passes have seen no call, before its first channel.
-pub record IsFrontOf (client : ClientCoreState) (printers : List (ℕ × PrinterNames)) (ids : List ℕ) (turns : List (DeskTurn SessionDevice)) (s : FrontState) : Type 0 where
+pub record IsFrontOf (client : ClientCoreState) (printers : List (ℕ × PrinterNames)) (ids : List ℕ) (turns : List (DeskTurn ServedDeviceState)) (s : FrontState) : Type 0 where
   pub is : s ≡ record { client = client; printers = printers; cache = []; desks = s.desks; kept = None; channel = 0; on = false; over = false; unsent = 0 }
   pub ids_are : map (λ (d : DeviceDeskState). d.id) s.desks ≡ ids
   pub turns_are : map (λ (d : DeviceDeskState). d.turn) s.desks ≡ turns
   pub unseen : All (λ (d : DeviceDeskState). (d.pass).seen ≡ []) s.desks
 
 -- There is one history of such a front, by which all was served.
-pub record ServesFront (client : ClientCoreState) (printers : List (ℕ × PrinterNames)) (ids : List ℕ) (turns : List (DeskTurn SessionDevice)) (lines : List AtLine) (channels : ℕ) (by : Ended) (old new : LinkerTold) : Type 0 where
+pub record ServesFront (client : ClientCoreState) (printers : List (ℕ × PrinterNames)) (ids : List ℕ) (turns : List (DeskTurn ServedDeviceState)) (lines : List AtLine) (channels : ℕ) (by : Ended) (old new : LinkerTold) : Type 0 where
   pub opening : FrontState
   pub last : FrontState
   pub entries : List FrontEntry
@@ -79,34 +87,80 @@ pub record ServesFront (client : ClientCoreState) (printers : List (ℕ × Print
   pub served : ServesEntries lines channels by entries old new
 
 -- And the passes that the front had at the end of it came home to these.
-pub record ServesHome (client : ClientCoreState) (printers : List (ℕ × PrinterNames)) (ids : List ℕ) (turns : List (DeskTurn SessionDevice)) (passes : List SessionPass) (lines : List AtLine) (channels : ℕ) (by : Ended) (old new : LinkerTold) : Type 0 where
+pub record ServesHome (client : ClientCoreState) (printers : List (ℕ × PrinterNames)) (ids : List ℕ) (turns : List (DeskTurn ServedDeviceState)) (passes : List SessionPass) (lines : List AtLine) (channels : ℕ) (by : Ended) (old new : LinkerTold) : Type 0 where
   pub front : ServesFront client printers ids turns lines channels by old new
   pub home : FrontCameHome front.last turns passes
 
 -- Devices were served by a front over their stations, up to some end, and these are the journals of the stations, by the ids of the devices: each station was led there by the calls that the
 -- front's pass had seen at the end of its history, and then by calls of hands.
-pub record ServesJournals (devices : List (ℕ × Declared)) (lines : List AtLine) (channels : ℕ) (by : Ended) (journals : List (ℕ × List Item)) (old new : LinkerTold) : Type 0 where
+pub record ServesJournals (devices : List (ℕ × ServedDeclared)) (lines : List AtLine) (channels : ℕ) (by : Ended) (journals : List (ℕ × List Item)) (old new : LinkerTold) : Type 0 where
   pub announced : List Announce
   pub printers : List (ℕ × PrinterNames)
   pub ids : List ℕ
-  pub turns : List (DeskTurn SessionDevice)
-  pub opens : Opens devices (zip ids (map (λ (t : DeskTurn SessionDevice). t.opening) turns)) announced printers
+  pub turns : List (DeskTurn ServedDeviceState)
+  pub opens : OpensServed devices (zip ids (map (λ (t : DeskTurn ServedDeviceState). t.opening) turns)) announced printers
   pub front : ServesFront (new_client announced) printers ids turns lines channels by old new
   pub stations : List SessionStation
   pub closes : AllZip ClosesAfter (front.last).desks stations
   pub journals_are : journals ≡ zip ids (map (λ (s : SessionStation). s.journal) stations)
 
--- The same, and the journals are those in the books.
-abbrev pub ServesBooks : List (ℕ × Declared) → List AtLine → ℕ → Ended → List (ℕ × History) → (old new : LinkerTold) → Type 0
-ServesBooks devices lines channels by books old new = ServesJournals devices lines channels by (journals_of books) old new
+-- The same, and the journals are those in the books; and the folders of the devices were closed, by which their faults were counted, and nothing else was.
+pub record ServesBooks (devices : List (ℕ × ServedDeclared)) (lines : List AtLine) (channels : ℕ) (by : Ended) (books : List (ℕ × History)) (old new : LinkerTold) (before after : ToldFolders) : Type 0 where
+  pub journals : ServesJournals devices lines channels by (journals_of books) old new
+  pub trouble : after.trouble ≡ trouble_after before.trouble (station_devices journals.stations)
 
--- Memory ran out: before anything was connected, and the books have nothing; or as the journals were stored, and the books have the first of them.
-abbrev pub ServesStarved : List (ℕ × Declared) → List AtLine → ℕ → List (ℕ × History) → (old new : LinkerTold) → Type 0
-ServesStarved devices lines channels books old new =
-    ((new ≡ old) × (books ≡ [])) ⊎ ((by : Ended) × (journals : List (ℕ × List Item)) × ServesJournals devices lines channels by journals old new × StoresSome journals books)
+-- The devices of lines were opened, and served on so many channels, up to this end, and their journals are in the books. No opening of a folder failed.
+pub record ServesLines (lines : List NumberedLine) (channels : ℕ) (by : Ended) (books : List (ℕ × History)) (old new : LinkerTold) (before after : ToldFolders) : Type 0 where
+  pub devices : List (ℕ × ServedDeclared)
+  pub are : AreServedDevices (bare_lines lines) before.opened after.opened devices
+  pub served : ServesBooks devices (at_lines lines) channels by books old new before after
+  pub failures : after.failures ≡ before.failures
 
--- The devices of a script's lines were served, on as many channels as these say, up to this end, and their journals are in the books, or as many as there was memory for.
-abbrev pub HasServedLines : List NumberedLine → Ended → List (ℕ × History) → (old new : LinkerTold) → Type 0
-HasServedLines lines by books old new =
-    ServesBooks (declared_devices (bare_lines lines)) (at_lines lines) (channels_of lines) by books old new
-    ⊎ ((by ≡ ended.Memory) × ServesStarved (declared_devices (bare_lines lines)) (at_lines lines) (channels_of lines) books old new)
+-- Devices were served, and memory ran out as the journals were stored: the books have the first of them.
+pub record StoresFirst (lines : List NumberedLine) (channels : ℕ) (books : List (ℕ × History)) (old new : LinkerTold) (before after : ToldFolders) : Type 0 where
+  pub devices : List (ℕ × ServedDeclared)
+  pub are : AreServedDevices (bare_lines lines) before.opened after.opened devices
+  pub by : Ended
+  pub journals : List (ℕ × List Item)
+  pub served : ServesJournals devices (at_lines lines) channels by journals old new
+  pub stored : StoresSome journals books
+
+-- Memory ran out: before anything was connected, and the books have nothing; or as the journals were stored. No opening of a folder failed.
+abbrev pub ServesStarved : List NumberedLine → ℕ → List (ℕ × History) → (old new : LinkerTold) → (before after : ToldFolders) → Type 0
+ServesStarved lines channels books old new before after =
+    (after.failures ≡ before.failures) × (((new ≡ old) × (books ≡ [])) ⊎ StoresFirst lines channels books old new before after)
+
+-- The folder of one of the devices of lines couldn't be opened, which was counted: nothing was connected, the books have nothing, and no folder that was closed again had a fault.
+pub record IsUnopened (lines : List NumberedLine) (device : ℕ) (books : List (ℕ × History)) (old new : LinkerTold) (before after : ToldFolders) : Type 0 where
+  pub declared : Contains (keys_of (folder_devices (bare_lines lines))) device
+  pub risen : HasRisen before.failures after.failures
+  pub unserved : new ≡ old
+  pub unstored : books ≡ []
+  pub untroubled : after.trouble ≡ before.trouble
+
+-- why devices weren't served to an end that is stored whole
+abbrev pub StopsServing : List NumberedLine → ℕ → OpeningNo → List (ℕ × History) → (old new : LinkerTold) → (before after : ToldFolders) → Type 0
+StopsServing lines channels (no.Folder device) books old new before after = IsUnopened lines device books old new before after
+StopsServing lines channels no.Memory books old new before after = ServesStarved lines channels books old new before after
+
+-- The devices of a script's lines were opened and served, on as many channels as these say, up to this end, and their journals are in the books, or as many as there was memory for; or the
+-- folder of one of them couldn't be opened.
+abbrev pub HasServedLines : List NumberedLine → ClientEnded → List (ℕ × History) → (old new : LinkerTold) → (before after : ToldFolders) → Type 0
+HasServedLines lines (client.Ended by) books old new before after =
+    ServesLines lines (channels_of lines) by books old new before after ⊎ ((by ≡ ended.Memory) × ServesStarved lines (channels_of lines) books old new before after)
+HasServedLines lines (client.Folder device) books old new before after = IsUnopened lines device books old new before after
+
+-- what is said where the folder of a device couldn't be opened
+abbrev pub OnFolderNo : OpeningNo → Type 0 → Type 0
+OnFolderNo (no.Folder device) P = P
+OnFolderNo no.Memory P = Unit {0}
+
+-- the same of the end of a client
+abbrev pub OnFolder : ClientEnded → Type 0 → Type 0
+OnFolder (client.Ended by) P = Unit {0}
+OnFolder (client.Folder device) P = P
+
+-- what is said of the end of a client that had its devices open, or found no memory
+abbrev pub IfServed : ClientEnded → (Ended → Type 0) → Type 0
+IfServed (client.Ended by) P = P by
+IfServed (client.Folder device) P = Unit {0}

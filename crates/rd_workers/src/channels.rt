@@ -11,6 +11,7 @@ ghost use Rattle.rd_world.specs.Opening.{AreDeclared};
 use crate::due::Due;
 use crate::reader::{Ending, Reader};
 use rd_carry::{Ended, Incoming, Outgoing};
+use rd_folder::Folder;
 use rd_front::{FrontCall, FrontReply};
 use rd_link::Linker;
 use rd_pool::Outside;
@@ -75,11 +76,12 @@ pub(crate) fn serve_channels<
     T: Wait,
     L: Linker,
     X: Outside,
+    M: Folder + Drop,
 >(
     alloc: Global,
     plan: Plan<'_>,
     linker: &mut L,
-    reader: &mut Reader<'s, 'w, 'f, 'g, 'a, F, T, L::Out, X>,
+    reader: &mut Reader<'s, 'w, 'f, 'g, 'a, F, T, L::Out, X, M>,
     buffer: Vec<u8>,
 ) -> Ended
     requires room { 0 < length buffer.items }
@@ -117,11 +119,12 @@ fn serve_channel<
     T: Wait,
     L: Linker,
     X: Outside,
+    M: Folder + Drop,
 >(
     alloc: Global,
     channel: u32,
     linker: &mut L,
-    reader: &mut Reader<'s, 'w, 'f, 'g, 'a, F, T, L::Out, X>,
+    reader: &mut Reader<'s, 'w, 'f, 'g, 'a, F, T, L::Out, X, M>,
     due: &mut Due<'_>,
     buffer: Vec<u8>,
 ) -> Result<(Vec<u8>, bool), Ended>

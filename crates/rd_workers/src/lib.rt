@@ -3,6 +3,7 @@
 
 mod bells;
 mod channels;
+mod client_ended;
 mod due;
 mod places;
 mod reader;
@@ -10,5 +11,6 @@ mod session;
 mod storing;
 mod writer;
 
+pub use client_ended::ClientEnded;
 pub use due::{Act, AtLine};
 pub use session::serve_client;

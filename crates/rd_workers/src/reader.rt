@@ -21,12 +21,13 @@ use crate::writer::{Writer, WriterCall, WriterReply};
 use rd_base::Source;
 use rd_carry::{CarryNo, EndWhy, Incoming, Outgoing};
 use rd_desk::Batch;
+use rd_folder::Folder;
 use rd_front::{FrontCall, FrontReply};
 use rd_hello::EndFault;
 use rd_link::Hang;
 use rd_pool::{Hands, Outside};
+use rd_served_devices::ServedDevice;
 use rd_turn::{Caller, Object};
-use rd_world::SessionDevice;
 use std::marker::Model;
 use std::sync::Wait;
 use std::thread;
@@ -66,11 +67,12 @@ pub(crate) struct Reader<
     T: Wait,
     K: Hang + Drop,
     X: Outside,
+    M: Folder + Drop,
 > {
     rt: &'s T,
     front: Caller<'g, F>,
     writer: Caller<'w, Writer<'f, F, T, K>>,
-    hands: Hands<'a, SessionDevice>,
+    hands: Hands<'a, ServedDevice<M>>,
     /// What its hands give back, but while they work.
     batch: Option<Batch>,
     outside: &'s X,
@@ -96,7 +98,8 @@ impl<
     T: Wait,
     K: Hang + Drop,
     X: Outside,
-> Model for Reader<'s, 'w, 'f, 'g, 'a, F, T, K, X> {
+    M: Folder + Drop,
+> Model for Reader<'s, 'w, 'f, 'g, 'a, F, T, K, X, M> {
     ghost use Rattle.std.specs.Prelude.{◌≡◌, [], length, map, All, IfSome};
     ghost use Rattle.rd_pool.specs.Desks.{KeepsMoment};
     ghost use Rattle.rd_turn.specs.History.{calls_of};
@@ -128,12 +131,13 @@ impl<
     T: Wait,
     K: Hang + Drop,
     X: Outside,
-> Reader<'s, 'w, 'f, 'g, 'a, F, T, K, X> {
+    M: Folder + Drop,
+> Reader<'s, 'w, 'f, 'g, 'a, F, T, K, X, M> {
     pub(crate) fn new(
         rt: &'s T,
         front: Caller<'g, F>,
         writer: Caller<'w, Writer<'f, F, T, K>>,
-        hands: Hands<'a, SessionDevice>,
+        hands: Hands<'a, ServedDevice<M>>,
         batch: Batch,
         outside: &'s X,
         bells: &'s Bells,
@@ -175,7 +179,7 @@ impl<
     ) -> (
         Caller<'g, F>,
         Caller<'w, Writer<'f, F, T, K>>,
-        Hands<'a, SessionDevice>,
+        Hands<'a, ServedDevice<M>>,
     )
         ensures parts { record {
           front = caller_id result.0.turn.now result.0.pass;
@@ -556,7 +560,8 @@ impl<
     T: Wait,
     K: Hang + Drop,
     X: Outside,
-> Drop for Reader<'s, 'w, 'f, 'g, 'a, F, T, K, X> {
+    M: Folder + Drop,
+> Drop for Reader<'s, 'w, 'f, 'g, 'a, F, T, K, X, M> {
     fn drop(self) {
         let Self {
             rt: _,

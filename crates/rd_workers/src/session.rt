@@ -1,9 +1,11 @@
 //! A client's session: its devices, its threads, and one channel after the other.
 
-ghost use Rattle.std.specs.Prelude.{◌≡◌, ◌<◌, ◌≤◌, [], length, map, All, IfOk, IfSome, IsTrue, OnErr, Some, is_some};
+ghost use Rattle.std.specs.Prelude.{◌≡◌, ◌<◌, ◌≤◌, [], length, map, All, IfErr, IfOk, IfSome, IsTrue, OnErr, Some, is_some};
 ghost use Rattle.std.specs.List.{AllZip};
 ghost use Rattle.std.specs.Thread.{IsSend, IsSync};
 ghost use Rattle.rd_pool.specs.Desks.{AllByHandBut, IsFirst, IsOther, KeepsMoment};
+ghost use Rattle.rd_served_devices.specs.ServedDevices.{IsServedReached};
+ghost use Rattle.rd_sharing.specs.ServedOpening.{folders_told};
 ghost use Rattle.rd_turn.specs.History.{calls_of};
 ghost use Rattle.rd_turn.specs.Pass.{Belongs, first_pass};
 ghost use Rattle.rd_workers.specs.Books.{AreLawfulBooks, RunAtTold};
@@ -12,26 +14,28 @@ ghost use Rattle.rd_workers.specs.Channels.{told_as};
 ghost use Rattle.rd_workers.specs.Lines.{at_lines};
 ghost use Rattle.rd_workers.specs.Logs.{AllWrite};
 ghost use Rattle.rd_workers.specs.Passes.{AreNew, ComesBack, IsRejoined, IsPassOf, IsUnused};
-ghost use Rattle.rd_workers.specs.Served.{HasServedLines, IsRead, ServesBooks, ServesEntries, ServesHome, ServesStarved};
-ghost use Rattle.rd_world.specs.Run.{declared_devices};
-ghost use Rattle.rd_world.specs.Opening.{AreDeclared, bare_lines};
-ghost use Rattle.rd_world.specs.Stations.{IsReachedBy};
+ghost use Rattle.rd_workers.specs.Served.{HasServedLines, IfServed, IsRead, OnFolder, OnFolderNo, ServesEntries, ServesHome, ServesLines, StopsServing};
+ghost use Rattle.rd_world.specs.Opening.{AreDeclared};
 
 use crate::bells::Bells;
 use crate::channels::{Plan, plan_of, serve_channels};
+use crate::client_ended::ClientEnded;
 use crate::reader::Reader;
-use crate::storing::{desks_of, store_all};
+use crate::storing::{open_desks, store_all};
 use crate::writer::{Writer, WriterCall};
 use rd_base::Books;
 use rd_carry::Ended;
 use rd_desk::Batch;
+use rd_folder::{Folder, Folders};
 use rd_front::{DeviceDesk, Front, FrontCall, FrontReply, fronts_call_desks};
 use rd_link::{Clock, Gate, Hang, Linker};
 use rd_pool::{AfterGate, Bell, Desks, Hands, Homecoming, Outside, Passes, with_workers};
 use rd_room::Room;
 use rd_script::Script;
+use rd_served_devices::ServedDevice;
+use rd_sharing::{OpeningNo, ServedOpening, open_served};
 use rd_turn::{Caller, Object, Pass, Turn};
-use rd_world::{Client, Opening, Printers, SessionDevice, open_devices};
+use rd_world::{Client, Printers};
 use std::alloc::{AllocError, Global};
 use std::sync::Wait;
 use std::thread::{Threads, join};
@@ -42,56 +46,81 @@ const READ_LEN: usize = 65_536;
 /// How many messages the writer takes from the front in one call.
 const ROOM: usize = 64;
 
-/// Serves the devices of a script on one channel after the other, as many as it says, and stores their journals at the end.
-pub fn serve_client<R: Threads + Wait + Sync, L: Linker, C: Clock + Sync, G: Gate + Sync>(
+/// Opens the devices of a script, serves them on one channel after the other, as many as it says, and stores their journals and closes their folders at the
+/// end.
+pub fn serve_client<
+    R: Threads + Wait + Sync,
+    L: Linker,
+    D: Folders,
+    C: Clock + Sync,
+    G: Gate + Sync,
+>(
     rt: &R,
     alloc: Global,
     script: &Script,
     linker: &mut L,
+    folders: &mut D,
     clock: &C,
     gate: &G,
     books: &mut Books,
-) -> Ended
+) -> ClientEnded
     requires declared { AreDeclared script.now.lines }
     requires books { books.old ≡ [] }
-    ensures served { HasServedLines script.now.lines result books.new (told_as (L.linked linker.old) (L.failures linker.old)) (told_as (L.linked linker.new) (L.failures linker.new)) }
-    ensures faults { TellsFaults result (L.failures linker.old) (L.failures linker.new) (L.trouble linker.old) (L.trouble linker.new) }
+    ensures served { HasServedLines script.now.lines result books.new (told_as (L.linked linker.old) (L.failures linker.old)) (told_as (L.linked linker.new) (L.failures linker.new))
+        (folders_told (D.opened folders.old) (D.failures folders.old) (D.trouble folders.old)) (folders_told (D.opened folders.new) (D.failures folders.new) (D.trouble folders.new)) }
+    ensures unlinked { OnFolder result (linker.new ≡ linker.old) }
+    ensures faults { IfServed result (λ ended. TellsFaults ended (L.failures linker.old) (L.failures linker.new) (L.trouble linker.old) (L.trouble linker.new)) }
     ensures books { AreLawfulBooks books.new × RunAtTold (C.moment clock.now) books.new }
 {
     let plan = plan_of(script.lines.as_slice());
     let outside = AfterGate { alloc, clock, gate };
-    match serve(rt, alloc, plan, linker, &outside, gate.holds(), books) {
-        Ok(ended) => ended,
-        Err(_) => Ended::Memory,
+    match serve(
+        rt,
+        alloc,
+        plan,
+        linker,
+        folders,
+        &outside,
+        gate.holds(),
+        books,
+    ) {
+        Ok(ended) => ClientEnded::Ended(ended),
+        Err(OpeningNo::Folder { device }) => ClientEnded::Folder { device },
+        Err(OpeningNo::Memory) => ClientEnded::Ended(Ended::Memory),
     }
 }
 
 /// The same, over what stands between taking a job and running it.
-fn serve<R: Threads + Wait + Sync, L: Linker, X: Outside + Sync>(
+fn serve<R: Threads + Wait + Sync, L: Linker, D: Folders, X: Outside + Sync>(
     rt: &R,
     alloc: Global,
     plan: Plan<'_>,
     linker: &mut L,
+    folders: &mut D,
     outside: &X,
     holds: bool,
     books: &mut Books,
-) -> Result<Ended, AllocError>
+) -> Result<Ended, OpeningNo>
     requires declared { AreDeclared plan.lines.now }
     requires few { plan.workers ≤ 16 }
     requires books { books.old ≡ [] }
-    ensures served { IfOk result (λ ended. ServesBooks (declared_devices (bare_lines plan.entry.lines.now)) (at_lines plan.entry.lines.now) plan.entry.channels ended books.new (told_as (L.linked linker.old) (L.failures linker.old)) (told_as (L.linked linker.new) (L.failures linker.new))) }
-    ensures err { OnErr result (ServesStarved (declared_devices (bare_lines plan.entry.lines.now)) (at_lines plan.entry.lines.now) plan.entry.channels books.new (told_as (L.linked linker.old) (L.failures linker.old)) (told_as (L.linked linker.new) (L.failures linker.new))) }
+    ensures served { IfOk result (λ ended. ServesLines plan.entry.lines.now plan.entry.channels ended books.new (told_as (L.linked linker.old) (L.failures linker.old)) (told_as (L.linked linker.new) (L.failures linker.new))
+        (folders_told (D.opened folders.old) (D.failures folders.old) (D.trouble folders.old)) (folders_told (D.opened folders.new) (D.failures folders.new) (D.trouble folders.new))) }
+    ensures err { IfErr result (λ no. StopsServing plan.entry.lines.now plan.entry.channels no books.new (told_as (L.linked linker.old) (L.failures linker.old)) (told_as (L.linked linker.new) (L.failures linker.new))
+        (folders_told (D.opened folders.old) (D.failures folders.old) (D.trouble folders.old)) (folders_told (D.opened folders.new) (D.failures folders.new) (D.trouble folders.new))) }
+    ensures unlinked { IfErr result (λ no. OnFolderNo no (linker.new ≡ linker.old)) }
     ensures faults { IfOk result (λ ended. TellsFaults ended (L.failures linker.old) (L.failures linker.new) (L.trouble linker.old) (L.trouble linker.new)) }
     ensures lawful { AreLawfulBooks books.new }
     ensures moments { RunAtTold (X.moment outside.now) books.new }
 {
-    let Opening {
+    let ServedOpening {
+        ids,
         stations,
         devices,
         printers,
-    } = open_devices(alloc, plan.lines)?;
+    } = open_served(alloc, plan.lines, folders)?;
     let client = Client::new(alloc, devices)?;
-    let (ids, desks, passes) = desks_of(alloc, stations)?;
+    let (desks, passes) = open_desks(alloc, ids.as_slice(), stations)?;
     let (ended, passes) = serve_desks(
         rt,
         alloc,
@@ -105,12 +134,12 @@ fn serve<R: Threads + Wait + Sync, L: Linker, X: Outside + Sync>(
         &desks,
         passes,
     )?;
-    store_all(ids.as_slice(), desks.close(passes), books)?;
+    store_all(ids.as_slice(), desks.close(passes), books, folders)?;
     Ok(ended)
 }
 
 /// Serves these desks. Their passes come home.
-fn serve_desks<'a, R: Threads + Wait + Sync, L: Linker, X: Outside + Sync>(
+fn serve_desks<'a, R: Threads + Wait + Sync, L: Linker, X: Outside + Sync, M: Folder + Send + Drop>(
     rt: &'a R,
     alloc: Global,
     plan: Plan<'_>,
@@ -120,13 +149,13 @@ fn serve_desks<'a, R: Threads + Wait + Sync, L: Linker, X: Outside + Sync>(
     client: Client,
     printers: Printers,
     ids: &[u32],
-    desks: &'a Desks<SessionDevice>,
-    passes: Passes<SessionDevice>,
-) -> Result<(Ended, Passes<SessionDevice>), AllocError>
+    desks: &'a Desks<ServedDevice<M>>,
+    passes: Passes<ServedDevice<M>>,
+) -> Result<(Ended, Passes<ServedDevice<M>>), AllocError>
     requires same { length ids.now ≡ length desks.now.turns }
     requires first { AllZip IsFirst desks.now.turns passes }
     requires new { AreNew passes }
-    requires reached { All (λ turn. IsReachedBy turn.opening) desks.now.turns }
+    requires reached { All (λ turn. IsServedReached turn.opening) desks.now.turns }
     requires begins { passes ≡ map first_pass desks.now.turns }
     requires few { plan.workers ≤ 16 }
     ensures first { IfOk result (λ given. AllZip IsFirst desks.now.turns given.1) }
@@ -164,6 +193,7 @@ fn serve_front<
     R: Threads + Wait + Sync,
     L: Linker,
     X: Outside + Sync,
+    M: Folder + Send + Drop,
 >(
     rt: &'f R,
     alloc: Global,
@@ -173,10 +203,18 @@ fn serve_front<
     holds: bool,
     turn: &'f Turn<F>,
     pass: Pass<F>,
-    desks: &'a Desks<SessionDevice>,
-    hands: Hands<'a, SessionDevice>,
-    passes: Passes<SessionDevice>,
-) -> Result<(Ended, Pass<F>, Passes<SessionDevice>, Passes<SessionDevice>), AllocError>
+    desks: &'a Desks<ServedDevice<M>>,
+    hands: Hands<'a, ServedDevice<M>>,
+    passes: Passes<ServedDevice<M>>,
+) -> Result<
+    (
+        Ended,
+        Pass<F>,
+        Passes<ServedDevice<M>>,
+        Passes<ServedDevice<M>>,
+    ),
+    AllocError,
+>
     requires own { Belongs turn.now pass }
     requires unused { IsUnused pass }
     requires turns { map (λ hand. hand.turn) hands ≡ desks.now.turns }
@@ -244,6 +282,7 @@ fn serve_with_workers<
     R: Threads + Wait + Sync,
     L: Linker,
     X: Outside + Sync,
+    M: Folder + Send + Drop,
 >(
     rt: &R,
     alloc: Global,
@@ -254,13 +293,13 @@ fn serve_with_workers<
     front: Caller<'g, F>,
     caller: Caller<'w, Writer<'f, F, R, L::Out>>,
     other: Caller<'v, Writer<'f, F, R, L::Out>>,
-    hands: Hands<'a, SessionDevice>,
+    hands: Hands<'a, ServedDevice<M>>,
     batch: Batch,
     buffer: Vec<u8>,
     bells: &Bells,
-    desks: &'a Desks<SessionDevice>,
-    passes: Passes<SessionDevice>,
-    home: &mut Option<Home<'v, 'w, 'f, 'g, F, R, L::Out>>,
+    desks: &'a Desks<ServedDevice<M>>,
+    passes: Passes<ServedDevice<M>>,
+    home: &mut Option<Home<'v, 'w, 'f, 'g, F, R, L::Out, M>>,
 ) -> &'l mut L
     requires none { batch ≡ [] }
     requires places { length hands ≡ bells.now }
@@ -297,8 +336,8 @@ fn serve_with_workers<
         &bells.workers,
         &bells.writer,
         u64::from(plan.workers),
-        || -> (Caller<Writer<F, R, L::Out>>, Read<F, R, L::Out>, &mut L)
-            requires { IsSend F.row × IsSend L.In.row × IsSend L.Out.row × IsSync R.row × IsSync X.row × (batch ≡ []) × (length hands ≡ bells.now) × (0 < length buffer.items)
+        || -> (Caller<Writer<F, R, L::Out>>, Read<F, R, L::Out, M>, &mut L)
+            requires { IsSend F.row × IsSend M.row × IsSend L.In.row × IsSend L.Out.row × IsSync R.row × IsSync X.row × (batch ≡ []) × (length hands ≡ bells.now) × (0 < length buffer.items)
                 × (calls_of front.pass.number front.pass.seen ≡ []) × (calls_of caller.pass.number caller.pass.seen ≡ []) × (calls_of other.pass.number other.pass.seen ≡ [])
                 × All (KeepsMoment (X.moment outside.now)) (map (λ hand. hand.pass) hands) }
             ensures { ComesBack other.entry.turn.now other.entry.pass result.0.pass × AllWrite (calls_of result.0.pass.number result.0.pass.seen)
@@ -332,10 +371,11 @@ struct Home<
     F: Object<Call = FrontCall, Reply = FrontReply>,
     T: Wait,
     K: Hang + Drop,
+    M: Folder + Drop,
 > {
     other: Caller<'v, Writer<'f, F, T, K>>,
-    read: Read<'w, 'f, 'g, F, T, K>,
-    passes: Passes<SessionDevice>,
+    read: Read<'w, 'f, 'g, F, T, K, M>,
+    passes: Passes<ServedDevice<M>>,
 }
 
 fn home_of<
@@ -346,7 +386,8 @@ fn home_of<
     F: Object<Call = FrontCall, Reply = FrontReply>,
     T: Wait,
     K: Hang + Drop,
->(home: Option<Home<'v, 'w, 'f, 'g, F, T, K>>) -> Home<'v, 'w, 'f, 'g, F, T, K>
+    M: Folder + Drop,
+>(home: Option<Home<'v, 'w, 'f, 'g, F, T, K, M>>) -> Home<'v, 'w, 'f, 'g, F, T, K, M>
     requires { IsTrue (is_some home) }
     ensures { home.entry ≡ Some result }
 {
@@ -358,11 +399,19 @@ fn home_of<
 
 /// What the reader gives back at the end: how the session ended, and its passes of the front, of the writer and of the desks.
 #[derive(Drop)]
-struct Read<'w, 'f, 'g, F: Object<Call = FrontCall, Reply = FrontReply>, T: Wait, K: Hang + Drop> {
+struct Read<
+    'w,
+    'f,
+    'g,
+    F: Object<Call = FrontCall, Reply = FrontReply>,
+    T: Wait,
+    K: Hang + Drop,
+    M: Folder + Drop,
+> {
     ended: Ended,
     front: Caller<'g, F>,
     writer: Caller<'w, Writer<'f, F, T, K>>,
-    hands: Passes<SessionDevice>,
+    hands: Passes<ServedDevice<M>>,
 }
 
 /// The writer's thread, and in this one the reader. The linker comes back, so that what became of it is known.
@@ -377,6 +426,7 @@ fn serve_threads<
     R: Threads + Wait + Sync,
     L: Linker,
     X: Outside + Sync,
+    M: Folder + Send + Drop,
 >(
     rt: &R,
     alloc: Global,
@@ -387,13 +437,13 @@ fn serve_threads<
     front: Caller<'g, F>,
     caller: Caller<'w, Writer<'f, F, R, L::Out>>,
     other: Caller<'v, Writer<'f, F, R, L::Out>>,
-    hands: Hands<'a, SessionDevice>,
+    hands: Hands<'a, ServedDevice<M>>,
     batch: Batch,
     buffer: Vec<u8>,
     bells: &Bells,
 ) -> (
     Caller<'v, Writer<'f, F, R, L::Out>>,
-    Read<'w, 'f, 'g, F, R, L::Out>,
+    Read<'w, 'f, 'g, F, R, L::Out, M>,
     &'l mut L,
 )
     requires none { batch ≡ [] }
@@ -417,7 +467,7 @@ fn serve_threads<
     let (other, (read, linker)) = join(
         rt,
         || write_where_rung(rt, &bells.writer, other),
-        || -> (Read<F, R, L::Out>, &mut L)
+        || -> (Read<F, R, L::Out, M>, &mut L)
             requires { (batch ≡ []) × (length hands ≡ bells.now) × (0 < length buffer.items) × (calls_of front.pass.number front.pass.seen ≡ []) × (calls_of caller.pass.number caller.pass.seen ≡ [])
                 × All (KeepsMoment (X.moment outside.now)) (map (λ hand. hand.pass) hands) }
             ensures { (result.1.ghost_name ≡ linker.entry.ghost_name)
@@ -472,6 +522,7 @@ fn read_all<
     T: Wait,
     L: Linker,
     X: Outside,
+    M: Folder + Drop,
 >(
     rt: &T,
     alloc: Global,
@@ -481,11 +532,11 @@ fn read_all<
     holds: bool,
     front: Caller<'g, F>,
     caller: Caller<'w, Writer<'f, F, T, L::Out>>,
-    hands: Hands<'a, SessionDevice>,
+    hands: Hands<'a, ServedDevice<M>>,
     batch: Batch,
     buffer: Vec<u8>,
     bells: &Bells,
-) -> Read<'w, 'f, 'g, F, T, L::Out>
+) -> Read<'w, 'f, 'g, F, T, L::Out, M>
     requires none { batch ≡ [] }
     requires places { length hands ≡ bells.now }
     requires room { 0 < length buffer.items }
@@ -513,15 +564,15 @@ fn read_all<
 }
 
 /// The front's desks.
-fn device_desks<'a>(
+fn device_desks<'a, M: Folder + Drop>(
     alloc: Global,
     ids: &[u32],
-    desks: &'a Desks<SessionDevice>,
-    own: Passes<SessionDevice>,
-) -> Result<Vec<DeviceDesk<'a>>, AllocError>
+    desks: &'a Desks<ServedDevice<M>>,
+    own: Passes<ServedDevice<M>>,
+) -> Result<Vec<DeviceDesk<'a, M>>, AllocError>
     requires others { AllZip IsOther desks.now.turns own }
     requires same { length ids.now ≡ length desks.now.turns }
-    requires reached { All (λ turn. IsReachedBy turn.opening) desks.now.turns }
+    requires reached { All (λ turn. IsServedReached turn.opening) desks.now.turns }
     ensures turns { IfOk result (λ list. map (λ desk. desk.turn) list.items ≡ desks.now.turns) }
     ensures passes { IfOk result (λ list. map (λ desk. desk.pass) list.items ≡ own) }
     ensures ids { IfOk result (λ list. map (λ desk. desk.id) list.items ≡ ids.now) }
@@ -537,10 +588,10 @@ fn device_desks<'a>(
 }
 
 /// The front's passes come home.
-fn passes_of<'a>(
-    home: Homecoming<SessionDevice>,
-    desks: Vec<DeviceDesk<'a>>,
-) -> Passes<SessionDevice>
+fn passes_of<'a, M: Folder + Drop>(
+    home: Homecoming<ServedDevice<M>>,
+    desks: Vec<DeviceDesk<'a, M>>,
+) -> Passes<ServedDevice<M>>
     requires none { home.home ≡ [] }
     requires room { length desks.items ≤ home.to_come }
     ensures { AllZip IsPassOf desks.entry.items result }

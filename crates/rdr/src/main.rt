@@ -1,10 +1,11 @@
 //! `rdr`: both ends of Remote Desktop drive redirection.
 //!
-//! It makes the real input, output, recording, notes, linker and clock, a line each, and leaves the rest to `rd_cli::program`.
+//! It makes the real input, output, recording, notes, linker, folders and clock, a line each, and leaves the rest to `rd_cli::program`.
 #![tactic(auto)]
 
 use rd_base::{FileSink, StdSink, StdSource};
 use rd_cli::{client_path_of, host_path_of, program, words_of};
+use rd_folder::StdFolders;
 use rd_link::NoGate;
 use rd_unix::{SystemClock, UnixLinker};
 use std::alloc::AllocError;
@@ -41,6 +42,7 @@ fn main(rt: HostRuntime) -> ExitCode {
     let mut recording = FileSink::new(&rt, RECORDING);
     let mut notes = StdSink::new(rt.stderr());
     let mut linker = linker_at(&rt, host, path);
+    let mut folders = StdFolders::new(&rt);
     let clock = SystemClock::new(&rt);
     let code = program(
         &rt,
@@ -51,6 +53,7 @@ fn main(rt: HostRuntime) -> ExitCode {
         &mut recording,
         &mut notes,
         &mut linker,
+        &mut folders,
         &clock,
         &NoGate {},
     );
@@ -58,6 +61,7 @@ fn main(rt: HostRuntime) -> ExitCode {
     say_why(&rt, "standard output", output.last_error());
     say_why(&rt, RECORDING, recording.last_error());
     say_why(&rt, path, linker.last_error());
+    say_why(&rt, "folders", folders.last_error());
     code
 }
 

@@ -8,6 +8,7 @@
 
 use anyhow::{Context, Result, bail};
 use rd_base::{Books, Bytes, Calls, MemSink, MemSource, PlainSink};
+use rd_folder::MemFolders;
 use rd_link::{FixedClock, MemLinker, NoGate};
 use std::fs;
 use std::io::ErrorKind;
@@ -149,8 +150,9 @@ fn left_by<R: Threads + Wait + Sync + Files + AllocGlobal>(
     let mut output = MemSink::new(rt.alloc(), never.copy()?);
     let mut recording = MemSink::new(rt.alloc(), never.copy()?);
     let mut books = Books::new(rt.alloc());
-    // No example is a client, so nothing is connected.
-    let mut linker = MemLinker::new(rt.alloc(), Vec::new(rt.alloc()), never)?;
+    // No example is a client, so nothing is connected, and no folder opened.
+    let mut linker = MemLinker::new(rt.alloc(), Vec::new(rt.alloc()), never.copy()?)?;
+    let mut folders = MemFolders::new(rt.alloc(), Vec::new(rt.alloc()), never)?;
     let status = rd_cli::run(
         rt,
         rt.alloc(),
@@ -160,6 +162,7 @@ fn left_by<R: Threads + Wait + Sync + Files + AllocGlobal>(
         &mut recording,
         &mut PlainSink::new(),
         &mut linker,
+        &mut folders,
         &FixedClock(0),
         &NoGate {},
         &mut books,

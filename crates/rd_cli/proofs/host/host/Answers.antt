@@ -13,7 +13,7 @@ serve_host-ended-requires-after_bounds g c κs within =
 
 pub returns-in-Ok : goal.returns-in-Ok
 returns-in-Ok g c = λ moment.
-    told_end _ _ _ _ _ _ _ _ c.serve_host-ended.result.0
+    told_end _ _ _ _ _ _ _ _ _ c.serve_host-ended.result.0
     (record {
       script = c.in-Ok.script;
       reads = c.in-Ok.ensures.script;
@@ -28,4 +28,4 @@ returns-in-Ok g c = λ moment.
     c.outcome_text-text.result c.outcome_text-text.ensures c.end_served.ensures.told c.end_served.ensures.starved
 
 pub returns-in-Err : goal.returns-in-Err
-returns-in-Err g c = λ moment. stopped_end _ _ _ _ _ _ _ _ c.in-Err.stop c.in-Err.ensures.err refl c.end.ensures
+returns-in-Err g c = λ moment. stopped_end _ _ _ _ _ _ _ _ _ c.in-Err.stop c.in-Err.ensures.err refl c.end.ensures

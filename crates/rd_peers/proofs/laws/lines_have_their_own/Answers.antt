@@ -19,9 +19,9 @@ use Rattle.std.proofs.Common.{◌∙◌, ℕ, List, [], Contains, ap, arith, ref
 use Rattle.rd_peers.proofs.laws.lines_have_their_own.Goals as goal
 
 pub returns : goal.returns
-returns c lines channels by entries books old new servable session played other told before after hosts keeps deeds is own carried room place i at =
+returns c calm lines channels by entries books old new servable session played other told before after hosts keeps deeds is own carried room place i at =
     let may = may_all client_id deeds (subst (λ (l : List Deed). EachAfter (λ before deed. MayDo (side_of client_id before) deed) l) (sym own) keeps.may) in
-    let joined = client_joined lines channels by entries books old new servable session client_id deeds is carried may room in
+    let joined = client_joined calm lines channels by entries books old new servable session client_id deeds is carried may room in
     let seen = calls_of_table played other told before after hosts in
     let calls = calls_of_front played other told before after hosts in
     let outs : (number : ℕ) (taken : Taken) → Contains (handed_in seen) (number, taken) → IsOwnOutcome client_id (replies_in (declared_devices (bare_lines lines)) deeds) deeds number taken =

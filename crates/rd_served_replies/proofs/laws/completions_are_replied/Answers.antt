@@ -4,4 +4,4 @@ use Rattle.rd_served_replies.proofs.ReadLemmas.{history_bytes}
 use Rattle.rd_served_replies.proofs.laws.completions_are_replied.Goals as goal
 
 pub returns : goal.returns
-returns c devices old new entries parts begins opened goes gives bytes = all_replied devices old new entries parts begins opened goes gives (history_bytes entries parts old new [] goes bytes tt)
+returns c calm devices old new entries parts begins opened goes gives quiet bytes = all_replied calm devices old new entries parts begins opened goes gives quiet (history_bytes entries parts old new [] goes bytes tt)

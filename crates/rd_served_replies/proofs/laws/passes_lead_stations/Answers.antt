@@ -9,5 +9,7 @@ returns-clause-stationed c old new entries parts begins goes place d s there has
 pub returns-clause-opened : goal.returns-clause-opened
 returns-clause-opened c devices old new entries parts begins opened goes = record {
   fit = opened.fit;
-  each = (history_followed (IsOneOf devices) entries parts old new [] goes (known_first old begins) (first_of devices old begins opened)).opened;
+  each = λ place d there.
+      let one = (history_followed (IsOneOf devices) entries parts old new [] goes (known_first old begins) (first_of devices old begins opened)).opened place d there in
+      (one.opening, one.found, one.is);
 }

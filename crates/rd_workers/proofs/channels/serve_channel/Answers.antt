@@ -6,7 +6,7 @@ use Rattle.rd_link.specs.Links.{more_faults}
 use Rattle.rd_workers.specs.Channels.{ServesOne, stands_at, told_as}
 use Rattle.rd_workers.specs.Faults.{faults_by}
 use Rattle.rd_workers.specs.Reading.{EndsChannel}
-use Rattle.rd_workers.proofs.ChannelLemmas.{WasServed, connects_none, incoming_is, leaves_lent, leaves_unused, same_through, serves_it}
+use Rattle.rd_workers.proofs.ChannelLemmas.{incoming_is, leaves_lent, serves_it}
 use Rattle.rd_workers.proofs.FaultLemmas.{counts_by}
 use Rattle.rd_workers.proofs.channels.serve_channel.Goals as goal
 

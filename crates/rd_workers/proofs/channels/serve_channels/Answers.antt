@@ -2,7 +2,7 @@ use Rattle.std.proofs.Common.{◌∙◌, ◌+◌, arith, refl}
 use Rattle.rd_workers.specs.Channels.{stands_at, told_as}
 use Rattle.rd_workers.specs.Lines.{at_lines}
 use Rattle.rd_workers.proofs.FaultLemmas.{counts_join, counts_none, tells_end}
-use Rattle.rd_workers.proofs.ChannelLemmas.{gone_more, gone_none, gone_short, gone_whole, stands_first}
+use Rattle.rd_workers.proofs.ChannelLemmas.{gone_more, gone_none, gone_short, stands_first}
 use Rattle.rd_workers.proofs.ReadingLemmas.{same_then}
 use Rattle.rd_workers.proofs.channels.serve_channels.Goals as goal
 

@@ -1,4 +1,4 @@
-use Rattle.std.proofs.Common.{arith, length, ◌≡◌, ◌∙◌, ◌++◌, ◌∷◌, [], ap, append_assoc, subst, sym, List}
+use Rattle.std.proofs.Common.{arith, length, ◌∙◌, ◌++◌, ◌∷◌, [], ap, append_assoc, subst, sym, List}
 use Rattle.std.specs.List.{AllZip}
 use Rattle.rd_front.specs.State.{DeviceDeskState}
 use Rattle.rd_workers.specs.Passes.{IsPassOf}
@@ -6,7 +6,7 @@ use Rattle.rd_workers.proofs.PassLemmas.{zip_push}
 use Rattle.rd_workers.proofs.session.passes_of.Goals as goal
 
 pub loop-desk-preserved : goal.loop-desk-preserved
-loop-desk-preserved c =
+loop-desk-preserved g c =
     let done = c.loop-desk.invariant.0 in
     let d = c.in-Some.desk in (
       done ++ d ∷ [],
@@ -16,4 +16,4 @@ loop-desk-preserved c =
     )
 
 pub add-requires : goal.add-requires
-add-requires c = omega (arith, ap length c.in-Some.ensures.steps.0, c.loop-desk.invariant.3)
+add-requires g c = omega (arith, ap length c.in-Some.ensures.steps.0, c.loop-desk.invariant.3)

@@ -4,7 +4,7 @@ use Rattle.std.specs.Prelude.{All}
 use Rattle.std.specs.List.{AllZip}
 use Rattle.rd_pool.specs.Desks.{AllByHandBut, CameHome, DeskPass, GivesThen, IsByHandBut, IsFirst, KeepsMoment}
 use Rattle.rd_pool.proofs.DeskLemmas.{still_first}
-use Rattle.rd_world.specs.declared.device.SessionDevice.{SessionDevice}
+use Rattle.rd_served_devices.specs.ServedDevices.{ServedDeviceState}
 use Rattle.rd_front.specs.Kept.{DeskGoesOn}
 use Rattle.rd_front.specs.State.{DeviceDeskState, FrontState, SessionPass}
 use Rattle.rd_workers.specs.Channels.{told_as}
@@ -18,15 +18,15 @@ use Rattle.rd_workers.proofs.session.serve_desks.Goals as goal
 
 pub new-requires-clause-first : goal.new-requires-clause-first
 new-requires-clause-first g c =
-    subst (λ (l : List (DeskPass SessionDevice)). AllZip IsFirst c.args.desks.now.turns l) (sym c.in_ok-own.ensures.kept) (still_first c.args.desks.now.turns c.args.passes c.requires.first)
+    subst (λ (l : List (DeskPass ServedDeviceState)). AllZip IsFirst c.args.desks.now.turns l) (sym c.in_ok-own.ensures.kept) (still_first c.args.desks.now.turns c.args.passes c.requires.first)
 
 pub new-requires-clause-few : goal.new-requires-clause-few
 new-requires-clause-few g c = once_few c.args.passes c.split.new.passes c.in_ok-own.ensures.kept c.requires.new
 
 pub serve_front-requires-clause-first : goal.serve_front-requires-clause-first
 serve_front-requires-clause-first g c κs within =
-    let once = subst (λ (l : List (DeskPass SessionDevice)). AllZip IsFirst c.args.desks.now.turns l) (sym c.in_ok-own.ensures.kept) (still_first c.args.desks.now.turns c.args.passes c.requires.first) in
-    subst (λ (l : List (DeskPass SessionDevice)). AllZip IsFirst c.args.desks.now.turns l) (sym c.in_ok-hands.ensures.kept) (still_first c.args.desks.now.turns c.split.new.passes once)
+    let once = subst (λ (l : List (DeskPass ServedDeviceState)). AllZip IsFirst c.args.desks.now.turns l) (sym c.in_ok-own.ensures.kept) (still_first c.args.desks.now.turns c.args.passes c.requires.first) in
+    subst (λ (l : List (DeskPass ServedDeviceState)). AllZip IsFirst c.args.desks.now.turns l) (sym c.in_ok-hands.ensures.kept) (still_first c.args.desks.now.turns c.split.new.passes once)
 
 pub serve_front-requires-clause-few : goal.serve_front-requires-clause-few
 serve_front-requires-clause-few g c κs within = made_two c.args.passes c.split.new.passes c.new.new.passes c.in_ok-own.ensures.kept c.in_ok-hands.ensures.kept c.requires.new

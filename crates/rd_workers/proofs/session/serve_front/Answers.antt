@@ -5,7 +5,7 @@ use Rattle.rd_turn.specs.Pass.{Belongs, PassState, TurnId}
 use Rattle.rd_front.specs.declared.calls.FrontCall.{FrontCall}
 use Rattle.rd_front.specs.declared.calls.FrontReply.{FrontReply}
 use Rattle.rd_pool.specs.Desks.{DeskTurn}
-use Rattle.rd_world.specs.declared.device.SessionDevice.{SessionDevice}
+use Rattle.rd_served_devices.specs.ServedDevices.{ServedDeviceState}
 use Rattle.rd_workers.specs.Channels.{told_as}
 use Rattle.rd_workers.specs.Lines.{at_lines}
 use Rattle.rd_workers.specs.Logs.{AllWrite}
@@ -22,7 +22,7 @@ serve_with_workers-requires-clause-places g c =
     let turns = ap length c.requires.turns in
     let bells = c.in_ok-bells.ensures in
     let count = c.count.ensures in
-    let hands = length-map {B = DeskTurn SessionDevice} c.args.hands (λ hand. hand.turn) in
+    let hands = length-map {B = DeskTurn ServedDeviceState} c.args.hands (λ hand. hand.turn) in
     omega (arith, turns, bells, count, hands)
 
 pub serve_with_workers-requires-clause-front : goal.serve_with_workers-requires-clause-front

@@ -3,8 +3,8 @@ use Rattle.rd_workers.proofs.session.serve_with_workers.Goals as goal
 
 pub with_workers-other-requires-clause-part : goal.with_workers-other-requires-clause-part
 with_workers-other-requires-clause-part g c κs within = (
-  (search rules, search rules, search rules, search rules, search rules, c.requires.none, c.requires.places, c.requires.room, c.requires.front, c.requires.caller, c.requires.other, c.requires.moments.1),
-  (search rules, search rules, search rules, search rules, search rules),
+  (search rules, search rules, search rules, search rules, search rules, search rules, c.requires.none, c.requires.places, c.requires.room, c.requires.front, c.requires.caller, c.requires.other, c.requires.moments.1),
+  (search rules, search rules, search rules, search rules, search rules, search rules),
 )
 
 pub returns-clause-by_hand : goal.returns-clause-by_hand

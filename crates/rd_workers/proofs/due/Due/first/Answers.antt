@@ -1,7 +1,7 @@
 use Rattle.std.proofs.Common.{◌∙◌, ap, sym}
 use Rattle.rd_script.specs.declared.line.NumberedLine.{NumberedLine}
 use Rattle.rd_workers.specs.Lines.{at_line}
-use Rattle.rd_workers.proofs.LineLemmas.{first_is, stays_first}
+use Rattle.rd_workers.proofs.LineLemmas.{stays_first}
 use Rattle.rd_workers.proofs.due.Due.first.Goals as goal
 
 pub returns-in-Some-clause-left : goal.returns-in-Some-clause-left
