@@ -20,6 +20,7 @@ test: ## the gate: every proof, the edits that must fail, the tests, the program
 
 fuzz: ## tries to break the built program for a minute or two: docs/ROBUSTNESS.md
 	python3 tools/sessions.py bin/rdr
+	python3 tools/sessions.py --folders bin/rdr
 	python3 tools/mutate.py --sessions 2000
 	python3 tools/many.py client --sessions 5000
 	python3 tools/many.py host --sessions 5000
@@ -28,6 +29,7 @@ fuzz: ## tries to break the built program for a minute or two: docs/ROBUSTNESS.m
 	python3 tools/kills.py --sides --sessions 300
 	python3 tools/kills.py --sessions 50
 	python3 tools/limits.py
+	python3 tools/share.py --seconds 5
 
 bench: ## what is measured, and how: bench/README.md
 	bench/run

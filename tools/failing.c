@@ -1,8 +1,8 @@
 /* Makes one call of a program fail, or that one and all after it: LD_PRELOAD=failing.so FAIL_CALL=WORD FAIL_AT=N [FAIL_ON=1] [FAIL_NOTE=FILE] PROGRAM ..
 
    FAIL_CALL=alloc counts the calls of malloc, calloc, realloc, aligned_alloc and posix_memalign that ask for memory, of the whole process, from 1; the Nth finds none. Each other WORD is
-   a call of the C library: read, write, open, socket, connect, bind, listen, accept4, chmod, recv, send, clock_gettime, pthread_create. The Nth fails with EIO, pthread_create
-   with EAGAIN. With FAIL_ON the ones after it fail too. FILE is made once the Nth call comes.
+   a call of the C library: read, write, open, socket, connect, bind, listen, accept4, chmod, recv, send, clock_gettime, openat, statx, getdents64, pread, pwrite, link, unlinkat,
+   pthread_create. The Nth fails with EIO, pthread_create with EAGAIN. With FAIL_ON the ones after it fail too. FILE is made once the Nth call comes.
    Built by: cc -O2 -shared -fPIC -o failing.so failing.c -ldl */
 #define _GNU_SOURCE
 #include <dlfcn.h>
@@ -92,6 +92,12 @@ CALL(int, listen, (int fd, int count), (fd, count))
 CALL(int, accept4, (int fd, struct sockaddr *from, socklen_t *size, int flags), (fd, from, size, flags))
 CALL(int, chmod, (const char *path, mode_t mode), (path, mode))
 CALL(int, clock_gettime, (clockid_t clock, struct timespec *to), (clock, to))
+CALL(int, statx, (int folder, const char *path, int flags, unsigned mask, struct statx *to), (folder, path, flags, mask, to))
+CALL(ssize_t, getdents64, (int fd, void *to, size_t count), (fd, to, count))
+CALL(ssize_t, pread, (int fd, void *to, size_t count, off_t at), (fd, to, count, at))
+CALL(ssize_t, pwrite, (int fd, const void *from, size_t count, off_t at), (fd, from, count, at))
+CALL(int, link, (const char *from, const char *to), (from, to))
+CALL(int, unlinkat, (int folder, const char *path, int flags), (folder, path, flags))
 
 int open(const char *path, int flags, ...) {
     static int (*own)(const char *, int, ...);
@@ -106,6 +112,21 @@ int open(const char *path, int flags, ...) {
     if (!own)
         own = (int (*)(const char *, int, ...))dlsym(RTLD_NEXT, "open");
     return own(path, flags, mode);
+}
+
+int openat(int folder, const char *path, int flags, ...) {
+    static int (*own)(int, const char *, int, ...);
+    __builtin_va_list rest;
+    __builtin_va_start(rest, flags);
+    mode_t mode = flags & (O_CREAT | O_TMPFILE) ? __builtin_va_arg(rest, mode_t) : 0;
+    __builtin_va_end(rest);
+    if (fails("openat")) {
+        errno = EIO;
+        return -1;
+    }
+    if (!own)
+        own = (int (*)(int, const char *, int, ...))dlsym(RTLD_NEXT, "openat");
+    return own(folder, path, flags, mode);
 }
 
 int pthread_create(pthread_t *to, const pthread_attr_t *how, void *(*begins)(void *), void *with) {

@@ -3,10 +3,10 @@
 
 It builds failing.c by `cc` and loads it into PROGRAM (bin/rdr), whose Nth call of a kind fails then, for N from 1 until so many calls aren't made; and once more with that call and all after
 it. The kinds are `alloc`, each call of malloc, calloc, realloc, aligned_alloc and posix_memalign of the process, and calls of the C library. The commands open files, write, read, lock, list,
-rename and close; of `client` and `host` the other side is PROGRAM without failures. A WORD or a COMMAND leaves out the other ones.
+rename and close; of `client` and `host` the other side is PROGRAM without failures, and `folder` is a client whose drive is over a folder in /dev/shm. A WORD or a COMMAND leaves out the other ones.
 
 The command is to end within 20 seconds, by no signal, with a status that the kind may have, and with whole lines; where that is 0 the application's lines come to what they do without failures,
-up to one that is done with NO_MEMORY (c0000017), if there is one. It prints a line for each command and kind with the statuses and how often they came, and what isn't so; the status is 1 if
+up to one that is done with NO_MEMORY (c0000017), or of a folder with IO_DEVICE_ERROR (c0000185), if there is one. It prints a line for each command and kind with the statuses and how often they came, and what isn't so; the status is 1 if
 anything wasn't. The script stands outside the proofs, and needs Linux."""
 import argparse
 import collections
@@ -24,15 +24,19 @@ from sides import LIMIT, TOP, Bad, Side
 DEVICES = 'drive 1 DATA\nfolder 1 \\d\nfile 1 \\d\\a.txt 68656c6c6f\n'
 LINES = ('1 open h 1 \\d\\a.txt\n1 read h 0 5\n1 create g 1 \\d\\b.txt 2 0xc0010000 7 0 0\n1 write g 0 %s\n1 lock g 3 0 0:4\n1 query g 5\n1 open d 1 \\d\n1 dir d 12 1 \\d\\*\n'
          '1 dir d 12 0 -\n1 set g 10 00000a005c0064005c0063000000\n1 close g\n1 close h\n') % ('61' * 5000)
-SCRIPTS = {'both': DEVICES + LINES, 'client': 'workers 2\n' + DEVICES, 'host': LINES, 'load': '', 'decode': (TOP / 'examples' / 'open_read_close.rec').read_bytes().decode('latin-1')}
+# What is asked of a folder besides.
+FURTHER = '1 create k 1 \\d\\b.txt 1 0xc0010000 7 0 0\n1 set k 10 00000a0000005c0064005c0063000000\n1 set k 13 01\n1 close k\n'
+SCRIPTS = {'both': DEVICES + LINES, 'client': 'workers 2\n' + DEVICES, 'folder': 'workers 2\nreal 1 DATA shared\n', 'host': LINES, 'load': '', 'decode': (TOP / 'examples' / 'open_read_close.rec').read_bytes().decode('latin-1')}
 # What each kind may come to, beside 0 where the command goes on without that call.
 MAY = {
     'alloc': {0, 6}, 'read': {2}, 'write': {0, 3}, 'open': {0, 3}, 'clock_gettime': {0}, 'pthread_create': {0, 6},
     'socket': {5}, 'connect': {5}, 'bind': {5}, 'listen': {5}, 'accept4': {5}, 'chmod': {5}, 'recv': {5}, 'send': {5},
+    'openat': {0, 8}, 'statx': {0}, 'getdents64': {0}, 'pread': {0}, 'pwrite': {0}, 'link': {0}, 'unlinkat': {0},
 }
 KINDS = {
     'both': ('alloc', 'read', 'write', 'open', 'clock_gettime'),
     'client': ('alloc', 'read', 'write', 'socket', 'connect', 'recv', 'send', 'clock_gettime', 'pthread_create'),
+    'folder': ('alloc', 'open', 'openat', 'statx', 'getdents64', 'pread', 'pwrite', 'link', 'unlinkat'),
     'load': ('alloc', 'write', 'open'),
     'decode': ('alloc', 'read', 'write'),
     'host': ('alloc', 'read', 'write', 'socket', 'bind', 'listen', 'accept4', 'chmod', 'recv', 'send', 'clock_gettime', 'pthread_create'),
@@ -51,7 +55,7 @@ class Failing(Side):
 
     def __init__(self, program, word, path, folder, variables):
         self.variables = variables
-        super().__init__(program, word, path, SCRIPTS[word], folder)
+        super().__init__(program, 'client' if word == 'folder' else word, path, SCRIPTS[word], folder)
 
     def starts(self, words, **how):
         return subprocess.Popen([it for it in words if it], env={**os.environ, **self.variables}, **how)
@@ -69,19 +73,21 @@ def releases(path):
 def play(program, word, variables):
     """Plays a session: the command's status, and what is told of the lines of its application, by the command or by the host beside it."""
     with tempfile.TemporaryDirectory(dir='/dev/shm') as folder:
-        path, sides = folder + '/s', []
+        path, sides, is_client = folder + '/s', [], word in ('client', 'folder')
+        os.makedirs(folder + '/shared/d')
+        pathlib.Path(folder, 'shared', 'd', 'a.txt').write_bytes(b'hello')
         try:
-            if word == 'client':
-                sides.append(Side(program, 'host', path, SCRIPTS['host'], folder))
+            if is_client:
+                sides.append(Side(program, 'host', path, LINES + (FURTHER if word == 'folder' else ''), folder))
                 sides[0].listens()
-            own = Failing(program, word, {'client': path, 'host': path, 'load': '2'}.get(word, ''), folder, variables)
+            own = Failing(program, word, {'client': path, 'folder': path, 'host': path, 'load': '2'}.get(word, ''), folder, variables)
             sides.append(own)
             if word == 'host':
                 own.listens()
                 if not own.has_ended():
                     sides.append(Side(program, 'client', path, SCRIPTS['client'], folder))
             status, lines = own.ends()
-            if word == 'client':
+            if is_client:
                 begin = time.monotonic()
                 while not sides[0].has_ended() and time.monotonic() - begin < LIMIT:
                     time.sleep(0.002)
@@ -91,7 +97,7 @@ def play(program, word, variables):
                 came = side.ends()[0]
                 if side is not own and came not in (0, 5):
                     raise Bad('the %s beside it ends with status %d' % (side.word, came))
-            told = sides[0].lines() if word == 'client' else lines
+            told = sides[0].lines() if is_client else lines
             return status, [line for line in told if line[0].isdigit() or word in ('load', 'decode')]
         finally:
             for side in sides:
@@ -101,7 +107,7 @@ def play(program, word, variables):
 def goes_on(lines, whole):
     """Whether these are the lines of the whole session, or the first that isn't is done with NO_MEMORY."""
     other = next((line for line, wanted in zip(lines, whole) if line != wanted), None)
-    return len(lines) == len(whole) and (other is None or re.fullmatch(r'\d+\.\d+ done c0000017 [0-9a-f]+|load 2 accepted (\d+) done \1 lost 0 bytes \d+ sum \d+', other))
+    return len(lines) == len(whole) and (other is None or re.fullmatch(r'\d+\.\d+ done c0000(017|185) [0-9a-f]+|load 2 accepted (\d+) done \1 lost 0 bytes \d+ sum \d+', other))
 
 
 def sweep(program, shared, word, kind, on, note):

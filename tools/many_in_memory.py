@@ -57,7 +57,7 @@ def kept_module(folder, kit):
     shutil.copytree(kit / 'bin', folder / 'kit' / 'bin', symlinks=True, copy_function=lambda a, b: shutil.copy2(a, b) if pathlib.Path(a).name.startswith('rt') else os.symlink(a, b))
     checkout = folder / 'checkout'
     shutil.copytree(TOP / 'crates', checkout / 'crates', ignore=shutil.ignore_patterns('out', 'data'))
-    (checkout / 'crates.txt').write_text((TOP / 'crates.txt').read_text() + '%s: rd_cli rd_link rd_base\n' % NAME)
+    (checkout / 'crates.txt').write_text((TOP / 'crates.txt').read_text() + '%s: rd_cli rd_folder rd_link rd_base\n' % NAME)
     shutil.copy(TOP / 'HANDLES', checkout)
     crate = checkout / 'crates' / NAME
     (crate / 'src').mkdir(parents=True)

@@ -1,5 +1,5 @@
 #!/usr/bin/env python3
-"""Plays sessions of two processes, and looks at what came of each line: sessions.py [--workers N,..] [--count N] [--mixes N] [--seed N] PROGRAM [CASES..]
+"""Plays sessions of two processes, and looks at what came of each line: sessions.py [--workers N,..] [--count N] [--mixes N] [--seed N] [--folders] PROGRAM [CASES..]
 
 CASES are scripts of `both`, those of examples/ where no word says it, or files of a JSON object a line, with such a script as `input` and its `status`; those whose status is
 0 are taken. PROGRAM plays the lines of each
@@ -13,12 +13,20 @@ status 0 (the client also with 5, where the host ended a channel on which it wro
 - a device ran what was done there, and of what was lost as much as it may have.
 
 A mix puts the lines of one application each of up to 32 scripts beside each other, each with devices of its own. What comes of them is what `PROGRAM both` says of
-each alone, but for moments. What isn't so is printed, then a line that sums up; the status is 1 if anything wasn't. It stands outside the proofs."""
+each alone, but for moments.
+
+With `--folders` the lines of one application of each script are played over folders of this machine instead: each `drive` is a `real` one, of a folder in /dev/shm that has its files. What comes of the lines is what `PROGRAM both` says of them over drives in
+memory, but for moments and attributes. They are played up to the first that the two can't have alike: that makes a file read-only, moves something below more than 16 folders (a drive in memory looks how deep all of it comes to be), or has a
+name that isn't UTF-8 or is too long for the system; and scripts with such a file are left out.
+
+What isn't so is printed, then a line that sums up; the status is 1 if anything wasn't. It stands outside the proofs."""
 import argparse
 import collections
+import itertools
 import json
 import pathlib
 import random
+import re
 import subprocess
 import sys
 import tempfile
@@ -36,6 +44,8 @@ STATUSES = {
 }
 # Where a body has moments: of a `query` of class 4, of a `volume` of class 1, and of a `dir` of classes 1 to 3.
 MOMENTS = {('query', 4): (4, 36), ('volume', 1): (4, 12), ('dir', 1): (12, 44), ('dir', 2): (12, 44), ('dir', 3): (12, 44)}
+# And where it has attributes.
+ATTRIBUTES = {('query', 4): (36, 40), ('query', 0x23): (4, 8), ('dir', 1): (60, 64), ('dir', 2): (60, 64), ('dir', 3): (60, 64)}
 
 
 def number(word):
@@ -238,9 +248,9 @@ def moved(devices, lines, application, first):
     return devices, lines, len(numbers)
 
 
-def without_moments(words, outcome):
-    """An outcome whose moments are zero."""
-    place = MOMENTS.get((words[1], number(words[3]))) if words[1] in ('query', 'volume', 'dir') else None
+def without(places, words, outcome):
+    """An outcome in whose body there are zeros in these places, such as those of moments."""
+    place = places.get((words[1], number(words[3]))) if words[1] in ('query', 'volume', 'dir') else None
     if not place or outcome[:2] != ['done', '00000000']:
         return outcome
     body = bytearray(hex_of(outcome[2]))
@@ -277,11 +287,84 @@ def mix(program, cases, workers, rng):
     check(devices, played, told, came)
     for key, outcome in told:
         name, words, alone = wanted[key]
-        if without_moments(words, outcome) != without_moments(words, alone):
+        if without(MOMENTS, words, outcome) != without(MOMENTS, words, alone):
             raise Bad('%d.%d, of %s: %s where alone it is %s' % (*key, name, ' '.join(outcome), ' '.join(alone)))
     if came != ran:
         raise Bad('the devices ran %r where alone they ran %r' % (came, ran))
     return peak, status
+
+
+def path_of(text):
+    """The path on this machine that a path of a script is: none where it isn't UTF-8, or a name is longer than the system's may be."""
+    units = re.sub('%(....)', lambda found: chr(int(found[1], 16)), text).encode('utf-16-le', 'surrogatepass')
+    try:
+        names = units.decode('utf-16-le').strip('\\').split('\\')
+    except UnicodeDecodeError:
+        return None
+    return None if any(len(name.encode()) > 255 for name in names) else '/'.join(names)
+
+
+def filled(devices, folder):
+    """The same devices, of which each drive is over a folder in this one that has its files: none where the system can't have them."""
+    lines, places = [], {}
+    for line in devices:
+        words = line.split(' ')
+        if words[0] == 'drive':
+            places[words[1]] = pathlib.Path(folder, words[1])
+            places[words[1]].mkdir()
+            lines.append('real %s %s %s' % (words[1], words[2], places[words[1]]))
+        elif words[0] not in ('folder', 'file', 'fill') or words[1] not in places:
+            lines.append(line)
+        elif path_of(words[2]) is None:
+            return None
+        elif words[0] == 'folder':
+            (places[words[1]] / path_of(words[2])).mkdir()
+        else:
+            text = hex_of(words[3]) if words[0] == 'file' else bytes([number(words[4])]) * number(words[3])
+            (places[words[1]] / path_of(words[2])).write_bytes(text)
+    return lines
+
+
+def is_alike(words):
+    """Whether a folder can have alike what this line asks for."""
+    if words[1] == 'create' and number(words[9]) & 1:
+        return False
+    if words[1] in OPENS:
+        return path_of(words[4]) is not None
+    if words[1] == 'set' and number(words[3]) == 4 and words[4] != '-':
+        return not hex_of(words[4])[32:33] or not hex_of(words[4])[32] & 1
+    return words[1] != 'set' or number(words[3]) != 10 or hex_is_alike(words[4])
+
+
+def hex_is_alike(word):
+    """The same of the path of a renaming."""
+    text = hex_of(word)[6:]
+    path = path_of(text[:len(text) & ~1].decode('utf-16-le', 'surrogatepass'))
+    return path is not None and path.count('/') <= 16
+
+
+def in_folders(program, case, workers):
+    """Plays one application of a script over folders, and looks whether it has what it has over drives in memory."""
+    name, devices, lines = case
+    lines = list(itertools.takewhile(is_alike, lines))
+    lines_said = [' '.join(words) for words in lines]
+    outcomes, ran = said_alone(program, devices, lines_said)
+    with tempfile.TemporaryDirectory(dir='/dev/shm') as folder:
+        told, came, peak, status = play(program, filled(devices, folder), lines_said, workers)
+    for (key, outcome), (_, alone) in zip(told, outcomes, strict=True):
+        words = lines[key[1] - 1]
+        if without(ATTRIBUTES, words, without(MOMENTS, words, outcome)) != without(ATTRIBUTES, words, without(MOMENTS, words, alone)):
+            raise Bad('%d.%d, %s: %s where in memory it is %s' % (*key, ' '.join(words), ' '.join(outcome), ' '.join(alone)))
+    if came != ran:
+        raise Bad('the devices ran %r where in memory they ran %r' % (came, ran))
+    return peak, status
+
+
+def can_be_in_folders(case):
+    """Whether a script can be played so."""
+    name, devices, lines = case
+    with tempfile.TemporaryDirectory(dir='/dev/shm') as folder:
+        return any(line.startswith('drive ') for line in devices) and is_alike(lines[0]) and filled(devices, folder) is not None
 
 
 def main():
@@ -292,11 +375,15 @@ def main():
     words.add_argument('--count', type=int, default=1 << 60)
     words.add_argument('--mixes', type=int, default=100)
     words.add_argument('--seed', type=int, default=1)
+    words.add_argument('--folders', action='store_true')
     words = words.parse_args()
     program, hands, peaks, fives, bad, played = words.program.resolve(), [int(it) for it in words.workers.split(',')], [0], 0, 0, 0
     cases = list(cases_in(words.cases))[:words.count]
     sessions = [(name, (lambda w, d=devices, p=lines: whole(program, d, p, w))) for name, devices, lines in cases]
     alone = [it for it in map(alone_of, cases) if it]
+    if words.folders:
+        words.mixes, alone = 0, list(filter(can_be_in_folders, alone))
+        sessions = [(case[0], (lambda w, c=case: in_folders(program, c, w))) for case in alone]
     for number_of in range(words.mixes if alone else 0):
         sessions.append(('mix %d of seed %d' % (number_of, words.seed),
                          lambda w, n=number_of: mix(program, alone, w, random.Random('%d %d' % (words.seed, n)))))

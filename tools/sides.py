@@ -8,7 +8,7 @@ import time
 TOP = pathlib.Path(__file__).resolve().parent.parent
 LIMIT = 20
 BEGINS, HOST, CLIENT = 2, 0, 1
-DEVICES = ('drive', 'drivefold', 'printer')
+DEVICES = ('drive', 'drivefold', 'real', 'printer')
 
 
 class Bad(Exception):
