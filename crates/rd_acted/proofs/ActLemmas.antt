@@ -13,7 +13,7 @@ use Rattle.rd_world.specs.Acts.{act_by, is_settle}
 use Rattle.rd_world.specs.Session.{at_settles}
 use Rattle.rd_world.specs.Control.{Act, Control, added, added_at, begun, connected, control_of, controlled, dropped_at, ended, first_control, idled, is_among, noticed, noticed_at, removed, removed_at, where_open}
 use Rattle.rd_world.specs.Run.{notice_of}
-use Rattle.rd_world.specs.Talk.{Deed}
+use Rattle.rd_deeds.specs.Talk.{Deed}
 use Rattle.rd_acted.specs.Acted.{with_act, control_after, control_by_deeds, no_control, without_idle}
 
 fold_last : {A B : Type 0} (f : B → A → B) (b : B) (xs : List A) (x : A) → fold f b (xs ++ x ∷ []) ≡ f (fold f b xs) x

@@ -12,8 +12,8 @@ use Rattle.rd_base.specs.declared.journal.Item.TheVariants.{Came, Cancelled, Cut
 use Rattle.rd_rest.proofs.ControlsNumbers.{picked_reverse, reverse_cons}
 use Rattle.rd_world.specs.Acts.{IsCutThere, IsDone, cause_in, cut_last, of_channel, there_at}
 use Rattle.rd_world.specs.Control.{present}
-use Rattle.rd_world.specs.Devices.{Declared}
-use Rattle.rd_world.specs.Talk.{Deed, EachAfter, adds, client_reads, client_writes, completes, host_begins, host_ends, host_reads, host_writes, journal, on, removes, stores, submits, takes, tells}
+use Rattle.rd_declared.specs.Devices.{Declared}
+use Rattle.rd_deeds.specs.Talk.{Deed, EachAfter, adds, client_reads, client_writes, completes, host_begins, host_ends, host_reads, host_writes, journal, on, removes, stores, submits, takes, tells}
 use Rattle.rd_acted.proofs.DueLemmas.{present_by_deeds}
 use Rattle.rd_acted.proofs.TellLemmas.{ids_in}
 use Rattle.rd_acted.specs.Acted.{control_by_deeds}

@@ -26,9 +26,9 @@ use Rattle.rd_rest.proofs.JournalsHeldLemmas.{found_then, stored_deeds, turned_h
 use Rattle.rd_rest.proofs.RunsParts.{announced_by, cut_by, told_added, told_removed}
 use Rattle.rd_station.specs.Station as station
 use Rattle.rd_station.specs.Station.{StationState}
-use Rattle.rd_world.specs.Devices.{Declared, PrinterNames, device_cut}
+use Rattle.rd_declared.specs.Devices.{Declared, PrinterNames, device_cut}
 use Rattle.rd_world.specs.Hearing.{announcing, client_hears, heard_by_client, with_client}
-use Rattle.rd_world.specs.Talk.{Deed, Has, adds, client_reads, is_removed, open_channel, removes, stores}
+use Rattle.rd_deeds.specs.Talk.{Deed, Has, adds, client_reads, is_removed, open_channel, removes, stores}
 use Rattle.rd_world.specs.World.{WorldState, station_at, with_station}
 use Rattle.rd_acted.proofs.CuttingLemmas.{AreCut, IsPlainItem, Of, plain_cut, plain_stores, removed_cut}
 use Rattle.rd_acted.proofs.DataLemmas.{IsShaped, id_is, shaped_more, zip_as}

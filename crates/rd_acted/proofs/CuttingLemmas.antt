@@ -19,11 +19,11 @@ use Rattle.rd_rest.proofs.JournalsHeldLemmas.{has_elsewhere, has_here, stored_de
 use Rattle.rd_station.specs.Station as station
 use Rattle.rd_station.specs.Station.{StationState}
 use Rattle.rd_world.specs.Acts.{IsCutThere, IsDone, cut_last, there_at}
-use Rattle.rd_world.specs.Devices.{Declared, device_cut}
+use Rattle.rd_declared.specs.Devices.{Declared, device_cut}
 use Rattle.rd_world.specs.Events.{dropping}
-use Rattle.rd_world.specs.Talk.{Deed, EachAfter, Has, host_ends, is_removed, removes, stores}
+use Rattle.rd_deeds.specs.Talk.{Deed, EachAfter, Has, host_ends, is_removed, removes, stores}
 use Rattle.rd_world.specs.World.{WorldState, station_at, with_station}
-use Rattle.rd_world.specs.declared.device.SessionDevice.{SessionDevice}
+use Rattle.rd_declared.specs.declared.device.SessionDevice.{SessionDevice}
 
 abbrev pub Of : Type 0
 Of = StationState SessionDevice

@@ -13,10 +13,10 @@ use Rattle.rd_client.specs.Core.{ClientDevice, announce_in, device_marked, is_de
 use Rattle.rd_devices.specs.declared.list.Announce.{Announce}
 use Rattle.rd_printer.specs.Cache.{CacheState}
 use Rattle.rd_world.specs.Control.{is_among}
-use Rattle.rd_world.specs.Devices.{Declared, PrinterNames, announce_of, device_data, printer_data}
+use Rattle.rd_declared.specs.Devices.{Declared, PrinterNames, announce_of, device_data, printer_data}
 use Rattle.rd_world.specs.Events.{refreshing}
 use Rattle.rd_world.specs.Hearing.{with_client}
-use Rattle.rd_world.specs.Talk.{Deed, adds, is_removed, removes}
+use Rattle.rd_deeds.specs.Talk.{Deed, adds, is_removed, removes}
 use Rattle.rd_world.specs.World.{WorldState}
 
 -- ---- lists side by side

@@ -7,7 +7,7 @@ use Rattle.std.proofs.lemmas.List.Elements.{filter-append, filter_map-append}
 use Rattle.rd_printer.specs.declared.notice.Notice.{Notice}
 use Rattle.rd_world.specs.Acts.{is_add, of_channel}
 use Rattle.rd_world.specs.Control.{Act, Control, Telling, added, addition, additions, begun, ended, is_addition, is_among, lists, noticed, present, removal, removed}
-use Rattle.rd_world.specs.Talk.{Deed, adds, client_reads, client_writes, completes, host_begins, host_ends, host_reads, host_writes, is_open_at, is_removed, on, open_channel, removes, stores, submits, takes, tells}
+use Rattle.rd_deeds.specs.Talk.{Deed, adds, client_reads, client_writes, completes, host_begins, host_ends, host_reads, host_writes, is_open_at, is_removed, on, open_channel, removes, stores, submits, takes, tells}
 use Rattle.rd_acted.specs.Acted.{control_by_deeds, due_on, notices_due, there_of, where_current}
 
 -- ---- who is absent

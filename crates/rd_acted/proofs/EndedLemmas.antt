@@ -10,7 +10,7 @@ use Rattle.rd_base.specs.declared.journal.Item.TheVariants.{Came}
 use Rattle.rd_rest.proofs.JournalsRunLemmas.{behind_orderly}
 use Rattle.rd_rest.specs.JournalsOrderly.{Orderly}
 use Rattle.rd_station.proofs.Remembering.{came_named}
-use Rattle.rd_world.proofs.Journals.{has_contains}
+use Rattle.rd_deeds.proofs.Journals.{has_contains}
 use Rattle.rd_rest.proofs.JournalsChannelLemmas.{all_refreshed, begun_on}
 use Rattle.rd_rest.proofs.RunsParts.{IsBehind, MayBe, Part, adds_one, announced_by, begins, by_parts, client_hears_one, client_sends_one, done, ends, refreshed_by, removes_one, told_added, told_removed}
 use Rattle.rd_rest.proofs.RunsStanding.{Stands, needs_open}
@@ -22,13 +22,12 @@ use Rattle.rd_station.specs.Station.{StationState}
 use Rattle.rd_world.proofs.BeginningLemmas.{begun_by}
 use Rattle.rd_world.proofs.OpeningLemmas.{lines_begin}
 use Rattle.rd_world.specs.Acts.{Opens, is_telling, tellings_on}
-use Rattle.rd_world.specs.Devices.{Declared, PrinterNames, device_cut}
+use Rattle.rd_declared.specs.Devices.{Declared, PrinterNames, device_cut}
 use Rattle.rd_world.specs.Events.{dropping}
-use Rattle.rd_world.specs.Opening.{bare_lines}
-use Rattle.rd_world.specs.Run.{declared_devices}
-use Rattle.rd_world.specs.Talk.{Deed, EachAfter, adds, client_reads, client_writes, completes, has_ended, host_begins, host_ends, journal, open_channel, removes, Has}
+use Rattle.rd_declared.specs.Declaring.{bare_lines, declared_devices}
+use Rattle.rd_deeds.specs.Talk.{Deed, EachAfter, adds, client_reads, client_writes, completes, has_ended, host_begins, host_ends, journal, open_channel, removes, Has}
 use Rattle.rd_world.specs.World.{WorldState, station_at, with_station}
-use Rattle.rd_world.specs.declared.device.SessionDevice.{SessionDevice}
+use Rattle.rd_declared.specs.declared.device.SessionDevice.{SessionDevice}
 use Rattle.rd_acted.proofs.PassingLemmas.{all_dropped_unspoken, left_one, left_unspoken, quiet_unspoken}
 use Rattle.rd_acted.proofs.QuietLemmas.{AreSilent, IsSilent, Unspoken, hears_unspoken, option_unspoken, stationed_unspoken}
 use Rattle.rd_acted.proofs.ReadLemmas.{part_well, premises_fit}

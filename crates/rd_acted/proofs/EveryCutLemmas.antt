@@ -28,14 +28,15 @@ use Rattle.rd_script.specs.declared.line.NumberedLine.{NumberedLine}
 use Rattle.rd_station.specs.Station as station
 use Rattle.rd_station.specs.Station.{StationState}
 use Rattle.rd_world.proofs.BeginningLemmas.{begun_by}
-use Rattle.rd_world.proofs.OpeningLemmas.{declared_openable, lines_begin}
+use Rattle.rd_declared.proofs.DeclaringLemmas.{declared_openable}
+use Rattle.rd_world.proofs.OpeningLemmas.{lines_begin}
 use Rattle.rd_world.specs.Acts.{tellings_on, there_at}
-use Rattle.rd_world.specs.Devices.{Declared, PrinterNames, device_cut, printer_data}
+use Rattle.rd_declared.specs.Devices.{Declared, PrinterNames, device_cut, printer_data}
 use Rattle.rd_world.specs.Events.{came_of, completion_message, cutting, dropping, is_channel_open, is_ready, refreshing}
 use Rattle.rd_world.specs.Hearing.{with_client}
-use Rattle.rd_world.specs.Opening.{bare_lines}
-use Rattle.rd_world.specs.Run.{declared_devices, station_of, world_of}
-use Rattle.rd_world.specs.Talk.{Deed, EachAfter, client_writes, completes, host_begins, host_ends, host_reads, host_writes, is_removed, journal, open_channel, stored_by, stores, submits, takes, tells}
+use Rattle.rd_declared.specs.Declaring.{bare_lines, declared_devices}
+use Rattle.rd_world.specs.Run.{station_of, world_of}
+use Rattle.rd_deeds.specs.Talk.{Deed, EachAfter, client_writes, completes, host_begins, host_ends, host_reads, host_writes, is_removed, journal, open_channel, stored_by, stores, submits, takes, tells}
 use Rattle.rd_world.specs.World.{WorldState, client_sends, station_at, with_station}
 use Rattle.rd_acted.proofs.CuttingLemmas.{AreCut, Of, all_dropped, ended_cut, is_live, none_live, plain_cut}
 use Rattle.rd_acted.proofs.CutThereLemmas.{adds_there, hears_there, key_found, found_key, open_there, removes_there, shut_there}

@@ -15,13 +15,12 @@ use Rattle.rd_world.proofs.BeginningLemmas.{begun_by}
 use Rattle.rd_world.proofs.OpeningLemmas.{lines_begin}
 use Rattle.rd_world.specs.Acts.{IsToldInTime, Tells, is_add, tellings_due, tellings_on}
 use Rattle.rd_world.specs.Control.{Telling, addition, lists, removal}
-use Rattle.rd_world.specs.Devices.{Declared, PrinterNames, device_cut}
+use Rattle.rd_declared.specs.Devices.{Declared, PrinterNames, device_cut}
 use Rattle.rd_world.specs.Events.{deed_on, dropping, is_channel_open}
-use Rattle.rd_world.specs.Opening.{bare_lines}
-use Rattle.rd_world.specs.Run.{declared_devices}
-use Rattle.rd_world.specs.Talk.{AtEachPoint, Deed, adds, client_reads, client_writes, completes, has_ended, host_begins, host_ends, is_open_at, open_channel, removes}
+use Rattle.rd_declared.specs.Declaring.{bare_lines, declared_devices}
+use Rattle.rd_deeds.specs.Talk.{AtEachPoint, Deed, adds, client_reads, client_writes, completes, has_ended, host_begins, host_ends, is_open_at, open_channel, removes}
 use Rattle.rd_world.specs.World.{WorldState, with_station}
-use Rattle.rd_world.specs.declared.device.SessionDevice.{SessionDevice}
+use Rattle.rd_declared.specs.declared.device.SessionDevice.{SessionDevice}
 use Rattle.rd_acted.proofs.PassingLemmas.{all_dropped_unspoken, left_one, left_unspoken, quiet_unspoken}
 use Rattle.rd_acted.proofs.QuietLemmas.{AreSilent, IsSilent, Unspoken, hears_unspoken, option_unspoken, stationed_unspoken}
 use Rattle.rd_acted.proofs.ReadLemmas.{part_well}

@@ -14,10 +14,10 @@ use Rattle.rd_devices.specs.DeviceList.{list_bytes}
 use Rattle.rd_printer.specs.Cache.{CacheState}
 use Rattle.rd_world.specs.Acts.{list_of}
 use Rattle.rd_world.specs.Control.{is_among}
-use Rattle.rd_world.specs.Devices.{Declared, PrinterNames, announce_of, device_data}
-use Rattle.rd_world.specs.Opening.{AreOpenable, IsOpenable}
+use Rattle.rd_declared.specs.Devices.{Declared, PrinterNames, announce_of, device_data}
+use Rattle.rd_declared.specs.Declaring.{AreOpenable, IsOpenable}
 use Rattle.rd_world.specs.Run.{printers_of}
-use Rattle.rd_world.specs.Talk.{Deed, is_removed}
+use Rattle.rd_deeds.specs.Talk.{Deed, is_removed}
 use Rattle.rd_acted.proofs.DataLemmas.{HasBody, IsShaped, announced_is, id_is, zip_as, zip_both, zip_passing}
 use Rattle.rd_acted.specs.Acted.{there_of}
 

@@ -26,8 +26,8 @@ use Rattle.rd_irp.specs.declared.request.RequestHead.{RequestHead}
 use Rattle.rd_irp.specs.Request.{request_head}
 use Rattle.rd_printer.specs.declared.notice.Notice.{Notice}
 use Rattle.rd_printer.specs.Notice.{notice, notices}
-use Rattle.rd_world.proofs.Messages.{after_header}
-use Rattle.rd_world.specs.Talk.{notice_in}
+use Rattle.rd_deeds.proofs.Messages.{after_header}
+use Rattle.rd_deeds.specs.Talk.{notice_in}
 
 abbrev pub is_printing : Packet → Bool
 is_printing packet.PrinterCacheData = true

@@ -13,9 +13,9 @@ use Rattle.rd_devices.specs.declared.list.Announce.{Announce}
 use Rattle.rd_hello.specs.Moves.{Move, reads, writes}
 use Rattle.rd_hello.specs.declared.client.ClientState.{ClientState}
 use Rattle.rd_hello.specs.declared.client.ClientState.TheVariants.{Start}
-use Rattle.rd_world.specs.Devices.{Declared}
+use Rattle.rd_declared.specs.Devices.{Declared}
 use Rattle.rd_world.specs.Recording.{announced_of, is_gone_at}
-use Rattle.rd_world.specs.Talk.{Deed, adds, client_moves, client_read, client_reads, client_writes, completes, host_begins, host_ends, host_reads, host_writes, removes, stores, submits, takes, tells}
+use Rattle.rd_deeds.specs.Talk.{Deed, adds, client_moves, client_read, client_reads, client_writes, completes, host_begins, host_ends, host_reads, host_writes, removes, stores, submits, takes, tells}
 use Rattle.rd_acted.specs.Acted.{AreReadWell, state_heard, state_read}
 
 -- the state after messages in a state, the oldest first

@@ -5,11 +5,11 @@ use Rattle.rd_rest.proofs.RunsParts.{Part, accepts, adds_one, applies_one, begin
 use Rattle.rd_station.specs.Station as station
 use Rattle.rd_station.specs.Station.{StationState}
 use Rattle.rd_world.specs.Acts.{tellings_due, tellings_on}
-use Rattle.rd_world.specs.Devices.{device_cut}
+use Rattle.rd_declared.specs.Devices.{device_cut}
 use Rattle.rd_world.specs.Events.{came_of, completion_message, dropping}
-use Rattle.rd_world.specs.Talk.{Deed, client_reads, completes, has_ended, host_reads, host_writes, is_removed, open_channel, stores, submits, takes, tells, until_begin}
+use Rattle.rd_deeds.specs.Talk.{Deed, client_reads, completes, has_ended, host_reads, host_writes, is_removed, open_channel, stores, submits, takes, tells, until_begin}
 use Rattle.rd_world.specs.World.{WorldState, station_at, with_station}
-use Rattle.rd_world.specs.declared.device.SessionDevice.{SessionDevice}
+use Rattle.rd_declared.specs.declared.device.SessionDevice.{SessionDevice}
 use Rattle.rd_acted.proofs.QuietLemmas.{AreSilent, IsSilent, Unspoken, completion_untold, option_unspoken, put_unspoken, stationed_unspoken, unspoken_by, unspoken_deeds, unspoken_none}
 use Rattle.rd_acted.proofs.SayingLemmas.{completes_tell}
 use Rattle.rd_acted.specs.Acted.{control_by_deeds, due_on}

@@ -53,21 +53,21 @@ use Rattle.rd_script.specs.declared.line.Line.TheVariants as line
 use Rattle.rd_script.specs.declared.line.NumberedLine.{NumberedLine}
 use Rattle.rd_station.specs.Station.{StationState}
 use Rattle.rd_world.proofs.BeginningLemmas.{begun_by}
-use Rattle.rd_world.proofs.Messages.{packet_is, request_is, written_packet}
+use Rattle.rd_deeds.proofs.Messages.{packet_is, request_is, written_packet}
 use Rattle.rd_world.proofs.OpeningLemmas.{lines_begin}
-use Rattle.rd_world.proofs.Written.{Matches, Written, requests_on, written}
-use Rattle.rd_world.specs.Joining.{accepted, request_of_accepted}
+use Rattle.rd_deeds.proofs.Written.{Matches, Written, requests_on, written}
+use Rattle.rd_deeds.specs.Joining.{accepted, request_of_accepted}
 use Rattle.rd_world.specs.Acts.{notices_on}
-use Rattle.rd_world.specs.Devices.{PrinterNames}
+use Rattle.rd_declared.specs.Devices.{PrinterNames}
 use Rattle.rd_world.specs.Events.{completion_message, dropping, is_channel_open, telling_of}
-use Rattle.rd_world.specs.Host.{HostSide, admits, forgets, hears, host_heard, live_code, lived, next_message, sent_from, side_sends}
+use Rattle.rd_deeds.specs.Host.{HostSide, admits, forgets, hears, host_heard, live_code, lived, next_message, sent_from, side_sends}
 use Rattle.rd_world.specs.Noting.{IsTellable}
 use Rattle.rd_world.specs.Recording.{client_id}
 use Rattle.rd_world.specs.Run.{notice_of}
-use Rattle.rd_world.specs.Talk.{Deed, adds, client_reads, client_writes, completes, has_ended, host_begins, host_ends, host_reads, host_writes, host_wrote, is_open_at, is_request, notice_in, on, open_channel, removes, stores, submits, takes, tells}
+use Rattle.rd_deeds.specs.Talk.{Deed, adds, client_reads, client_writes, completes, has_ended, host_begins, host_ends, host_reads, host_writes, host_wrote, is_open_at, is_request, notice_in, on, open_channel, removes, stores, submits, takes, tells}
 use Rattle.rd_world.specs.Hearing.{with_client}
 use Rattle.rd_world.specs.World.{WorldState, client_sends, host_sends, with_deed, with_station}
-use Rattle.rd_world.specs.declared.device.SessionDevice.{SessionDevice}
+use Rattle.rd_declared.specs.declared.device.SessionDevice.{SessionDevice}
 use Rattle.rd_acted.proofs.NoticeLemmas.{is_printing, no_notice}
 use Rattle.rd_acted.proofs.SayingLemmas.{say_both, say_fewer, say_more, say_none}
 use Rattle.rd_acted.specs.Acted.{SayFirst, notices_due}

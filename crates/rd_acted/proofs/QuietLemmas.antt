@@ -40,12 +40,12 @@ use Rattle.rd_station.specs.Station as station
 use Rattle.rd_station.specs.Station.{StationState}
 use Rattle.rd_station.specs.declared.refusals.PutWhy.{PutWhy}
 use Rattle.rd_station.specs.declared.refusals.PutWhy.TheVariants as why
-use Rattle.rd_world.proofs.Messages.{packet_is, written_packet}
+use Rattle.rd_deeds.proofs.Messages.{packet_is, written_packet}
 use Rattle.rd_world.specs.Acts.{is_telling}
 use Rattle.rd_world.specs.Hearing.{announcing, client_hears, heard_by_client, put_at, put_by, putting, refused_put, with_client}
-use Rattle.rd_world.specs.Talk.{Deed, client_reads, completes, host_reads, host_writes, stores, submits, takes, tells}
+use Rattle.rd_deeds.specs.Talk.{Deed, client_reads, completes, host_reads, host_writes, stores, submits, takes, tells}
 use Rattle.rd_world.specs.World.{WorldState, station_at, stored_beyond, with_deed, with_station}
-use Rattle.rd_world.specs.declared.device.SessionDevice.{SessionDevice}
+use Rattle.rd_declared.specs.declared.device.SessionDevice.{SessionDevice}
 
 -- ---- deeds by which no client tells anything, and nothing is due to be told
 

@@ -10,10 +10,9 @@ use Rattle.rd_rest.specs.RunsPremises.{RunPremises}
 use Rattle.rd_script.specs.declared.line.NumberedLine.{NumberedLine}
 use Rattle.rd_world.specs.Acts.{Tells, notices_on, tellings_on}
 use Rattle.rd_world.specs.Control.{lists}
-use Rattle.rd_world.specs.Devices.{Declared}
-use Rattle.rd_world.specs.Opening.{bare_lines}
-use Rattle.rd_world.specs.Run.{declared_devices}
-use Rattle.rd_world.specs.Talk.{open_channel}
+use Rattle.rd_declared.specs.Devices.{Declared}
+use Rattle.rd_declared.specs.Declaring.{bare_lines, declared_devices}
+use Rattle.rd_deeds.specs.Talk.{open_channel}
 use Rattle.rd_world.specs.World.{WorldState}
 use Rattle.rd_acted.proofs.PrinterLemmas.{behind_notices}
 use Rattle.rd_acted.proofs.TellLemmas.{behind_tells, ids_in}

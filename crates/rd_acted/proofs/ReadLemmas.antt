@@ -36,16 +36,16 @@ use Rattle.rd_station.specs.declared.refusals.PutWhy.{PutWhy}
 use Rattle.rd_station.specs.declared.refusals.PutWhy.TheVariants as why
 use Rattle.rd_world.specs.Acts.{cache_after, notice_read}
 use Rattle.rd_world.proofs.BeginningLemmas.{begun_by}
-use Rattle.rd_world.proofs.OpeningLemmas.{declared_openable, lines_begin}
-use Rattle.rd_world.specs.Opening.{IsOpenable, bare_lines}
-use Rattle.rd_world.specs.Run.{declared_devices}
-use Rattle.rd_world.specs.declared.device.SessionDevice.TheVariants as session
-use Rattle.rd_world.specs.Devices.{Declared, PrinterNames, device_cut, printer_data}
+use Rattle.rd_declared.proofs.DeclaringLemmas.{declared_openable}
+use Rattle.rd_world.proofs.OpeningLemmas.{lines_begin}
+use Rattle.rd_declared.specs.Declaring.{IsOpenable, bare_lines, declared_devices}
+use Rattle.rd_declared.specs.declared.device.SessionDevice.TheVariants as session
+use Rattle.rd_declared.specs.Devices.{Declared, PrinterNames, device_cut, printer_data}
 use Rattle.rd_world.specs.Events.{came_of, completion_message, connects, deed_on, dropping}
 use Rattle.rd_world.specs.Hearing.{after_opening, announcing, client_hears, heard_by_client, put_at, put_by, putting, refused_put, with_client}
-use Rattle.rd_world.specs.Talk.{Deed, adds, client_read, client_reads, client_writes, completes, host_begins, host_ends, host_reads, host_writes, notice_in, removes, stores, submits, takes, tells}
+use Rattle.rd_deeds.specs.Talk.{Deed, adds, client_read, client_reads, client_writes, completes, host_begins, host_ends, host_reads, host_writes, notice_in, removes, stores, submits, takes, tells}
 use Rattle.rd_world.specs.World.{WorldState, station_at, stored_beyond, with_station}
-use Rattle.rd_world.specs.declared.device.SessionDevice.{SessionDevice}
+use Rattle.rd_declared.specs.declared.device.SessionDevice.{SessionDevice}
 use Rattle.rd_acted.proofs.NoticeLemmas.{heard_notice, noticed}
 use Rattle.rd_acted.proofs.QuietLemmas.{read_by}
 use Rattle.rd_acted.specs.Acted.{AreReadWell, state_heard, state_read}

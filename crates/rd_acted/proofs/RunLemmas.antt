@@ -22,12 +22,12 @@ use Rattle.rd_rest.specs.RunsPremises.{RunPremises}
 use Rattle.rd_script.specs.declared.line.NumberedLine.{NumberedLine}
 use Rattle.rd_world.specs.Acts.{AreActed, AreSaid, Opens, Tells, is_settled_host, notices_on, of_channel, tellings_due, tellings_on}
 use Rattle.rd_world.specs.Control.{Control, Telling, control_of}
-use Rattle.rd_world.specs.Devices.{Declared}
-use Rattle.rd_world.specs.Host.{first_waiting}
-use Rattle.rd_world.specs.Opening.{bare_lines}
+use Rattle.rd_declared.specs.Devices.{Declared}
+use Rattle.rd_deeds.specs.Host.{first_waiting}
+use Rattle.rd_declared.specs.Declaring.{bare_lines, declared_devices}
 use Rattle.rd_world.specs.Recording.{host_stand}
-use Rattle.rd_world.specs.Run.{Most, choices, declared_devices, run_of}
-use Rattle.rd_world.specs.Talk.{Deed, EachAfter, adds, client_reads, client_writes, completes, has_ended, host_begins, host_ends, host_reads, host_writes, open_channel, removes, stores, submits, takes, tells}
+use Rattle.rd_world.specs.Run.{Most, choices, run_of}
+use Rattle.rd_deeds.specs.Talk.{Deed, EachAfter, adds, client_reads, client_writes, completes, has_ended, host_begins, host_ends, host_reads, host_writes, open_channel, removes, stores, submits, takes, tells}
 use Rattle.rd_world.specs.World.{WorldState}
 use Rattle.rd_acted.proofs.ActLemmas.{acts_by_deeds, control_by_acts}
 use Rattle.rd_acted.proofs.CauseLemmas.{cuts_by_deeds}

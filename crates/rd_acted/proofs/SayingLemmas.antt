@@ -6,8 +6,8 @@ use Rattle.std.proofs.lemmas.List.Elements.{filter-append}
 use Rattle.rd_rest.proofs.ControlsNumbers.{reverse_cons}
 use Rattle.rd_world.specs.Acts.{Tells, cache_after, is_telling, list_of, tellings_on}
 use Rattle.rd_world.specs.Control.{Telling, addition, lists, removal}
-use Rattle.rd_world.specs.Devices.{Declared}
-use Rattle.rd_world.specs.Talk.{Deed, client_writes, client_wrote, completes, on, until_begin, written_by_client}
+use Rattle.rd_declared.specs.Devices.{Declared}
+use Rattle.rd_deeds.specs.Talk.{Deed, client_writes, client_wrote, completes, on, until_begin, written_by_client}
 use Rattle.rd_base.specs.declared.journal.Key.{Key}
 use Rattle.rd_acted.specs.Acted.{SayFirst}
 

@@ -27,18 +27,19 @@ use Rattle.rd_script.specs.declared.line.NumberedLine.{NumberedLine}
 use Rattle.rd_station.specs.Station as station
 use Rattle.rd_station.specs.Station.{StationState}
 use Rattle.rd_world.proofs.BeginningLemmas.{begun_by}
-use Rattle.rd_world.proofs.Messages.{packet_is, written_packet}
-use Rattle.rd_world.proofs.OpeningLemmas.{declared_openable, lines_begin}
+use Rattle.rd_deeds.proofs.Messages.{packet_is, written_packet}
+use Rattle.rd_declared.proofs.DeclaringLemmas.{declared_openable}
+use Rattle.rd_world.proofs.OpeningLemmas.{lines_begin}
 use Rattle.rd_world.specs.Acts.{Tells, cache_after, is_add, is_telling, list_of, tellings_on}
 use Rattle.rd_world.specs.Control.{Telling, addition, lists, removal}
-use Rattle.rd_world.specs.Devices.{Declared, PrinterNames, device_cut, printer_data}
+use Rattle.rd_declared.specs.Devices.{Declared, PrinterNames, device_cut, printer_data}
 use Rattle.rd_world.specs.Events.{connects, cutting, deed_on, dropping, is_channel_open, is_ready, refreshing}
 use Rattle.rd_world.specs.Hearing.{client_hears, with_client}
-use Rattle.rd_world.specs.Opening.{bare_lines}
-use Rattle.rd_world.specs.Run.{declared_devices, world_of}
-use Rattle.rd_world.specs.Talk.{Deed, adds, client_reads, client_writes, completes, host_begins, host_ends, is_open_at, is_removed, open_channel, removes, until_begin}
+use Rattle.rd_declared.specs.Declaring.{bare_lines, declared_devices}
+use Rattle.rd_world.specs.Run.{world_of}
+use Rattle.rd_deeds.specs.Talk.{Deed, adds, client_reads, client_writes, completes, host_begins, host_ends, is_open_at, is_removed, open_channel, removes, until_begin}
 use Rattle.rd_world.specs.World.{WorldState, client_sends, with_station}
-use Rattle.rd_world.specs.declared.device.SessionDevice.{SessionDevice}
+use Rattle.rd_declared.specs.declared.device.SessionDevice.{SessionDevice}
 use Rattle.rd_acted.proofs.DataLemmas.{HasBody, IsShaped, added_shaped, fresh_all, fresh_one, removed_shaped, shaped_more, zip_as, zip_map}
 use Rattle.rd_acted.proofs.ListLemmas.{first_list, first_shaped, one_list}
 use Rattle.rd_acted.proofs.PassingLemmas.{Left, all_dropped_unspoken, left_unspoken, quiet_unspoken}

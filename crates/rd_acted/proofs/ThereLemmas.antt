@@ -34,12 +34,12 @@ use Rattle.rd_station.specs.declared.refusals.AnnounceNo.TheVariants as no
 use Rattle.rd_station.specs.declared.refusals.PutWhy.{PutWhy}
 use Rattle.rd_station.specs.declared.refusals.PutWhy.TheVariants as why
 use Rattle.rd_station.proofs.Holding.{size_held}
-use Rattle.rd_world.specs.Devices.{Declared, PrinterNames, device_cuts, device_parked, device_runs}
+use Rattle.rd_declared.specs.Devices.{Declared, PrinterNames, device_cuts, device_parked, device_runs}
 use Rattle.rd_world.specs.Hearing.{announcing, put_at, put_by, putting}
-use Rattle.rd_world.specs.Talk.{Deed, Has, is_removed, journal, open_channel}
-use Rattle.rd_world.specs.Told.{worn_entries}
+use Rattle.rd_deeds.specs.Talk.{Deed, Has, is_removed, journal, open_channel}
+use Rattle.rd_deeds.specs.Told.{worn_entries}
 use Rattle.rd_world.specs.World.{WorldState, station_at, with_station}
-use Rattle.rd_world.specs.declared.device.SessionDevice.{SessionDevice}
+use Rattle.rd_declared.specs.declared.device.SessionDevice.{SessionDevice}
 use Rattle.rd_acted.proofs.CuttingLemmas.{AreCut, IsPlainItem, Of, came_cut, plain_stores, same_keys}
 use Rattle.rd_acted.proofs.DataLemmas.{IsShaped, id_is}
 use Rattle.rd_acted.proofs.PassingLemmas.{left_unspoken}

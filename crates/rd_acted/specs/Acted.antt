@@ -8,13 +8,13 @@ use Rattle.rd_hello.specs.declared.client.ClientState.{ClientState}
 use Rattle.rd_hello.specs.declared.client.ClientState.TheVariants.{Start}
 use Rattle.rd_printer.specs.declared.notice.Notice.{Notice}
 use Rattle.rd_world.specs.Acts.{AreSaid, IsCutThere, IsDone, IsToldInTime, Tells, act_by, cause_in, control_at_end, control_by, is_add, is_errand_at, notices_on, of_channel, tellings_on}
-use Rattle.rd_world.specs.Devices.{Declared}
+use Rattle.rd_declared.specs.Devices.{Declared}
 use Rattle.rd_script.specs.declared.line.NumberedLine.{NumberedLine}
 use Rattle.rd_printer.specs.Notice.{notice_bytes}
 use Rattle.std.specs.List.Sorted.{IsStrictlyIncreasing}
 use Rattle.rd_world.specs.Control.{Act, Control, Telling, added, addition, additions, begun, dropped_at, ended, lists, noticed, present, removal, removed}
-use Rattle.rd_world.specs.Talk.{AtEachPoint, Deed, EachAfter, adds, client_read, has_ended, host_begins, host_ends, is_open_at, is_removed, journal, removes, tells}
-use Rattle.rd_world.specs.Told.{worn_entries}
+use Rattle.rd_deeds.specs.Talk.{AtEachPoint, Deed, EachAfter, adds, client_read, has_ended, host_begins, host_ends, is_open_at, is_removed, journal, removes, tells}
+use Rattle.rd_deeds.specs.Told.{worn_entries}
 
 -- before the first channel
 abbrev pub no_control : List ℕ → Control

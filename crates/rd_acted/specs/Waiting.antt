@@ -2,7 +2,7 @@
 use Rattle.std.specs.Prelude.{Bool, ℕ, List, filter, map, is_some}
 use Rattle.rd_client.specs.Core.{Outgoing}
 use Rattle.rd_world.specs.Acts.{is_telling}
-use Rattle.rd_world.specs.Talk.{notice_in}
+use Rattle.rd_deeds.specs.Talk.{notice_in}
 
 -- the lists and removals among what a client has to send
 abbrev pub tellings_waiting : List Outgoing → List (List ℕ)

@@ -17,11 +17,11 @@ ghost use Rattle.rd_script.specs.declared.script.Script.{Script};
 ghost use Rattle.rd_script.specs.declared.line.NumberedLine.{NumberedLine};
 ghost use Rattle.rd_world.specs.Acts.{AreActed, AreSaid, IsCutThere, IsDone, IsToldInTime, Opens, Tells, act_by, cache_after, cause_in, control_by, is_settled_host, left_open, notices_on, of_channel, tellings_on};
 ghost use Rattle.rd_world.specs.Control.{control_of, lists};
-ghost use Rattle.rd_world.specs.Devices.{Declared};
-ghost use Rattle.rd_world.specs.Opening.{bare_lines};
+ghost use Rattle.rd_declared.specs.Devices.{Declared};
+ghost use Rattle.rd_declared.specs.Declaring.{bare_lines, declared_devices};
 ghost use Rattle.rd_world.specs.Recording.{announced_of, host_stand, is_gone_at};
-ghost use Rattle.rd_world.specs.Run.{Most, WorldRun, choices, declared_devices, run_of};
-ghost use Rattle.rd_world.specs.Talk.{AtEachPoint, Deed, EachAfter, client_moves, has_ended, journal, open_channel};
+ghost use Rattle.rd_world.specs.Run.{Most, WorldRun, choices, run_of};
+ghost use Rattle.rd_deeds.specs.Talk.{AtEachPoint, Deed, EachAfter, client_moves, has_ended, journal, open_channel};
 ghost use Rattle.rd_world.specs.World.{WorldState};
 
 /// What control lines do is a function of their acts, but for which lines do nothing: so is what a channel's end after everything adds. What is told on a channel, of devices and of

@@ -16,11 +16,11 @@ use Rattle.rd_script.specs.declared.line.Line.TheVariants as line
 use Rattle.rd_script.specs.declared.line.NumberedLine.{NumberedLine}
 use Rattle.rd_station.specs.Station.{StationState, new_station}
 use Rattle.rd_world.proofs.ApplicationsLemmas.{equal_is}
-use Rattle.rd_world.proofs.OpeningLemmas.{declared_openable}
-use Rattle.rd_world.specs.Devices.{Declared, announce_of, declaring, furnishing, holding_at, with_first}
-use Rattle.rd_world.specs.Opening.{IsOpenable, bare_lines}
-use Rattle.rd_world.specs.Run.{declared_devices, station_of, world_of}
-use Rattle.rd_world.specs.declared.device.SessionDevice.{SessionDevice}
+use Rattle.rd_declared.proofs.DeclaringLemmas.{declared_openable}
+use Rattle.rd_declared.specs.Devices.{Declared, announce_of, declaring, furnishing, holding_at, with_first}
+use Rattle.rd_declared.specs.Declaring.{IsOpenable, bare_lines, declared_devices}
+use Rattle.rd_world.specs.Run.{station_of, world_of}
+use Rattle.rd_declared.specs.declared.device.SessionDevice.{SessionDevice}
 use Rattle.rd_answered.proofs.PartLemmas.{IsGood}
 use Rattle.rd_answered.specs.Refusing.{AreLive, AreSaying, DeclareInRoom, DeclaresInRoom, HasRoomToAnnounce}
 

@@ -7,7 +7,7 @@ use Rattle.rd_client.specs.declared.heard.Heard.TheVariants as heard
 use Rattle.rd_core.specs.Core as core
 use Rattle.rd_station.specs.Station as station
 use Rattle.rd_station.specs.declared.refusals.PutWhy.TheVariants as why
-use Rattle.rd_world.specs.Talk as deed
+use Rattle.rd_deeds.specs.Talk as deed
 use Rattle.rd_base.specs.declared.journal.Item.{Item}
 use Rattle.rd_base.specs.declared.journal.Item.TheVariants.{Came, Cancelled, Cut, Ran, Sent}
 use Rattle.rd_base.specs.declared.journal.Key.{Key}
@@ -31,17 +31,17 @@ use Rattle.rd_station.specs.declared.answers.Completion.{Completion}
 use Rattle.rd_station.specs.declared.answers.Given.{Given}
 use Rattle.rd_station.specs.declared.refusals.PutWhy.{PutWhy}
 use Rattle.rd_world.proofs.BeginningLemmas.{begun_by}
-use Rattle.rd_world.proofs.Journals.{contains_has}
+use Rattle.rd_deeds.proofs.Journals.{contains_has}
 use Rattle.rd_world.proofs.OpeningLemmas.{lines_begin}
-use Rattle.rd_world.specs.Devices.{PrinterNames, device_cut}
+use Rattle.rd_declared.specs.Devices.{PrinterNames, device_cut}
 use Rattle.rd_world.specs.Events.{came_of, client_sends_first, client_sends_next, completion_message, connects, dropping}
 use Rattle.rd_world.specs.Hearing.{after_opening, announcing, client_hears, heard_by_client, put_at, put_by, putting}
-use Rattle.rd_world.specs.Joining.{Stands}
-use Rattle.rd_world.specs.Opening.{bare_lines}
-use Rattle.rd_world.specs.Run.{declared_devices, world_of}
-use Rattle.rd_world.specs.Talk.{Deed, EachAfter, Has, client_read, client_reads, completes, head_in, is_completion_of, is_request, journal, request_at, tells, stores, removes, adds, submits, takes, host_begins, host_ends, host_writes, host_reads, client_writes}
+use Rattle.rd_deeds.specs.Joining.{Stands}
+use Rattle.rd_declared.specs.Declaring.{bare_lines, declared_devices}
+use Rattle.rd_world.specs.Run.{world_of}
+use Rattle.rd_deeds.specs.Talk.{Deed, EachAfter, Has, client_read, client_reads, completes, head_in, is_completion_of, is_request, journal, request_at, tells, stores, removes, adds, submits, takes, host_begins, host_ends, host_writes, host_reads, client_writes}
 use Rattle.rd_world.specs.World.{WorldState, handling_by, station_at, with_station}
-use Rattle.rd_world.specs.declared.device.SessionDevice.{SessionDevice}
+use Rattle.rd_declared.specs.declared.device.SessionDevice.{SessionDevice}
 use Rattle.std.specs.List.{cons_option, list_any}
 use Rattle.std.proofs.lemmas.Bool.Decides.{nat_tests}
 use Rattle.rd_base.specs.declared.journal.Cause.TheVariants.{Dropped, Removed}
@@ -51,8 +51,8 @@ use Rattle.rd_irp.specs.declared.completion.Head.{Head}
 use Rattle.rd_station.specs.declared.held.InHand.{InHand}
 use Rattle.rd_station.specs.Station.{is_key}
 use Rattle.rd_refused.specs.RunsPremises.{RunPremises}
-use Rattle.rd_world.proofs.Messages.{head_read}
-use Rattle.rd_world.specs.Told.{came, is_of_device, sent, told}
+use Rattle.rd_deeds.proofs.Messages.{head_read}
+use Rattle.rd_deeds.specs.Told.{came, is_of_device, sent, told}
 use Rattle.rd_refused.specs.JournalsJobs.{FitsCompletion, IsCompletionOf}
 use Rattle.rd_refused.specs.JournalsTold.{InOrder}
 use Rattle.rd_refused.proofs.JournalsCameLemmas.{came_true, fines, never_came, was_ready}

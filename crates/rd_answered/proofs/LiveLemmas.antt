@@ -28,12 +28,12 @@ use Rattle.rd_station.specs.declared.held.InHand.{InHand}
 use Rattle.rd_station.specs.declared.refusals.AnnounceNo.{AnnounceNo}
 use Rattle.rd_station.specs.declared.refusals.AnnounceNo.TheVariants as refused
 use Rattle.rd_station.specs.declared.refusals.PutWhy.TheVariants as why
-use Rattle.rd_world.specs.Devices.{device_cuts, device_parked, device_runs}
+use Rattle.rd_declared.specs.Devices.{device_cuts, device_parked, device_runs}
 use Rattle.rd_world.specs.Hearing.{announcing}
-use Rattle.rd_world.specs.Talk.{journal}
-use Rattle.rd_world.specs.Told.{worn_entries}
+use Rattle.rd_deeds.specs.Talk.{journal}
+use Rattle.rd_deeds.specs.Told.{worn_entries}
 use Rattle.rd_world.specs.World.{WorldState, station_at}
-use Rattle.rd_world.specs.declared.device.SessionDevice.{SessionDevice}
+use Rattle.rd_declared.specs.declared.device.SessionDevice.{SessionDevice}
 use Rattle.rd_answered.specs.Refusing.{AllKeepRoom, KeepsRoom}
 
 abbrev Of : Type 0

@@ -20,17 +20,16 @@ use Rattle.rd_refused.proofs.RunsParts.{IsBehind, MayBe, Part, accepts, adds_one
 use Rattle.rd_refused.proofs.RunsTogether.{knows}
 use Rattle.rd_refused.specs.RunsPremises.{RunPremises}
 use Rattle.rd_script.specs.declared.line.NumberedLine.{NumberedLine}
-use Rattle.rd_world.proofs.Joining.{all_join}
-use Rattle.rd_world.proofs.Journals.{plain_of}
-use Rattle.rd_world.proofs.Lists.{each_end, point_end}
-use Rattle.rd_world.specs.HostDeeds.{MayDo, side_of}
-use Rattle.rd_world.specs.Joining.{AreJoined, IsCarried}
-use Rattle.rd_world.specs.Opening.{bare_lines}
+use Rattle.rd_deeds.proofs.Joining.{all_join}
+use Rattle.rd_deeds.proofs.Journals.{plain_of}
+use Rattle.rd_deeds.proofs.Lists.{each_end, point_end}
+use Rattle.rd_deeds.specs.HostDeeds.{MayDo, side_of}
+use Rattle.rd_deeds.specs.Joining.{AreJoined, IsCarried}
+use Rattle.rd_declared.specs.Declaring.{bare_lines, declared_devices}
 use Rattle.rd_world.specs.Recording.{client_id}
-use Rattle.rd_world.specs.Run.{declared_devices}
 use Rattle.rd_world.specs.Session.{replies_in}
-use Rattle.rd_world.specs.Talk.{AtEachPoint, Deed, EachAfter, EndsWith, client_read, client_reads, is_request, journal, on, request_in}
-use Rattle.rd_world.specs.Told.{Answers, AreAnswered, Replies, requests_to, told, unserved, worn_entries}
+use Rattle.rd_deeds.specs.Talk.{AtEachPoint, Deed, EachAfter, EndsWith, client_read, client_reads, is_request, journal, on, request_in}
+use Rattle.rd_deeds.specs.Told.{Answers, AreAnswered, Replies, requests_to, told, unserved, worn_entries}
 use Rattle.rd_world.specs.World.{WorldState, handling_by}
 use Rattle.rd_directs.proofs.AloneLemmas.{kept_open, none_held, none_met}
 use Rattle.rd_directs.proofs.DirectLemmas.{begins_turns, part_turns, turns_end}

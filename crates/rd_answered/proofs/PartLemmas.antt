@@ -50,17 +50,18 @@ use Rattle.rd_script.specs.declared.line.NumberedLine.{NumberedLine}
 use Rattle.rd_station.specs.Station as station
 use Rattle.rd_station.specs.Station.{StationState, collect_first}
 use Rattle.rd_station.specs.declared.answers.Completion.{Completion}
-use Rattle.rd_world.proofs.Journals.{contains_has}
-use Rattle.rd_world.proofs.Messages.{head_read}
-use Rattle.rd_world.specs.Devices.{PrinterNames, device_cut, printer_data}
+use Rattle.rd_deeds.proofs.Journals.{contains_has}
+use Rattle.rd_deeds.proofs.Messages.{head_read}
+use Rattle.rd_declared.specs.Devices.{PrinterNames, device_cut, printer_data}
 use Rattle.rd_world.specs.Events.{came_of, client_has_message, client_sends_first, client_sends_next, completion_message, connects, cutting, dropping, is_channel_open, is_empty, is_ready, refreshing}
-use Rattle.rd_world.specs.Opening.{AreShort, bare_lines}
-use Rattle.rd_world.specs.Run.{declared_devices, world_of}
-use Rattle.rd_world.specs.Talk as deed
-use Rattle.rd_world.specs.Talk.{Deed, EachAfter, client_reads, client_writes, client_wrote, completes, head_in, journal, on, request_at, client_read, stores}
-use Rattle.rd_world.specs.Told.{CompletesWith, came, is_said_gone, worn_entries}
+use Rattle.rd_declared.specs.Declaring.{bare_lines, declared_devices}
+use Rattle.rd_world.specs.Opening.{AreShort}
+use Rattle.rd_world.specs.Run.{world_of}
+use Rattle.rd_deeds.specs.Talk as deed
+use Rattle.rd_deeds.specs.Talk.{Deed, EachAfter, client_reads, client_writes, client_wrote, completes, head_in, journal, on, request_at, client_read, stores}
+use Rattle.rd_deeds.specs.Told.{CompletesWith, came, is_said_gone, worn_entries}
 use Rattle.rd_world.specs.World.{Asked, WorldState, client_sends, handling_by, station_at, with_station}
-use Rattle.rd_world.specs.declared.device.SessionDevice.{SessionDevice}
+use Rattle.rd_declared.specs.declared.device.SessionDevice.{SessionDevice}
 use Rattle.rd_directs.proofs.AloneLemmas.{kept_open}
 use Rattle.rd_answered.proofs.GrowingLemmas.{few_end, part_grows}
 use Rattle.rd_answered.proofs.ListedLemmas.{has_marked, has_refreshed, room_of, room_refreshed, spells, told_other, told_refreshed, told_removed_off}

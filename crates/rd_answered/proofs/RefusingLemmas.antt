@@ -33,14 +33,14 @@ use Rattle.rd_station.specs.Station as station
 use Rattle.rd_station.specs.Station.{StationState, put_refusal, put_unless}
 use Rattle.rd_station.specs.declared.refusals.PutWhy.{PutWhy}
 use Rattle.rd_station.specs.declared.refusals.PutWhy.TheVariants as why
-use Rattle.rd_world.proofs.Messages.{head_read}
+use Rattle.rd_deeds.proofs.Messages.{head_read}
 use Rattle.rd_world.specs.Hearing.{after_opening, announcing, answers_directly, client_hears, heard_by_client, is_device_told, put_at, put_by, putting}
 use Rattle.rd_world.specs.Opening.{AreShort}
-use Rattle.rd_world.specs.Talk as deed
-use Rattle.rd_world.specs.Talk.{Deed, EachAfter, client_read, client_reads, client_writes, client_wrote, completes, head_in, journal, request_at, stores}
-use Rattle.rd_world.specs.Told.{CompletesWith, is_said_gone}
+use Rattle.rd_deeds.specs.Talk as deed
+use Rattle.rd_deeds.specs.Talk.{Deed, EachAfter, client_read, client_reads, client_writes, client_wrote, completes, head_in, journal, request_at, stores}
+use Rattle.rd_deeds.specs.Told.{CompletesWith, is_said_gone}
 use Rattle.rd_world.specs.World.{WorldState, station_at, with_station}
-use Rattle.rd_world.specs.declared.device.SessionDevice.{SessionDevice}
+use Rattle.rd_declared.specs.declared.device.SessionDevice.{SessionDevice}
 use Rattle.rd_answered.proofs.ListedLemmas.{listed_has}
 use Rattle.rd_answered.proofs.LiveLemmas.{all_live, gone_off, never_worn}
 use Rattle.rd_answered.proofs.ReadyLemmas.{client_kept}

@@ -27,10 +27,10 @@ use Rattle.rd_refused.proofs.JournalsWritingLemmas.{AreOwn}
 use Rattle.rd_refused.proofs.MarkLemmas.{first_marks}
 use Rattle.rd_refused.proofs.SaidLemmas.{hello_says}
 use Rattle.rd_refused.specs.Refused.{RefusesDirectly}
-use Rattle.rd_world.proofs.Messages.{head_read}
+use Rattle.rd_deeds.proofs.Messages.{head_read}
 use Rattle.rd_world.specs.Opening.{AreShort}
-use Rattle.rd_world.specs.Talk.{Deed, client_wrote, completes, head_in}
-use Rattle.rd_world.specs.Told.{is_said_gone}
+use Rattle.rd_deeds.specs.Talk.{Deed, client_wrote, completes, head_in}
+use Rattle.rd_deeds.specs.Told.{is_said_gone}
 use Rattle.rd_answered.proofs.ListedLemmas.{ready_moves, spells}
 use Rattle.rd_answered.specs.Refusing.{AllRefuse, HasRoomToAnnounce, RefusesGone, SaysMarks, is_told_by, written_then}
 

@@ -19,16 +19,15 @@ use Rattle.rd_script.specs.Script.{script_of}
 use Rattle.rd_script.specs.declared.keyword.Mode.{Mode}
 use Rattle.rd_script.specs.declared.line.NumberedLine.{NumberedLine}
 use Rattle.rd_script.specs.declared.script.Script.{Script}
-use Rattle.rd_world.proofs.Joined.{carried_now}
-use Rattle.rd_world.specs.Joining.{AreJoined, Joins}
-use Rattle.rd_world.proofs.Joining.{all_join}
+use Rattle.rd_deeds.proofs.Joined.{carried_now}
+use Rattle.rd_deeds.specs.Joining.{AreJoined, Joins}
+use Rattle.rd_deeds.proofs.Joining.{all_join}
 use Rattle.rd_world.proofs.NumberedLemmas.{scripts_are_numbered}
-use Rattle.rd_world.specs.Opening.{bare_lines}
+use Rattle.rd_declared.specs.Declaring.{bare_lines, declared_devices}
 use Rattle.rd_world.specs.Recording.{client_id}
-use Rattle.rd_world.specs.Run.{declared_devices}
 use Rattle.rd_world.specs.Session.{replies_in}
-use Rattle.rd_world.specs.Talk.{EachAfter}
-use Rattle.rd_world.specs.Told.{Answers, AreAnswered}
+use Rattle.rd_deeds.specs.Talk.{EachAfter}
+use Rattle.rd_deeds.specs.Told.{Answers, AreAnswered}
 use Rattle.rd_world.specs.World.{WorldState}
 use Rattle.rd_answered.specs.Refusing.{DeclareInRoom}
 use Rattle.rd_answered.proofs.FirstLemmas.{begins_good}

@@ -24,7 +24,7 @@ use Rattle.rd_script.specs.Said.{Said, max_script_devices}
 use Rattle.rd_script.specs.Script.{is_application, line_of, BadLine, Reading, TextLine, bad_line, fits, go_on, is_skipped, lines_of, read_all, reading, reading_at_start, script_of, script_read, skipping, step, taken}
 use Rattle.rd_script.specs.Texts.{place_word, few_bytes, few_ranges, handle_word, hex_word, name_word}
 use Rattle.rd_script.proofs.RowLemmas.{ok_same}
-use Rattle.rd_world.proofs.RowFacts.{AreShort, Gives, gives_after, gives_between, gives_done, gives_few, gives_few_bytes, gives_hex, gives_name, gives_then}
+use Rattle.rd_declared.proofs.RowFacts.{AreShort, Gives, gives_after, gives_between, gives_done, gives_few, gives_few_bytes, gives_hex, gives_name, gives_then}
 use Rattle.std.specs.Result.{result_unwrap_or}
 use Rattle.rd_script.specs.declared.keyword.Mode.{Mode}
 use Rattle.rd_script.specs.declared.line.NumberedLine.{NumberedLine}

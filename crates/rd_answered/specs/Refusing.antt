@@ -13,10 +13,10 @@ use Rattle.rd_script.specs.declared.line.Line.{Line}
 use Rattle.rd_script.specs.declared.line.Line.TheVariants as line
 use Rattle.rd_script.specs.declared.line.NumberedLine.{NumberedLine}
 use Rattle.rd_station.specs.Station.{StationState, held}
-use Rattle.rd_world.specs.Talk.{Deed, EachAfter, client_wrote, head_in}
-use Rattle.rd_world.specs.Told.{is_said_gone, worn_entries}
+use Rattle.rd_deeds.specs.Talk.{Deed, EachAfter, client_wrote, head_in}
+use Rattle.rd_deeds.specs.Told.{is_said_gone, worn_entries}
 use Rattle.rd_world.specs.World.{WorldState}
-use Rattle.rd_world.specs.declared.device.SessionDevice.{SessionDevice}
+use Rattle.rd_declared.specs.declared.device.SessionDevice.{SessionDevice}
 
 -- ---- the devices of lines
 

@@ -9,13 +9,12 @@ ghost use Rattle.rd_script.specs.declared.script.Script.{Script};
 ghost use Rattle.rd_refused.specs.RunsMoves.{Reached};
 ghost use Rattle.rd_refused.specs.RunsPremises.{RunPremises};
 ghost use Rattle.rd_refused.specs.Refused.{RefusesDirectly};
-ghost use Rattle.rd_world.specs.Joining.{AreJoined, Joins};
-ghost use Rattle.rd_world.specs.Opening.{bare_lines};
+ghost use Rattle.rd_deeds.specs.Joining.{AreJoined, Joins};
+ghost use Rattle.rd_declared.specs.Declaring.{bare_lines, declared_devices};
 ghost use Rattle.rd_world.specs.Recording.{client_id};
-ghost use Rattle.rd_world.specs.Run.{declared_devices};
 ghost use Rattle.rd_world.specs.Session.{replies_in};
-ghost use Rattle.rd_world.specs.Talk.{EachAfter};
-ghost use Rattle.rd_world.specs.Told.{AreAnswered};
+ghost use Rattle.rd_deeds.specs.Talk.{EachAfter};
+ghost use Rattle.rd_deeds.specs.Told.{AreAnswered};
 ghost use Rattle.rd_world.specs.World.{WorldState};
 ghost use Rattle.rd_answered.specs.Refusing.{DeclareInRoom, IsLiveIn, IsSaying};
 

@@ -12,7 +12,7 @@ use Rattle.rd_headline.proofs.SessionLemmas.{runs_are_whole}
 use Rattle.rd_headline.specs.LoadsAllPremises.{MeetPremises}
 use Rattle.rd_world.specs.Recording.{recording_of_deeds}
 use Rattle.rd_world.specs.Session.{IsRun, journals_of}
-use Rattle.rd_world.specs.Talk.{Deed}
+use Rattle.rd_deeds.specs.Talk.{Deed}
 use Rattle.rd_world.specs.Wire.{CountsWire, IsCutRun}
 use Rattle.rd_world.specs.World.{WorldState}
 use Rattle.rd_world.specs.declared.event.StepNo.{StepNo}

@@ -7,7 +7,7 @@ use Rattle.rd_script.specs.declared.keyword.Mode.TheVariants as mode
 use Rattle.rd_cli.specs.Outside.{Linked, Outside, Sharing, Stream}
 use Rattle.rd_cli.specs.Shapes.{HasShape, IsAt, StopsForWords}
 use Rattle.rd_cli.specs.Stops.{StopsWith}
-use Rattle.rd_cli.specs.Client.{IsClientSession, IsEndOfClient, NoFolderOpened, ServedNothing}
+use Rattle.rd_cli.specs.Client.{IsClientSession, IsEndOfClient, IsFolderUnopened, ServedNothing}
 use Rattle.rd_cli.specs.Host.{IsEndOfHost, IsHostSession}
 use Rattle.rd_cli.specs.Ends.{EndsCommand, IsEnd}
 use Rattle.rd_cli.specs.declared.words.Command.{Command}
@@ -29,7 +29,7 @@ starved before output linked sharing books status is silent unstored command.Dec
 starved before output linked sharing books status is silent unstored (command.Load number) =
     (loading.starved_end number before.output output before.recording before.recording books status is silent (inl (refl, unstored)), refl, refl, refl)
 starved before output linked sharing books status is silent unstored (command.Client path) = (
-  serving.starved_end mode.Client (IsClientSession linked linked sharing sharing books) (ServedNothing linked linked sharing sharing books) (NoFolderOpened linked linked sharing sharing books)
+  serving.starved_end mode.Client (IsClientSession linked linked sharing sharing books) (ServedNothing linked linked sharing sharing books) (IsFolderUnopened linked linked sharing sharing books)
       before.input before.input before.output output status is
       (record { faultless = refl; unprinted = silent; session = inl (record { unlinked = refl; unshared = refl; unstored = unstored }) }),
   refl,

@@ -20,13 +20,13 @@ use Rattle.rd_station.specs.Station.{StationState}
 use Rattle.rd_world.specs.Acts.{act_by, is_errand_at}
 use Rattle.rd_world.specs.Control as control
 use Rattle.rd_world.specs.Control.{Control, added_at, connected, dropped_at, idled, noticed_at, removed_at}
-use Rattle.rd_world.specs.Devices.{PrinterNames, device_cut, printer_data}
+use Rattle.rd_declared.specs.Devices.{PrinterNames, device_cut, printer_data}
 use Rattle.rd_world.specs.Events.{adds_device, connects, cutting, dropping, drops, refreshing, removes_device, removing, telling_of}
 use Rattle.rd_world.specs.Hearing.{with_client}
 use Rattle.rd_world.specs.Run.{idles}
-use Rattle.rd_world.specs.Talk.{adds, removes}
+use Rattle.rd_deeds.specs.Talk.{adds, removes}
 use Rattle.rd_world.specs.World.{WorldState, station_at, with_deed, with_station}
-use Rattle.rd_world.specs.declared.device.SessionDevice.{SessionDevice}
+use Rattle.rd_declared.specs.declared.device.SessionDevice.{SessionDevice}
 
 module _ (ids : List ℕ) (lines : List NumberedLine) where
   -- What is seen of a world is what control lines did, with these lines still to come.

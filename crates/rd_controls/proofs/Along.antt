@@ -20,11 +20,12 @@ use Rattle.rd_script.specs.declared.line.Line.TheVariants as line
 use Rattle.rd_script.specs.declared.line.NumberedLine.{NumberedLine}
 use Rattle.rd_world.proofs.PlayingLemmas.{may_connect}
 use Rattle.rd_world.specs.Control.{Control, connected, control_of, controlled, first_control}
-use Rattle.rd_world.specs.Devices.{Declared}
+use Rattle.rd_declared.specs.Devices.{Declared}
 use Rattle.rd_world.specs.Events as event
 use Rattle.rd_world.specs.Events.{Event, act, is_channel_open, is_enabled}
-use Rattle.rd_world.specs.Run.{Most, asked_by, declared_devices, by_event, choices, connects_on, controls, does, drawing, ends_session, event_of, idles, notice_of, plays, plays_line, queueing, run_of, settled, some_left, world_of}
-use Rattle.rd_world.specs.Talk.{Has}
+use Rattle.rd_declared.specs.Declaring.{declared_devices}
+use Rattle.rd_world.specs.Run.{Most, asked_by, by_event, choices, connects_on, controls, does, drawing, ends_session, event_of, idles, notice_of, plays, plays_line, queueing, run_of, settled, some_left, world_of}
+use Rattle.rd_deeds.specs.Talk.{Has}
 use Rattle.rd_world.specs.World.{Asked, WorldState}
 
 module _ (lines : List NumberedLine) (starves : Key → Bool) (most : Most) (ids : List ℕ) (rise : Rise (numbers lines)) (premises : RunPremises lines) where

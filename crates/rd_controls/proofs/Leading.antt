@@ -22,11 +22,12 @@ use Rattle.rd_script.specs.declared.line.NumberedLine.{NumberedLine}
 use Rattle.rd_world.proofs.PlayingLemmas.{may_connect}
 use Rattle.rd_world.specs.Acts.{act_by, is_errand, is_errand_at, is_settle}
 use Rattle.rd_world.specs.Control.{Control, added_at, connected, control_of, controlled, dropped_at, idled, is_among, noticed_at, removed_at, where_open}
-use Rattle.rd_world.specs.Devices.{Declared}
+use Rattle.rd_declared.specs.Devices.{Declared}
 use Rattle.rd_world.specs.Events as event
 use Rattle.rd_world.specs.Events.{Event, act, is_channel_open, is_enabled}
-use Rattle.rd_world.specs.Run.{Most, applications_of, asked_by, by_event, choices, connects_on, controls, declared_devices, does, drawing, ends_session, event_of, idles, is_quiet, new_world, notice_of, plays, plays_line, queueing, run_of, setting, settled, some_left, world_of, rounds}
-use Rattle.rd_world.specs.Talk.{Deed, EndsWith, Has}
+use Rattle.rd_declared.specs.Declaring.{declared_devices}
+use Rattle.rd_world.specs.Run.{Most, applications_of, asked_by, by_event, choices, connects_on, controls, does, drawing, ends_session, event_of, idles, is_quiet, new_world, notice_of, plays, plays_line, queueing, run_of, setting, settled, some_left, world_of, rounds}
+use Rattle.rd_deeds.specs.Talk.{Deed, EndsWith, Has}
 use Rattle.rd_world.specs.Session.{at_settles}
 use Rattle.rd_controls.proofs.Opening.{begins_at, opened}
 use Rattle.rd_runs.specs.Premises.{RunPremises}

@@ -14,8 +14,8 @@ use Rattle.rd_dirinfo.specs.Paths.{Names}
 use Rattle.rd_script.specs.declared.line.Line.{Line}
 use Rattle.rd_script.specs.declared.line.Line.TheVariants as line
 use Rattle.rd_world.specs.Control.{is_among}
-use Rattle.rd_world.specs.Devices.{Declared, announce_of, declaring, furnishing, holding_at, with_first}
-use Rattle.rd_world.specs.Run.{declared_devices}
+use Rattle.rd_declared.specs.Devices.{Declared, announce_of, declaring, furnishing, holding_at, with_first}
+use Rattle.rd_declared.specs.Declaring.{declared_devices}
 
 -- ---- of a client
 

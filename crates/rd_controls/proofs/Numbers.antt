@@ -10,7 +10,7 @@ use Rattle.std.proofs.lemmas.List.{reverse-append}
 use Rattle.std.proofs.lemmas.List.Elements.{filter_map-append}
 use Rattle.rd_script.specs.declared.line.NumberedLine.{NumberedLine}
 use Rattle.rd_world.specs.Acts.{is_errand, is_errand_at}
-use Rattle.rd_world.specs.Talk.{Has}
+use Rattle.rd_deeds.specs.Talk.{Has}
 
 abbrev pub numbers : List NumberedLine → List ℕ
 numbers ls = map (λ (l : NumberedLine). l.number) ls

@@ -1,7 +1,7 @@
 -- A channel opens: of what passes in the rounds of its begin each message follows from those before it.
 use Rattle.std.proofs.Common.{◌≡◌, ◌∙◌, refl, sym, ap, subst, ℕ, zero, suc, ◌+◌, Bool, true, false, List, [], ◌∷◌, length, map, fold, Some, None, Option, Result, Ok, Err}
 use Rattle.std.specs.Prelude.{if◌then◌else◌, is_some}
-use Rattle.rd_world.specs.Host.{first_waiting}
+use Rattle.rd_deeds.specs.Host.{first_waiting}
 use Rattle.std.specs.Option.{IfSome, option_map_or}
 use Rattle.rd_base.specs.declared.journal.Key.{Key}
 use Rattle.rd_client.specs.Core.{Outgoing, plain, refresh}
@@ -29,7 +29,7 @@ use Rattle.rd_pending.specs.declared.calls.Taken.{Taken}
 use Rattle.rd_script.specs.declared.outcome.Outcome.{Outcome}
 use Rattle.rd_world.specs.Events as event
 use Rattle.rd_world.specs.Events.{act, connects, is_enabled, refreshing}
-use Rattle.rd_world.specs.Talk.{client_reads, open_channel, takes}
+use Rattle.rd_deeds.specs.Talk.{client_reads, open_channel, takes}
 use Rattle.std.specs.BTreeMap.{is_at}
 use Rattle.std.specs.Map.{lookup}
 use Rattle.std.specs.Ordering.{nat_cmp}
@@ -38,7 +38,7 @@ use Rattle.rd_runs.proofs.Together as together
 use Rattle.rd_runs.specs.Moves.{Reached}
 use Rattle.rd_runs.specs.Premises.{RunPremises}
 use Rattle.rd_script.specs.declared.line.NumberedLine.{NumberedLine}
-use Rattle.rd_world.specs.Devices.{PrinterNames, printer_data}
+use Rattle.rd_declared.specs.Devices.{PrinterNames, printer_data}
 use Rattle.rd_world.specs.Run.{all_client_sends, all_host_sends, client_reads_all, host_reads_all, is_quiet, rounds}
 use Rattle.rd_world.specs.Hearing.{all_take, client_hears, ends_line, host_handles, next_asked, takes_awaited, takes_from, takes_outcome, with_client, with_outcome}
 use Rattle.rd_world.specs.World.{ApplicationState, Asked, Kept, WayState, WorldState, application_at, handling, having_read, most_messages, with_application, with_deed, with_table}

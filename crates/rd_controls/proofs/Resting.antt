@@ -13,13 +13,13 @@ use Rattle.rd_script.specs.declared.line.Line.TheVariants as line
 use Rattle.rd_script.specs.declared.line.NumberedLine.{NumberedLine}
 use Rattle.rd_station.specs.Station.{StationState}
 use Rattle.rd_world.specs.Acts.{is_settle}
-use Rattle.rd_world.specs.Devices.{PrinterNames}
+use Rattle.rd_declared.specs.Devices.{PrinterNames}
 use Rattle.rd_world.specs.Events as event
 use Rattle.rd_world.specs.Events.{Event, act, cutting, dropping, is_channel_open, is_enabled, refreshing}
 use Rattle.rd_world.specs.Run.{Most, asked_by, by_event, choices, connects_on, controls, does, drawing, ends_session, event_of, idles, is_quiet, notice_of, plays_line, queueing, settled, some_left}
-use Rattle.rd_world.specs.Talk.{Deed, EndsWith, adds, host_begins, host_ends, removes, tells}
+use Rattle.rd_deeds.specs.Talk.{Deed, EndsWith, adds, host_begins, host_ends, removes, tells}
 use Rattle.rd_world.specs.World.{Asked, WorldState}
-use Rattle.rd_world.specs.declared.device.SessionDevice.{SessionDevice}
+use Rattle.rd_declared.specs.declared.device.SessionDevice.{SessionDevice}
 
 -- ---- what is done
 

@@ -27,8 +27,8 @@ use Rattle.rd_script.specs.declared.line.Line.TheVariants as line
 use Rattle.rd_script.specs.declared.line.NumberedLine.{NumberedLine}
 use Rattle.rd_script.specs.declared.script.Script.{Script}
 use Rattle.rd_world.specs.Control.{is_among}
-use Rattle.rd_world.specs.Devices.{Declared, declaring, furnishing, holding_at}
-use Rattle.rd_world.specs.Run.{declared_devices}
+use Rattle.rd_declared.specs.Devices.{Declared, declaring, furnishing, holding_at}
+use Rattle.rd_declared.specs.Declaring.{declared_devices}
 
 -- ---- ids
 

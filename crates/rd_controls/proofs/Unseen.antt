@@ -50,10 +50,10 @@ use Rattle.rd_world.specs.Control as control
 use Rattle.rd_world.specs.Events as event
 use Rattle.rd_world.specs.Events.{Event, act, applies_at, applies_held, asks, client_sends_first, collects_from, comes_of_asking, completion_message, deed_on, issues_next, takes_job_from, target_of, with_hand}
 use Rattle.rd_world.specs.Hearing.{after_opening, all_take, announcing, client_handles, client_handles_all, client_handles_first, client_hears, ends_line, heard_by_client, host_handles, host_handles_first, host_hears, next_asked, put_at, put_by, putting, refused_put, takes_awaited, takes_from, takes_outcome, tries, tries_kept, with_client, with_outcome}
-use Rattle.rd_world.specs.Host.{HostSide, admits, forgets, hears, host_heard, lived, next_message, sent_from, side_sends}
-use Rattle.rd_world.specs.Talk.{Deed, EndsWith, client_reads, client_writes, completes, host_reads, host_writes, stores, submits, takes}
+use Rattle.rd_deeds.specs.Host.{HostSide, admits, forgets, hears, host_heard, lived, next_message, sent_from, side_sends}
+use Rattle.rd_deeds.specs.Talk.{Deed, EndsWith, client_reads, client_writes, completes, host_reads, host_writes, stores, submits, takes}
 use Rattle.rd_world.specs.World.{ApplicationState, Asked, Kept, WayState, WorldState, application_at, client_sends, handling, having_read, host_sends, most_messages, station_at, stored_beyond, with_application, with_deed, with_station, with_table}
-use Rattle.rd_world.specs.declared.device.SessionDevice.{SessionDevice}
+use Rattle.rd_declared.specs.declared.device.SessionDevice.{SessionDevice}
 use Rattle.rd_pending.specs.declared.calls.Handle.{Handle}
 
 -- a device's id, and whether it was removed and not added since

@@ -15,7 +15,7 @@ use Rattle.rd_world.specs.Control.{Control, control_of, dropped_at, first_contro
 use Rattle.rd_world.specs.Events.{is_channel_open}
 use Rattle.rd_world.specs.Run.{choices, some_left}
 use Rattle.rd_world.specs.Session.{at_settles}
-use Rattle.rd_world.specs.Talk.{Deed, EndsWith}
+use Rattle.rd_deeds.specs.Talk.{Deed, EndsWith}
 use Rattle.rd_world.specs.World.{WorldState}
 
 -- the devices that a line removes and adds are among these

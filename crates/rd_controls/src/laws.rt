@@ -8,8 +8,9 @@ ghost use Rattle.rd_script.specs.Script.{script_of};
 ghost use Rattle.rd_script.specs.declared.keyword.Mode.TheVariants as Mode;
 ghost use Rattle.rd_script.specs.declared.line.NumberedLine.{NumberedLine};
 ghost use Rattle.rd_script.specs.declared.script.Script.{Script};
-ghost use Rattle.rd_world.specs.Devices.{Declared};
-ghost use Rattle.rd_world.specs.Run.{Most, WorldRun, declared_devices, run_of};
+ghost use Rattle.rd_declared.specs.Devices.{Declared};
+ghost use Rattle.rd_declared.specs.Declaring.{declared_devices};
+ghost use Rattle.rd_world.specs.Run.{Most, WorldRun, run_of};
 ghost use Rattle.rd_world.specs.World.{WorldState, marks_of};
 
 /// In every run of lines whose numbers rise, and which remove and add devices of theirs, channels begin and end, devices are removed and added and printers

@@ -24,6 +24,10 @@ mod side;
 mod under_way;
 
 pub use fault::{DecodeNo, EntryFault, Fault, FaultWhy};
+pub use frame::{SIZE_LEN, head_of, size_of};
 pub use laws::{first_fault_stays, recordings_are_as_listed};
+pub use lines::may_send;
+pub use message::plain_tail;
 pub use printing::decode;
 pub use side::Side;
+pub use under_way::UnderWay;

@@ -111,7 +111,7 @@ fn put_plain(
 }
 
 /// Counts the ignored bytes of a message of a packet that says nothing of requests.
-fn plain_tail(alloc: Global, packet: Packet, message: &[u8]) -> Result<u32, ReadNo>
+pub fn plain_tail(alloc: Global, packet: Packet, message: &[u8]) -> Result<u32, ReadNo>
     requires { length message.now ≤ max_message }
     ensures tail { IfOk result (λ tail. plain_tail packet message.now ≡ Ok tail) }
     ensures refused { IfErr result (ForBad (λ bad. plain_tail packet message.now ≡ Err bad)) }

@@ -19,13 +19,13 @@ use Rattle.rd_station.proofs.Members.{to_contains}
 use Rattle.rd_station.proofs.Remembering.{came_named}
 use Rattle.rd_station.specs.Memory.{NamesKey}
 use Rattle.rd_station.specs.Station.{StationState, held}
-use Rattle.rd_world.proofs.Journals.{contains_has, has_contains}
-use Rattle.rd_world.proofs.Telling.{request_within}
-use Rattle.rd_world.specs.Devices.{Declared, device_cuts, device_parked, device_runs}
-use Rattle.rd_world.specs.Joining.{IsAlone}
-use Rattle.rd_world.specs.Talk.{Deed, EachAfter, Has, adds, asked, client_read, client_reads, client_writes, completes, host_begins, host_ends, host_reads, host_writes, indices_of, is_request, journal, message_asks_pair, on, removes, request_at, request_in, stores, submits, takes, tells}
+use Rattle.rd_deeds.proofs.Journals.{contains_has, has_contains}
+use Rattle.rd_deeds.proofs.Telling.{request_within}
+use Rattle.rd_declared.specs.Devices.{Declared, device_cuts, device_parked, device_runs}
+use Rattle.rd_deeds.specs.Joining.{IsAlone}
+use Rattle.rd_deeds.specs.Talk.{Deed, EachAfter, Has, adds, asked, client_read, client_reads, client_writes, completes, host_begins, host_ends, host_reads, host_writes, indices_of, is_request, journal, message_asks_pair, on, removes, request_at, request_in, stores, submits, takes, tells}
 use Rattle.rd_world.specs.World.{Kept, WorldState, station_at}
-use Rattle.rd_world.specs.declared.device.SessionDevice.{SessionDevice}
+use Rattle.rd_declared.specs.declared.device.SessionDevice.{SessionDevice}
 use Rattle.rd_directs.specs.Turns.{NoneHeld}
 
 abbrev Of : Type 0

@@ -56,19 +56,19 @@ use Rattle.rd_station.specs.declared.answers.Completion.{Completion}
 use Rattle.rd_station.specs.declared.refusals.PutWhy.{PutWhy}
 use Rattle.rd_station.specs.declared.refusals.PutWhy.TheVariants as why
 use Rattle.rd_world.proofs.BeginningLemmas.{begun_by}
-use Rattle.rd_world.proofs.Journals.{contains_has}
-use Rattle.rd_world.proofs.Messages.{head_read}
+use Rattle.rd_deeds.proofs.Journals.{contains_has}
+use Rattle.rd_deeds.proofs.Messages.{head_read}
 use Rattle.rd_world.proofs.OpeningLemmas.{lines_begin}
-use Rattle.rd_world.specs.Devices.{Declared, PrinterNames, device_cut, printer_data}
+use Rattle.rd_declared.specs.Devices.{Declared, PrinterNames, device_cut, printer_data}
 use Rattle.rd_world.specs.Events.{came_of, client_has_message, client_sends_first, client_sends_next, completion_message, connects, cutting, dropping, is_empty}
 use Rattle.rd_world.specs.Hearing.{after_opening, announcing, answers_directly, client_hears, heard_by_client, is_device_told, put_at, put_by, putting}
-use Rattle.rd_world.specs.Opening.{bare_lines}
-use Rattle.rd_world.specs.Run.{declared_devices, world_of}
-use Rattle.rd_world.specs.Talk as deed
-use Rattle.rd_world.specs.Talk.{Deed, EndsWith, Has, client_read, client_reads, client_writes, completes, head_in, is_request, journal, request_at, request_in, stores}
-use Rattle.rd_world.specs.Told.{CompletesWith, came, is_of_device, requests_to, told, told_at, unserved}
+use Rattle.rd_declared.specs.Declaring.{bare_lines, declared_devices}
+use Rattle.rd_world.specs.Run.{world_of}
+use Rattle.rd_deeds.specs.Talk as deed
+use Rattle.rd_deeds.specs.Talk.{Deed, EndsWith, Has, client_read, client_reads, client_writes, completes, head_in, is_request, journal, request_at, request_in, stores}
+use Rattle.rd_deeds.specs.Told.{CompletesWith, came, is_of_device, requests_to, told, told_at, unserved}
 use Rattle.rd_world.specs.World.{Kept, WorldState, client_sends, handling_by, station_at, with_station}
-use Rattle.rd_world.specs.declared.device.SessionDevice.{SessionDevice}
+use Rattle.rd_declared.specs.declared.device.SessionDevice.{SessionDevice}
 use Rattle.rd_directs.proofs.TurnLemmas.{none_before, said_ends, turn_left, turns_asks, turns_came, turns_direct, turns_inside, turns_other, turns_own, turns_said, turns_wrong}
 use Rattle.rd_directs.specs.Turns.{InTurn, MeetNone, MeetsNone, NoneHeld, DirectTurn, TurnIn, Turns, kept_at, never, said}
 

@@ -27,10 +27,10 @@ use Rattle.rd_irp.specs.declared.request.Request.{Request}
 use Rattle.rd_journals.proofs.AskingLemmas.{HeardAs, hears}
 use Rattle.rd_journals.specs.Jobs.{AreFine, FitsCompletion}
 use Rattle.rd_journals.specs.Orderly.{IsNext, Orderly}
-use Rattle.rd_world.proofs.Messages.{head_read}
+use Rattle.rd_deeds.proofs.Messages.{head_read}
 use Rattle.rd_world.specs.Events.{deed_on}
-use Rattle.rd_world.specs.Talk.{Deed, EndsWith, Has, client_read, client_reads, completes, head_in, is_request, journal, request_in, tells, stores, removes, adds, submits, takes, host_begins, host_ends, host_writes, host_reads, client_writes}
-use Rattle.rd_world.specs.Told.{CompletesWith, came, came_as, is_of_device, requests_to, told, told_at}
+use Rattle.rd_deeds.specs.Talk.{Deed, EndsWith, Has, client_read, client_reads, completes, head_in, is_request, journal, request_in, tells, stores, removes, adds, submits, takes, host_begins, host_ends, host_writes, host_reads, client_writes}
+use Rattle.rd_deeds.specs.Told.{CompletesWith, came, came_as, is_of_device, requests_to, told, told_at}
 use Rattle.rd_world.specs.World.{Kept, WorldState}
 use Rattle.rd_journals.proofs.RunsInsides.{AreOwn, IsInside, IsOwn}
 use Rattle.rd_directs.specs.Turns.{InTurn, DirectTurn, TurnIn, Turns, kept_at, never, said}

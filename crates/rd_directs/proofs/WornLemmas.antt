@@ -12,10 +12,10 @@ use Rattle.rd_irp.specs.declared.completion.Reply.{Reply}
 use Rattle.rd_irp.specs.declared.request.Request.{Request}
 use Rattle.rd_journals.proofs.CameLemmas.{came_true}
 use Rattle.rd_station.proofs.Members.{has_right, to_contains}
-use Rattle.rd_world.proofs.Journals.{IsPlain, contains_has}
-use Rattle.rd_world.proofs.Messages.{head_read}
-use Rattle.rd_world.specs.Talk.{Deed, EachAfter, Has, client_reads, client_writes, completes, head_in, host_begins, host_ends, host_reads, host_writes, journal, stored_by, submits, takes, tells, removes, adds, stores}
-use Rattle.rd_world.specs.Told.{Answers, ComesUnworn, CompletesWith, IsAnswerAt, Replies, came, came_as, says_worn, worn_entries}
+use Rattle.rd_deeds.proofs.Journals.{IsPlain, contains_has}
+use Rattle.rd_deeds.proofs.Messages.{head_read}
+use Rattle.rd_deeds.specs.Talk.{Deed, EachAfter, Has, client_reads, client_writes, completes, head_in, host_begins, host_ends, host_reads, host_writes, journal, stored_by, submits, takes, tells, removes, adds, stores}
+use Rattle.rd_deeds.specs.Told.{Answers, ComesUnworn, CompletesWith, IsAnswerAt, Replies, came, came_as, says_worn, worn_entries}
 
 -- ---- what ran, or was cancelled or sent, came
 

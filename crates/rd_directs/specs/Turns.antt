@@ -10,10 +10,10 @@ use Rattle.rd_journals.proofs.RunsParts.{IsBehind, MayBe, Part, client_hears_one
 use Rattle.rd_script.specs.declared.line.NumberedLine.{NumberedLine}
 use Rattle.rd_station.specs.Station.{StationState, held}
 use Rattle.rd_world.specs.Events.{deed_on}
-use Rattle.rd_world.specs.Talk.{Deed, Has, client_read, journal, request_in}
-use Rattle.rd_world.specs.Told.{came, requests_to, told, told_at}
+use Rattle.rd_deeds.specs.Talk.{Deed, Has, client_read, journal, request_in}
+use Rattle.rd_deeds.specs.Told.{came, requests_to, told, told_at}
 use Rattle.rd_world.specs.World.{Kept, WorldState, station_at}
-use Rattle.rd_world.specs.declared.device.SessionDevice.{SessionDevice}
+use Rattle.rd_declared.specs.declared.device.SessionDevice.{SessionDevice}
 
 -- the index of the job that is kept back, on a channel for a device
 abbrev pub kept_at : ℕ → ℕ → Option Kept → Option ℕ

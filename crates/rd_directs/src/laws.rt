@@ -8,9 +8,9 @@ ghost use Rattle.rd_irp.specs.declared.request.Request.{Request};
 ghost use Rattle.rd_journals.proofs.RunsParts.{IsBehind};
 ghost use Rattle.rd_journals.specs.RunsMoves.{Reached};
 ghost use Rattle.rd_journals.specs.RunsPremises.{RunPremises};
-ghost use Rattle.rd_world.specs.Joining.{IsAlone};
-ghost use Rattle.rd_world.specs.Talk.{Deed, EachAfter, EndsWith, client_read, client_reads, journal, request_in};
-ghost use Rattle.rd_world.specs.Told.{Answers, ComesUnworn, Replies, requests_to, told, unserved, worn_entries};
+ghost use Rattle.rd_deeds.specs.Joining.{IsAlone};
+ghost use Rattle.rd_deeds.specs.Talk.{Deed, EachAfter, EndsWith, client_read, client_reads, journal, request_in};
+ghost use Rattle.rd_deeds.specs.Told.{Answers, ComesUnworn, Replies, requests_to, told, unserved, worn_entries};
 ghost use Rattle.rd_world.specs.World.{Kept, WorldState};
 ghost use Rattle.rd_directs.specs.Turns.{MeetNone, NoneHeld};
 

@@ -14,9 +14,9 @@ use Rattle.rd_station.specs.Station.{StationState}
 use Rattle.rd_station.specs.declared.refusals.PutWhy.{PutWhy}
 use Rattle.rd_station.specs.declared.refusals.PutWhy.TheVariants as why
 use Rattle.rd_world.proofs.WayStreamLemmas.{message_shorter}
-use Rattle.rd_world.specs.declared.device.SessionDevice.{SessionDevice}
+use Rattle.rd_declared.specs.declared.device.SessionDevice.{SessionDevice}
 use Rattle.rd_world.specs.Hearing.{client_handles, client_handles_all, client_handles_first, client_hears, put_at, put_by, putting, refused_put, tries, tries_kept, with_client}
-use Rattle.rd_world.specs.Talk.{client_reads}
+use Rattle.rd_deeds.specs.Talk.{client_reads}
 use Rattle.rd_world.specs.World.{Kept, WayState, WorldState, first_message, handling_by, most_messages, station_at, with_deed}
 use Rattle.rd_ended.proofs.ClientHearing.{DoesNoMore, heard_no_more, hears_on, put_no_more}
 use Rattle.rd_ended.proofs.Remaining.{back, handling_left, others, to_open, unheard, unheard_by}

@@ -29,7 +29,7 @@ use Rattle.rd_hello.specs.declared.hello.Hello.{Hello}
 use Rattle.rd_hello.specs.declared.hello.Hello.TheVariants as greeting
 use Rattle.rd_hello.specs.Own.{client_sets, tell_log_on}
 use Rattle.rd_opening.proofs.OrdersMeeting.{IsHeardTo, IsPut}
-use Rattle.rd_world.proofs.Messages.{packet_is, written_packet}
+use Rattle.rd_deeds.proofs.Messages.{packet_is, written_packet}
 use Rattle.rd_ended.proofs.Remaining.{other_one, others, others_more}
 
 -- ---- rows

@@ -31,14 +31,14 @@ use Rattle.rd_station.specs.declared.answers.Given.TheVariants as given
 use Rattle.rd_station.specs.Station as station
 use Rattle.rd_station.specs.Station.{StationState}
 use Rattle.rd_told.proofs.PrintedLemmas.{keyed}
-use Rattle.rd_world.specs.declared.device.SessionDevice.{SessionDevice}
-use Rattle.rd_world.specs.Devices.{Declared}
+use Rattle.rd_declared.specs.declared.device.SessionDevice.{SessionDevice}
+use Rattle.rd_declared.specs.Devices.{Declared}
 use Rattle.rd_world.specs.Events as event
 use Rattle.rd_world.specs.Events.{Event, act, add, applies_held, apply_job, client_read, client_send, collect, collects_from, connect, drop_channel, hand_at, host_read, host_send, is_empty, is_enabled, is_hand_free, is_read, issue, may_issue, remove, take_job, takes_job_from, tell}
-use Rattle.rd_world.specs.Joining.{IsCarried}
-use Rattle.rd_world.specs.Opening.{bare_lines}
-use Rattle.rd_world.specs.Run.{asked_by, asking, declared_devices, drawing, idles, queueing, world_of}
-use Rattle.rd_world.specs.Talk.{EndsWith, Has, client_read as read_by_client, client_wrote, host_read as read_by_host, request_at}
+use Rattle.rd_deeds.specs.Joining.{IsCarried}
+use Rattle.rd_declared.specs.Declaring.{bare_lines, declared_devices}
+use Rattle.rd_world.specs.Run.{asked_by, asking, drawing, idles, queueing, world_of}
+use Rattle.rd_deeds.specs.Talk.{EndsWith, Has, client_read as read_by_client, client_wrote, host_read as read_by_host, request_at}
 use Rattle.rd_world.specs.World.{ApplicationState, Asked, Kept, WorldState, application_at, new_application, station_at}
 use Rattle.rd_ended.proofs.Happening.{apply_less, client_read_less, client_send_less, collect_less, host_read_less, host_send_less, issue_less, take_less}
 use Rattle.rd_ended.proofs.Lessening.{IsOfRounds, Lessens, RoundsEnd, Settles, rounds_end, settling_ends}

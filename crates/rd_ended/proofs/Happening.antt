@@ -39,14 +39,14 @@ use Rattle.rd_station.specs.declared.answers.Given.TheVariants as given
 use Rattle.rd_station.specs.declared.held.InHand.{InHand}
 use Rattle.rd_station.specs.Station as station
 use Rattle.rd_station.specs.Station.{StationState, is_key}
-use Rattle.rd_world.proofs.Messages.{packet_is, written_packet}
+use Rattle.rd_deeds.proofs.Messages.{packet_is, written_packet}
 use Rattle.rd_world.proofs.RoundsLemmas.{client_count, client_sends_one, host_sends_one}
-use Rattle.rd_world.specs.declared.device.SessionDevice.{SessionDevice}
+use Rattle.rd_declared.specs.declared.device.SessionDevice.{SessionDevice}
 use Rattle.rd_world.specs.Events.{applies_at, asks, came_of, client_has_message, client_sends_first, client_sends_next, collects_from, comes_of_asking, completion_message, deed_on, hand_at, host_has_message, host_sends_next, is_hand_free, is_read, issues, issues_next, may_issue, refusal_of, target_of, with_hand}
 use Rattle.rd_world.specs.Hearing.{client_handles_all, ends_line, host_handles, host_handles_all, next_asked, with_outcome}
-use Rattle.rd_world.specs.Host.{HostSide, next_message, side_sends}
+use Rattle.rd_deeds.specs.Host.{HostSide, next_message, side_sends}
 use Rattle.rd_world.specs.Run.{host_count}
-use Rattle.rd_world.specs.Talk.{Deed, Has, client_writes, client_wrote, completes, host_read}
+use Rattle.rd_deeds.specs.Talk.{Deed, Has, client_writes, client_wrote, completes, host_read}
 use Rattle.rd_world.specs.World.{ApplicationState, Asked, WayState, WorldState, application_at, client_sends, having_read, host_sends, most_messages, new_application, station_at, with_application, with_station}
 use Rattle.rd_ended.proofs.ClientEvents.{Handles, client_handles_on, inside_unheard, tries_on}
 use Rattle.rd_ended.proofs.HostEvents.{AppsTake, HostHears, all_taken, comes_out, host_handles_on, line_put_within}

@@ -17,7 +17,7 @@ use Rattle.rd_told.proofs.RunsTrafficLemmas.{Traffic, host_reads_here, traffic}
 use Rattle.rd_script.specs.declared.outcome.Outcome.{Outcome}
 use Rattle.rd_world.specs.Hearing.{given_handle, holding_under, host_handles, host_handles_first, host_hears, next_asked, reported_outcome, takes_awaited, takes_from, takes_outcome, with_outcome}
 use Rattle.rd_world.specs.Run.{host_count}
-use Rattle.rd_world.specs.Talk.{client_wrote, host_read, takes}
+use Rattle.rd_deeds.specs.Talk.{client_wrote, host_read, takes}
 use Rattle.rd_world.specs.World.{ApplicationState, Asked, WorldState, application_at, first_message, handling_by, new_application, with_application, with_deed, with_table}
 use Rattle.rd_ended.proofs.HostHearing.{completion_heard}
 use Rattle.rd_ended.proofs.Remaining.{line_left, lines_left, other_one, others, others_more, put_at_each, sum_within, waits}

@@ -18,7 +18,7 @@ use Rattle.rd_host.specs.declared.act.Act.TheVariants as act
 use Rattle.rd_irp.specs.declared.completion.Head.{Head}
 use Rattle.rd_irp.specs.Completion.{completion_head}
 use Rattle.rd_pending.proofs.Tame.{tame_complete}
-use Rattle.rd_world.specs.Host.{HostSide, hears, host_heard}
+use Rattle.rd_deeds.specs.Host.{HostSide, hears, host_heard}
 
 -- nothing is said but that a request is completed
 abbrev SaysOfCompletion : Meaning HostState Act → Type 0

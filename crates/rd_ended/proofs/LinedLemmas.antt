@@ -27,13 +27,13 @@ use Rattle.rd_station.specs.declared.answers.Given.{Given}
 use Rattle.rd_station.specs.declared.answers.Given.TheVariants as given
 use Rattle.rd_station.specs.Station as station
 use Rattle.rd_station.specs.Station.{StationState}
-use Rattle.rd_world.specs.declared.device.SessionDevice.{SessionDevice}
-use Rattle.rd_world.specs.Devices.{PrinterNames}
+use Rattle.rd_declared.specs.declared.device.SessionDevice.{SessionDevice}
+use Rattle.rd_declared.specs.Devices.{PrinterNames}
 use Rattle.rd_world.specs.Events as event
 use Rattle.rd_world.specs.Events.{Event, act, applies_at, applies_held, asks, client_sends_first, collects_from, comes_of_asking, completion_message, cutting, dropping, refreshing, hand_at, issues_next, refusal_of, removing, takes_job_from, target_of}
 use Rattle.rd_world.specs.Hearing.{all_take, client_handles_all, ends_line, given_handle, holding_under, host_handles, next_asked, reported_outcome, takes_awaited, takes_from, takes_outcome, tries_kept, with_outcome}
-use Rattle.rd_world.specs.Host.{next_message, side_sends}
-use Rattle.rd_world.specs.Talk.{completes, takes}
+use Rattle.rd_deeds.specs.Host.{next_message, side_sends}
+use Rattle.rd_deeds.specs.Talk.{completes, takes}
 use Rattle.rd_world.specs.World.{ApplicationState, Asked, WorldState, application_at, client_sends, with_station, having_read, host_sends, most_messages, new_application, station_at, with_application, with_deed, with_table}
 use Rattle.rd_ended.proofs.ClientEvents.{client_handles_on, tries_on}
 use Rattle.rd_ended.proofs.HostEvents.{host_handles_on}

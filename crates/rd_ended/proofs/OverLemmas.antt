@@ -33,12 +33,13 @@ use Rattle.rd_station.specs.declared.refusals.PutWhy.{PutWhy}
 use Rattle.rd_station.specs.declared.refusals.PutWhy.TheVariants as why
 use Rattle.rd_station.specs.Station as station
 use Rattle.rd_station.specs.Station.{StationState, is_key}
-use Rattle.rd_world.specs.declared.device.SessionDevice.{SessionDevice}
-use Rattle.rd_world.specs.Devices.{Declared, PrinterNames, device_cut}
+use Rattle.rd_declared.specs.declared.device.SessionDevice.{SessionDevice}
+use Rattle.rd_declared.specs.Devices.{Declared, PrinterNames, device_cut}
 use Rattle.rd_world.specs.Events.{came_of, dropping, refreshing}
 use Rattle.rd_world.specs.Hearing.{after_opening, announcing, heard_by_client, put_at, put_by, putting, refused_put, with_client}
-use Rattle.rd_world.specs.Run.{declared_devices, station_of}
-use Rattle.rd_world.specs.Talk.{client_reads}
+use Rattle.rd_declared.specs.Declaring.{declared_devices}
+use Rattle.rd_world.specs.Run.{station_of}
+use Rattle.rd_deeds.specs.Talk.{client_reads}
 use Rattle.rd_world.specs.World.{WorldState, station_at, with_deed, with_station}
 use Rattle.rd_ended.proofs.Remaining.{put_at_each}
 

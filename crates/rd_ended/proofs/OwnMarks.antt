@@ -25,17 +25,17 @@ use Rattle.rd_script.specs.declared.line.NumberedLine.{NumberedLine}
 use Rattle.rd_station.specs.Memory.{NamesKey}
 use Rattle.rd_station.specs.Station.{StationState}
 use Rattle.rd_told.proofs.PrintedLemmas.{keyed}
-use Rattle.rd_world.proofs.Journals.{contains_has}
+use Rattle.rd_deeds.proofs.Journals.{contains_has}
 use Rattle.rd_world.proofs.KeysLemmas.{marks_agree}
-use Rattle.rd_world.proofs.OpeningLemmas.{declared_openable}
-use Rattle.rd_world.specs.declared.device.SessionDevice.{SessionDevice}
-use Rattle.rd_world.specs.Devices.{Declared}
-use Rattle.rd_world.specs.Keys.{KeysApart, MarksAgree}
-use Rattle.rd_world.specs.Opening.{bare_lines}
-use Rattle.rd_world.specs.Run.{declared_devices}
+use Rattle.rd_declared.proofs.DeclaringLemmas.{declared_openable}
+use Rattle.rd_declared.specs.declared.device.SessionDevice.{SessionDevice}
+use Rattle.rd_declared.specs.Devices.{Declared}
+use Rattle.rd_declared.specs.Marks.{MarksAgree}
+use Rattle.rd_world.specs.Keys.{KeysApart}
+use Rattle.rd_declared.specs.Declaring.{bare_lines, declared_devices, max_session_devices}
 use Rattle.rd_world.specs.Session.{IsOfDevice}
-use Rattle.rd_world.specs.Stations.{AreStations, IsReachedBy, max_session_devices}
-use Rattle.rd_world.specs.Talk.{Has, host_wrote, journal, request_at}
+use Rattle.rd_world.specs.Stations.{AreStations, IsReachedBy}
+use Rattle.rd_deeds.specs.Talk.{Has, host_wrote, journal, request_at}
 use Rattle.rd_world.specs.World.{WorldState, journals_in, marks_of}
 
 abbrev Of : Type 0

@@ -16,9 +16,9 @@ use Rattle.rd_pending.proofs.MapLemmas.{beside, inserted, same_key}
 use Rattle.rd_told.proofs.RunsTrafficLemmas.{Traffic, traffic}
 use Rattle.rd_station.specs.Station.{StationState}
 use Rattle.rd_world.proofs.RoundsLemmas.{client_count}
-use Rattle.rd_world.specs.declared.device.SessionDevice.{SessionDevice}
+use Rattle.rd_declared.specs.declared.device.SessionDevice.{SessionDevice}
 use Rattle.rd_world.specs.Run.{drawing, host_count}
-use Rattle.rd_world.specs.Talk.{Has}
+use Rattle.rd_deeds.specs.Talk.{Has}
 use Rattle.rd_world.specs.World.{ApplicationState, Kept, WorldState, application_at, station_at}
 use Rattle.rd_ended.proofs.Lessening.{Lessens}
 

@@ -27,16 +27,16 @@ use Rattle.rd_script.specs.declared.line.Line.{Line}
 use Rattle.rd_script.specs.declared.line.Line.TheVariants as line
 use Rattle.rd_script.specs.declared.line.NumberedLine.{NumberedLine}
 use Rattle.rd_world.proofs.FuelLemmas.{AreWithin, IsKept, both, kept_then, connects_on_more, ends_session_more, first_within, plays_line_more, plays_more, second_within, settled_more}
-use Rattle.rd_world.proofs.Written.{sound_side}
+use Rattle.rd_deeds.proofs.Written.{sound_side}
 use Rattle.rd_told.proofs.RunsBelowLemmas.{channel_is}
 use Rattle.rd_world.proofs.PlayingLemmas.{may_connect}
-use Rattle.rd_world.specs.Devices.{PrinterNames}
+use Rattle.rd_declared.specs.Devices.{PrinterNames}
 use Rattle.rd_world.specs.Events as event
 use Rattle.rd_world.specs.Events.{Event, act, is_channel_open, is_enabled, refreshing}
-use Rattle.rd_world.specs.Host.{HostSide}
+use Rattle.rd_deeds.specs.Host.{HostSide}
 use Rattle.rd_world.specs.Recording.{client_id}
 use Rattle.rd_world.specs.Run.{Most, asked_by, by_event, connects_on, controls, does, ends_session, event_of, idles, notice_of, plays, plays_line, queueing, run_of, settled, some_left, world_of}
-use Rattle.rd_world.specs.Talk.{Has, client_wrote, open_channel}
+use Rattle.rd_deeds.specs.Talk.{Has, client_wrote, open_channel}
 use Rattle.rd_world.specs.World.{Asked, WorldState}
 use Rattle.rd_ended.proofs.Ending.{StandsBefore, drawing_on, event_on, first_on, free_less, idles_on, more_on, passed_on, queued_on, reached, rounds_settle, settles}
 

@@ -33,14 +33,16 @@ use Rattle.rd_world.proofs.FuelLemmas.{AreWithin, IsKept, both, connects_on_more
 use Rattle.rd_world.proofs.GoingLemmas.{Goes, ends_session_goes, gone_to, goes_longer, plays_goes, settled_goes}
 use Rattle.rd_world.proofs.KeysLemmas.{agrees_before, applied_as}
 use Rattle.rd_world.proofs.PlayingLemmas.{may_connect}
-use Rattle.rd_world.specs.declared.device.SessionDevice.{SessionDevice}
-use Rattle.rd_world.specs.Devices.{device_cuts, device_parked, device_runs}
+use Rattle.rd_declared.specs.declared.device.SessionDevice.{SessionDevice}
+use Rattle.rd_declared.specs.Devices.{device_cuts, device_parked, device_runs}
 use Rattle.rd_world.specs.Events as event
 use Rattle.rd_world.specs.Events.{Event, act, applies_at, applies_held, came_of, hand_at, is_channel_open, is_close, is_enabled, with_hand}
-use Rattle.rd_world.specs.Keys.{AgreesAt, MarksAgree, station_journals}
+use Rattle.rd_declared.specs.Declaring.{declared_devices}
+use Rattle.rd_declared.specs.Marks.{AgreesAt, MarksAgree}
+use Rattle.rd_world.specs.Keys.{station_journals}
 use Rattle.rd_world.specs.Run as run
 use Rattle.rd_world.specs.Run.{Most, NextStep, all_client_sends, all_host_sends, asked_by, choices, chosen, connects_on, controls, does, drawing, drawn_count, ends_session, event_of, host_count, idles, is_quiet, picked, plays, plays_line, queueing, rounds, run_of, settled, settles_by, some_left, while_enabled, world_of}
-use Rattle.rd_world.specs.Talk.{Has}
+use Rattle.rd_deeds.specs.Talk.{Has}
 use Rattle.rd_world.specs.World.{Asked, WorldState, journals_in, station_at, with_station}
 use Rattle.rd_world.proofs.RoundsLemmas.{round}
 use Rattle.rd_ended.proofs.Ending.{StandsBefore, drawing_on, event_on, first_on, free_less, passed_on, reached, ids_of, pairs_of}
@@ -184,7 +186,7 @@ module _ (lines : List NumberedLine) (starves marks : Key → Bool) (premises : 
   settled_same n rest (suc most) w on x is agrees = by (choices w) (choices_can w) is (settled_same n rest most)
     where
       fs : List (WorldState → ℕ)
-      fs = remaining (ids_of (pairs_of lines)) (keys_of (run.declared_devices (map (λ (l : NumberedLine). l.line) lines)))
+      fs = remaining (ids_of (pairs_of lines)) (keys_of (declared_devices (map (λ (l : NumberedLine). l.line) lines)))
 
       by : (cs : List NextStep) → AllByRecursion (CanCome w) cs → settles_by starves w cs (settled starves most) ≡ Some x
           → ((v : WorldState) → On n rest v → (u : WorldState) → settled starves most v ≡ Some u → Agrees u → settled marks most v ≡ Some u) → settles_by marks w cs (settled marks most) ≡ Some x
@@ -194,7 +196,7 @@ module _ (lines : List NumberedLine) (starves marks : Key → Bool) (premises : 
           let one : NextStep = unwrap_or (slice_get (c ∷ cs) i) c in
           let y : WorldState = chosen starves (drawing w) one in
           let next = chosen_lessens starves fs (On n rest) (free_less lines starves premises n rest) (drawing_on lines starves premises n rest)
-          (undrawn (ids_of (pairs_of lines)) (keys_of (run.declared_devices (map (λ (l : NumberedLine). l.line) lines)))) w one (pick_has (CanCome w) (c ∷ cs) i c all all.0) on in
+          (undrawn (ids_of (pairs_of lines)) (keys_of (declared_devices (map (λ (l : NumberedLine). l.line) lines)))) w one (pick_has (CanCome w) (c ∷ cs) i c all all.0) on in
           let goes : Goes y x = gone_to y (settled starves most y) x (settled_goes starves most y) is in
           let agrees_y : Agrees y = before y x (reached lines starves premises n rest y next.0) goes agrees in
           let same : chosen marks (drawing w) one ≡ y = chosen_same (drawing w) one (reached lines starves premises n rest (drawing w) (drawing_on lines starves premises n rest w on)) agrees_y in

@@ -10,7 +10,7 @@ ghost use Rattle.rd_script.specs.declared.keyword.Mode.{Mode};
 ghost use Rattle.rd_script.specs.declared.line.NumberedLine.{NumberedLine};
 ghost use Rattle.rd_script.specs.declared.script.Script.{Script};
 ghost use Rattle.rd_script.specs.Script.{script_of};
-ghost use Rattle.rd_world.specs.Keys.{MarksAgree};
+ghost use Rattle.rd_declared.specs.Marks.{MarksAgree};
 ghost use Rattle.rd_world.specs.Run.{Most, WorldRun, run_of};
 ghost use Rattle.rd_world.specs.Session.{IsCutOff};
 ghost use Rattle.rd_world.specs.Stations.{AreStations};

@@ -9,7 +9,7 @@ use Rattle.std.proofs.lemmas.List.Elements.{All-append, All-cons, All-nil}
 use Rattle.rd_client.specs.Core as client
 use Rattle.rd_desk.specs.declared.calls.DeskCall.{DeskCall}
 use Rattle.rd_desk.specs.declared.calls.DeskReply.{DeskReply}
-use Rattle.rd_world.specs.Devices.{PrinterNames, printer_data}
+use Rattle.rd_declared.specs.Devices.{PrinterNames, printer_data}
 use Rattle.rd_front.specs.Front.{EndsBy, end_call, with_new_data}
 use Rattle.rd_front.specs.Kept.{DeskGoesOn, DesksGoOn, GoesBy, IsFrontCall}
 use Rattle.rd_front.specs.State.{SessionPass, DeviceDeskState, FrontState, IsCalled}

@@ -28,7 +28,7 @@ use Rattle.rd_station.specs.declared.answers.Completion.{Completion}
 use Rattle.rd_station.specs.declared.refusals.AnnounceNo.TheVariants as announce_no
 use Rattle.rd_station.specs.declared.refusals.PutWhy.{PutWhy}
 use Rattle.rd_station.specs.declared.refusals.PutWhy.TheVariants as why
-use Rattle.rd_world.specs.Devices.{PrinterNames, printer_data}
+use Rattle.rd_declared.specs.Devices.{PrinterNames, printer_data}
 use Rattle.rd_world.specs.Events.{completion_message}
 use Rattle.rd_world.specs.World.{Kept}
 use Rattle.rd_front.specs.declared.calls.FrontCall.{FrontCall}

@@ -9,7 +9,7 @@ use Rattle.rd_served_devices.specs.ServedDevices.{IsServedReached, ServedDeviceS
 use Rattle.rd_station.specs.Station.{StationState}
 use Rattle.rd_turn.specs.History.{IsLegal}
 use Rattle.rd_turn.specs.Pass.{Belongs, Called, IsSamePass, PassState, TurnId}
-use Rattle.rd_world.specs.Devices.{PrinterNames}
+use Rattle.rd_declared.specs.Devices.{PrinterNames}
 use Rattle.rd_world.specs.World.{Kept}
 
 -- the station of a device of a session

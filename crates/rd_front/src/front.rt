@@ -6,11 +6,12 @@ ghost use Rattle.rd_front.specs.Front.{DeskDoes, done_at, is_front_full, is_fron
 use crate::calls::{FrontCall, FrontReply};
 use crate::device_desk::DeviceDesk;
 use crate::kept_job::KeptJob;
+use rd_declared::Printers;
 use rd_desk::{DeskCall, DeskReply};
 use rd_folder::Folder;
 use rd_printer::Cache;
 use rd_turn::Object;
-use rd_world::{Client, Printers};
+use rd_world::Client;
 use std::alloc::Global;
 use std::marker::Model;
 use std::sync::Wait;

@@ -5,12 +5,13 @@ ghost use Rattle.rd_turn.specs.Pass.{Belongs, IsSamePass};
 ghost use Rattle.rd_front.specs.Kept.{DesksGoOn};
 ghost use Rattle.rd_served_devices.specs.ServedDevices.{IsServedReached};
 
+use rd_declared::Printers;
 use rd_desk::Desk;
 use rd_folder::Folder;
 use rd_front::{DeviceDesk, Front, FrontCall, FrontReply, fronts_call_desks};
 use rd_served_devices::ServedDevice;
 use rd_turn::{Caller, Pass, Turn};
-use rd_world::{Client, Printers};
+use rd_world::Client;
 use std::alloc::Global;
 use std::sync::Wait;
 use std::thread::{Threads, join};

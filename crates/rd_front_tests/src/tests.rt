@@ -2,6 +2,7 @@
 
 use crate::side_by_side::on_one_desk;
 use rd_base::Units;
+use rd_declared::SessionDevice;
 use rd_desk::Desk;
 use rd_devices::DeviceList;
 use rd_dirinfo::Naming;
@@ -12,7 +13,7 @@ use rd_room::Room;
 use rd_served_devices::ServedDevice;
 use rd_station::Station;
 use rd_turn::Turn;
-use rd_world::{Client, SessionDevice};
+use rd_world::Client;
 use std::test::Fail;
 
 #[test]

@@ -18,17 +18,17 @@ use Rattle.rd_said.proofs.RunsTogether.{known}
 use Rattle.rd_said.specs.RunsMoves.{Reached}
 use Rattle.rd_said.specs.RunsPremises.{RunPremises}
 use Rattle.rd_script.specs.declared.line.NumberedLine.{NumberedLine}
-use Rattle.rd_world.specs.Host.{HostSide, first_waiting}
-use Rattle.rd_world.specs.HostDeeds.{calls_of, side_of}
-use Rattle.rd_world.specs.Joining.{accepted}
+use Rattle.rd_deeds.specs.Host.{HostSide, first_waiting}
+use Rattle.rd_deeds.specs.HostDeeds.{calls_of, side_of}
+use Rattle.rd_deeds.specs.Joining.{accepted}
 use Rattle.rd_world.specs.Recording.{client_id}
 use Rattle.rd_world.specs.Run.{choices}
-use Rattle.rd_world.specs.Talk.{Has, answered, asked, client_read, client_wrote, host_read, host_wrote, message_has_pair, open_channel}
+use Rattle.rd_deeds.specs.Talk.{Has, answered, asked, client_read, client_wrote, host_read, host_wrote, message_has_pair, open_channel}
 use Rattle.rd_world.specs.World.{WorldState, application_at}
-use Rattle.rd_world.proofs.Calls.{Does}
-use Rattle.rd_world.proofs.Counting.{length-answered}
-use Rattle.rd_world.proofs.Joined.{heard_is}
-use Rattle.rd_world.proofs.Written.{sound_side}
+use Rattle.rd_deeds.proofs.Calls.{Does}
+use Rattle.rd_deeds.proofs.Counting.{length-answered}
+use Rattle.rd_deeds.proofs.Joined.{heard_is}
+use Rattle.rd_deeds.proofs.Written.{sound_side}
 use Rattle.rd_headline.proofs.HeardLemmas.{all_answered, all_asked, behind_heard, read_heard}
 
 module _ (lines : List NumberedLine) (starves : Key → Bool) (premises : RunPremises lines) (few : length lines ≤ 1000000) (declared : DeclareInRoom lines) (writable : DeclaresWritable lines)

@@ -34,19 +34,19 @@ use Rattle.rd_said.specs.RunsPremises.{RunPremises}
 use Rattle.rd_said.proofs.JournalsChannelLemmas.{all_refreshed, begun_on}
 use Rattle.rd_script.specs.declared.line.NumberedLine.{NumberedLine}
 use Rattle.rd_station.specs.Station.{StationState}
-use Rattle.rd_world.specs.Devices.{PrinterNames}
-use Rattle.rd_world.specs.declared.device.SessionDevice.{SessionDevice}
-use Rattle.rd_world.specs.Host.{HostSide, admits, forgets, hears, host_heard, lived}
-use Rattle.rd_world.specs.HostDeeds.{calls_of, side_of}
-use Rattle.rd_world.specs.Joining.{IsCompleted as IsCompletedBy, IsTaken, TakesHeard, accepted, request_of_accepted}
+use Rattle.rd_declared.specs.Devices.{PrinterNames}
+use Rattle.rd_declared.specs.declared.device.SessionDevice.{SessionDevice}
+use Rattle.rd_deeds.specs.Host.{HostSide, admits, forgets, hears, host_heard, lived}
+use Rattle.rd_deeds.specs.HostDeeds.{calls_of, side_of}
+use Rattle.rd_deeds.specs.Joining.{IsCompleted as IsCompletedBy, IsTaken, TakesHeard, accepted, request_of_accepted}
 use Rattle.rd_world.specs.Recording.{client_id}
-use Rattle.rd_world.specs.Talk.{Deed, EachAfter, EndsWith, Has, adds, answered, asked, client_read, client_reads, client_writes, completes, head_in, host_begins, host_ends, host_read, host_reads, host_writes, host_wrote, indices_of, is_request, message_asks_pair, message_has_pair, open_channel, removes, stores, submits, takes, tells}
+use Rattle.rd_deeds.specs.Talk.{Deed, EachAfter, EndsWith, Has, adds, answered, asked, client_read, client_reads, client_writes, completes, head_in, host_begins, host_ends, host_read, host_reads, host_writes, host_wrote, indices_of, is_request, message_asks_pair, message_has_pair, open_channel, removes, stores, submits, takes, tells}
 use Rattle.rd_world.specs.World.{WorldState}
-use Rattle.rd_world.proofs.Calls.{Does, heard_by_deed, heard_step, taken}
-use Rattle.rd_world.proofs.Hearings.{Heard, heard}
-use Rattle.rd_world.proofs.Joined.{pairs_in, pairs_more}
-use Rattle.rd_world.proofs.Messages.{request_is}
-use Rattle.rd_world.proofs.Written.{Matches, requests_on, written}
+use Rattle.rd_deeds.proofs.Calls.{Does, heard_by_deed, heard_step, taken}
+use Rattle.rd_deeds.proofs.Hearings.{Heard, heard}
+use Rattle.rd_deeds.proofs.Joined.{pairs_in, pairs_more}
+use Rattle.rd_deeds.proofs.Messages.{request_is}
+use Rattle.rd_deeds.proofs.Written.{Matches, requests_on, written}
 use Rattle.rd_headline.specs.Heard.{HearsFine}
 
 -- ---- nothing that a host reads is wrong

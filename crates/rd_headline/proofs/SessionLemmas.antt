@@ -22,13 +22,13 @@ use Rattle.rd_said.proofs.ToldPlainLemmas.{written_plainly}
 use Rattle.rd_said.proofs.ToldPrintedLemmas.{documents_told}
 use Rattle.rd_world.specs.Acts.{AreActed, control_by, left_open}
 use Rattle.rd_world.specs.Control.{Control, Telling}
-use Rattle.rd_world.specs.Devices.{Declared}
+use Rattle.rd_declared.specs.Devices.{Declared}
 use Rattle.rd_world.specs.Lines.{HaveOutcomes}
-use Rattle.rd_world.specs.Opening.{bare_lines}
+use Rattle.rd_declared.specs.Declaring.{bare_lines, declared_devices}
 use Rattle.rd_world.specs.Recording.{recording_of_deeds}
-use Rattle.rd_world.specs.Run.{Most, choices, declared_devices, run_of}
+use Rattle.rd_world.specs.Run.{Most, choices, run_of}
 use Rattle.rd_world.specs.Session.{AllTold, AreJournals, IsLeftOver, IsReported, IsRun, IsWholeSession, TellsWorld, journals_of, replies_in, world_moment}
-use Rattle.rd_world.specs.Talk.{Deed, has_ended}
+use Rattle.rd_deeds.specs.Talk.{Deed, has_ended}
 use Rattle.rd_world.specs.World.{WorldState, journals_in, marks_of}
 use Rattle.rd_headline.proofs.StillLemmas.{run_still, says_done, still}
 use Rattle.rd_headline.proofs.WholeLemmas.{all_completed, all_read, run_acts, run_outcomes, well}

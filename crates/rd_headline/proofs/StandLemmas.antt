@@ -12,12 +12,12 @@ use Rattle.rd_said.specs.RunsMoves.{IsOfLines, MayPass, Reached, ReachedWithin, 
 use Rattle.rd_said.specs.RunsPremises.{RunPremises}
 use Rattle.rd_script.specs.declared.line.NumberedLine.{NumberedLine}
 use Rattle.rd_world.specs.Acts.{HasOpened}
-use Rattle.rd_world.specs.Devices.{Declared}
+use Rattle.rd_declared.specs.Devices.{Declared}
 use Rattle.rd_world.specs.Events as event
 use Rattle.rd_world.specs.Events.{Event, act, is_enabled}
 use Rattle.rd_world.specs.Lines.{last_begun}
-use Rattle.rd_world.specs.Opening.{bare_lines}
-use Rattle.rd_world.specs.Run.{Most, connects_on, declared_devices, is_quiet, rounds}
+use Rattle.rd_declared.specs.Declaring.{bare_lines, declared_devices}
+use Rattle.rd_world.specs.Run.{Most, connects_on, is_quiet, rounds}
 use Rattle.rd_world.specs.World.{WorldState}
 
 module _ (lines : List NumberedLine) (starves : Key → Bool) (most : Most) (premises : RunPremises lines) (writable : DeclaresWritable lines) where

@@ -32,11 +32,11 @@ use Rattle.rd_said.specs.RunsPremises.{RunPremises}
 use Rattle.rd_script.specs.declared.line.NumberedLine.{NumberedLine}
 use Rattle.rd_world.specs.Acts.{act_by, first_control_of, is_settle, of_channel}
 use Rattle.rd_world.specs.Control.{Act, Control, Telling, control_of, controlled, first_control}
-use Rattle.rd_world.specs.Devices.{Declared}
-use Rattle.rd_world.specs.Opening.{bare_lines}
-use Rattle.rd_world.specs.Run.{Most, choices, declared_devices, run_of}
+use Rattle.rd_declared.specs.Devices.{Declared}
+use Rattle.rd_declared.specs.Declaring.{bare_lines, declared_devices}
+use Rattle.rd_world.specs.Run.{Most, choices, run_of}
 use Rattle.rd_world.specs.Session.{IsStill, WasStill, at_settles}
-use Rattle.rd_world.specs.Talk.{Deed, has_ended, open_channel}
+use Rattle.rd_deeds.specs.Talk.{Deed, has_ended, open_channel}
 use Rattle.rd_world.specs.World.{WorldState}
 
 -- ---- what control lines told

@@ -33,14 +33,14 @@ use Rattle.rd_script.specs.declared.line.NumberedLine.{NumberedLine}
 use Rattle.rd_script.specs.declared.outcome.Outcome.{Outcome}
 use Rattle.rd_world.specs.Acts.{AreActed, Opens, control_by, is_settled_host, left_open, some_wait, waiting_keys}
 use Rattle.rd_world.specs.Control.{Control}
-use Rattle.rd_world.specs.Devices.{Declared}
+use Rattle.rd_declared.specs.Devices.{Declared}
 use Rattle.rd_world.specs.Events.{Event, act, cutting, drop_channel, is_channel_open, is_enabled}
 use Rattle.rd_world.specs.Lines.{HaveOutcomes}
-use Rattle.rd_world.specs.Opening.{bare_lines}
+use Rattle.rd_declared.specs.Declaring.{bare_lines, declared_devices}
 use Rattle.rd_world.specs.Recording.{host_stand}
 use Rattle.rd_world.specs.Report.{outcomes_of}
-use Rattle.rd_world.specs.Run.{Most, choices, connects_on, declared_devices, ends_session, plays, run_of, settled, some_left, world_of}
-use Rattle.rd_world.specs.Talk.{EachAfter, Has, answered, asked, client_read, has_ended, host_wrote, indices_of, message_has_pair, open_channel, takes}
+use Rattle.rd_world.specs.Run.{Most, choices, connects_on, ends_session, plays, run_of, settled, some_left, world_of}
+use Rattle.rd_deeds.specs.Talk.{EachAfter, Has, answered, asked, client_read, has_ended, host_wrote, indices_of, message_has_pair, open_channel, takes}
 use Rattle.rd_pending.specs.declared.calls.Handle.{Handle}
 use Rattle.rd_pending.specs.declared.calls.Taken.{Taken}
 use Rattle.rd_pending.specs.declared.calls.TakeNo.{TakeNo}
@@ -49,7 +49,7 @@ use Rattle.rd_pending.specs.Table.{TableState}
 use Rattle.rd_pending.proofs.Tame.{tame_take}
 use Rattle.rd_world.specs.Hearing.{ends_line, given_handle, next_asked, reported_outcome, takes_awaited, takes_from, takes_outcome, with_outcome}
 use Rattle.rd_world.specs.World.{ApplicationState, Asked, WorldState, application_at, with_application, with_deed, with_table}
-use Rattle.rd_world.proofs.Counting.{length-answered}
+use Rattle.rd_deeds.proofs.Counting.{length-answered}
 use Rattle.rd_headline.proofs.AnsweredLemmas.{none_awaits}
 use Rattle.rd_headline.proofs.HeardLemmas.{all_answered}
 use Rattle.rd_headline.proofs.StandLemmas.{opens_in_time}

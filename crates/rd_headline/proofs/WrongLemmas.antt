@@ -27,16 +27,16 @@ use Rattle.rd_pending.specs.Table.{submit_refusal}
 use Rattle.rd_script.specs.declared.outcome.Outcome.{Outcome}
 use Rattle.rd_world.specs.Acts.{act_by, control_by}
 use Rattle.rd_world.specs.Control.{Act, controlled}
-use Rattle.rd_world.specs.Devices.{Declared}
+use Rattle.rd_declared.specs.Devices.{Declared}
 use Rattle.rd_world.specs.Events.{target_of}
-use Rattle.rd_world.specs.HostDeeds.{MayDo, side_after, side_of}
-use Rattle.rd_world.specs.Joining.{HasReply, IsOwnReply, request_of_accepted}
+use Rattle.rd_deeds.specs.HostDeeds.{MayDo, side_after, side_of}
+use Rattle.rd_deeds.specs.Joining.{HasReply, IsOwnReply, request_of_accepted}
 use Rattle.rd_world.specs.Lines.{AskedEnds, IsAccepted, IsHandedOut, LineEnds, LinesEnd, Waits, outcome_at}
-use Rattle.rd_world.specs.Opening.{bare_lines}
+use Rattle.rd_declared.specs.Declaring.{bare_lines, declared_devices}
 use Rattle.rd_world.specs.Recording.{client_id}
-use Rattle.rd_world.specs.Run.{declared_devices, notice_of}
-use Rattle.rd_world.specs.Talk.{Deed, client_reads, host_begins, takes}
-use Rattle.rd_world.specs.Told.{Replies}
+use Rattle.rd_world.specs.Run.{notice_of}
+use Rattle.rd_deeds.specs.Talk.{Deed, client_reads, host_begins, takes}
+use Rattle.rd_deeds.specs.Told.{Replies}
 use Rattle.rd_world.specs.World.{ApplicationState, Asked}
 use Rattle.rd_headline.specs.Wrong.{closed_bytes, earlier_accepted, first_key, head_of_both, knows_first, later_accepted, lost_untaken, other_file, ran_twice, removing_lines, replied_done, replied_refused, sent_unrun, unheard}
 

@@ -15,9 +15,9 @@ use Rattle.rd_pending.specs.declared.calls.Outcome.TheVariants.{Done}
 use Rattle.rd_pending.specs.declared.calls.Target.TheVariants as target
 use Rattle.rd_script.specs.declared.line.Line.TheVariants as line
 use Rattle.rd_script.specs.declared.line.NumberedLine.{NumberedLine}
-use Rattle.rd_world.specs.Host.{HostSide, new_side}
+use Rattle.rd_deeds.specs.Host.{HostSide, new_side}
 use Rattle.rd_world.specs.Recording.{client_id}
-use Rattle.rd_world.specs.Talk.{Deed, host_begins, host_ends, submits}
+use Rattle.rd_deeds.specs.Talk.{Deed, host_begins, host_ends, submits}
 use Rattle.rd_world.specs.Worked.{numbered}
 
 -- the first two requests of a channel

@@ -21,16 +21,16 @@ ghost use Rattle.rd_script.specs.declared.outcome.Outcomes.{Outcomes};
 ghost use Rattle.rd_script.specs.declared.script.Script.{Script};
 ghost use Rattle.rd_script.specs.declared.outcome.Outcome.{Outcome};
 ghost use Rattle.rd_world.specs.Acts.{act_by, control_by};
-ghost use Rattle.rd_world.specs.Devices.{Declared};
-ghost use Rattle.rd_world.specs.HostDeeds.{MayDo, side_after};
-ghost use Rattle.rd_world.specs.Joining.{HasReply, IsOwnReply};
+ghost use Rattle.rd_declared.specs.Devices.{Declared};
+ghost use Rattle.rd_deeds.specs.HostDeeds.{MayDo, side_after};
+ghost use Rattle.rd_deeds.specs.Joining.{HasReply, IsOwnReply};
 ghost use Rattle.rd_world.specs.Lines.{IsAccepted, LinesEnd, Waits};
-ghost use Rattle.rd_world.specs.Opening.{bare_lines};
+ghost use Rattle.rd_declared.specs.Declaring.{bare_lines, declared_devices};
 ghost use Rattle.rd_world.specs.Recording.{recording_of_deeds};
-ghost use Rattle.rd_world.specs.Run.{Most, declared_devices};
+ghost use Rattle.rd_world.specs.Run.{Most};
 ghost use Rattle.rd_world.specs.Session.{IsRun, IsWholeSession};
-ghost use Rattle.rd_world.specs.Talk.{Deed, client_reads, host_begins, takes};
-ghost use Rattle.rd_world.specs.Told.{Replies};
+ghost use Rattle.rd_deeds.specs.Talk.{Deed, client_reads, host_begins, takes};
+ghost use Rattle.rd_deeds.specs.Told.{Replies};
 ghost use Rattle.rd_world.specs.World.{ApplicationState, Asked};
 
 /// Each channel opens before the next line passes.

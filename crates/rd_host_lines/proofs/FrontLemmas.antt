@@ -21,7 +21,7 @@ use Rattle.rd_table.specs.declared.calls.PendingReply.TheVariants as replied
 use Rattle.rd_turn.specs.declared.object.Entry.{Entry}
 use Rattle.rd_turn.specs.History.{calls_of, entry}
 use Rattle.rd_turn.proofs.HistoryLemmas.{Called-own}
-use Rattle.rd_world.proofs.Hearings.{Heard, heard}
+use Rattle.rd_deeds.proofs.Hearings.{Heard, heard}
 use Rattle.rd_host_front.specs.declared.calls.Came.{Came}
 use Rattle.rd_host_front.specs.declared.calls.Came.TheVariants as came
 use Rattle.rd_host_front.specs.declared.calls.HostFrontCall.{HostFrontCall}

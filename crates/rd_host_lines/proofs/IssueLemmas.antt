@@ -35,7 +35,7 @@ use Rattle.rd_table.proofs.StepLemmas.{handed_more}
 use Rattle.rd_turn.specs.History.{Leads, calls_of, entry}
 use Rattle.rd_world.specs.Events.{refusal_of, target_of}
 use Rattle.rd_world.specs.Hearing.{file_given, given_handle, holding_under, reported_outcome, with_outcome}
-use Rattle.rd_world.specs.HostDeeds.{IsInRange}
+use Rattle.rd_deeds.specs.HostDeeds.{IsInRange}
 use Rattle.rd_world.specs.World.{ApplicationState, Asked, handle_named}
 use Rattle.rd_issuer.specs.Issues.{Does, DoesAll, Issue, after_submit, after_take, at_table, calls_of_issues, holds_nothing}
 use Rattle.rd_host_turns.specs.Turns.{TableEntry}

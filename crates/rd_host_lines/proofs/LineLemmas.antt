@@ -10,7 +10,7 @@ use Rattle.rd_runs.proofs.RoomLemmas.{OfAll, all_inserted, found_in}
 use Rattle.rd_runs.specs.Premises.{AreSubmittable, IsSubmittable}
 use Rattle.rd_script.specs.declared.line.NumberedLine.{NumberedLine}
 use Rattle.rd_world.specs.Run.{applications_of, asked_by, asking}
-use Rattle.rd_world.specs.Talk.{Has}
+use Rattle.rd_deeds.specs.Talk.{Has}
 use Rattle.rd_world.specs.World.{ApplicationState, Asked, new_application}
 use Rattle.rd_host_session.specs.Hosted.{issuer_by, issuers_of}
 use Rattle.rd_issuer.specs.declared.issuer.Issuer.{Issuer}

@@ -6,7 +6,7 @@ use Rattle.rd_table.specs.declared.calls.PendingCall.TheVariants as call
 use Rattle.rd_table.specs.declared.calls.PendingReply.{PendingReply}
 use Rattle.rd_table.specs.declared.calls.PendingReply.TheVariants as reply
 use Rattle.rd_turn.specs.declared.object.Entry.{Entry}
-use Rattle.rd_world.specs.HostDeeds.{IsInRange}
+use Rattle.rd_deeds.specs.HostDeeds.{IsInRange}
 
 -- a request that a table accepted has numbers that its message has room for
 abbrev pub AcceptsCallInRange : PendingCall → PendingReply → Type 0

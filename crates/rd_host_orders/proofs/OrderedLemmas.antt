@@ -25,13 +25,13 @@ use Rattle.rd_pending.specs.History.{after, lives_before}
 use Rattle.rd_pending.specs.Outcomes.{Accepted}
 use Rattle.rd_pending.specs.Table as table
 use Rattle.rd_pending.specs.Table.{TableState}
-use Rattle.rd_world.proofs.Calls.{Does, neutral_reading, table_of}
-use Rattle.rd_world.proofs.Written.{Matches, requests_on, sound_side, written}
-use Rattle.rd_world.specs.Host.{HostSide, hears, host_heard, next_message, side_sends}
-use Rattle.rd_world.specs.HostDeeds.{calls_by, calls_of, side_of}
-use Rattle.rd_world.specs.Joining.{accepted}
+use Rattle.rd_deeds.proofs.Calls.{Does, neutral_reading, table_of}
+use Rattle.rd_deeds.proofs.Written.{Matches, requests_on, sound_side, written}
+use Rattle.rd_deeds.specs.Host.{HostSide, hears, host_heard, next_message, side_sends}
+use Rattle.rd_deeds.specs.HostDeeds.{calls_by, calls_of, side_of}
+use Rattle.rd_deeds.specs.Joining.{accepted}
 use Rattle.rd_world.specs.Recording.{client_id}
-use Rattle.rd_world.specs.Talk.{Deed, EachAfter, adds, client_reads, client_writes, completes, host_begins, host_ends, host_moves, host_reads, host_writes, host_wrote, on, removes, request_in, stores, submits, takes, tells}
+use Rattle.rd_deeds.specs.Talk.{Deed, EachAfter, adds, client_reads, client_writes, completes, host_begins, host_ends, host_moves, host_reads, host_writes, host_wrote, on, removes, request_in, stores, submits, takes, tells}
 use Rattle.rd_host_orders.specs.SoundMoves.{IsSoundOn, sound_moves, written_in}
 use Rattle.rd_host_orders.proofs.SideLemmas.{IsReadied, IsStill, IsWithin, neutral_sending, number, open_below, readied, ready_is, within, wrong_still}
 

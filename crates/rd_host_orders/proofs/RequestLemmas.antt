@@ -18,16 +18,16 @@ use Rattle.rd_pending.specs.History.{accepted_of}
 use Rattle.rd_pending.specs.Outcomes.{Accepted}
 use Rattle.rd_pending.specs.Table as table
 use Rattle.rd_pending.specs.Table.{TableState, accept}
-use Rattle.rd_world.proofs.Calls.{Does, neutral_reading, read_tame, sent_same, table_of}
-use Rattle.rd_world.proofs.Hearings.{AreQuiet, quiet}
-use Rattle.rd_world.proofs.Messages.{request_is}
-use Rattle.rd_world.proofs.Written.{sound_side}
-use Rattle.rd_world.specs.Host.{HostSide, next_message, side_sends}
-use Rattle.rd_world.specs.HostDeeds.{calls_by, side_of}
-use Rattle.rd_world.specs.Joining.{accepted}
+use Rattle.rd_deeds.proofs.Calls.{Does, neutral_reading, read_tame, sent_same, table_of}
+use Rattle.rd_deeds.proofs.Hearings.{AreQuiet, quiet}
+use Rattle.rd_deeds.proofs.Messages.{request_is}
+use Rattle.rd_deeds.proofs.Written.{sound_side}
+use Rattle.rd_deeds.specs.Host.{HostSide, next_message, side_sends}
+use Rattle.rd_deeds.specs.HostDeeds.{calls_by, side_of}
+use Rattle.rd_deeds.specs.Joining.{accepted}
 use Rattle.rd_world.specs.Lines.{message_of, submitted}
 use Rattle.rd_world.specs.Recording.{client_id}
-use Rattle.rd_world.specs.Talk.{Deed, adds, client_reads, client_writes, completes, host_begins, host_ends, host_reads, host_writes, host_wrote, is_open_at, is_request, removes, stores, submits, takes, tells}
+use Rattle.rd_deeds.specs.Talk.{Deed, adds, client_reads, client_writes, completes, host_begins, host_ends, host_reads, host_writes, host_wrote, is_open_at, is_request, removes, stores, submits, takes, tells}
 use Rattle.rd_host_orders.specs.Requests.{accepted_messages, message_for, messages_on, sent_requests}
 use Rattle.rd_host_orders.proofs.OrderedLemmas.{asked_request, begun_is, open_in}
 use Rattle.rd_host_orders.proofs.SideLemmas.{neutral_sending, open_below, within}

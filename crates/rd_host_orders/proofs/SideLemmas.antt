@@ -22,12 +22,12 @@ use Rattle.rd_pending.specs.History.{Call, Holds, after, lives_before}
 use Rattle.rd_pending.specs.Table as table
 use Rattle.rd_pending.specs.Table.{Fate, TableState, Untaken, freed, life_of, untaken_at, with_fate}
 use Rattle.rd_orders.proofs.ControlsReadyLemmas.{host_kept}
-use Rattle.rd_world.proofs.Calls.{Does, calls_hold, table_of}
-use Rattle.rd_world.proofs.Written.{sound_side}
-use Rattle.rd_world.specs.Host.{HostSide, admits, forgets, hears, host_heard, side_sends}
-use Rattle.rd_world.specs.HostDeeds.{calls_by, calls_of, sending, side_of}
+use Rattle.rd_deeds.proofs.Calls.{Does, calls_hold, table_of}
+use Rattle.rd_deeds.proofs.Written.{sound_side}
+use Rattle.rd_deeds.specs.Host.{HostSide, admits, forgets, hears, host_heard, side_sends}
+use Rattle.rd_deeds.specs.HostDeeds.{calls_by, calls_of, sending, side_of}
 use Rattle.rd_world.specs.Recording.{client_id}
-use Rattle.rd_world.specs.Talk.{Deed, adds, client_reads, client_writes, completes, host_begins, host_ends, host_reads, host_writes, removes, stores, submits, takes, tells}
+use Rattle.rd_deeds.specs.Talk.{Deed, adds, client_reads, client_writes, completes, host_begins, host_ends, host_reads, host_writes, removes, stores, submits, takes, tells}
 
 -- ---- a message that is wrong
 

@@ -3,10 +3,10 @@ use Rattle.std.specs.Prelude.{◌==◌, ℕ, List, filter, map, reverse}
 use Rattle.rd_irp.specs.Written.{request_bytes}
 use Rattle.rd_pending.specs.History.{accepted_in}
 use Rattle.rd_pending.specs.Outcomes.{Accepted}
-use Rattle.rd_world.specs.HostDeeds.{calls_of}
-use Rattle.rd_world.specs.Joining.{request_of_accepted}
+use Rattle.rd_deeds.specs.HostDeeds.{calls_of}
+use Rattle.rd_deeds.specs.Joining.{request_of_accepted}
 use Rattle.rd_world.specs.Recording.{client_id}
-use Rattle.rd_world.specs.Talk.{Deed, host_wrote, is_request}
+use Rattle.rd_deeds.specs.Talk.{Deed, host_wrote, is_request}
 
 -- the message of a request that was accepted: its own device, file, completion id and operation
 abbrev pub message_for : Accepted → List ℕ

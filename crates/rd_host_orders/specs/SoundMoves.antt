@@ -3,9 +3,9 @@ use Rattle.std.specs.Prelude.{◌≡◌, ℕ, if◌then◌else◌, List, [], ◌
 use Rattle.std.specs.List.{cons_option}
 use Rattle.rd_hello.specs.Moves.{Move, reads, writes}
 use Rattle.rd_host.specs.Core.{host_hear}
-use Rattle.rd_world.specs.HostDeeds.{side_of}
+use Rattle.rd_deeds.specs.HostDeeds.{side_of}
 use Rattle.rd_world.specs.Recording.{client_id}
-use Rattle.rd_world.specs.Talk.{Deed, host_move, host_reads, on}
+use Rattle.rd_deeds.specs.Talk.{Deed, host_move, host_reads, on}
 
 -- The move on a channel that a deed is after others. A message that is read counts only where the host's core finds nothing wrong with it, and nothing was wrong before.
 abbrev pub sound_move : ℕ → List Deed → Deed → Option Move

@@ -3,7 +3,7 @@ use Rattle.std.specs.Prelude.{ℕ, List, [], ◌∷◌}
 use Rattle.rd_hello.specs.Hello.{hello_bytes}
 use Rattle.rd_hello.specs.Own.{host_announce}
 use Rattle.rd_world.specs.Recording.{client_id}
-use Rattle.rd_world.specs.Talk.{Deed, host_begins, host_reads, host_writes}
+use Rattle.rd_deeds.specs.Talk.{Deed, host_begins, host_reads, host_writes}
 
 abbrev pub greeting : List ℕ
 greeting = hello_bytes (host_announce client_id)

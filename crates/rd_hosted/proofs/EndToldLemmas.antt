@@ -15,8 +15,8 @@ use Rattle.rd_table.specs.Histories.{handed_in, table_history}
 use Rattle.rd_table.proofs.StepLemmas.{led_goes}
 use Rattle.rd_turn.specs.History.{entry}
 use Rattle.rd_host_turns.specs.Turns.{AreQuiet, TableEntry}
-use Rattle.rd_world.specs.Host.{next_message}
-use Rattle.rd_world.specs.Talk.{Deed, host_begins, host_ends}
+use Rattle.rd_deeds.specs.Host.{next_message}
+use Rattle.rd_deeds.specs.Talk.{Deed, host_begins, host_ends}
 use Rattle.rd_hosted.specs.Asks.{asks_among, table_at}
 use Rattle.rd_hosted.specs.Kept.{AsksInRange}
 use Rattle.rd_hosted.proofs.BetweenLemmas.{AcceptsNone, IsTableHistory, accepted_still, earlier_history, handed_still, step_behind}

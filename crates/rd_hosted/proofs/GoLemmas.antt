@@ -29,7 +29,7 @@ use Rattle.rd_host_front.specs.State.{FrontPassState, HostFrontState, PassOfTabl
 use Rattle.rd_host_front.proofs.GoingLemmas.{core_of, table_of}
 use Rattle.rd_host_turns.specs.Turns.{ArePartsOf, HandsThrough, IsOwnCall, IsWithoutCall, PartsAlong, SeenAlong, TableEntry, TablePart, TablePartsGo, all_parts, calls, renews, renews_by}
 use Rattle.rd_host_threads.specs.Calls.{AreHostsCalls, IsHeardReply, IsMadeBy}
-use Rattle.rd_world.specs.Talk.{Deed, host_moves, host_read, host_wrote}
+use Rattle.rd_deeds.specs.Talk.{Deed, host_moves, host_read, host_wrote}
 use Rattle.rd_hosted.specs.Asks.{asks_among}
 use Rattle.rd_hosted.specs.Heard.{DoesAsked, DoesHeard, IsOnStill, took_message, served_in}
 use Rattle.rd_hosted.specs.Kept.{AsksInRange, IsNoDropOf, moves_by, moves_on}

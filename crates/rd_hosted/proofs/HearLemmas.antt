@@ -13,7 +13,7 @@ use Rattle.rd_pending.specs.declared.calls.LiveNo.TheVariants as live_no
 use Rattle.rd_pending.specs.Table.{TableState, live, remove}
 use Rattle.rd_exchanges.specs.Exchanges.{all_after, answers_of}
 use Rattle.rd_host_front.specs.HostFront.{life_code}
-use Rattle.rd_world.specs.Host.{HostSide, admits, forgets, hears, host_heard, live_code}
+use Rattle.rd_deeds.specs.Host.{HostSide, admits, forgets, hears, host_heard, live_code}
 use Rattle.rd_hosted.specs.Heard.{replying, served_in}
 use Rattle.rd_hosted.proofs.HeardLemmas.{replying_other}
 use Rattle.rd_hosted.proofs.StandLemmas.{side}

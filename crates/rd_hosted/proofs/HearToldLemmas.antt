@@ -34,8 +34,8 @@ use Rattle.rd_exchanges.proofs.BetweenLemmas.{lives_followed, removals_parted}
 use Rattle.rd_exchanges.proofs.CallLemmas.{none_handed, submissions_ask}
 use Rattle.rd_host_front.specs.State.{FrontPassState}
 use Rattle.rd_host_turns.specs.Turns.{AreQuiet, IsOwnCall, SeenAlong, TableEntry, TablePart, TablePartsGo}
-use Rattle.rd_world.specs.Host.{HostSide, hears, host_heard}
-use Rattle.rd_world.specs.Talk.{Deed, host_moves, host_read, host_reads, host_wrote}
+use Rattle.rd_deeds.specs.Host.{HostSide, hears, host_heard}
+use Rattle.rd_deeds.specs.Talk.{Deed, host_moves, host_read, host_reads, host_wrote}
 use Rattle.rd_hosted.specs.Asks.{asks_among, table_at}
 use Rattle.rd_hosted.specs.Heard.{LivesAll, RemovesAll, replying, served_in}
 use Rattle.rd_hosted.specs.Kept.{AsksInRange}

@@ -33,11 +33,11 @@ use Rattle.rd_table.specs.declared.calls.PendingReply.TheVariants as reply
 use Rattle.rd_table.specs.Histories.{handed_in}
 use Rattle.rd_turn.specs.History.{Leads}
 use Rattle.rd_turn.specs.Pass.{first_pass}
-use Rattle.rd_world.specs.Host.{HostSide}
-use Rattle.rd_world.specs.HostDeeds.{calls_of}
+use Rattle.rd_deeds.specs.Host.{HostSide}
+use Rattle.rd_deeds.specs.HostDeeds.{calls_of}
 use Rattle.rd_world.specs.Recording.{client_id}
-use Rattle.rd_world.specs.Talk.{Deed, host_moves, host_read, host_wrote, takes}
-use Rattle.rd_world.proofs.Calls.{calls_hold, calls_since, table_of}
+use Rattle.rd_deeds.specs.Talk.{Deed, host_moves, host_read, host_wrote, takes}
+use Rattle.rd_deeds.proofs.Calls.{calls_hold, calls_since, table_of}
 use Rattle.rd_hosted.specs.Asks.{asked_as, asks_among, table_at}
 use Rattle.rd_hosted.specs.Kept.{AsksInRange, CameOf, IsTakenIn, KeepsTable, calls_of_front, calls_of_table}
 use Rattle.rd_hosted.proofs.BetweenLemmas.{IsTableHistory, earlier_history, fit_in, fit_last}

@@ -17,8 +17,8 @@ use Rattle.rd_host_front.specs.HostFront.{FillsAfter, FillsRoom, HandsOne}
 use Rattle.rd_host_front.specs.State.{FrontPassState, HostFrontState}
 use Rattle.rd_host_front.proofs.GoingLemmas.{core_of, table_of}
 use Rattle.rd_host_turns.specs.Turns.{AreQuiet, IsOwnCall, SeenAlong, TableEntry, TablePart, TablePartGoes, TablePartsGo, calls}
-use Rattle.rd_world.specs.Host.{next_message, sent_from, side_sends}
-use Rattle.rd_world.specs.Talk.{Deed, host_writes}
+use Rattle.rd_deeds.specs.Host.{next_message, sent_from, side_sends}
+use Rattle.rd_deeds.specs.Talk.{Deed, host_writes}
 use Rattle.rd_hosted.specs.Asks.{asks_among, table_at}
 use Rattle.rd_hosted.specs.Heard.{IsOnStill}
 use Rattle.rd_hosted.specs.Kept.{AsksInRange}

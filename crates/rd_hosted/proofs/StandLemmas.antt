@@ -13,11 +13,11 @@ use Rattle.rd_pending.specs.Outcomes.{Accepted}
 use Rattle.rd_pending.specs.Table as table
 use Rattle.rd_pending.specs.Table.{MayBegin, TableState}
 use Rattle.rd_exchanges.specs.Exchanges.{AreAsks, IsAsk, MayGo, accepted_along, accepted_at, goes, handed_along, handed_at, handed_of}
-use Rattle.rd_world.specs.Host.{HostSide, begins_on, ends_channel, hears, next_message, side_sends}
-use Rattle.rd_world.specs.HostDeeds.{MayDo, calls_of, side_after, side_of}
+use Rattle.rd_deeds.specs.Host.{HostSide, begins_on, ends_channel, hears, next_message, side_sends}
+use Rattle.rd_deeds.specs.HostDeeds.{MayDo, calls_of, side_after, side_of}
 use Rattle.rd_world.specs.Recording.{client_id}
-use Rattle.rd_world.specs.Talk.{Deed, host_begins, host_ends, host_move, host_moves, host_read, host_reads, host_writes, host_wrote, read_by_host, submits, takes, written_by_host}
-use Rattle.rd_world.proofs.Calls.{Does, read_tame, sent_same, table_of}
+use Rattle.rd_deeds.specs.Talk.{Deed, host_begins, host_ends, host_move, host_moves, host_read, host_reads, host_writes, host_wrote, read_by_host, submits, takes, written_by_host}
+use Rattle.rd_deeds.proofs.Calls.{Does, read_tame, sent_same, table_of}
 use Rattle.rd_hosted.specs.Kept.{AsksInRange, IsOfHost, IsTakenIn}
 
 -- the side with this core and this table

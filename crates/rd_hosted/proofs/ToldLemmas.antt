@@ -11,7 +11,7 @@ use Rattle.rd_pending.specs.History.{Call, accepted_in}
 use Rattle.rd_table.specs.Histories.{handed_in, table_history}
 use Rattle.rd_exchanges.specs.Exchanges.{goes}
 use Rattle.rd_host_turns.specs.Turns.{AreQuiet, TableEntry}
-use Rattle.rd_world.specs.Talk.{Deed, EachAfter, host_move, host_moves, host_read, host_reads, host_writes, host_wrote, read_by_host, written_by_host}
+use Rattle.rd_deeds.specs.Talk.{Deed, EachAfter, host_move, host_moves, host_read, host_reads, host_writes, host_wrote, read_by_host, written_by_host}
 use Rattle.rd_hosted.specs.Asks.{asks_among, table_at}
 use Rattle.rd_hosted.specs.Kept.{AsksInRange, LeavesNothing}
 use Rattle.rd_hosted.proofs.BetweenLemmas.{IsTableHistory, accepted_behind, asks_behind, handed_behind}

@@ -20,11 +20,11 @@ use Rattle.rd_pending.specs.Table as table
 use Rattle.rd_script.specs.declared.line.NumberedLine.{NumberedLine}
 use Rattle.rd_script.specs.declared.outcome.Outcome.{Outcome}
 use Rattle.rd_table.specs.Histories.{handed_in, table_history}
-use Rattle.rd_world.specs.Host.{next_message}
-use Rattle.rd_world.specs.HostDeeds.{IsInRange, MayDo, calls_of, side_of}
-use Rattle.rd_world.specs.Joining.{ClientCameTo}
+use Rattle.rd_deeds.specs.Host.{next_message}
+use Rattle.rd_deeds.specs.HostDeeds.{IsInRange, MayDo, calls_of, side_of}
+use Rattle.rd_deeds.specs.Joining.{ClientCameTo}
 use Rattle.rd_world.specs.Recording.{client_id}
-use Rattle.rd_world.specs.Talk.{Deed, EachAfter, host_begins, host_ends, host_moves, host_read, host_reads, host_writes, host_wrote, submits, takes}
+use Rattle.rd_deeds.specs.Talk.{Deed, EachAfter, host_begins, host_ends, host_moves, host_read, host_reads, host_writes, host_wrote, submits, takes}
 use Rattle.rd_hosted.specs.Asks.{table_at}
 
 -- what is asked has numbers for which its message has room

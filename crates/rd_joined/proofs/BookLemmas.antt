@@ -27,18 +27,19 @@ use Rattle.rd_journals.proofs.RunsReaching.{by_moves}
 use Rattle.rd_journals.proofs.RunsTogether.{known}
 use Rattle.rd_script.specs.declared.line.NumberedLine.{NumberedLine}
 use Rattle.rd_station.specs.Station.{StationState}
-use Rattle.rd_world.specs.declared.device.SessionDevice.{SessionDevice}
-use Rattle.rd_world.specs.Devices.{Declared, device_cut, device_step}
-use Rattle.rd_world.specs.Joining.{IsCarried}
-use Rattle.rd_world.specs.Opening.{bare_lines}
+use Rattle.rd_declared.specs.declared.device.SessionDevice.{SessionDevice}
+use Rattle.rd_declared.specs.Devices.{Declared, device_cut, device_step}
+use Rattle.rd_deeds.specs.Joining.{IsCarried}
+use Rattle.rd_declared.specs.Declaring.{bare_lines, declared_devices}
 use Rattle.rd_world.specs.Recording.{request_of}
-use Rattle.rd_world.specs.Run.{declared_devices, station_of, world_of}
-use Rattle.rd_world.specs.Session.{IsOfDevice, request_read}
-use Rattle.rd_world.specs.Talk.{EachAfter, Has, journal}
+use Rattle.rd_world.specs.Run.{station_of, world_of}
+use Rattle.rd_declared.specs.Replies.{request_read}
+use Rattle.rd_world.specs.Session.{IsOfDevice}
+use Rattle.rd_deeds.specs.Talk.{EachAfter, Has, journal}
 use Rattle.rd_world.specs.World.{WorldState, journals_in, station_at}
 use Rattle.rd_world.proofs.GrowingLemmas.{acted_keys}
-use Rattle.rd_world.proofs.Journals.{IsPlain, has_contains, plain_of}
-use Rattle.rd_world.proofs.OpeningLemmas.{declared_openable}
+use Rattle.rd_deeds.proofs.Journals.{IsPlain, has_contains, plain_of}
+use Rattle.rd_declared.proofs.DeclaringLemmas.{declared_openable}
 use Rattle.rd_joined.proofs.ClockLemmas.{clocked}
 use Rattle.rd_joined.proofs.CutLemmas.{found}
 use Rattle.rd_joined.proofs.JournalLemmas.{each_found, marked_written, named_written}

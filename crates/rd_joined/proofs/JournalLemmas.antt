@@ -17,16 +17,17 @@ use Rattle.rd_drive.specs.Replies.{AreToldBy, IsToldBy, state_after}
 use Rattle.rd_irp.specs.declared.request.Request.{Request}
 use Rattle.rd_journals.specs.Reads.{ComesRead, IsRead}
 use Rattle.rd_journals.proofs.ShortLemmas.{came_read}
-use Rattle.rd_world.specs.declared.device.SessionDevice.{SessionDevice}
-use Rattle.rd_world.specs.Devices.{device_cut, device_step}
-use Rattle.rd_world.specs.Joining.{IsCarried}
-use Rattle.rd_world.specs.Recording.{no_request, request_of}
-use Rattle.rd_world.specs.Session.{IsOfDevice, RanRead, request_read}
-use Rattle.rd_world.specs.Talk.{Deed, EachAfter, Has, client_read, host_wrote, journal, request_at}
+use Rattle.rd_declared.specs.declared.device.SessionDevice.{SessionDevice}
+use Rattle.rd_declared.specs.Devices.{device_cut, device_step}
+use Rattle.rd_deeds.specs.Joining.{IsCarried}
+use Rattle.rd_declared.specs.Replies.{RanRead, no_request, request_read}
+use Rattle.rd_world.specs.Recording.{request_of}
+use Rattle.rd_world.specs.Session.{IsOfDevice}
+use Rattle.rd_deeds.specs.Talk.{Deed, EachAfter, Has, client_read, host_wrote, journal, request_at}
 use Rattle.rd_world.proofs.Agreeing.{agree}
 use Rattle.rd_world.proofs.ApplicationsLemmas.{apart_at, below_of, equal_is}
-use Rattle.rd_world.proofs.Journals.{HasRun, IsPlain, contains_has}
-use Rattle.rd_world.proofs.Replied.{request_since}
+use Rattle.rd_deeds.proofs.Journals.{HasRun, IsPlain, contains_has}
+use Rattle.rd_deeds.proofs.Replied.{request_since}
 
 -- ---- keys that are named came
 

@@ -9,11 +9,11 @@ use Rattle.rd_pending.specs.History.{accepted_of, after}
 use Rattle.rd_pending.specs.Outcomes.{Accepted}
 use Rattle.rd_pending.proofs.Tame.{newest}
 use Rattle.rd_journals.specs.RunsCounts as count
-use Rattle.rd_world.specs.HostDeeds.{calls_of, side_of}
-use Rattle.rd_world.specs.Joining.{IsCarried, accepted}
-use Rattle.rd_world.specs.Talk.{Deed, adds, client_read, client_reads, client_writes, completes, host_begins, host_ends, host_reads, host_writes, is_request, removes, stores, submits, takes, tells}
-use Rattle.rd_world.proofs.Calls.{Does, read_tame, sent_same}
-use Rattle.rd_world.proofs.Written.{Matches, requests_on, written}
+use Rattle.rd_deeds.specs.HostDeeds.{calls_of, side_of}
+use Rattle.rd_deeds.specs.Joining.{IsCarried, accepted}
+use Rattle.rd_deeds.specs.Talk.{Deed, adds, client_read, client_reads, client_writes, completes, host_begins, host_ends, host_reads, host_writes, is_request, removes, stores, submits, takes, tells}
+use Rattle.rd_deeds.proofs.Calls.{Does, read_tame, sent_same}
+use Rattle.rd_deeds.proofs.Written.{Matches, requests_on, written}
 
 -- ---- sums over the first channels
 

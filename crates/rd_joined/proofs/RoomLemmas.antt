@@ -10,12 +10,11 @@ use Rattle.rd_journals.specs.RunsPremises.{RunPremises}
 use Rattle.rd_journals.proofs.RunsCounting.{accepted_few}
 use Rattle.rd_journals.proofs.RunsTogether.{known}
 use Rattle.rd_script.specs.declared.line.NumberedLine.{NumberedLine}
-use Rattle.rd_world.specs.Joining.{IsCarried}
-use Rattle.rd_world.specs.Opening.{bare_lines}
+use Rattle.rd_deeds.specs.Joining.{IsCarried}
+use Rattle.rd_declared.specs.Declaring.{bare_lines, declared_devices}
 use Rattle.rd_world.specs.Recording.{client_id}
-use Rattle.rd_world.specs.Run.{declared_devices}
-use Rattle.rd_world.specs.Talk.{AtEachPoint, Deed, journal}
-use Rattle.rd_world.specs.Told.{worn_entries}
+use Rattle.rd_deeds.specs.Talk.{AtEachPoint, Deed, journal}
+use Rattle.rd_deeds.specs.Told.{worn_entries}
 use Rattle.rd_world.specs.World.{WorldState}
 use Rattle.rd_joined.proofs.CutLemmas.{cuts_few}
 use Rattle.rd_joined.proofs.ReadLemmas.{reads_few}

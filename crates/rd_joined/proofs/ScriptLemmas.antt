@@ -8,9 +8,8 @@ use Rattle.rd_journals.proofs.RunsFittingLines.{scripts_are_fitting}
 use Rattle.rd_script.specs.declared.keyword.Mode.{Mode}
 use Rattle.rd_script.specs.declared.script.Script.{Script}
 use Rattle.rd_script.specs.Script.{script_of}
-use Rattle.rd_world.proofs.DeclaredLemmas.{scripts_are_declared, scripts_are_notable}
-use Rattle.rd_world.specs.Opening.{bare_lines}
-use Rattle.rd_world.specs.Run.{declared_devices}
+use Rattle.rd_declared.proofs.DeclaredLemmas.{scripts_are_declared, scripts_are_notable}
+use Rattle.rd_declared.specs.Declaring.{bare_lines, declared_devices}
 
 module _ (m : Mode) (text : List ℕ) (script : Script) (is : script_of m text ≡ Ok script) where
   pub script_premises : RunPremises script.lines

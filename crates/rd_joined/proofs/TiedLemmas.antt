@@ -10,13 +10,12 @@ use Rattle.rd_journals.proofs.RunsTogether.{known}
 use Rattle.rd_script.specs.declared.keyword.Mode.{Mode}
 use Rattle.rd_script.specs.declared.script.Script.{Script}
 use Rattle.rd_script.specs.Script.{script_of}
-use Rattle.rd_world.specs.Joining.{AreJoined}
-use Rattle.rd_world.specs.Opening.{bare_lines}
+use Rattle.rd_deeds.specs.Joining.{AreJoined}
+use Rattle.rd_declared.specs.Declaring.{bare_lines, declared_devices}
 use Rattle.rd_world.specs.Recording.{client_id}
-use Rattle.rd_world.specs.Run.{declared_devices}
 use Rattle.rd_world.specs.Session.{replies_in}
-use Rattle.rd_world.specs.Talk.{Deed, journal}
-use Rattle.rd_world.specs.Told.{AreAnswered, Replies}
+use Rattle.rd_deeds.specs.Talk.{Deed, journal}
+use Rattle.rd_deeds.specs.Told.{AreAnswered, Replies}
 use Rattle.rd_world.specs.World.{WorldState}
 use Rattle.rd_world.proofs.NumberedLemmas.{scripts_are_numbered}
 use Rattle.rd_joined.specs.Joined.{AreTied}

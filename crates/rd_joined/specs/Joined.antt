@@ -5,10 +5,10 @@ use Rattle.rd_base.specs.declared.journal.Key.{Key}
 use Rattle.rd_base.specs.Lawful.{IsLawful}
 use Rattle.rd_drive.specs.Replies.{KeyedReply}
 use Rattle.rd_irp.specs.declared.completion.Reply.{Reply}
-use Rattle.rd_world.specs.HostDeeds.{MayDo, side_of}
-use Rattle.rd_world.specs.Joining.{IsCarried, Stands}
-use Rattle.rd_world.specs.Talk.{AtEachPoint, Deed, EachAfter, journal}
-use Rattle.rd_world.specs.Told.{Replies, worn_entries}
+use Rattle.rd_deeds.specs.HostDeeds.{MayDo, side_of}
+use Rattle.rd_deeds.specs.Joining.{IsCarried, Stands}
+use Rattle.rd_deeds.specs.Talk.{AtEachPoint, Deed, EachAfter, journal}
+use Rattle.rd_deeds.specs.Told.{Replies, worn_entries}
 
 -- A host with this ClientId and a client whose devices' journals give these replies: messages are carried, the host keeps its table, and the client its journals. What
 -- the client tells isn't said.

@@ -17,15 +17,14 @@ ghost use Rattle.rd_script.specs.declared.line.NumberedLine.{NumberedLine};
 ghost use Rattle.rd_script.specs.declared.script.Script.{Script};
 ghost use Rattle.rd_script.specs.Script.{script_of};
 ghost use Rattle.rd_joined.specs.Joined.{AreTied};
-ghost use Rattle.rd_world.specs.Devices.{Declared, device_cut, device_step};
-ghost use Rattle.rd_world.specs.HostDeeds.{calls_of};
-ghost use Rattle.rd_world.specs.Joining.{AreJoined, Joins, RunsInOrder};
-ghost use Rattle.rd_world.specs.Opening.{bare_lines};
+ghost use Rattle.rd_declared.specs.Devices.{Declared, device_cut, device_step};
+ghost use Rattle.rd_deeds.specs.HostDeeds.{calls_of};
+ghost use Rattle.rd_deeds.specs.Joining.{AreJoined, Joins, RunsInOrder};
+ghost use Rattle.rd_declared.specs.Declaring.{bare_lines, declared_devices};
 ghost use Rattle.rd_world.specs.Recording.{client_channel, client_id, request_of, written_by};
-ghost use Rattle.rd_world.specs.Run.{declared_devices};
 ghost use Rattle.rd_world.specs.Session.{IsOfDevice, journals_of, replies_in, world_moment};
-ghost use Rattle.rd_world.specs.Talk.{Deed, EachAfter, journal, open_channel};
-ghost use Rattle.rd_world.specs.Told.{AreAnswered, Replies, worn_entries};
+ghost use Rattle.rd_deeds.specs.Talk.{Deed, EachAfter, journal, open_channel};
+ghost use Rattle.rd_deeds.specs.Told.{AreAnswered, Replies, worn_entries};
 ghost use Rattle.rd_world.specs.World.{WorldState, journals_in};
 
 /// A device is cut off no more often than there are lines and two.

@@ -29,8 +29,8 @@ use Rattle.rd_irp.specs.declared.request.Request.{Request}
 use Rattle.rd_irp.specs.declared.request.RequestHead.{RequestHead}
 use Rattle.rd_printer.specs.Notice.{notice}
 use Rattle.rd_printer.specs.declared.notice.Notice.{Notice}
-use Rattle.rd_world.specs.Talk.{is_request, request_in}
-use Rattle.rd_world.proofs.Messages.{packet_is}
+use Rattle.rd_deeds.specs.Talk.{is_request, request_in}
+use Rattle.rd_deeds.proofs.Messages.{packet_is}
 
 -- the count of a channel's requests stays, and so does what is wrong
 abbrev Stays : ClientCoreState → List ℕ → ClientCoreState → Type 0

@@ -32,9 +32,9 @@ use Rattle.rd_station.specs.declared.refusals.AnnounceNo.TheVariants as refused
 use Rattle.rd_station.proofs.Members.{all_of, find_has, has_append, to_contains}
 use Rattle.rd_station.proofs.Remembering.{has_any}
 use Rattle.rd_station.proofs.Soundness.{cancelled_then, collected_first, ran_then, removed_then, sound_announce, sound_cancel, sound_collect, sound_drop, sound_new, sound_put, sound_remove, sound_run, sound_take, taken_first}
-use Rattle.rd_world.specs.Devices.{device_cuts, device_parked, device_runs}
-use Rattle.rd_world.specs.Talk.{Has}
-use Rattle.rd_world.specs.declared.device.SessionDevice.{SessionDevice}
+use Rattle.rd_declared.specs.Devices.{device_cuts, device_parked, device_runs}
+use Rattle.rd_deeds.specs.Talk.{Has}
+use Rattle.rd_declared.specs.declared.device.SessionDevice.{SessionDevice}
 use Rattle.rd_world.proofs.KeysLemmas.{Comes, MayStore, step_names, step_stores}
 use Rattle.rd_journals.specs.Stations.{IsFit, IsIdle, IsOn}
 

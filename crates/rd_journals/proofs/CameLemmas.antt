@@ -9,14 +9,14 @@ use Rattle.rd_runs.proofs.Parts.{IsBehind}
 use Rattle.rd_script.specs.declared.line.NumberedLine.{NumberedLine}
 use Rattle.rd_station.specs.Station.{StationState, collect_first, held, new_station, put_refusal, put_unless}
 use Rattle.rd_station.specs.declared.answers.Completion.{Completion}
-use Rattle.rd_world.specs.Talk.{Has}
+use Rattle.rd_deeds.specs.Talk.{Has}
 use Rattle.rd_world.specs.World.{WorldState}
-use Rattle.rd_world.specs.declared.device.SessionDevice.{SessionDevice}
+use Rattle.rd_declared.specs.declared.device.SessionDevice.{SessionDevice}
 use Rattle.rd_station.specs.Station.{is_key}
 use Rattle.rd_runs.proofs.Together.{knows}
 use Rattle.rd_runs.specs.Premises.{RunPremises}
-use Rattle.rd_world.specs.Told.{came, came_as}
-use Rattle.rd_world.proofs.Joined.{carried_now}
+use Rattle.rd_deeds.specs.Told.{came, came_as}
+use Rattle.rd_deeds.proofs.Joined.{carried_now}
 use Rattle.rd_world.specs.Recording.{client_id}
 use Rattle.rd_journals.proofs.RoomLemmas.{read_roomy}
 use Rattle.rd_journals.specs.Jobs.{AreFine, FitsCompletion}

@@ -14,13 +14,13 @@ use Rattle.rd_pending.specs.Table as table
 use Rattle.rd_pending.specs.Table.{TableState}
 use Rattle.rd_station.specs.Station as station
 use Rattle.rd_station.specs.Station.{StationState}
-use Rattle.rd_world.specs.Devices.{PrinterNames, device_cut, printer_data}
+use Rattle.rd_declared.specs.Devices.{PrinterNames, device_cut, printer_data}
 use Rattle.rd_world.specs.Events.{connects, cutting, dropping, refreshing}
 use Rattle.rd_world.specs.Hearing.{with_client}
-use Rattle.rd_world.specs.Host.{begins_on, ends_channel}
-use Rattle.rd_world.specs.Talk.{adds, client_read, host_begins, host_ends, is_request, removes}
+use Rattle.rd_deeds.specs.Host.{begins_on, ends_channel}
+use Rattle.rd_deeds.specs.Talk.{adds, client_read, host_begins, host_ends, is_request, removes}
 use Rattle.rd_world.specs.World.{WorldState, ending, new_way, station_at, with_deed, with_station}
-use Rattle.rd_world.specs.declared.device.SessionDevice.{SessionDevice}
+use Rattle.rd_declared.specs.declared.device.SessionDevice.{SessionDevice}
 use Rattle.rd_journals.specs.Orderly.{AreHeld, HasStation, Orderly, OrderlyOn, current}
 use Rattle.rd_journals.specs.Reads.{IsGiven}
 use Rattle.rd_journals.specs.Stations.{IsOn}

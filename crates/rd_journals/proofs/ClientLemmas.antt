@@ -26,9 +26,9 @@ use Rattle.rd_station.specs.declared.refusals.PutWhy.{PutWhy}
 use Rattle.rd_station.specs.declared.refusals.PutWhy.TheVariants as why
 use Rattle.rd_world.specs.Events.{applies_at, came_of, completion_message, is_close}
 use Rattle.rd_world.specs.Hearing.{after_opening, announcing, answers_directly, client_hears, heard_by_client, is_device_told, put_at, put_by, putting, with_client}
-use Rattle.rd_world.specs.Talk.{client_read, client_reads, completes, is_request, request_at, request_in}
+use Rattle.rd_deeds.specs.Talk.{client_read, client_reads, completes, is_request, request_at, request_in}
 use Rattle.rd_world.specs.World.{Kept, WorldState, client_sends, station_at, with_deed, with_station}
-use Rattle.rd_world.specs.declared.device.SessionDevice.{SessionDevice}
+use Rattle.rd_declared.specs.declared.device.SessionDevice.{SessionDevice}
 use Rattle.rd_journals.specs.Orderly.{IsNext, Orderly, OrderlyOn, current}
 use Rattle.rd_journals.specs.Reads.{IsGiven, IsRead}
 use Rattle.rd_journals.specs.Stations.{IsOn}

@@ -24,13 +24,13 @@ use Rattle.rd_station.specs.Station.{StationState}
 use Rattle.rd_station.specs.declared.answers.Completion.{Completion}
 use Rattle.rd_station.proofs.Calls.{reached_kept}
 use Rattle.rd_station.proofs.Members.{to_contains}
-use Rattle.rd_world.specs.Devices.{Declared, device_cuts, device_parked, device_runs, device_step}
+use Rattle.rd_declared.specs.Devices.{Declared, device_cuts, device_parked, device_runs, device_step}
 use Rattle.rd_world.specs.Events.{completion_message}
-use Rattle.rd_world.specs.Talk.{Has}
-use Rattle.rd_world.specs.Told.{CompletesWith}
+use Rattle.rd_deeds.specs.Talk.{Has}
+use Rattle.rd_deeds.specs.Told.{CompletesWith}
 use Rattle.rd_world.specs.World.{WorldState, station_at}
-use Rattle.rd_world.specs.declared.device.SessionDevice.{SessionDevice}
-use Rattle.rd_world.specs.declared.device.SessionDevice.TheVariants as session
+use Rattle.rd_declared.specs.declared.device.SessionDevice.{SessionDevice}
+use Rattle.rd_declared.specs.declared.device.SessionDevice.TheVariants as session
 use Rattle.rd_journals.specs.Jobs.{AreWorking, FitsCompletion, IsCompletionOf}
 use Rattle.rd_journals.specs.Orderly.{Orderly}
 use Rattle.rd_journals.proofs.OwnLemmas.{IsGood}

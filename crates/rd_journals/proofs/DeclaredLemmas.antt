@@ -11,11 +11,10 @@ use Rattle.rd_runs.specs.Premises.{AreBounded, DeviceFits}
 use Rattle.rd_script.specs.declared.line.Line.{Line}
 use Rattle.rd_script.specs.declared.line.Line.TheVariants as line
 use Rattle.rd_script.specs.declared.line.NumberedLine.{NumberedLine}
-use Rattle.rd_world.specs.declared.device.SessionDevice.{SessionDevice}
-use Rattle.rd_world.specs.declared.device.SessionDevice.TheVariants as session
-use Rattle.rd_world.specs.Devices.{Declared, declaring, device_parked, furnishing, holding_at, with_first}
-use Rattle.rd_world.specs.Opening.{bare_lines}
-use Rattle.rd_world.specs.Run.{declared_devices}
+use Rattle.rd_declared.specs.declared.device.SessionDevice.{SessionDevice}
+use Rattle.rd_declared.specs.declared.device.SessionDevice.TheVariants as session
+use Rattle.rd_declared.specs.Devices.{Declared, declaring, device_parked, furnishing, holding_at, with_first}
+use Rattle.rd_declared.specs.Declaring.{bare_lines, declared_devices}
 use Rattle.rd_journals.specs.Stations.{AreFit, IsFit}
 
 abbrev IsStill : Declared → Type 0

@@ -20,9 +20,9 @@ use Rattle.rd_irp.specs.declared.op.Op.{Op}
 use Rattle.rd_irp.specs.declared.op.Op.TheVariants as op
 use Rattle.rd_printer.proofs.PrinterLemmas.{is_printed, printers_step}
 use Rattle.rd_station.specs.Station.{CameOf}
-use Rattle.rd_world.specs.Devices.{device_cut, device_cuts, device_parked, device_runs, device_step}
-use Rattle.rd_world.specs.declared.device.SessionDevice.{SessionDevice}
-use Rattle.rd_world.specs.declared.device.SessionDevice.TheVariants as session
+use Rattle.rd_declared.specs.Devices.{device_cut, device_cuts, device_parked, device_runs, device_step}
+use Rattle.rd_declared.specs.declared.device.SessionDevice.{SessionDevice}
+use Rattle.rd_declared.specs.declared.device.SessionDevice.TheVariants as session
 use Rattle.rd_journals.specs.Stations.{IsFit}
 
 pub step_fits : (s : SessionDevice) (key : Key) (file : ℕ) (o : Op) (moment : ℕ) → IsFit s → IsFit (device_step s key file o moment).state

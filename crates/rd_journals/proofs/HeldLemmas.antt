@@ -17,10 +17,10 @@ use Rattle.rd_printer.proofs.EntryLemmas.{lookup-inserted, lookup-inserted_other
 use Rattle.rd_station.specs.Memory.{NamesKey}
 use Rattle.rd_station.specs.Station.{StationState}
 use Rattle.rd_station.proofs.Members.{to_contains}
-use Rattle.rd_world.specs.Talk.{Deed, EachAfter, Has, client_read, journal, request_at, stores}
+use Rattle.rd_deeds.specs.Talk.{Deed, EachAfter, Has, client_read, journal, request_at, stores}
 use Rattle.rd_world.specs.World.{WorldState, station_at, stored_beyond, with_station}
-use Rattle.rd_world.specs.declared.device.SessionDevice.{SessionDevice}
-use Rattle.rd_world.proofs.Journals.{contains_has}
+use Rattle.rd_declared.specs.declared.device.SessionDevice.{SessionDevice}
+use Rattle.rd_deeds.proofs.Journals.{contains_has}
 use Rattle.rd_world.proofs.StepLemmas.{stored_more}
 use Rattle.rd_journals.specs.Orderly.{AreHeld, HasStation}
 use Rattle.rd_journals.specs.Reads.{ComesRead, IsGiven, IsRead}

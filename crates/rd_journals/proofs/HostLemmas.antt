@@ -26,9 +26,9 @@ use Rattle.rd_pending.proofs.Effects.{submits}
 use Rattle.rd_pending.proofs.Neutral.{channel_kept}
 use Rattle.rd_world.specs.Events.{client_sends_first, client_sends_next, comes_of_asking}
 use Rattle.rd_world.specs.Hearing.{host_hears, with_client}
-use Rattle.rd_world.specs.Host.{HostSide, admits, forgets, hears, host_heard, lived, sent_from, side_sends}
-use Rattle.rd_world.specs.Talk as deed
-use Rattle.rd_world.specs.Talk.{Deed}
+use Rattle.rd_deeds.specs.Host.{HostSide, admits, forgets, hears, host_heard, lived, sent_from, side_sends}
+use Rattle.rd_deeds.specs.Talk as deed
+use Rattle.rd_deeds.specs.Talk.{Deed}
 use Rattle.rd_world.specs.World.{Asked, WorldState, client_sends, host_sends, with_deed, with_table}
 use Rattle.rd_runs.proofs.Parts.{ended_by}
 use Rattle.rd_journals.specs.Orderly.{AreOrdered, Orderly, OrderlyOn}

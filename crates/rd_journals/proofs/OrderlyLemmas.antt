@@ -13,10 +13,10 @@ use Rattle.rd_station.specs.declared.held.InHand.{InHand}
 use Rattle.rd_station.proofs.Calls.{reached_keeps}
 use Rattle.rd_station.proofs.Keeping.{held_at}
 use Rattle.rd_station.proofs.Members.{has_right, to_contains}
-use Rattle.rd_world.specs.Devices.{device_cuts, device_parked, device_runs}
-use Rattle.rd_world.specs.Talk.{Deed, Has, client_read, is_request, journal, request_at}
+use Rattle.rd_declared.specs.Devices.{device_cuts, device_parked, device_runs}
+use Rattle.rd_deeds.specs.Talk.{Deed, Has, client_read, is_request, journal, request_at}
 use Rattle.rd_world.specs.World.{Kept, WorldState, station_at, with_station}
-use Rattle.rd_world.specs.declared.device.SessionDevice.{SessionDevice}
+use Rattle.rd_declared.specs.declared.device.SessionDevice.{SessionDevice}
 use Rattle.rd_journals.specs.Orderly.{AreOrdered, IsNext, Orderly, current}
 use Rattle.rd_journals.specs.Reads.{ComesRead, IsGiven, IsRead}
 use Rattle.rd_journals.specs.Stations.{IsOn}

@@ -32,9 +32,9 @@ use Rattle.rd_station.specs.declared.refusals.PutWhy.{PutWhy}
 use Rattle.rd_station.specs.declared.refusals.PutWhy.TheVariants as why
 use Rattle.rd_station.proofs.Calls.{did_run}
 use Rattle.rd_station.proofs.Members.{filter_has, find_has, has_append, map_has, same_key}
-use Rattle.rd_world.specs.Devices.{device_cuts, device_parked, device_runs}
-use Rattle.rd_world.specs.Talk.{Has}
-use Rattle.rd_world.specs.declared.device.SessionDevice.{SessionDevice}
+use Rattle.rd_declared.specs.Devices.{device_cuts, device_parked, device_runs}
+use Rattle.rd_deeds.specs.Talk.{Has}
+use Rattle.rd_declared.specs.declared.device.SessionDevice.{SessionDevice}
 use Rattle.rd_journals.specs.Jobs.{OwnsAll}
 use Rattle.rd_journals.proofs.CallLemmas.{OfJob}
 

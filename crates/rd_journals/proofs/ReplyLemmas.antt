@@ -18,12 +18,12 @@ use Rattle.rd_drive.proofs.BoundedLemmas.{bounded_devices}
 use Rattle.rd_drive.proofs.OnceLemmas.{one_reply_each}
 use Rattle.rd_irp.specs.declared.request.Request.{Request}
 use Rattle.rd_printer.proofs.PrinterLemmas.{printers_step}
-use Rattle.rd_world.specs.Devices.{Declared, device_cut, device_parked, device_step}
+use Rattle.rd_declared.specs.Devices.{Declared, device_cut, device_parked, device_step}
 use Rattle.rd_world.specs.Recording.{request_of}
 use Rattle.rd_world.specs.Session.{replies_in}
-use Rattle.rd_world.specs.Talk.{Deed}
-use Rattle.rd_world.specs.declared.device.SessionDevice.{SessionDevice}
-use Rattle.rd_world.specs.declared.device.SessionDevice.TheVariants as session
+use Rattle.rd_deeds.specs.Talk.{Deed}
+use Rattle.rd_declared.specs.declared.device.SessionDevice.{SessionDevice}
+use Rattle.rd_declared.specs.declared.device.SessionDevice.TheVariants as session
 use Rattle.rd_journals.specs.Stations.{AreFit, IsFit}
 use Rattle.rd_journals.proofs.DeviceLemmas.{cut_fits, step_fits}
 

@@ -12,13 +12,13 @@ use Rattle.rd_pending.specs.Table.{TableState, next_id}
 use Rattle.rd_pending.proofs.Effects as effects
 use Rattle.rd_pending.proofs.MapLemmas.{free_within}
 use Rattle.rd_pending.proofs.Tame.{newest}
-use Rattle.rd_world.specs.HostDeeds.{calls_of, side_of}
-use Rattle.rd_world.specs.Joining.{IsCarried, accepted, request_of_accepted}
-use Rattle.rd_world.specs.Talk.{Deed, Has, adds, client_read, client_reads, client_writes, completes, host_begins, host_ends, host_reads, host_writes, host_wrote, is_request, removes, request_at, request_in, stores, submits, takes, tells}
-use Rattle.rd_world.proofs.Calls.{Does, read_tame, sent_same, table_of}
-use Rattle.rd_world.proofs.Lists.{has_later}
-use Rattle.rd_world.proofs.Messages.{request_is}
-use Rattle.rd_world.proofs.Written.{Matches, Spells, requests_on, written}
+use Rattle.rd_deeds.specs.HostDeeds.{calls_of, side_of}
+use Rattle.rd_deeds.specs.Joining.{IsCarried, accepted, request_of_accepted}
+use Rattle.rd_deeds.specs.Talk.{Deed, Has, adds, client_read, client_reads, client_writes, completes, host_begins, host_ends, host_reads, host_writes, host_wrote, is_request, removes, request_at, request_in, stores, submits, takes, tells}
+use Rattle.rd_deeds.proofs.Calls.{Does, read_tame, sent_same, table_of}
+use Rattle.rd_deeds.proofs.Lists.{has_later}
+use Rattle.rd_deeds.proofs.Messages.{request_is}
+use Rattle.rd_deeds.proofs.Written.{Matches, Spells, requests_on, written}
 use Rattle.rd_journals.specs.Jobs.{AreFine, FitsCompletion}
 
 -- ---- what was accepted has room

@@ -27,16 +27,16 @@ use Rattle.rd_station.proofs.Remembering.{any_has}
 use Rattle.rd_runs.specs.Moves.{Reached}
 use Rattle.rd_runs.proofs.Insides.{IsInside, Outside, added_inside, all_dropped_inside, applied_inside, hears_inside, put_inside, removed_inside}
 use Rattle.rd_runs.proofs.Parts.{IsBehind, MayBe, Part, accepts, adds_one, applies_one, begins, by_parts, client_gets, client_hears_one, client_keeps_part, client_sends_one, collects_one, done, draws_one, ends, hands_out, host_gets, host_hears_one, host_keeps_part, host_sends_one, idle_one, queues_one, reached_behind, refuses, removes_one, takes_one, tells_one, tries_one}
-use Rattle.rd_world.specs.Devices.{Declared, device_cuts, device_parked, device_runs}
+use Rattle.rd_declared.specs.Devices.{Declared, device_cuts, device_parked, device_runs}
 use Rattle.rd_world.specs.Events.{client_sends_first, is_channel_open, is_read}
 use Rattle.rd_world.specs.Hearing.{client_hears}
-use Rattle.rd_world.specs.Host.{first_waiting, next_message}
-use Rattle.rd_world.specs.Opening.{bare_lines}
-use Rattle.rd_world.specs.Run.{applications_of, declared_devices, new_world, station_of, world_of}
-use Rattle.rd_world.specs.Talk.{client_reads, journal, tells}
+use Rattle.rd_deeds.specs.Host.{first_waiting, next_message}
+use Rattle.rd_declared.specs.Declaring.{bare_lines, declared_devices}
+use Rattle.rd_world.specs.Run.{applications_of, new_world, station_of, world_of}
+use Rattle.rd_deeds.specs.Talk.{client_reads, journal, tells}
 use Rattle.rd_world.specs.World.{ApplicationState, Asked, WayState, WorldState, first_message, handling_by, station_at, with_deed}
-use Rattle.rd_world.specs.declared.device.SessionDevice.{SessionDevice}
-use Rattle.rd_world.specs.declared.device.SessionDevice.TheVariants as session
+use Rattle.rd_declared.specs.declared.device.SessionDevice.{SessionDevice}
+use Rattle.rd_declared.specs.declared.device.SessionDevice.TheVariants as session
 use Rattle.rd_world.proofs.BeginningLemmas.{begun_by}
 use Rattle.rd_world.proofs.OpeningLemmas.{lines_begin}
 use Rattle.rd_journals.specs.Orderly.{Orderly}

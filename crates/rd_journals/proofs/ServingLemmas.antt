@@ -8,7 +8,7 @@ use Rattle.rd_client.specs.declared.heard.Heard.TheVariants as heard
 use Rattle.rd_core.specs.Core as core
 use Rattle.rd_station.specs.Station as station
 use Rattle.rd_station.specs.declared.refusals.PutWhy.TheVariants as why
-use Rattle.rd_world.specs.Talk as deed
+use Rattle.rd_deeds.specs.Talk as deed
 use Rattle.rd_base.specs.Lawful.{IsBelow, named_key}
 use Rattle.rd_base.specs.Statuses.{insufficient_resources, no_such_device}
 use Rattle.rd_base.specs.declared.journal.Item.{Item}
@@ -50,17 +50,17 @@ use Rattle.rd_station.specs.declared.answers.Completion.{Completion}
 use Rattle.rd_station.specs.declared.answers.Given.{Given}
 use Rattle.rd_station.specs.declared.refusals.PutWhy.{PutWhy}
 use Rattle.rd_world.proofs.BeginningLemmas.{begun_by}
-use Rattle.rd_world.proofs.Journals.{contains_has, has_contains}
+use Rattle.rd_deeds.proofs.Journals.{contains_has, has_contains}
 use Rattle.rd_world.proofs.OpeningLemmas.{lines_begin}
-use Rattle.rd_world.specs.Devices.{Declared, PrinterNames, device_cut, printer_data}
+use Rattle.rd_declared.specs.Devices.{Declared, PrinterNames, device_cut, printer_data}
 use Rattle.rd_world.specs.Events.{came_of, client_sends_first, client_sends_next, completion_message, connects, cutting, dropping, is_channel_open}
 use Rattle.rd_world.specs.Hearing.{after_opening, announcing, answers_directly, client_hears, heard_by_client, is_device_told, put_at, put_by, putting}
-use Rattle.rd_world.specs.Joining.{Stands}
-use Rattle.rd_world.specs.Opening.{bare_lines}
-use Rattle.rd_world.specs.Run.{applications_of, declared_devices, new_world, world_of}
-use Rattle.rd_world.specs.Talk.{Deed, EachAfter, Has, client_read, client_reads, completes, is_request, journal, request_at, tells}
+use Rattle.rd_deeds.specs.Joining.{Stands}
+use Rattle.rd_declared.specs.Declaring.{bare_lines, declared_devices}
+use Rattle.rd_world.specs.Run.{applications_of, new_world, world_of}
+use Rattle.rd_deeds.specs.Talk.{Deed, EachAfter, Has, client_read, client_reads, completes, is_request, journal, request_at, tells}
 use Rattle.rd_world.specs.World.{ApplicationState, Kept, WorldState, client_sends, handling_by, station_at, with_station}
-use Rattle.rd_world.specs.declared.device.SessionDevice.{SessionDevice}
+use Rattle.rd_declared.specs.declared.device.SessionDevice.{SessionDevice}
 
 abbrev Of : Type 0
 Of = StationState SessionDevice

@@ -14,10 +14,10 @@ use Rattle.rd_station.specs.Memory.{is_key_below}
 use Rattle.rd_station.specs.Station.{is_key}
 use Rattle.rd_station.proofs.Members.{key_self, same_key}
 use Rattle.rd_station.proofs.Remembering.{below_trans, below_true}
-use Rattle.rd_world.specs.Talk.{Deed, EachAfter, Has, client_read, client_reads, is_request, journal, request_at, request_in, stores}
+use Rattle.rd_deeds.specs.Talk.{Deed, EachAfter, Has, client_read, client_reads, is_request, journal, request_at, request_in, stores}
 use Rattle.rd_world.specs.World.{WorldState}
-use Rattle.rd_world.proofs.Journals.{HasRun, IsPlain, has_contains, plain_of}
-use Rattle.rd_world.proofs.Telling.{request_later}
+use Rattle.rd_deeds.proofs.Journals.{HasRun, IsPlain, has_contains, plain_of}
+use Rattle.rd_deeds.proofs.Telling.{request_later}
 use Rattle.rd_journals.specs.Orderly.{Orderly}
 use Rattle.rd_journals.specs.Reads.{ComesRead, IsRead, cuts, reads_count}
 use Rattle.rd_journals.proofs.RunLemmas.{orderly_lawful}

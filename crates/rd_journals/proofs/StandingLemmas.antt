@@ -14,10 +14,10 @@ use Rattle.rd_station.specs.Memory.{NamesKey}
 use Rattle.rd_station.specs.Station.{StationState, drop_channel, emptied, is_key}
 use Rattle.rd_station.proofs.Members.{has_append, same_key}
 use Rattle.rd_station.proofs.Remembering.{names_left, names_none_new}
-use Rattle.rd_world.specs.Joining.{Stands}
-use Rattle.rd_world.specs.Talk.{Deed, EachAfter, Has, completes, is_completion_of, stores}
+use Rattle.rd_deeds.specs.Joining.{Stands}
+use Rattle.rd_deeds.specs.Talk.{Deed, EachAfter, Has, completes, is_completion_of, stores}
 use Rattle.rd_world.specs.World.{WorldState, station_at, with_station}
-use Rattle.rd_world.specs.declared.device.SessionDevice.{SessionDevice}
+use Rattle.rd_declared.specs.declared.device.SessionDevice.{SessionDevice}
 use Rattle.rd_journals.specs.Orderly.{HasStation}
 use Rattle.rd_journals.specs.Reads.{IsRead}
 use Rattle.rd_journals.specs.Standing.{AreStanding, IsNamed, IsOut, IsUnserved}

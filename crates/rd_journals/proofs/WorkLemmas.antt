@@ -43,22 +43,21 @@ use Rattle.rd_station.specs.declared.refusals.PutWhy.{PutWhy}
 use Rattle.rd_station.specs.declared.refusals.PutWhy.TheVariants as why
 use Rattle.rd_runs.proofs.Insides.{IsInside, added_inside, all_dropped_inside, all_refreshed_inside, applied_inside, hears_inside, put_inside, removed_inside, stationed}
 use Rattle.rd_runs.proofs.Parts.{IsBehind, MayBe, Part, accepts, adds_one, announced_by, applies_one, begins, by_parts, client_gets, client_hears_one, client_keeps_part, client_sends_one, collects_one, cut_by, done, draws_one, ends, hands_out, host_gets, host_hears_one, host_keeps_part, host_sends_one, idle_one, queues_one, refreshed_by, refuses, removes_one, takes_one, tells_one, told_added, told_removed, tries_one}
-use Rattle.rd_world.specs.Devices.{Declared, PrinterNames, device_cut, device_cuts, device_parked, device_runs, device_step}
+use Rattle.rd_declared.specs.Devices.{Declared, PrinterNames, device_cut, device_cuts, device_parked, device_runs, device_step}
 use Rattle.rd_world.specs.Events.{came_of, completion_message, deed_on, dropping, hand_at, is_channel_open, refreshing}
 use Rattle.rd_world.specs.Hearing.{after_opening, announcing, heard_by_client, client_hears, put_at, put_by, putting}
-use Rattle.rd_world.specs.Opening.{bare_lines}
-use Rattle.rd_world.specs.Recording.{no_request}
-use Rattle.rd_world.specs.Run.{declared_devices, station_of, world_of}
-use Rattle.rd_world.specs.Session.{request_read}
-use Rattle.rd_world.specs.Talk as deed
-use Rattle.rd_world.specs.Talk.{Deed, Has, client_read, client_reads, request_at, stores}
+use Rattle.rd_declared.specs.Declaring.{bare_lines, declared_devices}
+use Rattle.rd_declared.specs.Replies.{no_request, request_read}
+use Rattle.rd_world.specs.Run.{station_of, world_of}
+use Rattle.rd_deeds.specs.Talk as deed
+use Rattle.rd_deeds.specs.Talk.{Deed, Has, client_read, client_reads, request_at, stores}
 use Rattle.rd_world.specs.World.{WorldState, handling_by, station_at, with_station, with_deed}
-use Rattle.rd_world.specs.declared.device.SessionDevice.{SessionDevice}
-use Rattle.rd_world.specs.declared.device.SessionDevice.TheVariants as session
+use Rattle.rd_declared.specs.declared.device.SessionDevice.{SessionDevice}
+use Rattle.rd_declared.specs.declared.device.SessionDevice.TheVariants as session
 use Rattle.rd_world.proofs.BeginningLemmas.{begun_by}
 use Rattle.rd_world.proofs.OpeningLemmas.{lines_begin}
 use Rattle.rd_world.proofs.KeysLemmas.{Stores, step_stores}
-use Rattle.rd_world.proofs.Telling.{request_later}
+use Rattle.rd_deeds.proofs.Telling.{request_later}
 use Rattle.rd_journals.specs.Jobs.{AreFine, AreWorking, IsIdOf, IsJobOf, IsKindOf, OwnsAll, IsLed, IsTiedTo, RunsRead}
 use Rattle.rd_journals.specs.Orderly.{HasStation, IsNext, Orderly, OrderlyOn}
 use Rattle.rd_journals.specs.Stations.{AreFit, IsFit}

@@ -18,9 +18,9 @@ use Rattle.rd_hello.specs.declared.client.ClientState.{ClientState}
 use Rattle.rd_hello.specs.declared.end_fault.EndFault.{EndFault}
 use Rattle.rd_hello.specs.declared.hello.Hello.{Hello}
 use Rattle.rd_hello.specs.declared.hello.Hello.TheVariants as hello
-use Rattle.rd_world.specs.Talk.{Has}
+use Rattle.rd_deeds.specs.Talk.{Has}
 use Rattle.rd_station.proofs.Members.{has_append}
-use Rattle.rd_world.proofs.Messages.{packet_is, written_packet}
+use Rattle.rd_deeds.proofs.Messages.{packet_is, written_packet}
 
 -- it answers no request, and is no completion
 abbrev pub IsOwn : Outgoing → Type 0

@@ -22,13 +22,13 @@ use Rattle.rd_station.specs.declared.answers.Completion.{Completion}
 use Rattle.rd_station.specs.declared.held.InHand.{InHand}
 use Rattle.rd_station.specs.declared.held.ParkedJob.{ParkedJob}
 use Rattle.rd_station.specs.Tied.{IsTied}
-use Rattle.rd_world.specs.Devices.{Declared, device_cut, device_cuts, device_parked, device_runs, device_step}
+use Rattle.rd_declared.specs.Devices.{Declared, device_cut, device_cuts, device_parked, device_runs, device_step}
 use Rattle.rd_world.specs.Events.{completion_message}
-use Rattle.rd_world.specs.Session.{replies_read, request_read}
-use Rattle.rd_world.specs.Talk.{Deed, EachAfter, Has, client_read, completes, journal, request_at}
-use Rattle.rd_world.specs.Told.{CompletesWith, came}
+use Rattle.rd_declared.specs.Replies.{replies_read, request_read}
+use Rattle.rd_deeds.specs.Talk.{Deed, EachAfter, Has, client_read, completes, journal, request_at}
+use Rattle.rd_deeds.specs.Told.{CompletesWith, came}
 use Rattle.rd_world.specs.World.{WorldState}
-use Rattle.rd_world.specs.declared.device.SessionDevice.{SessionDevice}
+use Rattle.rd_declared.specs.declared.device.SessionDevice.{SessionDevice}
 use Rattle.rd_journals.specs.Orderly.{HasStation}
 
 -- the job is that of its key's request, which was read and names the device; and this holds of that

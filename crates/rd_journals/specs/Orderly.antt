@@ -12,9 +12,9 @@ use Rattle.rd_hello.specs.declared.end_fault.EndFault.{EndFault}
 use Rattle.rd_irp.specs.declared.request.Request.{Request}
 use Rattle.rd_station.specs.Memory.{NamesKey}
 use Rattle.rd_station.specs.Station.{StationState}
-use Rattle.rd_world.specs.Talk.{Deed, EachAfter, client_read, is_request, journal, request_at}
+use Rattle.rd_deeds.specs.Talk.{Deed, EachAfter, client_read, is_request, journal, request_at}
 use Rattle.rd_world.specs.World.{Kept, WorldState}
-use Rattle.rd_world.specs.declared.device.SessionDevice.{SessionDevice}
+use Rattle.rd_declared.specs.declared.device.SessionDevice.{SessionDevice}
 use Rattle.rd_journals.specs.Reads.{ComesRead, IsGiven}
 use Rattle.rd_journals.specs.Stations.{IsOn}
 

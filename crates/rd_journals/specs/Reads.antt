@@ -4,7 +4,7 @@ use Rattle.rd_base.specs.declared.journal.Item.{Item}
 use Rattle.rd_base.specs.declared.journal.Item.TheVariants.{Came, Cut}
 use Rattle.rd_base.specs.declared.journal.Key.{Key}
 use Rattle.rd_irp.specs.declared.request.Request.{Request}
-use Rattle.rd_world.specs.Talk.{Deed, client_read, client_reads, is_request, request_at, stores}
+use Rattle.rd_deeds.specs.Talk.{Deed, client_read, client_reads, is_request, request_at, stores}
 
 -- the request of a key was read, and names the device
 abbrev pub IsRead : ℕ → Key → List Deed → Type 0

@@ -8,10 +8,10 @@ use Rattle.rd_client.specs.Core.{Outgoing}
 use Rattle.rd_hello.specs.Moves.{is_of}
 use Rattle.rd_station.specs.Memory.{NamesKey}
 use Rattle.rd_station.specs.Station.{StationState}
-use Rattle.rd_world.specs.Joining.{Stands}
-use Rattle.rd_world.specs.Talk.{Deed, EachAfter, Has, is_completion_of}
+use Rattle.rd_deeds.specs.Joining.{Stands}
+use Rattle.rd_deeds.specs.Talk.{Deed, EachAfter, Has, is_completion_of}
 use Rattle.rd_world.specs.World.{Kept, WorldState}
-use Rattle.rd_world.specs.declared.device.SessionDevice.{SessionDevice}
+use Rattle.rd_declared.specs.declared.device.SessionDevice.{SessionDevice}
 use Rattle.rd_journals.specs.Orderly.{HasStation}
 use Rattle.rd_journals.specs.Reads.{IsGiven}
 

@@ -6,9 +6,9 @@ use Rattle.rd_drive.specs.Bounded.{IsBounded}
 use Rattle.rd_station.specs.Sound.{IsSound}
 use Rattle.rd_station.specs.Station.{StationState}
 use Rattle.rd_station.specs.declared.memory.Memory.{Memory}
-use Rattle.rd_world.specs.Devices.{Declared, device_cuts, device_parked, device_runs}
-use Rattle.rd_world.specs.declared.device.SessionDevice.{SessionDevice}
-use Rattle.rd_world.specs.declared.device.SessionDevice.TheVariants as session
+use Rattle.rd_declared.specs.Devices.{Declared, device_cuts, device_parked, device_runs}
+use Rattle.rd_declared.specs.declared.device.SessionDevice.{SessionDevice}
+use Rattle.rd_declared.specs.declared.device.SessionDevice.TheVariants as session
 
 -- a drive is within its bounds; a printer has none
 abbrev pub IsFit : SessionDevice → Type 0

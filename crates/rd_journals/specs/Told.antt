@@ -1,7 +1,7 @@
 -- In which order a client tells.
 use Rattle.std.specs.Prelude.{◌≡◌, ℕ, List, filter}
-use Rattle.rd_world.specs.Talk.{Deed, journal}
-use Rattle.rd_world.specs.Told.{came, sent, told}
+use Rattle.rd_deeds.specs.Talk.{Deed, journal}
+use Rattle.rd_deeds.specs.Told.{came, sent, told}
 
 -- Of each device on each channel the completions of the keys that came are those that its journal sent, in its order.
 abbrev pub InOrder : List Deed → Type 0

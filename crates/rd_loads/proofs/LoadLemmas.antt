@@ -19,12 +19,11 @@ use Rattle.rd_script.specs.declared.line.Line.{Line}
 use Rattle.rd_script.specs.declared.line.NumberedLine.{NumberedLine}
 use Rattle.rd_script.specs.Load.{load_lines, load_script, numbered}
 use Rattle.rd_world.specs.Applications.{IsNumber}
-use Rattle.rd_world.specs.Devices.{Declared, declaring}
-use Rattle.rd_world.specs.Noting.{IsNotable}
-use Rattle.rd_world.specs.Opening.{AreDeclared, IsDeclarable, bare_lines}
+use Rattle.rd_declared.specs.Devices.{Declared, declaring}
+use Rattle.rd_declared.specs.Declaring.{AreDeclared, IsDeclarable, IsNotable, bare_lines, declared_devices}
 use Rattle.rd_world.specs.Recording.{announced_of}
-use Rattle.rd_world.specs.Run.{asked_by, declared_devices}
-use Rattle.rd_world.specs.Talk.{Has}
+use Rattle.rd_world.specs.Run.{asked_by}
+use Rattle.rd_deeds.specs.Talk.{Has}
 use Rattle.rd_world.specs.World.{Asked}
 
 -- ---- its drives

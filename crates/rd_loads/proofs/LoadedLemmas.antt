@@ -17,10 +17,9 @@ use Rattle.rd_script.specs.declared.line.Line.TheVariants as line
 use Rattle.rd_script.specs.declared.line.NumberedLine.{NumberedLine}
 use Rattle.rd_script.specs.Load.{block, block_bytes, blocks, create_line, drive_number, load_application, load_lines, load_script, numbered}
 use Rattle.rd_world.specs.Applications.{IsNumber}
-use Rattle.rd_world.specs.Devices.{Declared, declaring, furnishing}
-use Rattle.rd_world.specs.Noting.{IsNotable}
-use Rattle.rd_world.specs.Opening.{IsDeclarable, bare_lines}
-use Rattle.rd_world.specs.Run.{asked_by, declared_devices}
+use Rattle.rd_declared.specs.Devices.{Declared, declaring, furnishing}
+use Rattle.rd_declared.specs.Declaring.{IsDeclarable, IsNotable, bare_lines, declared_devices}
+use Rattle.rd_world.specs.Run.{asked_by}
 use Rattle.rd_world.specs.World.{Asked}
 
 -- ---- one line

@@ -12,7 +12,7 @@ use Rattle.rd_script.specs.declared.keyword.Mode.TheVariants as mode
 use Rattle.rd_script.specs.declared.script.Script.{Script}
 use Rattle.rd_world.proofs.NumberedLemmas.{scripts_are_numbered}
 use Rattle.rd_world.specs.Applications.{AreNumbered}
-use Rattle.rd_world.specs.Opening.{bare_lines}
+use Rattle.rd_declared.specs.Declaring.{bare_lines}
 
 pub scripts_meet_all : (text : List ℕ) (script : Script) → script_of mode.Both text ≡ Ok script → MeetPremises script.lines
 scripts_meet_all text script is =

@@ -7,9 +7,8 @@ use Rattle.rd_orders.specs.RangesRanges.{AreFreshDevices}
 use Rattle.rd_answered.specs.RunsPremises.{RunPremises}
 use Rattle.rd_script.specs.declared.line.NumberedLine.{NumberedLine}
 use Rattle.rd_world.specs.Applications.{AreNumbered}
-use Rattle.rd_world.specs.Devices.{Declared}
-use Rattle.rd_world.specs.Opening.{bare_lines}
-use Rattle.rd_world.specs.Run.{declared_devices}
+use Rattle.rd_declared.specs.Devices.{Declared}
+use Rattle.rd_declared.specs.Declaring.{bare_lines, declared_devices}
 
 -- What lines ask for, declare and tell of printers is within the limits of a script; they are few, their numbers rise, and their devices can be announced and begin
 -- within their bounds, with nothing that waits in them.

@@ -13,11 +13,11 @@ use Rattle.rd_orders.proofs.RunsTrafficLemmas.{same_number}
 use Rattle.rd_orders.specs.RunsPremises.{RunPremises}
 use Rattle.rd_script.specs.declared.line.NumberedLine.{NumberedLine}
 use Rattle.rd_station.specs.Station.{StationState}
-use Rattle.rd_world.specs.declared.device.SessionDevice.{SessionDevice}
-use Rattle.rd_world.specs.Devices.{PrinterNames}
+use Rattle.rd_declared.specs.declared.device.SessionDevice.{SessionDevice}
+use Rattle.rd_declared.specs.Devices.{PrinterNames}
 use Rattle.rd_world.specs.Events.{deed_on, dropping, is_channel_open, refreshing}
 use Rattle.rd_world.specs.Lines.{last_begun}
-use Rattle.rd_world.specs.Talk.{Deed, adds, client_reads, client_writes, completes, has_ended, open_channel, removes, stores}
+use Rattle.rd_deeds.specs.Talk.{Deed, adds, client_reads, client_writes, completes, has_ended, open_channel, removes, stores}
 use Rattle.rd_world.specs.World.{WorldState, with_deed, with_station}
 
 -- Of the deeds this takes which channel is open, which began last, and which ended.

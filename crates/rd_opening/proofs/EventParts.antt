@@ -27,12 +27,12 @@ use Rattle.rd_station.specs.Station.{StationState}
 use Rattle.rd_orders.specs.RunsMoves.{IsOfLines, Reached}
 use Rattle.rd_orders.proofs.RunsParts.{IsRefused, MayBe, Part, accepts, adds_one, announced_by, applies_one, begins, client_gets, client_hears_one, client_keeps_part, client_sends_one, collects_one, done, ends, hands_out, host_gets, host_hears_one, host_keeps_part, host_sends_one, refreshed_by, refuses, removes_one, takes_one, tells_one, told_added, tries_one}
 use Rattle.rd_orders.proofs.RunsReaching.{both}
-use Rattle.rd_world.specs.declared.device.SessionDevice.{SessionDevice}
-use Rattle.rd_world.specs.Devices.{PrinterNames}
+use Rattle.rd_declared.specs.declared.device.SessionDevice.{SessionDevice}
+use Rattle.rd_declared.specs.Devices.{PrinterNames}
 use Rattle.rd_world.specs.Events as event
 use Rattle.rd_world.specs.Events.{Event, act, asks, client_has_message, collects_from, comes_of_asking, cutting, hand_at, has_completion, is_enabled, is_hand_free, is_read, issues, issues_next, job_waits, may_issue, refusal_of, takes_job_from, target_of}
 use Rattle.rd_world.specs.Hearing.{client_handles, client_handles_all, client_handles_first, ends_line, host_handles, host_handles_first, next_asked, putting, takes_awaited, takes_from, takes_outcome, all_take, tries, tries_kept, with_outcome}
-use Rattle.rd_world.specs.Host.{next_message, side_sends}
+use Rattle.rd_deeds.specs.Host.{next_message, side_sends}
 use Rattle.rd_world.specs.World.{ApplicationState, Asked, Kept, WorldState, application_at, first_message, handling_by, host_sends, most_messages, station_at, with_application}
 
 -- a part that begins no channel

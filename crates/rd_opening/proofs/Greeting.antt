@@ -25,8 +25,8 @@ use Rattle.rd_orders.specs.RunsPremises.{RunPremises}
 use Rattle.rd_script.specs.declared.line.NumberedLine.{NumberedLine}
 use Rattle.rd_world.specs.Events.{deed_on}
 use Rattle.rd_world.specs.Hearing.{client_hears, with_client}
-use Rattle.rd_world.specs.Host.{HostSide, hears, next_message, side_sends}
-use Rattle.rd_world.specs.Talk.{Deed, client_reads, client_writes, client_wrote, completes, host_read, open_channel}
+use Rattle.rd_deeds.specs.Host.{HostSide, hears, next_message, side_sends}
+use Rattle.rd_deeds.specs.Talk.{Deed, client_reads, client_writes, client_wrote, completes, host_read, open_channel}
 use Rattle.rd_world.specs.World.{Asked, WorldState, with_deed}
 use Rattle.rd_orders.proofs.Meeting.{behind_meets, heard_client, inside_traffic}
 use Rattle.rd_orders.proofs.MeetingLemmas.{host_reads_first}

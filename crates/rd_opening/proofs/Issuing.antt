@@ -17,13 +17,12 @@ use Rattle.rd_orders.specs.RunsPremises.{RunPremises}
 use Rattle.rd_script.specs.declared.line.NumberedLine.{NumberedLine}
 use Rattle.rd_station.specs.Station.{StationState}
 use Rattle.rd_world.specs.Acts.{Opens}
-use Rattle.rd_world.specs.declared.device.SessionDevice.{SessionDevice}
-use Rattle.rd_world.specs.Devices.{Declared}
+use Rattle.rd_declared.specs.declared.device.SessionDevice.{SessionDevice}
+use Rattle.rd_declared.specs.Devices.{Declared}
 use Rattle.rd_world.specs.Events.{completion_message, deed_on, dropping}
 use Rattle.rd_world.specs.Lines.{last_begun}
-use Rattle.rd_world.specs.Opening.{bare_lines}
-use Rattle.rd_world.specs.Run.{declared_devices}
-use Rattle.rd_world.specs.Talk.{Deed, EachAfter, adds, client_reads, client_writes, completes, host_ends, open_channel, removes, stores, submits}
+use Rattle.rd_declared.specs.Declaring.{bare_lines, declared_devices}
+use Rattle.rd_deeds.specs.Talk.{Deed, EachAfter, adds, client_reads, client_writes, completes, host_ends, open_channel, removes, stores, submits}
 use Rattle.rd_world.specs.World.{WorldState, with_deed, with_station}
 use Rattle.rd_orders.specs.Orders.{DeclaresWritable}
 use Rattle.rd_opening.proofs.ChannelLemmas.{behind_channels}

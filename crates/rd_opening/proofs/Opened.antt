@@ -23,16 +23,16 @@ use Rattle.rd_orders.proofs.RunsTrafficLemmas.{Traffic, no_traffic, traffic}
 use Rattle.rd_orders.specs.RunsMoves.{Reached, ReachedWithin, happens}
 use Rattle.rd_orders.specs.RunsPremises.{RunPremises}
 use Rattle.rd_script.specs.declared.line.NumberedLine.{NumberedLine}
-use Rattle.rd_world.proofs.Written.{sound_side}
+use Rattle.rd_deeds.proofs.Written.{sound_side}
 use Rattle.rd_world.specs.Acts.{HasOpened}
-use Rattle.rd_world.specs.Devices.{PrinterNames}
+use Rattle.rd_declared.specs.Devices.{PrinterNames}
 use Rattle.rd_world.specs.Events as event
 use Rattle.rd_world.specs.Events.{act, client_has_message, host_has_message, is_channel_open, is_empty, is_enabled, refreshing}
-use Rattle.rd_world.specs.Host.{HostSide, next_message}
-use Rattle.rd_world.specs.Opening.{bare_lines}
+use Rattle.rd_deeds.specs.Host.{HostSide, next_message}
+use Rattle.rd_declared.specs.Declaring.{bare_lines, declared_devices}
 use Rattle.rd_world.specs.Recording.{client_id}
-use Rattle.rd_world.specs.Run.{Most, connects_on, declared_devices, is_quiet}
-use Rattle.rd_world.specs.Talk.{client_wrote, host_wrote, is_request, notice_in, open_channel}
+use Rattle.rd_world.specs.Run.{Most, connects_on, is_quiet}
+use Rattle.rd_deeds.specs.Talk.{client_wrote, host_wrote, is_request, notice_in, open_channel}
 use Rattle.rd_world.specs.World.{WorldState}
 use Rattle.rd_orders.proofs.Meeting.{behind_meets, inside_traffic}
 use Rattle.rd_orders.proofs.PhaseLemmas.{IsGreeting, announces_greet}

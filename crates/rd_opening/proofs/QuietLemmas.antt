@@ -30,11 +30,10 @@ use Rattle.rd_orders.specs.RunsPremises.{RunPremises}
 use Rattle.rd_script.specs.declared.line.NumberedLine.{NumberedLine}
 use Rattle.rd_world.proofs.WayStreamLemmas.{first_of_one}
 use Rattle.rd_world.specs.Acts.{is_settled_client, is_settled_host}
-use Rattle.rd_world.specs.Host.{HostSide, first_waiting, next_message}
-use Rattle.rd_world.specs.Opening.{bare_lines}
+use Rattle.rd_deeds.specs.Host.{HostSide, first_waiting, next_message}
+use Rattle.rd_declared.specs.Declaring.{bare_lines, declared_devices}
 use Rattle.rd_world.specs.Recording.{announced_of, client_stand, host_stand}
-use Rattle.rd_world.specs.Run.{declared_devices}
-use Rattle.rd_world.specs.Talk.{client_read, client_wrote, host_read, host_wrote, is_removed, open_channel, until_begin}
+use Rattle.rd_deeds.specs.Talk.{client_read, client_wrote, host_read, host_wrote, is_removed, open_channel, until_begin}
 use Rattle.rd_world.specs.World.{Kept, WayState, WorldState, first_message}
 use Rattle.rd_orders.proofs.ClientOrdering.{behind_client_ordered}
 use Rattle.rd_orders.proofs.HostOrdering.{behind_host_ordered}

@@ -16,7 +16,7 @@ use Rattle.rd_script.specs.declared.line.NumberedLine.{NumberedLine}
 use Rattle.rd_world.specs.Events as event
 use Rattle.rd_world.specs.Events.{Event, act, is_enabled, is_read}
 use Rattle.rd_world.specs.Hearing.{all_take, client_handles, client_handles_first, host_handles, host_handles_first, next_asked, takes_awaited, takes_from, takes_outcome}
-use Rattle.rd_world.specs.Host.{next_message, side_sends}
+use Rattle.rd_deeds.specs.Host.{next_message, side_sends}
 use Rattle.rd_world.specs.Run.{all_client_sends, all_host_sends, client_reads_all, host_count, host_reads_all, is_quiet, rounds, when_enabled, while_enabled}
 use Rattle.rd_world.specs.World.{ApplicationState, Kept, WorldState, application_at, first_message, handling_by, host_sends, most_messages}
 

@@ -14,10 +14,10 @@ use Rattle.rd_orders.specs.RunsMoves.{Reached}
 use Rattle.rd_orders.specs.RunsPremises.{RunPremises}
 use Rattle.rd_script.specs.declared.line.NumberedLine.{NumberedLine}
 use Rattle.rd_world.specs.Acts.{Opens, is_settled_host}
-use Rattle.rd_world.specs.Opening.{bare_lines}
+use Rattle.rd_declared.specs.Declaring.{bare_lines, declared_devices}
 use Rattle.rd_world.specs.Recording.{host_stand}
-use Rattle.rd_world.specs.Run.{Most, choices, declared_devices, run_of}
-use Rattle.rd_world.specs.Talk.{has_ended, open_channel}
+use Rattle.rd_world.specs.Run.{Most, choices, run_of}
+use Rattle.rd_deeds.specs.Talk.{has_ended, open_channel}
 use Rattle.rd_world.specs.World.{WorldState}
 use Rattle.rd_orders.specs.Orders.{DeclaresWritable}
 use Rattle.rd_opening.proofs.ChannelLemmas.{behind_channels}

@@ -16,12 +16,12 @@ use Rattle.rd_script.specs.declared.line.Line.TheVariants as line
 use Rattle.rd_script.specs.declared.line.NumberedLine.{NumberedLine}
 use Rattle.rd_world.proofs.PlayingLemmas.{may_connect}
 use Rattle.rd_world.specs.Acts.{HasOpened, Opens}
-use Rattle.rd_world.specs.Devices.{Declared, PrinterNames}
+use Rattle.rd_declared.specs.Devices.{Declared, PrinterNames}
 use Rattle.rd_world.specs.Events as event
 use Rattle.rd_world.specs.Events.{Event, act, cutting, dropping, is_channel_open, is_enabled, refreshing}
-use Rattle.rd_world.specs.Opening.{bare_lines}
-use Rattle.rd_world.specs.Run.{Most, asked_by, by_event, connects_on, controls, declared_devices, does, drawing, ends_session, event_of, idles, is_quiet, notice_of, plays, plays_line, queueing, run_of, settled, some_left, world_of}
-use Rattle.rd_world.specs.Talk.{Deed, EachAfter, EndsWith, Has}
+use Rattle.rd_declared.specs.Declaring.{bare_lines, declared_devices}
+use Rattle.rd_world.specs.Run.{Most, asked_by, by_event, connects_on, controls, does, drawing, ends_session, event_of, idles, is_quiet, notice_of, plays, plays_line, queueing, run_of, settled, some_left, world_of}
+use Rattle.rd_deeds.specs.Talk.{Deed, EachAfter, EndsWith, Has}
 use Rattle.rd_world.specs.World.{Asked, WorldState}
 use Rattle.rd_orders.specs.Orders.{DeclaresWritable}
 use Rattle.rd_opening.proofs.EventParts.{KeepsChannels, event_parts_keep}

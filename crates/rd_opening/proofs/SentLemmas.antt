@@ -21,12 +21,12 @@ use Rattle.rd_orders.specs.RunsMoves.{Reached}
 use Rattle.rd_orders.specs.RunsPremises.{RunPremises}
 use Rattle.rd_script.specs.declared.line.NumberedLine.{NumberedLine}
 use Rattle.rd_station.specs.Station.{StationState}
-use Rattle.rd_world.specs.declared.device.SessionDevice.{SessionDevice}
-use Rattle.rd_world.specs.Devices.{PrinterNames}
+use Rattle.rd_declared.specs.declared.device.SessionDevice.{SessionDevice}
+use Rattle.rd_declared.specs.Devices.{PrinterNames}
 use Rattle.rd_world.specs.Events.{completion_message, deed_on, dropping, refreshing}
 use Rattle.rd_world.specs.Lines.{submitted}
 use Rattle.rd_world.specs.Run.{Most, choices, run_of}
-use Rattle.rd_world.specs.Talk.{Deed, client_reads, client_writes, client_wrote, completes, has_ended, host_read, host_wrote, is_request, open_channel}
+use Rattle.rd_deeds.specs.Talk.{Deed, client_reads, client_writes, client_wrote, completes, has_ended, host_read, host_wrote, is_request, open_channel}
 use Rattle.rd_world.specs.World.{WorldState, with_deed, with_station}
 use Rattle.rd_orders.proofs.Meeting.{inside_traffic}
 use Rattle.rd_orders.specs.Orders.{DeclaresWritable}

@@ -28,16 +28,16 @@ use Rattle.rd_orders.proofs.RunsTrafficLemmas.{Traffic, host_writes_else, host_w
 use Rattle.rd_orders.specs.RunsPremises.{RunPremises}
 use Rattle.rd_script.specs.declared.line.NumberedLine.{NumberedLine}
 use Rattle.rd_station.specs.Station.{StationState}
-use Rattle.rd_world.proofs.Hearings.{AreQuiet, quiet}
-use Rattle.rd_world.proofs.Messages.{request_is}
-use Rattle.rd_world.proofs.Written.{sound_side}
-use Rattle.rd_world.specs.declared.device.SessionDevice.{SessionDevice}
-use Rattle.rd_world.specs.Devices.{PrinterNames}
+use Rattle.rd_deeds.proofs.Hearings.{AreQuiet, quiet}
+use Rattle.rd_deeds.proofs.Messages.{request_is}
+use Rattle.rd_deeds.proofs.Written.{sound_side}
+use Rattle.rd_declared.specs.declared.device.SessionDevice.{SessionDevice}
+use Rattle.rd_declared.specs.Devices.{PrinterNames}
 use Rattle.rd_world.specs.Events.{deed_on, dropping, is_channel_open, refreshing}
-use Rattle.rd_world.specs.Host.{HostSide, hears, next_message, side_sends}
+use Rattle.rd_deeds.specs.Host.{HostSide, hears, next_message, side_sends}
 use Rattle.rd_world.specs.Lines.{message_of, submitted}
 use Rattle.rd_world.specs.Recording.{client_id}
-use Rattle.rd_world.specs.Talk.{Deed, EndsWith, adds, client_reads, client_writes, completes, host_writes, host_wrote, is_request, open_channel, removes, stores, submits}
+use Rattle.rd_deeds.specs.Talk.{Deed, EndsWith, adds, client_reads, client_writes, completes, host_writes, host_wrote, is_request, open_channel, removes, stores, submits}
 use Rattle.rd_world.specs.World.{Asked, WorldState, with_deed, with_station}
 use Rattle.rd_orders.proofs.HostOrdering.{asked_request}
 use Rattle.rd_orders.specs.Orders.{DeclaresWritable}

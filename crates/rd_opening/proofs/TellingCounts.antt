@@ -36,9 +36,9 @@ use Rattle.rd_host.specs.declared.act.Act.TheVariants as act
 use Rattle.rd_host.specs.Served.{is_served_type}
 use Rattle.rd_pending.proofs.Tame.{tame_complete, tame_live, tame_remove}
 use Rattle.rd_pending.specs.Table as table
-use Rattle.rd_world.proofs.Messages.{packet_is, written_packet}
+use Rattle.rd_deeds.proofs.Messages.{packet_is, written_packet}
 use Rattle.rd_world.specs.Acts.{is_telling}
-use Rattle.rd_world.specs.Host.{HostSide, admits, forgets, host_heard, lived}
+use Rattle.rd_deeds.specs.Host.{HostSide, admits, forgets, host_heard, lived}
 use Rattle.rd_orders.proofs.Meeting.{IsHeardTo, IsPut}
 use Rattle.rd_orders.proofs.PhaseLemmas.{IsGreeting, reply_greets}
 

@@ -31,11 +31,10 @@ use Rattle.rd_script.specs.declared.line.NumberedLine.{NumberedLine}
 use Rattle.rd_script.specs.declared.script.Script.{Script}
 use Rattle.rd_script.specs.declared.why.LineWhy.{LineWhy}
 use Rattle.rd_script.specs.declared.why.LineWhy.TheVariants as why
-use Rattle.rd_world.proofs.DeclaredLemmas.{scripts_are_declared}
-use Rattle.rd_world.specs.Devices.{Declared, announce_of, declaring, dos_name, furnishing, holding_at, with_first}
-use Rattle.rd_world.specs.Opening.{AreDeclarable, IsDeclarable, bare_lines}
+use Rattle.rd_declared.proofs.DeclaredLemmas.{scripts_are_declared}
+use Rattle.rd_declared.specs.Devices.{Declared, announce_of, declaring, dos_name, furnishing, holding_at, with_first}
+use Rattle.rd_declared.specs.Declaring.{AreDeclarable, IsDeclarable, bare_lines, declared_devices}
 use Rattle.rd_world.specs.Recording.{announced_of}
-use Rattle.rd_world.specs.Run.{declared_devices}
 use Rattle.rd_orders.specs.Orders.{DeclaresWritable}
 
 -- ---- rows

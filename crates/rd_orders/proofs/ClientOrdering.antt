@@ -23,14 +23,13 @@ use Rattle.rd_controls.proofs.RunsWayLemmas.{one_read}
 use Rattle.rd_controls.specs.RunsPremises.{RunPremises}
 use Rattle.rd_script.specs.declared.line.NumberedLine.{NumberedLine}
 use Rattle.rd_station.specs.Station.{StationState}
-use Rattle.rd_world.specs.declared.device.SessionDevice.{SessionDevice}
-use Rattle.rd_world.specs.Devices.{Declared, PrinterNames, printer_data}
+use Rattle.rd_declared.specs.declared.device.SessionDevice.{SessionDevice}
+use Rattle.rd_declared.specs.Devices.{Declared, PrinterNames, printer_data}
 use Rattle.rd_world.specs.Events.{completion_message, deed_on, dropping, is_ready, refreshing}
 use Rattle.rd_world.specs.Hearing.{client_hears, with_client}
-use Rattle.rd_world.specs.Opening.{bare_lines}
+use Rattle.rd_declared.specs.Declaring.{bare_lines, declared_devices}
 use Rattle.rd_world.specs.Recording.{announced_of}
-use Rattle.rd_world.specs.Run.{declared_devices}
-use Rattle.rd_world.specs.Talk.{Deed, adds, client_moves, client_read, client_reads, client_writes, completes, host_begins, host_wrote, is_removed, open_channel, removes, stores, until_begin}
+use Rattle.rd_deeds.specs.Talk.{Deed, adds, client_moves, client_read, client_reads, client_writes, completes, host_begins, host_wrote, is_removed, open_channel, removes, stores, until_begin}
 use Rattle.rd_world.specs.World.{WorldState, with_deed, with_station}
 use Rattle.rd_orders.proofs.ClientOrders.{ClientNow, adds_now, begins_now, completes_now, gone_had, heard_now, hears_now, now_ordered, put_now, refreshed_gone, refreshes_now, removes_now, sends_now}
 use Rattle.rd_orders.proofs.Marked.{refreshed_marked}

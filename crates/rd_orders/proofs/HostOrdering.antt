@@ -48,18 +48,17 @@ use Rattle.rd_controls.proofs.RunsWayLemmas.{one_read}
 use Rattle.rd_controls.specs.RunsPremises.{RunPremises}
 use Rattle.rd_script.specs.declared.line.NumberedLine.{NumberedLine}
 use Rattle.rd_station.specs.Station.{StationState}
-use Rattle.rd_world.proofs.Calls.{neutral_reading, table_of}
-use Rattle.rd_world.proofs.Written.{Matches, requests_on, sound_side, written}
-use Rattle.rd_world.specs.Joining.{accepted}
-use Rattle.rd_world.specs.declared.device.SessionDevice.{SessionDevice}
-use Rattle.rd_world.specs.Devices.{Declared, PrinterNames}
+use Rattle.rd_deeds.proofs.Calls.{neutral_reading, table_of}
+use Rattle.rd_deeds.proofs.Written.{Matches, requests_on, sound_side, written}
+use Rattle.rd_deeds.specs.Joining.{accepted}
+use Rattle.rd_declared.specs.declared.device.SessionDevice.{SessionDevice}
+use Rattle.rd_declared.specs.Devices.{Declared, PrinterNames}
 use Rattle.rd_world.specs.Events.{deed_on, dropping, is_channel_open, refreshing}
-use Rattle.rd_world.specs.Host.{HostSide, hears, host_heard, next_message, side_sends}
-use Rattle.rd_world.specs.HostDeeds.{calls_in, calls_of, sending, side_of}
-use Rattle.rd_world.specs.Opening.{bare_lines}
+use Rattle.rd_deeds.specs.Host.{HostSide, hears, host_heard, next_message, side_sends}
+use Rattle.rd_deeds.specs.HostDeeds.{calls_in, calls_of, sending, side_of}
+use Rattle.rd_declared.specs.Declaring.{bare_lines, declared_devices}
 use Rattle.rd_world.specs.Recording.{announced_of, client_id}
-use Rattle.rd_world.specs.Run.{declared_devices}
-use Rattle.rd_world.specs.Talk.{Deed, adds, client_reads, client_writes, client_wrote, completes, host_begins, host_moves, host_read, host_reads, host_writes, open_channel, removes, request_in, stores}
+use Rattle.rd_deeds.specs.Talk.{Deed, adds, client_reads, client_writes, client_wrote, completes, host_begins, host_moves, host_read, host_reads, host_writes, open_channel, removes, request_in, stores}
 use Rattle.rd_world.specs.World.{Asked, WorldState, with_deed, with_station}
 use Rattle.rd_orders.proofs.HostOrders.{HearsOf, HostNow, host_asks_now, host_begins_now, host_hears_now, host_now_ordered, host_sends_now, host_table_now, host_tells_now}
 use Rattle.rd_orders.proofs.Meeting.{IsKnown, Meets, behind_known, behind_meets, served_is}

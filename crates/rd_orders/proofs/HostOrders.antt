@@ -23,7 +23,7 @@ use Rattle.rd_host.specs.Served.{code_for}
 use Rattle.rd_pending.specs.Table as table
 use Rattle.rd_pending.specs.Table.{TableState}
 use Rattle.rd_printer.specs.declared.notice.Notice.{Notice}
-use Rattle.rd_world.specs.Host.{HostSide, admits, forgets, host_heard}
+use Rattle.rd_deeds.specs.Host.{HostSide, admits, forgets, host_heard}
 use Rattle.rd_world.specs.Recording.{client_id}
 use Rattle.rd_orders.proofs.LifeLemmas.{AreLives, admitted, completed_lives, removed_lives, same_lives}
 

@@ -26,7 +26,7 @@ use Rattle.rd_pending.specs.declared.calls.LiveNo.TheVariants as live_no
 use Rattle.rd_pending.specs.declared.calls.Outcome.TheVariants.{Done}
 use Rattle.rd_pending.specs.Table as table
 use Rattle.rd_pending.specs.Table.{Fate, TableState, Untaken, freed, known, life_of, live_refusal, max_lives, untaken_at, with_fate}
-use Rattle.rd_world.specs.Host.{HostSide, admits, live_code}
+use Rattle.rd_deeds.specs.Host.{HostSide, admits, live_code}
 
 -- ---- lists of ids
 

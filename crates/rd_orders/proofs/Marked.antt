@@ -20,11 +20,11 @@ use Rattle.rd_station.specs.Station as station
 use Rattle.rd_station.specs.Station.{StationState}
 use Rattle.rd_world.specs.Acts.{act_by}
 use Rattle.rd_world.specs.Control.{Act, added, removed}
-use Rattle.rd_world.specs.declared.device.SessionDevice.{SessionDevice}
-use Rattle.rd_world.specs.Devices.{PrinterNames, device_cut, printer_data}
+use Rattle.rd_declared.specs.declared.device.SessionDevice.{SessionDevice}
+use Rattle.rd_declared.specs.Devices.{PrinterNames, device_cut, printer_data}
 use Rattle.rd_world.specs.Events.{came_of, deed_on, dropping, refreshing}
 use Rattle.rd_world.specs.Hearing.{with_client}
-use Rattle.rd_world.specs.Talk.{Deed, adds, client_reads, client_writes, completes, host_begins, host_ends, host_reads, host_writes, is_removed, removes, stores, submits, takes, tells}
+use Rattle.rd_deeds.specs.Talk.{Deed, adds, client_reads, client_writes, completes, host_begins, host_ends, host_reads, host_writes, is_removed, removes, stores, submits, takes, tells}
 use Rattle.rd_world.specs.World.{WorldState, with_deed, with_station}
 
 -- whether a device was removed and not added since, by what was done, the newest first

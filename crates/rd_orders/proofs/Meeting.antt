@@ -85,20 +85,20 @@ use Rattle.rd_controls.specs.RunsPremises.{RunPremises}
 use Rattle.rd_controls.proofs.RunsBelowLemmas.{channel_is}
 use Rattle.rd_hello.specs.Hello.{hello_bytes}
 use Rattle.rd_hello.specs.Own.{host_announce}
-use Rattle.rd_world.specs.HostDeeds.{side_of}
-use Rattle.rd_world.specs.Printers.{AreShortNames}
-use Rattle.rd_world.proofs.Messages.{head_read, request_read}
-use Rattle.rd_world.proofs.Written.{sound_side}
-use Rattle.rd_world.specs.declared.device.SessionDevice.{SessionDevice}
-use Rattle.rd_world.specs.Devices.{Declared, PrinterNames, printer_data}
+use Rattle.rd_deeds.specs.HostDeeds.{side_of}
+use Rattle.rd_declared.specs.Printers.{AreShortNames}
+use Rattle.rd_deeds.proofs.Messages.{head_read, request_read}
+use Rattle.rd_deeds.proofs.Written.{sound_side}
+use Rattle.rd_declared.specs.declared.device.SessionDevice.{SessionDevice}
+use Rattle.rd_declared.specs.Devices.{Declared, PrinterNames, printer_data}
 use Rattle.rd_world.specs.Events.{applies_at, client_has_message, completion_message, deed_on, is_channel_open, is_empty, is_ready, refreshing}
 use Rattle.rd_world.specs.Hearing.{after_opening, announcing, client_hears, heard_by_client, is_device_told, put_at, put_by, putting, refused_put, with_client}
-use Rattle.rd_world.specs.Host.{HostSide, admits, forgets, hears, host_heard, lived, sent_from, side_sends}
-use Rattle.rd_world.specs.Opening.{bare_lines}
+use Rattle.rd_deeds.specs.Host.{HostSide, admits, forgets, hears, host_heard, lived, sent_from, side_sends}
+use Rattle.rd_declared.specs.Declaring.{bare_lines, declared_devices}
 use Rattle.rd_world.specs.Recording.{announced_of, client_id}
-use Rattle.rd_world.specs.Run.{declared_devices, world_of}
+use Rattle.rd_world.specs.Run.{world_of}
 use Rattle.rd_world.proofs.ShortLemmas.{announces_first}
-use Rattle.rd_world.specs.Talk.{Deed, adds, client_read, client_reads, client_writes, client_wrote, completes, host_read, host_wrote, is_request, open_channel, removes, request_at, request_in, stores}
+use Rattle.rd_deeds.specs.Talk.{Deed, adds, client_read, client_reads, client_writes, client_wrote, completes, host_read, host_wrote, is_request, open_channel, removes, request_at, request_in, stores}
 use Rattle.rd_world.specs.World.{Asked, Kept, WorldState, station_at, with_deed, with_station}
 use Rattle.rd_orders.proofs.MeetingLemmas.{MeetsAs, asked_ready, client_alike, client_heard, client_reads_first, client_sent, client_sent_past, client_waits, host_heard_one, host_sent, host_told, lives_ready, one_asked, other_table, ready_is}
 use Rattle.rd_orders.proofs.PhaseLemmas.{AsksReady, announces as host_announces}

@@ -27,8 +27,8 @@ use Rattle.rd_devices.specs.DeviceList.{list_bytes}
 use Rattle.rd_pending.specs.Table as table
 use Rattle.rd_pending.specs.Table.{Fate, TableState, Untaken, freed, live_refusal, untaken_at, with_fate}
 use Rattle.rd_controls.proofs.RunsTrafficLemmas.{Traffic}
-use Rattle.rd_world.specs.Host.{HostSide, admits, forgets, hears, host_heard, live_code, next_message, side_sends}
-use Rattle.rd_world.specs.Talk.{is_request}
+use Rattle.rd_deeds.specs.Host.{HostSide, admits, forgets, hears, host_heard, live_code, next_message, side_sends}
+use Rattle.rd_deeds.specs.Talk.{is_request}
 use Rattle.rd_orders.proofs.PhaseLemmas.{ClientCame, HostCame, Phase, all_first, all_last, client_came, host_came, phase_down, phase_ready, phase_up}
 use Rattle.rd_orders.proofs.SayingLemmas.{SaysToClient, SaysToHost, reply_says}
 

@@ -27,7 +27,7 @@ use Rattle.rd_host.specs.Core.{HostCoreState, host_hear, host_hear_made, host_si
 use Rattle.rd_host.specs.declared.act.Act.{Act}
 use Rattle.rd_host.specs.declared.act.Act.TheVariants as act
 use Rattle.rd_client.specs.Order.{is_client_ready}
-use Rattle.rd_world.specs.Talk.{is_request, notice_in}
+use Rattle.rd_deeds.specs.Talk.{is_request, notice_in}
 use Rattle.rd_printer.specs.Notice.{notice}
 use Rattle.rd_devices.specs.declared.reply.DeviceReply.{DeviceReply}
 use Rattle.rd_devices.specs.DeviceReply.{reply_bytes}

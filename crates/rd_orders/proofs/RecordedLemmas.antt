@@ -14,10 +14,10 @@ use Rattle.rd_script.specs.Script.{script_of}
 use Rattle.rd_script.specs.declared.keyword.Mode.{Mode}
 use Rattle.rd_script.specs.declared.line.NumberedLine.{NumberedLine}
 use Rattle.rd_script.specs.declared.script.Script.{Script}
-use Rattle.rd_world.proofs.DeclaredLemmas.{scripts_are_declared, scripts_are_notable}
-use Rattle.rd_world.specs.Opening.{bare_lines}
+use Rattle.rd_declared.proofs.DeclaredLemmas.{scripts_are_declared, scripts_are_notable}
+use Rattle.rd_declared.specs.Declaring.{bare_lines, declared_devices}
 use Rattle.rd_world.specs.Recording.{IsRecorded, recording_of_deeds}
-use Rattle.rd_world.specs.Run.{WorldRun, declared_devices}
+use Rattle.rd_world.specs.Run.{WorldRun}
 use Rattle.rd_world.specs.World.{WorldState, marks_of}
 use Rattle.rd_orders.proofs.AddressLemmas.{scripts_writable}
 use Rattle.rd_orders.proofs.ClientOrdering.{behind_client_ordered}

@@ -40,8 +40,8 @@ use Rattle.rd_printer.specs.declared.notice.Notice.{Notice}
 use Rattle.rd_printer.specs.declared.notice.Notice.TheVariants.{Add, Update, Delete, Rename, UsingXps}
 use Rattle.rd_printer.specs.Notice.{HasWholePort, IsWritableNotice, notice, notice_bytes, using_xps}
 use Rattle.rd_printer.proofs.NoticeLemmas.{IsInRange, notice_spelled}
-use Rattle.rd_world.specs.Talk.{head_in, request_in}
-use Rattle.rd_world.proofs.Messages.{after_header, head_is, written_packet}
+use Rattle.rd_deeds.specs.Talk.{head_in, request_in}
+use Rattle.rd_deeds.proofs.Messages.{after_header, head_is, written_packet}
 
 -- ---- by packets
 

@@ -5,10 +5,9 @@ use Rattle.rd_client.specs.Order.{ClientStanding}
 use Rattle.rd_host.specs.Events.{HostStandsAt}
 use Rattle.rd_host.specs.Order.{HostStanding, Replying}
 use Rattle.rd_script.specs.declared.line.NumberedLine.{NumberedLine}
-use Rattle.rd_world.specs.Devices.{Declared}
-use Rattle.rd_world.specs.Opening.{bare_lines}
+use Rattle.rd_declared.specs.Devices.{Declared}
+use Rattle.rd_declared.specs.Declaring.{bare_lines, declared_devices}
 use Rattle.rd_world.specs.Recording.{announced_of, client_stand, host_stand, is_gone_at}
-use Rattle.rd_world.specs.Run.{declared_devices}
 use Rattle.rd_world.specs.World.{WorldState}
 
 -- the numbers of the devices that lines declare have room in their fields, and their names fill theirs

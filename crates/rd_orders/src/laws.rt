@@ -13,11 +13,11 @@ ghost use Rattle.rd_script.specs.Script.{script_of};
 ghost use Rattle.rd_script.specs.declared.keyword.Mode.{Mode};
 ghost use Rattle.rd_script.specs.declared.line.NumberedLine.{NumberedLine};
 ghost use Rattle.rd_script.specs.declared.script.Script.{Script};
-ghost use Rattle.rd_world.specs.HostDeeds.{calls_of};
-ghost use Rattle.rd_world.specs.Opening.{bare_lines};
+ghost use Rattle.rd_deeds.specs.HostDeeds.{calls_of};
+ghost use Rattle.rd_declared.specs.Declaring.{bare_lines, declared_devices};
 ghost use Rattle.rd_world.specs.Recording.{IsRecorded, announced_of, client_id, is_gone_at, recording_of_deeds};
-ghost use Rattle.rd_world.specs.Run.{WorldRun, declared_devices};
-ghost use Rattle.rd_world.specs.Talk.{client_moves, host_moves, is_removed, open_channel};
+ghost use Rattle.rd_world.specs.Run.{WorldRun};
+ghost use Rattle.rd_deeds.specs.Talk.{client_moves, host_moves, is_removed, open_channel};
 ghost use Rattle.rd_world.specs.World.{WorldState};
 ghost use Rattle.rd_orders.specs.Orders.{ClientStandsIn, DeclaresWritable, HostStandsIn, IsFine};
 

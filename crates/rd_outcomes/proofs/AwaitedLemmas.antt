@@ -37,16 +37,16 @@ use Rattle.rd_station.specs.declared.answers.Given.{Given}
 use Rattle.rd_station.specs.declared.answers.Given.TheVariants as given
 use Rattle.rd_station.specs.Station as station
 use Rattle.rd_station.specs.Station.{StationState}
-use Rattle.rd_world.specs.Devices.{PrinterNames}
-use Rattle.rd_world.specs.declared.device.SessionDevice.{SessionDevice}
+use Rattle.rd_declared.specs.Devices.{PrinterNames}
+use Rattle.rd_declared.specs.declared.device.SessionDevice.{SessionDevice}
 use Rattle.rd_world.specs.Events as event
 use Rattle.rd_world.specs.Events.{Event, act, asks, collects_from, comes_of_asking, cutting, is_enabled, issues, issues_next, may_issue, refusal_of, takes_job_from, target_of}
 use Rattle.rd_world.specs.Hearing.{all_take, client_handles, client_handles_all, client_handles_first, client_hears, with_client, given_handle, holding_under, host_handles, putting, next_asked, reported_outcome, takes_awaited, takes_from, takes_outcome, tries, tries_kept, with_outcome}
 use Rattle.rd_world.proofs.ApplicationsLemmas.{apart_at}
-use Rattle.rd_world.specs.Host as host
-use Rattle.rd_world.specs.Host.{HostSide, side_sends}
+use Rattle.rd_deeds.specs.Host as host
+use Rattle.rd_deeds.specs.Host.{HostSide, side_sends}
 use Rattle.rd_world.specs.Run.{asked_by, drawing, idles, queueing, world_of}
-use Rattle.rd_world.specs.Talk.{Has, client_reads, submits}
+use Rattle.rd_deeds.specs.Talk.{Has, client_reads, submits}
 use Rattle.rd_world.specs.World.{ApplicationState, Asked, Kept, WayState, WorldState, application_at, handling, having_read, host_sends, most_messages, new_application, station_at, with_application, with_deed}
 use Rattle.rd_outcomes.proofs.ComingLemmas.{put_beside, put_here}
 use Rattle.rd_outcomes.proofs.LinesLemmas.{all_fresh, asks_in}

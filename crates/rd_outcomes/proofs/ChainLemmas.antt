@@ -17,16 +17,16 @@ use Rattle.rd_pending.proofs.Handed.{handed_out}
 use Rattle.rd_script.specs.declared.outcome.Outcome.{Outcome}
 use Rattle.rd_script.specs.declared.outcome.Outcome.TheVariants as outcome
 use Rattle.rd_script.specs.declared.outcome.Refusal.TheVariants as refusal
-use Rattle.rd_world.specs.Devices.{Declared}
+use Rattle.rd_declared.specs.Devices.{Declared}
 use Rattle.rd_world.specs.Events.{target_of}
 use Rattle.rd_world.specs.Hearing.{given_handle, holding_after}
-use Rattle.rd_world.specs.HostDeeds.{calls_of, side_of}
-use Rattle.rd_world.specs.Joining.{accepted}
+use Rattle.rd_deeds.specs.HostDeeds.{calls_of, side_of}
+use Rattle.rd_deeds.specs.Joining.{accepted}
 use Rattle.rd_world.specs.Lines.{AskedEnds, IsHandedOut, LineEnds, LinesEnd, Waits, given_at, outcome_at}
 use Rattle.rd_world.specs.Recording.{client_id}
-use Rattle.rd_world.specs.Talk.{Deed, EndsWith, submits, takes}
+use Rattle.rd_deeds.specs.Talk.{Deed, EndsWith, submits, takes}
 use Rattle.rd_world.specs.World.{ApplicationState, new_application}
-use Rattle.rd_world.proofs.Calls.{Does, calls_hold, calls_since, table_of}
+use Rattle.rd_deeds.proofs.Calls.{Does, calls_hold, calls_since, table_of}
 use Rattle.rd_outcomes.specs.Trail.{Chain, EndsAsked, EndsOf, HandedAt, IsEnded, IsKnownAt, Stage, accepted_before}
 
 -- ---- deeds grow

@@ -27,18 +27,18 @@ use Rattle.rd_station.specs.Station as station
 use Rattle.rd_station.specs.Station.{StationState}
 use Rattle.rd_world.specs.Acts.{Opens, act_by}
 use Rattle.rd_world.specs.Control.{Act}
-use Rattle.rd_world.specs.Devices.{Declared, PrinterNames}
-use Rattle.rd_world.specs.declared.device.SessionDevice.{SessionDevice}
+use Rattle.rd_declared.specs.Devices.{Declared, PrinterNames}
+use Rattle.rd_declared.specs.declared.device.SessionDevice.{SessionDevice}
 use Rattle.rd_world.specs.Events as event
 use Rattle.rd_world.specs.Events.{Event, act, completion_message, cutting, deed_on, dropping, is_enabled, may_issue, target_of}
 use Rattle.rd_world.specs.Hearing.{given_handle, holding_under, next_asked, reported_outcome, with_outcome}
-use Rattle.rd_world.specs.Host.{HostSide}
-use Rattle.rd_world.specs.HostDeeds.{side_of}
+use Rattle.rd_deeds.specs.Host.{HostSide}
+use Rattle.rd_deeds.specs.HostDeeds.{side_of}
 use Rattle.rd_world.specs.Lines.{IsDue, Waits, is_submission_of, last_begun, waits_of}
-use Rattle.rd_world.specs.Opening.{bare_lines}
+use Rattle.rd_declared.specs.Declaring.{bare_lines, declared_devices}
 use Rattle.rd_world.specs.Recording.{client_id}
-use Rattle.rd_world.specs.Run.{declared_devices, queueing}
-use Rattle.rd_world.specs.Talk.{Deed, adds, client_reads, client_writes, completes, host_begins, host_ends, host_reads, host_writes, removes, stores, submits, takes, tells}
+use Rattle.rd_world.specs.Run.{queueing}
+use Rattle.rd_deeds.specs.Talk.{Deed, adds, client_reads, client_writes, completes, host_begins, host_ends, host_reads, host_writes, removes, stores, submits, takes, tells}
 use Rattle.rd_world.specs.World.{ApplicationState, Asked, WorldState, application_at, new_application, station_at, with_application}
 use Rattle.rd_outcomes.specs.Trail.{IsTrailed}
 use Rattle.rd_outcomes.proofs.TrailLemmas.{RefusedBy, accepted_trail, handed_trail, refused_trail, trailed_more}

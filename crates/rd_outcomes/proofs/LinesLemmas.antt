@@ -28,21 +28,21 @@ use Rattle.rd_script.specs.declared.outcome.Outcome.{Outcome}
 use Rattle.rd_world.proofs.PlayingLemmas.{may_connect}
 use Rattle.rd_world.specs.Acts.{Opens, act_by}
 use Rattle.rd_world.specs.Control.{Control, control_of, controlled, first_control}
-use Rattle.rd_world.specs.Devices.{Declared, PrinterNames}
+use Rattle.rd_declared.specs.Devices.{Declared, PrinterNames}
 use Rattle.rd_world.specs.Events as event
 use Rattle.rd_world.specs.Events.{Event, act, is_enabled, is_read, may_issue}
 use Rattle.rd_world.specs.Lines.{IsDue, LinesEnd, Waits, last_begun, waits_after, waits_of}
-use Rattle.rd_world.specs.Opening.{bare_lines}
+use Rattle.rd_declared.specs.Declaring.{bare_lines, declared_devices}
 use Rattle.rd_world.specs.Run.{event as next_event}
-use Rattle.rd_world.specs.Run.{Most, NextStep, applications_of, asked_by, asking, choices, connects_on, declared_devices, drawing, idles, is_quiet, queueing, rounds, run_of, where_true, world_of}
-use Rattle.rd_world.specs.Talk.{Deed, on}
+use Rattle.rd_world.specs.Run.{Most, NextStep, applications_of, asked_by, asking, choices, connects_on, drawing, idles, is_quiet, queueing, rounds, run_of, where_true, world_of}
+use Rattle.rd_deeds.specs.Talk.{Deed, on}
 use Rattle.rd_world.specs.World.{ApplicationState, Asked, Kept, WorldState, application_at, most_messages, new_application}
 use Rattle.rd_world.specs.Hearing.{host_handles}
 use Rattle.rd_outcomes.specs.Opened.{ChannelsOpen}
 use Rattle.rd_outcomes.specs.Trail.{IsTrailed, StandsWith, first_stage}
 use Rattle.rd_outcomes.proofs.TrailLemmas.{chain_long}
 use Rattle.rd_world.proofs.ApplicationsLemmas.{apart_at}
-use Rattle.rd_world.proofs.Calls.{Does}
+use Rattle.rd_deeds.proofs.Calls.{Does}
 use Rattle.rd_world.specs.Recording.{client_id}
 use Rattle.rd_outcomes.proofs.ChainLemmas.{chain_ends, was_handed_out}
 use Rattle.rd_outcomes.proofs.ComingLemmas.{AreDue, From, Going, event_goes, going_queued, line_goes, part_acted, part_going, part_queued}

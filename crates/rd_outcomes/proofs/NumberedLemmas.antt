@@ -21,11 +21,11 @@ use Rattle.rd_script.specs.declared.outcome.Outcome.{Outcome}
 use Rattle.rd_script.specs.Report.{numbered_from}
 use Rattle.rd_script.specs.Rows.{max_applications}
 use Rattle.rd_world.specs.Applications.{AreApplications, AreNumbered, IsNumber}
-use Rattle.rd_world.specs.Devices.{PrinterNames}
+use Rattle.rd_declared.specs.Devices.{PrinterNames}
 use Rattle.rd_world.specs.Events.{may_issue}
 use Rattle.rd_world.specs.Report.{outcomes_of, outcomes_under}
 use Rattle.rd_world.specs.Run.{asked_by, asking, world_of}
-use Rattle.rd_world.specs.Talk.{Has}
+use Rattle.rd_deeds.specs.Talk.{Has}
 use Rattle.rd_world.specs.World.{ApplicationState, Asked, WorldState, application_at, new_application}
 use Rattle.rd_world.proofs.ApplicationsLemmas.{apart_at, below_of, equal_is}
 use Rattle.rd_world.proofs.PlacesLemmas.{numbers_of}

@@ -20,16 +20,16 @@ use Rattle.rd_controls.proofs.RunsTogether.{known}
 use Rattle.rd_controls.specs.RunsMoves.{Reached}
 use Rattle.rd_controls.specs.RunsPremises.{RunPremises}
 use Rattle.rd_script.specs.declared.line.NumberedLine.{NumberedLine}
-use Rattle.rd_world.specs.Host.{HostSide, first_waiting, hears, next_message, side_sends}
-use Rattle.rd_world.specs.HostDeeds.{IsInRange, side_of}
+use Rattle.rd_deeds.specs.Host.{HostSide, first_waiting, hears, next_message, side_sends}
+use Rattle.rd_deeds.specs.HostDeeds.{IsInRange, side_of}
 use Rattle.rd_world.specs.Lines.{message_of, submitted}
 use Rattle.rd_world.specs.Recording.{client_id}
-use Rattle.rd_world.specs.Talk.{Deed, EndsWith, adds, client_reads, client_writes, completes, host_begins, host_ends, host_reads, host_writes, host_wrote, is_open_at, is_request, open_channel, removes, stores, submits, takes, tells}
+use Rattle.rd_deeds.specs.Talk.{Deed, EndsWith, adds, client_reads, client_writes, completes, host_begins, host_ends, host_reads, host_writes, host_wrote, is_open_at, is_request, open_channel, removes, stores, submits, takes, tells}
 use Rattle.rd_world.specs.World.{WorldState}
-use Rattle.rd_world.proofs.Calls.{Does, read_tame}
-use Rattle.rd_world.proofs.Hearings.{AreQuiet, quiet}
-use Rattle.rd_world.proofs.Messages.{request_is, request_read}
-use Rattle.rd_world.proofs.Written.{requests_on, sound_side}
+use Rattle.rd_deeds.proofs.Calls.{Does, read_tame}
+use Rattle.rd_deeds.proofs.Hearings.{AreQuiet, quiet}
+use Rattle.rd_deeds.proofs.Messages.{request_is, request_read}
+use Rattle.rd_deeds.proofs.Written.{requests_on, sound_side}
 
 -- of the messages that were accepted the first were written, and on the open channel the others are to be sent
 record Passed (t : TableState) (messages wrote : List (List ℕ)) (c : ℕ) : Type 0 where

@@ -17,13 +17,13 @@ use Rattle.rd_script.specs.declared.outcome.Outcome.{Outcome}
 use Rattle.rd_script.specs.declared.outcome.Outcome.TheVariants as outcome
 use Rattle.rd_script.specs.declared.outcome.Refusal.{Refusal}
 use Rattle.rd_script.specs.declared.outcome.Refusal.TheVariants as refusal
-use Rattle.rd_world.specs.Devices.{Declared}
+use Rattle.rd_declared.specs.Devices.{Declared}
 use Rattle.rd_world.specs.Events.{refusal_of, target_of}
 use Rattle.rd_world.specs.Hearing.{given_handle, holding_after, holding_under, next_asked, reported_outcome, with_outcome}
-use Rattle.rd_world.specs.HostDeeds.{side_of}
+use Rattle.rd_deeds.specs.HostDeeds.{side_of}
 use Rattle.rd_world.specs.Lines.{IsDue, SubmitsNothing, Waits, is_submission_of}
 use Rattle.rd_world.specs.Recording.{client_id}
-use Rattle.rd_world.specs.Talk.{Deed, submits, takes}
+use Rattle.rd_deeds.specs.Talk.{Deed, submits, takes}
 use Rattle.rd_world.specs.World.{ApplicationState, Asked, new_application}
 use Rattle.rd_outcomes.specs.Trail.{Chain, EndsAsked, EndsOf, HandedAt, IsEnded, IsPending, IsTrailed, Stage, StandsWith, accepted_before}
 use Rattle.rd_outcomes.proofs.ChainLemmas.{chain_more, grown_more, known_more}

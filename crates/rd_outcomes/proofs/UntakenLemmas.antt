@@ -23,8 +23,8 @@ use Rattle.rd_pending.specs.Table.{Fate, TableState, Untaken, freed, known, live
 use Rattle.rd_pending.proofs.Effects as effects
 use Rattle.rd_pending.proofs.FateLemmas.{fate_set, lost, lost_at}
 use Rattle.rd_pending.proofs.MapLemmas.{set_beside, set_here}
-use Rattle.rd_world.specs.Host.{HostSide, admits, forgets, hears, host_heard}
-use Rattle.rd_world.proofs.Calls.{admits_table}
+use Rattle.rd_deeds.specs.Host.{HostSide, admits, forgets, hears, host_heard}
+use Rattle.rd_deeds.proofs.Calls.{admits_table}
 
 -- Each outcome that wasn't handed out is still there, and no request is accepted.
 pub record LeavesUntaken (t u : TableState) : Type 0 where

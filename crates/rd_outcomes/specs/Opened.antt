@@ -6,8 +6,8 @@ use Rattle.rd_script.specs.declared.line.NumberedLine.{NumberedLine}
 use Rattle.rd_world.specs.Acts.{Opens}
 use Rattle.rd_world.specs.Events.{connect, is_enabled}
 use Rattle.rd_world.specs.Lines.{last_begun}
-use Rattle.rd_world.specs.Opening.{bare_lines}
-use Rattle.rd_world.specs.Run.{Most, connects_on, declared_devices}
+use Rattle.rd_declared.specs.Declaring.{bare_lines, declared_devices}
+use Rattle.rd_world.specs.Run.{Most, connects_on}
 use Rattle.rd_world.specs.World.{WorldState}
 
 -- where the rounds of a channel's begin end the channel opened

@@ -9,13 +9,13 @@ use Rattle.rd_pending.specs.Table.{submit_refusal}
 use Rattle.rd_script.specs.declared.outcome.Outcome.{Outcome}
 use Rattle.rd_script.specs.declared.outcome.Outcome.TheVariants as outcome
 use Rattle.rd_script.specs.declared.outcome.Refusal.TheVariants as refusal
-use Rattle.rd_world.specs.Devices.{Declared}
+use Rattle.rd_declared.specs.Devices.{Declared}
 use Rattle.rd_world.specs.Events.{refusal_of, target_of}
 use Rattle.rd_world.specs.Hearing.{given_handle, holding_after, reported_outcome}
-use Rattle.rd_world.specs.HostDeeds.{side_of}
+use Rattle.rd_deeds.specs.HostDeeds.{side_of}
 use Rattle.rd_world.specs.Lines.{IsDue, SubmitsNothing, Waits}
 use Rattle.rd_world.specs.Recording.{client_id}
-use Rattle.rd_world.specs.Talk.{Deed, EndsWith, submits, takes}
+use Rattle.rd_deeds.specs.Talk.{Deed, EndsWith, submits, takes}
 use Rattle.rd_world.specs.World.{ApplicationState, new_application}
 
 -- the outcome of a number was handed out

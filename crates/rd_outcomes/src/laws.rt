@@ -11,14 +11,14 @@ ghost use Rattle.rd_outcomes.specs.Opened.{ChannelsOpen};
 ghost use Rattle.rd_pending.specs.Table.{awaits};
 ghost use Rattle.rd_controls.specs.RunsMoves.{Reached};
 ghost use Rattle.rd_controls.specs.RunsPremises.{RunPremises};
-ghost use Rattle.rd_world.specs.Host.{next_message};
+ghost use Rattle.rd_deeds.specs.Host.{next_message};
 ghost use Rattle.rd_world.specs.Applications.{AreNumbered};
-ghost use Rattle.rd_world.specs.Devices.{Declared};
+ghost use Rattle.rd_declared.specs.Devices.{Declared};
 ghost use Rattle.rd_world.specs.Lines.{LinesEnd, submitted, waits_of};
-ghost use Rattle.rd_world.specs.Opening.{bare_lines};
+ghost use Rattle.rd_declared.specs.Declaring.{bare_lines, declared_devices};
 ghost use Rattle.rd_world.specs.Report.{outcomes_of};
-ghost use Rattle.rd_world.specs.Run.{Most, declared_devices, run_of};
-ghost use Rattle.rd_world.specs.Talk.{EndsWith, host_wrote, is_request, open_channel};
+ghost use Rattle.rd_world.specs.Run.{Most, run_of};
+ghost use Rattle.rd_deeds.specs.Talk.{EndsWith, host_wrote, is_request, open_channel};
 ghost use Rattle.rd_world.specs.World.{WorldState, application_at, new_application};
 
 /// The requests that stand on a channel are those that were accepted there, in order; all of them are on the open channel, where the host has nothing to send.

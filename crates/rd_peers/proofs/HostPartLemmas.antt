@@ -4,12 +4,12 @@ use Rattle.rd_pending.specs.declared.calls.Outcome.{Outcome}
 use Rattle.rd_pending.specs.declared.calls.Taken.{Taken}
 use Rattle.rd_pending.specs.History.{Call, CameTo}
 use Rattle.rd_pending.specs.Outcomes.{Accepted}
-use Rattle.rd_world.specs.Host.{HostSide}
-use Rattle.rd_world.specs.HostDeeds.{MayDo, calls_by, calls_of, side_after, side_of}
-use Rattle.rd_world.specs.Joining.{ClientCameTo, Joins}
+use Rattle.rd_deeds.specs.Host.{HostSide}
+use Rattle.rd_deeds.specs.HostDeeds.{MayDo, calls_by, calls_of, side_after, side_of}
+use Rattle.rd_deeds.specs.Joining.{ClientCameTo, Joins}
 use Rattle.rd_world.specs.Recording.{client_id}
-use Rattle.rd_world.specs.Talk.{Deed, EachAfter, adds, client_reads, client_writes, completes, host_begins, host_ends, host_reads, host_writes, removes, stores, submits, takes, tells}
-use Rattle.rd_world.specs.Told.{Replies}
+use Rattle.rd_deeds.specs.Talk.{Deed, EachAfter, adds, client_reads, client_writes, completes, host_begins, host_ends, host_reads, host_writes, removes, stores, submits, takes, tells}
+use Rattle.rd_deeds.specs.Told.{Replies}
 use Rattle.rd_hosted.specs.Kept.{CameOf}
 use Rattle.rd_peers.specs.Peers.{IsOwnOutcome, hosts_part, is_hosts}
 

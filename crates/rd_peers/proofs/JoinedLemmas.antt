@@ -34,20 +34,19 @@ use Rattle.rd_sharing.specs.ServedOpening.{ServedDeclared, as_made}
 use Rattle.rd_station.proofs.Calls.{reached_kept, reached_new}
 use Rattle.rd_station.specs.Station.{new_station}
 use Rattle.rd_workers.specs.Channels.{LinkerTold}
-use Rattle.rd_world.proofs.Joined.{carried_now}
-use Rattle.rd_world.proofs.Joining.{all_join}
-use Rattle.rd_world.proofs.Lists.{each_weaker}
+use Rattle.rd_deeds.proofs.Joined.{carried_now}
+use Rattle.rd_deeds.proofs.Joining.{all_join}
+use Rattle.rd_deeds.proofs.Lists.{each_weaker}
 use Rattle.rd_world.specs.Control.{is_among}
-use Rattle.rd_world.specs.Devices.{Declared, device_cut, device_cuts, device_parked, device_runs, device_step}
-use Rattle.rd_world.specs.declared.device.SessionDevice.TheVariants as session
-use Rattle.rd_world.specs.HostDeeds.{MayDo, side_of}
-use Rattle.rd_world.specs.Joining.{AreJoined, IsCarried, Joins, Stands}
-use Rattle.rd_world.specs.Opening.{bare_lines}
-use Rattle.rd_world.specs.Recording.{no_request}
-use Rattle.rd_world.specs.Run.{declared_devices}
-use Rattle.rd_world.specs.Session.{replies_in, replies_read, request_read}
-use Rattle.rd_world.specs.Talk.{AtEachPoint, Deed, EachAfter, adds, client_reads, client_writes, completes, host_begins, host_ends, host_reads, host_writes, journal, removes, request_at, stored_by, stores, submits, takes, tells}
-use Rattle.rd_world.specs.Told.{Answers, AreAnswered, IsAnswerAt, IsReplied, Replies, worn_entries}
+use Rattle.rd_declared.specs.Devices.{Declared, device_cut, device_cuts, device_parked, device_runs, device_step}
+use Rattle.rd_declared.specs.declared.device.SessionDevice.TheVariants as session
+use Rattle.rd_deeds.specs.HostDeeds.{MayDo, side_of}
+use Rattle.rd_deeds.specs.Joining.{AreJoined, IsCarried, Joins, Stands}
+use Rattle.rd_declared.specs.Declaring.{bare_lines, declared_devices}
+use Rattle.rd_declared.specs.Replies.{no_request, replies_read, request_read}
+use Rattle.rd_world.specs.Session.{replies_in}
+use Rattle.rd_deeds.specs.Talk.{AtEachPoint, Deed, EachAfter, adds, client_reads, client_writes, completes, host_begins, host_ends, host_reads, host_writes, journal, removes, request_at, stored_by, stores, submits, takes, tells}
+use Rattle.rd_deeds.specs.Told.{Answers, AreAnswered, IsAnswerAt, IsReplied, Replies, worn_entries}
 use Rattle.rd_peers.specs.Peers.{clients_part, made_devices}
 use Rattle.rd_peers.proofs.PartLemmas.{all_answered, all_stand, same_journal, same_read}
 

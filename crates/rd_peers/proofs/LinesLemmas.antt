@@ -27,10 +27,10 @@ use Rattle.rd_table.proofs.StepLemmas.{handed_more, history_grows, history_more,
 use Rattle.rd_turn.specs.History.{Leads, entry}
 use Rattle.rd_turn.proofs.HistoryLemmas.{Leads-parted}
 use Rattle.rd_world.specs.Events.{target_of}
-use Rattle.rd_world.specs.HostDeeds.{calls_of}
+use Rattle.rd_deeds.specs.HostDeeds.{calls_of}
 use Rattle.rd_world.specs.Recording.{client_id}
-use Rattle.rd_world.specs.Talk.{Deed}
-use Rattle.rd_world.specs.Told.{Replies}
+use Rattle.rd_deeds.specs.Talk.{Deed}
+use Rattle.rd_deeds.specs.Told.{Replies}
 use Rattle.rd_world.specs.World.{ApplicationState, Asked}
 use Rattle.rd_host_lines.specs.Outcomes.{AnswerCame, AsksNothing, IsNoRequestOf, LineCame, LinesCame}
 use Rattle.rd_host_turns.specs.Turns.{TableEntry}

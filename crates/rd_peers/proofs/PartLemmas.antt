@@ -12,9 +12,9 @@ use Rattle.rd_irp.specs.declared.op.Op.{Op}
 use Rattle.rd_irp.specs.declared.request.Request.{Request}
 use Rattle.rd_pending.specs.declared.calls.Target.{Target}
 use Rattle.rd_printer.specs.declared.notice.Notice.{Notice}
-use Rattle.rd_world.specs.Joining.{Stands}
-use Rattle.rd_world.specs.Talk.{Deed, EachAfter, EndsWith, Has, adds, client_read, client_reads, client_writes, client_wrote, completes, host_begins, host_ends, host_reads, host_writes, is_completion_of, journal, read_by_client, removes, request_at, stored_by, stores, submits, takes, tells, written_by_client}
-use Rattle.rd_world.specs.Told.{Answers, AreAnswered, ComesUnworn, IsAnswerAt, IsDirect, IsReplied, RemovedSince, Replies, came, is_said_gone, requests_to, sent, told, told_at, worn_entries}
+use Rattle.rd_deeds.specs.Joining.{Stands}
+use Rattle.rd_deeds.specs.Talk.{Deed, EachAfter, EndsWith, Has, adds, client_read, client_reads, client_writes, client_wrote, completes, host_begins, host_ends, host_reads, host_writes, is_completion_of, journal, read_by_client, removes, request_at, stored_by, stores, submits, takes, tells, written_by_client}
+use Rattle.rd_deeds.specs.Told.{Answers, AreAnswered, ComesUnworn, IsAnswerAt, IsDirect, IsReplied, RemovedSince, Replies, came, is_said_gone, requests_to, sent, told, told_at, worn_entries}
 use Rattle.rd_peers.specs.Peers.{clients_part, is_clients}
 
 -- ---- the host's deeds

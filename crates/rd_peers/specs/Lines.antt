@@ -14,9 +14,9 @@ use Rattle.rd_script.specs.declared.outcome.Refusal.TheVariants as refusal
 use Rattle.rd_table.specs.Histories.{handed_in}
 use Rattle.rd_world.specs.Events.{refusal_of, target_of}
 use Rattle.rd_world.specs.Hearing.{given_handle, holding_after, reported_outcome}
-use Rattle.rd_world.specs.HostDeeds.{calls_of}
-use Rattle.rd_world.specs.Talk.{Deed}
-use Rattle.rd_world.specs.Told.{Replies}
+use Rattle.rd_deeds.specs.HostDeeds.{calls_of}
+use Rattle.rd_deeds.specs.Talk.{Deed}
+use Rattle.rd_deeds.specs.Told.{Replies}
 use Rattle.rd_world.specs.World.{ApplicationState, Asked}
 use Rattle.rd_host_turns.specs.Turns.{TableEntry}
 use Rattle.rd_peers.specs.Peers.{IsOwnOutcome}

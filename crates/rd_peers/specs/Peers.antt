@@ -6,11 +6,10 @@ use Rattle.rd_pending.specs.declared.calls.Taken.{Taken}
 use Rattle.rd_pending.specs.Outcomes.{Accepted}
 use Rattle.rd_script.specs.declared.line.NumberedLine.{NumberedLine}
 use Rattle.rd_sharing.specs.ServedOpening.{ServedDeclared, as_made}
-use Rattle.rd_world.specs.Joining.{ClientCameTo, IsOwnReply}
-use Rattle.rd_world.specs.Opening.{bare_lines}
-use Rattle.rd_world.specs.Run.{declared_devices}
-use Rattle.rd_world.specs.Talk.{Deed, adds, client_reads, client_writes, completes, removes, stores}
-use Rattle.rd_world.specs.Told.{Replies}
+use Rattle.rd_deeds.specs.Joining.{ClientCameTo, IsOwnReply}
+use Rattle.rd_declared.specs.Declaring.{bare_lines, declared_devices}
+use Rattle.rd_deeds.specs.Talk.{Deed, adds, client_reads, client_writes, completes, removes, stores}
+use Rattle.rd_deeds.specs.Told.{Replies}
 
 -- whether the client did it
 abbrev pub is_clients : Deed → Bool

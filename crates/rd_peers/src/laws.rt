@@ -19,14 +19,13 @@ ghost use Rattle.rd_script.specs.declared.outcome.Outcome.{Outcome};
 ghost use Rattle.rd_served_sessions.specs.Sessions.{AreServable, IsToldSession};
 ghost use Rattle.rd_table.specs.Histories.{handed_in};
 ghost use Rattle.rd_workers.specs.Channels.{LinkerTold};
-ghost use Rattle.rd_world.specs.HostDeeds.{MayDo, side_of};
-ghost use Rattle.rd_world.specs.Joining.{AreJoined, IsCarried, Joins};
-ghost use Rattle.rd_world.specs.Opening.{bare_lines};
+ghost use Rattle.rd_deeds.specs.HostDeeds.{MayDo, side_of};
+ghost use Rattle.rd_deeds.specs.Joining.{AreJoined, IsCarried, Joins};
+ghost use Rattle.rd_declared.specs.Declaring.{bare_lines, declared_devices};
 ghost use Rattle.rd_world.specs.Recording.{client_id};
-ghost use Rattle.rd_world.specs.Run.{declared_devices};
 ghost use Rattle.rd_world.specs.Session.{replies_in};
-ghost use Rattle.rd_world.specs.Talk.{AtEachPoint, Deed, EachAfter, journal};
-ghost use Rattle.rd_world.specs.Told.{worn_entries};
+ghost use Rattle.rd_deeds.specs.Talk.{AtEachPoint, Deed, EachAfter, journal};
+ghost use Rattle.rd_deeds.specs.Told.{worn_entries};
 ghost use Rattle.rd_world.specs.World.{new_application};
 
 /// A client whose devices its script makes up and whose session came to what is promised of it, and a host that keeps its table, are joined where messages are carried between them and no journal is worn: so all that the joining law says holds of

@@ -29,7 +29,7 @@ use Rattle.rd_printed.proofs.FrameLemmas.{after_line, goes_both, goes_one, marke
 use Rattle.rd_printed.proofs.MessageLemmas.{Reading, asks, completing, fails, nothing, reading}
 use Rattle.rd_printed.proofs.PairLemmas.{Owes, OwesNext, kind_in, owes_less, owes_more, owes_next, owes_nothing, owes_still}
 use Rattle.rd_world.specs.Recording.{entries_by, from_client, from_host, recording_entry_bytes, recording_of_deeds, written_by}
-use Rattle.rd_world.specs.Talk.{Deed, EachAfter, answered, client_writes, client_wrote, completes, head_in, host_begins, host_ends, host_writes, host_wrote, message_has_pair, open_channel, request_at}
+use Rattle.rd_deeds.specs.Talk.{Deed, EachAfter, answered, client_writes, client_wrote, completes, head_in, host_begins, host_ends, host_writes, host_wrote, message_has_pair, open_channel, request_at}
 use Rattle.rd_world.proofs.RecordedLemmas.{recording_more}
 
 -- ---- the bytes of deeds

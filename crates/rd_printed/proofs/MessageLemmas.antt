@@ -22,8 +22,8 @@ use Rattle.rd_decode.specs.declared.side.Side.{Side}
 use Rattle.rd_decode.specs.Lines.{line, may_send, request_shown}
 use Rattle.rd_decode.specs.Messages.{Printed, body_line, message_line, packet_line, plain_line, plain_tail, unless_bad}
 use Rattle.rd_printed.proofs.KindLemmas.{kind_read}
-use Rattle.rd_world.specs.Talk.{head_in, is_request, request_in}
-use Rattle.rd_world.proofs.Messages.{no_head_in, packet_is}
+use Rattle.rd_deeds.specs.Talk.{head_in, is_request, request_in}
+use Rattle.rd_deeds.proofs.Messages.{no_head_in, packet_is}
 
 -- a message that says nothing of requests: its line, and what is still to come stays
 pub record SaysNothing (side : Side) (message : List ℕ) : Type 0 where

@@ -8,9 +8,9 @@ use Rattle.rd_irp.specs.declared.completion.Head.{Head}
 use Rattle.rd_irp.specs.declared.completion.Kind.{Kind}
 use Rattle.rd_irp.specs.declared.request.Request.{Request}
 use Rattle.rd_irp.specs.Fits.{kind_of}
-use Rattle.rd_world.specs.Recording.{no_request}
-use Rattle.rd_world.specs.Talk.{EndsWith, Has, head_in, indices_of, is_request, message_asks_pair, message_has_pair, request_at, request_in}
-use Rattle.rd_world.proofs.Lists.{has_split, same_end}
+use Rattle.rd_declared.specs.Replies.{no_request}
+use Rattle.rd_deeds.specs.Talk.{EndsWith, Has, head_in, indices_of, is_request, message_asks_pair, message_has_pair, request_at, request_in}
+use Rattle.rd_deeds.proofs.Lists.{has_split, same_end}
 
 -- the layout of a request's completion, where there is one
 abbrev pub kind_in : Option Request → Kind

@@ -28,9 +28,9 @@ use Rattle.rd_irp.specs.Request.{body_after, request_head}
 use Rattle.rd_decode.proofs.MessageLemmas.{request_found}
 use Rattle.rd_printed.specs.Printed.{answer_shown, asks_shown, comes_of, one_awaited, text_of}
 use Rattle.rd_printed.proofs.KindLemmas.{kind_read}
-use Rattle.rd_world.proofs.Messages.{head_read}
-use Rattle.rd_world.specs.Talk.{Deed, host_writes, request_in}
-use Rattle.rd_world.specs.Told.{CompletesWith}
+use Rattle.rd_deeds.proofs.Messages.{head_read}
+use Rattle.rd_deeds.specs.Talk.{Deed, host_writes, request_in}
+use Rattle.rd_deeds.specs.Told.{CompletesWith}
 
 -- ---- headers
 

@@ -12,7 +12,7 @@ use Rattle.rd_irp.specs.declared.request.Request.{Request}
 use Rattle.rd_irp.specs.Fits.{kind_of}
 use Rattle.rd_irp.specs.Written.{major_of, minor_of}
 use Rattle.rd_world.specs.Recording.{request_of, written_by}
-use Rattle.rd_world.specs.Talk.{Deed, EachAfter, EndsWith, answered, client_writes, client_wrote, completes, host_begins, host_ends, host_writes, host_wrote, indices_of, message_has_pair, open_channel}
+use Rattle.rd_deeds.specs.Talk.{Deed, EachAfter, EndsWith, answered, client_writes, client_wrote, completes, host_begins, host_ends, host_writes, host_wrote, indices_of, message_has_pair, open_channel}
 
 -- ---- the lines
 

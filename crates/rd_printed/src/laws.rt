@@ -10,10 +10,10 @@ ghost use Rattle.rd_irp.specs.declared.completion.Reply.{Reply};
 ghost use Rattle.rd_irp.specs.declared.request.Request.{Request};
 ghost use Rattle.rd_printed.specs.Printed.{ArePrintable, answer_shown, asks_shown, comes_of, lines_by, text_of};
 ghost use Rattle.rd_printed.specs.Worked.{example_lines};
-ghost use Rattle.rd_world.specs.Example.{example_deeds};
+ghost use Rattle.rd_deeds.specs.Example.{example_deeds};
 ghost use Rattle.rd_world.specs.Recording.{recording_of_deeds, request_of};
-ghost use Rattle.rd_world.specs.Talk.{Deed, completes, host_writes, request_in};
-ghost use Rattle.rd_world.specs.Told.{CompletesWith};
+ghost use Rattle.rd_deeds.specs.Talk.{Deed, completes, host_writes, request_in};
+ghost use Rattle.rd_deeds.specs.Told.{CompletesWith};
 
 /// The recording of deeds has no fault, whether more follows or not, and its lines are those of the messages that were written, in their order.
 pub fn deeds_are_printed()

@@ -19,10 +19,10 @@ use Rattle.rd_ranges.specs.Ranges.{AreFreshDevices, IsFitDevice, IsFreshDevice, 
 use Rattle.rd_script.specs.declared.line.Line.{Line}
 use Rattle.rd_script.specs.declared.line.Line.TheVariants as line
 use Rattle.rd_tree.proofs.WayLemmas.{true_same}
-use Rattle.rd_world.specs.Devices.{Declared, declaring, device_parked, furnishing, holding_at, with_first}
-use Rattle.rd_world.specs.Run.{declared_devices}
-use Rattle.rd_world.specs.declared.device.SessionDevice.{SessionDevice}
-use Rattle.rd_world.specs.declared.device.SessionDevice.TheVariants as session
+use Rattle.rd_declared.specs.Devices.{Declared, declaring, device_parked, furnishing, holding_at, with_first}
+use Rattle.rd_declared.specs.Declaring.{declared_devices}
+use Rattle.rd_declared.specs.declared.device.SessionDevice.{SessionDevice}
+use Rattle.rd_declared.specs.declared.device.SessionDevice.TheVariants as session
 
 -- ---- a drive
 

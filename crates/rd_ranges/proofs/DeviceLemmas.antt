@@ -21,10 +21,10 @@ use Rattle.rd_drive.specs.declared.step.Step.TheVariants as step
 use Rattle.rd_irp.specs.declared.op.Op.{Op}
 use Rattle.rd_printer.proofs.PrinterLemmas.{is_printed, printed_range, printers_step}
 use Rattle.rd_ranges.specs.Ranges.{IsFitDevice, RunsAs}
-use Rattle.rd_world.specs.Devices.{device_cut, device_cuts, device_parked, device_step}
+use Rattle.rd_declared.specs.Devices.{device_cut, device_cuts, device_parked, device_step}
 use Rattle.rd_world.specs.Events.{is_close}
-use Rattle.rd_world.specs.declared.device.SessionDevice.{SessionDevice}
-use Rattle.rd_world.specs.declared.device.SessionDevice.TheVariants as session
+use Rattle.rd_declared.specs.declared.device.SessionDevice.{SessionDevice}
+use Rattle.rd_declared.specs.declared.device.SessionDevice.TheVariants as session
 
 -- ---- ranges
 

@@ -20,8 +20,8 @@ use Rattle.rd_irp.specs.declared.completion.Kind.{Kind}
 use Rattle.rd_irp.specs.declared.request.Request.{Request}
 use Rattle.rd_ranges.proofs.DeviceLemmas.{any_answer, any_devices, any_in_range}
 use Rattle.rd_ranges.specs.Ranges.{AreFullReplies, AreParkedAs, IsFitDevice, IsFullReply, RunsFew}
-use Rattle.rd_world.specs.Devices.{device_cut, device_parked, device_step}
-use Rattle.rd_world.specs.declared.device.SessionDevice.{SessionDevice}
+use Rattle.rd_declared.specs.Devices.{device_cut, device_parked, device_step}
+use Rattle.rd_declared.specs.declared.device.SessionDevice.{SessionDevice}
 
 module _ (requests : Key → Request) where
   -- ---- requests that waited

@@ -22,7 +22,7 @@ use Rattle.rd_irp.specs.declared.op.Op.TheVariants.{Close, Control, Create, Lock
 use Rattle.rd_irp.specs.declared.request.Request.{Request}
 use Rattle.rd_irp.specs.declared.request.RequestHead.{RequestHead}
 use Rattle.rd_ranges.specs.Ranges.{FitsReply}
-use Rattle.rd_world.specs.Talk.{request_in}
+use Rattle.rd_deeds.specs.Talk.{request_in}
 
 -- ---- what each value of a layout has
 

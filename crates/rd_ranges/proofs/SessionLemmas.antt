@@ -20,11 +20,11 @@ use Rattle.rd_pending.specs.Outcomes.{Accepted}
 use Rattle.rd_pending.specs.declared.calls.Outcome.TheVariants.{Done}
 use Rattle.rd_ranges.proofs.JournalLemmas.{quiet_full}
 use Rattle.rd_ranges.specs.Ranges.{AreFullReplies, AreFreshDevices, IsFreshDevice, IsFullReply, RunsFew}
-use Rattle.rd_world.specs.Devices.{Declared, device_cut, device_step}
-use Rattle.rd_world.specs.Joining.{ClientCameTo, Joins, key_of}
+use Rattle.rd_declared.specs.Devices.{Declared, device_cut, device_step}
+use Rattle.rd_deeds.specs.Joining.{ClientCameTo, Joins, key_of}
 use Rattle.rd_world.specs.Recording.{request_of}
 use Rattle.rd_world.specs.Session.{replies_in}
-use Rattle.rd_world.specs.Talk.{Deed, journal}
+use Rattle.rd_deeds.specs.Talk.{Deed, journal}
 
 pub fits_few : (o : Op) → Fits o → SetsFew o
 fits_few (op.Write offset bytes) fits = omega (arith, fits)

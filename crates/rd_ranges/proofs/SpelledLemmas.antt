@@ -18,7 +18,7 @@ use Rattle.rd_irp.specs.declared.completion.Reply.{Reply}
 use Rattle.rd_irp.specs.declared.op.Op.{Op}
 use Rattle.rd_irp.specs.declared.request.Request.{Request}
 use Rattle.rd_ranges.specs.Ranges.{IsFullReply, completion_with}
-use Rattle.rd_world.specs.Told.{CompletesWith}
+use Rattle.rd_deeds.specs.Told.{CompletesWith}
 
 pub completes : (r : Request) (reply : Reply) → IsFullReply r.op reply → r.device < 2 ^ 32 → r.completion < 2 ^ 32 → CompletesWith r reply (completion_with r reply)
 completes r reply full device id =

@@ -29,15 +29,15 @@ ghost use Rattle.rd_irp.specs.declared.request.Request.{Request};
 ghost use Rattle.rd_pending.specs.Outcomes.{Accepted};
 ghost use Rattle.rd_pending.specs.declared.calls.Outcome.TheVariants.{Done};
 ghost use Rattle.rd_ranges.specs.Ranges.{AreFreshDevices, AreFullReplies, FitsReply, IsFitDevice, IsFullReply, NamesShort, RunsAs, RunsFew, completion_with};
-ghost use Rattle.rd_world.specs.Devices.{Declared, device_cut, device_cuts, device_parked, device_step};
+ghost use Rattle.rd_declared.specs.Devices.{Declared, device_cut, device_cuts, device_parked, device_step};
 ghost use Rattle.rd_world.specs.Events.{is_close};
-ghost use Rattle.rd_world.specs.Joining.{ClientCameTo, Joins};
+ghost use Rattle.rd_deeds.specs.Joining.{ClientCameTo, Joins};
 ghost use Rattle.rd_world.specs.Recording.{request_of};
 ghost use Rattle.rd_world.specs.Session.{replies_in};
-ghost use Rattle.rd_world.specs.Run.{declared_devices};
-ghost use Rattle.rd_world.specs.Talk.{Deed, journal, request_in};
-ghost use Rattle.rd_world.specs.Told.{CompletesWith};
-ghost use Rattle.rd_world.specs.declared.device.SessionDevice.{SessionDevice};
+ghost use Rattle.rd_declared.specs.Declaring.{declared_devices};
+ghost use Rattle.rd_deeds.specs.Talk.{Deed, journal, request_in};
+ghost use Rattle.rd_deeds.specs.Told.{CompletesWith};
+ghost use Rattle.rd_declared.specs.declared.device.SessionDevice.{SessionDevice};
 
 /// The status and the numbers of every reply of a session's device have room in their fields, in whichever state it is.
 pub fn replies_have_room()

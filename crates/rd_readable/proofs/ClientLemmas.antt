@@ -25,8 +25,8 @@ use Rattle.rd_irp.specs.declared.completion.Head.{Head}
 use Rattle.rd_irp.specs.Completion.{completion_head}
 use Rattle.rd_readable.proofs.HeadedLemmas.{Fine, client_confirm_fine, client_sets_fine, list_fine, name_fine, removal_fine}
 use Rattle.rd_readable.proofs.OrderLemmas.{IsWrittenWell, written_well}
-use Rattle.rd_world.proofs.Messages.{head_is, packet_is}
-use Rattle.rd_world.specs.Talk.{head_in}
+use Rattle.rd_deeds.proofs.Messages.{head_is, packet_is}
+use Rattle.rd_deeds.specs.Talk.{head_in}
 
 -- a message has a line that is no completion
 abbrev pub PlainFine : List ℕ → Type 0

@@ -13,10 +13,10 @@ use Rattle.rd_readable.proofs.ClientLemmas.{PlainFine}
 use Rattle.rd_readable.proofs.HeadedLemmas.{Fine}
 use Rattle.rd_readable.proofs.OrderLemmas.{IsWrittenWell, all_later}
 use Rattle.rd_world.proofs.Agreeing.{agree}
-use Rattle.rd_world.proofs.Joined.{carried_now}
-use Rattle.rd_world.specs.Joining.{IsCarried, Stands}
-use Rattle.rd_world.specs.Talk.{AtEachPoint, Deed, EachAfter, client_move, client_moves, client_writes, completes, host_move, host_moves, host_writes}
-use Rattle.rd_world.specs.Told.{Answers, Replies}
+use Rattle.rd_deeds.proofs.Joined.{carried_now}
+use Rattle.rd_deeds.specs.Joining.{IsCarried, Stands}
+use Rattle.rd_deeds.specs.Talk.{AtEachPoint, Deed, EachAfter, client_move, client_moves, client_writes, completes, host_move, host_moves, host_writes}
+use Rattle.rd_deeds.specs.Told.{Answers, Replies}
 
 -- ---- each deed
 

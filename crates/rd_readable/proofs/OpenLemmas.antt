@@ -3,9 +3,9 @@ use Rattle.std.proofs.Common.{◌≡◌, refl, sym, ◌∙◌, ℕ, ◌<◌, ◌
 use Rattle.std.specs.Prelude.{IfSome}
 use Rattle.rd_printed.specs.Printed.{IsOnOpen}
 use Rattle.rd_runs.proofs.BelowLemmas.{below_is, channel_is, channels_below}
-use Rattle.rd_world.proofs.Calls.{Does}
+use Rattle.rd_deeds.proofs.Calls.{Does}
 use Rattle.rd_world.specs.Recording.{client_channel}
-use Rattle.rd_world.specs.Talk.{Deed, EachAfter, client_writes, client_wrote, completes, host_begins, host_ends, host_writes, host_wrote, open_channel}
+use Rattle.rd_deeds.specs.Talk.{Deed, EachAfter, client_writes, client_wrote, completes, host_begins, host_ends, host_writes, host_wrote, open_channel}
 
 -- a channel begins above all that began, while none is open; what is written is on the open one
 abbrev IsOpened : List Deed → Deed → Type 0

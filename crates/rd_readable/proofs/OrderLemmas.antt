@@ -11,7 +11,7 @@ use Rattle.rd_core.proofs.KeptLemmas.{IsTabled, said_tabled}
 use Rattle.rd_hello.specs.declared.hello.Hello.{Hello}
 use Rattle.rd_hello.specs.Moves.{Move, reads, writes}
 use Rattle.rd_hello.specs.Rows.{OrderRow}
-use Rattle.rd_world.proofs.Lists.{all_more}
+use Rattle.rd_deeds.proofs.Lists.{all_more}
 
 -- it holds of what is written by a move
 abbrev pub IsWrittenWell : (List ℕ → Type 0) → Move → Type 0

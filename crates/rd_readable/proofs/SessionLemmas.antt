@@ -13,11 +13,11 @@ use Rattle.rd_readable.proofs.TurnLemmas.{all_in_turn}
 use Rattle.rd_script.specs.declared.outcome.Outcomes.{Outcomes}
 use Rattle.rd_script.specs.declared.script.Script.{Script}
 use Rattle.rd_pending.specs.History.{lives_before}
-use Rattle.rd_world.proofs.Telling.{each_tells}
-use Rattle.rd_world.specs.HostDeeds.{calls_of}
+use Rattle.rd_deeds.proofs.Telling.{each_tells}
+use Rattle.rd_deeds.specs.HostDeeds.{calls_of}
 use Rattle.rd_world.specs.Recording.{announced_of, client_id, is_gone_at}
 use Rattle.rd_world.specs.Session.{IsWholeSession, replies_in}
-use Rattle.rd_world.specs.Talk.{client_moves, host_moves}
+use Rattle.rd_deeds.specs.Talk.{client_moves, host_moves}
 
 pub session_prints : (script : Script) (recording : List ℕ) (books : List (ℕ × History)) (told : Outcomes) (output : List ℕ) (s : IsWholeSession script recording books told output) → ArePrintable s.deeds
 session_prints script recording books told output s =

@@ -2,11 +2,11 @@
 use Rattle.std.proofs.Common.{refl, ap, ◌∙◌, ℕ, Bool, true, false, cond, List, [], ◌∷◌, ◌++◌, length}
 use Rattle.std.specs.Prelude.{◌&&◌, filter}
 use Rattle.rd_printed.specs.Printed.{AnswersNext}
-use Rattle.rd_world.proofs.Calls.{Does}
-use Rattle.rd_world.proofs.Joined.{answers_newest, carried_now, counted}
-use Rattle.rd_world.proofs.Telling.{Tells}
-use Rattle.rd_world.specs.Joining.{IsCarried, Stands}
-use Rattle.rd_world.specs.Talk.{AtEachPoint, Deed, EachAfter, EndsWith, client_read, completes, indices_of, is_request, message_asks_pair}
+use Rattle.rd_deeds.proofs.Calls.{Does}
+use Rattle.rd_deeds.proofs.Joined.{answers_newest, carried_now, counted}
+use Rattle.rd_deeds.proofs.Telling.{Tells}
+use Rattle.rd_deeds.specs.Joining.{IsCarried, Stands}
+use Rattle.rd_deeds.specs.Talk.{AtEachPoint, Deed, EachAfter, EndsWith, client_read, completes, indices_of, is_request, message_asks_pair}
 
 -- the indices of older messages stay
 indices_end : (d i : ℕ) (xs ys : List (List ℕ)) → EndsWith (indices_of d i (xs ++ ys)) (indices_of d i ys)

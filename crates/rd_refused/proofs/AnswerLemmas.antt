@@ -1,7 +1,7 @@
 -- A completion whose refusal is the right one is the answer to its key.
 use Rattle.std.proofs.Common.{inl, inr, List, [], ◌∷◌}
-use Rattle.rd_world.specs.Talk.{Deed, EachAfter, adds, client_reads, client_writes, completes, host_begins, host_ends, host_reads, host_writes, removes, stores, submits, takes, tells}
-use Rattle.rd_world.specs.Told.{Answers, Replies}
+use Rattle.rd_deeds.specs.Talk.{Deed, EachAfter, adds, client_reads, client_writes, completes, host_begins, host_ends, host_reads, host_writes, removes, stores, submits, takes, tells}
+use Rattle.rd_deeds.specs.Told.{Answers, Replies}
 use Rattle.rd_replied.specs.Since.{AnswersSince}
 use Rattle.rd_refused.specs.Refused.{RefusesDirectly}
 

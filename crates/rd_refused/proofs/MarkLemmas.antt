@@ -7,7 +7,7 @@ use Rattle.rd_client.specs.Core.{AreDevices, ClientCoreState, ClientDevice, anno
 use Rattle.rd_devices.specs.DeviceList.{SpellsList, list_bytes}
 use Rattle.rd_devices.specs.Removal.{removal_bytes}
 use Rattle.rd_devices.specs.declared.list.Announce.{Announce}
-use Rattle.rd_world.specs.Told.{is_said_gone}
+use Rattle.rd_deeds.specs.Told.{is_said_gone}
 use Rattle.rd_refused.specs.Refused.{MarksSay}
 use Rattle.rd_refused.proofs.SaidLemmas.{list_says, removal_says}
 

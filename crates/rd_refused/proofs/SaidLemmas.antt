@@ -26,9 +26,9 @@ use Rattle.rd_irp.specs.declared.completion.Body.{Body}
 use Rattle.rd_irp.specs.declared.completion.Head.{Head}
 use Rattle.rd_irp.specs.declared.completion.Kind.{Kind}
 use Rattle.rd_irp.specs.Written.{completion_bytes}
-use Rattle.rd_world.specs.Talk.{announced_in, removed_in}
-use Rattle.rd_world.specs.Told.{is_said_gone}
-use Rattle.rd_world.proofs.Messages.{no_list_in, no_removal_in, written_packet}
+use Rattle.rd_deeds.specs.Talk.{announced_in, removed_in}
+use Rattle.rd_deeds.specs.Told.{is_said_gone}
+use Rattle.rd_deeds.proofs.Messages.{no_list_in, no_removal_in, written_packet}
 
 -- what is said after a message that removes these and announces those
 said : (d : ℕ) (m : List ℕ) (older : List (List ℕ)) (ids : List ℕ) (list : List Announce) → removed_in m ≡ ids → announced_in m ≡ list

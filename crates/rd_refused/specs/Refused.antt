@@ -4,8 +4,8 @@ use Rattle.rd_client.specs.Core.{ClientCoreState, has_device, is_gone}
 use Rattle.rd_irp.specs.declared.completion.Reply.{Reply}
 use Rattle.rd_irp.specs.declared.request.Request.{Request}
 use Rattle.rd_replied.specs.JournalsJobs.{IsRefusalOf}
-use Rattle.rd_world.specs.Talk.{Deed, client_read, completes, journal, request_at}
-use Rattle.rd_world.specs.Told.{CompletesWith, IsDirect, came, is_said_gone}
+use Rattle.rd_deeds.specs.Talk.{Deed, client_read, completes, journal, request_at}
+use Rattle.rd_deeds.specs.Told.{CompletesWith, IsDirect, came, is_said_gone}
 
 -- A completion that refuses a request which never came does so as the client had said of its device.
 abbrev pub RefusesDirectly : List Deed → Deed → Type 0

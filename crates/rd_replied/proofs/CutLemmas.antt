@@ -22,11 +22,11 @@ use Rattle.rd_journals.specs.Stations.{IsFit}
 use Rattle.rd_journals.proofs.DeviceLemmas.{cut_fits, step_fits}
 use Rattle.rd_printer.proofs.PrinterLemmas.{printers_step}
 use Rattle.rd_station.proofs.Members.{from_contains, has_append, has_right}
-use Rattle.rd_world.specs.Devices.{device_cut, device_parked, device_step}
-use Rattle.rd_world.specs.Talk.{Has}
-use Rattle.rd_world.specs.declared.device.SessionDevice.{SessionDevice}
-use Rattle.rd_world.specs.declared.device.SessionDevice.TheVariants as session
-use Rattle.rd_world.proofs.Journals.{HasRun, has_contains}
+use Rattle.rd_declared.specs.Devices.{device_cut, device_parked, device_step}
+use Rattle.rd_deeds.specs.Talk.{Has}
+use Rattle.rd_declared.specs.declared.device.SessionDevice.{SessionDevice}
+use Rattle.rd_declared.specs.declared.device.SessionDevice.TheVariants as session
+use Rattle.rd_deeds.proofs.Journals.{HasRun, has_contains}
 use Rattle.rd_replied.specs.Removals.{IsCutSince}
 
 -- ---- what waits in a device

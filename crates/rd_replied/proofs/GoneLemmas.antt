@@ -60,15 +60,15 @@ use Rattle.rd_station.specs.declared.refusals.AnnounceNo.{AnnounceNo}
 use Rattle.rd_station.specs.declared.refusals.AnnounceNo.TheVariants as refused
 use Rattle.rd_station.specs.declared.refusals.PutWhy.{PutWhy}
 use Rattle.rd_station.specs.declared.refusals.PutWhy.TheVariants as why
-use Rattle.rd_world.specs.Devices.{Declared, PrinterNames, device_cut, printer_data}
+use Rattle.rd_declared.specs.Devices.{Declared, PrinterNames, device_cut, printer_data}
 use Rattle.rd_world.specs.Events.{came_of, client_sends_first, client_sends_next, completion_message, connects, cutting, dropping, is_empty}
 use Rattle.rd_world.specs.Hearing.{after_opening, announcing, client_hears, heard_by_client, put_at, put_by, putting}
-use Rattle.rd_world.specs.Opening.{bare_lines}
-use Rattle.rd_world.specs.Run.{applications_of, declared_devices, new_world, world_of}
-use Rattle.rd_world.specs.Talk as deed
-use Rattle.rd_world.specs.Talk.{Deed, EachAfter, Has, client_read, client_reads, client_writes, completes, journal, open_channel, removed_in, request_at, stores}
+use Rattle.rd_declared.specs.Declaring.{bare_lines, declared_devices}
+use Rattle.rd_world.specs.Run.{applications_of, new_world, world_of}
+use Rattle.rd_deeds.specs.Talk as deed
+use Rattle.rd_deeds.specs.Talk.{Deed, EachAfter, Has, client_read, client_reads, client_writes, completes, journal, open_channel, removed_in, request_at, stores}
 use Rattle.rd_world.specs.World.{ApplicationState, WorldState, handling_by, station_at, with_station}
-use Rattle.rd_world.specs.declared.device.SessionDevice.{SessionDevice}
+use Rattle.rd_declared.specs.declared.device.SessionDevice.{SessionDevice}
 use Rattle.rd_world.proofs.BeginningLemmas.{begun_by}
 use Rattle.rd_world.proofs.OpeningLemmas.{lines_begin}
 use Rattle.rd_replied.specs.Removals.{AreGone, IsCutSince, IsGoneSince, IsGoneSoon, TellsGone}

@@ -18,15 +18,16 @@ use Rattle.rd_journals.specs.Reads.{ComesRead}
 use Rattle.rd_journals.proofs.HeldLemmas.{turned_has}
 use Rattle.rd_journals.proofs.ShortLemmas.{came_read}
 use Rattle.rd_journals.proofs.WorkLemmas.{grown_more}
-use Rattle.rd_world.specs.Devices.{Declared, device_cut, device_step}
-use Rattle.rd_world.specs.Joining.{IsCarried}
-use Rattle.rd_world.specs.Recording.{no_request, request_of}
-use Rattle.rd_world.specs.Session.{replies_in, replies_read, request_read}
-use Rattle.rd_world.specs.Talk.{Deed, EachAfter, Has, adds, client_read, client_reads, client_writes, completes, host_begins, host_ends, host_reads, host_writes, journal, removes, request_at, stored_by, stores, submits, takes, tells}
-use Rattle.rd_world.specs.declared.device.SessionDevice.{SessionDevice}
+use Rattle.rd_declared.specs.Devices.{Declared, device_cut, device_step}
+use Rattle.rd_deeds.specs.Joining.{IsCarried}
+use Rattle.rd_declared.specs.Replies.{no_request, replies_read, request_read}
+use Rattle.rd_world.specs.Recording.{request_of}
+use Rattle.rd_world.specs.Session.{replies_in}
+use Rattle.rd_deeds.specs.Talk.{Deed, EachAfter, Has, adds, client_read, client_reads, client_writes, completes, host_begins, host_ends, host_reads, host_writes, journal, removes, request_at, stored_by, stores, submits, takes, tells}
+use Rattle.rd_declared.specs.declared.device.SessionDevice.{SessionDevice}
 use Rattle.rd_world.proofs.Agreeing.{agree}
-use Rattle.rd_world.proofs.Journals.{IsPlain, plain_of}
-use Rattle.rd_world.proofs.Lists.{each_end}
+use Rattle.rd_deeds.proofs.Journals.{IsPlain, plain_of}
+use Rattle.rd_deeds.proofs.Lists.{each_end}
 use Rattle.rd_replied.specs.Replied.{AnswersBy, ComesFrom}
 
 -- ---- two ways to name requests that agree on what ran

@@ -20,12 +20,12 @@ use Rattle.rd_journals.specs.Stations.{AreFit}
 use Rattle.rd_journals.proofs.ReplyLemmas.{fit_at}
 use Rattle.rd_journals.proofs.WorkLemmas.{grown_more}
 use Rattle.rd_station.proofs.Members.{from_contains, has_append, has_left}
-use Rattle.rd_world.specs.Devices.{Declared, device_cut, device_step}
+use Rattle.rd_declared.specs.Devices.{Declared, device_cut, device_step}
 use Rattle.rd_world.specs.Recording.{request_of}
 use Rattle.rd_world.specs.Session.{replies_in}
-use Rattle.rd_world.specs.Talk.{Deed, EachAfter, Has, adds, client_read, client_reads, client_writes, completes, host_begins, host_ends, host_reads, host_writes, journal, removes, request_at, stored_by, stores, submits, takes, tells}
-use Rattle.rd_world.specs.Told.{RemovedSince}
-use Rattle.rd_world.proofs.Journals.{HasRun}
+use Rattle.rd_deeds.specs.Talk.{Deed, EachAfter, Has, adds, client_read, client_reads, client_writes, completes, host_begins, host_ends, host_reads, host_writes, journal, removes, request_at, stored_by, stores, submits, takes, tells}
+use Rattle.rd_deeds.specs.Told.{RemovedSince}
+use Rattle.rd_deeds.proofs.Journals.{HasRun}
 use Rattle.rd_replied.specs.Removals.{IsCutSince, IsGoneSince, TellsGone}
 use Rattle.rd_replied.specs.Replied.{AnswersBy, ComesFrom}
 use Rattle.rd_replied.specs.Since.{AnswersSince, IsAnswerSince}

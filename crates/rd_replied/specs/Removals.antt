@@ -7,7 +7,7 @@ use Rattle.rd_base.specs.declared.journal.Item.TheVariants.{Came, Cut}
 use Rattle.rd_base.specs.declared.journal.Key.{Key}
 use Rattle.rd_client.specs.Core.{Outgoing}
 use Rattle.rd_journals.specs.Reads.{IsRead}
-use Rattle.rd_world.specs.Talk.{Deed, EachAfter, Has, client_writes, completes, journal, open_channel, removed_in}
+use Rattle.rd_deeds.specs.Talk.{Deed, EachAfter, Has, client_writes, completes, journal, open_channel, removed_in}
 
 -- The device was cut off, since it was removed, after the key came; the newest entry stands first.
 abbrev pub IsCutSince : List Item → Key → Type 0

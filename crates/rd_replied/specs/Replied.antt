@@ -7,8 +7,8 @@ use Rattle.rd_drive.specs.Replies.{cancellation}
 use Rattle.rd_irp.specs.declared.completion.Reply.{Reply}
 use Rattle.rd_irp.specs.declared.request.Request.{Request}
 use Rattle.rd_journals.specs.Jobs.{IsAnswerOf, IsRefusalOf}
-use Rattle.rd_world.specs.Talk.{Deed, Has, completes, journal}
-use Rattle.rd_world.specs.Told.{Replies, came}
+use Rattle.rd_deeds.specs.Talk.{Deed, Has, completes, journal}
+use Rattle.rd_deeds.specs.Told.{Replies, came}
 
 -- The reply is given by what the device's journal says before the key was sent.
 pub record IsGivenBy (replies : Replies) (device : ℕ) (key : Key) (reply : Reply) (before : List Deed) : Type 0 where

@@ -6,8 +6,8 @@ use Rattle.rd_drive.specs.Replies.{cancellation}
 use Rattle.rd_irp.specs.declared.completion.Reply.{Reply}
 use Rattle.rd_irp.specs.declared.request.Request.{Request}
 use Rattle.rd_journals.specs.Jobs.{IsAnswerOf, IsRefusalOf}
-use Rattle.rd_world.specs.Talk.{Deed, Has, completes, journal}
-use Rattle.rd_world.specs.Told.{IsReplied, RemovedSince, Replies, came}
+use Rattle.rd_deeds.specs.Talk.{Deed, Has, completes, journal}
+use Rattle.rd_deeds.specs.Told.{IsReplied, RemovedSince, Replies, came}
 
 -- The reply belongs to the key by its journal; or the request was cancelled, and its device removed since; or it never came and was refused.
 abbrev pub IsAnswerSince : Replies → List Deed → Key → Request → Reply → Type 0

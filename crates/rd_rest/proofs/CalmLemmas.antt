@@ -27,11 +27,11 @@ use Rattle.rd_station.specs.declared.refusals.AnnounceNo.TheVariants as no
 use Rattle.rd_station.specs.declared.refusals.PutWhy.{PutWhy}
 use Rattle.rd_station.specs.declared.refusals.PutWhy.TheVariants as why
 use Rattle.rd_station.proofs.Members.{has_append, map_has}
-use Rattle.rd_world.specs.declared.device.SessionDevice.{SessionDevice}
-use Rattle.rd_world.specs.Devices.{PrinterNames, device_cut}
+use Rattle.rd_declared.specs.declared.device.SessionDevice.{SessionDevice}
+use Rattle.rd_declared.specs.Devices.{PrinterNames, device_cut}
 use Rattle.rd_world.specs.Events.{refreshing}
 use Rattle.rd_world.specs.Hearing.{after_opening, announcing, client_hears, heard_by_client, put_at, put_by, putting, refused_put, with_client}
-use Rattle.rd_world.specs.Talk.{Has, client_reads}
+use Rattle.rd_deeds.specs.Talk.{Has, client_reads}
 use Rattle.rd_world.specs.World.{WorldState, station_at, with_deed, with_station}
 
 abbrev Of : Type 0

@@ -17,7 +17,7 @@ use Rattle.rd_answered.specs.DirectsTurns.{kept_at, never, said}
 use Rattle.rd_drive.specs.Device.{Parked}
 use Rattle.rd_drive.specs.Replies.{last_state_by}
 use Rattle.rd_drive.specs.declared.plan.Job.{Job}
-use Rattle.rd_world.proofs.Messages.{head_read}
+use Rattle.rd_deeds.proofs.Messages.{head_read}
 use Rattle.rd_irp.specs.declared.completion.Head.{Head}
 use Rattle.rd_irp.specs.declared.request.Request.{Request}
 use Rattle.rd_answered.proofs.JournalsClientLemmas.{channel_open}
@@ -45,19 +45,19 @@ use Rattle.rd_station.specs.Station.{StationState, held}
 use Rattle.rd_station.specs.Tied.{as_parked}
 use Rattle.rd_station.specs.declared.held.ParkedJob.{ParkedJob}
 use Rattle.rd_told.proofs.PrintedLemmas.{device_left}
-use Rattle.rd_world.proofs.Journals.{contains_has, has_contains}
-use Rattle.rd_world.proofs.Telling.{option_cases, request_later}
+use Rattle.rd_deeds.proofs.Journals.{contains_has, has_contains}
+use Rattle.rd_deeds.proofs.Telling.{option_cases, request_later}
 use Rattle.rd_world.specs.Acts.{before_end, waiting_in, waiting_keys}
-use Rattle.rd_world.specs.Devices.{Declared, device_cut, device_cuts, device_parked, device_runs, device_step}
-use Rattle.rd_world.specs.Opening.{bare_lines}
+use Rattle.rd_declared.specs.Devices.{Declared, device_cut, device_cuts, device_parked, device_runs, device_step}
+use Rattle.rd_declared.specs.Declaring.{bare_lines, declared_devices}
 use Rattle.rd_world.specs.Recording.{request_of}
-use Rattle.rd_world.specs.Run.{choices, declared_devices}
+use Rattle.rd_world.specs.Run.{choices}
 use Rattle.rd_world.specs.Session.{replies_in}
-use Rattle.rd_world.specs.Talk as deed
-use Rattle.rd_world.specs.Talk.{Deed, EachAfter, Has, answered, asked, client_read, client_reads, completes, head_in, indices_of, is_request, journal, message_asks_pair, message_has_pair, open_channel, request_at, request_in}
-use Rattle.rd_world.specs.Told.{Answers, AreAnswered, Replies, came, came_as, is_of_device, requests_to, sent, sent_at, told}
+use Rattle.rd_deeds.specs.Talk as deed
+use Rattle.rd_deeds.specs.Talk.{Deed, EachAfter, Has, answered, asked, client_read, client_reads, completes, head_in, indices_of, is_request, journal, message_asks_pair, message_has_pair, open_channel, request_at, request_in}
+use Rattle.rd_deeds.specs.Told.{Answers, AreAnswered, Replies, came, came_as, is_of_device, requests_to, sent, sent_at, told}
 use Rattle.rd_world.specs.World.{WorldState, station_at}
-use Rattle.rd_world.specs.declared.device.SessionDevice.{SessionDevice}
+use Rattle.rd_declared.specs.declared.device.SessionDevice.{SessionDevice}
 
 abbrev Of : Type 0
 Of = StationState SessionDevice

@@ -34,13 +34,13 @@ use Rattle.rd_script.specs.declared.outcome.Outcome.TheVariants as outcome
 use Rattle.rd_script.specs.declared.outcome.Refusal.TheVariants as refusal
 use Rattle.rd_station.specs.Station.{StationState}
 use Rattle.rd_station.specs.declared.answers.Completion.{Completion}
-use Rattle.rd_world.specs.declared.device.SessionDevice.{SessionDevice}
+use Rattle.rd_declared.specs.declared.device.SessionDevice.{SessionDevice}
 use Rattle.rd_world.specs.Events as event
 use Rattle.rd_world.specs.Events.{Event, act, asks, client_has_message, comes_of_asking, cutting, dropping, hand_at, has_completion, host_has_message, is_empty, is_enabled, is_hand_free, is_hand_full, is_read, issues_next, job_waits, refusal_of, target_of}
 use Rattle.rd_world.specs.Hearing.{all_take, ends_line, given_handle, next_asked, reported_outcome, takes_awaited, takes_from, takes_outcome, with_outcome}
-use Rattle.rd_world.specs.Host.{next_message}
+use Rattle.rd_deeds.specs.Host.{next_message}
 use Rattle.rd_world.specs.Run.{choices, drawing}
-use Rattle.rd_world.specs.Talk.{Deed, Has, takes}
+use Rattle.rd_deeds.specs.Talk.{Deed, Has, takes}
 use Rattle.rd_world.specs.World.{ApplicationState, Asked, WorldState, application_at, station_at, with_application, with_deed, with_table}
 
 abbrev Of : Type 0

@@ -40,21 +40,22 @@ use Rattle.rd_station.specs.Station as station
 use Rattle.rd_station.specs.Station.{StationState, emptied}
 use Rattle.rd_station.specs.Tied.{as_parked}
 use Rattle.rd_told.proofs.PrintedLemmas.{device_left, keyed}
-use Rattle.rd_world.proofs.OpeningLemmas.{declared_openable}
+use Rattle.rd_declared.proofs.DeclaringLemmas.{declared_openable}
 use Rattle.rd_world.specs.Acts.{act_by, before_end, control_by, is_settled_host, is_telling, left_open, some_wait, waiting_in, waiting_keys}
 use Rattle.rd_world.specs.Control.{Act, Control, ended}
-use Rattle.rd_world.specs.Devices.{Declared, device_cut, device_parked, device_step}
+use Rattle.rd_declared.specs.Devices.{Declared, device_cut, device_parked, device_step}
 use Rattle.rd_world.specs.Events.{cutting, dropping, is_channel_open}
-use Rattle.rd_world.specs.HostDeeds.{calls_of}
+use Rattle.rd_deeds.specs.HostDeeds.{calls_of}
 use Rattle.rd_world.specs.Lines.{submitted}
-use Rattle.rd_world.specs.Opening.{bare_lines}
-use Rattle.rd_world.specs.Recording.{client_id, host_stand, no_request, request_of}
-use Rattle.rd_world.specs.Run.{choices, declared_devices, some_left}
+use Rattle.rd_declared.specs.Declaring.{bare_lines, declared_devices}
+use Rattle.rd_declared.specs.Replies.{no_request}
+use Rattle.rd_world.specs.Recording.{client_id, host_stand, request_of}
+use Rattle.rd_world.specs.Run.{choices, some_left}
 use Rattle.rd_world.specs.Session.{IsStill}
-use Rattle.rd_world.specs.Talk as deed
-use Rattle.rd_world.specs.Talk.{Deed, Has, answered, asked, client_read, client_wrote, host_moves, host_read, host_wrote, indices_of, is_request, journal, open_channel, request_at}
+use Rattle.rd_deeds.specs.Talk as deed
+use Rattle.rd_deeds.specs.Talk.{Deed, Has, answered, asked, client_read, client_wrote, host_moves, host_read, host_wrote, indices_of, is_request, journal, open_channel, request_at}
 use Rattle.rd_world.specs.World.{WorldState, station_at, with_station}
-use Rattle.rd_world.specs.declared.device.SessionDevice.{SessionDevice}
+use Rattle.rd_declared.specs.declared.device.SessionDevice.{SessionDevice}
 
 abbrev Of : Type 0
 Of = StationState SessionDevice

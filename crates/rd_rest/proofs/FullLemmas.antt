@@ -63,15 +63,15 @@ use Rattle.rd_station.specs.declared.refusals.AnnounceNo.{AnnounceNo}
 use Rattle.rd_station.specs.declared.refusals.AnnounceNo.TheVariants as no
 use Rattle.rd_station.specs.declared.refusals.PutWhy.{PutWhy}
 use Rattle.rd_station.specs.declared.refusals.PutWhy.TheVariants as why
-use Rattle.rd_world.specs.declared.device.SessionDevice.{SessionDevice}
-use Rattle.rd_world.specs.declared.device.SessionDevice.TheVariants as session
-use Rattle.rd_world.specs.Devices.{PrinterNames, device_cut, device_cuts, device_parked, device_runs}
+use Rattle.rd_declared.specs.declared.device.SessionDevice.{SessionDevice}
+use Rattle.rd_declared.specs.declared.device.SessionDevice.TheVariants as session
+use Rattle.rd_declared.specs.Devices.{PrinterNames, device_cut, device_cuts, device_parked, device_runs}
 use Rattle.rd_world.specs.Events as event
 use Rattle.rd_world.specs.Events.{Event, act, asks, came_of, collects_from, comes_of_asking, completion_message, cutting, hand_at, is_close, is_enabled, issues_next, refreshing, refusal_of, takes_job_from, target_of}
 use Rattle.rd_world.specs.Hearing.{all_take, announcing, client_handles, client_handles_all, client_handles_first, client_hears, ends_line, given_handle, heard_by_client, host_handles, host_handles_first, host_hears, next_asked, put_at, put_by, putting, refused_put, reported_outcome, takes_awaited, takes_from, takes_outcome, tries, tries_kept, with_client, with_outcome}
-use Rattle.rd_world.specs.Host.{next_message, side_sends}
+use Rattle.rd_deeds.specs.Host.{next_message, side_sends}
 use Rattle.rd_world.specs.Run.{choices, world_of}
-use Rattle.rd_world.specs.Talk.{Has, client_reads, completes, takes}
+use Rattle.rd_deeds.specs.Talk.{Has, client_reads, completes, takes}
 use Rattle.rd_world.specs.World.{ApplicationState, Asked, Kept, WayState, WorldState, application_at, client_sends, handling, having_read, host_sends, most_messages, station_at, with_application, with_deed, with_station, with_table}
 
 abbrev Of : Type 0

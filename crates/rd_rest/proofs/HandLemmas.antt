@@ -29,12 +29,12 @@ use Rattle.rd_station.specs.declared.answers.Given.{Given}
 use Rattle.rd_station.specs.declared.answers.Given.TheVariants as given
 use Rattle.rd_station.specs.declared.held.InHand.{InHand}
 use Rattle.rd_station.specs.declared.held.ParkedJob.{ParkedJob}
-use Rattle.rd_world.specs.declared.device.SessionDevice.{SessionDevice}
-use Rattle.rd_world.specs.Devices.{PrinterNames}
+use Rattle.rd_declared.specs.declared.device.SessionDevice.{SessionDevice}
+use Rattle.rd_declared.specs.Devices.{PrinterNames}
 use Rattle.rd_world.specs.Events.{came_of, hand_at, is_hand_free, refreshing}
-use Rattle.rd_world.specs.Opening.{bare_lines}
-use Rattle.rd_world.specs.Run.{declared_devices, world_of}
-use Rattle.rd_world.specs.Talk.{Has}
+use Rattle.rd_declared.specs.Declaring.{bare_lines, declared_devices}
+use Rattle.rd_world.specs.Run.{world_of}
+use Rattle.rd_deeds.specs.Talk.{Has}
 use Rattle.rd_world.specs.World.{WorldState, handling_by, station_at, with_station}
 
 abbrev Of : Type 0

@@ -35,16 +35,16 @@ use Rattle.rd_station.specs.Station.{StationState}
 use Rattle.rd_station.specs.Tied.{as_parked}
 use Rattle.rd_station.specs.declared.held.ParkedJob.{ParkedJob}
 use Rattle.rd_told.proofs.PrintedLemmas.{keyed}
-use Rattle.rd_world.proofs.Journals.{has_contains}
-use Rattle.rd_world.proofs.OpeningLemmas.{declared_openable}
+use Rattle.rd_deeds.proofs.Journals.{has_contains}
+use Rattle.rd_declared.proofs.DeclaringLemmas.{declared_openable}
 use Rattle.rd_world.specs.Acts.{before_end, some_wait, waiting_in, waiting_keys}
-use Rattle.rd_world.specs.Devices.{Declared, device_cut, device_parked, device_step}
+use Rattle.rd_declared.specs.Devices.{Declared, device_cut, device_parked, device_step}
 use Rattle.rd_world.specs.Recording.{request_of}
-use Rattle.rd_world.specs.Opening.{bare_lines}
-use Rattle.rd_world.specs.Run.{choices, declared_devices, is_left_parked, some_left}
-use Rattle.rd_world.specs.Talk.{Has, journal, open_channel}
+use Rattle.rd_declared.specs.Declaring.{bare_lines, declared_devices}
+use Rattle.rd_world.specs.Run.{choices, is_left_parked, some_left}
+use Rattle.rd_deeds.specs.Talk.{Has, journal, open_channel}
 use Rattle.rd_world.specs.World.{WorldState, station_at}
-use Rattle.rd_world.specs.declared.device.SessionDevice.{SessionDevice}
+use Rattle.rd_declared.specs.declared.device.SessionDevice.{SessionDevice}
 
 abbrev Of : Type 0
 Of = StationState SessionDevice

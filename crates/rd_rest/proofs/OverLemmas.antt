@@ -29,14 +29,15 @@ use Rattle.rd_station.specs.Station.{StationState}
 use Rattle.rd_station.specs.declared.answers.Completion.{Completion}
 use Rattle.rd_station.proofs.Members.{has_right}
 use Rattle.rd_world.proofs.OpeningLemmas.{first_within, lines_begin, setting_within}
-use Rattle.rd_world.specs.declared.device.SessionDevice.{SessionDevice}
+use Rattle.rd_declared.specs.declared.device.SessionDevice.{SessionDevice}
 use Rattle.rd_world.specs.declared.opening.Settings.{Settings}
-use Rattle.rd_world.specs.Devices.{PrinterNames}
+use Rattle.rd_declared.specs.Devices.{PrinterNames}
 use Rattle.rd_world.specs.Events.{came_of, refreshing}
-use Rattle.rd_world.specs.Opening.{AreDeclarable, AreSettings, bare_lines, first_settings, with_line_setting, with_setting}
-use Rattle.rd_world.specs.Run.{declared_devices, world_of}
-use Rattle.rd_world.specs.Talk as deed
-use Rattle.rd_world.specs.Talk.{Deed, Has, client_reads, open_channel}
+use Rattle.rd_declared.specs.Declaring.{AreDeclarable, bare_lines, declared_devices}
+use Rattle.rd_world.specs.Opening.{AreSettings, first_settings, with_line_setting, with_setting}
+use Rattle.rd_world.specs.Run.{world_of}
+use Rattle.rd_deeds.specs.Talk as deed
+use Rattle.rd_deeds.specs.Talk.{Deed, Has, client_reads, open_channel}
 use Rattle.rd_world.specs.World.{WorldState, handling_by, station_at, with_deed, with_station}
 
 abbrev Of : Type 0

@@ -19,10 +19,10 @@ use Rattle.rd_script.specs.declared.line.NumberedLine.{NumberedLine}
 use Rattle.rd_station.specs.Station.{StationState}
 use Rattle.rd_station.specs.declared.answers.Completion.{Completion}
 use Rattle.rd_station.specs.declared.held.InHand.{InHand}
-use Rattle.rd_world.specs.declared.device.SessionDevice.{SessionDevice}
+use Rattle.rd_declared.specs.declared.device.SessionDevice.{SessionDevice}
 use Rattle.rd_world.specs.Events.{apply_job, client_has_message, collect, hand_at, has_completion, is_empty, is_enabled, is_hand_free, is_hand_full, job_waits, take_job}
 use Rattle.rd_world.specs.Run.{NextStep, choices, device_ids, event, hand_numbers, takes_of, where_true}
-use Rattle.rd_world.specs.Talk.{Has}
+use Rattle.rd_deeds.specs.Talk.{Has}
 use Rattle.rd_world.specs.World.{WorldState, station_at}
 
 abbrev Of : Type 0

@@ -15,11 +15,11 @@ use Rattle.rd_script.specs.declared.keyword.Mode.TheVariants as mode
 use Rattle.rd_script.specs.declared.line.NumberedLine.{NumberedLine}
 use Rattle.rd_script.specs.declared.script.Script.{Script}
 use Rattle.rd_world.specs.Acts.{act_by, control_by, left_open}
-use Rattle.rd_world.specs.Devices.{Declared}
-use Rattle.rd_world.specs.Opening.{bare_lines}
-use Rattle.rd_world.specs.Run.{Most, WorldRun, choices, declared_devices, run_of}
+use Rattle.rd_declared.specs.Devices.{Declared}
+use Rattle.rd_declared.specs.Declaring.{bare_lines, declared_devices}
+use Rattle.rd_world.specs.Run.{Most, WorldRun, choices, run_of}
 use Rattle.rd_world.specs.Session.{IsStill}
-use Rattle.rd_world.specs.Talk.{open_channel}
+use Rattle.rd_deeds.specs.Talk.{open_channel}
 use Rattle.rd_world.specs.World.{WorldState, marks_of}
 
 abbrev pub devices_of : List NumberedLine → List (ℕ × Declared)

@@ -10,10 +10,10 @@ use Rattle.rd_answered.specs.RunsMoves.{Reached}
 use Rattle.rd_answered.specs.RunsPremises.{RunPremises}
 use Rattle.rd_script.specs.declared.line.NumberedLine.{NumberedLine}
 use Rattle.rd_world.specs.Control.{Control}
-use Rattle.rd_world.specs.Opening.{bare_lines}
-use Rattle.rd_world.specs.Run.{choices, declared_devices}
+use Rattle.rd_declared.specs.Declaring.{bare_lines, declared_devices}
+use Rattle.rd_world.specs.Run.{choices}
 use Rattle.rd_world.specs.Session.{IsStill}
-use Rattle.rd_world.specs.Talk.{open_channel}
+use Rattle.rd_deeds.specs.Talk.{open_channel}
 use Rattle.rd_world.specs.World.{WorldState}
 
 pub still_at_rest : (lines : List NumberedLine) (starves : Key → Bool) (control : Control) (w : WorldState) → RunPremises lines → DeclareInRoom lines → length lines ≤ 1000000 → Reached lines starves w → choices w ≡ []

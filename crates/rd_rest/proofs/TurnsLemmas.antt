@@ -23,11 +23,10 @@ use Rattle.rd_answered.proofs.RunsParts.{IsBehind, MayBe, Part, by_parts, client
 use Rattle.rd_answered.specs.RunsMoves.{Reached}
 use Rattle.rd_answered.specs.RunsPremises.{RunPremises}
 use Rattle.rd_script.specs.declared.line.NumberedLine.{NumberedLine}
-use Rattle.rd_world.proofs.Lists.{each_end, each_weaker}
-use Rattle.rd_world.specs.Joining.{IsAlone}
-use Rattle.rd_world.specs.Opening.{bare_lines}
-use Rattle.rd_world.specs.Run.{declared_devices}
-use Rattle.rd_world.specs.Talk.{Deed, EachAfter, EndsWith, Has, client_reads, journal, stored_by}
+use Rattle.rd_deeds.proofs.Lists.{each_end, each_weaker}
+use Rattle.rd_deeds.specs.Joining.{IsAlone}
+use Rattle.rd_declared.specs.Declaring.{bare_lines, declared_devices}
+use Rattle.rd_deeds.specs.Talk.{Deed, EachAfter, EndsWith, Has, client_reads, journal, stored_by}
 use Rattle.rd_world.specs.World.{WorldState, handling_by}
 
 option_has : {A : Type 0} (x : A) (o : Option A) (xs : List A) → Has x xs → Has x (cons_option o xs)

@@ -17,11 +17,11 @@ use Rattle.rd_answered.proofs.JournalsDeviceLemmas.{cut_fits, step_fits}
 use Rattle.rd_answered.specs.JournalsStations.{IsFit}
 use Rattle.rd_printer.proofs.PrinterLemmas.{printers_step}
 use Rattle.rd_station.proofs.Members.{has_append}
-use Rattle.rd_world.proofs.Journals.{HasRun}
-use Rattle.rd_world.specs.Devices.{device_cut, device_parked, device_step}
-use Rattle.rd_world.specs.Talk.{Has}
-use Rattle.rd_world.specs.declared.device.SessionDevice.{SessionDevice}
-use Rattle.rd_world.specs.declared.device.SessionDevice.TheVariants as session
+use Rattle.rd_deeds.proofs.Journals.{HasRun}
+use Rattle.rd_declared.specs.Devices.{device_cut, device_parked, device_step}
+use Rattle.rd_deeds.specs.Talk.{Has}
+use Rattle.rd_declared.specs.declared.device.SessionDevice.{SessionDevice}
+use Rattle.rd_declared.specs.declared.device.SessionDevice.TheVariants as session
 
 abbrev pub IsWaiting : Key → List Parked → Type 0
 IsWaiting k ps = (p : Parked) × Has p ps × (p.key ≡ k)

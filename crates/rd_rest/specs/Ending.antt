@@ -12,7 +12,7 @@ use Rattle.rd_world.specs.Events.{cutting, is_channel_open}
 use Rattle.rd_world.specs.Lines.{submitted}
 use Rattle.rd_world.specs.Recording.{host_stand}
 use Rattle.rd_world.specs.Run.{choices, some_left}
-use Rattle.rd_world.specs.Talk.{Deed, Has, host_wrote, is_request, takes}
+use Rattle.rd_deeds.specs.Talk.{Deed, Has, host_wrote, is_request, takes}
 use Rattle.rd_world.specs.World.{WorldState}
 
 -- the outcome of a number was handed out

@@ -10,9 +10,9 @@ use Rattle.rd_station.specs.Memory.{NamesKey}
 use Rattle.rd_station.specs.Station.{StationState}
 use Rattle.rd_station.specs.declared.held.InHand.{InHand}
 use Rattle.rd_station.specs.declared.held.ParkedJob.{ParkedJob}
-use Rattle.rd_world.specs.Talk.{Has, open_channel}
+use Rattle.rd_deeds.specs.Talk.{Has, open_channel}
 use Rattle.rd_world.specs.World.{WorldState, station_at}
-use Rattle.rd_world.specs.declared.device.SessionDevice.{SessionDevice}
+use Rattle.rd_declared.specs.declared.device.SessionDevice.{SessionDevice}
 
 -- each job that a station gave to a hand is in one
 abbrev pub AreInHands : WorldState → Type 0

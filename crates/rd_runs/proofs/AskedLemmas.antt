@@ -22,7 +22,7 @@ use Rattle.rd_script.specs.declared.line.Line.TheVariants as line
 use Rattle.rd_script.specs.declared.line.NumberedLine.{NumberedLine}
 use Rattle.rd_script.specs.declared.outcome.Outcome.{Outcome}
 use Rattle.rd_station.specs.Station.{StationState}
-use Rattle.rd_world.specs.declared.device.SessionDevice.{SessionDevice}
+use Rattle.rd_declared.specs.declared.device.SessionDevice.{SessionDevice}
 use Rattle.rd_runs.specs.Moves.{Reached}
 use Rattle.rd_runs.specs.Premises.{AreSubmittable, IsHandleInRange, IsSubmittable}
 use Rattle.rd_runs.proofs.BeginningLemmas.{Unset, begins_as}
@@ -30,13 +30,14 @@ use Rattle.rd_runs.proofs.Insides.{IsInside, Outside, added_inside, all_dropped_
 use Rattle.rd_runs.proofs.Parts.{Part, accepts, adds_one, applies_one, begins, by_parts, client_gets, client_hears_one, client_keeps_part, client_sends_one, collects_one, done, draws_one, ends, hands_out, host_gets, host_hears_one, host_keeps_part, host_sends_one, idle_one, queues_one, reached_behind, refuses, removes_one, takes_one, tells_one, tries_one}
 use Rattle.rd_runs.proofs.Standing.{AreTellable, MayTake}
 use Rattle.rd_world.proofs.NotingLemmas.{add_tellable, delete_tellable, rename_tellable, update_tellable}
-use Rattle.rd_world.specs.Devices.{PrinterNames, dos_name, zero_text}
+use Rattle.rd_declared.specs.Devices.{PrinterNames, dos_name, zero_text}
 use Rattle.rd_world.specs.Events.{target_of}
 use Rattle.rd_world.specs.Hearing.{holding_after, next_asked, with_outcome}
-use Rattle.rd_world.specs.HostDeeds.{IsInRange}
-use Rattle.rd_world.specs.Noting.{AreNotable, IsNotable, IsTellable}
+use Rattle.rd_deeds.specs.HostDeeds.{IsInRange}
+use Rattle.rd_declared.specs.Declaring.{AreNotable, IsNotable}
+use Rattle.rd_world.specs.Noting.{IsTellable}
 use Rattle.rd_world.specs.Run.{asked_by, asking, notice_of, world_of}
-use Rattle.rd_world.specs.Talk.{Has, client_reads}
+use Rattle.rd_deeds.specs.Talk.{Has, client_reads}
 use Rattle.rd_world.specs.World.{ApplicationState, Asked, WorldState, application_at, handle_named, new_application, with_application, with_deed}
 
 -- ---- what is asked for is what lines ask for

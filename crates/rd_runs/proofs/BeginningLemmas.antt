@@ -8,11 +8,12 @@ use Rattle.rd_script.specs.declared.line.Line.{Line}
 use Rattle.rd_script.specs.declared.line.Line.TheVariants as line
 use Rattle.rd_script.specs.declared.line.NumberedLine.{NumberedLine}
 use Rattle.rd_station.specs.Station.{StationState}
-use Rattle.rd_world.specs.declared.device.SessionDevice.{SessionDevice}
-use Rattle.rd_world.specs.Devices.{Declared, PrinterNames}
-use Rattle.rd_world.specs.Host.{HostSide}
-use Rattle.rd_world.specs.Run.{applications_of, declared_devices, new_world, setting, station_of, world_of}
-use Rattle.rd_world.specs.Talk.{Deed}
+use Rattle.rd_declared.specs.declared.device.SessionDevice.{SessionDevice}
+use Rattle.rd_declared.specs.Devices.{Declared, PrinterNames}
+use Rattle.rd_deeds.specs.Host.{HostSide}
+use Rattle.rd_declared.specs.Declaring.{declared_devices}
+use Rattle.rd_world.specs.Run.{applications_of, new_world, setting, station_of, world_of}
+use Rattle.rd_deeds.specs.Talk.{Deed}
 use Rattle.rd_world.specs.World.{ApplicationState, Kept, WayState, WorldState}
 use Rattle.rd_runs.proofs.IdleLemmas.{AreIdle, IsIdle}
 

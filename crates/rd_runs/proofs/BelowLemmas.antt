@@ -17,9 +17,9 @@ use Rattle.rd_pending.specs.Table as table
 use Rattle.rd_pending.specs.Table.{Fate, Slot, TableState, Untaken, awaited, freed, known, live_refusal, slot_for, submit_refusal, untaken_at, with_fate}
 use Rattle.rd_pending.proofs.Effects as effects
 use Rattle.rd_pending.proofs.Neutral.{AreNeutral, IsNeutral, channel_all}
-use Rattle.rd_world.specs.HostDeeds.{calls_by, calls_of, sending, side_of}
-use Rattle.rd_world.specs.Talk.{Deed, host_begins, host_ends, host_reads, host_writes, open_channel, submits, takes}
-use Rattle.rd_world.proofs.Calls.{Does, neutral_reading, table_of}
+use Rattle.rd_deeds.specs.HostDeeds.{calls_by, calls_of, sending, side_of}
+use Rattle.rd_deeds.specs.Talk.{Deed, host_begins, host_ends, host_reads, host_writes, open_channel, submits, takes}
+use Rattle.rd_deeds.proofs.Calls.{Does, neutral_reading, table_of}
 
 -- ---- calls that neither begin nor end a channel leave it
 

@@ -23,11 +23,11 @@ use Rattle.rd_tree.proofs.WayLemmas.{true_same}
 use Rattle.rd_runs.specs.Premises.{AreBounded, DeviceFits}
 use Rattle.rd_runs.proofs.FittingLines.{LineFits, MakesWithin, read_lines}
 use Rattle.rd_runs.proofs.RoomLemmas.{all_inserted}
-use Rattle.rd_world.proofs.DeclaredLemmas.{scripts_are_declared}
-use Rattle.rd_world.specs.declared.device.SessionDevice.{SessionDevice}
-use Rattle.rd_world.specs.declared.device.SessionDevice.TheVariants as session
-use Rattle.rd_world.specs.Devices.{Declared, declaring, furnishing, holding_at, with_first}
-use Rattle.rd_world.specs.Opening.{AreDeclarable, IsDeclarable, bare_lines}
+use Rattle.rd_declared.proofs.DeclaredLemmas.{scripts_are_declared}
+use Rattle.rd_declared.specs.declared.device.SessionDevice.{SessionDevice}
+use Rattle.rd_declared.specs.declared.device.SessionDevice.TheVariants as session
+use Rattle.rd_declared.specs.Devices.{Declared, declaring, furnishing, holding_at, with_first}
+use Rattle.rd_declared.specs.Declaring.{AreDeclarable, IsDeclarable, bare_lines}
 
 -- ---- a node more
 

@@ -15,12 +15,12 @@ use Rattle.rd_runs.proofs.Parts.{MayBe, Part, accepts, adds_one, applies_one, be
 use Rattle.rd_runs.proofs.Standing.{Stands, needs_open, open_inside}
 use Rattle.rd_runs.proofs.TrafficLemmas.{AreMoving, AreSilent, Carries, Traffic, all_silent, client_reads_else, client_reads_here, client_writes_else, client_writes_here, completes_else, completes_here, host_reads_else, host_reads_here, host_writes_else, host_writes_here, one_begun, one_ended, one_loud, one_silent, ways_moved}
 use Rattle.rd_runs.proofs.WayLemmas.{IsUnderWay, one_read, one_written, part_kept, some_got}
-use Rattle.rd_world.specs.declared.device.SessionDevice.{SessionDevice}
-use Rattle.rd_world.specs.Devices.{PrinterNames}
+use Rattle.rd_declared.specs.declared.device.SessionDevice.{SessionDevice}
+use Rattle.rd_declared.specs.Devices.{PrinterNames}
 use Rattle.rd_world.specs.Events.{completion_message, deed_on, dropping, refreshing}
 use Rattle.rd_world.specs.Recording.{written_by}
 use Rattle.rd_world.specs.Run.{world_of}
-use Rattle.rd_world.specs.Talk.{Deed, adds, client_read, client_reads, client_writes, client_wrote, completes, host_read, host_reads, host_writes, host_wrote, open_channel, removes, stores, submits, takes, tells}
+use Rattle.rd_deeds.specs.Talk.{Deed, adds, client_read, client_reads, client_writes, client_wrote, completes, host_read, host_reads, host_writes, host_wrote, open_channel, removes, stores, submits, takes, tells}
 use Rattle.rd_world.specs.World.{WayState, WorldState, carrying, with_deed, with_station}
 
 -- what is written by it is of a message's size

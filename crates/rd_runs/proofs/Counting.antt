@@ -26,12 +26,12 @@ use Rattle.rd_runs.proofs.Parts.{IsBehind, MayBe, Part, accepts, adds_one, appli
 use Rattle.rd_runs.proofs.Reaching.{both}
 use Rattle.rd_runs.proofs.RoomLemmas.{all_inserted, found_in}
 use Rattle.rd_world.proofs.ApplicationsLemmas.{apart_at, below_of, equal_is, greater_is}
-use Rattle.rd_world.specs.declared.device.SessionDevice.{SessionDevice}
-use Rattle.rd_world.specs.Devices.{PrinterNames}
+use Rattle.rd_declared.specs.declared.device.SessionDevice.{SessionDevice}
+use Rattle.rd_declared.specs.Devices.{PrinterNames}
 use Rattle.rd_world.specs.Events.{deed_on, dropping, may_issue}
 use Rattle.rd_world.specs.Hearing.{given_handle, holding_under, reported_outcome, with_outcome}
 use Rattle.rd_world.specs.Run.{asked_by, asking, world_of}
-use Rattle.rd_world.specs.Talk.{Deed, adds, client_reads, client_writes, completes, removes, stores}
+use Rattle.rd_deeds.specs.Talk.{Deed, adds, client_reads, client_writes, completes, removes, stores}
 use Rattle.rd_world.specs.World.{ApplicationState, Asked, WorldState, application_at, new_application, with_deed, with_station}
 
 -- ---- sums over applications

@@ -31,9 +31,9 @@ use Rattle.rd_irp.specs.declared.completion.Kind.{Kind}
 use Rattle.rd_irp.specs.declared.completion.Kind.TheVariants as kind
 use Rattle.rd_irp.specs.Completion.{completion_body, completion_head, success_body}
 use Rattle.rd_irp.specs.Written.{body_bytes, completion_bytes}
-use Rattle.rd_world.proofs.Messages.{no_head_in, written_packet}
+use Rattle.rd_deeds.proofs.Messages.{no_head_in, written_packet}
 use Rattle.rd_world.specs.Hearing.{created_file}
-use Rattle.rd_world.specs.Talk.{head_in}
+use Rattle.rd_deeds.specs.Talk.{head_in}
 
 -- the first four are bytes
 abbrev pub BeginsInBytes : List ℕ → Type 0

@@ -17,9 +17,9 @@ use Rattle.rd_script.specs.Row.{given, met_words, test, word, words_of}
 use Rattle.rd_script.specs.Script.{BadLine, Reading, TextLine, bad_line, fits, go_on, is_application, is_skipped, line_of, lines_of, read_all, reading, reading_at_start, script_of, script_read, skipping, step, taken}
 use Rattle.rd_script.specs.Texts.{all_ranges, escaped, few_bytes, few_ranges, few_units, handle_word, hex_word, is_dash, is_visible, name_word, place_word, prepended, range_from, range_of, ranges_of, some_units, unit_before, units_after, units_of, units_word}
 use Rattle.rd_runs.specs.Premises.{AreSubmittable, IsSubmittable}
-use Rattle.rd_world.proofs.RowFacts.{AreShort, Gives, gives_after, gives_between, gives_done, gives_few_bytes, gives_given, gives_test, gives_then, gives_weaker}
+use Rattle.rd_declared.proofs.RowFacts.{AreShort, Gives, gives_after, gives_between, gives_done, gives_few_bytes, gives_given, gives_test, gives_then, gives_weaker}
 use Rattle.rd_world.specs.Run.{asked_by}
-use Rattle.rd_world.specs.Talk.{Has}
+use Rattle.rd_deeds.specs.Talk.{Has}
 use Rattle.rd_world.specs.World.{Asked}
 use Rattle.std.proofs.lemmas.Bool.Decides.{nat_tests}
 use Rattle.rd_irp.specs.Op.{max_ranges}

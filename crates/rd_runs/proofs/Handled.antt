@@ -32,13 +32,13 @@ use Rattle.rd_runs.proofs.Insides.{Outside, hears_inside, put_inside}
 use Rattle.rd_runs.proofs.Parts.{announced_by, cut_by, refreshed_by, told_added, told_removed}
 use Rattle.rd_runs.proofs.Reaching.{Steps, by_moves}
 use Rattle.rd_world.proofs.WayStreamLemmas.{message_shorter}
-use Rattle.rd_world.specs.declared.device.SessionDevice.{SessionDevice}
-use Rattle.rd_world.specs.Devices.{PrinterNames}
+use Rattle.rd_declared.specs.declared.device.SessionDevice.{SessionDevice}
+use Rattle.rd_declared.specs.Devices.{PrinterNames}
 use Rattle.rd_world.specs.Events as event
 use Rattle.rd_world.specs.Events.{Event, act, asks, collects_from, comes_of_asking, completion_message, cutting, deed_on, hand_at, issues_next, refusal_of, takes_job_from, target_of}
 use Rattle.rd_world.specs.Hearing.{all_take, client_handles, client_handles_all, client_handles_first, client_hears, ends_line, given_handle, host_handles, host_handles_first, host_hears, next_asked, putting, reported_outcome, takes_awaited, takes_from, takes_outcome, tries, tries_kept, with_outcome}
-use Rattle.rd_world.specs.Host.{next_message, side_sends}
-use Rattle.rd_world.specs.Talk.{completes, takes}
+use Rattle.rd_deeds.specs.Host.{next_message, side_sends}
+use Rattle.rd_deeds.specs.Talk.{completes, takes}
 use Rattle.rd_world.specs.World.{ApplicationState, Asked, Kept, WayState, WorldState, application_at, client_sends, first_message, handling_by, having_read, host_sends, most_messages, station_at, with_application, with_deed, with_station, with_table}
 
 -- ---- the ways, and the job that is kept back

@@ -7,12 +7,12 @@ use Rattle.rd_pending.specs.declared.calls.Target.{Target}
 use Rattle.rd_pending.specs.Table as table
 use Rattle.rd_pending.specs.Table.{MaySubmit, submit_refusal}
 use Rattle.rd_printer.specs.declared.notice.Notice.{Notice}
-use Rattle.rd_world.specs.Host.{HostSide, begins_on, ends_channel, hears, next_message, side_sends, tells_of}
-use Rattle.rd_world.specs.HostDeeds.{IsInRange, MayDo, side_of}
+use Rattle.rd_deeds.specs.Host.{HostSide, begins_on, ends_channel, hears, next_message, side_sends, tells_of}
+use Rattle.rd_deeds.specs.HostDeeds.{IsInRange, MayDo, side_of}
 use Rattle.rd_world.specs.Recording.{client_id}
-use Rattle.rd_world.specs.Talk.{Deed, adds, client_reads, client_writes, completes, host_begins, host_ends, host_reads, host_writes, open_channel, removes, stores, submits, takes, tells}
-use Rattle.rd_world.proofs.Calls.{Does}
-use Rattle.rd_world.proofs.Written.{sound_side}
+use Rattle.rd_deeds.specs.Talk.{Deed, adds, client_reads, client_writes, completes, host_begins, host_ends, host_reads, host_writes, open_channel, removes, stores, submits, takes, tells}
+use Rattle.rd_deeds.proofs.Calls.{Does}
+use Rattle.rd_deeds.proofs.Written.{sound_side}
 use Rattle.rd_runs.proofs.BelowLemmas.{below_is, channel_is, channels_below}
 
 -- The deeds lead to the host's side, which might do each of them. The channel that is open is the last that began; where none is, the host's own end has nothing

@@ -41,12 +41,13 @@ use Rattle.rd_runs.proofs.Insides.{IsInside, Outside, added_inside, all_dropped_
 use Rattle.rd_runs.proofs.KeysOnLemmas.{HeldOn, all_mapped, announced_on, applied_on, collected_on, idle_on, put_on, removed_on, took_on}
 use Rattle.rd_runs.proofs.Parts.{MayBe, Part, accepts, adds_one, announced_by, applies_one, begins, client_gets, client_hears_one, client_keeps_part, client_sends_one, collects_one, cut_by, done, draws_one, ends, hands_out, host_gets, host_hears_one, host_keeps_part, host_sends_one, idle_one, queues_one, refreshed_by, refuses, removes_one, takes_one, tells_one, told_added, told_removed, tries_one}
 use Rattle.rd_runs.proofs.Standing.{Stands, is_off, shut_now}
-use Rattle.rd_world.specs.declared.device.SessionDevice.{SessionDevice}
-use Rattle.rd_world.specs.Devices.{PrinterNames, device_cut}
+use Rattle.rd_declared.specs.declared.device.SessionDevice.{SessionDevice}
+use Rattle.rd_declared.specs.Devices.{PrinterNames, device_cut}
 use Rattle.rd_world.specs.Events.{came_of, dropping, is_channel_open, refreshing}
 use Rattle.rd_world.specs.Hearing.{after_opening, announcing, answers_directly, client_hears, heard_by_client, is_device_told, put_at, put_by, putting, refused_put, with_client}
-use Rattle.rd_world.specs.Run.{declared_devices, world_of}
-use Rattle.rd_world.specs.Talk.{client_reads}
+use Rattle.rd_declared.specs.Declaring.{declared_devices}
+use Rattle.rd_world.specs.Run.{world_of}
+use Rattle.rd_deeds.specs.Talk.{client_reads}
 use Rattle.rd_world.specs.World.{Kept, WorldState, station_at, with_deed, with_station}
 
 -- A message of the client answers a request of the channel, if it answers one; and where it is a completion, its body begins in bytes.

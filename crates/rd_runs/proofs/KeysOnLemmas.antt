@@ -27,7 +27,7 @@ use Rattle.rd_station.specs.declared.refusals.AnnounceNo.TheVariants as refused
 use Rattle.rd_station.specs.declared.refusals.PutWhy.{PutWhy}
 use Rattle.rd_station.specs.Station as station
 use Rattle.rd_station.specs.Station.{StationState, apply_from, cancelled_in_hand, cancelled_parked, cancelled_waiting, ended_completion, entry_count, is_ended, is_key, marked_removed, max_entries, own_completion, parked_after, put_refusal, put_unless, ran, take_first, without_taken}
-use Rattle.rd_world.specs.declared.device.SessionDevice.{SessionDevice}
+use Rattle.rd_declared.specs.declared.device.SessionDevice.{SessionDevice}
 use Rattle.rd_runs.proofs.IdleLemmas.{IsIdle}
 
 -- ---- lists

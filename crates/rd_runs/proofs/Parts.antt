@@ -27,14 +27,14 @@ use Rattle.rd_station.specs.Station as station
 use Rattle.rd_station.specs.Station.{StationState}
 use Rattle.rd_runs.specs.Moves.{IsOfLines, MayPass, RunMove, Reached, ReachedWithin, draws, event_weight, happens, idle, after_move, queues, weight}
 use Rattle.rd_runs.proofs.Reaching.{both, by_counted_moves}
-use Rattle.rd_world.specs.declared.device.SessionDevice.{SessionDevice}
-use Rattle.rd_world.specs.Devices.{PrinterNames, device_cut, printer_data}
+use Rattle.rd_declared.specs.declared.device.SessionDevice.{SessionDevice}
+use Rattle.rd_declared.specs.Devices.{PrinterNames, device_cut, printer_data}
 use Rattle.rd_world.specs.Events as event
 use Rattle.rd_world.specs.Events.{Event, act, applies_at, asks, client_has_message, collects_from, comes_of_asking, completion_message, connects, cutting, deed_on, hand_at, has_completion, host_has_message, is_channel_open, is_enabled, is_hand_free, is_read, is_ready, issues, issues_next, job_waits, may_issue, refusal_of, target_of, takes_job_from, telling_of, with_hand}
 use Rattle.rd_world.specs.Hearing.{client_handles, client_handles_all, client_handles_first, client_hears, ends_line, given_handle, host_handles, host_handles_first, host_hears, next_asked, putting, reported_outcome, takes_awaited, takes_from, takes_outcome, all_take, tries, tries_kept, with_client, with_outcome}
-use Rattle.rd_world.specs.Host.{next_message, side_sends}
+use Rattle.rd_deeds.specs.Host.{next_message, side_sends}
 use Rattle.rd_world.specs.Run.{drawing, idles, queueing, world_of}
-use Rattle.rd_world.specs.Talk.{EachAfter, adds, completes, removes, submits, takes}
+use Rattle.rd_deeds.specs.Talk.{EachAfter, adds, completes, removes, submits, takes}
 use Rattle.rd_world.specs.World.{ApplicationState, Asked, Kept, WorldState, application_at, client_sends, first_message, handling_by, having_read, host_sends, most_messages, station_at, with_application, with_deed, with_station, with_table}
 
 -- What passes at once. Of an application: a request is accepted, a line refused, an outcome taken. Of the host: it sends, gets bytes, keeps them as a part

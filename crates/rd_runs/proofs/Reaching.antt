@@ -17,7 +17,7 @@ use Rattle.rd_runs.specs.Moves.{IsOfLines, MayPass, RunMove, Reached, ReachedWit
 use Rattle.rd_world.proofs.PlayingLemmas.{may_connect}
 use Rattle.rd_world.specs.Events.{Event, act, add, apply_job, client_read, client_send, collect, connect, drop_channel, host_has_message, host_read, host_send, client_has_message, is_channel_open, is_enabled, is_read, issue, remove, take_job, tell}
 use Rattle.rd_world.specs.Run.{Most, NextStep, all_client_sends, all_host_sends, application_ids, asked_by, by_event, choices, chosen, client_reads_all, connects_on, controls, device_ids, does, drawing, drawn_count, ends_session, event, event_of, hand_numbers, host_count, host_reads_all, idles, is_quiet, notice_of, picked, plays, plays_line, queueing, reads_client, reads_host, rounds, run_of, settled, settles_by, some_left, takes_of, when_enabled, where_true, while_enabled, world_of}
-use Rattle.rd_world.specs.Talk.{EachAfter, Has}
+use Rattle.rd_deeds.specs.Talk.{EachAfter, Has}
 use Rattle.rd_world.specs.World.{Asked, WorldState}
 
 -- ---- induction

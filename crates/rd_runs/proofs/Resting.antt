@@ -15,10 +15,10 @@ use Rattle.rd_runs.proofs.Together.{known}
 use Rattle.rd_runs.proofs.WayLemmas.{IsUnderWay}
 use Rattle.rd_world.proofs.WayStreamLemmas.{first_of_one}
 use Rattle.rd_world.specs.Events.{client_has_message, client_read, host_has_message, host_read, is_empty, is_enabled, is_read}
-use Rattle.rd_world.specs.Host.{next_message}
+use Rattle.rd_deeds.specs.Host.{next_message}
 use Rattle.rd_world.specs.Run.{NextStep, choices, where_true}
-use Rattle.rd_world.specs.Talk.{client_wrote, host_wrote, open_channel}
-use Rattle.rd_world.specs.Talk as talk
+use Rattle.rd_deeds.specs.Talk.{client_wrote, host_wrote, open_channel}
+use Rattle.rd_deeds.specs.Talk as talk
 use Rattle.rd_world.specs.World.{Kept, WayState, WorldState, first_message}
 
 -- ---- what can't happen

@@ -35,7 +35,7 @@ use Rattle.rd_pending.specs.Table as table
 use Rattle.rd_pending.specs.Table.{Fate, Slot, TableState, Untaken, awaited, complete_in, device_in, freed, is_awaited, known, life_of, live_refusal, losing, lost_where, slot_for, submit_refusal, untaken_at, with_fate}
 use Rattle.rd_runs.proofs.FileNumbers.{BeginsInBytes, HasRoom, file_fits}
 use Rattle.rd_runs.proofs.KeysOnLemmas.{all_mapped}
-use Rattle.rd_world.specs.Host.{HostSide, admits, forgets, host_heard, lived}
+use Rattle.rd_deeds.specs.Host.{HostSide, admits, forgets, host_heard, lived}
 
 -- ---- entries
 

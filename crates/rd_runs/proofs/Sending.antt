@@ -28,12 +28,13 @@ use Rattle.rd_runs.proofs.KeysOn.{all_refreshed_kept, refreshed_kept}
 use Rattle.rd_runs.proofs.Parts.{IsBehind, MayBe, Part, accepts, adds_one, announced_by, applies_one, begins, by_parts, client_gets, client_hears_one, client_keeps_part, client_sends_one, collects_one, done, draws_one, ends, hands_out, host_gets, host_hears_one, host_keeps_part, host_sends_one, idle_one, queues_one, reached_behind, refreshed_by, refuses, removes_one, takes_one, tells_one, told_added, tries_one}
 use Rattle.rd_runs.proofs.SendingLemmas.{StationSends, announced_sends, applied_sends, came_sends, collected_sends, dropped_sends, put_sends, removed_sends, sendable_fits, took_sends}
 use Rattle.rd_runs.proofs.Sizes.{AreCompletionsFit}
-use Rattle.rd_world.specs.declared.device.SessionDevice.{SessionDevice}
-use Rattle.rd_world.specs.Devices.{Declared, PrinterNames, device_cut}
+use Rattle.rd_declared.specs.declared.device.SessionDevice.{SessionDevice}
+use Rattle.rd_declared.specs.Devices.{Declared, PrinterNames, device_cut}
 use Rattle.rd_world.specs.Events.{came_of, dropping, is_close}
 use Rattle.rd_world.specs.Hearing.{announcing, heard_by_client, put_at, put_by, putting, refused_put, with_client}
-use Rattle.rd_world.specs.Run.{declared_devices, station_of}
-use Rattle.rd_world.specs.Talk.{client_reads}
+use Rattle.rd_declared.specs.Declaring.{declared_devices}
+use Rattle.rd_world.specs.Run.{station_of}
+use Rattle.rd_deeds.specs.Talk.{client_reads}
 use Rattle.rd_world.specs.World.{WorldState, station_at, with_deed, with_station}
 
 -- each station's device is within its bounds, and what is ready can be sent

@@ -41,9 +41,9 @@ use Rattle.rd_station.specs.declared.refusals.AnnounceNo.TheVariants as refused
 use Rattle.rd_station.specs.declared.refusals.PutWhy.{PutWhy}
 use Rattle.rd_station.specs.Station as station
 use Rattle.rd_station.specs.Station.{StationState, apply_from, cancelled_in_hand, cancelled_parked, cancelled_waiting, emptied, ended_completion, entry_count, is_key, marked_removed, max_entries, own_completion, put_unless, ran}
-use Rattle.rd_world.specs.declared.device.SessionDevice.{SessionDevice}
-use Rattle.rd_world.specs.declared.device.SessionDevice.TheVariants as session
-use Rattle.rd_world.specs.Devices.{device_cut, device_step}
+use Rattle.rd_declared.specs.declared.device.SessionDevice.{SessionDevice}
+use Rattle.rd_declared.specs.declared.device.SessionDevice.TheVariants as session
+use Rattle.rd_declared.specs.Devices.{device_cut, device_step}
 
 -- ---- devices
 

@@ -43,13 +43,13 @@ use Rattle.rd_pending.specs.declared.calls.LiveNo.{LiveNo}
 use Rattle.rd_pending.specs.Table as table
 use Rattle.rd_pending.specs.Table.{TableState}
 use Rattle.rd_printer.specs.Cache.{CacheState, kept_for}
-use Rattle.rd_world.proofs.PrinterLemmas.{info_length}
+use Rattle.rd_declared.proofs.PrinterLemmas.{info_length}
 use Rattle.rd_world.proofs.ShortLemmas.{may_refresh, refresh_short}
 use Rattle.rd_world.proofs.ClientLemmas.{refresh_elsewhere}
-use Rattle.rd_world.specs.Devices.{PrinterNames, config_of, max_config, printer_data, zero_text}
-use Rattle.rd_world.specs.Host.{HostSide, admits, forgets, hears, host_heard, live_code, lived}
+use Rattle.rd_declared.specs.Devices.{PrinterNames, config_of, max_config, printer_data, zero_text}
+use Rattle.rd_deeds.specs.Host.{HostSide, admits, forgets, hears, host_heard, live_code, lived}
 use Rattle.rd_world.specs.Opening.{AreShort}
-use Rattle.rd_world.specs.Printers.{AreShortNames, max_printer_data}
+use Rattle.rd_declared.specs.Printers.{AreShortNames, max_printer_data}
 
 -- ---- a host's end
 

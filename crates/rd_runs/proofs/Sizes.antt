@@ -41,19 +41,20 @@ use Rattle.rd_runs.proofs.Parts.{MayBe, Part, accepts, adds_one, announced_by, a
 use Rattle.rd_runs.proofs.SizeLemmas.{ClientFits, added_fits, begun_fits, data_few, direct_fits, emptied_fits, heard_fits, refreshed_fits, removed_fits, sent_fits, side_heard_kept}
 use Rattle.rd_runs.proofs.Standing.{AreTellable, Stands}
 use Rattle.rd_world.proofs.OpenedLemmas.{opens_all}
-use Rattle.rd_world.proofs.OpeningLemmas.{declared_openable}
+use Rattle.rd_declared.proofs.DeclaringLemmas.{declared_openable}
 use Rattle.rd_world.proofs.ShortLemmas.{announces_first}
-use Rattle.rd_world.proofs.Written.{sound_side}
-use Rattle.rd_world.specs.declared.device.SessionDevice.{SessionDevice}
-use Rattle.rd_world.specs.Devices.{Declared, PrinterNames, announce_of, printer_data}
+use Rattle.rd_deeds.proofs.Written.{sound_side}
+use Rattle.rd_declared.specs.declared.device.SessionDevice.{SessionDevice}
+use Rattle.rd_declared.specs.Devices.{Declared, PrinterNames, announce_of, printer_data}
 use Rattle.rd_world.specs.Events.{completion_message, deed_on, dropping, refreshing}
 use Rattle.rd_world.specs.Hearing.{after_opening, announcing, client_hears, heard_by_client, is_device_told, put_at, put_by, putting, refused_put, with_client}
-use Rattle.rd_world.specs.Host.{HostSide, next_message, sent_from, side_sends}
-use Rattle.rd_world.specs.Opening.{AreDeclared, AreOpenable, AreShort, IsOpenable, bare_lines}
-use Rattle.rd_world.specs.Printers.{AreShortNames}
+use Rattle.rd_deeds.specs.Host.{HostSide, next_message, sent_from, side_sends}
+use Rattle.rd_declared.specs.Declaring.{AreDeclared, AreOpenable, IsOpenable, bare_lines, declared_devices}
+use Rattle.rd_world.specs.Opening.{AreShort}
+use Rattle.rd_declared.specs.Printers.{AreShortNames}
 use Rattle.rd_world.specs.Recording.{client_id}
-use Rattle.rd_world.specs.Run.{declared_devices, printers_of, station_of, world_of}
-use Rattle.rd_world.specs.Talk.{Deed, adds, client_reads, client_writes, completes, removes, stores}
+use Rattle.rd_world.specs.Run.{printers_of, station_of, world_of}
+use Rattle.rd_deeds.specs.Talk.{Deed, adds, client_reads, client_writes, completes, removes, stores}
 use Rattle.rd_world.specs.World.{WorldState, station_at, with_deed, with_station}
 
 abbrev AreShortPrinters : List (ℕ × PrinterNames) → Type 0

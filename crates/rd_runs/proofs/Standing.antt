@@ -26,14 +26,15 @@ use Rattle.rd_runs.proofs.IdleLemmas.{AreIdle, applied_all_idle, cut_idle, none_
 use Rattle.rd_runs.proofs.Insides.{AreOwn, IsInside, Outside, added_inside, all_dropped_inside, all_refreshed_inside, applied_inside, hears_inside, put_inside, removed_inside, stationed}
 use Rattle.rd_runs.proofs.Parts.{MayBe, Part, accepts, adds_one, applies_one, begins, client_gets, client_hears_one, client_keeps_part, client_sends_one, collects_one, done, draws_one, ends, hands_out, host_gets, host_hears_one, host_keeps_part, host_sends_one, idle_one, queues_one, refuses, removes_one, takes_one, tells_one, tries_one}
 use Rattle.rd_runs.proofs.Reaching.{both}
-use Rattle.rd_world.specs.declared.device.SessionDevice.{SessionDevice}
-use Rattle.rd_world.specs.Devices.{PrinterNames}
+use Rattle.rd_declared.specs.declared.device.SessionDevice.{SessionDevice}
+use Rattle.rd_declared.specs.Devices.{PrinterNames}
 use Rattle.rd_world.specs.Events.{completion_message, deed_on, dropping, is_channel_open, is_read, is_ready, refreshing, target_of}
 use Rattle.rd_world.specs.Hearing.{next_asked}
-use Rattle.rd_world.specs.HostDeeds.{IsInRange}
+use Rattle.rd_deeds.specs.HostDeeds.{IsInRange}
 use Rattle.rd_world.specs.Noting.{IsTellable}
-use Rattle.rd_world.specs.Run.{declared_devices, notice_of, world_of}
-use Rattle.rd_world.specs.Talk.{Deed, Has, adds, client_reads, client_writes, completes, open_channel, removes, stores, submits, takes}
+use Rattle.rd_declared.specs.Declaring.{declared_devices}
+use Rattle.rd_world.specs.Run.{notice_of, world_of}
+use Rattle.rd_deeds.specs.Talk.{Deed, Has, adds, client_reads, client_writes, completes, open_channel, removes, stores, submits, takes}
 use Rattle.rd_world.specs.World.{Asked, Kept, WayState, WorldState, application_at, first_message, with_deed, with_station}
 
 -- ---- the invariant

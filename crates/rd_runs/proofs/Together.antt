@@ -36,14 +36,14 @@ use Rattle.rd_runs.proofs.Sending.{completions_fit}
 use Rattle.rd_runs.proofs.Sizes.{Fits, fits_first, fits_step}
 use Rattle.rd_runs.proofs.Standing.{AreTellable, MayTake, Stands, needs_open, stands_first, stands_step}
 use Rattle.rd_runs.proofs.WayLemmas.{one_read}
-use Rattle.rd_world.proofs.Hearings.{Heard, heard}
-use Rattle.rd_world.specs.declared.device.SessionDevice.{SessionDevice}
-use Rattle.rd_world.specs.Devices.{PrinterNames}
+use Rattle.rd_deeds.proofs.Hearings.{Heard, heard}
+use Rattle.rd_declared.specs.declared.device.SessionDevice.{SessionDevice}
+use Rattle.rd_declared.specs.Devices.{PrinterNames}
 use Rattle.rd_world.specs.Events.{dropping}
 use Rattle.rd_world.specs.Hearing.{file_given, given_handle, holding_under, reported_outcome, with_outcome}
-use Rattle.rd_world.specs.Host.{sent_from}
+use Rattle.rd_deeds.specs.Host.{sent_from}
 use Rattle.rd_world.specs.Run.{asked_by, asking, world_of}
-use Rattle.rd_world.specs.Talk.{Deed, adds, client_reads, client_writes, client_wrote, completes, host_read, removes, stores}
+use Rattle.rd_deeds.specs.Talk.{Deed, adds, client_reads, client_writes, client_wrote, completes, host_read, removes, stores}
 use Rattle.rd_world.specs.World.{ApplicationState, Asked, WorldState, application_at, handle_named, new_application, with_application, with_deed, with_station}
 
 -- ---- what a client writes is safe to read

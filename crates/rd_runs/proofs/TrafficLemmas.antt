@@ -5,9 +5,9 @@ use Rattle.std.proofs.lemmas.Bool.{cases_eq}
 use Rattle.std.proofs.lemmas.Bool.Decides.{nat_tests}
 use Rattle.rd_base.specs.declared.journal.Key.{Key}
 use Rattle.rd_runs.proofs.WayLemmas.{IsUnderWay, none_under_way}
-use Rattle.rd_world.specs.Joining.{IsCarried}
+use Rattle.rd_deeds.specs.Joining.{IsCarried}
 use Rattle.rd_world.specs.Recording.{client_channel}
-use Rattle.rd_world.specs.Talk.{AtEachPoint, Deed, EachAfter, EndsWith, adds, client_read, client_reads, client_writes, client_wrote, completes, host_begins, host_ends, host_read, host_reads, host_writes, host_wrote, open_channel, removes, stores, submits, takes, tells}
+use Rattle.rd_deeds.specs.Talk.{AtEachPoint, Deed, EachAfter, EndsWith, adds, client_read, client_reads, client_writes, client_wrote, completes, host_begins, host_ends, host_read, host_reads, host_writes, host_wrote, open_channel, removes, stores, submits, takes, tells}
 use Rattle.rd_world.specs.World.{WayState, new_way}
 
 -- what was written and read on a channel, the newest first

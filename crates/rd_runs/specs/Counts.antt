@@ -1,7 +1,7 @@
 -- What is counted of a session's deeds.
 use Rattle.std.specs.Prelude.{ℕ, List, [], ◌∷◌}
 use Rattle.std.proofs.Common.{suc}
-use Rattle.rd_world.specs.Talk.{Deed, submits}
+use Rattle.rd_deeds.specs.Talk.{Deed, submits}
 
 -- how many requests were accepted_count, on all channels
 abbrev pub accepted_count : List Deed → ℕ

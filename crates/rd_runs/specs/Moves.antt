@@ -4,7 +4,7 @@ use Rattle.rd_base.specs.declared.journal.Key.{Key}
 use Rattle.rd_script.specs.declared.line.NumberedLine.{NumberedLine}
 use Rattle.rd_world.specs.Events.{Event, act, apply_job, client_read, client_send, collect, host_read, host_send, is_enabled, issue, take_job, tell}
 use Rattle.rd_world.specs.Run.{asked_by, drawing, idles, notice_of, queueing, world_of}
-use Rattle.rd_world.specs.Talk.{EachAfter, Has}
+use Rattle.rd_deeds.specs.Talk.{EachAfter, Has}
 use Rattle.rd_world.specs.World.{Asked, WorldState}
 
 -- What passes: an event, one more line of an application that is queued, a line by its number that did nothing, or a draw.

@@ -6,13 +6,12 @@ use Rattle.rd_irp.specs.Fits.{Fits}
 use Rattle.rd_irp.specs.Written.{IsOpInRange}
 use Rattle.rd_pending.specs.declared.calls.Handle.{Handle}
 use Rattle.rd_script.specs.declared.line.NumberedLine.{NumberedLine}
-use Rattle.rd_world.specs.declared.device.SessionDevice.{SessionDevice}
-use Rattle.rd_world.specs.declared.device.SessionDevice.TheVariants as session
-use Rattle.rd_world.specs.Devices.{Declared}
-use Rattle.rd_world.specs.Noting.{AreNotable}
-use Rattle.rd_world.specs.Opening.{AreDeclared, bare_lines}
-use Rattle.rd_world.specs.Run.{asked_by, declared_devices}
-use Rattle.rd_world.specs.Talk.{Has}
+use Rattle.rd_declared.specs.declared.device.SessionDevice.{SessionDevice}
+use Rattle.rd_declared.specs.declared.device.SessionDevice.TheVariants as session
+use Rattle.rd_declared.specs.Devices.{Declared}
+use Rattle.rd_declared.specs.Declaring.{AreDeclared, AreNotable, bare_lines, declared_devices}
+use Rattle.rd_world.specs.Run.{asked_by}
+use Rattle.rd_deeds.specs.Talk.{Has}
 use Rattle.rd_world.specs.World.{Asked}
 
 -- What a line asks for fits a request, whose fields have room for its numbers.

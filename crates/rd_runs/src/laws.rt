@@ -11,12 +11,12 @@ ghost use Rattle.rd_script.specs.Script.{script_of};
 ghost use Rattle.rd_runs.specs.Counts.{accepted_count};
 ghost use Rattle.rd_runs.specs.Moves.{Reached};
 ghost use Rattle.rd_runs.specs.Premises.{IsHandleInRange, RunPremises};
-ghost use Rattle.rd_world.specs.Host.{next_message};
-ghost use Rattle.rd_world.specs.HostDeeds.{MayDo, side_of};
-ghost use Rattle.rd_world.specs.Joining.{IsCarried};
+ghost use Rattle.rd_deeds.specs.Host.{next_message};
+ghost use Rattle.rd_deeds.specs.HostDeeds.{MayDo, side_of};
+ghost use Rattle.rd_deeds.specs.Joining.{IsCarried};
 ghost use Rattle.rd_world.specs.Recording.{client_channel, client_id, written_by};
 ghost use Rattle.rd_world.specs.Run.{Most, WorldRun, choices, run_of};
-ghost use Rattle.rd_world.specs.Talk.{AtEachPoint, EachAfter, client_read, client_wrote, host_read, host_wrote, open_channel};
+ghost use Rattle.rd_deeds.specs.Talk.{AtEachPoint, EachAfter, client_read, client_wrote, host_read, host_wrote, open_channel};
 ghost use Rattle.rd_world.specs.World.{WorldState, application_at, handle_named, marks_of};
 
 /// A run is moves, one after the other: events that can happen, lines that are queued, lines that did nothing, and draws. Where it ends nothing more can

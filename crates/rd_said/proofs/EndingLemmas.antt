@@ -22,12 +22,12 @@ use Rattle.rd_acted.specs.JournalsStanding.{IsNamed, IsOut, IsStanding, IsUnserv
 use Rattle.rd_acted.proofs.RunsKeysOn.{AnswersOn}
 use Rattle.rd_station.specs.Station as station
 use Rattle.rd_station.specs.Station.{StationState}
-use Rattle.rd_world.specs.Devices.{Declared, device_cut}
+use Rattle.rd_declared.specs.Devices.{Declared, device_cut}
 use Rattle.rd_world.specs.Events.{cutting, dropping}
-use Rattle.rd_world.specs.Talk.{Deed, EndsWith, Has, client_read, host_ends, is_request, journal, stores}
-use Rattle.rd_world.specs.Told.{came, requests_to, told, without_last}
+use Rattle.rd_deeds.specs.Talk.{Deed, EndsWith, Has, client_read, host_ends, is_request, journal, stores}
+use Rattle.rd_deeds.specs.Told.{came, requests_to, told, without_last}
 use Rattle.rd_world.specs.World.{Kept, WorldState, station_at, with_station}
-use Rattle.rd_world.specs.declared.device.SessionDevice.{SessionDevice}
+use Rattle.rd_declared.specs.declared.device.SessionDevice.{SessionDevice}
 use Rattle.rd_said.proofs.LastLemmas.{IsKeptLast, last_asked, requests_end}
 use Rattle.rd_said.proofs.SameLemmas.{SameOn, same_by, same_none, same_one}
 use Rattle.rd_said.specs.Rest.{IsAnswerOn, RefusesUnserved, WasLeft}

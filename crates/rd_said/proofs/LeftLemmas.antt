@@ -32,20 +32,19 @@ use Rattle.rd_station.specs.Station.{StationState}
 use Rattle.rd_acted.proofs.RestTurnsLemmas.{reached_in_turn}
 use Rattle.rd_acted.proofs.ToldOpenLemmas.{stored_open}
 use Rattle.rd_world.proofs.BeginningLemmas.{begun_by}
-use Rattle.rd_world.proofs.Lists.{each_end}
+use Rattle.rd_deeds.proofs.Lists.{each_end}
 use Rattle.rd_world.proofs.OpeningLemmas.{lines_begin}
-use Rattle.rd_world.specs.Devices.{Declared, PrinterNames}
+use Rattle.rd_declared.specs.Devices.{Declared, PrinterNames}
 use Rattle.rd_world.specs.Events as event
 use Rattle.rd_world.specs.Events.{Event, act, connects, cutting, dropping, is_enabled, refreshing}
 use Rattle.rd_world.specs.Hearing.{with_client}
 use Rattle.std.specs.Option.{IfSome}
-use Rattle.rd_world.specs.Opening.{bare_lines}
+use Rattle.rd_declared.specs.Declaring.{bare_lines, declared_devices}
 use Rattle.rd_world.specs.Recording.{client_channel}
-use Rattle.rd_world.specs.Run.{declared_devices}
 use Rattle.rd_world.specs.Session.{IsStoredOpen}
-use Rattle.rd_world.specs.Talk.{Deed, EachAfter, has_ended, host_begins, open_channel}
+use Rattle.rd_deeds.specs.Talk.{Deed, EachAfter, has_ended, host_begins, open_channel}
 use Rattle.rd_world.specs.World.{WorldState, station_at}
-use Rattle.rd_world.specs.declared.device.SessionDevice.{SessionDevice}
+use Rattle.rd_declared.specs.declared.device.SessionDevice.{SessionDevice}
 use Rattle.rd_said.proofs.EndingLemmas.{GoesOn, cutting_same, left_now}
 use Rattle.rd_said.proofs.LastLemmas.{behind_last}
 use Rattle.rd_said.proofs.PartLemmas.{IsWithin, Passes, part_passes, passes_inside}

@@ -5,8 +5,8 @@ use Rattle.rd_base.specs.declared.journal.Key.{Key}
 use Rattle.rd_acted.proofs.RunsInsides.{AreOwn, IsInside, Outside, added_inside, applied_inside, hears_inside, put_inside, removed_inside, stationed}
 use Rattle.rd_acted.proofs.RunsParts.{Part, accepts, adds_one, applies_one, begins, client_gets, client_hears_one, client_keeps_part, client_sends_one, collects_one, done, draws_one, ends, hands_out, host_gets, host_hears_one, host_keeps_part, host_sends_one, idle_one, queues_one, refuses, removes_one, takes_one, tells_one, tries_one}
 use Rattle.rd_world.specs.Events.{completion_message, deed_on}
-use Rattle.rd_world.specs.Talk as deed
-use Rattle.rd_world.specs.Talk.{Deed, client_reads, client_writes, completes}
+use Rattle.rd_deeds.specs.Talk as deed
+use Rattle.rd_deeds.specs.Talk.{Deed, client_reads, client_writes, completes}
 use Rattle.rd_world.specs.World.{WorldState, handling_by, with_deed, with_station}
 use Rattle.rd_said.proofs.SameLemmas.{ArePassing, IsPassing}
 

@@ -14,11 +14,11 @@ use Rattle.rd_client.specs.Core.{Outgoing}
 use Rattle.rd_acted.specs.DirectsTurns.{never, said}
 use Rattle.rd_world.specs.Acts.{Tells, is_telling, of_channel, tellings_on}
 use Rattle.rd_world.specs.Control.{Telling}
-use Rattle.rd_world.specs.Devices.{Declared}
+use Rattle.rd_declared.specs.Devices.{Declared}
 use Rattle.rd_world.specs.Events.{deed_on}
 use Rattle.rd_world.specs.Session.{IsLeftOver}
-use Rattle.rd_world.specs.Talk.{Deed, EachAfter, EndsWith, Has, client_read, client_writes, client_wrote, completes, journal, request_at}
-use Rattle.rd_world.specs.Told.{Answers, IsLeft, Replies, came, requests_to, told, without_last}
+use Rattle.rd_deeds.specs.Talk.{Deed, EachAfter, EndsWith, Has, client_read, client_writes, client_wrote, completes, journal, request_at}
+use Rattle.rd_deeds.specs.Told.{Answers, IsLeft, Replies, came, requests_to, told, without_last}
 use Rattle.rd_said.specs.Rest.{IsAnswerOn, RefusesUnserved, WasLeft, deeds_then}
 
 -- ---- one message

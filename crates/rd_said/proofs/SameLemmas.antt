@@ -14,11 +14,11 @@ use Rattle.rd_client.specs.Core.{Outgoing}
 use Rattle.rd_acted.specs.DirectsTurns.{never, said}
 use Rattle.rd_world.specs.Acts.{Tells, cache_after, is_telling, list_of, tellings_on}
 use Rattle.rd_world.specs.Control.{Telling, addition, lists, removal}
-use Rattle.rd_world.specs.Devices.{Declared}
+use Rattle.rd_declared.specs.Devices.{Declared}
 use Rattle.rd_world.specs.Recording.{client_channel}
 use Rattle.rd_world.specs.Session.{IsStoredOpen}
-use Rattle.rd_world.specs.Talk.{Deed, EachAfter, Has, adds, client_read, client_reads, client_writes, client_wrote, completes, has_ended, host_begins, host_ends, host_reads, host_writes, is_open_at, journal, open_channel, removes, request_at, stores, submits, takes, tells, until_begin}
-use Rattle.rd_world.specs.Told.{came, came_as, requests_to, told, without_last}
+use Rattle.rd_deeds.specs.Talk.{Deed, EachAfter, Has, adds, client_read, client_reads, client_writes, client_wrote, completes, has_ended, host_begins, host_ends, host_reads, host_writes, is_open_at, journal, open_channel, removes, request_at, stores, submits, takes, tells, until_begin}
+use Rattle.rd_deeds.specs.Told.{came, came_as, requests_to, told, without_last}
 use Rattle.rd_said.specs.Rest.{IsAnswerOn, WasLeft}
 
 -- what is said of a channel, and what came of it, is what was

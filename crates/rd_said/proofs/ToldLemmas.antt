@@ -21,11 +21,10 @@ use Rattle.rd_script.specs.declared.line.NumberedLine.{NumberedLine}
 use Rattle.rd_script.specs.declared.script.Script.{Script}
 use Rattle.rd_world.proofs.NumberedLemmas.{scripts_are_numbered}
 use Rattle.rd_world.specs.Control.{Telling}
-use Rattle.rd_world.specs.Devices.{Declared}
-use Rattle.rd_world.specs.Opening.{bare_lines}
-use Rattle.rd_world.specs.Run.{declared_devices}
+use Rattle.rd_declared.specs.Devices.{Declared}
+use Rattle.rd_declared.specs.Declaring.{bare_lines, declared_devices}
 use Rattle.rd_world.specs.Session.{IsLeftOver, replies_in}
-use Rattle.rd_world.specs.Talk.{Deed, has_ended, open_channel}
+use Rattle.rd_deeds.specs.Talk.{Deed, has_ended, open_channel}
 use Rattle.rd_world.specs.World.{WorldState}
 use Rattle.rd_said.proofs.LeftLemmas.{reached_over, waits_so}
 use Rattle.rd_said.proofs.RestLemmas.{left_over}

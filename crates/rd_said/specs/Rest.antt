@@ -10,10 +10,10 @@ use Rattle.rd_client.specs.Core.{Outgoing}
 use Rattle.rd_acted.specs.DirectsTurns.{never, said}
 use Rattle.rd_acted.specs.JournalsJobs.{IsAnswerOf, IsRefusalOf}
 use Rattle.rd_world.specs.Acts.{Tells, tellings_on}
-use Rattle.rd_world.specs.Devices.{Declared}
+use Rattle.rd_declared.specs.Devices.{Declared}
 use Rattle.rd_world.specs.Events.{deed_on}
-use Rattle.rd_world.specs.Talk.{Deed, EndsWith, Has, client_read, client_wrote, journal}
-use Rattle.rd_world.specs.Told.{came, requests_to, told, without_last}
+use Rattle.rd_deeds.specs.Talk.{Deed, EndsWith, Has, client_read, client_wrote, journal}
+use Rattle.rd_deeds.specs.Told.{came, requests_to, told, without_last}
 
 -- what was done once all of this was written on a channel
 abbrev pub deeds_then : ℕ → List Outgoing → List Deed → List Deed

@@ -12,11 +12,10 @@ ghost use Rattle.rd_script.specs.Script.{script_of};
 ghost use Rattle.rd_script.specs.declared.keyword.Mode.{Mode};
 ghost use Rattle.rd_script.specs.declared.line.NumberedLine.{NumberedLine};
 ghost use Rattle.rd_script.specs.declared.script.Script.{Script};
-ghost use Rattle.rd_world.specs.Devices.{Declared};
-ghost use Rattle.rd_world.specs.Opening.{bare_lines};
-ghost use Rattle.rd_world.specs.Run.{declared_devices};
+ghost use Rattle.rd_declared.specs.Devices.{Declared};
+ghost use Rattle.rd_declared.specs.Declaring.{bare_lines, declared_devices};
 ghost use Rattle.rd_world.specs.Session.{IsLeftOver, replies_in};
-ghost use Rattle.rd_world.specs.Talk.{Deed, has_ended, open_channel};
+ghost use Rattle.rd_deeds.specs.Talk.{Deed, has_ended, open_channel};
 ghost use Rattle.rd_world.specs.World.{WorldState};
 
 /// Of each channel that ended something was left to be said, maybe nothing, with which no request there was passed over but for the last, and by which no more was told of devices than is due by what was done.

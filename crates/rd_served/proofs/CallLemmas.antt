@@ -35,7 +35,7 @@ use Rattle.rd_station.proofs.Calls.{did_run}
 use Rattle.rd_station.proofs.Members.{all_of, find_has, has_append, to_contains}
 use Rattle.rd_station.proofs.Remembering.{has_any}
 use Rattle.rd_station.proofs.Soundness.{cancelled_then, collected_first, ran_then, removed_then, sound_announce, sound_cancel, sound_collect, sound_drop, sound_new, sound_put, sound_remove, sound_run, sound_take, taken_first}
-use Rattle.rd_world.specs.Talk.{Has}
+use Rattle.rd_deeds.specs.Talk.{Has}
 use Rattle.rd_world.proofs.KeysLemmas.{Comes}
 use Rattle.rd_journals.proofs.CallLemmas.{NoKey, OfJob}
 use Rattle.rd_served.specs.OnChannel.{HoldsNone, IsKeptOn}

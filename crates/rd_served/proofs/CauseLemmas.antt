@@ -41,8 +41,8 @@ use Rattle.rd_station.specs.declared.refusals.PutWhy.TheVariants as why
 use Rattle.rd_station.proofs.Members.{to_contains}
 use Rattle.rd_station.proofs.Remembering.{came_named}
 use Rattle.rd_turn.specs.declared.object.Entry.{Entry}
-use Rattle.rd_world.specs.Devices.{PrinterNames, printer_data}
-use Rattle.rd_world.specs.Talk.{Deed, Has, adds, client_read, client_reads, is_request, journal, removes, request_at, request_in, stores}
+use Rattle.rd_declared.specs.Devices.{PrinterNames, printer_data}
+use Rattle.rd_deeds.specs.Talk.{Deed, Has, adds, client_read, client_reads, is_request, journal, removes, request_at, request_in, stores}
 use Rattle.rd_world.specs.World.{Kept}
 use Rattle.rd_journals.specs.Jobs.{IsIdOf, IsJobOf}
 use Rattle.rd_journals.proofs.AskingLemmas.{HeardAs, hears}

@@ -26,7 +26,7 @@ use Rattle.rd_station.specs.Station.{held}
 use Rattle.rd_station.specs.declared.answers.Completion.{Completion}
 use Rattle.rd_station.proofs.Members.{has_append, to_contains}
 use Rattle.rd_turn.specs.declared.object.Entry.{Entry}
-use Rattle.rd_world.specs.Talk.{Deed, Has, stores}
+use Rattle.rd_deeds.specs.Talk.{Deed, Has, stores}
 use Rattle.rd_journals.specs.Reads.{IsGiven}
 use Rattle.rd_journals.proofs.WritingLemmas.{AddsOwn, adds_own, hear_adds, list_own, removal_own}
 use Rattle.rd_served.specs.Deeds.{AreOnChannel, EachOnChannel, PartsOnChannel, deeds_of, sent_by, stored, stored_each}

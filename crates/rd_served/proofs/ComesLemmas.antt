@@ -18,7 +18,7 @@ use Rattle.rd_hello.specs.declared.end_fault.EndFault.TheVariants as fault
 use Rattle.rd_station.specs.Station.{StationCall, applies, takes}
 use Rattle.rd_station.proofs.Members.{has_append}
 use Rattle.rd_turn.specs.declared.object.Entry.{Entry}
-use Rattle.rd_world.specs.Talk.{Deed, EachAfter, Has, request_at, stores}
+use Rattle.rd_deeds.specs.Talk.{Deed, EachAfter, Has, request_at, stores}
 use Rattle.rd_world.proofs.KeysLemmas.{Comes}
 use Rattle.rd_journals.specs.Reads.{ComesRead, IsRead}
 use Rattle.rd_journals.proofs.HeldLemmas.{stored_unread, turned_has}

@@ -7,7 +7,7 @@ use Rattle.std.proofs.lemmas.List.Elements.{filter_map-append}
 use Rattle.rd_base.specs.declared.journal.Item.{Item}
 use Rattle.rd_base.specs.declared.journal.Key.{Key}
 use Rattle.rd_hello.specs.declared.end_fault.EndFault.TheVariants as fault
-use Rattle.rd_world.specs.Talk.{Deed, stores}
+use Rattle.rd_deeds.specs.Talk.{Deed, stores}
 use Rattle.rd_served.specs.Deeds.{deeds_after, deeds_of, message_read, message_written, sent_by, stored, stored_each}
 use Rattle.rd_served.specs.Parts.{FrontPart, begins, calls, directs, ends, forgets, handed_by, heard_in, keeps, learns, misplaces, refreshes, sends, tells_gone, tells_there, tries, unwritten, writes}
 use Rattle.rd_served.specs.Parts as part

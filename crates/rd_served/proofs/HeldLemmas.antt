@@ -34,7 +34,7 @@ use Rattle.rd_station.proofs.Holding.{in_held}
 use Rattle.rd_station.proofs.Keeping as keeping
 use Rattle.rd_station.proofs.Keeping.{held_at}
 use Rattle.rd_station.proofs.Members.{find_has, from_contains, has_append, has_left, has_map, has_right, same_key, to_contains}
-use Rattle.rd_world.specs.Talk.{Has}
+use Rattle.rd_deeds.specs.Talk.{Has}
 use Rattle.rd_journals.specs.Jobs.{OwnsAll}
 use Rattle.rd_journals.proofs.CallLemmas.{OfJob}
 use Rattle.rd_served.specs.Served.{IsWork, Works}

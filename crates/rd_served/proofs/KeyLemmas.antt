@@ -34,9 +34,9 @@ use Rattle.rd_station.specs.Station as station
 use Rattle.rd_station.specs.Station.{MayPut, new_station, puts, puts_unfit}
 use Rattle.rd_turn.specs.declared.object.Entry.{Entry}
 use Rattle.rd_turn.specs.History.{Leads}
-use Rattle.rd_world.specs.Devices.{PrinterNames, printer_data}
+use Rattle.rd_declared.specs.Devices.{PrinterNames, printer_data}
 use Rattle.rd_station.proofs.Calls.{reached_kept}
-use Rattle.rd_world.specs.Talk.{Has}
+use Rattle.rd_deeds.specs.Talk.{Has}
 use Rattle.rd_world.specs.World.{Kept}
 use Rattle.rd_journals.specs.Reads.{IsGiven}
 use Rattle.rd_journals.proofs.AskingLemmas.{HeardAs, hears}

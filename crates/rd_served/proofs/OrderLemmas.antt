@@ -26,7 +26,7 @@ use Rattle.rd_hello.specs.declared.end_fault.EndFault.TheVariants as fault
 use Rattle.rd_station.specs.declared.refusals.PutWhy.TheVariants as why
 use Rattle.rd_turn.specs.declared.object.Entry.{Entry}
 use Rattle.rd_world.specs.Events.{completion_message}
-use Rattle.rd_world.specs.Joining.{Stands}
+use Rattle.rd_deeds.specs.Joining.{Stands}
 use Rattle.rd_journals.specs.Standing.{IsOut}
 use Rattle.rd_front.specs.Calls.{RanOut}
 use Rattle.rd_served.specs.Histories.{Among, HistoryGoes}
@@ -46,8 +46,8 @@ use Rattle.rd_station.specs.declared.refusals.AnnounceNo.{AnnounceNo}
 use Rattle.rd_station.specs.declared.refusals.AnnounceNo.TheVariants as unannounced
 use Rattle.rd_station.specs.declared.refusals.PutWhy.{PutWhy}
 use Rattle.rd_station.proofs.Members.{has_append}
-use Rattle.rd_world.specs.Talk.{Deed, EachAfter, Has, completes, is_completion_of, journal, on, stores}
-use Rattle.rd_world.specs.Told.{came, sent}
+use Rattle.rd_deeds.specs.Talk.{Deed, EachAfter, Has, completes, is_completion_of, journal, on, stores}
+use Rattle.rd_deeds.specs.Told.{came, sent}
 use Rattle.rd_journals.proofs.CameLemmas.{came_true, never_came}
 use Rattle.rd_journals.proofs.HeldLemmas.{turned_has}
 use Rattle.rd_served.specs.Deeds.{completed, deeds_after, deeds_of, deeds_of_calls, sent_by, stored, stored_each}

@@ -32,7 +32,7 @@ use Rattle.rd_station.specs.declared.refusals.PutWhy.{PutWhy}
 use Rattle.rd_station.specs.declared.refusals.PutWhy.TheVariants as why
 use Rattle.rd_station.proofs.Calls.{did_run}
 use Rattle.rd_station.proofs.Members.{filter_has, find_has, has_append, map_has, same_key}
-use Rattle.rd_world.specs.Talk.{Has}
+use Rattle.rd_deeds.specs.Talk.{Has}
 use Rattle.rd_journals.specs.Jobs.{OwnsAll}
 use Rattle.rd_journals.proofs.CallLemmas.{OfJob}
 

@@ -42,10 +42,10 @@ use Rattle.rd_station.specs.declared.answers.Completion.{Completion}
 use Rattle.rd_station.proofs.Members.{has_append, has_left, has_right, same_key, to_contains}
 use Rattle.rd_station.proofs.Remembering.{came_named, names_left}
 use Rattle.rd_turn.specs.declared.object.Entry.{Entry}
-use Rattle.rd_world.specs.Devices.{PrinterNames, printer_data}
+use Rattle.rd_declared.specs.Devices.{PrinterNames, printer_data}
 use Rattle.rd_world.specs.Events.{completion_message}
-use Rattle.rd_world.specs.Joining.{Stands}
-use Rattle.rd_world.specs.Talk.{Deed, EachAfter, Has, adds, client_reads, client_writes, completes, is_completion_of, journal, removes, request_at, stores}
+use Rattle.rd_deeds.specs.Joining.{Stands}
+use Rattle.rd_deeds.specs.Talk.{Deed, EachAfter, Has, adds, client_reads, client_writes, completes, is_completion_of, journal, removes, request_at, stores}
 use Rattle.rd_world.specs.World.{Kept}
 use Rattle.rd_journals.specs.Reads.{ComesRead, IsGiven, IsRead}
 use Rattle.rd_journals.specs.Standing.{IsOut}

@@ -31,7 +31,7 @@ use Rattle.rd_station.specs.declared.refusals.PutWhy.TheVariants as why
 use Rattle.rd_station.proofs.Calls.{reached_kept}
 use Rattle.rd_station.proofs.Members.{from_contains, has_append, to_contains}
 use Rattle.rd_station.proofs.Remembering.{came_named}
-use Rattle.rd_world.specs.Talk.{Has}
+use Rattle.rd_deeds.specs.Talk.{Has}
 use Rattle.rd_world.proofs.KeysLemmas.{Comes, MayStore}
 
 -- ---- what it stores

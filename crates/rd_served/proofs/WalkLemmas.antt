@@ -46,9 +46,9 @@ use Rattle.rd_station.specs.declared.refusals.PutWhy.TheVariants as why
 use Rattle.rd_turn.specs.declared.object.Entry.{Entry}
 use Rattle.rd_turn.specs.History.{Leads}
 use Rattle.rd_world.specs.Control.{Act, added, removed}
-use Rattle.rd_world.specs.Devices.{PrinterNames, printer_data}
+use Rattle.rd_declared.specs.Devices.{PrinterNames, printer_data}
 use Rattle.rd_world.specs.Events.{completion_message}
-use Rattle.rd_world.specs.Talk.{Has}
+use Rattle.rd_deeds.specs.Talk.{Has}
 use Rattle.rd_world.specs.World.{Kept}
 use Rattle.rd_front.specs.Calls.{RanOut, hinders}
 use Rattle.rd_served.specs.Histories.{Among, AreFollowed, AreStationed, CallGoes, FollowsAt, HearBefore, HearsAs, HearsBefore, HistoryGoes, IsFollowed, IsHeardBy, OpensEach, StartsBy, TellsOnce, handed_out, may_start, stopped_by}

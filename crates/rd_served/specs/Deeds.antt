@@ -17,8 +17,8 @@ use Rattle.rd_irp.specs.declared.request.Request.{Request}
 use Rattle.rd_station.specs.declared.refusals.PutNo.{PutNo}
 use Rattle.rd_turn.specs.declared.object.Entry.{Entry}
 use Rattle.rd_world.specs.Events.{completion_message}
-use Rattle.rd_world.specs.Talk.{Deed, Has, adds, client_read, client_reads, client_writes, completes, journal, on, removes, request_at, stores}
-use Rattle.rd_world.specs.Told.{came, sent}
+use Rattle.rd_deeds.specs.Talk.{Deed, Has, adds, client_read, client_reads, client_writes, completes, journal, on, removes, request_at, stores}
+use Rattle.rd_deeds.specs.Told.{came, sent}
 use Rattle.rd_served.specs.Histories.{HistoryGoes}
 use Rattle.rd_served.specs.Served.{Served}
 use Rattle.rd_served.specs.Parts.{FrontPart, PartsGo, calls, ends, hears, sends, tells_gone, tells_there, writes}

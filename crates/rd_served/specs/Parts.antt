@@ -27,7 +27,7 @@ use Rattle.rd_station.specs.declared.refusals.PutWhy.{PutWhy}
 use Rattle.rd_station.specs.declared.refusals.PutWhy.TheVariants as why
 use Rattle.rd_world.specs.Control.{Act, added, removed}
 use Rattle.rd_world.specs.Events.{completion_message}
-use Rattle.rd_world.specs.Talk.{Has}
+use Rattle.rd_deeds.specs.Talk.{Has}
 use Rattle.rd_world.specs.World.{Kept}
 use Rattle.rd_served.specs.Served.{Asking, CallsDesk, Served, asks, hands, idle, refused}
 

@@ -12,8 +12,8 @@ use Rattle.rd_front.specs.State.{DeviceDeskState, SessionStation}
 use Rattle.rd_hello.specs.declared.end_fault.EndFault.TheVariants as fault
 use Rattle.rd_served_order.proofs.JournalsHeldLemmas.{turned_has}
 use Rattle.rd_station.specs.declared.answers.Completion.{Completion}
-use Rattle.rd_world.specs.Talk.{Deed, EndsWith, Has, adds, client_read, client_reads, client_writes, client_wrote, completes, host_begins, host_ends, host_reads, host_writes, journal, read_by_client, removes, stored_by, stores, submits, takes, tells, written_by_client}
-use Rattle.rd_world.specs.Told.{came, came_as, is_of_device, requests_to, told, told_at, without_last}
+use Rattle.rd_deeds.specs.Talk.{Deed, EndsWith, Has, adds, client_read, client_reads, client_writes, client_wrote, completes, host_begins, host_ends, host_reads, host_writes, journal, read_by_client, removes, stored_by, stores, submits, takes, tells, written_by_client}
+use Rattle.rd_deeds.specs.Told.{came, came_as, is_of_device, requests_to, told, told_at, without_last}
 use Rattle.rd_served_order.proofs.ServedComesLemmas.{called_comes, end_comes_none}
 use Rattle.rd_served_order.proofs.ServedKeyLemmas.{IsKeyed, both_true}
 use Rattle.rd_served_order.proofs.ServedStandingLemmas.{sent_first}

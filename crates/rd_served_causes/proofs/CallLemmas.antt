@@ -25,7 +25,7 @@ use Rattle.rd_irp.specs.declared.request.Request.{Request}
 use Rattle.rd_served_order.proofs.JournalsWorkLemmas.{grown_more}
 use Rattle.rd_served_order.specs.JournalsJobs.{AreFine, FitsCompletion}
 use Rattle.rd_turn.specs.declared.object.Entry.{Entry}
-use Rattle.rd_world.specs.Talk.{Deed, client_read, request_at}
+use Rattle.rd_deeds.specs.Talk.{Deed, client_read, request_at}
 use Rattle.rd_world.specs.World.{Kept}
 use Rattle.rd_served_order.proofs.ServedCauseLemmas.{new_at}
 use Rattle.rd_served_order.proofs.ServedKeyLemmas.{IsUnder}

@@ -24,7 +24,7 @@ use Rattle.rd_hello.specs.declared.end_fault.EndFault.{EndFault}
 use Rattle.rd_hello.specs.declared.end_fault.EndFault.TheVariants as fault
 use Rattle.rd_station.specs.Station as station
 use Rattle.rd_turn.specs.declared.object.Entry.{Entry}
-use Rattle.rd_world.specs.Talk.{Deed, EachAfter, Has, client_reads, is_removed, stores}
+use Rattle.rd_deeds.specs.Talk.{Deed, EachAfter, Has, client_reads, is_removed, stores}
 use Rattle.rd_served_order.proofs.ServedCauseLemmas.{found}
 use Rattle.rd_served_order.proofs.ServedStandingLemmas.{IsKnownAt, begins_known, part_known}
 use Rattle.rd_served_order.specs.ServedDeeds.{deeds_after, deeds_of, deeds_of_calls, sent_by, stored, stored_each}

@@ -27,8 +27,8 @@ use Rattle.rd_served_order.proofs.JournalsHeldLemmas.{turned_has}
 use Rattle.rd_served_order.proofs.JournalsShortLemmas.{came_read}
 use Rattle.rd_station.specs.declared.answers.Completion.{Completion}
 use Rattle.rd_world.specs.Events.{completion_message}
-use Rattle.rd_world.specs.Talk.{Deed, EachAfter, Has, adds, client_reads, client_writes, client_wrote, completes, head_in, journal, on, removes, stores, written_by_client}
-use Rattle.rd_world.specs.Told.{ComesUnworn, came, came_as, is_of_device, says_worn}
+use Rattle.rd_deeds.specs.Talk.{Deed, EachAfter, Has, adds, client_reads, client_writes, client_wrote, completes, head_in, journal, on, removes, stores, written_by_client}
+use Rattle.rd_deeds.specs.Told.{ComesUnworn, came, came_as, is_of_device, says_worn}
 use Rattle.rd_served_order.proofs.ServedCauseLemmas.{found, stored_elsewhere, stored_here}
 use Rattle.rd_served_order.proofs.ServedComesLemmas.{ComesBy, called_comes, end_comes_none}
 use Rattle.rd_served_order.proofs.ServedKeyLemmas.{IsKeyed, IsUnder, refreshed_calm}

@@ -21,8 +21,8 @@ use Rattle.rd_turn.specs.declared.object.Entry.{Entry}
 use Rattle.rd_world.specs.Acts.{is_telling, tellings_on}
 use Rattle.rd_world.specs.Control.{Act, added, removed}
 use Rattle.rd_world.specs.Events.{deed_on}
-use Rattle.rd_world.specs.Talk.{Deed, EachAfter, Has, client_wrote, client_writes, completes, is_removed, journal, request_at}
-use Rattle.rd_world.specs.Told.{Answers, IsDirect, IsLeft, Replies, is_said_gone, worn_entries}
+use Rattle.rd_deeds.specs.Talk.{Deed, EachAfter, Has, client_wrote, client_writes, completes, is_removed, journal, request_at}
+use Rattle.rd_deeds.specs.Told.{Answers, IsDirect, IsLeft, Replies, is_said_gone, worn_entries}
 use Rattle.rd_served_order.proofs.ServedChannelLemmas.{begins_here, history_on}
 use Rattle.rd_served_order.proofs.ServedKeyLemmas.{begins_at, refreshed_calm}
 use Rattle.rd_served_order.proofs.ServedMeetLemmas.{CallsMeet, PartsMeet}

@@ -12,7 +12,7 @@ use Rattle.rd_base.specs.declared.journal.Item.{Item}
 use Rattle.rd_client.specs.Core as client
 use Rattle.rd_front.specs.Front.{desk_place, with_new_data}
 use Rattle.rd_front.specs.State.{DeviceDeskState, FrontState, SessionStation}
-use Rattle.rd_world.specs.Devices.{PrinterNames, printer_data}
+use Rattle.rd_declared.specs.Devices.{PrinterNames, printer_data}
 use Rattle.rd_served_order.specs.ServedParts.{EndsEach, FrontPart, PartGoes, begins, calls, directs, ends, forgets, hears, keeps, learns, misplaces, refreshes, sends, tells_gone, tells_there, tries, unwritten, writes}
 use Rattle.rd_served_order.specs.ServedServed.{Served}
 

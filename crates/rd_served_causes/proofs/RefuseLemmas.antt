@@ -53,11 +53,11 @@ use Rattle.rd_station.proofs.Calls.{reached_kept}
 use Rattle.rd_station.proofs.Members.{has_append, to_contains}
 use Rattle.rd_station.proofs.Remembering.{came_named}
 use Rattle.rd_station.specs.declared.answers.Completion.{Completion}
-use Rattle.rd_world.proofs.Messages.{head_read}
-use Rattle.rd_world.specs.Devices.{PrinterNames, printer_data}
+use Rattle.rd_deeds.proofs.Messages.{head_read}
+use Rattle.rd_declared.specs.Devices.{PrinterNames, printer_data}
 use Rattle.rd_world.specs.Events.{completion_message}
-use Rattle.rd_world.specs.Talk.{Deed, EachAfter, Has, adds, client_reads, client_writes, client_wrote, completes, head_in, journal, on, removes, stores}
-use Rattle.rd_world.specs.Told.{CompletesWith, came, came_as, is_said_gone, worn_entries}
+use Rattle.rd_deeds.specs.Talk.{Deed, EachAfter, Has, adds, client_reads, client_writes, client_wrote, completes, head_in, journal, on, removes, stores}
+use Rattle.rd_deeds.specs.Told.{CompletesWith, came, came_as, is_said_gone, worn_entries}
 use Rattle.rd_world.specs.World.{Kept}
 use Rattle.rd_served_order.proofs.ServedCauseLemmas.{IsJobAt, found, some_same, stored_elsewhere, stored_here}
 use Rattle.rd_served_order.proofs.ServedComesLemmas.{ComesBy, called_comes}

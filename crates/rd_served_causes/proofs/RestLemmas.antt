@@ -11,8 +11,8 @@ use Rattle.rd_irp.specs.declared.request.Request.{Request}
 use Rattle.rd_served_order.specs.JournalsJobs.{IsAnswerOf, IsRefusalOf}
 use Rattle.rd_served_order.specs.JournalsStanding.{IsOut}
 use Rattle.rd_world.specs.Events.{deed_on}
-use Rattle.rd_world.specs.Talk.{Deed, EachAfter, Has, client_read, client_writes, client_wrote, completes, journal, request_at}
-use Rattle.rd_world.specs.Told.{Answers, CompletesWith, IsDirect, Replies, came}
+use Rattle.rd_deeds.specs.Talk.{Deed, EachAfter, Has, client_read, client_writes, client_wrote, completes, journal, request_at}
+use Rattle.rd_deeds.specs.Told.{Answers, CompletesWith, IsDirect, Replies, came}
 use Rattle.rd_served_order.proofs.ServedStandingLemmas.{IsKnownAt, IsUnserved, came_here}
 use Rattle.rd_served_order.specs.ServedServed.{Served}
 use Rattle.rd_served_refusals.specs.Heeding.{once_written}

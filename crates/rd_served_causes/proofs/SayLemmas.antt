@@ -12,9 +12,9 @@ use Rattle.rd_irp.specs.declared.completion.Head.{Head}
 use Rattle.rd_irp.specs.declared.completion.Reply.{Reply}
 use Rattle.rd_served_order.proofs.JournalsWritingLemmas.{AreOwn}
 use Rattle.rd_served_order.specs.RefusedRefused.{RefusesDirectly}
-use Rattle.rd_world.proofs.Messages.{head_read}
-use Rattle.rd_world.specs.Talk.{Deed, EachAfter, announced_in, removed_in, client_wrote, completes, head_in, journal}
-use Rattle.rd_world.specs.Told.{came, is_said_gone, worn_entries}
+use Rattle.rd_deeds.proofs.Messages.{head_read}
+use Rattle.rd_deeds.specs.Talk.{Deed, EachAfter, announced_in, removed_in, client_wrote, completes, head_in, journal}
+use Rattle.rd_deeds.specs.Told.{came, is_said_gone, worn_entries}
 use Rattle.rd_served_order.specs.ServedServed.{Served}
 use Rattle.rd_served_causes.specs.Open.{IsDeskAt}
 use Rattle.rd_served_causes.specs.Worn.{IsWorn}

@@ -27,8 +27,8 @@ use Rattle.rd_front.specs.State.{DeviceDeskState, FrontState, SessionDeskStep, S
 use Rattle.rd_hello.specs.declared.end_fault.EndFault.{EndFault}
 use Rattle.rd_hello.specs.declared.end_fault.EndFault.TheVariants as fault
 use Rattle.rd_station.specs.declared.refusals.AnnounceNo.TheVariants as announce_no
-use Rattle.rd_world.specs.Devices.{PrinterNames, printer_data}
-use Rattle.rd_world.specs.Talk.{Deed}
+use Rattle.rd_declared.specs.Devices.{PrinterNames, printer_data}
+use Rattle.rd_deeds.specs.Talk.{Deed}
 use Rattle.rd_served_order.proofs.ServedCauseLemmas.{IsTold, found}
 use Rattle.rd_served_order.proofs.ServedKeyLemmas.{IsKeyed, both_true}
 use Rattle.rd_served_order.specs.ServedParts.{CallsAt, FitsCall, FrontPart, IsOpenCall, PartGoes, announced_by, begins, cut_by, directs, ends, forgets, hears, keeps, learns, misplaces, refreshes, sends, tells_gone, tells_there, tries, unwritten, writes}

@@ -2,7 +2,7 @@
 use Rattle.std.specs.Prelude.{◌≡◌, ℕ, ◌==◌, ◌&&◌, ◌||◌, Bool, true, false, not, List, [], ◌∷◌}
 use Rattle.rd_base.specs.declared.journal.Cause.TheVariants.{Removed}
 use Rattle.rd_base.specs.declared.journal.Item.TheVariants.{Cut}
-use Rattle.rd_world.specs.Talk.{Deed, adds, removes, stores}
+use Rattle.rd_deeds.specs.Talk.{Deed, adds, removes, stores}
 
 -- whether a device was removed, and neither added nor cut off as gone since
 abbrev pub is_to_cut : ℕ → List Deed → Bool

@@ -7,8 +7,8 @@ use Rattle.rd_front.specs.declared.calls.FrontReply.{FrontReply}
 use Rattle.rd_turn.specs.declared.object.Entry.{Entry}
 use Rattle.rd_world.specs.Acts.{tellings_on}
 use Rattle.rd_world.specs.Control.{Act}
-use Rattle.rd_world.specs.Talk.{Deed}
-use Rattle.rd_world.specs.Told.{IsHeeded, Replies}
+use Rattle.rd_deeds.specs.Talk.{Deed}
+use Rattle.rd_deeds.specs.Told.{IsHeeded, Replies}
 use Rattle.rd_served_order.specs.ServedHistories.{HistoryGoes}
 use Rattle.rd_served_order.specs.ServedParts.{FrontPart, PartsGo, ends}
 use Rattle.rd_served_order.specs.ServedServed.{Served}

@@ -8,8 +8,8 @@ use Rattle.rd_folder.specs.FolderLaws.{FolderFaults}
 use Rattle.rd_folder_drive.specs.FolderDrive.{FolderCuts, FolderDriveState, FolderRuns}
 use Rattle.rd_station.specs.Station.{StationState}
 use Rattle.rd_station.specs.Tied.{IsReached}
-use Rattle.rd_world.specs.Devices.{device_cuts, device_parked, device_runs}
-use Rattle.rd_world.specs.declared.device.SessionDevice.{SessionDevice}
+use Rattle.rd_declared.specs.Devices.{device_cuts, device_parked, device_runs}
+use Rattle.rd_declared.specs.declared.device.SessionDevice.{SessionDevice}
 use Rattle.rd_served_devices.specs.declared.served.Which.{Which}
 use Rattle.rd_served_devices.specs.declared.served.Which.TheVariants as which
 

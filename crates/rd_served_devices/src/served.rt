@@ -6,10 +6,10 @@ ghost use Rattle.rd_drive.specs.Promise.{Applies, CutsOff};
 ghost use Rattle.rd_served_devices.specs.ServedDevices as state;
 ghost use Rattle.rd_served_devices.specs.ServedDevices.{faults_of, served_cuts, served_parked, served_runs, served_state};
 
+use rd_declared::SessionDevice;
 use rd_drive::{Device, Ends, Plan, Step};
 use rd_folder::Folder;
 use rd_folder_drive::FolderDrive;
-use rd_world::SessionDevice;
 use std::marker::Model;
 
 /// What a device is.

@@ -16,9 +16,9 @@ use Rattle.rd_irp.specs.Written.{body_bytes, head_bytes}
 use Rattle.rd_irp.proofs.WrittenLemmas.{body_after_head, head_spelled}
 use Rattle.rd_station.specs.declared.answers.Completion.{Completion}
 use Rattle.rd_world.specs.Events.{completion_message}
-use Rattle.rd_world.specs.Talk.{head_in}
-use Rattle.rd_world.specs.Told.{is_of_device}
-use Rattle.rd_world.proofs.Messages.{head_read}
+use Rattle.rd_deeds.specs.Talk.{head_in}
+use Rattle.rd_deeds.specs.Told.{is_of_device}
+use Rattle.rd_deeds.proofs.Messages.{head_read}
 
 mod_low : (n : ℕ) → n % 256 < 256
 mod_low n = omega arith

@@ -34,10 +34,10 @@ use Rattle.rd_station.specs.declared.answers.Completion.{Completion}
 use Rattle.rd_turn.specs.declared.object.Entry.{Entry}
 use Rattle.rd_world.proofs.ClientLemmas.{refresh_elsewhere}
 use Rattle.rd_world.proofs.ShortLemmas.{may_refresh}
-use Rattle.rd_world.specs.Devices.{PrinterNames, printer_data}
+use Rattle.rd_declared.specs.Devices.{PrinterNames, printer_data}
 use Rattle.rd_world.specs.Events.{completion_message}
-use Rattle.rd_world.specs.Printers.{AreShortNames}
-use Rattle.rd_world.specs.Talk.{Deed, Has, client_moves, client_reads, client_writes, completes, is_removed, journal, on, stores}
+use Rattle.rd_declared.specs.Printers.{AreShortNames}
+use Rattle.rd_deeds.specs.Talk.{Deed, Has, client_moves, client_reads, client_writes, completes, is_removed, journal, on, stores}
 use Rattle.rd_served.specs.Deeds.{AreOnChannel, EachOnChannel, PartsOnChannel, deeds_after, deeds_of, deeds_of_calls, sent_by, stored, stored_each}
 use Rattle.rd_served.specs.Histories.{HistoryGoes}
 use Rattle.rd_served.specs.Parts.{CallsAt, FitsCall, FrontPart, PartGoes, PartsGo, asking_by, begins, calls, directs, ended_front, ends, forgets, keeps, learns, misplaces, refreshes, sends, tells_gone, tells_there, tries, unwritten, writes}

@@ -47,10 +47,10 @@ use Rattle.rd_station.specs.Memory.{NamesKey}
 use Rattle.rd_station.specs.Station.{held}
 use Rattle.rd_station.specs.declared.answers.Completion.{Completion}
 use Rattle.rd_station.proofs.Members.{to_contains}
-use Rattle.rd_world.specs.Devices.{PrinterNames, printer_data}
+use Rattle.rd_declared.specs.Devices.{PrinterNames, printer_data}
 use Rattle.rd_world.specs.Opening.{AreShort}
-use Rattle.rd_world.specs.Printers.{AreShortNames}
-use Rattle.rd_world.specs.Talk.{Deed, adds, client_reads, is_removed, removes, stores}
+use Rattle.rd_declared.specs.Printers.{AreShortNames}
+use Rattle.rd_deeds.specs.Talk.{Deed, adds, client_reads, is_removed, removes, stores}
 use Rattle.rd_served.specs.Deeds.{deeds_of, sent_by, stored, stored_each}
 use Rattle.rd_served.specs.Parts.{AsksBy, CallsAt, Comes, FrontPart, PartGoes, asking_by, begins, calls, directs, ended_front, ends, forgets, keeps, learns, misplaces, refreshes, sends, tells_gone, tells_there, tries, unwritten, writes}
 use Rattle.rd_served.specs.Parts as part

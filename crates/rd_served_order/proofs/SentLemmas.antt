@@ -15,9 +15,9 @@ use Rattle.rd_served.proofs.JournalsCameLemmas.{never_came}
 use Rattle.rd_station.specs.Station.{is_key}
 use Rattle.rd_turn.specs.declared.object.Entry.{Entry}
 use Rattle.rd_world.specs.Events.{completion_message}
-use Rattle.rd_world.specs.Joining.{Stands}
-use Rattle.rd_world.specs.Talk.{Deed, EachAfter, Has, completes, is_completion_of, journal, on, stores}
-use Rattle.rd_world.specs.Told.{came, is_of_device, told}
+use Rattle.rd_deeds.specs.Joining.{Stands}
+use Rattle.rd_deeds.specs.Talk.{Deed, EachAfter, Has, completes, is_completion_of, journal, on, stores}
+use Rattle.rd_deeds.specs.Told.{came, is_of_device, told}
 use Rattle.rd_served.specs.Deeds.{completed, deeds_after, deeds_of, deeds_of_calls, sent_by, stored, stored_each}
 use Rattle.rd_served.specs.Histories.{HistoryGoes}
 use Rattle.rd_served.specs.Parts.{CallsAt, EndsEach, FrontPart, PartGoes, PartsGo, begins, calls, directs, ended_front, ends, forgets, keeps, learns, misplaces, refreshes, sends, tells_gone, tells_there, tries, unwritten, writes}

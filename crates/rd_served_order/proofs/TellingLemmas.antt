@@ -32,11 +32,11 @@ use Rattle.rd_hello.specs.declared.end_fault.EndFault.TheVariants as fault
 use Rattle.rd_irp.specs.declared.completion.Body.TheVariants.{Fault}
 use Rattle.rd_irp.specs.Fits.{kind_of}
 use Rattle.rd_turn.specs.declared.object.Entry.{Entry}
-use Rattle.rd_world.proofs.Messages.{packet_is, written_packet}
+use Rattle.rd_deeds.proofs.Messages.{packet_is, written_packet}
 use Rattle.rd_world.specs.Acts.{is_telling, tellings_on}
 use Rattle.rd_world.specs.Control.{Act, added, begun, removed}
 use Rattle.rd_world.specs.Events.{completion_message}
-use Rattle.rd_world.specs.Talk.{Deed, client_reads, client_wrote, is_removed, on, removes, adds, stores}
+use Rattle.rd_deeds.specs.Talk.{Deed, client_reads, client_wrote, is_removed, on, removes, adds, stores}
 use Rattle.rd_served.specs.Deeds.{AreOnChannel, EachOnChannel, PartsOnChannel, deeds_after, deeds_of, deeds_of_calls, sent_by, stored, stored_each}
 use Rattle.rd_served.specs.Histories.{HistoryGoes}
 use Rattle.rd_served.specs.Parts.{CallsAt, FrontPart, PartGoes, PartsGo, begins, calls, directs, ends, forgets, keeps, learns, misplaces, refreshes, sends, tells_gone, tells_there, tries, unwritten, writes}

@@ -6,10 +6,10 @@ use Rattle.rd_client.specs.Events.{AreWritable}
 use Rattle.rd_client.specs.Order.{ClientOrder, client_at_first, stand_after}
 use Rattle.rd_devices.specs.declared.list.Announce.{Announce}
 use Rattle.rd_hello.specs.Moves.{Move, reads, writes}
-use Rattle.rd_world.specs.Devices.{PrinterNames}
+use Rattle.rd_declared.specs.Devices.{PrinterNames}
 use Rattle.rd_world.specs.Opening.{AreShort}
-use Rattle.rd_world.specs.Printers.{AreShortNames}
-use Rattle.rd_world.specs.Talk.{Deed, is_removed}
+use Rattle.rd_declared.specs.Printers.{AreShortNames}
+use Rattle.rd_deeds.specs.Talk.{Deed, is_removed}
 use Rattle.rd_served.specs.Deeds.{deeds_after, deeds_of}
 use Rattle.rd_served.specs.Histories.{BeginsNew}
 use Rattle.rd_served.specs.Parts.{FrontPart, begins}

@@ -2,8 +2,8 @@
 use Rattle.std.specs.Prelude.{◌≡◌, ℕ, ◌<◌, ◌^◌, List, filter}
 use Rattle.std.specs.List.{AllByRecursion}
 use Rattle.rd_front.specs.State.{DeviceDeskState}
-use Rattle.rd_world.specs.Talk.{Deed, journal}
-use Rattle.rd_world.specs.Told.{came, sent, told}
+use Rattle.rd_deeds.specs.Talk.{Deed, journal}
+use Rattle.rd_deeds.specs.Told.{came, sent, told}
 
 -- the ids of the devices of desks have room in a completion
 abbrev pub HaveRoom : List DeviceDeskState → Type 0

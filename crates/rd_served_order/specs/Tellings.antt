@@ -11,7 +11,7 @@ use Rattle.rd_front.specs.declared.calls.FrontReply.{FrontReply}
 use Rattle.rd_turn.specs.declared.object.Entry.{Entry}
 use Rattle.rd_world.specs.Acts.{tellings_on}
 use Rattle.rd_world.specs.Control.{Act, added, begun, removed}
-use Rattle.rd_world.specs.Talk.{Deed}
+use Rattle.rd_deeds.specs.Talk.{Deed}
 use Rattle.rd_served.specs.Histories.{HistoryGoes}
 use Rattle.rd_served.specs.Parts.{FrontPart, PartsGo, tells_gone, tells_there}
 use Rattle.rd_served.specs.Served.{Served}

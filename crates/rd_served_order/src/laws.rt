@@ -10,7 +10,7 @@ ghost use Rattle.rd_front.specs.declared.calls.FrontReply.{FrontReply};
 ghost use Rattle.rd_turn.specs.declared.object.Entry.{Entry};
 ghost use Rattle.rd_world.specs.Acts.{tellings_on};
 ghost use Rattle.rd_world.specs.Control.{begun};
-ghost use Rattle.rd_world.specs.Talk.{client_moves};
+ghost use Rattle.rd_deeds.specs.Talk.{client_moves};
 ghost use Rattle.rd_served.specs.Deeds.{deeds_of_calls};
 ghost use Rattle.rd_front.specs.Calls.{RanOut};
 ghost use Rattle.rd_served.specs.Histories.{BeginsNew, HistoryGoes};

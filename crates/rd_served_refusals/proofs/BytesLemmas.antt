@@ -20,9 +20,9 @@ use Rattle.rd_irp.specs.Written.{body_bytes, completion_bytes, head_bytes}
 use Rattle.rd_irp.specs.declared.completion.Body.{Body}
 use Rattle.rd_irp.specs.declared.completion.Head.{Head}
 use Rattle.rd_irp.specs.declared.completion.Kind.{Kind}
-use Rattle.rd_world.proofs.Messages.{head_read}
-use Rattle.rd_world.specs.Talk.{head_in, request_in}
-use Rattle.rd_world.specs.Told.{is_of_device}
+use Rattle.rd_deeds.proofs.Messages.{head_read}
+use Rattle.rd_deeds.specs.Talk.{head_in, request_in}
+use Rattle.rd_deeds.specs.Told.{is_of_device}
 
 -- each byte of a number is below 256
 small_at : (n i : ℕ) → get_or (to_le_bytes w32 n) i 0 < 256

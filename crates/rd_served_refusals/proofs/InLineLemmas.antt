@@ -43,8 +43,8 @@ use Rattle.rd_station.specs.declared.refusals.PutWhy.{PutWhy}
 use Rattle.rd_station.proofs.Members.{has_right}
 use Rattle.rd_turn.specs.declared.object.Entry.{Entry}
 use Rattle.rd_world.specs.Events.{completion_message}
-use Rattle.rd_world.specs.Talk.{Deed, Has, adds, client_reads, completes, is_request, journal, removes, stores}
-use Rattle.rd_world.specs.Told.{IsLeft, came, told_at}
+use Rattle.rd_deeds.specs.Talk.{Deed, Has, adds, client_reads, completes, is_request, journal, removes, stores}
+use Rattle.rd_deeds.specs.Told.{IsLeft, came, told_at}
 use Rattle.rd_world.specs.World.{Kept}
 use Rattle.rd_served.proofs.CauseLemmas.{AnyRequest, IsTold, job_told, tied_then, to_turned}
 use Rattle.rd_served.proofs.KeyLemmas.{IsKeyed, IsUnder, both_true, ended_is, none_of, refreshed_calm}

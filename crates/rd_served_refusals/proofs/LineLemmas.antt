@@ -11,8 +11,8 @@ use Rattle.rd_client.specs.Core.{Outgoing}
 use Rattle.rd_hello.specs.declared.end_fault.EndFault.{EndFault}
 use Rattle.rd_served.proofs.RunsInsides.{AreOwn, IsOwn}
 use Rattle.rd_world.specs.Events.{deed_on}
-use Rattle.rd_world.specs.Talk.{Deed, EndsWith, Has, adds, client_read, client_reads, client_writes, completes, host_begins, host_ends, host_reads, host_writes, journal, removes, stores, submits, takes, tells}
-use Rattle.rd_world.specs.Told.{came, came_as, is_of_device, requests_to, told, told_at, without_last}
+use Rattle.rd_deeds.specs.Talk.{Deed, EndsWith, Has, adds, client_read, client_reads, client_writes, completes, host_begins, host_ends, host_reads, host_writes, journal, removes, stores, submits, takes, tells}
+use Rattle.rd_deeds.specs.Told.{came, came_as, is_of_device, requests_to, told, told_at, without_last}
 use Rattle.rd_world.specs.World.{Kept}
 use Rattle.rd_served.proofs.JournalsCameLemmas.{came_true}
 use Rattle.rd_directs.proofs.TurnLemmas.{none_before, said_ends, turn_left}

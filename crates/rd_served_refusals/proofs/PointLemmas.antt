@@ -13,8 +13,8 @@ use Rattle.rd_served.specs.JournalsJobs.{AreFine}
 use Rattle.rd_served.proofs.RunsInsides.{AreOwn, IsOwn}
 use Rattle.rd_station.proofs.Members.{has_append}
 use Rattle.rd_world.specs.Events.{deed_on}
-use Rattle.rd_world.specs.Talk.{Deed, Has, client_read, client_reads, client_writes, completes, is_request, journal, request_at, request_in}
-use Rattle.rd_world.specs.Told.{IsLeft, came, is_of_device, requests_to, told, told_at, without_last}
+use Rattle.rd_deeds.specs.Talk.{Deed, Has, client_read, client_reads, client_writes, completes, is_request, journal, request_at, request_in}
+use Rattle.rd_deeds.specs.Told.{IsLeft, came, is_of_device, requests_to, told, told_at, without_last}
 use Rattle.rd_world.specs.World.{Kept}
 use Rattle.rd_directs.proofs.TurnLemmas.{turns_asks, turns_direct, turns_other, turns_own, turns_said, turns_wrong}
 use Rattle.rd_directs.specs.Turns.{Turns, never, said}

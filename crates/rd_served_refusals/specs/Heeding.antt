@@ -10,8 +10,8 @@ use Rattle.rd_front.specs.declared.calls.FrontReply.TheVariants as reply
 use Rattle.rd_irp.specs.declared.request.Request.{Request}
 use Rattle.rd_turn.specs.declared.object.Entry.{Entry}
 use Rattle.rd_world.specs.Events.{deed_on}
-use Rattle.rd_world.specs.Talk.{Deed, EndsWith, client_read, request_in}
-use Rattle.rd_world.specs.Told.{IsLeft, requests_to, told, unserved, without_last}
+use Rattle.rd_deeds.specs.Talk.{Deed, EndsWith, client_read, request_in}
+use Rattle.rd_deeds.specs.Told.{IsLeft, requests_to, told, unserved, without_last}
 use Rattle.rd_served.specs.Deeds.{deeds_after, deeds_of}
 use Rattle.rd_front.specs.Calls.{hinders}
 use Rattle.rd_served.specs.Histories.{HearBefore, HistoryGoes, stopped_by}

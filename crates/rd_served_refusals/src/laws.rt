@@ -5,7 +5,7 @@ ghost use Rattle.rd_base.specs.Layout.{AreBytes};
 ghost use Rattle.rd_front.specs.declared.calls.FrontCall.{FrontCall};
 ghost use Rattle.rd_front.specs.declared.calls.FrontReply.{FrontReply};
 ghost use Rattle.rd_turn.specs.declared.object.Entry.{Entry};
-ghost use Rattle.rd_world.specs.Talk.{Deed};
+ghost use Rattle.rd_deeds.specs.Talk.{Deed};
 ghost use Rattle.rd_served.specs.Deeds.{deeds_of_calls};
 ghost use Rattle.rd_served.specs.Histories.{BeginsNew, HistoryGoes};
 ghost use Rattle.rd_served.specs.Parts.{FrontPart};

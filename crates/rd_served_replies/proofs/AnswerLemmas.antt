@@ -37,8 +37,8 @@ use Rattle.rd_station.specs.declared.answers.Completion.{Completion}
 use Rattle.rd_station.proofs.Members.{has_append, has_left, has_right}
 use Rattle.rd_turn.specs.declared.object.Entry.{Entry}
 use Rattle.rd_world.specs.Events.{completion_message}
-use Rattle.rd_world.specs.Talk.{Deed, EachAfter, Has, adds, client_reads, client_writes, completes, host_begins, host_ends, host_reads, host_writes, journal, removes, stores, submits, takes, tells}
-use Rattle.rd_world.specs.Told.{CompletesWith, Replies, came}
+use Rattle.rd_deeds.specs.Talk.{Deed, EachAfter, Has, adds, client_reads, client_writes, completes, host_begins, host_ends, host_reads, host_writes, journal, removes, stores, submits, takes, tells}
+use Rattle.rd_deeds.specs.Told.{CompletesWith, Replies, came}
 use Rattle.rd_world.specs.World.{Kept}
 use Rattle.rd_served.specs.Deeds.{deeds_after, deeds_of, deeds_of_calls, sent_by, stored, stored_each}
 use Rattle.rd_served.specs.Histories.{HistoryGoes}

@@ -18,8 +18,8 @@ use Rattle.rd_station.specs.Tied.{RunsOwn, as_parked}
 use Rattle.rd_station.proofs.Calls.{reached_keeps}
 use Rattle.rd_station.proofs.Members.{Has, from_contains, has_append, map_has, to_contains}
 use Rattle.rd_station.proofs.Tying.{all_tied}
-use Rattle.rd_world.specs.Devices.{device_cut, device_cuts, device_parked, device_runs, device_step}
-use Rattle.rd_world.specs.declared.device.SessionDevice.{SessionDevice}
+use Rattle.rd_declared.specs.Devices.{device_cut, device_cuts, device_parked, device_runs, device_step}
+use Rattle.rd_declared.specs.declared.device.SessionDevice.{SessionDevice}
 use Rattle.rd_served.specs.ServedDevices.{ServedDeviceState, served_cuts, served_parked, served_runs}
 use Rattle.rd_served.proofs.StoreLemmas.{CutsFirst, IsNoCut, step_stores}
 use Rattle.rd_served.proofs.WorkLemmas.{Steps}

@@ -27,12 +27,12 @@ use Rattle.rd_station.proofs.Calls.{reached_kept, reached_new}
 use Rattle.rd_station.proofs.Members.{has_right}
 use Rattle.rd_turn.specs.History.{Leads}
 use Rattle.rd_turn.specs.declared.object.Entry.{Entry}
-use Rattle.rd_world.specs.Devices.{device_cuts, device_parked, device_runs}
-use Rattle.rd_world.specs.Session.{request_read}
-use Rattle.rd_world.specs.Talk.{Deed, EachAfter, Has, journal}
-use Rattle.rd_world.specs.Told.{Replies}
-use Rattle.rd_world.specs.declared.device.SessionDevice.{SessionDevice}
-use Rattle.rd_world.specs.declared.device.SessionDevice.TheVariants as session
+use Rattle.rd_declared.specs.Devices.{device_cuts, device_parked, device_runs}
+use Rattle.rd_declared.specs.Replies.{request_read}
+use Rattle.rd_deeds.specs.Talk.{Deed, EachAfter, Has, journal}
+use Rattle.rd_deeds.specs.Told.{Replies}
+use Rattle.rd_declared.specs.declared.device.SessionDevice.{SessionDevice}
+use Rattle.rd_declared.specs.declared.device.SessionDevice.TheVariants as session
 use Rattle.rd_served.specs.Deeds.{deeds_of_calls}
 use Rattle.rd_served.specs.Histories.{BeginsNew, HistoryGoes}
 use Rattle.rd_served.specs.Parts.{FrontPart}

@@ -21,7 +21,7 @@ use Rattle.rd_station.proofs.Members.{Has}
 use Rattle.rd_turn.specs.declared.object.Entry.{Entry}
 use Rattle.rd_turn.specs.History.{Leads, entry}
 use Rattle.rd_turn.proofs.HistoryLemmas.{Leads-append}
-use Rattle.rd_world.specs.Talk.{Deed}
+use Rattle.rd_deeds.specs.Talk.{Deed}
 use Rattle.rd_served.specs.Deeds.{deeds_after, deeds_of, deeds_of_calls, stored, stored_each}
 use Rattle.rd_served.specs.Histories.{HistoryGoes}
 use Rattle.rd_served.specs.Parts.{AsksBy, CallsAt, Comes, EndsEach, FrontPart, PartGoes, PartsGo, begins, calls, directs, ended_front, ends, forgets, hears, keeps, learns, misplaces, refreshes, sends, tells_gone, tells_there, tries, unwritten, writes}

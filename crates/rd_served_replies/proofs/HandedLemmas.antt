@@ -27,11 +27,11 @@ use Rattle.rd_station.specs.declared.answers.Completion.{Completion}
 use Rattle.rd_station.proofs.Members.{from_contains, has_left, has_right, to_contains}
 use Rattle.rd_turn.specs.declared.object.Entry.{Entry}
 use Rattle.rd_turn.specs.History.{Leads}
-use Rattle.rd_world.specs.Devices.{device_cut, device_step}
-use Rattle.rd_world.specs.Session.{request_read}
-use Rattle.rd_world.specs.Talk.{Deed, Has, journal, stored_by}
-use Rattle.rd_world.specs.Told.{Replies}
-use Rattle.rd_world.specs.declared.device.SessionDevice.{SessionDevice}
+use Rattle.rd_declared.specs.Devices.{device_cut, device_step}
+use Rattle.rd_declared.specs.Replies.{request_read}
+use Rattle.rd_deeds.specs.Talk.{Deed, Has, journal, stored_by}
+use Rattle.rd_deeds.specs.Told.{Replies}
+use Rattle.rd_declared.specs.declared.device.SessionDevice.{SessionDevice}
 use Rattle.rd_served.specs.Deeds.{stored}
 use Rattle.rd_served.specs.Parts.{CallsAt, FrontPart}
 use Rattle.rd_served.specs.Served.{Served}

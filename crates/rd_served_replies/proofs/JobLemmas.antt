@@ -15,9 +15,8 @@ use Rattle.rd_refused.specs.JournalsJobs.{IsJobOf}
 use Rattle.rd_station.specs.Station.{StationCall, announces, applies, collects, drops, ends, puts, puts_unfit, removes, takes}
 use Rattle.rd_station.proofs.Members.{Has}
 use Rattle.rd_turn.specs.declared.object.Entry.{Entry}
-use Rattle.rd_world.specs.Recording.{no_request}
-use Rattle.rd_world.specs.Session.{request_read}
-use Rattle.rd_world.specs.Talk.{Deed}
+use Rattle.rd_declared.specs.Replies.{no_request, request_read}
+use Rattle.rd_deeds.specs.Talk.{Deed}
 use Rattle.rd_served_replies.proofs.GivenLemmas.{PutOf, told_append, told_puts}
 
 abbrev E : Type 0

@@ -32,9 +32,9 @@ use Rattle.rd_station.specs.declared.refusals.AnnounceNo.{AnnounceNo}
 use Rattle.rd_station.specs.declared.refusals.AnnounceNo.TheVariants as refused
 use Rattle.rd_station.specs.declared.refusals.PutWhy.{PutWhy}
 use Rattle.rd_station.proofs.Calls.{did_run}
-use Rattle.rd_world.specs.Devices.{device_cuts, device_parked, device_runs, device_step, of_drive}
-use Rattle.rd_world.specs.declared.device.SessionDevice.{SessionDevice}
-use Rattle.rd_world.specs.declared.device.SessionDevice.TheVariants as session
+use Rattle.rd_declared.specs.Devices.{device_cuts, device_parked, device_runs, device_step, of_drive}
+use Rattle.rd_declared.specs.declared.device.SessionDevice.{SessionDevice}
+use Rattle.rd_declared.specs.declared.device.SessionDevice.TheVariants as session
 use Rattle.rd_served.specs.ServedDevices.{ServedDeviceState, made, over, served_cuts, served_parked, served_runs}
 use Rattle.rd_served.proofs.StationLemmas.{Step as ServedStep, put_refused}
 use Rattle.rd_served.proofs.WorkLemmas.{Steps}

@@ -28,12 +28,11 @@ use Rattle.rd_station.proofs.Members.{Has}
 use Rattle.rd_station.proofs.Tying.{all_tied}
 use Rattle.rd_turn.specs.declared.object.Entry.{Entry}
 use Rattle.rd_turn.specs.History.{Leads}
-use Rattle.rd_world.specs.Devices.{device_cut, device_cuts, device_parked, device_runs, device_step}
-use Rattle.rd_world.specs.Recording.{no_request}
-use Rattle.rd_world.specs.Session.{request_read}
-use Rattle.rd_world.specs.Talk.{Deed, client_read, request_at}
-use Rattle.rd_world.specs.declared.device.SessionDevice.{SessionDevice}
-use Rattle.rd_world.specs.declared.device.SessionDevice.TheVariants as session
+use Rattle.rd_declared.specs.Devices.{device_cut, device_cuts, device_parked, device_runs, device_step}
+use Rattle.rd_declared.specs.Replies.{no_request, request_read}
+use Rattle.rd_deeds.specs.Talk.{Deed, client_read, request_at}
+use Rattle.rd_declared.specs.declared.device.SessionDevice.{SessionDevice}
+use Rattle.rd_declared.specs.declared.device.SessionDevice.TheVariants as session
 use Rattle.rd_served.specs.ServedDevices.{ServedDeviceState, served_cuts, served_parked, served_runs}
 use Rattle.rd_served.proofs.CauseLemmas.{AnyRequest}
 use Rattle.rd_served.proofs.OwnsLemmas.{owns_call}

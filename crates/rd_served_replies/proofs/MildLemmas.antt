@@ -24,7 +24,7 @@ use Rattle.rd_station.specs.declared.refusals.AnnounceNo.{AnnounceNo}
 use Rattle.rd_station.specs.declared.refusals.AnnounceNo.TheVariants as unannounced
 use Rattle.rd_station.specs.declared.refusals.PutWhy.{PutWhy}
 use Rattle.rd_station.proofs.Members.{has_append}
-use Rattle.rd_world.specs.Talk.{Has}
+use Rattle.rd_deeds.specs.Talk.{Has}
 use Rattle.rd_served.specs.Served.{CallsDesk, IsWork}
 use Rattle.rd_served.proofs.StationLemmas.{Step, put_refused}
 use Rattle.rd_served.proofs.WorkLemmas.{Steps}

@@ -12,8 +12,8 @@ use Rattle.rd_irp.specs.declared.request.Request.{Request}
 use Rattle.rd_refused.specs.JournalsJobs.{IsJobOf}
 use Rattle.rd_station.specs.Station.{StationCall, announces, applies, collects, drops, ends, is_key, puts, puts_unfit, removes, takes}
 use Rattle.rd_station.proofs.Members.{Has, has_append, has_left, has_right, key_self, same_key}
-use Rattle.rd_world.specs.Session.{request_read}
-use Rattle.rd_world.specs.Talk.{Deed}
+use Rattle.rd_declared.specs.Replies.{request_read}
+use Rattle.rd_deeds.specs.Talk.{Deed}
 use Rattle.rd_world.proofs.KeysLemmas.{Comes}
 use Rattle.rd_served.specs.ServedDevices.{served_cuts, served_parked, served_runs}
 use Rattle.rd_served.proofs.StoreLemmas.{come_by, step_stores}

@@ -13,7 +13,7 @@ use Rattle.rd_front.specs.State.{FrontState}
 use Rattle.rd_hello.specs.declared.end_fault.EndFault.{EndFault}
 use Rattle.rd_hello.specs.declared.end_fault.EndFault.TheVariants as fault
 use Rattle.rd_station.specs.declared.answers.Completion.{Completion}
-use Rattle.rd_world.specs.Talk.{Deed, adds, client_reads, removes}
+use Rattle.rd_deeds.specs.Talk.{Deed, adds, client_reads, removes}
 use Rattle.rd_refused.proofs.JournalsWritingLemmas.{AddsOwn, adds_own, hear_adds, list_own, removal_own}
 use Rattle.rd_served.specs.Deeds.{deeds_of}
 use Rattle.rd_served.specs.Parts.{FrontPart, PartGoes, asking_by, begins, calls, directs, ends, forgets, hears, keeps, learns, misplaces, refreshes, sends, tells_gone, tells_there, tries, unwritten, writes}
@@ -23,7 +23,7 @@ use Rattle.std.specs.Map.{lookup}
 use Rattle.std.specs.Option.{option_map_or}
 use Rattle.std.specs.Ordering.{nat_cmp}
 use Rattle.std.specs.BTreeMap.{is_at}
-use Rattle.rd_world.specs.Devices.{PrinterNames, printer_data}
+use Rattle.rd_declared.specs.Devices.{PrinterNames, printer_data}
 
 abbrev pub outbox_of : Served → List Outgoing
 outbox_of p = (((p.front).client).core).outbox

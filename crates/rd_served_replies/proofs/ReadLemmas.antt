@@ -15,7 +15,7 @@ use Rattle.rd_irp.specs.declared.request.Request.{Request}
 use Rattle.rd_refused.specs.JournalsJobs.{AreFine, FitsCompletion}
 use Rattle.rd_ranges.proofs.ReadLemmas.{request_room}
 use Rattle.rd_turn.specs.declared.object.Entry.{Entry}
-use Rattle.rd_world.specs.Talk.{Deed, Has, client_read, client_reads, is_request, request_at, request_in, stores}
+use Rattle.rd_deeds.specs.Talk.{Deed, Has, client_read, client_reads, is_request, request_at, request_in, stores}
 use Rattle.rd_served.specs.Deeds.{deeds_after, deeds_of, deeds_of_calls, sent_by, stored, stored_each}
 use Rattle.rd_served.specs.Histories.{HearsAs, HistoryGoes, IsHeardBy}
 use Rattle.rd_served.specs.Parts.{FrontPart, begins, calls, directs, ends, forgets, heard_in, hears, keeps, learns, misplaces, refreshes, sends, tells_gone, tells_there, tries, unwritten, writes}

@@ -16,8 +16,8 @@ use Rattle.rd_refused.specs.RepliedReplied.{AnswersBy, ComesFrom}
 use Rattle.rd_refused.specs.RepliedSince.{AnswersSince, IsAnswerSince}
 use Rattle.rd_replied.proofs.CutLemmas.{is_before, since_add, since_join, since_of, turn}
 use Rattle.rd_station.proofs.Members.{has_left}
-use Rattle.rd_world.specs.Talk.{Deed, EachAfter, Has, adds, client_read, client_reads, client_writes, completes, host_begins, host_ends, host_reads, host_writes, journal, removes, request_at, stores, submits, takes, tells}
-use Rattle.rd_world.specs.Told.{RemovedSince, Replies}
+use Rattle.rd_deeds.specs.Talk.{Deed, EachAfter, Has, adds, client_read, client_reads, client_writes, completes, host_begins, host_ends, host_reads, host_writes, journal, removes, request_at, stores, submits, takes, tells}
+use Rattle.rd_deeds.specs.Told.{RemovedSince, Replies}
 use Rattle.rd_served_replies.proofs.HandedLemmas.{journal_parts}
 
 -- ---- lists

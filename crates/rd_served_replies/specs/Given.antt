@@ -15,12 +15,12 @@ use Rattle.rd_front.specs.State.{SessionStation}
 use Rattle.rd_irp.specs.declared.request.Request.{Request}
 use Rattle.rd_station.specs.Station.{StationState}
 use Rattle.rd_station.specs.Tied.{IsTied}
-use Rattle.rd_world.specs.Devices.{device_cut, device_step}
-use Rattle.rd_world.specs.Session.{request_read}
-use Rattle.rd_world.specs.Talk.{Deed}
-use Rattle.rd_world.specs.Told.{Replies}
-use Rattle.rd_world.specs.declared.device.SessionDevice.{SessionDevice}
-use Rattle.rd_world.specs.declared.device.SessionDevice.TheVariants as session
+use Rattle.rd_declared.specs.Devices.{device_cut, device_step}
+use Rattle.rd_declared.specs.Replies.{request_read}
+use Rattle.rd_deeds.specs.Talk.{Deed}
+use Rattle.rd_deeds.specs.Told.{Replies}
+use Rattle.rd_declared.specs.declared.device.SessionDevice.{SessionDevice}
+use Rattle.rd_declared.specs.declared.device.SessionDevice.TheVariants as session
 use Rattle.rd_served.specs.Parts.{FrontPart, calls}
 use Rattle.rd_served.specs.ServedDevices.{ServedDeviceState, made, over}
 

@@ -16,7 +16,7 @@ use Rattle.rd_front.specs.declared.calls.FrontReply.TheVariants as reply
 use Rattle.rd_hello.specs.declared.end_fault.EndFault.TheVariants as fault
 use Rattle.rd_world.specs.Acts.{act_by}
 use Rattle.rd_world.specs.Control.{Act}
-use Rattle.rd_world.specs.Talk.{Deed, stores}
+use Rattle.rd_deeds.specs.Talk.{Deed, stores}
 use Rattle.rd_workers.specs.Channels.{ChannelRun, IsChannelRun, calls_by_all}
 use Rattle.rd_workers.specs.Logs.{asks_any, reader_calls}
 use Rattle.rd_served_causes.specs.ServedDeeds.{deeds_after, deeds_of, deeds_of_calls, sent_by, stored, stored_each}

@@ -29,10 +29,10 @@ use Rattle.rd_hello.specs.declared.end_fault.EndFault.TheVariants as fault
 use Rattle.rd_irp.specs.declared.completion.Body.TheVariants.{Fault}
 use Rattle.rd_irp.specs.Fits.{kind_of}
 use Rattle.rd_printer.specs.Cache.{CacheState}
-use Rattle.rd_world.specs.Devices.{Declared, PrinterNames, announce_of, printer_data}
-use Rattle.rd_world.specs.Opening.{AreOpenable}
+use Rattle.rd_declared.specs.Devices.{Declared, PrinterNames, announce_of, printer_data}
+use Rattle.rd_declared.specs.Declaring.{AreOpenable}
 use Rattle.rd_world.specs.Run.{printers_of}
-use Rattle.rd_world.specs.Talk.{Deed, Has, stores}
+use Rattle.rd_deeds.specs.Talk.{Deed, Has, stores}
 use Rattle.rd_served_causes.proofs.ServedStandingLemmas.{sent_first, sent_none}
 use Rattle.rd_served_causes.specs.ServedDeeds.{deeds_after, deeds_of, deeds_of_calls, sent_by, stored, stored_each}
 use Rattle.rd_served_causes.specs.ServedHistories.{HistoryGoes}

@@ -19,7 +19,7 @@ use Rattle.rd_hello.specs.declared.end_fault.EndFault.TheVariants as fault
 use Rattle.rd_served_causes.proofs.JournalsHeldLemmas.{stored_unread}
 use Rattle.rd_turn.specs.History.{Leads}
 use Rattle.rd_world.specs.Events.{completion_message}
-use Rattle.rd_world.specs.Talk.{Deed, client_read, client_wrote, on, stores}
+use Rattle.rd_deeds.specs.Talk.{Deed, client_read, client_wrote, on, stores}
 use Rattle.rd_workers.specs.Logs.{asks_any, given_by, messages_by, messages_for}
 use Rattle.rd_served_causes.proofs.ServedWalkLemmas.{call_goes, served}
 use Rattle.rd_served_causes.specs.ServedDeeds.{AreOnChannel, EachOnChannel, PartsOnChannel, deeds_after, deeds_of, deeds_of_calls, sent_by, stored, stored_each}

@@ -33,9 +33,9 @@ use Rattle.rd_station.specs.Station as station
 use Rattle.rd_station.specs.Station.{held, max_entries, max_held, entry_count, put_refusal, put_unless}
 use Rattle.rd_station.specs.declared.refusals.PutWhy.{PutWhy}
 use Rattle.rd_station.specs.declared.refusals.PutWhy.TheVariants as why
-use Rattle.rd_world.specs.Talk.{Deed, EachAfter, client_read, is_removed, request_at, stores}
+use Rattle.rd_deeds.specs.Talk.{Deed, EachAfter, client_read, is_removed, request_at, stores}
 use Rattle.rd_world.specs.World.{Kept}
-use Rattle.rd_world.specs.Talk.{Has}
+use Rattle.rd_deeds.specs.Talk.{Has}
 use Rattle.rd_served_causes.proofs.ServedCauseLemmas.{new_at}
 use Rattle.rd_served_causes.proofs.ServedComesLemmas.{ComesBy, called_comes, end_comes_none}
 use Rattle.rd_served_causes.proofs.ServedKeyLemmas.{IsUnder, both_true}

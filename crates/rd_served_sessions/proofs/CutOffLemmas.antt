@@ -36,7 +36,7 @@ use Rattle.rd_station.specs.declared.refusals.AnnounceNo.TheVariants as unannoun
 use Rattle.rd_station.specs.declared.refusals.PutWhy.{PutWhy}
 use Rattle.rd_station.specs.declared.refusals.PutWhy.TheVariants as why
 use Rattle.rd_world.proofs.KeysLemmas.{Comes}
-use Rattle.rd_world.specs.Talk.{Has}
+use Rattle.rd_deeds.specs.Talk.{Has}
 use Rattle.rd_served_causes.proofs.ServedComesLemmas.{ComesBy, cancel}
 use Rattle.rd_served_causes.proofs.ServedHeldLemmas.{HeldIn, drop_none, end_none, held_less, put_more, ready_held, work_less}
 use Rattle.rd_served_causes.proofs.ServedKeyLemmas.{IsKeyed, current}

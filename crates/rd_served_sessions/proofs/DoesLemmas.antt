@@ -25,7 +25,7 @@ use Rattle.rd_front.specs.declared.next.Got.{Got}
 use Rattle.rd_front.specs.declared.next.Got.TheVariants as got
 use Rattle.rd_hello.specs.declared.end_fault.EndFault.TheVariants as fault
 use Rattle.rd_world.specs.Control.{Act, added, is_among, removed}
-use Rattle.rd_world.specs.Talk.{Deed, is_removed}
+use Rattle.rd_deeds.specs.Talk.{Deed, is_removed}
 use Rattle.rd_workers.specs.Channels.{AllGoByLines, ChannelRun, GoesByThem, IsChannelRun, calls_by_all}
 use Rattle.rd_workers.specs.Lines.{IsCallFor, LinesGo, LinesStand, LinesStep, at_lines, due_now, first_due, having_acted, left_from, lines_stand, was_full}
 use Rattle.rd_workers.specs.Logs.{asks_any, reader_calls}

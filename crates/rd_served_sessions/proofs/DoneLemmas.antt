@@ -30,8 +30,8 @@ use Rattle.rd_station.specs.declared.refusals.AnnounceNo.{AnnounceNo}
 use Rattle.rd_station.specs.declared.refusals.AnnounceNo.TheVariants as no
 use Rattle.rd_station.specs.declared.refusals.PutWhy.{PutWhy}
 use Rattle.rd_station.specs.declared.refusals.PutWhy.TheVariants as why
-use Rattle.rd_world.specs.Devices.{PrinterNames, printer_data}
-use Rattle.rd_world.specs.Talk.{Has}
+use Rattle.rd_declared.specs.Devices.{PrinterNames, printer_data}
+use Rattle.rd_deeds.specs.Talk.{Has}
 use Rattle.rd_workers.specs.Logs.{asks_any, reader_calls}
 use Rattle.rd_served_causes.proofs.ServedKeyLemmas.{has_at, has_set}
 use Rattle.rd_served_causes.specs.ServedHistories.{HistoryGoes}

@@ -19,7 +19,7 @@ use Rattle.rd_hello.specs.declared.end_fault.EndFault.TheVariants as fault
 use Rattle.rd_served_causes.proofs.JournalsHeldLemmas.{stored_unread, turned_has}
 use Rattle.rd_workers.specs.Channels.{ChannelRun, IsChannelRun, calls_by_all}
 use Rattle.rd_workers.specs.Logs.{asks_any, reader_calls}
-use Rattle.rd_world.specs.Talk.{Deed, EachAfter, Has, client_wrote, journal, stores}
+use Rattle.rd_deeds.specs.Talk.{Deed, EachAfter, Has, client_wrote, journal, stores}
 use Rattle.rd_served_causes.proofs.ServedCauseLemmas.{new_at, stored_elsewhere, stored_here}
 use Rattle.rd_served_causes.proofs.ServedComesLemmas.{called_comes, end_comes_none}
 use Rattle.rd_served_causes.proofs.ServedHeldLemmas.{HeldIn}

@@ -25,7 +25,7 @@ use Rattle.rd_hello.specs.declared.end_fault.EndFault.{EndFault}
 use Rattle.rd_hello.specs.declared.end_fault.EndFault.TheVariants as fault
 use Rattle.rd_station.specs.declared.refusals.PutWhy.{PutWhy}
 use Rattle.rd_station.specs.declared.refusals.PutWhy.TheVariants as refusal
-use Rattle.rd_world.specs.Talk.{Deed, client_read}
+use Rattle.rd_deeds.specs.Talk.{Deed, client_read}
 use Rattle.rd_world.specs.World.{Kept}
 use Rattle.rd_workers.proofs.RunLemmas.{AreMiddle, IsMiddle}
 use Rattle.rd_workers.specs.Logs.{asks_any}

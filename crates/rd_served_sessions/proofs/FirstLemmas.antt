@@ -26,10 +26,10 @@ use Rattle.rd_script.specs.declared.line.Line.{Line}
 use Rattle.rd_sharing.specs.FolderLines.{folder_devices}
 use Rattle.rd_sharing.specs.ServedOpening.{AreServedDevices, FoldersTold, OpenInTurn, OpensServed, ServedDeclared, as_made, served_station, shown_of, with_folders}
 use Rattle.rd_world.proofs.ApplicationsLemmas.{apart_at, below_of}
-use Rattle.rd_world.specs.Devices.{Declared, PrinterNames}
-use Rattle.rd_world.specs.Opening.{IsOpenable}
-use Rattle.rd_world.specs.Printers.{AreShortNames}
-use Rattle.rd_world.specs.Run.{declared_devices, printers_of, station_of}
+use Rattle.rd_declared.specs.Devices.{Declared, PrinterNames}
+use Rattle.rd_declared.specs.Declaring.{IsOpenable, declared_devices}
+use Rattle.rd_declared.specs.Printers.{AreShortNames}
+use Rattle.rd_world.specs.Run.{printers_of, station_of}
 use Rattle.rd_workers.specs.Served.{IsFrontOf}
 use Rattle.rd_served_causes.specs.ServedDevices as served
 use Rattle.rd_served_causes.specs.ServedDevices.{ServedDeviceState, served_parked}

@@ -32,8 +32,8 @@ use Rattle.rd_hello.specs.declared.end_fault.EndFault.TheVariants as fault
 use Rattle.rd_irp.specs.declared.request.Request.{Request}
 use Rattle.rd_served_causes.proofs.JournalsAskingLemmas as asking
 use Rattle.rd_served_causes.proofs.JournalsAskingLemmas.{HeardAs}
-use Rattle.rd_world.specs.Devices.{PrinterNames, printer_data}
-use Rattle.rd_world.specs.Talk.{Deed, client_read, client_reads, is_request, request_in}
+use Rattle.rd_declared.specs.Devices.{PrinterNames, printer_data}
+use Rattle.rd_deeds.specs.Talk.{Deed, client_read, client_reads, is_request, request_in}
 use Rattle.rd_world.specs.World.{Kept}
 use Rattle.rd_served_causes.proofs.ServedCauseLemmas.{IsTold, part_told}
 use Rattle.rd_served_causes.proofs.ServedKeyLemmas.{IsKeyed, IsUnder, both_true, ended_is, none_of, part_keyed}

@@ -11,7 +11,7 @@ use Rattle.rd_front.specs.declared.calls.FrontCall.TheVariants as call
 use Rattle.rd_front.specs.declared.calls.FrontReply.{FrontReply}
 use Rattle.rd_front.specs.declared.calls.FrontReply.TheVariants as reply
 use Rattle.rd_station.specs.declared.answers.Completion.{Completion}
-use Rattle.rd_world.specs.Talk.{Deed}
+use Rattle.rd_deeds.specs.Talk.{Deed}
 use Rattle.rd_workers.specs.Logs.{AllFound, RunsOutFor}
 use Rattle.rd_served_causes.proofs.ServedKeyLemmas.{both_true, did_calm, ended_is, has_at, refreshed_calm, sent_calm}
 use Rattle.rd_served_causes.proofs.ServedStandingLemmas.{IsKnownAt, came_here, part_known, parts_known}

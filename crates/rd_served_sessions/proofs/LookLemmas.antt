@@ -18,7 +18,7 @@ use Rattle.rd_served_causes.proofs.JournalsAskingLemmas.{HeardAs}
 use Rattle.rd_served_causes.proofs.JournalsAskingLemmas as asking_of
 use Rattle.rd_served_causes.proofs.JournalsHeldLemmas.{stored_unread}
 use Rattle.rd_turn.specs.History.{Leads}
-use Rattle.rd_world.specs.Talk.{Deed, client_read, client_reads, is_request}
+use Rattle.rd_deeds.specs.Talk.{Deed, client_read, client_reads, is_request}
 use Rattle.rd_workers.proofs.RunLemmas.{HearsTo, IsSure, hears_to, hindered, plainly}
 use Rattle.rd_workers.specs.Channels.{ChannelRun, IsChannelRun, calls_by_all}
 use Rattle.rd_workers.specs.Logs.{asks_any, reader_calls}

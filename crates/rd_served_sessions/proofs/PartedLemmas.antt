@@ -17,8 +17,8 @@ use Rattle.rd_script.specs.declared.line.Line.TheVariants as line
 use Rattle.rd_script.specs.declared.line.NumberedLine.{NumberedLine}
 use Rattle.rd_station.proofs.Members.{has_append, has_right}
 use Rattle.rd_world.specs.Control.{removed}
-use Rattle.rd_world.specs.Opening.{bare_lines}
-use Rattle.rd_world.specs.Talk.{Deed, EachAfter, EndsWith, Has, client_read, is_request, read_by_client, stores}
+use Rattle.rd_declared.specs.Declaring.{bare_lines}
+use Rattle.rd_deeds.specs.Talk.{Deed, EachAfter, EndsWith, Has, client_read, is_request, read_by_client, stores}
 use Rattle.rd_workers.specs.Lines.{IsCallFor, LinesStand, LinesStep, NoneIsDue, at_lines, due_now, first_due, having_acted, left_from, lines_from_on, lines_stand, waits_first, was_full}
 use Rattle.rd_workers.specs.Logs.{given_by}
 use Rattle.rd_served_causes.specs.ServedHistories.{may_start}

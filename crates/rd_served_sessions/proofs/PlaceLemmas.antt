@@ -12,8 +12,8 @@ use Rattle.rd_front.specs.declared.calls.FrontReply.TheVariants as reply
 use Rattle.rd_script.specs.declared.line.Line.{Line}
 use Rattle.rd_script.specs.declared.line.Line.TheVariants as line
 use Rattle.rd_script.specs.declared.line.NumberedLine.{NumberedLine}
-use Rattle.rd_world.specs.Opening.{bare_lines}
-use Rattle.rd_world.specs.Talk.{EndsWith, Has}
+use Rattle.rd_declared.specs.Declaring.{bare_lines}
+use Rattle.rd_deeds.specs.Talk.{EndsWith, Has}
 use Rattle.rd_workers.proofs.LineLemmas.{from_later}
 use Rattle.rd_workers.specs.Lines.{IsCallFor, LinesGo, LinesStand, LinesStep, at_line, at_lines, due_now, first_due, having_acted, left_from, lines_from_on, once_acted, waits_first, was_full}
 use Rattle.rd_served_sessions.specs.Parted.{AreInPlace, line_place}

@@ -13,7 +13,7 @@ use Rattle.rd_front.specs.declared.calls.FrontCall.{FrontCall}
 use Rattle.rd_front.specs.declared.calls.FrontCall.TheVariants as call
 use Rattle.rd_front.specs.declared.calls.FrontReply.{FrontReply}
 use Rattle.rd_front.specs.declared.calls.FrontReply.TheVariants as reply
-use Rattle.rd_world.specs.Talk.{Deed, Has, client_read, client_wrote, stores}
+use Rattle.rd_deeds.specs.Talk.{Deed, Has, client_read, client_wrote, stores}
 use Rattle.rd_workers.proofs.RunLemmas.{DoesSurely}
 use Rattle.rd_workers.specs.Logs.{given_by, messages_by}
 use Rattle.rd_served_causes.proofs.ServedCauseLemmas.{new_at}

@@ -14,7 +14,7 @@ use Rattle.rd_front.specs.State.{DeviceDeskState, FrontState, SessionStation}
 use Rattle.rd_front.specs.declared.calls.FrontCall.{FrontCall}
 use Rattle.rd_front.specs.declared.calls.FrontCall.TheVariants as call
 use Rattle.rd_front.specs.declared.calls.FrontReply.{FrontReply}
-use Rattle.rd_world.specs.Talk.{Deed, Has, stores}
+use Rattle.rd_deeds.specs.Talk.{Deed, Has, stores}
 use Rattle.rd_world.specs.World.{Kept}
 use Rattle.rd_workers.proofs.RunLemmas.{DoesSurely}
 use Rattle.rd_served_causes.proofs.ServedCauseLemmas.{found}

@@ -20,7 +20,7 @@ use Rattle.rd_front.specs.declared.calls.FrontReply.{FrontReply}
 use Rattle.rd_front.specs.declared.calls.FrontReply.TheVariants as reply
 use Rattle.rd_station.specs.Station as station
 use Rattle.rd_world.specs.Control.{Act, added, removed}
-use Rattle.rd_world.specs.Talk.{Deed, Has, stores}
+use Rattle.rd_deeds.specs.Talk.{Deed, Has, stores}
 use Rattle.rd_served_causes.proofs.ServedKeyLemmas.{IsKeyed}
 use Rattle.rd_served_causes.proofs.ServedStandingLemmas.{IsKnownAt, part_known}
 use Rattle.rd_served_causes.specs.ServedDeeds.{deeds_after, deeds_of}

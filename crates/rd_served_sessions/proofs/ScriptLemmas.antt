@@ -28,7 +28,7 @@ use Rattle.rd_script.specs.Said.{Said, is_in_order, with_line}
 use Rattle.rd_script.specs.Script.{BadLine, Reading, TextLine, bad_line, fits, go_on, is_application, is_skipped, line_of, lines_of, read_all, reading, reading_at_start, script_of, script_read, skipping, step, taken}
 use Rattle.rd_script.specs.Texts.{few_bytes, handle_word, hex_word, name_word, place_word}
 use Rattle.rd_script.proofs.RowLemmas.{ok_same}
-use Rattle.rd_world.proofs.RowFacts.{AreShort, Gives, gives_after, gives_done, gives_test, gives_then}
+use Rattle.rd_declared.proofs.RowFacts.{AreShort, Gives, gives_after, gives_done, gives_test, gives_then}
 use Rattle.rd_served_sessions.specs.Parted.{AreInPlace, IsNotBefore, line_place}
 
 -- a line with a place stands in order after what was said

@@ -36,14 +36,15 @@ use Rattle.rd_sharing.specs.Closing.{AreUntroubled, IsUntroubled, station_device
 use Rattle.rd_sharing.specs.ServedOpening.{ServedDeclared, shown_of}
 use Rattle.rd_station.specs.Station.{new_station}
 use Rattle.rd_turn.specs.History.{Leads}
-use Rattle.rd_world.specs.Devices.{Declared, device_cut, device_step}
+use Rattle.rd_declared.specs.Devices.{Declared, device_cut, device_step}
 use Rattle.rd_world.specs.Acts.{act_by, tellings_on}
 use Rattle.rd_world.specs.Control.{is_among}
 use Rattle.rd_world.specs.Recording.{announced_of}
-use Rattle.rd_world.specs.Session.{journals_of, request_read}
-use Rattle.rd_world.specs.Talk.{Deed, EachAfter, Has, client_read, client_moves, client_wrote, journal}
-use Rattle.rd_world.specs.Told.{AreAnswered}
-use Rattle.rd_world.specs.declared.device.SessionDevice.{SessionDevice}
+use Rattle.rd_declared.specs.Replies.{request_read}
+use Rattle.rd_world.specs.Session.{journals_of}
+use Rattle.rd_deeds.specs.Talk.{Deed, EachAfter, Has, client_read, client_moves, client_wrote, journal}
+use Rattle.rd_deeds.specs.Told.{AreAnswered}
+use Rattle.rd_declared.specs.declared.device.SessionDevice.{SessionDevice}
 use Rattle.rd_workers.specs.Channels.{ChannelRun, HaveNumbers, IsChannelRun, LinkerTold, calls_by_all}
 use Rattle.rd_workers.specs.Lines.{at_lines}
 use Rattle.rd_workers.specs.Logs.{AllFound, asks_any, given_by, messages_by, messages_for, messages_heard, reader_calls}

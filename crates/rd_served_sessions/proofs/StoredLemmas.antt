@@ -9,7 +9,7 @@ use Rattle.rd_front.specs.State.{DeviceDeskState, SessionStation}
 use Rattle.rd_hello.specs.declared.end_fault.EndFault.TheVariants as fault
 use Rattle.rd_served_causes.proofs.JournalsHeldLemmas.{turned_has}
 use Rattle.rd_station.proofs.Members.{has_append}
-use Rattle.rd_world.specs.Talk.{Deed, Has, stores}
+use Rattle.rd_deeds.specs.Talk.{Deed, Has, stores}
 use Rattle.rd_served_causes.specs.ServedDeeds.{deeds_after, deeds_of, deeds_of_calls, sent_by, stored, stored_each}
 use Rattle.rd_served_causes.specs.ServedParts.{EndsEach, FrontPart, begins, calls, directs, ends, forgets, hears, keeps, learns, misplaces, refreshes, sends, tells_gone, tells_there, tries, unwritten, writes}
 use Rattle.rd_served_causes.specs.ServedServed.{CallsDesk}

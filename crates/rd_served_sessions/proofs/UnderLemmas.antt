@@ -25,7 +25,7 @@ use Rattle.rd_station.specs.Station as station
 use Rattle.rd_station.specs.declared.refusals.PutWhy.{PutWhy}
 use Rattle.rd_station.specs.declared.refusals.PutWhy.TheVariants as why
 use Rattle.rd_turn.specs.declared.object.Entry.{Entry}
-use Rattle.rd_world.specs.Talk.{Deed, EachAfter, Has, client_read, client_reads, is_request, stores}
+use Rattle.rd_deeds.specs.Talk.{Deed, EachAfter, Has, client_read, client_reads, is_request, stores}
 use Rattle.rd_world.specs.World.{Kept}
 use Rattle.rd_served_causes.proofs.ServedCauseLemmas.{IsTold, parts_told, part_told}
 use Rattle.rd_served_causes.proofs.ServedComesLemmas.{ComesBy, called_comes, end_comes_none}

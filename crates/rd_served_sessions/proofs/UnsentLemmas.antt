@@ -21,7 +21,7 @@ use Rattle.rd_served_causes.proofs.JournalsHeldLemmas.{turned_has}
 use Rattle.rd_station.proofs.Members.{has_append}
 use Rattle.rd_station.specs.Station.{StationCall, announces, applies, collects, drops, ends, puts, puts_unfit, removes, takes}
 use Rattle.rd_station.specs.declared.answers.Completion.{Completion}
-use Rattle.rd_world.specs.Talk.{Deed, Has, journal, stores}
+use Rattle.rd_deeds.specs.Talk.{Deed, Has, journal, stores}
 use Rattle.rd_served_causes.proofs.ServedCauseLemmas.{stored_elsewhere, stored_here}
 use Rattle.rd_served_causes.proofs.ServedComesLemmas.{cancel}
 use Rattle.rd_served_causes.proofs.ServedHeldLemmas.{HeldIn}

@@ -6,7 +6,7 @@ use Rattle.rd_client.specs.Core.{Outgoing}
 use Rattle.rd_front.specs.Calls.{FrontEntry}
 use Rattle.rd_front.specs.Front.{with_new_data}
 use Rattle.rd_front.specs.State.{FrontState}
-use Rattle.rd_world.specs.Talk.{Deed, client_wrote}
+use Rattle.rd_deeds.specs.Talk.{Deed, client_wrote}
 use Rattle.rd_served_causes.proofs.ServedKeyLemmas.{IsKeyed, both_true, refreshed_calm}
 use Rattle.rd_served_causes.proofs.ServedStandingLemmas.{IsKnownAt, direct_under, ended_outbox, part_known, refreshed_more, sent_first, sent_none}
 use Rattle.rd_served_causes.specs.ServedDeeds.{AreOnChannel, EachOnChannel, PartsOnChannel, deeds_after, deeds_of, deeds_of_calls}

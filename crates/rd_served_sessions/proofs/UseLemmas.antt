@@ -21,7 +21,7 @@ use Rattle.rd_station.specs.Station.{MayPut, held}
 use Rattle.rd_station.specs.declared.refusals.PutNo.{PutNo}
 use Rattle.rd_station.specs.declared.refusals.PutWhy.{PutWhy}
 use Rattle.rd_station.specs.declared.refusals.PutWhy.TheVariants as why
-use Rattle.rd_world.specs.Talk.{Deed, Has, client_read, is_request, journal, request_at, request_in}
+use Rattle.rd_deeds.specs.Talk.{Deed, Has, client_read, is_request, journal, request_at, request_in}
 use Rattle.rd_world.specs.World.{Kept}
 use Rattle.rd_served_causes.proofs.ServedCauseLemmas.{AnyRequest, IsTold, job_told, part_told, some_same, tied_then, to_turned}
 use Rattle.rd_served_causes.proofs.ServedHeldLemmas.{HeldIn, found_in_use, held_came, held_unsent, work_less}

@@ -6,8 +6,8 @@ use Rattle.rd_devices.specs.DeviceList.{list_bytes}
 use Rattle.rd_devices.specs.Removal.{removal_bytes}
 use Rattle.rd_printer.specs.Cache.{CacheState}
 use Rattle.rd_world.specs.Acts.{is_telling}
-use Rattle.rd_world.specs.Devices.{Declared, announce_of}
-use Rattle.rd_world.specs.Talk.{Deed, Has, client_writes}
+use Rattle.rd_declared.specs.Devices.{Declared, announce_of}
+use Rattle.rd_deeds.specs.Talk.{Deed, Has, client_writes}
 
 -- The announcement of one of these devices has the type, the name and the data that were declared. A printer's data also has what is kept for its name, whatever that is here.
 abbrev pub IsAnnounceOf : List (ℕ × Declared) → Announce → Type 0

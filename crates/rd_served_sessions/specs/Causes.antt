@@ -13,7 +13,7 @@ use Rattle.rd_hello.specs.declared.client.ClientState.{ClientState}
 use Rattle.rd_hello.specs.declared.end_fault.EndFault.{EndFault}
 use Rattle.rd_irp.specs.declared.request.Request.{Request}
 use Rattle.rd_workers.specs.Channels.{ChannelRun}
-use Rattle.rd_world.specs.Talk.{Deed, Has, client_read, is_request, journal, request_at, request_in}
+use Rattle.rd_deeds.specs.Talk.{Deed, Has, client_read, is_request, journal, request_at, request_in}
 
 -- Of the messages that were read, the newest first, none is wrong but the last. The others lead the client's opening to a state, and in that the last has this fault.
 pub record LastIsWrong (fault : EndFault) (read : List (List ℕ)) : Type 0 where

@@ -4,7 +4,7 @@ use Rattle.std.specs.Option.{option_map_or}
 use Rattle.rd_served_causes.specs.ActedActed.{state_read}
 use Rattle.rd_base.specs.declared.journal.Item.TheVariants.{Came}
 use Rattle.rd_client.specs.Order.{is_client_ready}
-use Rattle.rd_world.specs.Talk.{Deed, client_read, is_removed, stores}
+use Rattle.rd_deeds.specs.Talk.{Deed, client_read, is_removed, stores}
 
 -- A request comes to a device only where that is there for the host: the messages that were read on the request's channel made the client ready, so that it lists its devices there, and the device wasn't removed, or was added again.
 abbrev pub ComesThere : List Deed → Deed → Type 0

@@ -5,7 +5,7 @@ use Rattle.rd_base.specs.Lawful.{named_key}
 use Rattle.rd_base.specs.declared.journal.Item.{Item}
 use Rattle.rd_base.specs.declared.journal.Item.TheVariants.{Came, Cut}
 use Rattle.rd_base.specs.declared.journal.Key.{Key}
-use Rattle.rd_world.specs.Talk.{Deed, client_read, client_reads, client_writes, client_wrote, completes, journal, stores}
+use Rattle.rd_deeds.specs.Talk.{Deed, client_read, client_reads, client_writes, client_wrote, completes, journal, stores}
 
 -- the keys that came to a device since it was cut off last, by its journal, the newest first
 abbrev pub uncut_keys : List Item → List Key

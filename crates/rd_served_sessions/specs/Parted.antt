@@ -7,8 +7,8 @@ use Rattle.rd_base.specs.declared.journal.Key.{Key}
 use Rattle.rd_script.specs.declared.line.Line.{Line}
 use Rattle.rd_script.specs.declared.line.Line.TheVariants as line
 use Rattle.rd_script.specs.declared.line.NumberedLine.{NumberedLine}
-use Rattle.rd_world.specs.Opening.{bare_lines}
-use Rattle.rd_world.specs.Talk.{Deed, Has, client_read, stores}
+use Rattle.rd_declared.specs.Declaring.{bare_lines}
+use Rattle.rd_deeds.specs.Talk.{Deed, Has, client_read, stores}
 use Rattle.rd_served_sessions.specs.Placed.{requests_read}
 
 -- ---- the places of lines

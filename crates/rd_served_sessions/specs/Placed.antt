@@ -10,7 +10,7 @@ use Rattle.rd_front.specs.declared.calls.FrontReply.{FrontReply}
 use Rattle.rd_front.specs.declared.calls.FrontReply.TheVariants as reply
 use Rattle.rd_world.specs.Acts.{act_by}
 use Rattle.rd_world.specs.Control.{removed}
-use Rattle.rd_world.specs.Talk.{Deed, Has, client_read, client_wrote, is_request, stores}
+use Rattle.rd_deeds.specs.Talk.{Deed, Has, client_read, client_wrote, is_request, stores}
 use Rattle.rd_workers.specs.Logs.{given_by, messages_by}
 use Rattle.rd_served_causes.specs.ServedHistories.{may_start}
 use Rattle.rd_served_sessions.specs.Acts.{act_done}

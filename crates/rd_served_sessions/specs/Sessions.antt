@@ -15,14 +15,15 @@ use Rattle.rd_sharing.specs.ServedOpening.{ServedDeclared, shown_of}
 use Rattle.rd_script.specs.declared.line.NumberedLine.{NumberedLine}
 use Rattle.rd_world.specs.Acts.{act_by, tellings_on}
 use Rattle.rd_world.specs.Control.{is_among}
-use Rattle.rd_world.specs.Devices.{device_cut, device_step}
-use Rattle.rd_world.specs.declared.device.SessionDevice.{SessionDevice}
-use Rattle.rd_world.specs.Joining.{Stands}
-use Rattle.rd_world.specs.Opening.{AreDeclared}
+use Rattle.rd_declared.specs.Devices.{device_cut, device_step}
+use Rattle.rd_declared.specs.declared.device.SessionDevice.{SessionDevice}
+use Rattle.rd_deeds.specs.Joining.{Stands}
+use Rattle.rd_declared.specs.Declaring.{AreDeclared}
 use Rattle.rd_world.specs.Recording.{announced_of}
-use Rattle.rd_world.specs.Session.{journals_of, request_read}
-use Rattle.rd_world.specs.Talk.{Deed, EachAfter, client_moves, client_read, client_wrote, journal}
-use Rattle.rd_world.specs.Told.{AreAnswered, IsHeeded}
+use Rattle.rd_declared.specs.Replies.{request_read}
+use Rattle.rd_world.specs.Session.{journals_of}
+use Rattle.rd_deeds.specs.Talk.{Deed, EachAfter, client_moves, client_read, client_wrote, journal}
+use Rattle.rd_deeds.specs.Told.{AreAnswered, IsHeeded}
 use Rattle.rd_workers.specs.Channels.{AllGoByLines, ChannelRun, EndsByCalls, HaveNumbers, IsChannelRun, LinkerTold, Standing, calls_by_all}
 use Rattle.rd_workers.specs.Lines.{at_lines}
 use Rattle.rd_workers.specs.Logs.{Wrote, messages_for, reader_calls}

@@ -8,7 +8,7 @@ ghost use Rattle.rd_script.specs.Script.{script_of};
 ghost use Rattle.rd_script.specs.declared.keyword.Mode.{Mode};
 ghost use Rattle.rd_script.specs.declared.line.NumberedLine.{NumberedLine};
 ghost use Rattle.rd_script.specs.declared.script.Script.{Script};
-ghost use Rattle.rd_world.specs.Opening.{bare_lines};
+ghost use Rattle.rd_declared.specs.Declaring.{bare_lines};
 ghost use Rattle.rd_sharing.specs.ServedOpening.{AreServedDevices, HadNoTrouble, ServedDeclared, ToldFolders};
 ghost use Rattle.rd_workers.specs.Channels.{LinkerTold, channels_of};
 ghost use Rattle.rd_workers.specs.Lines.{at_lines};

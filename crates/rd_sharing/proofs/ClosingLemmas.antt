@@ -8,7 +8,7 @@ use Rattle.rd_station.specs.Station.{StationState, new_station}
 use Rattle.rd_devices.specs.declared.list.Announce.{Announce}
 use Rattle.rd_served_devices.specs.ServedDevices as served
 use Rattle.rd_served_devices.specs.ServedDevices.{ServedDeviceState}
-use Rattle.rd_world.specs.declared.device.SessionDevice.{SessionDevice}
+use Rattle.rd_declared.specs.declared.device.SessionDevice.{SessionDevice}
 use Rattle.rd_sharing.specs.declared.devices.Devices.{Devices}
 use Rattle.rd_sharing.specs.Closing.{AreUntroubled, IsUntroubled, station_devices, trouble_after, trouble_with}
 use Rattle.rd_sharing.specs.Devices.{KeepsMade, anew}

@@ -16,10 +16,11 @@ use Rattle.rd_devices.specs.declared.list.Announce.{Announce}
 use Rattle.rd_pending.proofs.MapLemmas.{rises_with}
 use Rattle.rd_station.specs.Station.{StationState, new_station}
 use Rattle.rd_served_devices.specs.ServedDevices.{ServedDeviceState, served_parked}
-use Rattle.rd_world.specs.Devices.{Declared, PrinterNames, announce_of}
-use Rattle.rd_world.specs.Opening.{AreOpenable, IsOpenable, Opens}
+use Rattle.rd_declared.specs.Devices.{Declared, PrinterNames, announce_of}
+use Rattle.rd_declared.specs.Declaring.{AreOpenable, IsOpenable}
+use Rattle.rd_world.specs.Opening.{Opens}
 use Rattle.rd_world.specs.Run.{printers_of, station_of}
-use Rattle.rd_world.specs.declared.device.SessionDevice.{SessionDevice}
+use Rattle.rd_declared.specs.declared.device.SessionDevice.{SessionDevice}
 use Rattle.rd_sharing.specs.declared.devices.Devices.{Devices}
 use Rattle.rd_sharing.specs.Devices.{AddsDevice, AreSideBySide, IsQuietStation, KeepsDevices, KeepsMade, anew}
 use Rattle.rd_sharing.specs.FolderLines.{IsFolderDevice}

@@ -1,12 +1,10 @@
 -- Folders that are opened one after the other.
-use Rattle.std.proofs.Common.{◌≡◌, ◌∙◌, refl, sym, ap, subst, ℕ, List, [], ◌∷◌, ◌++◌, append_assoc, Result, Err, arith}
-use Rattle.std.specs.Prelude.{Contains, IfErr}
+use Rattle.std.proofs.Common.{◌≡◌, ◌∙◌, refl, sym, ap, subst, ℕ, List, [], ◌∷◌, ◌++◌, append_assoc, Result, Err}
+use Rattle.std.specs.Prelude.{IfErr}
 use Rattle.std.specs.List.{AllByRecursion}
-use Rattle.std.specs.Map.{keys_of}
 use Rattle.std.specs.Ordering.{nat_cmp}
 use Rattle.std.specs.BTreeMap.{insert_entry}
-use Rattle.std.proofs.lemmas.List.{map-append}
-use Rattle.std.proofs.lemmas.List.Elements.{Contains-append_right}
+use Rattle.rd_base.specs.Faults.{one_more}
 use Rattle.rd_devices.specs.declared.list.Announce.{Announce}
 use Rattle.rd_folder.specs.FolderOpens.{CountsOpening}
 use Rattle.rd_folder.specs.declared.folder.FolderNo.{FolderNo}
@@ -14,15 +12,15 @@ use Rattle.rd_folder.specs.declared.folder.FolderNo.TheVariants as folder_no
 use Rattle.rd_folder_drive.specs.FolderDrive.{FolderDriveState}
 use Rattle.rd_served_devices.specs.ServedDevices as served
 use Rattle.rd_served_devices.specs.ServedDevices.{ServedDeviceState}
-use Rattle.rd_world.specs.Devices.{Declared, announce_of}
+use Rattle.rd_declared.specs.Devices.{Declared, announce_of}
 use Rattle.rd_sharing.specs.declared.devices.Devices.{Devices}
 use Rattle.rd_sharing.specs.declared.opening_no.OpeningNo.{OpeningNo}
 use Rattle.rd_sharing.specs.declared.opening_no.OpeningNo.TheVariants as no
 use Rattle.rd_sharing.specs.Closing.{AreUntroubled, station_devices}
 use Rattle.rd_sharing.specs.Devices.{AddsDevice, AreSideBySide, KeepsDevices, OpensFolders}
 use Rattle.rd_sharing.specs.FolderLines.{IsFolderDevice}
-use Rattle.rd_sharing.specs.Refused.{IsFolderNo}
-use Rattle.rd_sharing.specs.ServedOpening.{FoldersTold, OpenInTurn, OpensOne, ServedDeclared, with_folders}
+use Rattle.rd_sharing.specs.Refused.{IsFolderNo, OnFolderNo, StopsOpening}
+use Rattle.rd_sharing.specs.ServedOpening.{FoldersTold, OpenInTurn, OpensOne, ServedDeclared, ToldFolders, with_folders}
 use Rattle.rd_sharing.proofs.DevicesLemmas.{beside_add, keeps_add}
 
 -- ---- one more is opened
@@ -87,13 +85,6 @@ opened_more all left f before mid after old kept new s announce has one adds tol
   are = (has.are).1;
 }
 
--- what is to be opened next is one of all
-pub next_of_all : {F : Type 0} (all left : List (ℕ × Declared)) (f : ℕ × Declared) (before now : FoldersTold) (old new : Devices F) → HasOpened all (f ∷ left) before now old new → Contains (keys_of all) f.0
-next_of_all all left f before now old new has =
-    subst (λ (es : List (ℕ × Declared)). Contains (keys_of es) f.0) has.whole
-    (subst (λ (ks : List ℕ). Contains ks f.0) (sym (map-append (λ (e : ℕ × Declared). e.0) has.done (f ∷ left)))
-    (Contains-append_right (keys_of has.done) (f.0 ∷ keys_of left) f.0 (0, omega arith, refl)))
-
 -- all are opened
 pub opened_all : {F : Type 0} (all left : List (ℕ × Declared)) (before now : FoldersTold) (old new : Devices F) → HasOpened all left before now old new → left ≡ [] → OpensFolders all before now old new
 opened_all {F} all left before now old new has none =
@@ -114,14 +105,38 @@ counts_any X Y why before after counts = counts
 pub counts_unit : {X : Type 0} (result : Result X FolderNo) (why : FolderNo) (before after : ℕ) → result ≡ Err why → CountsOpening result before after → CountsOpening {X = Unit {0}} (Err why) before after
 counts_unit {X} result why before after is counts = counts_any X (Unit {0}) why before after (subst (λ (r : Result X FolderNo). CountsOpening r before after) is counts)
 
--- A folder that is none of some devices is none of more.
-pub folder_no_of : (P Q : ℕ → Type 0) (before after : ℕ) (why : OpeningNo) → ((id : ℕ) → P id → Q id) → IsFolderNo P before after why → IsFolderNo Q before after why
-folder_no_of P Q before after (no.Folder device) more is = (more device is.0, is.1)
-folder_no_of P Q before after no.Memory more is = is
+-- what holds anyway holds where a folder is missing
+pub on_folder_no : (why : OpeningNo) (P : Type 0) → P → OnFolderNo why P
+on_folder_no (no.Folder device) P is = is
+on_folder_no no.Memory P is = tt
 
--- the count before may be another, which is the same
-pub folder_no_since : (P : ℕ → Type 0) (first before after : ℕ) (why : OpeningNo) → before ≡ first → IsFolderNo P before after why → IsFolderNo P first after why
-folder_no_since P first before after why same is = subst (λ (n : ℕ). IsFolderNo P n after why) same is
+-- The first drives are opened, and the next isn't.
+pub stops_next : {F : Type 0} (all left : List (ℕ × Declared)) (id : ℕ) (drive : Declared) (before now after : ToldFolders) (old kept : Devices F) (why : OpeningNo)
+    → HasOpened all ((id, drive) ∷ left) before.opened now.opened old kept → now.failures ≡ before.failures
+    → IsFolderNo drive.id now.failures after.failures why → OnFolderNo why (after.opened ≡ now.opened) → StopsOpening all before after why
+stops_next all left id drive before now after old kept (no.Folder device) has same is unopened = record {
+  earlier = has.done;
+  drive = drive;
+  later = left;
+  parts = subst (λ (k : ℕ). all ≡ has.done ++ (k, drive) ∷ left) (sym (is.0 ∙ ((has.are).0).openable.same)) (sym has.whole);
+  folders = (has.opens).folders;
+  opens = subst (λ (told : FoldersTold). OpenInTurn has.done before.opened (has.opens).folders told) (sym unopened) (has.opens).opens;
+  counted = is.1 ∙ ap one_more same;
+}
+stops_next all left id drive before now after old kept no.Memory has same is unopened = is ∙ same
+
+-- What comes after may tell the same, with another count of faults.
+pub stops_then : (drives : List (ℕ × Declared)) (before mid after : ToldFolders) (why : OpeningNo) → after.opened ≡ mid.opened → after.failures ≡ mid.failures → StopsOpening drives before mid why → StopsOpening drives before after why
+stops_then drives before mid after (no.Folder device) opened failures stops = record {
+  earlier = stops.earlier;
+  drive = stops.drive;
+  later = stops.later;
+  parts = stops.parts;
+  folders = stops.folders;
+  opens = subst (λ (told : FoldersTold). OpenInTurn stops.earlier before.opened stops.folders told) (sym opened) stops.opens;
+  counted = failures ∙ stops.counted;
+}
+stops_then drives before mid after no.Memory opened failures stops = failures ∙ stops
 
 -- what holds of an error holds where it is the one that is answered
 pub if_err : {T E : Type 0} (r : Result T E) (e : E) (P : E → Type 0) → r ≡ Err e → P e → IfErr r P

@@ -12,9 +12,9 @@ use Rattle.rd_devices.specs.declared.list.Announce.{Announce}
 use Rattle.rd_script.specs.declared.line.Line.{Line}
 use Rattle.rd_station.specs.Station.{StationState, new_station}
 use Rattle.rd_served_devices.specs.ServedDevices.{IsServedReached, ServedDeviceState, served_parked}
-use Rattle.rd_world.specs.Devices.{Declared, PrinterNames, announce_of}
-use Rattle.rd_world.specs.Opening.{AreOpenable, IsOpenable}
-use Rattle.rd_world.specs.Run.{declared_devices, station_of}
+use Rattle.rd_declared.specs.Devices.{Declared, PrinterNames, announce_of}
+use Rattle.rd_declared.specs.Declaring.{AreOpenable, IsOpenable, declared_devices}
+use Rattle.rd_world.specs.Run.{station_of}
 use Rattle.rd_world.proofs.OpenedLemmas.{opens_all}
 use Rattle.rd_sharing.specs.declared.devices.Devices.{Devices}
 use Rattle.rd_sharing.specs.Devices.{KeepsDevices, OpensFolders}

@@ -9,8 +9,8 @@ use Rattle.rd_folder.specs.FolderOpens.{OpensFolder}
 use Rattle.rd_folder.specs.Told.{IsFolderMap}
 use Rattle.rd_folder_drive.specs.FolderDrive.{FolderDriveState, opened_over}
 use Rattle.rd_folder_drive.specs.Served.{seen}
-use Rattle.rd_world.specs.Devices.{Declared, declared_drive, dos_name}
-use Rattle.rd_world.specs.Opening.{max_device_name}
+use Rattle.rd_declared.specs.Devices.{Declared, declared_drive, dos_name}
+use Rattle.rd_declared.specs.Declaring.{max_device_name}
 use Rattle.rd_sharing.specs.FolderLines.{IsFolderDevice}
 use Rattle.rd_sharing.specs.ServedOpening.{FoldersTold, OpensOne}
 

@@ -11,11 +11,10 @@ use Rattle.rd_folder_drive.specs.FolderDrive.{FolderDriveState}
 use Rattle.rd_station.specs.Station.{StationState, new_station}
 use Rattle.rd_served_devices.specs.ServedDevices as served
 use Rattle.rd_served_devices.specs.ServedDevices.{ServedDeviceState, served_parked}
-use Rattle.rd_world.specs.Devices.{Declared, PrinterNames, announce_of, device_parked}
-use Rattle.rd_world.specs.Opening.{IsOpenable}
+use Rattle.rd_declared.specs.Devices.{Declared, PrinterNames, announce_of, device_parked}
+use Rattle.rd_declared.specs.Declaring.{IsOpenable, max_session_devices}
 use Rattle.rd_world.specs.Run.{printers_of}
-use Rattle.rd_world.specs.Stations.{max_session_devices}
-use Rattle.rd_world.specs.declared.device.SessionDevice.{SessionDevice}
+use Rattle.rd_declared.specs.declared.device.SessionDevice.{SessionDevice}
 use Rattle.rd_sharing.specs.declared.devices.Devices.{Devices}
 use Rattle.rd_sharing.specs.ServedOpening.{FoldersTold, OpenInTurn, ServedDeclared, shown_of, with_folders}
 

@@ -5,8 +5,8 @@ use Rattle.std.specs.Ordering.{nat_cmp}
 use Rattle.rd_dirinfo.specs.declared.naming.Naming.TheVariants as naming
 use Rattle.rd_script.specs.declared.line.Line.{Line}
 use Rattle.rd_script.specs.declared.line.Line.TheVariants as line
-use Rattle.rd_world.specs.Devices.{Declared, declared_drive}
-use Rattle.rd_world.specs.Opening.{IsOpenable}
+use Rattle.rd_declared.specs.Devices.{Declared, declared_drive}
+use Rattle.rd_declared.specs.Declaring.{IsOpenable}
 
 -- With the drive over a folder that a line declares. It is announced as a drive in memory of that name is.
 unfoldable pub declaring_folder : List (ℕ × Declared) → Line → List (ℕ × Declared)

@@ -14,9 +14,10 @@ use Rattle.rd_script.specs.declared.line.Line.{Line}
 use Rattle.rd_station.specs.Station.{StationState, new_station}
 use Rattle.rd_served_devices.specs.ServedDevices as served
 use Rattle.rd_served_devices.specs.ServedDevices.{ServedDeviceState, served_parked}
-use Rattle.rd_world.specs.Devices.{Declared, PrinterNames}
-use Rattle.rd_world.specs.Opening.{AreOpenable, Opens}
-use Rattle.rd_world.specs.Run.{declared_devices, station_of}
+use Rattle.rd_declared.specs.Devices.{Declared, PrinterNames}
+use Rattle.rd_declared.specs.Declaring.{AreOpenable, declared_devices}
+use Rattle.rd_world.specs.Opening.{Opens}
+use Rattle.rd_world.specs.Run.{station_of}
 use Rattle.rd_sharing.specs.FolderLines.{folder_devices}
 
 -- ---- which devices there are

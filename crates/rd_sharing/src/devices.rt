@@ -7,11 +7,12 @@ ghost use Rattle.rd_served_devices.specs.ServedDevices.{served_parked};
 ghost use Rattle.rd_sharing.specs.Closing.{AreUntroubled, IsUntroubled, station_devices};
 ghost use Rattle.rd_sharing.specs.Devices.{AddsDevice, AreSideBySide, IsQuietStation, KeepsMade, anew};
 
+use rd_declared::SessionDevice;
 use rd_devices::{Announce, DeviceList};
 use rd_folder::Folder;
 use rd_served_devices::ServedDevice;
 use rd_station::Station;
-use rd_world::{SessionDevice, Stations};
+use rd_world::Stations;
 use std::alloc::{AllocError, Global};
 
 /// The most devices of a session.

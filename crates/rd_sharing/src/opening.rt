@@ -1,30 +1,29 @@
 //! The devices of a script, opened.
 
-ghost use Rattle.std.specs.Prelude.{◌≡◌, ℕ, List, length, map, All, Contains, IfErr, IfOk, OnOk};
+ghost use Rattle.std.specs.Prelude.{◌≡◌, ℕ, List, length, map, All, IfErr, IfOk, OnOk};
 ghost use Rattle.std.specs.List.{AllByRecursion, zip};
 ghost use Rattle.std.specs.List.Sorted.{IsStrictlySortedBy};
-ghost use Rattle.std.specs.Map.{keys_of};
 ghost use Rattle.std.specs.Ordering.{nat_cmp};
 ghost use Rattle.rd_served_devices.specs.ServedDevices.{IsServedReached};
 ghost use Rattle.rd_sharing.specs.Closing.{AreUntroubled, station_devices};
 ghost use Rattle.rd_sharing.specs.Devices.{AreSideBySide, KeepsDevices, OpensFolders};
 ghost use Rattle.rd_sharing.specs.FolderLines.{IsFolderDevice, folder_devices};
-ghost use Rattle.rd_sharing.specs.Refused.{IsFolderNo};
-ghost use Rattle.rd_sharing.specs.ServedOpening.{AreServedDevices, OpensServed, ServedDeclared, as_made};
-ghost use Rattle.rd_world.specs.Opening.{AreDeclared, bare_lines};
-ghost use Rattle.rd_world.specs.Run.{declared_devices};
+ghost use Rattle.rd_sharing.specs.Refused.{StopsOpening};
+ghost use Rattle.rd_sharing.specs.ServedOpening.{AreServedDevices, OpensServed, ServedDeclared, as_made, folders_told};
+ghost use Rattle.rd_declared.specs.Declaring.{AreDeclared, bare_lines, declared_devices};
 
 use crate::closing::close_all;
 use crate::devices::Devices;
 use crate::opening_no::OpeningNo;
 use crate::real::{RealDrive, real_drives};
 use rd_base::Items;
+use rd_declared::Printers;
 use rd_devices::DeviceList;
 use rd_folder::{Folder, Folders};
 use rd_script::NumberedLine;
 use rd_served_devices::ServedDevice;
 use rd_station::Station;
-use rd_world::{Opening, Printers, open_devices};
+use rd_world::{Opening, open_devices};
 use std::alloc::{AllocError, Global};
 use std::collections::BTreeMap;
 
@@ -55,7 +54,8 @@ pub fn open_served<D: Folders>(
     ensures reached { IfOk result (λ o. All IsServedReached o.stations.items) }
     ensures failures { IfOk result (λ _. D.failures folders.new ≡ D.failures folders.old) }
     ensures trouble { D.trouble folders.new ≡ D.trouble folders.old }
-    ensures refused { IfErr result (IsFolderNo (Contains (keys_of (folder_devices (bare_lines lines.now)))) (D.failures folders.old) (D.failures folders.new)) }
+    ensures refused { IfErr result (StopsOpening (folder_devices (bare_lines lines.now)) (folders_told (D.opened folders.old) (D.failures folders.old) (D.trouble folders.old))
+        (folders_told (D.opened folders.new) (D.failures folders.new) (D.trouble folders.new))) }
 {
     let drives = real_drives(alloc, lines)?;
     let (mut served, printers) = open_made::<D::F>(alloc, lines)?;
@@ -109,7 +109,8 @@ fn open_folders<D: Folders>(
     ensures calm { AreUntroubled (station_devices served.new.stations.items) }
     ensures failures { OnOk result (D.failures folders.new ≡ D.failures folders.old) }
     ensures trouble { D.trouble folders.new ≡ D.trouble folders.old }
-    ensures refused { IfErr result (IsFolderNo (Contains (keys_of drives.entries)) (D.failures folders.old) (D.failures folders.new)) }
+    ensures refused { IfErr result (StopsOpening drives.entries (folders_told (D.opened folders.old) (D.failures folders.old) (D.trouble folders.old))
+        (folders_told (D.opened folders.new) (D.failures folders.new) (D.trouble folders.new))) }
 {
     while let Some((id, drive)) = drives.pop_first() {
         let drive_over = drive.open(alloc, folders)?;

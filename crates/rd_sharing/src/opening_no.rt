@@ -18,7 +18,7 @@ pub enum OpeningNo {
 impl OpeningNo {
     /// What the refusal of a device's folder means.
     pub fn of(device: u32, no: FolderNo) -> Self
-        ensures { (before after : ℕ) → CountsOpening {X = Unit {0}} (Err no) before after → IsFolderNo (λ id. id ≡ device) before after result }
+        ensures { (before after : ℕ) → CountsOpening {X = Unit {0}} (Err no) before after → IsFolderNo device before after result }
     {
         match no {
             FolderNo::Failed => OpeningNo::Folder { device },

@@ -7,13 +7,14 @@ ghost use Rattle.std.specs.Ordering.{nat_cmp};
 ghost use Rattle.rd_client.specs.Events.{IsWritableDevice};
 ghost use Rattle.rd_dirinfo.specs.declared.naming.Naming.TheVariants as naming;
 ghost use Rattle.rd_sharing.specs.FolderLines.{IsFolderDevice, declaring_folder, folder_devices};
-ghost use Rattle.rd_sharing.specs.Refused.{IsFolderNo};
+ghost use Rattle.rd_sharing.specs.Refused.{IsFolderNo, OnFolderNo};
 ghost use Rattle.rd_sharing.specs.ServedOpening.{OpensOne};
-ghost use Rattle.rd_world.specs.Devices.{announce_of, declared_drive, dos_name};
-ghost use Rattle.rd_world.specs.Opening.{bare_lines, max_device_name};
+ghost use Rattle.rd_declared.specs.Devices.{announce_of, declared_drive, dos_name};
+ghost use Rattle.rd_declared.specs.Declaring.{bare_lines, max_device_name};
 
 use crate::opening_no::OpeningNo;
-use rd_base::{Bytes, Units};
+use rd_base::Bytes;
+use rd_declared::{dos_name, label_of};
 use rd_devices::Announce;
 use rd_folder::Folders;
 use rd_folder_drive::FolderDrive;
@@ -39,8 +40,8 @@ pub struct RealDrive {
 impl Model for RealDrive {
     ghost use Rattle.std.specs.Prelude.{◌<◌, ◌≤◌, ◌^◌, length};
     ghost use Rattle.rd_dirinfo.specs.declared.naming.Naming.TheVariants as naming;
-    ghost use Rattle.rd_world.specs.Devices.{Declared, declared_drive};
-    ghost use Rattle.rd_world.specs.Opening.{max_device_name};
+    ghost use Rattle.rd_declared.specs.Devices.{Declared, declared_drive};
+    ghost use Rattle.rd_declared.specs.Declaring.{max_device_name};
 
     ghost Value = { Declared };
 
@@ -128,7 +129,8 @@ impl RealDrive {
         }
     }
 
-    /// Opens its folder, and makes a drive over it with its name as the volume label.
+    /// Opens its folder, and makes a drive over it with its name as the volume label. A place that isn't UTF-8, which the grammar of scripts doesn't let pass, is
+    /// taken for want of memory.
     pub fn open<D: Folders>(
         &self,
         alloc: Global,
@@ -137,7 +139,8 @@ impl RealDrive {
         ensures opened { IfOk result (λ drive. OpensOne self.now.name (D.opened folders.old) drive (D.opened folders.new)) }
         ensures failures { IfOk result (λ _. D.failures folders.new ≡ D.failures folders.old) }
         ensures trouble { D.trouble folders.new ≡ D.trouble folders.old }
-        ensures refused { IfErr result (IsFolderNo (λ id. id ≡ self.now.id) (D.failures folders.old) (D.failures folders.new)) }
+        ensures refused { IfErr result (IsFolderNo self.now.id (D.failures folders.old) (D.failures folders.new)) }
+        ensures unopened { IfErr result (λ no. OnFolderNo no (D.opened folders.new ≡ D.opened folders.old)) }
     {
         let Ok(place) = str::from_utf8(self.place.as_slice()) else {
             return Err(OpeningNo::Memory);
@@ -148,28 +151,4 @@ impl RealDrive {
             Err(no) => Err(OpeningNo::of(self.id, no)),
         }
     }
-}
-
-/// The bytes of a name as units.
-fn label_of(alloc: Global, name: &ShortName) -> Result<Units, AllocError>
-    ensures { IfOk result (λ label. label ≡ name.now) }
-{
-    let mut label = Vec::with_capacity(alloc, name.as_slice().len())?;
-    for byte in name.as_slice() {
-        label.push(u16::from(*byte))?;
-    }
-    Ok(Units::of(label))
-}
-
-/// A name, filled with zeros to eight bytes.
-fn dos_name(name: &ShortName) -> [u8; 8]
-    requires { length name.now ≤ max_device_name }
-    ensures { result ≡ dos_name name.now }
-{
-    let name = name.as_slice();
-    let mut dos = [0; 8];
-    for i in 0..name.len() {
-        dos[i] = name[i];
-    }
-    dos
 }

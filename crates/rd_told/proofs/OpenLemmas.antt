@@ -45,16 +45,16 @@ use Rattle.rd_station.specs.declared.refusals.AnnounceNo.{AnnounceNo}
 use Rattle.rd_station.specs.declared.refusals.AnnounceNo.TheVariants as refused
 use Rattle.rd_station.specs.declared.refusals.PutWhy.{PutWhy}
 use Rattle.rd_station.specs.declared.refusals.PutWhy.TheVariants as why
-use Rattle.rd_world.specs.Devices.{Declared, PrinterNames, device_cut}
+use Rattle.rd_declared.specs.Devices.{Declared, PrinterNames, device_cut}
 use Rattle.rd_world.specs.Events.{came_of, connects, cutting, deed_on, dropping}
 use Rattle.rd_world.specs.Hearing.{after_opening, announcing, client_hears, heard_by_client, put_at, put_by, putting}
-use Rattle.rd_world.specs.Opening.{bare_lines}
-use Rattle.rd_world.specs.Run.{applications_of, declared_devices, new_world, world_of}
+use Rattle.rd_declared.specs.Declaring.{bare_lines, declared_devices}
+use Rattle.rd_world.specs.Run.{applications_of, new_world, world_of}
 use Rattle.rd_world.specs.Session.{IsStoredOpen}
-use Rattle.rd_world.specs.Talk as deed
-use Rattle.rd_world.specs.Talk.{Deed, EachAfter, Has, client_reads, client_writes, completes, open_channel, stores}
+use Rattle.rd_deeds.specs.Talk as deed
+use Rattle.rd_deeds.specs.Talk.{Deed, EachAfter, Has, client_reads, client_writes, completes, open_channel, stores}
 use Rattle.rd_world.specs.World.{ApplicationState, Kept, WorldState, handling_by, station_at, with_station}
-use Rattle.rd_world.specs.declared.device.SessionDevice.{SessionDevice}
+use Rattle.rd_declared.specs.declared.device.SessionDevice.{SessionDevice}
 use Rattle.rd_world.proofs.BeginningLemmas.{begun_by}
 use Rattle.rd_world.proofs.OpeningLemmas.{lines_begin}
 

@@ -7,7 +7,7 @@ use Rattle.rd_client.specs.declared.heard.Heard.TheVariants as heard
 use Rattle.rd_core.specs.Core as core
 use Rattle.rd_station.specs.Station as station
 use Rattle.rd_station.specs.declared.refusals.PutWhy.TheVariants as why
-use Rattle.rd_world.specs.Talk as deed
+use Rattle.rd_deeds.specs.Talk as deed
 use Rattle.rd_base.specs.Statuses.{insufficient_resources, no_such_device}
 use Rattle.rd_base.specs.declared.journal.Item.{Item}
 use Rattle.rd_base.specs.declared.journal.Item.TheVariants.{Cancelled, Sent}
@@ -39,21 +39,21 @@ use Rattle.rd_station.specs.declared.answers.Completion.{Completion}
 use Rattle.rd_station.specs.declared.answers.Given.{Given}
 use Rattle.rd_station.specs.declared.refusals.PutWhy.{PutWhy}
 use Rattle.rd_world.proofs.BeginningLemmas.{begun_by}
-use Rattle.rd_world.proofs.Journals.{contains_has}
+use Rattle.rd_deeds.proofs.Journals.{contains_has}
 use Rattle.rd_world.proofs.OpeningLemmas.{lines_begin}
-use Rattle.rd_world.specs.Devices.{Declared, PrinterNames, device_cut, printer_data}
+use Rattle.rd_declared.specs.Devices.{Declared, PrinterNames, device_cut, printer_data}
 use Rattle.rd_world.specs.Events.{came_of, client_sends_first, client_sends_next, completion_message, connects, cutting, dropping}
 use Rattle.rd_world.specs.Hearing.{after_opening, announcing, answers_directly, client_hears, heard_by_client, is_device_told, put_at, put_by, putting}
-use Rattle.rd_world.specs.Opening.{bare_lines}
-use Rattle.rd_world.specs.Run.{applications_of, declared_devices, new_world, world_of}
-use Rattle.rd_world.specs.Talk.{Deed, EachAfter, Has, client_read, client_reads, completes, is_completion_of, is_request, journal, request_at, tells, stores, removes, adds, submits, takes, host_begins, host_ends, host_writes, host_reads, client_writes}
+use Rattle.rd_declared.specs.Declaring.{bare_lines, declared_devices}
+use Rattle.rd_world.specs.Run.{applications_of, new_world, world_of}
+use Rattle.rd_deeds.specs.Talk.{Deed, EachAfter, Has, client_read, client_reads, completes, is_completion_of, is_request, journal, request_at, tells, stores, removes, adds, submits, takes, host_begins, host_ends, host_writes, host_reads, client_writes}
 use Rattle.rd_world.specs.World.{ApplicationState, WorldState, client_sends, handling_by, station_at, with_station}
-use Rattle.rd_world.specs.declared.device.SessionDevice.{SessionDevice}
+use Rattle.rd_declared.specs.declared.device.SessionDevice.{SessionDevice}
 use Rattle.std.specs.List.{cons_option}
 use Rattle.rd_drive.specs.Ranged.{IsReplyInRange}
 use Rattle.rd_station.specs.Station.{is_key}
 use Rattle.rd_joined.specs.RunsPremises.{RunPremises}
-use Rattle.rd_world.specs.Told.{came}
+use Rattle.rd_deeds.specs.Told.{came}
 use Rattle.rd_joined.proofs.JournalsHeldLemmas.{stored_deeds}
 use Rattle.rd_joined.specs.JournalsJobs.{AreFine, FitsCompletion}
 use Rattle.rd_drive.specs.Outcome.{fault}
@@ -68,14 +68,13 @@ use Rattle.rd_drive.specs.Replies.{IsAnswer, KeyedReply, cancellation, replies_b
 use Rattle.rd_irp.specs.declared.completion.Reply.{Reply}
 use Rattle.rd_irp.specs.Fits.{BodyFits, kind_of}
 use Rattle.rd_joined.proofs.RunsInsides.{AreOwn, IsInside, IsOwn, all_dropped_inside, hears_inside, stationed}
-use Rattle.rd_world.specs.Devices.{device_step}
-use Rattle.rd_world.specs.Recording.{no_request}
-use Rattle.rd_world.specs.Session.{replies_read, request_read}
-use Rattle.rd_world.specs.Told.{CompletesWith}
+use Rattle.rd_declared.specs.Devices.{device_step}
+use Rattle.rd_declared.specs.Replies.{no_request, replies_read, request_read}
+use Rattle.rd_deeds.specs.Told.{CompletesWith}
 use Rattle.rd_joined.specs.JournalsJobs.{AreWorking, IsCompletionOf}
 use Rattle.rd_told.specs.Plain.{ArePlain, ArePlainOut, CompletesPlainly, IsMade}
 use Rattle.rd_irp.specs.Written.{completion_bytes}
-use Rattle.rd_world.proofs.TestedAnswers.{same_reply}
+use Rattle.rd_deeds.proofs.TestedAnswers.{same_reply}
 use Rattle.rd_world.specs.Session.{IsPlain}
 use Rattle.rd_joined.proofs.JournalsCameLemmas.{fines, never_came, was_ready}
 use Rattle.rd_joined.proofs.JournalsCompletionLemmas.{completes as completes_with, lost_ranged, ready_completes, runs_good}

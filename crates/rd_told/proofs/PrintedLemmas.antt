@@ -31,19 +31,20 @@ use Rattle.rd_joined.proofs.RunsReaching.{by_moves}
 use Rattle.rd_joined.proofs.RunsTogether.{known}
 use Rattle.rd_script.specs.declared.line.NumberedLine.{NumberedLine}
 use Rattle.rd_station.specs.Station.{StationState}
-use Rattle.rd_world.specs.declared.device.SessionDevice.{SessionDevice}
-use Rattle.rd_world.specs.Devices.{Declared, device_cut, device_step}
-use Rattle.rd_world.specs.Joining.{IsCarried}
-use Rattle.rd_world.specs.Opening.{bare_lines}
-use Rattle.rd_world.specs.Recording.{no_request, request_of}
-use Rattle.rd_world.specs.Run.{declared_devices, station_of, world_of}
-use Rattle.rd_world.specs.Session.{RanRead, by_device, documents_of, printed_in, request_read}
-use Rattle.rd_world.specs.Talk.{Deed, EachAfter, Has, journal, request_at}
+use Rattle.rd_declared.specs.declared.device.SessionDevice.{SessionDevice}
+use Rattle.rd_declared.specs.Devices.{Declared, device_cut, device_step}
+use Rattle.rd_deeds.specs.Joining.{IsCarried}
+use Rattle.rd_declared.specs.Declaring.{bare_lines, declared_devices}
+use Rattle.rd_declared.specs.Replies.{RanRead, no_request, request_read}
+use Rattle.rd_world.specs.Recording.{request_of}
+use Rattle.rd_world.specs.Run.{station_of, world_of}
+use Rattle.rd_world.specs.Session.{by_device, documents_of, printed_in}
+use Rattle.rd_deeds.specs.Talk.{Deed, EachAfter, Has, journal, request_at}
 use Rattle.rd_world.specs.World.{WorldState, station_at}
 use Rattle.rd_world.proofs.Agreeing.{agree}
 use Rattle.rd_world.proofs.GrowingLemmas.{acted_keys}
-use Rattle.rd_world.proofs.Journals.{IsPlain, contains_has, plain_of}
-use Rattle.rd_world.proofs.OpeningLemmas.{declared_openable}
+use Rattle.rd_deeds.proofs.Journals.{IsPlain, contains_has, plain_of}
+use Rattle.rd_declared.proofs.DeclaringLemmas.{declared_openable}
 use Rattle.rd_told.specs.Left.{AreLeft}
 
 abbrev Of : Type 0

@@ -5,10 +5,10 @@ use Rattle.std.specs.Ordering.{nat_cmp}
 use Rattle.std.specs.BTreeMap.{is_at}
 use Rattle.rd_drive.specs.Replies.{last_state_by}
 use Rattle.rd_station.specs.Station.{StationState}
-use Rattle.rd_world.specs.Devices.{Declared, device_cut, device_step}
-use Rattle.rd_world.specs.declared.device.SessionDevice.{SessionDevice}
+use Rattle.rd_declared.specs.Devices.{Declared, device_cut, device_step}
+use Rattle.rd_declared.specs.declared.device.SessionDevice.{SessionDevice}
 use Rattle.rd_world.specs.Recording.{request_of}
-use Rattle.rd_world.specs.Talk.{Deed, journal}
+use Rattle.rd_deeds.specs.Talk.{Deed, journal}
 
 -- Each station is that of a device, which is as its journal leaves it, by the requests that were written.
 abbrev pub AreLeft : List (ℕ × Declared) → List (ℕ × StationState SessionDevice) → List Deed → Type 0

@@ -6,8 +6,8 @@ use Rattle.rd_irp.specs.declared.completion.Reply.{Reply}
 use Rattle.rd_irp.specs.declared.request.Request.{Request}
 use Rattle.rd_irp.specs.Fits.{kind_of}
 use Rattle.rd_irp.specs.Written.{completion_bytes}
-use Rattle.rd_world.specs.Talk.{Deed, EachAfter, Has, client_read, completes, request_at}
-use Rattle.rd_world.specs.Told.{CompletesWith}
+use Rattle.rd_deeds.specs.Talk.{Deed, EachAfter, Has, client_read, completes, request_at}
+use Rattle.rd_deeds.specs.Told.{CompletesWith}
 use Rattle.rd_world.specs.World.{WorldState}
 
 -- The message is what a writer makes of a reply to the request of the key, which was read.

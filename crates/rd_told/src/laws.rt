@@ -8,10 +8,9 @@ ghost use Rattle.rd_joined.specs.JournalsStations.{AreFit};
 ghost use Rattle.rd_joined.specs.RunsMoves.{Reached};
 ghost use Rattle.rd_joined.specs.RunsPremises.{RunPremises};
 ghost use Rattle.rd_told.specs.Left.{AreLeft};
-ghost use Rattle.rd_world.specs.Opening.{bare_lines};
-ghost use Rattle.rd_world.specs.Run.{declared_devices};
+ghost use Rattle.rd_declared.specs.Declaring.{bare_lines, declared_devices};
 ghost use Rattle.rd_world.specs.Session.{IsPlain, IsStoredOpen, documents_of, printed_in};
-ghost use Rattle.rd_world.specs.Talk.{EachAfter};
+ghost use Rattle.rd_deeds.specs.Talk.{EachAfter};
 ghost use Rattle.rd_world.specs.World.{WorldState};
 
 /// An entry that names a key is stored while that key's channel is open.

@@ -21,7 +21,7 @@ use Rattle.rd_workers.specs.Closed.{ClosesAfter}
 use Rattle.rd_workers.specs.Passes.{AreNew}
 use Rattle.rd_workers.specs.Served.{IsFrontOf, ServesEntries, ServesFront, ServesJournals}
 use Rattle.rd_workers.specs.declared.due.AtLine.{AtLine}
-use Rattle.rd_world.specs.Devices.{PrinterNames}
+use Rattle.rd_declared.specs.Devices.{PrinterNames}
 
 -- passes that were split from new ones have seen no call
 pub unseen_split : (ps own : List SessionPass) → own ≡ map new_pass ps → AreNew ps → All (λ (p : SessionPass). p.seen ≡ []) own

@@ -1,7 +1,6 @@
 -- What a session at a client's channels comes to: one history of its front, what its reader heard and its writer wrote by that, and how it ended.
-use Rattle.std.specs.Prelude.{◌≡◌, ◌⊎◌, ℕ, ◌<◌, true, false, List, [], ◌∷◌, ◌++◌, map, All, Contains, None}
+use Rattle.std.specs.Prelude.{◌≡◌, ◌⊎◌, ℕ, ◌<◌, true, false, List, [], ◌∷◌, ◌++◌, map, All, None}
 use Rattle.std.specs.List.{AllByRecursion, AllZip, zip}
-use Rattle.std.specs.Map.{keys_of}
 use Rattle.rd_base.specs.History.{History}
 use Rattle.rd_base.specs.declared.journal.Item.{Item}
 use Rattle.rd_carry.specs.declared.ended.Ended.{Ended}
@@ -19,17 +18,17 @@ use Rattle.rd_script.specs.declared.line.NumberedLine.{NumberedLine}
 use Rattle.rd_served_devices.specs.ServedDevices.{ServedDeviceState}
 use Rattle.rd_sharing.specs.Closing.{station_devices, trouble_after}
 use Rattle.rd_sharing.specs.FolderLines.{folder_devices}
+use Rattle.rd_sharing.specs.Refused.{StopsAtFolder}
 use Rattle.rd_sharing.specs.ServedOpening.{AreServedDevices, OpensServed, ServedDeclared, ToldFolders}
 use Rattle.rd_sharing.specs.declared.opening_no.OpeningNo.{OpeningNo}
 use Rattle.rd_sharing.specs.declared.opening_no.OpeningNo.TheVariants as no
 use Rattle.rd_turn.specs.History.{Leads, calls_of}
 use Rattle.rd_turn.specs.Pass.{PassState}
-use Rattle.rd_world.specs.Devices.{PrinterNames}
-use Rattle.rd_world.specs.Opening.{bare_lines}
+use Rattle.rd_declared.specs.Devices.{PrinterNames}
+use Rattle.rd_declared.specs.Declaring.{bare_lines}
 use Rattle.rd_world.specs.Session.{StoresSome, journals_of}
 use Rattle.rd_workers.specs.Channels.{EndsByCalls, LinkerTold, channels_of}
 use Rattle.rd_workers.specs.Closed.{ClosesAfter, FrontCameHome}
-use Rattle.rd_workers.specs.Faults.{HasRisen}
 use Rattle.rd_workers.specs.declared.client_ended.ClientEnded.{ClientEnded}
 use Rattle.rd_workers.specs.declared.client_ended.ClientEnded.TheVariants as client
 use Rattle.rd_workers.specs.declared.due.AtLine.{AtLine}
@@ -104,7 +103,7 @@ pub record ServesJournals (devices : List (ℕ × ServedDeclared)) (lines : List
   pub closes : AllZip ClosesAfter (front.last).desks stations
   pub journals_are : journals ≡ zip ids (map (λ (s : SessionStation). s.journal) stations)
 
--- The same, and the journals are those in the books; and the folders of the devices were closed, by which their faults were counted, and nothing else was.
+-- The same, and the journals are those in the books; and the count of faults of closed folders rose by those of the folders of the devices, and by no others.
 pub record ServesBooks (devices : List (ℕ × ServedDeclared)) (lines : List AtLine) (channels : ℕ) (by : Ended) (books : List (ℕ × History)) (old new : LinkerTold) (before after : ToldFolders) : Type 0 where
   pub journals : ServesJournals devices lines channels by (journals_of books) old new
   pub trouble : after.trouble ≡ trouble_after before.trouble (station_devices journals.stations)
@@ -130,10 +129,10 @@ abbrev pub ServesStarved : List NumberedLine → ℕ → List (ℕ × History) �
 ServesStarved lines channels books old new before after =
     (after.failures ≡ before.failures) × (((new ≡ old) × (books ≡ [])) ⊎ StoresFirst lines channels books old new before after)
 
--- The folder of one of the devices of lines couldn't be opened, which was counted: nothing was connected, the books have nothing, and no folder that was closed again had a fault.
+-- The folder of this device of lines couldn't be opened, which counts one failure; those of the devices before it were, in the order of the ids, and no others. Nothing was connected, the books have nothing, and
+-- the count of faults of closed folders stayed.
 pub record IsUnopened (lines : List NumberedLine) (device : ℕ) (books : List (ℕ × History)) (old new : LinkerTold) (before after : ToldFolders) : Type 0 where
-  pub declared : Contains (keys_of (folder_devices (bare_lines lines))) device
-  pub risen : HasRisen before.failures after.failures
+  pub stops : StopsAtFolder (folder_devices (bare_lines lines)) device before after
   pub unserved : new ≡ old
   pub unstored : books ≡ []
   pub untroubled : after.trouble ≡ before.trouble
@@ -150,12 +149,7 @@ HasServedLines lines (client.Ended by) books old new before after =
     ServesLines lines (channels_of lines) by books old new before after ⊎ ((by ≡ ended.Memory) × ServesStarved lines (channels_of lines) books old new before after)
 HasServedLines lines (client.Folder device) books old new before after = IsUnopened lines device books old new before after
 
--- what is said where the folder of a device couldn't be opened
-abbrev pub OnFolderNo : OpeningNo → Type 0 → Type 0
-OnFolderNo (no.Folder device) P = P
-OnFolderNo no.Memory P = Unit {0}
-
--- the same of the end of a client
+-- what is said of the end of a client that couldn't have the folder of a device opened
 abbrev pub OnFolder : ClientEnded → Type 0 → Type 0
 OnFolder (client.Ended by) P = Unit {0}
 OnFolder (client.Folder device) P = P

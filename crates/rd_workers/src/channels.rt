@@ -6,7 +6,7 @@ ghost use Rattle.rd_workers.specs.Faults.{Counts, EndsSession, IsOtherEnd, Tells
 ghost use Rattle.rd_workers.specs.Lines.{at_lines};
 ghost use Rattle.rd_workers.specs.Logs.{no_halves};
 ghost use Rattle.rd_workers.specs.Reading.{IsSame};
-ghost use Rattle.rd_world.specs.Opening.{AreDeclared};
+ghost use Rattle.rd_declared.specs.Declaring.{AreDeclared};
 
 use crate::due::Due;
 use crate::reader::{Ending, Reader};

@@ -7,13 +7,13 @@ use Rattle.rd_base.specs.declared.journal.Item.TheVariants.{Came, Cancelled, Cut
 use Rattle.rd_base.specs.declared.journal.Key.{Key}
 use Rattle.rd_drive.specs.Replies.{KeyedReply, replies_at, replies_by, state_after}
 use Rattle.rd_irp.specs.declared.request.Request.{Request}
-use Rattle.rd_world.specs.Devices.{device_cut, device_step}
-use Rattle.rd_world.specs.declared.device.SessionDevice.{SessionDevice}
-use Rattle.rd_world.specs.Joining.{IsCarried}
-use Rattle.rd_world.specs.Recording.{no_request, request_of}
-use Rattle.rd_world.specs.Session.{RanRead, request_read}
-use Rattle.rd_world.specs.Talk.{Deed, client_read, request_at}
-use Rattle.rd_world.proofs.Replied.{request_since}
+use Rattle.rd_declared.specs.Devices.{device_cut, device_step}
+use Rattle.rd_declared.specs.declared.device.SessionDevice.{SessionDevice}
+use Rattle.rd_deeds.specs.Joining.{IsCarried}
+use Rattle.rd_declared.specs.Replies.{RanRead, no_request, request_read}
+use Rattle.rd_world.specs.Recording.{request_of}
+use Rattle.rd_deeds.specs.Talk.{Deed, client_read, request_at}
+use Rattle.rd_deeds.proofs.Replied.{request_since}
 
 pub agree : (deeds : List Deed) → IsCarried deeds → (key : Key) (r : Request) → request_at (client_read key.channel deeds) key.index ≡ Some r → request_of deeds key ≡ r
 agree deeds carried key r found =

@@ -6,8 +6,9 @@ use Rattle.rd_script.specs.declared.line.Line.{Line}
 use Rattle.rd_script.specs.declared.line.Line.TheVariants as line
 use Rattle.rd_script.specs.declared.line.NumberedLine.{NumberedLine}
 use Rattle.rd_world.specs.declared.opening.Settings.{Settings}
-use Rattle.rd_world.specs.Opening.{BeginsBy, bare_lines}
-use Rattle.rd_world.specs.Run.{applications_of, declared_devices, new_world, setting, world_of}
+use Rattle.rd_declared.specs.Declaring.{bare_lines, declared_devices}
+use Rattle.rd_world.specs.Opening.{BeginsBy}
+use Rattle.rd_world.specs.Run.{applications_of, new_world, setting, world_of}
 use Rattle.rd_world.specs.World.{WorldState}
 
 -- with other settings

@@ -6,7 +6,7 @@ use Rattle.rd_client.specs.Core.{AreDevices, ClientCall, ClientCoreState, Client
 use Rattle.rd_devices.specs.declared.list.Announce.{Announce}
 use Rattle.rd_world.specs.Client.{KeepsClient, StaysShort}
 use Rattle.rd_world.specs.Opening.{AreShort, FitsData, ids_of}
-use Rattle.rd_world.specs.Printers.{max_printer_data}
+use Rattle.rd_declared.specs.Printers.{max_printer_data}
 use Rattle.rd_world.proofs.ShortLemmas.{announces_first, ids_kept, may_refresh, short_kept}
 
 -- A new client whose devices are short.

@@ -9,13 +9,13 @@ use Rattle.std.specs.Option.{option_map_or}
 use Rattle.std.specs.declared.cmp.Ordering.TheVariants.{Less}
 use Rattle.rd_station.specs.Station as station
 use Rattle.rd_station.specs.Station.{StationState, StationStep, removes}
-use Rattle.rd_world.specs.Devices.{device_cut, device_cuts, device_parked, device_runs}
-use Rattle.rd_world.specs.declared.device.SessionDevice.{SessionDevice}
+use Rattle.rd_declared.specs.Devices.{device_cut, device_cuts, device_parked, device_runs}
+use Rattle.rd_declared.specs.declared.device.SessionDevice.{SessionDevice}
 use Rattle.rd_client.specs.Core.{ClientCoreState}
 use Rattle.rd_world.specs.Events.{cutting, dropping}
-use Rattle.rd_world.specs.Host.{HostSide, ends_channel}
+use Rattle.rd_deeds.specs.Host.{HostSide, ends_channel}
 use Rattle.rd_world.specs.Stations.{AreStations, IsPlaceOf, StepsAt, dropped_station}
-use Rattle.rd_world.specs.Talk.{Deed, host_ends}
+use Rattle.rd_deeds.specs.Talk.{Deed, host_ends}
 use Rattle.rd_world.specs.World.{WayState, WorldState, ending, station_at, stored_beyond, with_deed, with_station}
 use Rattle.rd_world.proofs.StationsLemmas.{equal_cmp, is_other, is_same, turned_cmp}
 use Rattle.rd_world.proofs.StepLemmas.{steps_of}

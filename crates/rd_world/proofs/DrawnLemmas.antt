@@ -22,11 +22,12 @@ use Rattle.rd_world.specs.Bits.{has, where_holds}
 use Rattle.rd_world.specs.Choices.{choice_where, choices_in, places, takes_in}
 use Rattle.rd_world.specs.Drawn.{HasPlaces, can_happen, next_step_of}
 use Rattle.rd_world.specs.Events.{Event, apply_job, client_has_message, client_read, client_send, collect, has_completion, host_has_message, host_read, host_send, is_enabled, is_hand_free, is_read, issue, job_waits, may_issue, take_job}
-use Rattle.rd_world.specs.Hands.{hand_in, is_free_hand, is_full_hand, max_hands}
+use Rattle.rd_declared.specs.Declaring.{max_hands}
+use Rattle.rd_world.specs.Hands.{hand_in, is_free_hand, is_full_hand}
 use Rattle.rd_world.specs.Run.{NextStep, choices, device_ids, event, hand_numbers, reads_client, reads_host, takes_of, where_true}
 use Rattle.rd_world.specs.Stations.{AreStations, has_ready, has_waiting, holds_at}
 use Rattle.rd_station.specs.Station.{StationState}
-use Rattle.rd_world.specs.declared.device.SessionDevice.{SessionDevice}
+use Rattle.rd_declared.specs.declared.device.SessionDevice.{SessionDevice}
 use Rattle.rd_world.specs.World.{WorldState, application_at}
 use Rattle.rd_world.specs.declared.choices.Choice.{Choice}
 use Rattle.rd_world.specs.declared.choices.Choice.TheVariants as choice

@@ -17,8 +17,8 @@ use Rattle.rd_drive.proofs.AllLemmas.{all_append, all_weaker}
 use Rattle.rd_script.specs.declared.outcome.Outcome.{Outcome}
 use Rattle.rd_script.specs.Report.{AreCountable, IsCountableOutcome, numbered_from}
 use Rattle.rd_station.specs.Station.{StationState}
-use Rattle.rd_world.specs.declared.device.SessionDevice.{SessionDevice}
-use Rattle.rd_world.specs.declared.device.SessionDevice.TheVariants as session
+use Rattle.rd_declared.specs.declared.device.SessionDevice.{SessionDevice}
+use Rattle.rd_declared.specs.declared.device.SessionDevice.TheVariants as session
 use Rattle.rd_world.specs.Report.{outcomes_under}
 use Rattle.rd_world.specs.Session.{StoresSome, by_device, journals_of, printed_in}
 use Rattle.rd_world.specs.World.{ApplicationState}

@@ -38,7 +38,7 @@ use Rattle.rd_script.specs.declared.outcome.Outcomes.{Outcomes}
 use Rattle.rd_world.specs.Acts.{is_settle, AreActed, AreSaid, IsCutThere, Tells, act_by, cause_in, control_at_end, control_by, left_open, is_settled_host, notices_on, of_channel, tellings_on, IsToldInTime, Opens, first_control_of, HasOpened}
 use Rattle.rd_world.specs.Control.{controlled, Control, begun, control_of, ended, lists, removed}
 use Rattle.rd_world.specs.Control as control
-use Rattle.rd_world.specs.Devices.{declaring, furnishing, Declared}
+use Rattle.rd_declared.specs.Devices.{declaring, furnishing, Declared}
 use Rattle.rd_world.specs.Found.{AreFound, handle_target, found_deeds, found_devices, found_lines, found_outcomes, gives_file, read_dropped, read_removed, found_journal, found_script, found_books, found_output}
 use Rattle.rd_world.specs.Hearing.{holding_after}
 use Rattle.rd_world.specs.Lines.{HaveOutcomes, IsHandedOut, LinesEnd, Waits, submitted, waits_of}
@@ -46,12 +46,12 @@ use Rattle.rd_world.specs.Recording.{host_stand}
 use Rattle.rd_world.specs.Report.{outcomes_of}
 use Rattle.rd_world.specs.Run.{asked_by, controls, notice_of, on_device, asked_on_handle, open_op, setting, WorldRun, run_of}
 use Rattle.rd_world.specs.Session.{IsReported, IsRun, IsStill, WasStill, at_settles, printed_in}
-use Rattle.rd_world.specs.Talk.{Deed, EndsWith, Has, answered, asked, open_channel, client_wrote, has_ended, host_read, host_wrote, is_request, on, AtEachPoint, EachAfter, journal, notice_in}
+use Rattle.rd_deeds.specs.Talk.{Deed, EndsWith, Has, answered, asked, open_channel, client_wrote, has_ended, host_read, host_wrote, is_request, on, AtEachPoint, EachAfter, journal, notice_in}
 use Rattle.rd_world.specs.Worked.{ran}
 use Rattle.rd_world.specs.World.{ApplicationState, new_application, WorldState, journals_in, starved_in}
 use Rattle.rd_world.proofs.TestedActs.{cut_by_test, none_said, none_told_on, told_in_time_by_test}
 use Rattle.rd_world.proofs.TestedLines.{are_within, is_line_within, none_client_wrote, none_host_read, none_host_wrote, none_submitted, given_along, handed_by, line_accepted, none_by, none_under, none_waits, of_each, opens_by, outcome_along, quiet_by, none_stored}
-use Rattle.rd_world.proofs.TestedTelling.{among}
+use Rattle.rd_deeds.proofs.TestedTelling.{among}
 
 -- ---- few are named
 

@@ -10,26 +10,28 @@ use Rattle.rd_drive.specs.Replies.{AreToldBy, KeyedReply}
 use Rattle.rd_host.specs.Order.{HostOrder}
 use Rattle.rd_pending.specs.History.{Call, lives_before}
 use Rattle.rd_script.specs.declared.line.NumberedLine.{NumberedLine}
-use Rattle.rd_world.specs.Devices.{Declared, device_cut, device_step, declaring, furnishing}
+use Rattle.rd_declared.specs.Devices.{Declared, device_cut, device_step, declaring, furnishing}
 use Rattle.rd_world.specs.Found.{found_books, found_deeds, found_devices, found_drive, found_lines, found_recording, gives_file, open_first, open_second, read_removed}
-use Rattle.rd_world.specs.Host.{HostSide}
-use Rattle.rd_world.specs.HostDeeds.{calls_of}
-use Rattle.rd_world.specs.Joining.{AreJoined, Joins}
+use Rattle.rd_deeds.specs.Host.{HostSide}
+use Rattle.rd_deeds.specs.HostDeeds.{calls_of}
+use Rattle.rd_deeds.specs.Joining.{AreJoined, Joins}
 use Rattle.rd_world.specs.Recording.{IsRecorded, announced_of, client_id, is_gone_at}
-use Rattle.rd_world.specs.Run.{declared_devices, setting}
+use Rattle.rd_declared.specs.Declaring.{declared_devices}
+use Rattle.rd_world.specs.Run.{setting}
 use Rattle.rd_world.specs.Acts.{AreSaid, Tells, of_channel, tellings_on}
 use Rattle.rd_world.specs.Control.{Telling}
 use Rattle.rd_world.specs.Recording.{request_of}
 use Rattle.rd_world.specs.Session.{AllTold, AreJournals, IsLeftOver, IsOfDevice, world_moment, replies_in, IsPlain}
-use Rattle.rd_world.specs.Talk.{Deed, EachAfter, answered, asked, client_moves, client_read, has_ended, host_moves, host_wrote, journal, EndsWith, indices_of}
-use Rattle.rd_world.specs.Told.{Answers, IsHeeded, Replies, worn_entries, IsLeft, unserved, told, requests_to, without_last}
-use Rattle.rd_world.proofs.TestedAnswers.{completes_with, each_answered, each_plain}
-use Rattle.rd_world.proofs.TestedDeeds.{along, along_is, carried_by_test, each, host_by_test}
-use Rattle.rd_world.proofs.TestedJournals.{are_distinct, is_lawful, lawful_by_test, one_of_key}
+use Rattle.rd_deeds.specs.Talk.{Deed, EachAfter, answered, asked, client_moves, client_read, has_ended, host_moves, host_wrote, journal, EndsWith, indices_of}
+use Rattle.rd_deeds.specs.Told.{Answers, IsHeeded, Replies, worn_entries, IsLeft, unserved, told, requests_to, without_last}
+use Rattle.rd_deeds.proofs.TestedAnswers.{completes_with, each_answered}
+use Rattle.rd_world.proofs.TestedPlain.{each_plain}
+use Rattle.rd_deeds.proofs.TestedDeeds.{along, along_is, carried_by_test, each, host_by_test}
+use Rattle.rd_deeds.proofs.TestedJournals.{are_distinct, is_lawful, lawful_by_test, one_of_key}
 use Rattle.rd_world.proofs.TestedReplies.{in_growing, in_nothing, replied_by_run}
-use Rattle.rd_world.proofs.TestedTelling.{are_known, comes_by_test, direct_by_test, no_journal, of_journals, sent_by_test, stands_by_test, strange}
+use Rattle.rd_deeds.proofs.TestedTelling.{are_known, comes_by_test, direct_by_test, no_journal, of_journals, sent_by_test, stands_by_test, strange}
 use Rattle.rd_world.proofs.TestedWire.{carried_messages, is_on, named_by_test, no_client_moves, no_host_moves, none_read, none_written, not_ended, open_by_test, runs_by_test, stored_by_test, none_answered}
-use Rattle.rd_world.proofs.Joining.{all_join}
+use Rattle.rd_deeds.proofs.Joining.{all_join}
 use Rattle.rd_base.specs.Counted.{count_to, counted, counted_bytes, two_fields, four_fields, two_fields_bytes, four_fields_bytes}
 use Rattle.rd_base.specs.Fields.{bytes8, bytes16, bytes32, bytes64}
 use Rattle.rd_base.specs.Header.{component_field, header, header_among}

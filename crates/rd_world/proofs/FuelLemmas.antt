@@ -8,7 +8,7 @@ use Rattle.rd_script.specs.declared.line.Line.{Line}
 use Rattle.rd_script.specs.declared.line.Line.TheVariants as line
 use Rattle.rd_script.specs.declared.line.NumberedLine.{NumberedLine}
 use Rattle.rd_world.specs.Events.{act, connect, drop_channel, is_channel_open, is_enabled}
-use Rattle.rd_world.specs.Keys.{MarksAgree}
+use Rattle.rd_declared.specs.Marks.{MarksAgree}
 use Rattle.rd_world.specs.Run.{Most, NextStep, all_client_sends, all_host_sends, asked_by, choices, chosen, client_reads_all, connects_on, controls, drawing, ends_session, host_reads_all, idles, is_quiet, picked, plays, plays_line, queueing, rounds, settled, settles_by, some_left}
 use Rattle.rd_world.specs.Stations.{AreStations}
 use Rattle.rd_world.specs.World.{Asked, WorldState, journals_in}

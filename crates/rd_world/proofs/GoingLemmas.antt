@@ -14,7 +14,7 @@ use Rattle.rd_script.specs.declared.line.Line.TheVariants as line
 use Rattle.rd_script.specs.declared.line.NumberedLine.{NumberedLine}
 use Rattle.rd_world.specs.Events as event
 use Rattle.rd_world.specs.Events.{Event, act, is_channel_open, is_enabled}
-use Rattle.rd_world.specs.Keys.{AreLonger}
+use Rattle.rd_declared.specs.Marks.{AreLonger}
 use Rattle.rd_world.specs.Recording.{recording_of_deeds}
 use Rattle.rd_world.specs.Run as run
 use Rattle.rd_world.specs.Run.{Most, NextStep, all_client_sends, all_host_sends, asked_by, by_event, choices, chosen, client_reads_all, connects_on, controls, does, drawing, drawn_count, ends_session, event_of, host_count, host_reads_all, idles, is_quiet, notice_of, picked, plays, plays_line, queueing, rounds, settled, settles_by, some_left, when_enabled, while_enabled}

@@ -44,14 +44,15 @@ use Rattle.rd_station.specs.declared.refusals.PutWhy.{PutWhy}
 use Rattle.rd_station.specs.declared.refusals.PutWhy.TheVariants as why
 use Rattle.rd_station.specs.Station as station
 use Rattle.rd_station.specs.Station.{StationState, apply_from, cancelled_in_hand, cancelled_parked, cancelled_waiting, collect_first, emptied, entry_count, is_key, marked_removed, max_entries, put_refusal, put_unless, ran, take_first}
-use Rattle.rd_world.specs.declared.device.SessionDevice.{SessionDevice}
-use Rattle.rd_world.specs.Devices.{PrinterNames, device_cut, printer_data}
+use Rattle.rd_declared.specs.declared.device.SessionDevice.{SessionDevice}
+use Rattle.rd_declared.specs.Devices.{PrinterNames, device_cut, printer_data}
 use Rattle.rd_world.specs.Events as event
 use Rattle.rd_world.specs.Events.{Event, act, adds_device, applies_at, applies_held, applies_job, asks, came_of, client_sends_first, collects_from, comes_of_asking, completion_message, connects, cutting, dropping, drops, hand_at, host_sends_next, is_channel_open, is_enabled, issues, issues_next, refreshing, refusal_of, removes_device, removing, takes_job, takes_job_from, target_of}
 use Rattle.rd_world.specs.Hearing.{after_opening, all_take, announcing, client_handles, client_handles_all, client_handles_first, client_hears, ends_line, given_handle, heard_by_client, host_handles, host_handles_all, host_handles_first, host_hears, next_asked, put_at, put_by, putting, refused_put, reported_outcome, takes_awaited, takes_from, takes_outcome, tries, tries_kept, with_client, with_outcome}
-use Rattle.rd_world.specs.Host.{next_message, side_sends}
-use Rattle.rd_world.specs.Keys.{AreLonger, station_journals}
-use Rattle.rd_world.specs.Talk as deed
+use Rattle.rd_deeds.specs.Host.{next_message, side_sends}
+use Rattle.rd_declared.specs.Marks.{AreLonger}
+use Rattle.rd_world.specs.Keys.{station_journals}
+use Rattle.rd_deeds.specs.Talk as deed
 use Rattle.rd_world.specs.World.{ApplicationState, Asked, Kept, WayState, WorldState, application_at, client_sends, handling, having_read, host_sends, journals_in, most_messages, station_at, with_application, with_deed, with_station, with_table}
 use Rattle.rd_world.proofs.ApplicationsLemmas.{put_same}
 

@@ -9,7 +9,8 @@ use Rattle.std.proofs.lemmas.Nat.Bits.{bit_at-zero}
 use Rattle.std.proofs.lemmas.Option.{slice_get_read, slice_get_within}
 use Rattle.rd_drive.specs.declared.plan.Job.{Job}
 use Rattle.rd_world.specs.Bits.{IsMarked, Marks, has}
-use Rattle.rd_world.specs.Hands.{KeepsHands, hand_in, hands_with, is_free_hand, max_hands}
+use Rattle.rd_declared.specs.Declaring.{max_hands}
+use Rattle.rd_world.specs.Hands.{KeepsHands, hand_in, hands_with, is_free_hand}
 
 -- ---- lists
 

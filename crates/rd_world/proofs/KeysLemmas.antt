@@ -37,14 +37,15 @@ use Rattle.rd_station.proofs.Calls.{did_run, reached_kept}
 use Rattle.rd_station.proofs.Members.{find_has, from_contains, has_append, has_right, key_self, same_key, to_contains}
 use Rattle.rd_station.proofs.Remembering.{below_trans, below_true, came_named}
 use Rattle.rd_station.proofs.Requests.{all_less}
-use Rattle.rd_world.specs.Devices.{device_cuts, device_parked, device_runs, device_step}
+use Rattle.rd_declared.specs.Devices.{device_cuts, device_parked, device_runs, device_step}
 use Rattle.rd_world.specs.Events.{is_close}
-use Rattle.rd_world.specs.Keys.{MarksAgree, AgreesAt, AreBelow, AreLonger, AreUpTo, KeysApart, NamesAt, station_journals}
+use Rattle.rd_declared.specs.Marks.{AgreesAt, AreLonger, MarksAgree}
+use Rattle.rd_world.specs.Keys.{AreBelow, AreUpTo, KeysApart, NamesAt, station_journals}
 use Rattle.rd_world.specs.Stations.{AreStations, DropsEach, DropsOne, IsReachedBy}
-use Rattle.rd_world.specs.Talk.{EachAfter, Has}
+use Rattle.rd_deeds.specs.Talk.{EachAfter, Has}
 use Rattle.rd_world.specs.World.{starved_in, starves_at}
-use Rattle.rd_world.specs.declared.device.SessionDevice.{SessionDevice}
-use Rattle.rd_world.proofs.Journals.{IsPlain, contains_has, plain_of}
+use Rattle.rd_declared.specs.declared.device.SessionDevice.{SessionDevice}
+use Rattle.rd_deeds.proofs.Journals.{IsPlain, contains_has, plain_of}
 
 -- ---- what a call stores
 

@@ -15,7 +15,7 @@ use Rattle.rd_base.specs.declared.journal.Item.TheVariants.{Came, Ran, Cancelled
 use Rattle.rd_base.specs.declared.journal.Key.{Key}
 use Rattle.rd_base.specs.Lawful.{sends}
 use Rattle.rd_station.specs.Station.{StationState}
-use Rattle.rd_world.specs.declared.device.SessionDevice.{SessionDevice}
+use Rattle.rd_declared.specs.declared.device.SessionDevice.{SessionDevice}
 use Rattle.rd_world.specs.Left.{is_index, is_parked_in, is_sent_in, parked_index, sent_index}
 use Rattle.rd_world.specs.Run.{is_left_parked, some_left}
 use Rattle.rd_world.specs.Events.{is_channel_open}

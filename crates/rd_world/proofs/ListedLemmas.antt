@@ -13,7 +13,7 @@ use Rattle.rd_world.specs.Client.{KeepsClient, listed_at}
 use Rattle.rd_world.specs.Hearing.{announcing}
 use Rattle.rd_world.specs.Opening.{ids_of}
 use Rattle.rd_world.specs.World.{WorldState, station_at, with_station}
-use Rattle.rd_world.specs.declared.device.SessionDevice.{SessionDevice}
+use Rattle.rd_declared.specs.declared.device.SessionDevice.{SessionDevice}
 use Rattle.rd_world.proofs.FoldLemmas.{drop_there}
 
 -- ---- a device at a place

@@ -3,7 +3,7 @@ use Rattle.std.proofs.Common.{◌≡◌, ℕ, ◌+◌, ◌≤◌, List, ◌++◌
 use Rattle.rd_base.specs.Counted.{four_fields_bytes, two_fields_bytes}
 use Rattle.rd_printer.specs.declared.notice.Notice.TheVariants as notice
 use Rattle.rd_printer.specs.Notice.{event_bytes, notice_bytes}
-use Rattle.rd_world.specs.Devices.{max_config}
+use Rattle.rd_declared.specs.Devices.{max_config}
 use Rattle.rd_world.specs.Noting.{IsTellable}
 
 four_length : (first second third fourth : List ℕ) → length (four_fields_bytes first second third fourth) ≡ 16 + length first + length second + length third + length fourth

@@ -14,13 +14,13 @@ use Rattle.rd_devices.specs.declared.list.Announce.{Announce}
 use Rattle.rd_devices.specs.declared.printer.PrinterInfo.{PrinterInfo}
 use Rattle.rd_devices.specs.PrinterInfo.{printer_bytes}
 use Rattle.rd_station.specs.Station.{StationState}
-use Rattle.rd_world.specs.Devices.{Declared, PrinterNames, announce_of, device_data, dos_name, printer_data, zero_text}
-use Rattle.rd_world.specs.Opening.{AreOpenable, AreShort, IsOpenable, IsShort, Opens, ids_of}
-use Rattle.rd_world.specs.Printers.{AreShortNames, max_printer_data}
+use Rattle.rd_declared.specs.Devices.{Declared, PrinterNames, announce_of, device_data, dos_name, printer_data, zero_text}
+use Rattle.rd_declared.specs.Declaring.{AreOpenable, IsOpenable, max_session_devices}
+use Rattle.rd_world.specs.Opening.{AreShort, IsShort, Opens, ids_of}
+use Rattle.rd_declared.specs.Printers.{AreShortNames, max_printer_data}
 use Rattle.rd_world.specs.Run.{printers_of, station_of}
-use Rattle.rd_world.specs.Stations.{max_session_devices}
-use Rattle.rd_world.specs.declared.device.SessionDevice.{SessionDevice}
-use Rattle.rd_world.proofs.PrinterLemmas.{info_length}
+use Rattle.rd_declared.specs.declared.device.SessionDevice.{SessionDevice}
+use Rattle.rd_declared.proofs.PrinterLemmas.{info_length}
 use Rattle.rd_world.proofs.ShortLemmas.{short_devices}
 
 abbrev announce_in_order : List (ℕ × Declared) → List Announce

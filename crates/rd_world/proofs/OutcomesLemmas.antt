@@ -22,7 +22,7 @@ use Rattle.rd_script.specs.declared.outcome.Outcome.{Outcome}
 use Rattle.rd_world.specs.Applications.{AreApplications, application_in, awaits_at}
 use Rattle.rd_world.specs.Bits.{has, where_holds}
 use Rattle.rd_world.specs.Hearing.{all_take, given_handle, next_asked, reported_outcome, takes_awaited, takes_from, takes_outcome, with_outcome}
-use Rattle.rd_world.specs.Talk.{takes}
+use Rattle.rd_deeds.specs.Talk.{takes}
 use Rattle.rd_world.specs.World.{ApplicationState, Asked, WorldState, application_at, new_application, with_application, with_deed, with_table}
 
 -- ---- the others stay as they are

@@ -37,9 +37,9 @@ use Rattle.rd_irp.specs.declared.op.Op.{Op}
 use Rattle.rd_irp.specs.declared.op.Op.TheVariants as op
 use Rattle.rd_irp.specs.declared.op.Range.{Range}
 use Rattle.rd_printer.specs.Printer.{PrinterState, finish, on_document, open_document, print, printer_step}
-use Rattle.rd_world.specs.Devices.{device_step}
-use Rattle.rd_world.specs.declared.device.SessionDevice.{SessionDevice}
-use Rattle.rd_world.specs.declared.device.SessionDevice.TheVariants as session
+use Rattle.rd_declared.specs.Devices.{device_step}
+use Rattle.rd_declared.specs.declared.device.SessionDevice.{SessionDevice}
+use Rattle.rd_declared.specs.declared.device.SessionDevice.TheVariants as session
 
 -- whether a status is neither of these two
 abbrev pub is_own : Status → Bool

@@ -10,8 +10,9 @@ use Rattle.rd_script.specs.declared.line.Line.{Line}
 use Rattle.rd_script.specs.declared.line.Line.TheVariants as line
 use Rattle.rd_script.specs.declared.line.NumberedLine.{NumberedLine}
 use Rattle.rd_world.specs.Events.{Event, act, add, client_read, connect, drop_channel, drops, host_read, is_channel_open, is_enabled, remove, tell}
-use Rattle.rd_world.specs.Keys.{MarksAgree}
-use Rattle.rd_world.specs.Run.{Most, WorldRun, applications_of, by_event, client_reads_all, connects_on, controls, declared_devices, does, ends_session, event_of, host_reads_all, idles, new_world, plays, plays_line, queueing, rounds, setting, settled, some_left, world_of}
+use Rattle.rd_declared.specs.Marks.{MarksAgree}
+use Rattle.rd_declared.specs.Declaring.{declared_devices}
+use Rattle.rd_world.specs.Run.{Most, WorldRun, applications_of, by_event, client_reads_all, connects_on, controls, does, ends_session, event_of, host_reads_all, idles, new_world, plays, plays_line, queueing, rounds, setting, settled, some_left, world_of}
 use Rattle.rd_world.specs.Run as run
 use Rattle.rd_world.specs.Stations.{AreStations}
 use Rattle.rd_world.specs.World.{Asked, WorldState, journals_in, marks_of}

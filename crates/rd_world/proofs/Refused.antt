@@ -8,10 +8,10 @@ use Rattle.rd_devices.specs.Removal.{removal, removal_bytes}
 use Rattle.std.specs.Option.{option_map_or}
 use Rattle.rd_world.specs.Acts.{IsToldInTime, Opens, is_settled_client, tellings_on}
 use Rattle.rd_world.specs.Recording.{client_stand}
-use Rattle.rd_world.specs.Devices.{announce_of}
+use Rattle.rd_declared.specs.Devices.{announce_of}
 use Rattle.rd_world.specs.Found.{found_devices, found_drive}
 use Rattle.rd_world.specs.Lines.{IsDue}
-use Rattle.rd_world.specs.Talk.{Deed, client_writes, host_begins}
+use Rattle.rd_deeds.specs.Talk.{Deed, client_writes, host_begins}
 
 abbrev told_early_deeds : List Deed
 told_early_deeds = client_writes 1 (removal_bytes (1 ∷ [])) ∷ client_writes 1 (list_bytes (announce_of [] found_drive ∷ [])) ∷ host_begins 1 ∷ []

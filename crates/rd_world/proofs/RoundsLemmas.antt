@@ -4,7 +4,7 @@ use Rattle.std.proofs.lemmas.List.{append_assoc}
 use Rattle.rd_base.specs.declared.journal.Key.{Key}
 use Rattle.rd_world.specs.Events as event
 use Rattle.rd_world.specs.Events.{refreshing}
-use Rattle.rd_world.specs.Devices.{PrinterNames, printer_data}
+use Rattle.rd_declared.specs.Devices.{PrinterNames, printer_data}
 use Rattle.rd_world.specs.Hearing.{with_client}
 use Rattle.rd_client.specs.Core as client
 use Rattle.std.specs.Prelude.{fold, Option, None}

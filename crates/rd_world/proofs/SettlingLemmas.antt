@@ -11,7 +11,7 @@ use Rattle.rd_world.specs.Choices.{choices_in}
 use Rattle.rd_world.specs.declared.choices.Choices.{Choices}
 use Rattle.rd_world.specs.declared.choices.Choice.{Choice}
 use Rattle.rd_world.specs.Drawn.{HasPlaces, can_happen, next_step_of}
-use Rattle.rd_world.specs.Keys.{MarksAgree, AreLonger}
+use Rattle.rd_declared.specs.Marks.{AreLonger, MarksAgree}
 use Rattle.rd_world.specs.Recording.{recording_of_deeds}
 use Rattle.rd_world.specs.Stations.{AreStations}
 use Rattle.rd_world.specs.Step.{recorded_next}

@@ -16,7 +16,7 @@ use Rattle.rd_hello.specs.declared.client.ClientState.{ClientState}
 use Rattle.rd_hello.specs.declared.end_fault.EndFault.{EndFault}
 use Rattle.rd_hello.specs.declared.end_fault.EndFault.TheVariants.{Memory}
 use Rattle.rd_world.specs.Opening.{AreShort, FitsData, IsShort, KeepsData, ids_of}
-use Rattle.rd_world.specs.Printers.{max_printer_data}
+use Rattle.rd_declared.specs.Printers.{max_printer_data}
 
 announce_length : (a : Announce) → length (announce_bytes a) ≡ 12 + length a.dos + length a.body
 announce_length a = omega (arith, length-append a.dos (to_le_bytes w32 (length a.body) ++ a.body))

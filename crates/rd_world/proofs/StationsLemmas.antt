@@ -21,11 +21,12 @@ use Rattle.rd_station.specs.declared.refusals.PutNo.{PutNo}
 use Rattle.rd_station.specs.declared.refusals.PutWhy.{PutWhy}
 use Rattle.rd_station.specs.declared.refusals.PutWhy.TheVariants as why
 use Rattle.rd_world.specs.Bits.{IsMarked, Marks, has}
-use Rattle.rd_world.specs.Devices.{device_cut, device_cuts, device_parked, device_runs}
+use Rattle.rd_declared.specs.Devices.{device_cut, device_cuts, device_parked, device_runs}
 use Rattle.rd_world.specs.Events.{is_empty}
 use Rattle.rd_world.specs.Keys.{AreBelow, AreUpTo, KeysApart, NamesAt, last_after}
-use Rattle.rd_world.specs.Stations.{DropsEach, DropsOne, IsPlaceOf, IsReachedBy, KeepsStations, StepsAt, dropped_station, has_ready, has_waiting, holds_at, max_session_devices}
-use Rattle.rd_world.specs.declared.device.SessionDevice.{SessionDevice}
+use Rattle.rd_declared.specs.Declaring.{max_session_devices}
+use Rattle.rd_world.specs.Stations.{DropsEach, DropsOne, IsPlaceOf, IsReachedBy, KeepsStations, StepsAt, dropped_station, has_ready, has_waiting, holds_at}
+use Rattle.rd_declared.specs.declared.device.SessionDevice.{SessionDevice}
 use Rattle.rd_world.proofs.KeysLemmas.{Comes, apart_come, apart_still, named_added, named_dropped, up_to_job, up_to_still}
 
 -- ---- numbers in order

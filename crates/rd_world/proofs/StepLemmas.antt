@@ -8,8 +8,8 @@ use Rattle.rd_base.specs.declared.journal.Item.TheVariants.{Sent}
 use Rattle.rd_drive.specs.declared.plan.Job.{Job}
 use Rattle.std.specs.Prelude.{if◌then◌else◌}
 use Rattle.rd_station.specs.Station.{StationCall, StationState, StationStep, applies, collect, collect_first, collects, take, take_first, takes}
-use Rattle.rd_world.specs.Devices.{device_cuts, device_parked, device_runs}
-use Rattle.rd_world.specs.declared.device.SessionDevice.{SessionDevice}
+use Rattle.rd_declared.specs.Devices.{device_cuts, device_parked, device_runs}
+use Rattle.rd_declared.specs.declared.device.SessionDevice.{SessionDevice}
 use Rattle.std.specs.List.Sorted.{IsStrictlySortedBy}
 use Rattle.std.specs.Map.{keys_of}
 use Rattle.std.specs.List.{AllByRecursion}
@@ -32,19 +32,20 @@ use Rattle.std.specs.Prelude.{◌&&◌, IfSome, IsTrue}
 use Rattle.std.proofs.Common.{inl, inr}
 use Rattle.std.proofs.lemmas.Bool.{cases_Bool}
 use Rattle.rd_client.specs.Core.{ClientDevice, MayTellAdded, is_device, is_gone, refresh, refreshed}
-use Rattle.rd_world.specs.Devices.{PrinterNames, printer_data}
+use Rattle.rd_declared.specs.Devices.{PrinterNames, printer_data}
 use Rattle.rd_world.specs.Run.{new_world}
 use Rattle.rd_world.specs.Step.{next_completion}
 use Rattle.rd_drive.specs.Planned.{Planned}
 use Rattle.rd_printer.proofs.EntryLemmas.{lookup-inserted}
 use Rattle.rd_station.specs.declared.answers.Applied.{Applied}
-use Rattle.rd_world.specs.Keys.{MarksAgree, AgreesAt, station_journals}
+use Rattle.rd_declared.specs.Marks.{AgreesAt, MarksAgree}
+use Rattle.rd_world.specs.Keys.{station_journals}
 use Rattle.rd_world.proofs.KeysLemmas.{applied_as}
 use Rattle.rd_world.specs.Events.{applies_at, applies_held, applies_job, collects_from, takes_job_from, collects as collecting, completion_message, refreshing, hand_at, takes_job, with_hand}
 use Rattle.rd_world.specs.Hearing.{tries_kept}
 use Rattle.rd_world.specs.Stations.{AreStations, IsPlaceOf, IsReachedBy, StepsAt}
 use Rattle.rd_world.proofs.StationsLemmas.{equal_cmp, turned_cmp}
-use Rattle.rd_world.specs.Talk.{Deed, completes, stores}
+use Rattle.rd_deeds.specs.Talk.{Deed, completes, stores}
 use Rattle.rd_world.specs.World.{WorldState, client_sends, stored_beyond, with_station}
 
 -- ---- what is stored

@@ -6,11 +6,11 @@ use Rattle.std.proofs.lemmas.Bool.{and_parts, not-true, cases_Bool}
 use Rattle.rd_base.specs.declared.journal.Cause.TheVariants.{Dropped, Removed}
 use Rattle.rd_base.specs.declared.journal.Item.TheVariants.{Came, Cut}
 use Rattle.rd_world.specs.Acts.{AreSaid, IsCutThere, IsToldInTime, cut_last, is_telling, tellings_due, tellings_on, there_at}
-use Rattle.rd_world.specs.Devices.{Declared}
-use Rattle.rd_world.specs.Talk.{AtEachPoint, Deed, EachAfter, host_ends, is_removed, removes, stores}
-use Rattle.rd_world.proofs.TestedDeeds.{each, each_passes}
+use Rattle.rd_declared.specs.Devices.{Declared}
+use Rattle.rd_deeds.specs.Talk.{AtEachPoint, Deed, EachAfter, host_ends, is_removed, removes, stores}
+use Rattle.rd_deeds.proofs.TestedDeeds.{each, each_passes}
 use Rattle.rd_world.proofs.TestedLines.{are_within, none_client_wrote, rest_within}
-use Rattle.rd_world.proofs.TestedTelling.{among, of_members}
+use Rattle.rd_deeds.proofs.TestedTelling.{among, of_members}
 
 -- ---- what is said
 

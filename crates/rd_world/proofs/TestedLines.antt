@@ -16,18 +16,18 @@ use Rattle.rd_script.specs.declared.line.NumberedLine.{NumberedLine}
 use Rattle.rd_script.specs.declared.outcome.Outcome.{Outcome}
 use Rattle.rd_world.specs.Acts.{HasOpened, Opens}
 use Rattle.rd_world.specs.Control.{Control, controlled}
-use Rattle.rd_world.specs.Devices.{Declared}
+use Rattle.rd_declared.specs.Devices.{Declared}
 use Rattle.rd_world.specs.Events.{target_of}
-use Rattle.rd_world.specs.Host.{HostSide}
+use Rattle.rd_deeds.specs.Host.{HostSide}
 use Rattle.rd_world.specs.Hearing.{given_handle, holding_after, reported_outcome}
-use Rattle.rd_world.specs.HostDeeds.{side_of}
+use Rattle.rd_deeds.specs.HostDeeds.{side_of}
 use Rattle.rd_world.specs.Lines.{AskedEnds, IsAccepted, IsDue, IsHandedOut, LineEnds, LinesEnd, SubmitsNothing, Waits, given_at, is_submission_of, outcome_at, submitted, waits_after}
 use Rattle.rd_world.specs.Recording.{client_id}
 use Rattle.rd_world.specs.Run.{asked_by}
-use Rattle.rd_world.specs.Talk.{Deed, client_wrote, completes, client_writes, host_begins, host_ends, host_read, host_reads, host_writes, host_wrote, is_open_at, journal, on, read_by_host, stored_by, stores, submits, takes, written_by_client, written_by_host}
+use Rattle.rd_deeds.specs.Talk.{Deed, client_wrote, completes, client_writes, host_begins, host_ends, host_read, host_reads, host_writes, host_wrote, is_open_at, journal, on, read_by_host, stored_by, stores, submits, takes, written_by_client, written_by_host}
 use Rattle.rd_world.specs.World.{ApplicationState, Asked}
-use Rattle.rd_world.proofs.TestedDeeds.{along, along_is}
-use Rattle.rd_world.proofs.TestedTelling.{among, strange}
+use Rattle.rd_deeds.proofs.TestedDeeds.{along, along_is}
+use Rattle.rd_deeds.proofs.TestedTelling.{among, strange}
 
 -- ---- few are named
 

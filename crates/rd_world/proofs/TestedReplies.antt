@@ -16,14 +16,14 @@ use Rattle.rd_drive.specs.declared.step.End.{End}
 use Rattle.rd_drive.specs.Replies.{KeyedReply, end_reply, last_state_by, replies_at, replies_by, state_after}
 use Rattle.rd_irp.specs.declared.completion.Reply.{Reply}
 use Rattle.rd_irp.specs.declared.request.Request.{Request}
-use Rattle.rd_world.specs.Devices.{Declared, device_cut, device_step}
-use Rattle.rd_world.specs.declared.device.SessionDevice.{SessionDevice}
+use Rattle.rd_declared.specs.Devices.{Declared, device_cut, device_step}
+use Rattle.rd_declared.specs.declared.device.SessionDevice.{SessionDevice}
 use Rattle.rd_world.specs.Recording.{request_of}
 use Rattle.rd_world.specs.Session.{replies_in}
-use Rattle.rd_world.specs.Talk.{Deed, journal}
-use Rattle.rd_world.specs.Told.{IsReplied}
-use Rattle.rd_world.proofs.TestedAnswers.{before_sent, after_sent, sent_parts}
-use Rattle.rd_world.proofs.TestedJournals.{is_sent}
+use Rattle.rd_deeds.specs.Talk.{Deed, journal}
+use Rattle.rd_deeds.specs.Told.{IsReplied}
+use Rattle.rd_deeds.proofs.TestedAnswers.{before_sent, after_sent, sent_parts}
+use Rattle.rd_deeds.proofs.TestedJournals.{is_sent}
 
 -- ---- what stands before
 

@@ -13,10 +13,10 @@ use Rattle.rd_chunk.specs.Sizes.{max_message}
 use Rattle.rd_irp.specs.declared.request.Request.{Request}
 use Rattle.rd_world.specs.Recording.{client_channel, written_by}
 use Rattle.rd_world.specs.Session.{IsOfDevice, IsStoredOpen}
-use Rattle.rd_world.specs.Talk.{Deed, EachAfter, client_moves, client_read, client_reads, client_writes, completes, has_ended, host_ends, host_moves, host_reads, host_writes, host_wrote, is_open_at, open_channel, request_at, stores, answered}
-use Rattle.rd_world.proofs.TestedDeeds.{each, each_passes}
-use Rattle.rd_world.proofs.TestedJournals.{all_pass}
-use Rattle.rd_world.proofs.TestedTelling.{among, strange}
+use Rattle.rd_deeds.specs.Talk.{Deed, EachAfter, client_moves, client_read, client_reads, client_writes, completes, has_ended, host_ends, host_moves, host_reads, host_writes, host_wrote, is_open_at, open_channel, request_at, stores, answered}
+use Rattle.rd_deeds.proofs.TestedDeeds.{each, each_passes}
+use Rattle.rd_deeds.proofs.TestedJournals.{all_pass}
+use Rattle.rd_deeds.proofs.TestedTelling.{among, strange}
 
 -- ---- of few numbers
 

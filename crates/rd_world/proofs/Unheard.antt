@@ -18,15 +18,15 @@ use Rattle.rd_irp.specs.declared.completion.Reply.{Reply}
 use Rattle.rd_irp.specs.declared.request.Request.{Request}
 use Rattle.rd_pending.specs.declared.calls.Outcome.TheVariants.{Done}
 use Rattle.rd_pending.specs.Outcomes.{Accepted}
-use Rattle.rd_world.specs.Devices.{Declared, device_cut, device_step}
-use Rattle.rd_world.specs.declared.device.SessionDevice.{SessionDevice}
-use Rattle.rd_world.specs.Joining.{AreJoined, ClientCameTo, key_of}
+use Rattle.rd_declared.specs.Devices.{Declared, device_cut, device_step}
+use Rattle.rd_declared.specs.declared.device.SessionDevice.{SessionDevice}
+use Rattle.rd_deeds.specs.Joining.{AreJoined, ClientCameTo, key_of}
 use Rattle.rd_world.specs.Recording.{request_of}
 use Rattle.rd_world.specs.Session.{replies_in}
-use Rattle.rd_world.specs.Talk.{Deed, journal}
-use Rattle.rd_world.proofs.Lists.{all_more}
+use Rattle.rd_deeds.specs.Talk.{Deed, journal}
+use Rattle.rd_deeds.proofs.Lists.{all_more}
 use Rattle.rd_world.proofs.OwnAnswers.{AreOwnEnds, IsOwn, IsOwnAnswer, is_own, run_own}
-use Rattle.rd_world.proofs.Replied.{replied, uncut}
+use Rattle.rd_deeds.proofs.Replied.{replied, uncut}
 
 abbrev IsOwnPair : KeyedReply → Type 0
 IsOwnPair pair = IsOwn pair.1

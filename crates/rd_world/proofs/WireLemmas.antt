@@ -13,7 +13,7 @@ use Rattle.rd_script.specs.declared.line.Line.TheVariants as line
 use Rattle.rd_script.specs.declared.line.NumberedLine.{NumberedLine}
 use Rattle.rd_world.specs.declared.event.StepNo.{StepNo}
 use Rattle.rd_world.specs.Events.{drop_channel, drops, is_channel_open}
-use Rattle.rd_world.specs.Keys.{AreLonger, MarksAgree}
+use Rattle.rd_declared.specs.Marks.{AreLonger, MarksAgree}
 use Rattle.rd_world.specs.Recording.{recording_of_deeds}
 use Rattle.rd_world.specs.Run.{Most, NextStep, asked_by, chosen, connects_on, controls, drawing, ends_session, plays, plays_line, settled, some_left, world_of}
 use Rattle.rd_world.specs.Stations.{AreStations}

@@ -25,10 +25,10 @@ use Rattle.rd_script.specs.declared.line.Line.{Line}
 use Rattle.rd_script.specs.declared.line.Line.TheVariants as line
 use Rattle.rd_script.specs.declared.line.NumberedLine.{NumberedLine}
 use Rattle.rd_world.specs.Control.{Act, Control, Telling, added, addition, begun, control_of, dropped_at, ended, first_control, is_among, lists, noticed, removal, removed}
-use Rattle.rd_world.specs.Devices.{Declared, announce_of, device_cut, device_parked, device_step}
+use Rattle.rd_declared.specs.Devices.{Declared, announce_of, device_cut, device_parked, device_step}
 use Rattle.rd_world.specs.Events.{is_empty}
 use Rattle.rd_world.specs.Recording.{client_stand, host_stand, request_of}
-use Rattle.rd_world.specs.Talk.{AtEachPoint, Deed, EachAfter, adds, client_reads, client_wrote, has_ended, host_begins, host_ends, host_read, host_wrote, is_open_at, is_removed, is_request, journal, notice_in, on, removes, stores, tells, until_begin}
+use Rattle.rd_deeds.specs.Talk.{AtEachPoint, Deed, EachAfter, adds, client_reads, client_wrote, has_ended, host_begins, host_ends, host_read, host_wrote, is_open_at, is_removed, is_request, journal, notice_in, on, removes, stores, tells, until_begin}
 
 -- ---- what a client keeps for printers
 

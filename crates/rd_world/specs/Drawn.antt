@@ -1,7 +1,7 @@
 -- What a choice among places means in a session, and when what may be drawn can happen.
 use Rattle.std.specs.Prelude.{ℕ, ◌+◌, ◌<◌, Bool, List, get_or, length, ⊤}
 use Rattle.rd_world.specs.Events.{apply_job, client_read, client_send, collect, host_read, host_send, is_enabled, issue, take_job}
-use Rattle.rd_world.specs.Hands.{max_hands}
+use Rattle.rd_declared.specs.Declaring.{max_hands}
 use Rattle.rd_world.specs.Run.{NextStep, event, reads_client, reads_host}
 use Rattle.rd_world.specs.World.{WorldState}
 use Rattle.rd_world.specs.declared.choices.Choice.{Choice}

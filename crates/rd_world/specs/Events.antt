@@ -30,10 +30,10 @@ use Rattle.rd_station.specs.declared.answers.Given.TheVariants as given
 use Rattle.rd_station.specs.Station as station
 use Rattle.rd_station.specs.Station.{StationState}
 use Rattle.rd_host.specs.Order.{is_host_ready}
-use Rattle.rd_world.specs.Devices.{PrinterNames, device_cut, device_step, printer_data}
-use Rattle.rd_world.specs.declared.device.SessionDevice.{SessionDevice}
-use Rattle.rd_world.specs.Host.{begins_on, ends_channel, next_message, side_sends, tells_of}
-use Rattle.rd_world.specs.Talk.{Deed, adds, client_writes, completes, host_begins, host_ends, removes, submits, tells}
+use Rattle.rd_declared.specs.Devices.{PrinterNames, device_cut, device_step, printer_data}
+use Rattle.rd_declared.specs.declared.device.SessionDevice.{SessionDevice}
+use Rattle.rd_deeds.specs.Host.{begins_on, ends_channel, next_message, side_sends, tells_of}
+use Rattle.rd_deeds.specs.Talk.{Deed, adds, client_writes, completes, host_begins, host_ends, removes, submits, tells}
 use Rattle.rd_world.specs.World.{ApplicationState, Asked, WorldState, application_at, client_sends, ending, handle_named, host_sends, marks_of, new_way, having_read, station_at, with_application, with_deed, with_station, with_table}
 use Rattle.rd_world.specs.Hearing.{all_take, announcing, client_handles_all, ends_line, host_handles_all, next_asked, tries_kept, with_client}
 

@@ -27,12 +27,12 @@ use Rattle.rd_script.specs.declared.outcome.Outcome.{Outcome}
 use Rattle.rd_script.specs.declared.outcome.Outcome.TheVariants as outcome
 use Rattle.rd_script.specs.declared.outcome.Outcomes.{Outcomes}
 use Rattle.rd_script.specs.declared.script.Script.{Script}
-use Rattle.rd_world.specs.Devices.{Declared, announce_of}
-use Rattle.rd_world.specs.declared.device.SessionDevice.TheVariants as session
-use Rattle.rd_world.specs.Example.{Submission, arrives, comes, from_client, from_host, is_completed, is_handed_out, runs, submission, welcome}
+use Rattle.rd_declared.specs.Devices.{Declared, announce_of}
+use Rattle.rd_declared.specs.declared.device.SessionDevice.TheVariants as session
+use Rattle.rd_deeds.specs.Example.{Submission, arrives, comes, from_client, from_host, is_completed, is_handed_out, runs, submission, welcome}
 use Rattle.rd_world.specs.Recording.{recording_of_deeds}
 use Rattle.rd_world.specs.Run.{open_op}
-use Rattle.rd_world.specs.Talk.{Deed, client_reads, client_writes, host_begins, host_ends, host_reads, host_writes, removes, stores, submits, takes}
+use Rattle.rd_deeds.specs.Talk.{Deed, client_reads, client_writes, host_begins, host_ends, host_reads, host_writes, removes, stores, submits, takes}
 use Rattle.rd_world.specs.Worked.{numbered}
 
 -- ---- the script

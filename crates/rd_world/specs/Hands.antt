@@ -3,10 +3,7 @@ use Rattle.std.specs.Prelude.{ℕ, ◌+◌, ◌-◌, ◌==◌, ◌≤◌, Bool, 
 use Rattle.std.specs.Option.{option_map_or}
 use Rattle.rd_drive.specs.declared.plan.Job.{Job}
 use Rattle.rd_world.specs.Bits.{Marks}
-
--- the most hands
-abbrev pub max_hands : ℕ
-max_hands = 16
+use Rattle.rd_declared.specs.Declaring.{max_hands}
 
 -- what the hand of a number holds, counted from 1: nothing where there is no such hand
 abbrev pub hand_in : List (Option (ℕ × Job)) → ℕ → Option (Option (ℕ × Job))

@@ -32,9 +32,9 @@ use Rattle.rd_station.specs.declared.refusals.PutWhy.{PutWhy}
 use Rattle.rd_station.specs.declared.refusals.PutWhy.TheVariants as why
 use Rattle.rd_station.specs.Station as station
 use Rattle.rd_station.specs.Station.{StationState}
-use Rattle.rd_world.specs.declared.device.SessionDevice.{SessionDevice}
-use Rattle.rd_world.specs.Host.{hears}
-use Rattle.rd_world.specs.Talk.{client_reads, host_reads, takes}
+use Rattle.rd_declared.specs.declared.device.SessionDevice.{SessionDevice}
+use Rattle.rd_deeds.specs.Host.{hears}
+use Rattle.rd_deeds.specs.Talk.{client_reads, host_reads, takes}
 use Rattle.rd_world.specs.World.{ApplicationState, Asked, Kept, WayState, WorldState, application_at, handling, most_messages, station_at, with_application, with_deed, with_station, with_table}
 
 -- ---- the client

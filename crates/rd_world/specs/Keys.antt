@@ -1,33 +1,18 @@
 -- The keys of a session's requests in its journals: each is given once, so that of a request one run is stored at most.
-use Rattle.std.specs.Prelude.{◌≡◌, ℕ, ◌⊎◌, ◌++◌, Bool, List, map, slice_get, All, Option, Some, None, Result, Ok, Err}
-use Rattle.std.specs.List.{AllZip}
+use Rattle.std.specs.Prelude.{◌≡◌, ℕ, ◌⊎◌, List, map, slice_get, Option, Some, None, Result, Ok, Err}
 use Rattle.rd_base.specs.declared.journal.Item.{Item}
-use Rattle.rd_base.specs.declared.journal.Item.TheVariants.{Ran}
 use Rattle.rd_base.specs.declared.journal.Key.{Key}
 use Rattle.rd_base.specs.Lawful.{IsBelow}
 use Rattle.rd_station.specs.Memory.{NamesKey}
 use Rattle.rd_station.specs.Station.{StationState}
 use Rattle.rd_station.specs.declared.refusals.PutNo.{PutNo}
-use Rattle.rd_world.specs.declared.device.SessionDevice.{SessionDevice}
+use Rattle.rd_declared.specs.declared.device.SessionDevice.{SessionDevice}
 
 -- ---- what journals say of runs
 
 -- each device's journal, by the device's id
 abbrev pub station_journals : List (ℕ × StationState SessionDevice) → List (ℕ × List Item)
 station_journals stations = map (λ (e : ℕ × StationState SessionDevice). let s = e.1 in (e.0, s.journal)) stations
-
--- where the entry is a run, it found no memory if this is said of its key, and only then
-abbrev pub AgreesAt : (Key → Bool) → Item → Type 0
-AgreesAt starves (Ran key moment starved parked) = starves key ≡ starved
-AgreesAt starves _ = Unit {0}
-
--- each run of the journals found no memory if this is said of its key, and only then
-abbrev pub MarksAgree : (Key → Bool) → List (ℕ × List Item) → Type 0
-MarksAgree starves journals = All (λ (j : ℕ × List Item). All (AgreesAt starves) j.1) journals
-
--- the same devices in the same order, whose journals only became longer
-abbrev pub AreLonger : List (ℕ × List Item) → List (ℕ × List Item) → Type 0
-AreLonger old new = AllZip (λ (j : ℕ × List Item) (k : ℕ × List Item). (k.0 ≡ j.0) × ((more : List Item) × (k.1 ≡ j.1 ++ more))) old new
 
 -- ---- keys
 

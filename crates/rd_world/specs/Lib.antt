@@ -2,9 +2,6 @@ pub mod Left
 pub mod Bits
 pub mod Choices
 pub mod Client
-pub mod Devices
-pub mod Host
-pub mod Talk
 pub mod Names
 pub mod World
 pub mod Keys
@@ -16,10 +13,6 @@ pub mod Run
 pub mod Applications
 pub mod Hands
 pub mod Report
-pub mod Told
-pub mod HostDeeds
-pub mod Joining
-pub mod Example
 pub mod Found
 pub mod Control
 pub mod Session
@@ -27,7 +20,6 @@ pub mod Worked
 pub mod Recording
 pub mod Acts
 pub mod Lines
-pub mod Printers
 pub mod Opening
 pub mod Noting
 pub mod Step

@@ -21,14 +21,14 @@ use Rattle.rd_script.specs.Report.{numbered_from}
 use Rattle.rd_script.specs.Rows.{max_applications}
 use Rattle.rd_world.specs.Acts.{Opens, act_by, first_control_of}
 use Rattle.rd_world.specs.Control.{Control, controlled}
-use Rattle.rd_world.specs.Devices.{Declared}
+use Rattle.rd_declared.specs.Devices.{Declared}
 use Rattle.rd_world.specs.Events.{refusal_of, target_of}
 use Rattle.rd_world.specs.Hearing.{given_handle, holding_after, reported_outcome}
-use Rattle.rd_world.specs.HostDeeds.{calls_of, side_of}
-use Rattle.rd_world.specs.Joining.{accepted}
+use Rattle.rd_deeds.specs.HostDeeds.{calls_of, side_of}
+use Rattle.rd_deeds.specs.Joining.{accepted}
 use Rattle.rd_world.specs.Recording.{client_id}
 use Rattle.rd_world.specs.Run.{asked_by}
-use Rattle.rd_world.specs.Talk.{Deed, EndsWith, client_wrote, has_ended, host_begins, host_read, host_wrote, is_open_at, is_request, on, submits, takes}
+use Rattle.rd_deeds.specs.Talk.{Deed, EndsWith, client_wrote, has_ended, host_begins, host_read, host_wrote, is_open_at, is_request, on, submits, takes}
 use Rattle.rd_world.specs.World.{ApplicationState, Asked, new_application}
 
 -- ---- requests

@@ -9,12 +9,12 @@ use Rattle.rd_client.specs.Order.{ClientOrder, client_at_first}
 use Rattle.rd_devices.specs.declared.list.Announce.{Announce}
 use Rattle.rd_host.specs.Order as host
 use Rattle.rd_host.specs.Order.{HostOrder, host_at_first}
-use Rattle.rd_irp.specs.declared.op.Op.TheVariants.{Close}
 use Rattle.rd_irp.specs.declared.request.Request.{Request}
 use Rattle.rd_pending.specs.History.{lives_before}
-use Rattle.rd_world.specs.Devices.{Declared, announce_of}
-use Rattle.rd_world.specs.HostDeeds.{calls_of}
-use Rattle.rd_world.specs.Talk.{Deed, EachAfter, client_moves, client_reads, client_writes, completes, host_begins, host_ends, host_moves, host_writes, host_wrote, is_removed, open_channel, request_at, until_begin}
+use Rattle.rd_declared.specs.Devices.{Declared, announce_of}
+use Rattle.rd_deeds.specs.HostDeeds.{calls_of}
+use Rattle.rd_deeds.specs.Talk.{Deed, EachAfter, client_moves, client_reads, client_writes, completes, host_begins, host_ends, host_moves, host_writes, host_wrote, is_removed, open_channel, request_at, until_begin}
+use Rattle.rd_declared.specs.Replies.{no_request}
 
 -- the ClientId that a host announces
 abbrev pub client_id : ℕ
@@ -87,10 +87,6 @@ abbrev pub host_stand : List Deed → ℕ → Option host.HostStanding
 host_stand deeds c = host.stand_after (host_at_first client_id (lives_before c (calls_of client_id deeds))) (reverse (host_moves c deeds))
 
 -- ---- the requests that stand in it
-
--- what a key that names no request stands for
-abbrev pub no_request : Request
-no_request = record { device = 0; file = 0; completion = 0; op = Close }
 
 -- the request of a key: the one that stands at its place on its channel
 abbrev pub request_of : List Deed → Key → Request

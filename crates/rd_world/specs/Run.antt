@@ -20,11 +20,12 @@ use Rattle.rd_script.specs.declared.line.Line.{Line}
 use Rattle.rd_script.specs.declared.line.Line.TheVariants as line
 use Rattle.rd_script.specs.declared.line.NumberedLine.{NumberedLine}
 use Rattle.rd_station.specs.Station.{StationState, new_station}
-use Rattle.rd_world.specs.Devices.{Declared, PrinterNames, announce_of, declaring, dos_name, furnishing, zero_text}
-use Rattle.rd_world.specs.declared.device.SessionDevice.{SessionDevice}
-use Rattle.rd_world.specs.Host.{new_side}
+use Rattle.rd_declared.specs.Devices.{Declared, PrinterNames, announce_of, dos_name, zero_text}
+use Rattle.rd_declared.specs.declared.device.SessionDevice.{SessionDevice}
+use Rattle.rd_deeds.specs.Host.{new_side}
 use Rattle.rd_world.specs.World.{ApplicationState, Asked, WorldState, application_at, marks_of, ending, new_application, new_way, with_application}
 use Rattle.rd_world.specs.Events.{Event, act, add, apply_job, client_has_message, client_read, client_send, collect, connect, drop_channel, host_has_message, host_read, host_send, is_channel_open, is_empty, is_enabled, issue, remove, take_job, tell}
+use Rattle.rd_declared.specs.Declaring.{declared_devices}
 
 -- ---- the draws
 
@@ -249,10 +250,6 @@ setting w _ = w
 
 abbrev pub station_of : ℕ × Declared → ℕ × StationState SessionDevice
 station_of e = (e.0, new_station (e.1).state)
-
--- the devices that lines declare, with what is on them, by their ids
-abbrev pub declared_devices : List Line → List (ℕ × Declared)
-declared_devices lines = fold furnishing (fold declaring [] lines) lines
 
 -- the printers among devices, with their names
 abbrev pub printers_of : List (ℕ × Declared) → List (ℕ × PrinterNames)

@@ -3,12 +3,10 @@
 use Rattle.std.specs.Prelude.{◌≡◌, ◌⊎◌, ℕ, false, true, List, [], ◌∷◌, ◌++◌, filter, filter_map, if◌then◌else◌, length, map, reverse, IfSome, Some, All}
 use Rattle.std.specs.List.{flat_map}
 use Rattle.std.specs.Map.{lookup}
-use Rattle.std.specs.Option.{option_map_or, unwrap_or}
+use Rattle.std.specs.Option.{option_map_or}
 use Rattle.std.specs.Ordering.{nat_cmp}
 use Rattle.std.specs.BTreeMap.{is_at}
 use Rattle.rd_base.specs.declared.journal.Item.{Item}
-use Rattle.rd_base.specs.declared.journal.Item.TheVariants.{Ran}
-use Rattle.rd_base.specs.declared.journal.Key.{Key}
 use Rattle.rd_base.specs.History.{History}
 use Rattle.rd_base.specs.Lawful.{RunsAt, named_key}
 use Rattle.rd_drive.specs.Replies.{AreToldBy, last_state_by, replies_by}
@@ -24,38 +22,25 @@ use Rattle.rd_script.specs.Report.{report_of}
 use Rattle.rd_station.specs.Station.{StationState}
 use Rattle.rd_world.specs.Acts.{AreActed, AreSaid, Tells, act_by, cache_after, control_by, first_control_of, is_settle, is_settled_host, left_open, notices_on, of_channel, tellings_on, waiting_keys}
 use Rattle.rd_world.specs.Control.{Control, Telling, controlled}
-use Rattle.rd_world.specs.Devices.{Declared, device_cut, device_step}
-use Rattle.rd_world.specs.declared.device.SessionDevice.{SessionDevice}
-use Rattle.rd_world.specs.declared.device.SessionDevice.TheVariants as session
-use Rattle.rd_world.specs.Joining.{AreJoined, Joins}
+use Rattle.rd_declared.specs.Devices.{Declared, device_cut, device_step}
+use Rattle.rd_declared.specs.declared.device.SessionDevice.{SessionDevice}
+use Rattle.rd_declared.specs.declared.device.SessionDevice.TheVariants as session
+use Rattle.rd_deeds.specs.Joining.{AreJoined, Joins}
 use Rattle.rd_world.specs.Lines.{HaveOutcomes, submitted}
-use Rattle.rd_world.specs.Recording.{IsRecorded, client_id, host_stand, no_request, recording_of_deeds, request_of}
+use Rattle.rd_world.specs.Recording.{IsRecorded, client_id, host_stand, recording_of_deeds, request_of}
 use Rattle.rd_world.specs.Report.{outcomes_of}
-use Rattle.rd_world.specs.Run.{WorldRun, declared_devices, world_of}
-use Rattle.rd_world.specs.Talk.{Deed, EachAfter, Has, answered, asked, client_read, client_wrote, completes, has_ended, host_read, host_wrote, is_request, journal, open_channel, request_at, stores}
-use Rattle.rd_world.specs.Told.{CompletesWith, IsHeeded, Replies}
+use Rattle.rd_declared.specs.Declaring.{declared_devices}
+use Rattle.rd_world.specs.Run.{WorldRun, world_of}
+use Rattle.rd_deeds.specs.Talk.{Deed, EachAfter, Has, answered, asked, client_read, client_wrote, completes, has_ended, host_read, host_wrote, is_request, journal, open_channel, request_at, stores}
+use Rattle.rd_deeds.specs.Told.{CompletesWith, IsHeeded, Replies}
 use Rattle.rd_world.specs.World.{WorldState, journals_in}
 
 -- ---- the journals
-
--- the request of a key among those that the client read
-abbrev pub request_read : List Deed → Key → Request
-request_read deeds key = unwrap_or (request_at (client_read key.channel deeds) key.index) no_request
 
 -- the replies that a device's journal gives, from the device's beginning on
 abbrev pub replies_in : List (ℕ × Declared) → List Deed → Replies
 replies_in devices deeds device items =
     option_map_or (λ (d : Declared). replies_by device_step device_cut (request_of deeds) d.state items) (lookup (is_at (nat_cmp device)) devices) []
-
--- the same by the requests that the client read
-abbrev pub replies_read : List (ℕ × Declared) → List Deed → Replies
-replies_read devices deeds device items =
-    option_map_or (λ (d : Declared). replies_by device_step device_cut (request_read deeds) d.state items) (lookup (is_at (nat_cmp device)) devices) []
-
--- the request that ran was read
-abbrev pub RanRead : List Deed → Item → Type 0
-RanRead deeds (Ran key moment starved parked) = (r : Request) × (request_at (client_read key.channel deeds) key.index ≡ Some r)
-RanRead deeds _ = Unit {0}
 
 -- the key that the entry names is of a request that stands on the wire and names the device
 abbrev pub IsOfDevice : List Deed → ℕ → Item → Type 0

@@ -10,14 +10,11 @@ use Rattle.rd_base.specs.declared.journal.Key.{Key}
 use Rattle.rd_station.specs.Station.{StationCall, StationState, StationStep, drop_channel, drops}
 use Rattle.rd_station.specs.Tied.{IsReached}
 use Rattle.rd_world.specs.Bits.{Marks}
-use Rattle.rd_world.specs.Devices.{device_cut, device_cuts, device_parked, device_runs}
+use Rattle.rd_declared.specs.Devices.{device_cut, device_cuts, device_parked, device_runs}
 use Rattle.rd_world.specs.Events.{is_empty}
 use Rattle.rd_world.specs.Keys.{AreUpTo, KeysApart}
-use Rattle.rd_world.specs.declared.device.SessionDevice.{SessionDevice}
-
--- the most devices of a session
-abbrev pub max_session_devices : ℕ
-max_session_devices = 32
+use Rattle.rd_declared.specs.declared.device.SessionDevice.{SessionDevice}
+use Rattle.rd_declared.specs.Declaring.{max_session_devices}
 
 -- a station of a session came to be by its calls
 abbrev pub IsReachedBy : StationState SessionDevice → Type 0

@@ -7,11 +7,11 @@ use Rattle.rd_client.specs.Core.{Outgoing, client_send}
 use Rattle.rd_station.specs.declared.answers.Completion.{Completion}
 use Rattle.rd_station.specs.Station as station
 use Rattle.rd_station.specs.Station.{StationState}
-use Rattle.rd_world.specs.declared.device.SessionDevice.{SessionDevice}
+use Rattle.rd_declared.specs.declared.device.SessionDevice.{SessionDevice}
 use Rattle.rd_world.specs.declared.event.Event as happening
 use Rattle.rd_world.specs.declared.event.Event.TheVariants as happens
 use Rattle.rd_world.specs.Events.{Event, add, apply_job, client_read, client_send as client_sends, collect, completion_message, connect, drop_channel, host_read, host_send, issue, remove, take_job, tell}
-use Rattle.rd_world.specs.Host.{next_message}
+use Rattle.rd_deeds.specs.Host.{next_message}
 use Rattle.rd_world.specs.Noting.{IsTellable}
 use Rattle.rd_world.specs.Run.{NextStep, event, reads_client, reads_host}
 use Rattle.rd_world.specs.Recording.{begins, ends, from_client, from_host, recording_entry_bytes}

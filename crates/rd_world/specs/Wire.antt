@@ -7,7 +7,7 @@ use Rattle.rd_base.specs.Prefixes.{AppendsPrefix}
 use Rattle.rd_script.specs.declared.line.NumberedLine.{NumberedLine}
 use Rattle.rd_world.specs.declared.event.StepNo.{StepNo}
 use Rattle.rd_world.specs.declared.event.StepNo.TheVariants as no
-use Rattle.rd_world.specs.Keys.{AreLonger, MarksAgree}
+use Rattle.rd_declared.specs.Marks.{AreLonger, MarksAgree}
 use Rattle.rd_world.specs.Recording.{recording_of_deeds}
 use Rattle.rd_world.specs.Run.{Most, run_of}
 use Rattle.rd_world.specs.World.{WorldState, journals_in, marks_of}

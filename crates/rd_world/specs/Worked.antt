@@ -9,16 +9,17 @@ use Rattle.rd_script.specs.declared.line.Line.TheVariants as line
 use Rattle.rd_script.specs.declared.line.NumberedLine.{NumberedLine}
 use Rattle.rd_station.specs.Station.{StationState}
 use Rattle.rd_world.specs.Control.{Act, Control}
-use Rattle.rd_world.specs.Devices.{Declared}
-use Rattle.rd_world.specs.declared.device.SessionDevice.{SessionDevice}
-use Rattle.rd_world.specs.Host.{HostSide}
-use Rattle.rd_world.specs.HostDeeds.{side_of}
+use Rattle.rd_declared.specs.Devices.{Declared}
+use Rattle.rd_declared.specs.declared.device.SessionDevice.{SessionDevice}
+use Rattle.rd_deeds.specs.Host.{HostSide}
+use Rattle.rd_deeds.specs.HostDeeds.{side_of}
 use Rattle.rd_world.specs.Report.{report_text}
-use Rattle.rd_world.specs.Run.{declared_devices, run_of}
+use Rattle.rd_declared.specs.Declaring.{declared_devices}
+use Rattle.rd_world.specs.Run.{run_of}
 use Rattle.rd_world.specs.Acts.{act_by, cause_in, control_at_end, control_by, first_control_of, is_errand_at, is_settled_host, left_open, notices_on, of_channel, tellings_on, waiting_keys}
 use Rattle.rd_world.specs.Recording.{client_id, host_stand}
 use Rattle.rd_world.specs.Lines.{submitted}
-use Rattle.rd_world.specs.Talk.{Deed, client_read, client_wrote, host_read, host_wrote, is_request, journal, open_channel}
+use Rattle.rd_deeds.specs.Talk.{Deed, client_read, client_wrote, host_read, host_wrote, is_request, journal, open_channel}
 use Rattle.rd_world.specs.Session.{at_settles}
 use Rattle.std.specs.List.{list_all, list_any}
 use Rattle.rd_base.specs.declared.journal.Key.{Key}

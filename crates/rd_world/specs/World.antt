@@ -19,10 +19,10 @@ use Rattle.rd_pending.specs.Table.{TableState}
 use Rattle.rd_printer.specs.Cache.{CacheState, bytes_cmp}
 use Rattle.rd_script.specs.declared.outcome.Outcome.{Outcome}
 use Rattle.rd_station.specs.Station.{StationState, is_key}
-use Rattle.rd_world.specs.Devices.{PrinterNames}
-use Rattle.rd_world.specs.declared.device.SessionDevice.{SessionDevice}
-use Rattle.rd_world.specs.Host.{HostSide}
-use Rattle.rd_world.specs.Talk.{Deed, host_writes, stores}
+use Rattle.rd_declared.specs.Devices.{PrinterNames}
+use Rattle.rd_declared.specs.declared.device.SessionDevice.{SessionDevice}
+use Rattle.rd_deeds.specs.Host.{HostSide}
+use Rattle.rd_deeds.specs.Talk.{Deed, host_writes, stores}
 
 -- What an application asks for by a line: the name of its handle, the device of a line that opens it, and the operation.
 pub record Asked : Type 0 where

@@ -2,7 +2,7 @@
 
 ghost use Rattle.std.specs.Prelude.{◌≡◌, IfOk};
 ghost use Rattle.rd_world.specs.Applications.{AreNumbered};
-ghost use Rattle.rd_world.specs.Opening.{AreDeclared};
+ghost use Rattle.rd_declared.specs.Declaring.{AreDeclared};
 ghost use Rattle.rd_world.specs.Run.{world_of};
 ghost use Rattle.rd_world.specs.World.{ending, new_way};
 

@@ -6,7 +6,7 @@ ghost use Rattle.rd_chunk.specs.Carrier.{IsMessage};
 ghost use Rattle.rd_client.specs.Core.{AreDevices, ClientStep, IsClientReady, MayAnswer, MayHear, MayTellAdded, MayTellRemoved, Outgoing, begins, directs, has_device, hears, is_gone, may_be_asked, new_client, refresh, sends, tells_added, tells_removed};
 ghost use Rattle.rd_world.specs.Client.{listed_at};
 ghost use Rattle.rd_world.specs.Opening.{AreShort, ids_of};
-ghost use Rattle.rd_world.specs.Printers.{max_printer_data};
+ghost use Rattle.rd_declared.specs.Printers.{max_printer_data};
 
 use rd_base::{Bytes, Status};
 use rd_client::{ClientCore, Heard};

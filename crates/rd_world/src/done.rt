@@ -7,7 +7,7 @@ use std::marker::Model;
 pub struct Done(());
 
 impl Model for Done {
-    ghost use Rattle.rd_world.specs.Talk.{Deed, host_ends};
+    ghost use Rattle.rd_deeds.specs.Talk.{Deed, host_ends};
 
     ghost Value = { Deed };
 

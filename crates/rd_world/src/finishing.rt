@@ -8,16 +8,16 @@ ghost use Rattle.rd_script.specs.declared.outcome.Outcome.{Outcome};
 ghost use Rattle.rd_script.specs.Report.{AreCountable, numbered_from};
 ghost use Rattle.rd_script.specs.Script.{max_lines};
 ghost use Rattle.rd_station.specs.Station.{StationState};
-ghost use Rattle.rd_world.specs.declared.device.SessionDevice.{SessionDevice};
+ghost use Rattle.rd_declared.specs.declared.device.SessionDevice.{SessionDevice};
 ghost use Rattle.rd_world.specs.Report.{outcomes_under};
 ghost use Rattle.rd_world.specs.Session.{StoresSome, TellsWorld, by_device, journals_of, printed_in};
 ghost use Rattle.rd_world.specs.World.{journals_in};
 
 use crate::applications::Applications;
-use crate::device::SessionDevice;
 use crate::stations::Stations;
 use crate::world::World;
 use rd_base::{Books, Bytes, Items};
+use rd_declared::SessionDevice;
 use rd_printer::Printer;
 use rd_script::{Outcome, Outcomes};
 use rd_station::Station;

@@ -6,7 +6,7 @@ ghost use Rattle.rd_host.specs.Core.{IsHostReady, MayTell};
 ghost use Rattle.rd_pending.specs.Known.{IsKnown};
 ghost use Rattle.rd_pending.specs.Table.{MayBegin, MaySubmit, TableStep, complete, submits, takes};
 ghost use Rattle.rd_pending.specs.declared.calls.LiveNo.TheVariants as no;
-ghost use Rattle.rd_world.specs.Host.{admits, begins_on, ends_channel, forgets, hears, live_code, new_side, next_message, side_sends, tells_of};
+ghost use Rattle.rd_deeds.specs.Host.{admits, begins_on, ends_channel, forgets, hears, live_code, new_side, next_message, side_sends, tells_of};
 
 use rd_base::{Bytes, Status};
 use rd_devices::Announce;
@@ -35,7 +35,7 @@ pub struct Host {
 }
 
 impl Model for Host {
-    ghost use Rattle.rd_world.specs.Host.{HostSide};
+    ghost use Rattle.rd_deeds.specs.Host.{HostSide};
 
     ghost Value = { HostSide };
 

@@ -1,6 +1,6 @@
-//! The definitions at work, as contracts of functions that do nothing: the checker computes each case; and what holds of joined sides.
+//! The definitions at work, as contracts of functions that do nothing: the checker computes each case.
 
-ghost use Rattle.std.specs.Prelude.{◌≡◌, ◌≢◌, ◌++◌, ◌∷◌, ℕ, Bool, List, [], Some, codes, filter_map, map, true};
+ghost use Rattle.std.specs.Prelude.{◌≡◌, ◌≢◌, ◌++◌, ◌∷◌, ℕ, Bool, List, [], Some, codes, map, true};
 ghost use Rattle.rd_base.specs.declared.journal.Cause.TheVariants.{Dropped, Removed};
 ghost use Rattle.rd_base.specs.Statuses.{cancelled, no_such_device};
 ghost use Rattle.rd_base.specs.declared.journal.Item.{Item};
@@ -11,25 +11,24 @@ ghost use Rattle.std.specs.List.{AllByRecursion};
 ghost use Rattle.std.specs.List.Sorted.{IsStrictlySortedBy};
 ghost use Rattle.std.specs.Map.{keys_of};
 ghost use Rattle.std.specs.Ordering.{nat_cmp};
-ghost use Rattle.rd_pending.specs.declared.calls.Outcome.TheVariants.{Done, Lost};
+ghost use Rattle.rd_pending.specs.declared.calls.Outcome.TheVariants.{Done};
 ghost use Rattle.rd_pending.specs.Outcomes.{Accepted};
 ghost use Rattle.rd_base.specs.declared.journal.Item.TheVariants.{Came, Cut};
 ghost use Rattle.rd_devices.specs.DeviceList.{list_bytes};
 ghost use Rattle.rd_devices.specs.Removal.{removal_bytes};
 ghost use Rattle.rd_world.specs.Acts.{IsCutThere, IsToldInTime};
-ghost use Rattle.rd_world.specs.Devices.{Declared, announce_of};
+ghost use Rattle.rd_declared.specs.Devices.{Declared, announce_of};
 ghost use Rattle.rd_script.specs.declared.outcome.Outcomes.{Outcomes};
 ghost use Rattle.rd_world.specs.Events.{Event, act, is_enabled};
 ghost use Rattle.rd_world.specs.Found.{AreFound, found_books, found_devices, found_drive, found_output, found_recording, found_script};
-ghost use Rattle.rd_world.specs.Keys.{AreLonger};
+ghost use Rattle.rd_declared.specs.Marks.{AreLonger};
 ghost use Rattle.rd_world.specs.Lines.{IsDue};
-ghost use Rattle.rd_world.specs.Example.{close_reply, example_deeds, example_outcomes, example_replies, left_waiting, read_reply, watch, watch_reply};
-ghost use Rattle.rd_world.specs.Joining.{AreJoined, ClientCameTo, IsCarried, Joins};
+ghost use Rattle.rd_deeds.specs.Joining.{AreJoined, ClientCameTo, IsCarried};
 ghost use Rattle.rd_world.specs.Recording.{recording_of_deeds, request_of};
-ghost use Rattle.rd_world.specs.Session.{IsStoredOpen, IsWholeSession, RanRead, replies_in, replies_read};
+ghost use Rattle.rd_declared.specs.Replies.{RanRead, replies_read};
+ghost use Rattle.rd_world.specs.Session.{IsStoredOpen, IsWholeSession, replies_in};
 ghost use Rattle.rd_world.specs.Step.{recorded_by};
-ghost use Rattle.rd_world.specs.Talk.{Deed, client_read, client_writes, host_begins, host_ends, journal, removes, request_at, stores};
-ghost use Rattle.rd_world.specs.Told.{Replies};
+ghost use Rattle.rd_deeds.specs.Talk.{Deed, client_read, client_writes, host_begins, host_ends, journal, removes, request_at, stores};
 ghost use Rattle.rd_world.specs.World.{WorldState, journals_in};
 ghost use Rattle.rd_world.specs.Worked.{cached_bytes_announced, device_removed_and_added, drop_and_reconnect, idle_control_lines, notification_never_ended, notification_of_new_file, printer_cache_renamed, removal_before_sent_request, removal_under_work, removed_device_not_announced_again, sharing_violation, waiting_lock, done_in, reported, said_in, scripts, settles_in, standing, told_by_deeds};
 
@@ -68,14 +67,7 @@ pub fn sessions_settle()
     ensures notifications { settles_in notification_never_ended ≡ Some true }
 {}
 
-/// The joining law: whatever both ends do whose messages are carried, whose host keeps its table and whose client tells what its journals say,
-/// completions answer their own requests and are taken, what was completed before a request was written ran before it, the host hands out what came of
-/// each request, and one that is done has the reply that its device's journal gives to it, and none that a cut alone gives.
-pub fn joined_sides_agree()
-    ensures { (client : ℕ) (replies : Replies) (deeds : List Deed) → AreJoined client replies deeds → Joins client replies deeds }
-{}
-
-/// So over the devices of a script no request is done by a reply that says that it was cancelled, or that its device isn't there.
+/// Over the devices of a script no request of joined sides is done by a reply that says that it was cancelled, or that its device isn't there.
 pub fn losses_are_no_replies()
     ensures { (client : ℕ) (devices : List (ℕ × Declared)) (deeds : List Deed) → AreJoined client (replies_in devices deeds) deeds → (a : Accepted) (reply : Reply) → ClientCameTo client deeds a (Done reply) → (reply.status ≢ cancelled) × (reply.status ≢ no_such_device) }
 {}
@@ -96,15 +88,6 @@ pub fn events_are_recorded()
 pub fn journals_grow()
     ensures longer { (starves : Key → Bool) (w : WorldState) (e : Event) → IsStrictlySortedBy nat_cmp (keys_of w.stations) → AreLonger (journals_in w) (journals_in (act starves w e)) }
     ensures ids { (starves : Key → Bool) (w : WorldState) (e : Event) → IsStrictlySortedBy nat_cmp (keys_of w.stations) → keys_of (act starves w e).stations ≡ keys_of w.stations }
-{}
-
-/// What that law takes is met by a session with two devices and two channels, a request that waits, a removal under work, and a drop.
-pub fn a_session_is_joined()
-    ensures joined { AreJoined 1 example_replies example_deeds }
-    // Of each request the channel and the device, and what came of it.
-    ensures outcomes { example_outcomes ≡ (1, 1, Some (Done read_reply)) ∷ (1, 2, Some (Done watch_reply)) ∷ (1, 2, Some (Done close_reply)) ∷ (1, 1, Some (Lost Removed)) ∷ (1, 1, Some (Lost Removed)) ∷ (1, 2, Some (Lost Dropped)) ∷ (2, 2, Some (Done read_reply)) ∷ [] }
-    // The second one was left waiting inside its device when it ran.
-    ensures waiting { filter_map left_waiting (journal 2 example_deeds) ≡ watch.key ∷ [] }
 {}
 
 /// A whole session that is all that is promised: a script whose first channel ends while a read is under way, and whose device is removed, on its

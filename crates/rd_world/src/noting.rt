@@ -1,18 +1,18 @@
 //! What a `cache` line tells of a printer.
 
 ghost use Rattle.std.specs.Prelude.{◌≡◌, IfOk, IfSome};
-ghost use Rattle.rd_world.specs.Noting.{IsNotable, IsTellable};
+ghost use Rattle.rd_declared.specs.Declaring.{IsNotable};
+ghost use Rattle.rd_world.specs.Noting.{IsTellable};
 ghost use Rattle.rd_world.specs.Run.{notice_of};
 
-use crate::opening::dos_name;
-use crate::printers::zero_text;
 use rd_base::Bytes;
+use rd_declared::{dos_name, zero_text};
 use rd_printer::Notice;
 use rd_script::Line;
 use std::alloc::{AllocError, Global};
 
 /// The notice of a `cache` line, if the line is one: names with a zero unit after them, and no PnP name.
-#[tactic(auto, unfolding(crate::specs::Run::notice_of, crate::specs::Noting::IsNotable), using(crate::proofs::NotingLemmas::tellable))]
+#[tactic(auto, unfolding(crate::specs::Run::notice_of, rd_declared::specs::Declaring::IsNotable), using(crate::proofs::NotingLemmas::tellable))]
 pub fn notice_of(alloc: Global, line: &Line) -> Result<Option<Notice>, AllocError>
     requires { IsNotable line.now }
     ensures notice { IfOk result (λ notice. notice ≡ notice_of line.now) }

@@ -1,36 +1,19 @@
-//! What a script declares: its settings, its devices with what is on them, and how they are announced.
-//!
-//! Cost: lines are gone over twice, and a device is found among at most 32. The bytes of a file are copied once, into its drive.
+//! What a session of a script begins with: its settings, and its devices as stations and as announcements.
 
-ghost use Rattle.std.specs.Prelude.{◌≡◌, ◌<◌, ◌≤◌, ◌^◌, ◌∷◌, ◌++◌, [], fold, length, All, IfOk, OnOk};
-ghost use Rattle.std.specs.Ordering.{nat_cmp};
-ghost use Rattle.std.specs.BTreeMap.{insert_entry};
-ghost use Rattle.rd_dirinfo.specs.declared.naming.Naming.TheVariants as naming;
-ghost use Rattle.rd_world.specs.Devices.{announce_of, declared_drive, declaring, dos_name, furnishing, holding_at, with_first};
-ghost use Rattle.rd_world.specs.Opening.{AreDeclarable, AreDeclared, AreOpenable, AreSettings, BeginsBy, IsDeclarable, IsOpenable, Opens, bare_lines, declared_printer, max_device_name, with_setting};
-ghost use Rattle.rd_world.specs.Printers.{max_printer_units};
-ghost use Rattle.rd_world.specs.Run.{declared_devices, printers_of, station_of, world_of};
-ghost use Rattle.rd_world.specs.Stations.{max_session_devices};
+ghost use Rattle.std.specs.Prelude.{◌≡◌, ◌<◌, ◌∷◌, ◌++◌, [], length, All, IfOk, OnOk};
+ghost use Rattle.rd_declared.specs.Devices.{announce_of};
+ghost use Rattle.rd_declared.specs.Declaring.{AreDeclared, AreOpenable, IsOpenable, bare_lines, declared_devices, max_session_devices};
+ghost use Rattle.rd_world.specs.Opening.{AreSettings, BeginsBy, Opens, with_setting};
+ghost use Rattle.rd_world.specs.Run.{printers_of, station_of, world_of};
 
-use crate::device::SessionDevice;
-use crate::printers::{PrinterNames, Printers};
 use crate::stations::Stations;
-use rd_base::{Bytes, Items, Units};
+use rd_base::Items;
+use rd_declared::{DeclaredDevice, Printers, declared_devices};
 use rd_devices::{Announce, DeviceList};
-use rd_dirinfo::{Naming, Path};
-use rd_drive::MemoryDrive;
-use rd_printer::{Cache, Printer};
-use rd_script::{BoxedUnits, Line, NumberedLine, ShortName};
+use rd_script::{Line, NumberedLine};
 use rd_station::Station;
 use std::alloc::{AllocError, Global};
 use std::collections::BTreeMap;
-use std::marker::Model;
-
-/// The type of a printer (MS-RDPEFS 2.2.1.3).
-const PRINT: u32 = 4;
-
-/// The type of a file system.
-const FILE_SYSTEM: u32 = 8;
 
 /// What a script sets for its session.
 #[derive(Clone, Copy)]
@@ -52,24 +35,6 @@ pub struct Opening {
     /// As the client announces them on the first channel.
     pub devices: DeviceList,
     pub printers: Printers,
-}
-
-/// A device as lines declare it, with what is on it.
-#[derive(Drop)]
-struct DeclaredDevice {
-    id: u32,
-    state: SessionDevice,
-    kind: u32,
-    name: ShortName,
-    printer: Option<PrinterNames>,
-}
-
-impl Model for DeclaredDevice {
-    ghost use Rattle.rd_world.specs.Devices.{Declared};
-
-    ghost Value = { Declared };
-
-    ghost view = { λ d. record { id = d.id; state = d.state; kind = d.kind; name = d.name; printer = d.printer } };
 }
 
 /// What lines set.
@@ -122,215 +87,8 @@ pub fn open_devices(alloc: Global, lines: &[NumberedLine]) -> Result<Opening, Al
     requires { AreDeclared lines.now }
     ensures { IfOk result (λ o. Opens (declared_devices (bare_lines lines.now)) o.stations o.devices o.printers) }
 {
-    let mut devices = declare_all(alloc, lines)?;
-    furnish_all(alloc, &mut devices, lines)?;
+    let devices = declared_devices(alloc, lines)?;
     open_all(alloc, devices)
-}
-
-/// The devices that lines declare, with nothing on them.
-fn declare_all(
-    alloc: Global,
-    lines: &[NumberedLine],
-) -> Result<BTreeMap<u32, DeclaredDevice>, AllocError>
-    requires { AreDeclarable lines.now }
-    ensures { IfOk result (λ devices. devices.entries ≡ fold declaring [] (bare_lines lines.now)) }
-{
-    let mut devices = BTreeMap::new(alloc);
-    for line in lines {
-        declare(alloc, &mut devices, &line.line)?;
-    }
-    Ok(devices)
-}
-
-/// With what lines make on them.
-fn furnish_all(
-    alloc: Global,
-    devices: &mut BTreeMap<u32, DeclaredDevice>,
-    lines: &[NumberedLine],
-) -> Result<(), AllocError>
-    requires { AreDeclarable lines.now }
-    ensures { OnOk result (devices.new.entries ≡ fold furnishing devices.old.entries (bare_lines lines.now)) }
-{
-    for line in lines {
-        furnish(alloc, devices, &line.line)?;
-    }
-    Ok(())
-}
-
-/// With the device that a line declares, if it declares one.
-#[tactic(auto, unfolding(crate::specs::Opening::IsDeclarable, crate::specs::Devices::declaring))]
-fn declare(
-    alloc: Global,
-    devices: &mut BTreeMap<u32, DeclaredDevice>,
-    line: &Line,
-) -> Result<(), AllocError>
-    requires { IsDeclarable line.now }
-    ensures { OnOk result (devices.new.entries ≡ declaring devices.old.entries line.now) }
-{
-    match line {
-        Line::Drive { device, name } => add_drive(alloc, devices, *device, name, Naming::Exact),
-        Line::DriveFold { device, name } => add_drive(
-            alloc,
-            devices,
-            *device,
-            name,
-            Naming::Folded,
-        ),
-        Line::Printer {
-            device,
-            name,
-            driver,
-            printer,
-        } => add_printer(alloc, devices, *device, name, driver, printer),
-        _ => Ok(()),
-    }
-}
-
-/// With an empty drive, whose name is its volume label too.
-fn add_drive(
-    alloc: Global,
-    devices: &mut BTreeMap<u32, DeclaredDevice>,
-    id: u32,
-    name: &ShortName,
-    naming: Naming,
-) -> Result<(), AllocError>
-    requires { length name.now ≤ max_device_name }
-    ensures { OnOk result (devices.new.entries ≡ insert_entry nat_cmp devices.old.entries id (declared_drive id naming name.now)) }
-{
-    let drive = MemoryDrive::new(alloc, label_of(alloc, name)?, naming)?;
-    let declared = DeclaredDevice {
-        id,
-        state: SessionDevice::Drive(drive),
-        kind: FILE_SYSTEM,
-        name: ShortName::of(name.as_slice()),
-        printer: None,
-    };
-    devices.insert(id, declared)?;
-    Ok(())
-}
-
-/// With a printer.
-fn add_printer(
-    alloc: Global,
-    devices: &mut BTreeMap<u32, DeclaredDevice>,
-    id: u32,
-    name: &ShortName,
-    driver: &BoxedUnits,
-    printer: &BoxedUnits,
-) -> Result<(), AllocError>
-    requires name { length name.now ≤ max_device_name }
-    requires driver { length driver.now ≤ max_printer_units }
-    requires printer { length printer.now ≤ max_printer_units }
-    ensures { OnOk result (devices.new.entries ≡ insert_entry nat_cmp devices.old.entries id (declared_printer id name.now driver.now printer.now)) }
-{
-    let names = PrinterNames::new(driver.copy()?, printer.copy()?);
-    let declared = DeclaredDevice {
-        id,
-        state: SessionDevice::Printer(Printer::new(alloc)),
-        kind: PRINT,
-        name: ShortName::of(name.as_slice()),
-        printer: Some(names),
-    };
-    devices.insert(id, declared)?;
-    Ok(())
-}
-
-/// The bytes of a name as units.
-fn label_of(alloc: Global, name: &ShortName) -> Result<Units, AllocError>
-    ensures { IfOk result (λ label. label ≡ name.now) }
-{
-    let mut label = Vec::with_capacity(alloc, name.as_slice().len())?;
-    for byte in name.as_slice() {
-        label.push(u16::from(*byte))?;
-    }
-    Ok(Units::of(label))
-}
-
-/// With the folder or the file that a line makes, if it makes one.
-#[tactic(auto, unfolding(crate::specs::Opening::IsDeclarable, crate::specs::Devices::furnishing))]
-fn furnish(
-    alloc: Global,
-    devices: &mut BTreeMap<u32, DeclaredDevice>,
-    line: &Line,
-) -> Result<(), AllocError>
-    requires { IsDeclarable line.now }
-    ensures { OnOk result (devices.new.entries ≡ furnishing devices.old.entries line.now) }
-{
-    match line {
-        Line::Folder { device, path } => add_folder(devices, *device, path),
-        Line::File {
-            device,
-            path,
-            bytes,
-        } => add_file(devices, *device, path, bytes),
-        Line::Fill {
-            device,
-            path,
-            length,
-            byte,
-        } => {
-            let bytes = Bytes::of(vec![in alloc; *byte; *length as usize]?);
-            add_file(devices, *device, path, &bytes)
-        }
-        _ => Ok(()),
-    }
-}
-
-/// With a folder on a device. What isn't a drive of these has none.
-fn add_folder(
-    devices: &mut BTreeMap<u32, DeclaredDevice>,
-    id: u32,
-    path: &Path,
-) -> Result<(), AllocError>
-    ensures { OnOk result (devices.new.entries ≡ holding_at devices.old.entries id (path.now, None)) }
-{
-    match devices.get_mut(&id) {
-        Some(device) => device.add_folder(path),
-        None => Ok(()),
-    }
-}
-
-/// The same with a file.
-fn add_file(
-    devices: &mut BTreeMap<u32, DeclaredDevice>,
-    id: u32,
-    path: &Path,
-    bytes: &Bytes,
-) -> Result<(), AllocError>
-    requires { length bytes.now ≤ 2 ^ 40 }
-    ensures { OnOk result (devices.new.entries ≡ holding_at devices.old.entries id (path.now, Some bytes.now)) }
-{
-    match devices.get_mut(&id) {
-        Some(device) => device.add_file(path, bytes),
-        None => Ok(()),
-    }
-}
-
-impl DeclaredDevice {
-    /// With a folder, where it is a drive. That its place is free was tested where the script was read, so a refusal is taken for want of memory.
-    fn add_folder(&mut self, path: &Path) -> Result<(), AllocError>
-        ensures { OnOk result (self.new ≡ with_first (path.now, None) self.old) }
-    {
-        if let SessionDevice::Drive(drive) = &mut self.state {
-            if drive.add_folder(path).is_err() {
-                return Err(AllocError);
-            }
-        }
-        Ok(())
-    }
-
-    /// The same with a file.
-    fn add_file(&mut self, path: &Path, bytes: &Bytes) -> Result<(), AllocError>
-        requires { length bytes.now ≤ 2 ^ 40 }
-        ensures { OnOk result (self.new ≡ with_first (path.now, Some bytes.now) self.old) }
-    {
-        if let SessionDevice::Drive(drive) = &mut self.state {
-            if drive.add_file(path, bytes).is_err() {
-                return Err(AllocError);
-            }
-        }
-        Ok(())
-    }
 }
 
 /// The stations, the announcements and the printers of devices, one after the other by their ids.
@@ -380,7 +138,7 @@ impl Opened {
         ensures printers { OnOk result (self.new.printers ≡ self.old.printers ++ printers_of ((id, device) ∷ [])) }
     {
         self.announced.push(device.announce(alloc)?)?;
-        let DeclaredDevice { state, printer, .. } = device;
+        let (state, printer) = device.into_parts();
         let Ok(station) = Station::new(alloc, state) else {
             return Err(AllocError);
         };
@@ -390,36 +148,4 @@ impl Opened {
         }
         Ok(())
     }
-}
-
-impl DeclaredDevice {
-    /// How it is announced while nothing is kept for its printer.
-    fn announce(&self, alloc: Global) -> Result<Announce, AllocError>
-        requires { length self.now.name ≤ max_device_name }
-        ensures { IfOk result (λ a. a ≡ announce_of [] self.now) }
-    {
-        let body = match &self.printer {
-            Some(names) => names.data(alloc, &Cache::new(alloc))?,
-            None => Bytes::of(Vec::new(alloc)),
-        };
-        Ok(Announce {
-            kind: self.kind,
-            id: self.id,
-            dos: dos_name(&self.name),
-            body,
-        })
-    }
-}
-
-/// A name, filled with zeros to eight bytes.
-pub(crate) fn dos_name(name: &ShortName) -> [u8; 8]
-    requires { length name.now ≤ max_device_name }
-    ensures { result ≡ dos_name name.now }
-{
-    let name = name.as_slice();
-    let mut dos = [0; 8];
-    for i in 0..name.len() {
-        dos[i] = name[i];
-    }
-    dos
 }

@@ -8,7 +8,7 @@ ghost use Rattle.std.specs.List.{AllByRecursion};
 ghost use Rattle.rd_world.specs.Choices.{choices_in};
 ghost use Rattle.rd_world.specs.Drawn.{HasPlaces, can_happen, next_step_of};
 ghost use Rattle.rd_world.specs.Hearing.{client_handles_all, host_handles_all};
-ghost use Rattle.rd_world.specs.Keys.{MarksAgree};
+ghost use Rattle.rd_declared.specs.Marks.{MarksAgree};
 ghost use Rattle.rd_world.specs.Run.{choices, chosen, device_ids, drawing, drawn_count, picked, settled};
 ghost use Rattle.rd_world.specs.Stations.{AreStations};
 ghost use Rattle.rd_world.specs.Step.{recorded_next};

@@ -10,11 +10,12 @@ ghost use Rattle.rd_station.specs.Station.{MayPut};
 ghost use Rattle.rd_world.specs.Bits.{IsMarked, Marks, has, where_holds};
 ghost use Rattle.rd_station.specs.Memory.{is_key_below};
 ghost use Rattle.rd_world.specs.Keys.{AreBelow, last_after};
-ghost use Rattle.rd_world.specs.Stations.{AreStations, DropsEach, DropsOne, IsPlaceOf, IsReachedBy, StepsAt, dropped_station, has_ready, has_waiting, holds_at, max_session_devices};
+ghost use Rattle.rd_declared.specs.Declaring.{max_session_devices};
+ghost use Rattle.rd_world.specs.Stations.{AreStations, DropsEach, DropsOne, IsPlaceOf, IsReachedBy, StepsAt, dropped_station, has_ready, has_waiting, holds_at};
 
 use crate::bits::Bits;
-use crate::device::SessionDevice;
 use rd_base::{Item, Key};
+use rd_declared::SessionDevice;
 use rd_drive::{Job, Plan};
 use rd_station::{AnnounceNo, Applied, Completion, Given, PutNo, Station};
 use std::alloc::{AllocError, Global};
@@ -38,7 +39,7 @@ impl Model for Stations {
     ghost use Rattle.std.specs.List.{zip};
     ghost use Rattle.rd_station.specs.Station.{StationState};
     ghost use Rattle.rd_world.specs.Stations.{KeepsStations};
-    ghost use Rattle.rd_world.specs.declared.device.SessionDevice.{SessionDevice};
+    ghost use Rattle.rd_declared.specs.declared.device.SessionDevice.{SessionDevice};
 
     ghost Value = { List (ℕ × StationState SessionDevice) };
 

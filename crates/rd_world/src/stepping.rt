@@ -5,7 +5,7 @@ ghost use Rattle.rd_base.specs.declared.journal.Key.{Key};
 ghost use Rattle.rd_world.specs.declared.event.StepNo.TheVariants as no;
 ghost use Rattle.rd_world.specs.Events.{WorldStep, act, has_completion, is_enabled, is_read, is_ready, job_waits};
 ghost use Rattle.rd_world.specs.Hearing.{client_handles_all, host_handles_all};
-ghost use Rattle.rd_world.specs.Keys.{MarksAgree};
+ghost use Rattle.rd_declared.specs.Marks.{MarksAgree};
 ghost use Rattle.rd_world.specs.Step.{MayHappen, event_in, recorded_by};
 ghost use Rattle.rd_world.specs.World.{having_read, journals_in, marks_of};
 

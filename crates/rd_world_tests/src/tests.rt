@@ -2,8 +2,7 @@
 //! played to its end.
 ghost use Rattle.std.specs.Prelude.{◌≡◌, false};
 ghost use Rattle.rd_world.specs.Applications.{AreNumbered};
-ghost use Rattle.rd_world.specs.Noting.{AreNotable};
-ghost use Rattle.rd_world.specs.Opening.{AreDeclared};
+ghost use Rattle.rd_declared.specs.Declaring.{AreDeclared, AreNotable};
 
 use rd_base::{Books, Calls, MemSink};
 use rd_script::{Mode, Script, read_script};

@@ -2,8 +2,7 @@ use Rattle.rd_acted.proofs.CauseLemmas.{cuts_by_deeds}
 use Rattle.rd_acted.proofs.EveryCutLemmas.{behind_there}
 use Rattle.rd_acted.proofs.laws.runs_cut_devices.Goals as goal
 use Rattle.rd_rest.proofs.RunsParts.{reached_behind}
-use Rattle.rd_world.specs.Opening.{bare_lines}
-use Rattle.rd_world.specs.Run.{declared_devices}
+use Rattle.rd_declared.specs.Declaring.{bare_lines, declared_devices}
 
 pub returns-clause-there : goal.returns-clause-there
 returns-clause-there c lines starves w premises reached goes = (behind_there lines starves premises w (reached_behind lines starves w reached) goes).cut.there

@@ -8,7 +8,7 @@ use Rattle.rd_runs.specs.Premises.{RunPremises}
 use Rattle.rd_script.specs.declared.keyword.Mode.TheVariants as mode
 use Rattle.rd_script.specs.declared.script.Script.{Script}
 use Rattle.rd_script.specs.Script.{script_of}
-use Rattle.rd_world.proofs.DeclaredLemmas.{scripts_are_declared, scripts_are_notable}
+use Rattle.rd_declared.proofs.DeclaredLemmas.{scripts_are_declared, scripts_are_notable}
 use Rattle.rd_world.specs.World.{marks_of}
 use Rattle.std.specs.Prelude.{◌≡◌, ℕ, List, Ok}
 

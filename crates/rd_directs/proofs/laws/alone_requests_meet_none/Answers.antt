@@ -6,8 +6,7 @@ use Rattle.rd_journals.proofs.DeclaredLemmas.{bounded_fit}
 use Rattle.rd_journals.proofs.RunLemmas.{behind_orderly}
 use Rattle.rd_journals.proofs.WorkLemmas.{behind_working}
 use Rattle.rd_journals.specs.Jobs.{FitsCompletion}
-use Rattle.rd_world.specs.Opening.{bare_lines}
-use Rattle.rd_world.specs.Run.{declared_devices}
+use Rattle.rd_declared.specs.Declaring.{bare_lines, declared_devices}
 use Rattle.rd_directs.proofs.AloneLemmas.{none_held}
 use Rattle.rd_directs.proofs.laws.alone_requests_meet_none.Goals as goal
 

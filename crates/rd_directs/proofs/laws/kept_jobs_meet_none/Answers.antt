@@ -5,8 +5,7 @@ use Rattle.rd_journals.proofs.DeclaredLemmas.{bounded_fit}
 use Rattle.rd_journals.proofs.RunLemmas.{behind_orderly}
 use Rattle.rd_journals.proofs.WorkLemmas.{behind_working}
 use Rattle.rd_journals.specs.Jobs.{FitsCompletion}
-use Rattle.rd_world.specs.Opening.{bare_lines}
-use Rattle.rd_world.specs.Run.{declared_devices}
+use Rattle.rd_declared.specs.Declaring.{bare_lines, declared_devices}
 use Rattle.rd_directs.proofs.AloneLemmas.{kept_open, none_met}
 use Rattle.rd_directs.proofs.laws.kept_jobs_meet_none.Goals as goal
 

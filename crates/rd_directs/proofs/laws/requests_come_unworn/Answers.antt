@@ -1,6 +1,6 @@
 use Rattle.std.specs.Prelude.{ℕ}
-use Rattle.rd_world.proofs.Journals.{plain_of}
-use Rattle.rd_world.specs.Talk.{journal}
+use Rattle.rd_deeds.proofs.Journals.{plain_of}
+use Rattle.rd_deeds.specs.Talk.{journal}
 use Rattle.rd_directs.proofs.WornLemmas.{comes_unworn}
 use Rattle.rd_directs.proofs.laws.requests_come_unworn.Goals as goal
 

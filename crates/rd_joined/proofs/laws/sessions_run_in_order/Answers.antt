@@ -2,16 +2,15 @@ use Rattle.std.proofs.Common.{List, subst, sym}
 use Rattle.rd_pending.specs.History.{Call, HandsOut, Holds}
 use Rattle.rd_pending.proofs.Handed as handed
 use Rattle.rd_pending.proofs.Histories as histories
-use Rattle.rd_world.specs.HostDeeds.{calls_of}
-use Rattle.rd_world.specs.Opening.{bare_lines}
+use Rattle.rd_deeds.specs.HostDeeds.{calls_of}
+use Rattle.rd_declared.specs.Declaring.{bare_lines, declared_devices}
 use Rattle.rd_world.specs.Recording.{client_id}
-use Rattle.rd_world.specs.Run.{declared_devices}
 use Rattle.rd_world.specs.Session.{replies_in}
-use Rattle.rd_world.specs.Talk.{journal}
-use Rattle.rd_world.proofs.Calls.{calls_hold}
-use Rattle.rd_world.proofs.Joining.{all_join}
-use Rattle.rd_world.proofs.Journals.{plain_of}
-use Rattle.rd_world.proofs.Order as order
+use Rattle.rd_deeds.specs.Talk.{journal}
+use Rattle.rd_deeds.proofs.Calls.{calls_hold}
+use Rattle.rd_deeds.proofs.Joining.{all_join}
+use Rattle.rd_deeds.proofs.Journals.{plain_of}
+use Rattle.rd_deeds.proofs.Order as order
 use Rattle.rd_joined.proofs.TiedLemmas.{joined_with, scripts_tied}
 use Rattle.rd_joined.proofs.laws.sessions_run_in_order.Goals as goal
 

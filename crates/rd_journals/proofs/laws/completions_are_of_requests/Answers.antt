@@ -1,10 +1,9 @@
 use Rattle.rd_drive.specs.Ranged.{IsReplyInRange}
 use Rattle.rd_runs.proofs.Parts.{reached_behind}
 use Rattle.rd_runs.proofs.Together.{known}
-use Rattle.rd_world.proofs.Joined.{carried_now}
-use Rattle.rd_world.specs.Opening.{bare_lines}
+use Rattle.rd_deeds.proofs.Joined.{carried_now}
+use Rattle.rd_declared.specs.Declaring.{bare_lines, declared_devices}
 use Rattle.rd_world.specs.Recording.{client_id}
-use Rattle.rd_world.specs.Run.{declared_devices}
 use Rattle.rd_journals.specs.Jobs.{FitsCompletion}
 use Rattle.rd_journals.proofs.CompletionLemmas.{lost_ranged, ready_completes, runs_good}
 use Rattle.rd_journals.proofs.RoomLemmas.{read_roomy}

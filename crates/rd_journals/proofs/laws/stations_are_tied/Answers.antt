@@ -1,8 +1,7 @@
 use Rattle.rd_irp.specs.declared.completion.Reply.{Reply}
 use Rattle.rd_irp.specs.declared.request.Request.{Request}
 use Rattle.rd_runs.proofs.Parts.{reached_behind}
-use Rattle.rd_world.specs.Opening.{bare_lines}
-use Rattle.rd_world.specs.Run.{declared_devices}
+use Rattle.rd_declared.specs.Declaring.{bare_lines, declared_devices}
 use Rattle.rd_journals.proofs.WorkLemmas.{behind_working, station_tied}
 use Rattle.rd_journals.proofs.laws.stations_are_tied.Goals as goal
 

@@ -8,12 +8,11 @@ use Rattle.rd_peers.specs.Peers.{IsOwnOutcome}
 use Rattle.rd_pending.specs.declared.calls.Taken.{Taken}
 use Rattle.rd_pending.specs.History.{accepted_in}
 use Rattle.rd_table.specs.Histories.{handed_in}
-use Rattle.rd_world.specs.HostDeeds.{MayDo, calls_of, side_of}
-use Rattle.rd_world.specs.Opening.{bare_lines}
+use Rattle.rd_deeds.specs.HostDeeds.{MayDo, calls_of, side_of}
+use Rattle.rd_declared.specs.Declaring.{bare_lines, declared_devices}
 use Rattle.rd_world.specs.Recording.{client_id}
-use Rattle.rd_world.specs.Run.{declared_devices}
 use Rattle.rd_world.specs.Session.{replies_in}
-use Rattle.rd_world.specs.Talk.{Deed, EachAfter}
+use Rattle.rd_deeds.specs.Talk.{Deed, EachAfter}
 use Rattle.rd_world.specs.World.{new_application}
 use Rattle.std.proofs.Common.{◌∙◌, ℕ, List, [], Contains, ap, arith, refl, subst, sym}
 use Rattle.rd_peers.proofs.laws.lines_have_their_own.Goals as goal

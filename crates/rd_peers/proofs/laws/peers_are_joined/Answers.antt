@@ -1,9 +1,9 @@
 use Rattle.rd_hosted.proofs.KeptLemmas.{outcome_came}
 use Rattle.rd_peers.proofs.HostPartLemmas.{may_all, own_outcome}
 use Rattle.rd_peers.proofs.JoinedLemmas.{client_joined}
-use Rattle.rd_world.specs.HostDeeds.{MayDo, side_of}
+use Rattle.rd_deeds.specs.HostDeeds.{MayDo, side_of}
 use Rattle.rd_world.specs.Recording.{client_id}
-use Rattle.rd_world.specs.Talk.{Deed, EachAfter}
+use Rattle.rd_deeds.specs.Talk.{Deed, EachAfter}
 use Rattle.std.proofs.Common.{List, subst, sym}
 use Rattle.rd_peers.proofs.laws.peers_are_joined.Goals as goal
 

@@ -1,7 +1,7 @@
 use Rattle.rd_ranges.proofs.SpelledLemmas.{completes, fault_full, is_message}
 use Rattle.rd_ranges.proofs.laws.completions_complete.Goals as goal
 use Rattle.rd_ranges.specs.Ranges.{completion_with}
-use Rattle.rd_world.proofs.TestedAnswers.{same_reply}
+use Rattle.rd_deeds.proofs.TestedAnswers.{same_reply}
 
 pub returns-clause-message : goal.returns-clause-message
 returns-clause-message c r reply full = is_message r reply (full.replies).1

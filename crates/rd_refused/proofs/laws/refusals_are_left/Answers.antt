@@ -3,10 +3,9 @@ use Rattle.rd_replied.proofs.JournalsAnswerLemmas.{reached_spelled}
 use Rattle.rd_replied.proofs.JournalsDeclaredLemmas.{bounded_fit}
 use Rattle.rd_replied.proofs.JournalsRunLemmas.{orderly_lawful, reached_orderly}
 use Rattle.rd_replied.proofs.RunsTogether.{known}
-use Rattle.rd_world.specs.Opening.{bare_lines}
-use Rattle.rd_world.specs.Run.{declared_devices}
+use Rattle.rd_declared.specs.Declaring.{bare_lines, declared_devices}
 use Rattle.rd_world.specs.Session.{replies_in}
-use Rattle.rd_world.proofs.Joined.{carried_now}
+use Rattle.rd_deeds.proofs.Joined.{carried_now}
 use Rattle.rd_replied.proofs.GoneLemmas.{reached_gone}
 use Rattle.rd_replied.proofs.MatchLemmas.{all_same}
 use Rattle.rd_replied.proofs.SinceLemmas.{all_since}

@@ -3,9 +3,8 @@ use Rattle.rd_journals.proofs.AnswerLemmas.{reached_spelled}
 use Rattle.rd_journals.proofs.DeclaredLemmas.{bounded_fit}
 use Rattle.rd_journals.proofs.RunLemmas.{orderly_lawful, reached_orderly}
 use Rattle.rd_journals.proofs.RunsTogether.{known}
-use Rattle.rd_world.specs.Opening.{bare_lines}
-use Rattle.rd_world.specs.Run.{declared_devices}
-use Rattle.rd_world.proofs.Joined.{carried_now}
+use Rattle.rd_declared.specs.Declaring.{bare_lines, declared_devices}
+use Rattle.rd_deeds.proofs.Joined.{carried_now}
 use Rattle.rd_replied.proofs.MatchLemmas.{all_same}
 use Rattle.rd_replied.proofs.laws.completions_are_replied.Goals as goal
 

@@ -1,7 +1,7 @@
 use Rattle.rd_runs.proofs.BoundLemmas.{scripts_are_bounded}
 use Rattle.rd_runs.proofs.FittingLines.{scripts_are_fitting}
 use Rattle.rd_runs.proofs.laws.scripts_meet_premises.Goals as goal
-use Rattle.rd_world.proofs.DeclaredLemmas.{scripts_are_declared, scripts_are_notable}
+use Rattle.rd_declared.proofs.DeclaredLemmas.{scripts_are_declared, scripts_are_notable}
 
 pub returns : goal.returns
 returns c m text script is = record {

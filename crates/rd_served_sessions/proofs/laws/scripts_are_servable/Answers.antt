@@ -1,5 +1,5 @@
 use Rattle.rd_served_causes.proofs.RunsBoundLemmas.{scripts_are_bounded}
-use Rattle.rd_world.proofs.DeclaredLemmas.{scripts_are_declared}
+use Rattle.rd_declared.proofs.DeclaredLemmas.{scripts_are_declared}
 use Rattle.rd_served_sessions.proofs.ScriptLemmas.{scripts_are_placed}
 use Rattle.rd_served_sessions.proofs.laws.scripts_are_servable.Goals as goal
 

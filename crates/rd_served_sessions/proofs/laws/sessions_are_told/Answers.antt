@@ -1,6 +1,6 @@
 use Rattle.rd_sharing.proofs.ClosingLemmas.{none_troubled}
 use Rattle.rd_sharing.specs.Closing.{station_devices}
-use Rattle.rd_world.specs.Opening.{bare_lines}
+use Rattle.rd_declared.specs.Declaring.{bare_lines}
 use Rattle.rd_workers.specs.Channels.{channels_of}
 use Rattle.rd_served_sessions.proofs.FirstLemmas.{served_fit}
 use Rattle.rd_served_sessions.proofs.SessionLemmas.{session_told}

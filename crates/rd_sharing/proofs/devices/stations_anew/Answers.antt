@@ -3,7 +3,7 @@ use Rattle.std.specs.List.{AllByRecursion}
 use Rattle.rd_station.specs.Station.{new_station}
 use Rattle.rd_served_devices.specs.ServedDevices as served
 use Rattle.rd_served_devices.specs.ServedDevices.{ServedDeviceState}
-use Rattle.rd_world.specs.declared.device.SessionDevice.{SessionDevice}
+use Rattle.rd_declared.specs.declared.device.SessionDevice.{SessionDevice}
 use Rattle.rd_sharing.specs.Devices.{IsQuietStation}
 use Rattle.rd_sharing.proofs.DevicesLemmas.{anew_more}
 use Rattle.rd_sharing.proofs.devices.stations_anew.Goals as goal

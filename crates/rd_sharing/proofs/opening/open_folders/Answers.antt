@@ -1,12 +1,12 @@
-use Rattle.std.proofs.Common.{rules, ◌≡◌, ◌∙◌, refl, ℕ, List, subst, sym}
-use Rattle.std.specs.Prelude.{Contains}
-use Rattle.std.specs.Map.{keys_of}
+use Rattle.std.proofs.Common.{rules, ◌∙◌, refl, ℕ, List, subst}
 use Rattle.std.proofs.lemmas.Bool.{false≢true}
 use Rattle.rd_served_devices.specs.ServedDevices.{ServedDeviceState}
-use Rattle.rd_world.specs.Devices.{Declared}
+use Rattle.rd_declared.specs.Devices.{Declared}
 use Rattle.rd_world.proofs.OpenedLemmas.{nothing_left}
 use Rattle.rd_sharing.specs.Devices.{AddsDevice}
-use Rattle.rd_sharing.proofs.FoldersLemmas.{HasOpened, folder_no_of, folder_no_since, if_err, next_of_all, opened_all, opened_more, opened_none, over_faultless, over_quiet}
+use Rattle.rd_sharing.specs.Refused.{StopsOpening}
+use Rattle.rd_sharing.specs.ServedOpening.{folders_told}
+use Rattle.rd_sharing.proofs.FoldersLemmas.{HasOpened, if_err, opened_all, opened_more, opened_none, over_faultless, over_quiet, stops_next}
 use Rattle.rd_sharing.proofs.opening.open_folders.Goals as goal
 
 pub loop-id-init : goal.loop-id-init
@@ -47,10 +47,10 @@ returns-clause-opened g c =
 
 pub returns-in_err-drive_over-clause-refused : goal.returns-in_err-drive_over-clause-refused
 returns-in_err-drive_over-clause-refused g c =
-    let before = g.D.Folders.opened c.args.folders.now in
-    let has = subst (λ (left : List (ℕ × Declared)). HasOpened c.args.drives.entries left before (g.D.Folders.opened c.loop-id.folders) c.args.served.now c.loop-id.served) c.in-Some.ensures.removal c.loop-id.invariant.opened in
-    if_err c.from_residual.result c.in_err-drive_over.field-0.0 _ (search rules)
-    (folder_no_since _ _ _ _ _ c.loop-id.invariant.failures
-    (folder_no_of _ _ _ _ _ (λ id is.
-    let own : (c.in-Some.drive).id ≡ c.in-Some.id = ((has.are).0).openable.same in
-    subst (λ (k : ℕ). Contains (keys_of c.args.drives.entries) k) (sym (is ∙ own)) (next_of_all c.args.drives.entries c.pop_first.new.self.entries (c.in-Some.id, c.in-Some.drive) _ _ _ _ has)) c.in_err-drive_over.ensures.refused))
+    let before = folders_told (g.D.Folders.opened c.args.folders.now) (g.D.Folders.failures c.args.folders.now) (g.D.Folders.trouble c.args.folders.now) in
+    let now = folders_told (g.D.Folders.opened c.loop-id.folders) (g.D.Folders.failures c.loop-id.folders) (g.D.Folders.trouble c.loop-id.folders) in
+    let after = folders_told (g.D.Folders.opened c.open.new.folders) (g.D.Folders.failures c.open.new.folders) (g.D.Folders.trouble c.open.new.folders) in
+    let has = subst (λ (left : List (ℕ × Declared)). HasOpened c.args.drives.entries left before.opened now.opened c.args.served.now c.loop-id.served) c.in-Some.ensures.removal c.loop-id.invariant.opened in
+    if_err c.from_residual.result c.in_err-drive_over.field-0.0 (StopsOpening c.args.drives.entries before after) (search rules)
+    (stops_next c.args.drives.entries c.pop_first.new.self.entries c.in-Some.id c.in-Some.drive before now after c.args.served.now c.loop-id.served c.in_err-drive_over.field-0.0
+    has c.loop-id.invariant.failures c.in_err-drive_over.ensures.refused c.in_err-drive_over.ensures.unopened)

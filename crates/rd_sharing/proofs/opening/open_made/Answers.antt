@@ -1,6 +1,5 @@
-use Rattle.rd_world.specs.Opening.{bare_lines}
-use Rattle.rd_world.specs.Run.{declared_devices}
-use Rattle.rd_world.proofs.OpeningLemmas.{declared_openable}
+use Rattle.rd_declared.specs.Declaring.{bare_lines, declared_devices}
+use Rattle.rd_declared.proofs.DeclaringLemmas.{declared_openable}
 use Rattle.rd_sharing.proofs.DevicesLemmas.{keeps_made, opens_quiet}
 use Rattle.rd_sharing.proofs.ClosingLemmas.{made_faultless}
 use Rattle.rd_sharing.proofs.opening.open_made.Goals as goal

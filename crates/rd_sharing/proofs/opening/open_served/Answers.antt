@@ -1,11 +1,11 @@
 use Rattle.std.proofs.Common.{◌∙◌, subst, ℕ, List}
-use Rattle.std.specs.Prelude.{Contains}
-use Rattle.std.specs.Map.{keys_of}
-use Rattle.rd_world.specs.Devices.{Declared}
-use Rattle.rd_world.specs.Opening.{bare_lines}
-use Rattle.rd_sharing.specs.Refused.{IsFolderNo}
+use Rattle.rd_declared.specs.Devices.{Declared}
+use Rattle.rd_declared.specs.Declaring.{bare_lines}
+use Rattle.rd_sharing.specs.Refused.{StopsOpening}
+use Rattle.rd_sharing.specs.ServedOpening.{folders_told}
 use Rattle.rd_sharing.proofs.DevicesLemmas.{beside_of}
 use Rattle.rd_sharing.proofs.ClosingLemmas.{no_trouble}
+use Rattle.rd_sharing.proofs.FoldersLemmas.{stops_then}
 use Rattle.rd_sharing.proofs.OpenedLemmas.{all_reached, ids_rise, kept_of_lines, opens_served}
 use Rattle.rd_sharing.proofs.opening.open_served.Goals as goal
 
@@ -35,9 +35,10 @@ returns-clause-reached g c =
 pub returns-in-Err-clause-trouble : goal.returns-in-Err-clause-trouble
 returns-in-Err-clause-trouble g c = c.close_all.ensures.trouble ∙ no_trouble _ _ c.open_folders.ensures.calm ∙ c.open_folders.ensures.trouble
 
--- closing leaves the count of failures as the opening left it
+-- closing leaves what is told of openings as these left it
 pub returns-in-Err-clause-refused : goal.returns-in-Err-clause-refused
 returns-in-Err-clause-refused g c =
-    let before : ℕ = g.D.Folders.failures c.args.folders.now in
-    let refused = subst (λ (ds : List (ℕ × Declared)). IsFolderNo (Contains (keys_of ds)) before (g.D.Folders.failures c.open_folders.new.folders) c.in-Err.no) c.in_ok-drives.ensures.declared c.in-Err.ensures.refused in
-    rw c.close_all.ensures.failures refused
+    let before = folders_told (g.D.Folders.opened c.args.folders.now) (g.D.Folders.failures c.args.folders.now) (g.D.Folders.trouble c.args.folders.now) in
+    let mid = folders_told (g.D.Folders.opened c.open_folders.new.folders) (g.D.Folders.failures c.open_folders.new.folders) (g.D.Folders.trouble c.open_folders.new.folders) in
+    stops_then _ before mid _ c.in-Err.no c.close_all.ensures.opened c.close_all.ensures.failures
+    (subst (λ (ds : List (ℕ × Declared)). StopsOpening ds before mid c.in-Err.no) c.in_ok-drives.ensures.declared c.in-Err.ensures.refused)

@@ -1,7 +1,7 @@
 use Rattle.std.proofs.Common.{◌≡◌, [], drop}
 use Rattle.std.specs.Prelude.{fold}
 use Rattle.std.specs.List.{AllByRecursion}
-use Rattle.rd_world.specs.Opening.{bare_lines}
+use Rattle.rd_declared.specs.Declaring.{bare_lines}
 use Rattle.rd_sharing.specs.FolderLines.{IsFolderDevice, declaring_folder}
 use Rattle.rd_sharing.proofs.real.real_drives.Given as goal
 

@@ -6,14 +6,14 @@ use Rattle.rd_served_devices.specs.ServedDevices.{IsServedReached, served_cuts, 
 use Rattle.rd_sharing.specs.Closing.{station_devices, trouble_after}
 use Rattle.rd_sharing.specs.ServedOpening.{AreServedDevices, FoldersTold, folders_told}
 use Rattle.rd_sharing.specs.declared.opening_no.OpeningNo.TheVariants as no
-use Rattle.rd_sharing.proofs.FoldersLemmas.{if_err}
-use Rattle.rd_world.specs.Opening.{bare_lines}
+use Rattle.rd_sharing.proofs.FoldersLemmas.{if_err, on_folder_no}
+use Rattle.rd_declared.specs.Declaring.{bare_lines}
 use Rattle.rd_workers.specs.Channels.{told_as}
 use Rattle.rd_workers.specs.Lines.{at_lines}
 use Rattle.rd_workers.proofs.BookLemmas.{books_lawful, books_then, none_yet}
 use Rattle.rd_workers.proofs.ClosedLemmas.{home_close}
 use Rattle.rd_workers.proofs.FrontLemmas.{serves_journals}
-use Rattle.rd_workers.proofs.OpeningLemmas.{on_folder_no, stops_unopened}
+use Rattle.rd_workers.proofs.OpeningLemmas.{stops_unopened}
 use Rattle.rd_workers.proofs.StoringLemmas.{of_openings, opened_count, zipped_count}
 use Rattle.rd_workers.proofs.session.serve.Goals as goal
 

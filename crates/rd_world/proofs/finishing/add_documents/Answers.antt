@@ -1,5 +1,5 @@
 use Rattle.std.proofs.Common.{◌∙◌, ◌++◌, ◌∷◌, [], ap, sym, ℕ, List}
-use Rattle.rd_world.specs.declared.device.SessionDevice.{SessionDevice}
+use Rattle.rd_declared.specs.declared.device.SessionDevice.{SessionDevice}
 use Rattle.rd_world.specs.Session.{by_device}
 use Rattle.rd_world.proofs.FinishingLemmas.{put_after}
 use Rattle.rd_world.proofs.finishing.add_documents.Goals as goal

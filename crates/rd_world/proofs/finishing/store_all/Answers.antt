@@ -1,7 +1,7 @@
 use Rattle.std.proofs.Common.{◌∙◌, ◌++◌, ℕ, List, ap, map, refl, subst, sym}
 use Rattle.rd_base.proofs.ResultLemmas.{on_err_of}
 use Rattle.rd_base.specs.History.{History}
-use Rattle.rd_world.specs.declared.device.SessionDevice.{SessionDevice}
+use Rattle.rd_declared.specs.declared.device.SessionDevice.{SessionDevice}
 use Rattle.rd_world.specs.Session.{StoresSome, by_device}
 use Rattle.rd_world.proofs.FinishingLemmas.{journal_under, next_after, next_is_new, some_stored, stored_more}
 use Rattle.rd_world.proofs.finishing.store_all.Goals as goal

@@ -16,7 +16,7 @@ use Rattle.rd_irp.specs.Completion.{completion_head, success_body, completion_bo
 use Rattle.rd_irp.specs.Op.{create_body, close_body, read_body, write_body, notify_body, range, lock_body, directory_body, op_body}
 use Rattle.rd_irp.specs.Request.{request_head}
 use Rattle.rd_printer.specs.Notice.{add_event, update_event, delete_event, rename_event, event_body, cache_data, using_xps, notice}
-use Rattle.rd_world.specs.Devices.{declaring, furnishing}
+use Rattle.rd_declared.specs.Devices.{declaring, furnishing}
 use Rattle.rd_world.specs.Control.{controlled}
 use Rattle.rd_world.specs.Run.{asked_by, notice_of, controls, setting}
 use Rattle.rd_world.specs.Acts.{is_errand}

@@ -2,8 +2,9 @@ use Rattle.std.proofs.Common.{Option, Some, None, ◌≡◌, refl}
 use Rattle.std.specs.Map.{lookup}
 use Rattle.std.specs.Ordering.{nat_cmp}
 use Rattle.std.specs.BTreeMap.{is_at}
-use Rattle.rd_world.specs.Devices.{Declared}
-use Rattle.rd_world.specs.Session.{replies_in, replies_read}
+use Rattle.rd_declared.specs.Devices.{Declared}
+use Rattle.rd_declared.specs.Replies.{replies_read}
+use Rattle.rd_world.specs.Session.{replies_in}
 use Rattle.rd_world.proofs.Agreeing.{agree, same_replies}
 use Rattle.rd_world.proofs.laws.requests_agree.Goals as goal
 

@@ -1,6 +1,6 @@
 use Rattle.std.proofs.Common.{subst, ℕ, List}
 use Rattle.std.proofs.lemmas.Bool.{false≢true}
-use Rattle.rd_world.specs.Devices.{Declared}
+use Rattle.rd_declared.specs.Devices.{Declared}
 use Rattle.rd_world.proofs.OpenedLemmas.{OpensSome, nothing_left, opens_above, opens_all, opens_few}
 use Rattle.rd_world.proofs.opening.open_all.Goals as goal
 

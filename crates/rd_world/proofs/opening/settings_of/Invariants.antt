@@ -1,6 +1,7 @@
 use Rattle.std.proofs.Common.{◌≡◌, drop}
 use Rattle.std.specs.Prelude.{fold}
-use Rattle.rd_world.specs.Opening.{AreDeclarable, AreSettings, first_settings, with_line_setting}
+use Rattle.rd_declared.specs.Declaring.{AreDeclarable}
+use Rattle.rd_world.specs.Opening.{AreSettings, first_settings, with_line_setting}
 use Rattle.rd_world.proofs.opening.settings_of.Given as goal
 
 -- what the lines so far set

@@ -2,7 +2,7 @@ use Rattle.std.proofs.Common.{◌≡◌, ◌≢◌, ◌<◌, ◌∙◌, ap, get_
 use Rattle.std.proofs.lemmas.List.{length-set}
 use Rattle.rd_station.specs.Station.{StationState}
 use Rattle.rd_world.proofs.StationsLemmas.{dropped_all, dropped_more}
-use Rattle.rd_world.specs.declared.device.SessionDevice.{SessionDevice}
+use Rattle.rd_declared.specs.declared.device.SessionDevice.{SessionDevice}
 use Rattle.rd_world.proofs.stations.drop_each.Goals as goal
 
 pub loop-place-preserved : goal.loop-place-preserved

@@ -2,7 +2,7 @@ use Rattle.std.proofs.Common.{◌≡◌, ◌≤◌, ℕ, length, get_or, take}
 use Rattle.std.specs.List.{AllZip}
 use Rattle.rd_station.specs.Station.{StationState}
 use Rattle.rd_world.specs.Stations.{DropsOne}
-use Rattle.rd_world.specs.declared.device.SessionDevice.{SessionDevice}
+use Rattle.rd_declared.specs.declared.device.SessionDevice.{SessionDevice}
 use Rattle.rd_world.proofs.stations.drop_each.Given as goal
 
 -- those before the place are dropped, and the others are as they were

@@ -3,7 +3,7 @@ use Rattle.std.specs.Prelude.{IfOk}
 use Rattle.rd_script.specs.Script.{script_of}
 use Rattle.rd_script.specs.declared.keyword.Mode.TheVariants as mode
 use Rattle.rd_script.specs.declared.script.Script.{Script}
-use Rattle.rd_world.proofs.DeclaredLemmas.{scripts_are_declared, scripts_are_notable}
+use Rattle.rd_declared.proofs.DeclaredLemmas.{scripts_are_declared, scripts_are_notable}
 use Rattle.rd_world.proofs.NumberedLemmas.{scripts_are_numbered}
 use Rattle.rd_world_tests.proofs.tests.script_in.Goals as goal
 

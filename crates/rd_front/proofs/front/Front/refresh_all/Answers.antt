@@ -1,6 +1,6 @@
 use Rattle.std.proofs.Common.{◌≡◌, ◌∙◌, ◌<◌, ℕ, Bool, subst, length, slice_get}
 use Rattle.std.specs.Prelude.{IfSome, List}
-use Rattle.rd_world.specs.Devices.{PrinterNames}
+use Rattle.rd_declared.specs.Devices.{PrinterNames}
 use Rattle.rd_front.specs.Front.{RefreshesOne}
 use Rattle.rd_front.specs.State.{FrontState}
 use Rattle.rd_front.proofs.EachLemmas.{each_next, each_stops}

@@ -3,7 +3,7 @@ use Rattle.std.specs.Prelude.{All}
 use Rattle.std.specs.List.{AllByRecursion}
 use Rattle.rd_client.specs.Events.{IsWritableDevice}
 use Rattle.rd_station.specs.Station.{StationState}
-use Rattle.rd_world.specs.declared.device.SessionDevice.{SessionDevice}
+use Rattle.rd_declared.specs.declared.device.SessionDevice.{SessionDevice}
 use Rattle.rd_sharing.specs.Devices.{IsQuietStation}
 use Rattle.rd_sharing.proofs.DevicesLemmas.{beside_quiet}
 use Rattle.rd_sharing.proofs.devices.Devices.made.Goals as goal

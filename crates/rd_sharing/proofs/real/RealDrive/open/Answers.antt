@@ -1,5 +1,5 @@
 use Rattle.std.proofs.Common.{◌∙◌, ap}
-use Rattle.rd_world.specs.Devices.{Declared}
+use Rattle.rd_declared.specs.Devices.{Declared}
 use Rattle.rd_sharing.proofs.RealLemmas.{one_opened}
 use Rattle.rd_sharing.proofs.real.RealDrive.open.Goals as goal
 

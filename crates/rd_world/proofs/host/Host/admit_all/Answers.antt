@@ -1,7 +1,7 @@
 use Rattle.std.proofs.Common.{◌∙◌, ap, sym, fold}
 use Rattle.std.proofs.Math.ListN.{take}
 use Rattle.std.proofs.lemmas.List.Sums.{fold_more}
-use Rattle.rd_world.specs.Host.{HostSide, admits}
+use Rattle.rd_deeds.specs.Host.{HostSide, admits}
 use Rattle.rd_world.proofs.host.Host.admit_all.Goals as goal
 
 pub loop-device-preserved : goal.loop-device-preserved

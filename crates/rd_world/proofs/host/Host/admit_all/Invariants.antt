@@ -1,7 +1,7 @@
 use Rattle.std.proofs.Common.{◌≡◌, fold}
 use Rattle.std.specs.Prelude.{take}
 use Rattle.rd_host.specs.Core.{IsHostReady}
-use Rattle.rd_world.specs.Host.{admits}
+use Rattle.rd_deeds.specs.Host.{admits}
 use Rattle.rd_world.proofs.host.Host.admit_all.Given as goal
 
 abbrev pub invariant-loop-device : goal.invariant-loop-device

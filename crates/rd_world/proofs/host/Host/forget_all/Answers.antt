@@ -2,7 +2,7 @@ use Rattle.std.proofs.Common.{◌≡◌, ◌∙◌, ap, sym, Bool}
 use Rattle.std.proofs.Math.ListN.{get_or}
 use Rattle.std.proofs.lemmas.List.Sums.{fold_more}
 use Rattle.rd_pending.specs.Table.{TableState}
-use Rattle.rd_world.specs.Host.{HostSide, forgets}
+use Rattle.rd_deeds.specs.Host.{HostSide, forgets}
 use Rattle.rd_world.proofs.host.Host.forget_all.Goals as goal
 
 pub loop-device-preserved : goal.loop-device-preserved

@@ -1,6 +1,6 @@
 use Rattle.std.proofs.Common.{◌≡◌, fold}
 use Rattle.std.specs.Prelude.{take}
-use Rattle.rd_world.specs.Host.{forgets}
+use Rattle.rd_deeds.specs.Host.{forgets}
 use Rattle.rd_world.proofs.host.Host.forget_all.Given as goal
 
 abbrev pub invariant-loop-device : goal.invariant-loop-device

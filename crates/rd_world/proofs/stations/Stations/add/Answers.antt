@@ -1,7 +1,7 @@
 use Rattle.std.proofs.Common.{◌∙◌, ap, ℕ, List, [], ◌∷◌, ◌++◌}
 use Rattle.rd_station.specs.Station.{StationState}
 use Rattle.rd_world.proofs.StationsLemmas.{keeps_add, seen_add}
-use Rattle.rd_world.specs.declared.device.SessionDevice.{SessionDevice}
+use Rattle.rd_declared.specs.declared.device.SessionDevice.{SessionDevice}
 use Rattle.rd_world.proofs.stations.Stations.add.Goals as goal
 
 pub invariant_of-self-2 : goal.invariant_of-self-2

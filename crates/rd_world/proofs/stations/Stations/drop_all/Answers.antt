@@ -3,7 +3,7 @@ use Rattle.std.specs.List.{AllZip}
 use Rattle.rd_station.specs.Station.{StationState}
 use Rattle.rd_world.specs.Stations.{DropsOne}
 use Rattle.rd_world.proofs.StationsLemmas.{drops_are, drops_each, keeps_dropped, written_over}
-use Rattle.rd_world.specs.declared.device.SessionDevice.{SessionDevice}
+use Rattle.rd_declared.specs.declared.device.SessionDevice.{SessionDevice}
 use Rattle.rd_world.proofs.stations.Stations.drop_all.Goals as goal
 
 pub invariant_of-self : goal.invariant_of-self

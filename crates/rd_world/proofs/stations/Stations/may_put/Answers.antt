@@ -3,7 +3,7 @@ use Rattle.std.specs.Prelude.{IfSome}
 use Rattle.rd_station.specs.Station.{MayPut, StationState}
 use Rattle.rd_world.proofs.KeysLemmas.{above_last}
 use Rattle.rd_world.proofs.StationsLemmas.{seen_at, within}
-use Rattle.rd_world.specs.declared.device.SessionDevice.{SessionDevice}
+use Rattle.rd_declared.specs.declared.device.SessionDevice.{SessionDevice}
 use Rattle.rd_world.proofs.stations.Stations.may_put.Goals as goal
 
 pub index-station-requires : goal.index-station-requires

@@ -1,6 +1,6 @@
 use Rattle.std.proofs.Common.{arith}
 use Rattle.rd_station.specs.Station.{MayPut, StationState}
-use Rattle.rd_world.specs.declared.device.SessionDevice.{SessionDevice}
+use Rattle.rd_declared.specs.declared.device.SessionDevice.{SessionDevice}
 use Rattle.rd_world.proofs.StationsLemmas.{if_err, on_err, put_unchanged, keeps_come, of_seen, on_ok, steps_at, within}
 use Rattle.rd_world.proofs.stations.Stations.put.Goals as goal
 

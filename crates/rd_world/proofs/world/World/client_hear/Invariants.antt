@@ -1,5 +1,5 @@
 use Rattle.std.specs.Prelude.{◌∷◌}
-use Rattle.rd_world.specs.Talk.{client_reads}
+use Rattle.rd_deeds.specs.Talk.{client_reads}
 use Rattle.rd_world.proofs.world.World.client_hear.Given as goal
 
 -- the message was read

@@ -1,5 +1,5 @@
 use Rattle.std.specs.Prelude.{◌∷◌}
-use Rattle.rd_world.specs.Talk.{host_begins}
+use Rattle.rd_deeds.specs.Talk.{host_begins}
 use Rattle.rd_world.proofs.world.World.connect.Given as goal
 
 -- the channel began

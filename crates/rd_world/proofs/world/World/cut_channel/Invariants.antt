@@ -1,5 +1,5 @@
 use Rattle.std.specs.Prelude.{◌∷◌}
-use Rattle.rd_world.specs.Talk.{host_ends}
+use Rattle.rd_deeds.specs.Talk.{host_ends}
 use Rattle.rd_world.proofs.CutLemmas.{drop_stores}
 use Rattle.rd_world.proofs.world.World.cut_channel.Given as goal
 

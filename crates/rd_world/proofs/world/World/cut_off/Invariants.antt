@@ -1,5 +1,5 @@
 use Rattle.std.specs.Prelude.{◌∷◌}
-use Rattle.rd_world.specs.Talk.{removes}
+use Rattle.rd_deeds.specs.Talk.{removes}
 use Rattle.rd_world.proofs.CutLemmas.{removal_stores}
 use Rattle.rd_world.proofs.world.World.cut_off.Given as goal
 

@@ -1,5 +1,5 @@
 use Rattle.std.specs.Prelude.{◌∷◌}
-use Rattle.rd_world.specs.Talk.{host_reads}
+use Rattle.rd_deeds.specs.Talk.{host_reads}
 use Rattle.rd_world.proofs.world.World.host_hear.Given as goal
 
 -- the message was read

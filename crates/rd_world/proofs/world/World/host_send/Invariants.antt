@@ -1,5 +1,5 @@
 use Rattle.std.specs.Prelude.{◌∷◌}
-use Rattle.rd_world.specs.Talk.{host_writes}
+use Rattle.rd_deeds.specs.Talk.{host_writes}
 use Rattle.rd_world.proofs.world.World.host_send.Given as goal
 
 -- the message was written

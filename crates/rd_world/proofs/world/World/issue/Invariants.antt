@@ -1,5 +1,5 @@
 use Rattle.std.specs.Prelude.{◌∷◌}
-use Rattle.rd_world.specs.Talk.{submits}
+use Rattle.rd_deeds.specs.Talk.{submits}
 use Rattle.rd_world.proofs.world.World.issue.Given as goal
 
 -- the request was accepted

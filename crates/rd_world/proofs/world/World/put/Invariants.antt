@@ -1,6 +1,6 @@
 use Rattle.std.specs.Prelude.{◌∷◌}
 use Rattle.rd_base.specs.declared.journal.Item.TheVariants.{Came}
-use Rattle.rd_world.specs.Talk.{stores}
+use Rattle.rd_deeds.specs.Talk.{stores}
 use Rattle.rd_world.proofs.world.World.put.Given as goal
 
 -- that it came was stored

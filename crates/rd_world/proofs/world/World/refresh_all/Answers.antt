@@ -1,6 +1,6 @@
 use Rattle.std.proofs.Common.{◌≡◌, ◌∙◌, ◌<◌, ℕ, ap, subst, length, List}
 use Rattle.std.specs.Prelude.{map, slice_get, IfSome}
-use Rattle.rd_world.specs.Devices.{PrinterNames}
+use Rattle.rd_declared.specs.Devices.{PrinterNames}
 use Rattle.rd_world.specs.Events.{refreshing}
 use Rattle.rd_world.specs.World.{WorldState}
 use Rattle.rd_world.proofs.FoldLemmas.{fold_there}

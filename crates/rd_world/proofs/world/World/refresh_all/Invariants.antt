@@ -1,6 +1,6 @@
 use Rattle.std.proofs.Common.{◌≡◌, ℕ, drop, fold}
 use Rattle.std.specs.Prelude.{map}
-use Rattle.rd_world.specs.Devices.{PrinterNames}
+use Rattle.rd_declared.specs.Devices.{PrinterNames}
 use Rattle.rd_world.specs.Events.{refreshing}
 use Rattle.rd_world.proofs.world.World.refresh_all.Given as goal
 

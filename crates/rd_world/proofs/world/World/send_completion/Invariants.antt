@@ -1,6 +1,6 @@
 use Rattle.std.specs.Prelude.{◌∷◌}
 use Rattle.rd_base.specs.declared.journal.Item.TheVariants.{Sent}
-use Rattle.rd_world.specs.Talk.{completes, stores}
+use Rattle.rd_deeds.specs.Talk.{completes, stores}
 use Rattle.rd_world.proofs.world.World.send_completion.Given as goal
 
 -- the completion was handed out, and written

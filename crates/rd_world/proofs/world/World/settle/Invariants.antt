@@ -1,6 +1,6 @@
 use Rattle.std.proofs.Common.{◌≡◌, ℕ, ◌+◌, Bool}
 use Rattle.rd_base.specs.declared.journal.Key.{Key}
-use Rattle.rd_world.specs.Keys.{AreLonger, MarksAgree}
+use Rattle.rd_declared.specs.Marks.{AreLonger, MarksAgree}
 use Rattle.rd_world.specs.Run.{settled}
 use Rattle.rd_world.specs.Wire.{Records}
 use Rattle.rd_world.specs.World.{journals_in}

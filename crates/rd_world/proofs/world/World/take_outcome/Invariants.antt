@@ -1,5 +1,5 @@
 use Rattle.std.specs.Prelude.{◌∷◌}
-use Rattle.rd_world.specs.Talk.{takes}
+use Rattle.rd_deeds.specs.Talk.{takes}
 use Rattle.rd_world.proofs.world.World.take_outcome.Given as goal
 
 -- the outcome was handed out

@@ -1,5 +1,5 @@
 use Rattle.std.specs.Prelude.{◌∷◌}
-use Rattle.rd_world.specs.Talk.{tells}
+use Rattle.rd_deeds.specs.Talk.{tells}
 use Rattle.rd_world.proofs.world.World.tell.Given as goal
 
 -- the client is told

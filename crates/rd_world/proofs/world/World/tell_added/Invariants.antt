@@ -1,5 +1,5 @@
 use Rattle.std.specs.Prelude.{◌∷◌}
-use Rattle.rd_world.specs.Talk.{adds}
+use Rattle.rd_deeds.specs.Talk.{adds}
 use Rattle.rd_world.proofs.world.World.tell_added.Given as goal
 
 -- the device was added

@@ -1,0 +1,13 @@
+use Rattle.std.proofs.Common.{◌∙◌, ap, sym, None}
+use Rattle.rd_declared.proofs.HeldLemmas.{held_none, held_ok}
+use Rattle.rd_declared.proofs.declaring.add_folder.Goals as goal
+
+pub returns-in-Some : goal.returns-in-Some
+returns-in-Some c =
+    held_ok c.args.id (c.args.path.now, None) c.add_folder.result c.add_folder.new.self c.in-Some.device.now c.args.devices.now.entries _ c.add_folder.ensures (c.get_mut.follows.holds c.add_folder.new.self).0
+    (sym c.in-Some.ensures.value) c.get_mut.ensures.ordered
+
+pub returns-in-None : goal.returns-in-None
+returns-in-None c =
+    ap (λ m. m.entries) c.get_mut.follows.holds-at-none
+    ∙ sym (held_none c.args.id (c.args.path.now, None) c.args.devices.now.entries (sym c.in-None.ensures.value))

@@ -1,0 +1,5 @@
+pub mod Devices
+pub mod Printers
+pub mod Declaring
+pub mod Replies
+pub mod Marks

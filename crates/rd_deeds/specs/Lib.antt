@@ -1,0 +1,6 @@
+pub mod Host
+pub mod Talk
+pub mod Told
+pub mod HostDeeds
+pub mod Joining
+pub mod Example

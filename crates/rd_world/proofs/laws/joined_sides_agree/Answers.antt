@@ -1,5 +1,0 @@
-use Rattle.rd_world.proofs.Joining.{all_join}
-use Rattle.rd_world.proofs.laws.joined_sides_agree.Goals as goal
-
-pub returns : goal.returns
-returns c = all_join
