@@ -12,10 +12,9 @@ use Rattle.std.specs.Map.{lookup}
 use Rattle.std.specs.declared.alloc.Global.{Global}
 use Rattle.std.specs.declared.collections.VecDeque.{VecDeque}
 use Rattle.std.proofs.lemmas.Bool.{eqb-true, ltb-true}
-use Rattle.rd_irp.specs.declared.completion.Kind.{Kind}
 use Rattle.rd_decode.specs.declared.awaited.Pair.{Pair}
-use Rattle.rd_decode.specs.Awaited.{Awaited, first_kind, others_of, with_awaited}
-use Rattle.rd_decode.specs.Kept.{is_pair, kinds_at}
+use Rattle.rd_decode.specs.Awaited.{AwaitedOf, first_awaited, others_of, with_awaited}
+use Rattle.rd_decode.specs.Kept.{is_pair, kept_at}
 
 -- the order of pairs
 abbrev pub pair_cmp : Pair → Pair → Ordering
@@ -44,53 +43,54 @@ at_pair k e = then_eq (nat_cmp k.device e.device) (nat_cmp k.completion e.comple
     ∙ ap (λ (b : Bool). (k.device == e.device) && b) (number_eq k.completion e.completion)
 
 -- what a map keeps of each pair
-abbrev pub Kept : Type 0
-Kept = List (Pair × VecDeque Kind Global)
+abbrev pub Kept : Type 0 → Type 0
+Kept K = List (Pair × VecDeque K Global)
 
--- what stands at a key is what is still to come of that pair
-at_key : (kept : Kept) (d c : ℕ) → option_map_or (λ kinds. kinds.items) (lookup (is_at (pair_cmp (record { device = d; completion = c }))) kept) [] ≡ kinds_at kept d c
-at_key kept d c = ap (λ (t : Pair → Bool). option_map_or (λ kinds. kinds.items) (lookup t kept) []) (λ i. λ e. at_pair (record { device = d; completion = c }) e i)
+module _ {K : Type 0} where
+  -- what stands at a key is what is still to come of that pair
+  at_key : (kept : Kept K) (d c : ℕ) → option_map_or (λ kinds. kinds.items) (lookup (is_at (pair_cmp (record { device = d; completion = c }))) kept) [] ≡ kept_at kept d c
+  at_key kept d c = ap (λ (t : Pair → Bool). option_map_or (λ kinds. kinds.items) (lookup t kept) []) (λ i. λ e. at_pair (record { device = d; completion = c }) e i)
 
--- where a key gets something else, or nothing, the pair has something else to come, and every other pair what it had
-pub changed : (before after : Kept) (k : Pair) (w : Option (VecDeque Kind Global))
-    → ((q : Pair) → lookup (is_at (pair_cmp q)) after ≡ cond (is_at (pair_cmp k) q) w (lookup (is_at (pair_cmp q)) before))
-    → kinds_at after ≡ with_awaited k.device k.completion (option_map_or (λ kinds. kinds.items) w []) (kinds_at before)
-changed before after k w updates = λ i. λ d c. (at_pair_is d c) i
-  where
-    go : (d c : ℕ) (a b : Bool) → a ≡ b → option_map_or (λ kinds. kinds.items) (cond a w (lookup (is_at (pair_cmp (record { device = d; completion = c }))) before)) [] ≡ cond b (option_map_or (λ kinds. kinds.items) w []) (kinds_at before d c)
-    go d c true true is = refl
-    go d c false false is = at_key before d c
-    go d c true false is = absurd cc
-    go d c false true is = absurd cc
+  -- where a key gets something else, or nothing, the pair has something else to come, and every other pair what it had
+  pub changed : (before after : Kept K) (k : Pair) (w : Option (VecDeque K Global))
+      → ((q : Pair) → lookup (is_at (pair_cmp q)) after ≡ cond (is_at (pair_cmp k) q) w (lookup (is_at (pair_cmp q)) before))
+      → kept_at after ≡ with_awaited k.device k.completion (option_map_or (λ kinds. kinds.items) w []) (kept_at before)
+  changed before after k w updates = λ i. λ d c. (at_pair_is d c) i
+    where
+      go : (d c : ℕ) (a b : Bool) → a ≡ b → option_map_or (λ kinds. kinds.items) (cond a w (lookup (is_at (pair_cmp (record { device = d; completion = c }))) before)) [] ≡ cond b (option_map_or (λ kinds. kinds.items) w []) (kept_at before d c)
+      go d c true true is = refl
+      go d c false false is = at_key before d c
+      go d c true false is = absurd cc
+      go d c false true is = absurd cc
 
-    at_pair_is : (d c : ℕ) → kinds_at after d c ≡ with_awaited k.device k.completion (option_map_or (λ kinds. kinds.items) w []) (kinds_at before) d c
-    at_pair_is d c =
-        let q : Pair = record { device = d; completion = c } in
-        sym (at_key after d c) ∙ ap (λ (o : Option (VecDeque Kind Global)). option_map_or (λ kinds. kinds.items) o []) (updates q) ∙ go d c (is_at (pair_cmp k) q) (is_pair k.device k.completion q) (at_pair k q)
+      at_pair_is : (d c : ℕ) → kept_at after d c ≡ with_awaited k.device k.completion (option_map_or (λ kinds. kinds.items) w []) (kept_at before) d c
+      at_pair_is d c =
+          let q : Pair = record { device = d; completion = c } in
+          sym (at_key after d c) ∙ ap (λ (o : Option (VecDeque K Global)). option_map_or (λ kinds. kinds.items) o []) (updates q) ∙ go d c (is_at (pair_cmp k) q) (is_pair k.device k.completion q) (at_pair k q)
 
--- of two changes of one pair the last one counts
-pub last_change : (d c : ℕ) (some others : List Kind) (before middle after : Awaited) → middle ≡ with_awaited d c some before → after ≡ with_awaited d c others middle → after ≡ with_awaited d c others before
-last_change d c some others before middle after first second = second ∙ ap (with_awaited d c others) first ∙ (λ i. λ x y. (same x y (d == x && c == y)) i)
-  where
-    same : (x y : ℕ) (b : Bool) → cond b others (cond b some (before x y)) ≡ cond b others (before x y)
-    same x y true = refl
-    same x y false = refl
+  -- of two changes of one pair the last one counts
+  pub last_change : (d c : ℕ) (some others : List K) (before middle after : AwaitedOf K) → middle ≡ with_awaited d c some before → after ≡ with_awaited d c others middle → after ≡ with_awaited d c others before
+  last_change d c some others before middle after first second = second ∙ ap (with_awaited d c others) first ∙ (λ i. λ x y. (same x y (d == x && c == y)) i)
+    where
+      same : (x y : ℕ) (b : Bool) → cond b others (cond b some (before x y)) ≡ cond b others (before x y)
+      same x y true = refl
+      same x y false = refl
 
--- no element is one where the length is none
-none_left : (q : VecDeque Kind Global) → deque_len q ≡ 0 → q.items ≡ []
-none_left q none = nil_from_length q.items (sym (q.ok.0) ∙ none)
+  -- no element is one where the length is none
+  none_left : (q : VecDeque K Global) → deque_len q ≡ 0 → q.items ≡ []
+  none_left q none = nil_from_length q.items (sym (q.ok.0) ∙ none)
 
-pub popped_first : (kinds others : VecDeque Kind Global) (first : Option Kind) (awaited : List Kind) → kinds.items ≡ option_to_list first ++ others.items → MatchOption first ((deque_len kinds ≡ 0) × (deque_len others ≡ 0)) (λ _. deque_len others + 1 ≡ deque_len kinds)
-    → kinds.items ≡ awaited → first ≡ first_kind awaited
-popped_first kinds others (Some k) awaited parts cases is = let e : awaited ≡ k ∷ others.items = sym is ∙ parts in rw e refl
-popped_first kinds others None awaited parts cases is = let e : awaited ≡ [] = sym is ∙ none_left kinds cases.0 in rw e refl
+  pub popped_first : (kinds others : VecDeque K Global) (first : Option K) (awaited : List K) → kinds.items ≡ option_to_list first ++ others.items → MatchOption first ((deque_len kinds ≡ 0) × (deque_len others ≡ 0)) (λ _. deque_len others + 1 ≡ deque_len kinds)
+      → kinds.items ≡ awaited → first ≡ first_awaited awaited
+  popped_first kinds others (Some k) awaited parts cases is = let e : awaited ≡ k ∷ others.items = sym is ∙ parts in rw e refl
+  popped_first kinds others None awaited parts cases is = let e : awaited ≡ [] = sym is ∙ none_left kinds cases.0 in rw e refl
 
-drop_one : (xs : List Kind) → others_of xs ≡ drop 1 xs
-drop_one [] = refl
-drop_one (k ∷ ks) = refl
+  drop_one : (xs : List K) → others_of xs ≡ drop 1 xs
+  drop_one [] = refl
+  drop_one (k ∷ ks) = refl
 
-pub popped_others : (kinds others : VecDeque Kind Global) (awaited : List Kind) → others.items ≡ drop 1 kinds.items → kinds.items ≡ awaited → others_of awaited ≡ others.items
-popped_others kinds others awaited rest is = let e : others_of awaited ≡ drop 1 awaited = drop_one awaited in e ∙ ap (drop 1) (sym is) ∙ sym rest
+  pub popped_others : (kinds others : VecDeque K Global) (awaited : List K) → others.items ≡ drop 1 kinds.items → kinds.items ≡ awaited → others_of awaited ≡ others.items
+  popped_others kinds others awaited rest is = let e : others_of awaited ≡ drop 1 awaited = drop_one awaited in e ∙ ap (drop 1) (sym is) ∙ sym rest
 
-pub popped_all : (kinds others : VecDeque Kind Global) (awaited : List Kind) → others.items ≡ drop 1 kinds.items → kinds.items ≡ awaited → deque_len others ≡ 0 → others_of awaited ≡ []
-popped_all kinds others awaited rest is none = popped_others kinds others awaited rest is ∙ none_left others none
+  pub popped_all : (kinds others : VecDeque K Global) (awaited : List K) → others.items ≡ drop 1 kinds.items → kinds.items ≡ awaited → deque_len others ≡ 0 → others_of awaited ≡ []
+  popped_all kinds others awaited rest is none = popped_others kinds others awaited rest is ∙ none_left others none

@@ -28,7 +28,7 @@ use Rattle.rd_decode.specs.declared.side.Side.{Side}
 use Rattle.rd_decode.specs.declared.fault.EntryFault.{EntryFault}
 use Rattle.rd_decode.specs.declared.fault.FaultWhy.TheVariants as fault
 use Rattle.rd_decode.specs.declared.fault.LineNo.{LineNo}
-use Rattle.rd_decode.specs.Awaited.{Awaited, first_kind, others_of, with_awaited}
+use Rattle.rd_decode.specs.Awaited.{Awaited, first_awaited, others_of, with_awaited}
 use Rattle.rd_decode.specs.Lines.{completion_shown, line, may_send, request_shown}
 use Rattle.rd_decode.specs.Kept.{PrintsLine, line_no_of}
 use Rattle.rd_decode.specs.Messages.{Printed, body_line, completion_line, in_frame, message_line, packet_line, plain_line, plain_tail, request_line, sent_line}
@@ -90,12 +90,12 @@ pub head_found : (side : Side) (awaited : Awaited) (message : List ℕ) (head : 
 head_found side awaited message head tail s = let m = meets completion_head 0 message head tail s in rw m.1 refl
 
 -- no request is left of its pair
-pub is_stray : (side : Side) (awaited : Awaited) (message : List ℕ) (head : Head) (kinds : List Kind) → None ≡ first_kind kinds → body_line side awaited message head kinds ≡ in_frame fault.Stray
+pub is_stray : (side : Side) (awaited : Awaited) (message : List ℕ) (head : Head) (kinds : List Kind) → None ≡ first_awaited kinds → body_line side awaited message head kinds ≡ in_frame fault.Stray
 is_stray side awaited message head [] none = refl
 is_stray side awaited message head (kind ∷ others) none = absurd cc
 
 -- the first request of its pair says how its body reads
-pub body_found : (side : Side) (awaited : Awaited) (message : List ℕ) (head : Head) (kinds : List Kind) (kind : Kind) (tail : ℕ) → Some kind ≡ first_kind kinds → tail_of (completion_body kind head.status) (drop 16 message) ≡ Ok tail
+pub body_found : (side : Side) (awaited : Awaited) (message : List ℕ) (head : Head) (kinds : List Kind) (kind : Kind) (tail : ℕ) → Some kind ≡ first_awaited kinds → tail_of (completion_body kind head.status) (drop 16 message) ≡ Ok tail
     → body_line side awaited message head kinds ≡ Ok (record { text = line side packet.IoCompletion (length message) (completion_shown head) tail; awaited = with_awaited head.device head.completion (others_of kinds) awaited })
 body_found side awaited message head [] kind tail first e = absurd cc
 body_found side awaited message head (k ∷ others) kind tail first e =
@@ -103,7 +103,7 @@ body_found side awaited message head (k ∷ others) kind tail first e =
     let read : tail_of (completion_body k head.status) (drop 16 message) ≡ Ok tail = ap (λ (x : Kind). tail_of (completion_body x head.status) (drop 16 message)) same ∙ e in
     rw read refl
 
-pub body_faulty : (side : Side) (awaited : Awaited) (message : List ℕ) (head : Head) (kinds : List Kind) (kind : Kind) (bad : Bad) → Some kind ≡ first_kind kinds → FirstFaultOfBody kind head.status (drop 16 message) bad
+pub body_faulty : (side : Side) (awaited : Awaited) (message : List ℕ) (head : Head) (kinds : List Kind) (kind : Kind) (bad : Bad) → Some kind ≡ first_awaited kinds → FirstFaultOfBody kind head.status (drop 16 message) bad
     → body_line side awaited message head kinds ≡ in_frame (fault.Field bad.why)
 body_faulty side awaited message head [] kind bad first e = absurd cc
 body_faulty side awaited message head (k ∷ others) kind bad first e =

@@ -4,7 +4,6 @@ use Rattle.std.specs.Option.{option_map_or}
 use Rattle.std.specs.Map.{lookup}
 use Rattle.std.specs.Io.KnownBytes.{Consumes, Keeps}
 use Rattle.std.specs.declared.collections.VecDeque.{VecDeque}
-use Rattle.rd_irp.specs.declared.completion.Kind.{Kind}
 use Rattle.rd_base.specs.declared.bad.Why.TheVariants as short
 use Rattle.rd_base.specs.declared.bad.Bad.{Bad}
 use Rattle.rd_base.specs.declared.bad.ReadNo.{ReadNo}
@@ -15,7 +14,7 @@ use Rattle.rd_decode.specs.declared.fault.LineNo.{LineNo}
 use Rattle.rd_decode.specs.declared.fault.LineNo.TheVariants as line_no
 use Rattle.rd_decode.specs.declared.awaited.Pair.{Pair}
 use Rattle.rd_decode.specs.declared.awaited.Requests.{Requests}
-use Rattle.rd_decode.specs.Awaited.{Awaited}
+use Rattle.rd_decode.specs.Awaited.{Awaited, AwaitedOf}
 use Rattle.rd_decode.specs.Messages.{Printed}
 use Rattle.rd_decode.specs.Entries.{Channel, Next, cut, entry, next_entry, nothing_under_way, with_under_way, wrong}
 use Rattle.rd_decode.specs.Recording.{decoded, decoded_from, text_before}
@@ -30,14 +29,14 @@ use Rattle.rd_decode.specs.declared.channel.Channel.{Channel as Kept}
 abbrev pub is_pair : ℕ → ℕ → Pair → Bool
 is_pair device completion pair = device == pair.device && completion == pair.completion
 
-module _ {A : Type 0} where
+module _ {K : Type 0} where
   -- what is still to come, by what is kept at each pair
-  abbrev pub kinds_at : List (Pair × VecDeque Kind A) → Awaited
-  kinds_at kept device completion = option_map_or (λ kinds. kinds.items) (lookup (is_pair device completion) kept) []
+  abbrev pub kept_at : {A : Type 0} → List (Pair × VecDeque K A) → AwaitedOf K
+  kept_at kept device completion = option_map_or (λ queue. queue.items) (lookup (is_pair device completion) kept) []
 
--- what is still to come
-abbrev pub awaited_of : Requests → Awaited
-awaited_of requests = kinds_at (requests.kinds).entries
+  -- what is still to come
+  abbrev pub awaited_of : Requests K → AwaitedOf K
+  awaited_of requests = kept_at (requests.queues).entries
 
 -- a fault of a field, in the message that a frame ended
 abbrev pub line_no_of : Bad → LineNo

@@ -12,13 +12,14 @@ use crate::fault::LineNo;
 use crate::message::put_message_line;
 use crate::side::Side;
 use crate::under_way::UnderWay;
+use rd_irp::Kind;
 use std::alloc::{AllocError, Global};
 
 #[derive(Drop)]
 pub struct Channel {
     host: UnderWay,
     client: UnderWay,
-    requests: Requests,
+    requests: Requests<Kind>,
 }
 
 impl Channel {

@@ -113,3 +113,13 @@ impl From<AllocError> for LineNo {
         LineNo::Memory
     }
 }
+
+impl<T: Drop> From<AllocFailed<T>> for LineNo {
+    ghost use Rattle.rd_decode.specs.declared.fault.LineNo.TheVariants as no;
+
+    ghost from_gives = { λ _ e. e ≡ no.Memory };
+
+    fn from(_failed: AllocFailed<T>) -> LineNo {
+        LineNo::Memory
+    }
+}

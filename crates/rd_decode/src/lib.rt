@@ -23,7 +23,8 @@ mod reading;
 mod side;
 mod under_way;
 
-pub use fault::{DecodeNo, EntryFault, Fault, FaultWhy};
+pub use awaited::{Pair, Requests};
+pub use fault::{DecodeNo, EntryFault, Fault, FaultWhy, LineNo};
 pub use frame::{SIZE_LEN, head_of, size_of};
 pub use laws::{first_fault_stays, recordings_are_as_listed};
 pub use lines::may_send;

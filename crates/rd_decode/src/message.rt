@@ -15,7 +15,7 @@ use crate::side::Side;
 use rd_base::{Packet, ReadNo, Why, packet_of};
 use rd_devices::{read_list, read_removal, read_reply};
 use rd_hello::read_hello;
-use rd_irp::{COMPLETION_HEAD_LEN, kind_of_major, measure_body, measure_request, read_head};
+use rd_irp::{COMPLETION_HEAD_LEN, Kind, kind_of_major, measure_body, measure_request, read_head};
 use rd_printer::read_notice;
 use std::alloc::Global;
 
@@ -23,7 +23,7 @@ use std::alloc::Global;
 pub fn put_message_line(
     alloc: Global,
     text: &mut String,
-    requests: &mut Requests,
+    requests: &mut Requests<Kind>,
     side: Side,
     message: &[u8],
 ) -> Result<(), LineNo>
@@ -48,7 +48,7 @@ pub fn put_message_line(
 /// Appends the line of a request, whose completion is still to come.
 fn put_request(
     text: &mut String,
-    requests: &mut Requests,
+    requests: &mut Requests<Kind>,
     side: Side,
     message: &[u8],
 ) -> Result<(), LineNo>
@@ -69,7 +69,7 @@ fn put_request(
 /// Appends the line of a completion of the first request of its pair that has none yet.
 fn put_completion(
     text: &mut String,
-    requests: &mut Requests,
+    requests: &mut Requests<Kind>,
     side: Side,
     message: &[u8],
 ) -> Result<(), LineNo>

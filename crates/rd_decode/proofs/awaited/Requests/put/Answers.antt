@@ -4,4 +4,4 @@ use Rattle.rd_decode.proofs.awaited.Requests.put.Goals as goal
 
 -- src/awaited.rt:76:5
 pub returns : goal.returns
-returns c = changed (c.args.self.now.kinds).entries (c.insert.new.self).entries c.args.pair (Some c.args.kinds) (c.in_ok-insert.ensures.updates.0)
+returns g c = changed (c.args.self.now.queues).entries (c.insert.new.self).entries c.args.pair (Some c.args.queue) (c.in_ok-insert.ensures.updates.0)

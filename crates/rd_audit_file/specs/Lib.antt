@@ -1,0 +1,5 @@
+pub mod Lines
+pub mod Taken
+pub mod Journals
+pub mod File
+pub mod Worked

@@ -1,0 +1,10 @@
+pub mod BoolLemmas
+pub mod CountLemmas
+pub mod TestLemmas
+pub mod LawLemmas
+pub mod KeyLemmas
+pub mod KnownLemmas
+pub mod AppendLemmas
+pub mod StageLemmas
+pub mod MemoryLemmas
+pub mod JudgeLemmas

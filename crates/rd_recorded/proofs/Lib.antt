@@ -1,0 +1,3 @@
+pub mod HeardLemmas
+pub mod EntryLemmas
+pub mod FrameLemmas
